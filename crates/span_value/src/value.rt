@@ -1,0 +1,75 @@
+//! Values of columns, and the types that they have.
+ghost use Rattle.std.specs.Prelude.{◌≡◌, ◌↔◌, IsTrue, IfOk, IsErrOf, IsOkUnless};
+
+use super::refusal::Refusal;
+use super::seq::Seq;
+use super::text::Text;
+use std::alloc::Global;
+
+/// A value of a column.
+#[derive(Debug, Drop, PartialEq, Eq)]
+pub enum Value {
+    Null,
+    Int(i64),
+    Str(Text),
+    Bytes(Seq<u8>),
+    Bool(bool),
+}
+
+/// The type of a value that is not NULL.
+#[derive(Clone, Copy, Debug, PartialEq, Eq)]
+pub enum Kind {
+    Int,
+    Str,
+    Bytes,
+    Bool,
+}
+
+/// The type of a column. The number is the greatest length in characters of a `Str` or in bytes of a `Bytes`; None is MAX.
+#[derive(Clone, Copy, Debug, PartialEq, Eq)]
+pub enum ColumnType {
+    Int,
+    Str(Option<u64>),
+    Bytes(Option<u64>),
+    Bool,
+}
+
+/// A row: the values of its columns, in the order of their declaration.
+pub type Row = Seq<Value>;
+
+impl Value {
+    /// An equal value, or the refusal for want of memory.
+    pub fn copy(&self, alloc: Global) -> Result<Value, Refusal>
+        ensures ok { IfOk result (λ copy. copy ≡ self.now) }
+        ensures memory { IsOkUnless result Refusal.OutOfMemory }
+    {
+        Ok(match self {
+            Value::Null => Value::Null,
+            Value::Int(n) => Value::Int(*n),
+            Value::Str(text) => Value::Str(Text::from_str(alloc, text.as_str())?),
+            Value::Bytes(bytes) => Value::Bytes(copy_of_bytes(alloc, bytes)?),
+            Value::Bool(b) => Value::Bool(*b),
+        })
+    }
+
+    /// Whether the two are the same value; NULL is the same as NULL here.
+    pub fn is_same(&self, other: &Value) -> bool
+        ensures { IsTrue result ↔ (self.now ≡ other.now) }
+    {
+        match (self, other) {
+            (Value::Null, Value::Null) => true,
+            (Value::Int(a), Value::Int(b)) => *a == *b,
+            (Value::Str(a), Value::Str(b)) => a.as_str() == b.as_str(),
+            (Value::Bytes(a), Value::Bytes(b)) => a.as_slice() == b.as_slice(),
+            (Value::Bool(a), Value::Bool(b)) => *a == *b,
+            _ => false,
+        }
+    }
+}
+
+fn copy_of_bytes(alloc: Global, bytes: &Seq<u8>) -> Result<Seq<u8>, Refusal>
+    ensures ok { IfOk result (λ copy. copy ≡ bytes.now) }
+    ensures memory { IsOkUnless result Refusal.OutOfMemory }
+{
+    Ok(Seq::from_vec(bytes.as_slice().to_vec(alloc)?))
+}
