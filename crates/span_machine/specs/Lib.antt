@@ -1,0 +1,7 @@
+pub mod Sorting
+pub mod Tables
+pub mod Meaning
+pub mod Machine
+pub mod Place
+pub mod Commits
+pub mod Run

@@ -1,0 +1,390 @@
+use Rattle.std.specs.Prelude.{◌≡◌, ℕ, ℤ, ◌+◌, ◌^◌, ◌-◌, max, Bool, true, false, ◌==◌, ◌&&◌, ◌||◌, not, nat_lt, nat_le, List, [], ◌∷◌, ◌++◌, length, filter, find, count_by, slice_get, slice_set, Option, Some, None, Result, Ok, Err, if◌then◌else◌, ◌⊎◌}
+use Rattle.std.specs.List.{list_any, list_all}
+use Rattle.span_shard.specs.declared.mutation.CheckedMutation.{CheckedMutation}
+use Rattle.span_machine.specs.declared.transaction.Commit.{Commit}
+use Rattle.span_value.specs.declared.refusal.Refusal.{Refusal}
+use Rattle.span_value.specs.declared.refusal.Refusal.TheVariants as refusal
+use Rattle.span_machine.specs.declared.step.Step.{Step}
+use Rattle.span_machine.specs.declared.step.Step.TheVariants.{Begin, Prepare, Decide, Apply, Advance, Open, Scan, Finish, Close}
+use Rattle.span_machine.specs.declared.step.Reply.{Reply}
+use Rattle.span_machine.specs.declared.step.Reply.TheVariants as reply
+use Rattle.span_machine.specs.declared.step.Reply.TheVariants.{Refused}
+use Rattle.span_machine.specs.declared.step.Verdict.{Verdict}
+use Rattle.span_machine.specs.declared.step.Verdict.TheVariants as verdict
+use Rattle.span_truetime.specs.declared.bound.Bound.{Bound}
+use Rattle.span_machine.specs.declared.query.Params.{Params}
+use Rattle.span_truetime.specs.Time.{timestamp_end, timestamp_of}
+use Rattle.span_truetime.specs.declared.interval.Interval.{Interval}
+use Rattle.span_machine.specs.declared.transaction.Prepared.{Prepared}
+use Rattle.span_machine.specs.declared.transaction.Outcome.{Outcome}
+use Rattle.span_machine.specs.declared.transaction.Outcome.TheVariants as outcome
+use Rattle.span_machine.specs.declared.transaction.Outcome.TheVariants.{Undecided, Committed}
+use Rattle.span_machine.specs.declared.transaction.OpenTransaction.{OpenTransaction}
+use Rattle.span_machine.specs.declared.slot.Book.{Book}
+use Rattle.span_machine.specs.declared.query.OpenQuery.{OpenQuery}
+use Rattle.span_shard.specs.Database.{Database, and_then, apply, is_at}
+use Rattle.span_machine.specs.Tables.{tables}
+use Rattle.span_machine.specs.Meaning.{is_understood, means}
+use Rattle.span_value.specs.declared.value.Value.{Value}
+
+-- what the journal knows: no versions and no rows
+pub record Machine : Type 0 where
+  pub books : List Book
+  pub transactions : List OpenTransaction
+  pub log : List Commit
+  pub queries : List OpenQuery
+  pub next_transaction : ℕ
+  pub next_query : ℕ
+
+-- a reply, and the machine after it
+abbrev pub Answer : Type 0
+Answer = Reply × Machine
+
+abbrev pub refused : Machine → Refusal → Answer
+refused m why = (Refused why, m)
+
+-- ---- finding, judging and changing
+
+-- what is made of the value, if there is one
+abbrev pub if_some : {A B : Type 0} → Option A → B → (A → B) → B
+if_some None miss make = miss
+if_some (Some x) miss make = make x
+
+-- the first refusal whose test is true
+abbrev pub first_cause : List (Bool × Refusal) → Option Refusal
+first_cause [] = None
+first_cause (c ∷ cs) = if c.0 then Some c.1 else first_cause cs
+
+-- the answer, unless there is a refusal, which leaves the machine
+abbrev pub unless_refused : Machine → Option Refusal → Answer → Answer
+unless_refused m None a = a
+unless_refused m (Some why) a = refused m why
+
+abbrev pub is_transaction : ℕ → ℕ → OpenTransaction → Bool
+is_transaction owner number t = (t.owner == owner) && (t.number == number)
+
+abbrev pub is_query : ℕ → OpenQuery → Bool
+is_query number q = q.number == number
+
+-- the answer for the transaction of this owner and number
+abbrev pub for_transaction : Machine → ℕ → ℕ → (OpenTransaction → Answer) → Answer
+for_transaction m owner number make = if_some (find (is_transaction owner number) m.transactions) (refused m refusal.UnknownTransaction) make
+
+abbrev pub for_slot : Machine → ℕ → (Book → Answer) → Answer
+for_slot m slot make = if_some (slice_get m.books slot) (refused m refusal.NoSlot) make
+
+abbrev pub for_query : Machine → ℕ → (OpenQuery → Answer) → Answer
+for_query m number make = if_some (find (is_query number) m.queries) (refused m refusal.UnknownQuery) make
+
+-- the first that passes, changed
+abbrev pub changed_first : {A : Type 0} → (A → Bool) → (A → A) → List A → List A
+changed_first test change [] = []
+changed_first test change (x ∷ xs) = if test x then change x ∷ xs else x ∷ changed_first test change xs
+
+-- without the first that passes
+abbrev pub without_first : {A : Type 0} → (A → Bool) → List A → List A
+without_first test [] = []
+without_first test (x ∷ xs) = if test x then xs else x ∷ without_first test xs
+
+-- ---- slots
+
+-- the slot's range has the root key
+abbrev pub holds : Book → ℤ → Bool
+holds book key = true
+
+abbrev pub mutations_in : Book → List CheckedMutation → List CheckedMutation
+mutations_in book ms = filter (λ m. holds book m.key) ms
+
+abbrev pub is_prepared_at : ℕ → OpenTransaction → Bool
+is_prepared_at slot t = list_any (λ p. p.slot == slot) t.prepared
+
+-- no key is in both lists
+abbrev pub have_common_key : List CheckedMutation → List CheckedMutation → Bool
+have_common_key ms ns = list_any (λ m. list_any (is_at m.key) ns) ms
+
+-- s is at most the safe time of the slot
+abbrev pub is_safe : Machine → ℕ → Book → ℕ → Bool
+is_safe m slot book s = nat_le s book.floor && list_all (λ t. list_all (λ p. not (p.slot == slot) || nat_lt s p.timestamp) t.prepared) m.transactions
+
+-- ---- steps
+
+abbrev pub undecided : Outcome → Bool
+undecided Undecided = true
+undecided (Committed ts) = false
+undecided outcome.Aborted = false
+
+abbrev pub is_undecided : OpenTransaction → Bool
+is_undecided t = undecided t.outcome
+
+abbrev pub begin_refusal : Machine → Option Refusal
+begin_refusal m = first_cause (
+    (nat_le 256 (length m.transactions) || nat_le (2 ^ 63) m.next_transaction, refusal.TransactionTableFull)
+    ∷ (nat_le 65536 (length m.log + count_by is_undecided m.transactions), refusal.LogFull) ∷ [])
+
+abbrev pub begun : Machine → ℕ → List CheckedMutation → Answer
+begun m owner ms = (
+  reply.Began m.next_transaction,
+  record m {
+    transactions = m.transactions ++ (record { owner = owner; number = m.next_transaction; mutations = ms; outcome = Undecided; prepared = [] }) ∷ [];
+    next_transaction = m.next_transaction + 1;
+  },
+)
+
+abbrev pub begin : Machine → ℕ → List CheckedMutation → Answer
+begin m owner ms = unless_refused m (begin_refusal m) (begun m owner ms)
+
+-- the fault that the mutations meet on the tables as they are, if any
+abbrev pub fault_of : Result Database Refusal → Option Refusal
+fault_of (Ok db) = None
+fault_of (Err why) = Some why
+
+abbrev pub faults : Machine → List CheckedMutation → Option Refusal
+faults m ms = fault_of (and_then (tables m.log (timestamp_end - 1)) (λ db. apply db ms))
+
+abbrev pub conflicts : Machine → ℕ → List CheckedMutation → Bool
+conflicts m slot ms = list_any (λ t. is_prepared_at slot t && have_common_key ms t.mutations) m.transactions
+
+abbrev pub add_prepared : ℕ → ℕ → OpenTransaction → OpenTransaction
+add_prepared slot ts t = record t { prepared = t.prepared ++ (record { slot = slot; timestamp = ts }) ∷ [] }
+
+abbrev pub prepare_timestamp : Book → ℕ
+prepare_timestamp book = max book.last book.floor + 1
+
+-- before its mutations are judged
+abbrev pub prepare_refusal : Machine → ℕ → OpenTransaction → Book → Option Refusal
+prepare_refusal m slot t book = first_cause (
+    (not (is_undecided t) || is_prepared_at slot t || (length (mutations_in book t.mutations) == 0), refusal.WrongState)
+    ∷ (conflicts m slot (mutations_in book t.mutations), refusal.Conflict) ∷ [])
+
+abbrev pub prepared : Machine → ℕ → ℕ → ℕ → Book → Answer
+prepared m owner txn slot book = (
+  reply.Prepared (prepare_timestamp book),
+  record m {
+    books = slice_set m.books slot (record book { last = prepare_timestamp book });
+    transactions = changed_first (is_transaction owner txn) (add_prepared slot (prepare_timestamp book)) m.transactions;
+  },
+)
+
+abbrev pub prepare_found : Machine → ℕ → ℕ → ℕ → OpenTransaction → Book → Answer
+prepare_found m owner txn slot t book =
+    unless_refused m (prepare_refusal m slot t book)
+    (unless_refused m (faults m (mutations_in book t.mutations))
+    (unless_refused m (first_cause ((nat_le timestamp_end (prepare_timestamp book), refusal.TimestampRange) ∷ []))
+    (prepared m owner txn slot book)))
+
+abbrev pub prepare : Machine → ℕ → ℕ → ℕ → Answer
+prepare m owner txn slot = for_transaction m owner txn (λ t. for_slot m slot (prepare_found m owner txn slot t))
+
+-- every mutation is of a slot where the transaction is prepared
+abbrev pub is_prepared_for : Machine → OpenTransaction → CheckedMutation → Bool
+is_prepared_for m t mutation = list_any (λ p. if_some (slice_get m.books p.slot) false (λ book. holds book mutation.key)) t.prepared
+
+abbrev pub is_all_prepared : Machine → OpenTransaction → Bool
+is_all_prepared m t = not (length t.prepared == 0) && list_all (is_prepared_for m t) t.mutations
+
+-- the greatest prepare timestamp
+abbrev pub greatest : List Prepared → ℕ
+greatest [] = 0
+greatest (p ∷ ps) = max p.timestamp (greatest ps)
+
+-- the slot of the lowest number
+abbrev pub coordinator : ℕ → List Prepared → ℕ
+coordinator slot [] = slot
+coordinator slot (p ∷ ps) = if nat_lt p.slot slot then coordinator p.slot ps else coordinator slot ps
+
+abbrev pub coordinator_of : List Prepared → ℕ
+coordinator_of [] = 0
+coordinator_of (p ∷ ps) = coordinator p.slot ps
+
+abbrev pub with_last : List Book → ℕ → ℕ → List Book
+with_last books slot ts = if_some (slice_get books slot) books (λ book. slice_set books slot (record book { last = max book.last ts }))
+
+abbrev pub commit_timestamp : Machine → OpenTransaction → Interval → ℕ
+commit_timestamp m t interval =
+    max (greatest t.prepared) (max (interval.latest + 1) (if_some (slice_get m.books (coordinator_of t.prepared)) 0 (λ book. book.last) + 1))
+
+abbrev pub with_outcome : Outcome → OpenTransaction → OpenTransaction
+with_outcome o t = record t { outcome = o }
+
+abbrev pub commit_refusal : Machine → OpenTransaction → Interval → Option Refusal
+commit_refusal m t interval = first_cause (
+    (not (is_undecided t) || not (is_all_prepared m t), refusal.WrongState)
+    ∷ (nat_le timestamp_end (commit_timestamp m t interval), refusal.TimestampRange) ∷ [])
+
+abbrev pub commit_of : ℕ → OpenTransaction → Commit
+commit_of ts t = record { timestamp = ts; number = t.number; owner = t.owner; mutations = t.mutations }
+
+abbrev pub committed : Machine → ℕ → ℕ → ℕ → OpenTransaction → Answer
+committed m owner txn ts t = (
+  reply.Decided ts,
+  record m {
+    books = with_last m.books (coordinator_of t.prepared) ts;
+    log = m.log ++ commit_of ts t ∷ [];
+    transactions = changed_first (is_transaction owner txn) (with_outcome (Committed ts)) m.transactions;
+  },
+)
+
+abbrev pub aborted : Machine → ℕ → ℕ → OpenTransaction → Answer
+aborted m owner txn t = (
+  reply.Aborted,
+  record m {
+    transactions = if length t.prepared == 0 then without_first (is_transaction owner txn) m.transactions
+        else changed_first (is_transaction owner txn) (with_outcome outcome.Aborted) m.transactions;
+  },
+)
+
+abbrev pub decide_found : Machine → ℕ → ℕ → Verdict → Interval → OpenTransaction → Answer
+decide_found m owner txn verdict.Commit interval t = unless_refused m (commit_refusal m t interval) (committed m owner txn (commit_timestamp m t interval) t)
+decide_found m owner txn verdict.Abort interval t = unless_refused m (first_cause ((not (is_undecided t), refusal.WrongState) ∷ [])) (aborted m owner txn t)
+
+abbrev pub decide : Machine → ℕ → ℕ → Verdict → Interval → Answer
+decide m owner txn v interval = for_transaction m owner txn (decide_found m owner txn v interval)
+
+abbrev pub without_prepared : ℕ → OpenTransaction → OpenTransaction
+without_prepared slot t = record t { prepared = filter (λ p. not (p.slot == slot)) t.prepared }
+
+-- the transaction is prepared at the slot no more, and leaves once it is prepared nowhere
+abbrev pub applied : Machine → ℕ → ℕ → ℕ → OpenTransaction → List OpenTransaction
+applied m owner txn slot t =
+    if length (without_prepared slot t).prepared == 0
+    then without_first (is_transaction owner txn) m.transactions
+    else changed_first (is_transaction owner txn) (without_prepared slot) m.transactions
+
+abbrev pub applied_at : Outcome → Machine → ℕ → ℕ → ℕ → OpenTransaction → Answer
+applied_at Undecided m owner txn slot t = refused m refusal.WrongState
+applied_at outcome.Aborted m owner txn slot t = (reply.Applied, record m { transactions = applied m owner txn slot t })
+applied_at (Committed ts) m owner txn slot t = (
+  reply.Applied,
+  record m {
+    books = with_last m.books slot ts;
+    transactions = applied m owner txn slot t;
+  },
+)
+
+-- a commit whose timestamp has not surely passed
+abbrev pub is_early : Interval → Outcome → Bool
+is_early interval Undecided = false
+is_early interval outcome.Aborted = false
+is_early interval (Committed ts) = nat_le interval.earliest ts
+
+abbrev pub apply_refusal : ℕ → OpenTransaction → Interval → Option Refusal
+apply_refusal slot t interval = first_cause (
+    (is_undecided t || not (is_prepared_at slot t), refusal.WrongState)
+    ∷ (is_early interval t.outcome, refusal.TooEarly) ∷ [])
+
+abbrev pub apply_found : Machine → ℕ → ℕ → ℕ → Interval → OpenTransaction → Book → Answer
+apply_found m owner txn slot interval t book = unless_refused m (apply_refusal slot t interval) (applied_at t.outcome m owner txn slot t)
+
+abbrev pub apply_step : Machine → ℕ → ℕ → ℕ → Interval → Answer
+apply_step m owner txn slot interval = for_transaction m owner txn (λ t. for_slot m slot (apply_found m owner txn slot interval t))
+
+abbrev pub advanced : Machine → ℕ → Interval → Book → Answer
+advanced m slot interval book = (
+  reply.Floor (max book.floor interval.latest),
+  record m {
+    books = slice_set m.books slot (record book { floor = max book.floor interval.latest });
+  },
+)
+
+abbrev pub advance : Machine → ℕ → Interval → Answer
+advance m slot interval = for_slot m slot (advanced m slot interval)
+
+abbrev pub open_refusal : Machine → List ℕ → ℕ → Option Refusal
+open_refusal m text s = first_cause (
+    (not (is_understood text), refusal.Syntax)
+    ∷ (nat_le timestamp_end s, refusal.TimestampRange)
+    ∷ (nat_le 64 (length m.queries) || nat_le (2 ^ 63) m.next_query, refusal.QueryTableFull) ∷ [])
+
+abbrev pub opened : Machine → List ℕ → Params → ℕ → Answer
+opened m text params s = (
+  reply.Opened m.next_query s 1,
+  record m {
+    queries = m.queries ++ (record { number = m.next_query; text = text; params = params; s = s; covered = false }) ∷ [];
+    next_query = m.next_query + 1;
+  },
+)
+
+abbrev pub open_query : Machine → List ℕ → Params → Bound → Interval → Answer
+open_query m text params bound interval = unless_refused m (open_refusal m text (timestamp_of bound interval)) (opened m text params (timestamp_of bound interval))
+
+-- the floor rises to s where the clock has passed it
+abbrev pub risen : Book → ℕ → Interval → Book
+risen book s interval = if nat_lt book.floor s && nat_le s interval.latest then record book { floor = s } else book
+
+abbrev pub with_book : Machine → ℕ → Book → Machine
+with_book m slot book = record m { books = slice_set m.books slot book }
+
+abbrev pub cover : OpenQuery → OpenQuery
+cover q = record q { covered = true }
+
+-- with the floor risen
+abbrev pub scanned : Machine → ℕ → ℕ → Book → ℕ → Answer
+scanned m query slot book s =
+    if is_safe m slot book s
+    then (reply.Scanned, record (with_book m slot book) { queries = changed_first (is_query query) cover m.queries })
+    else (Refused refusal.NotYet, with_book m slot book)
+
+abbrev pub scan_at : Machine → ℕ → ℕ → Interval → OpenQuery → Book → Answer
+scan_at m query slot interval q book =
+    if q.covered then (reply.Nothing, m) else scanned m query slot (risen book q.s interval) q.s
+
+abbrev pub scan_found : Machine → ℕ → ℕ → ℕ → Interval → OpenQuery → Answer
+scan_found m query leaf slot interval q =
+    if leaf == 0 then for_slot m slot (scan_at m query slot interval q) else refused m refusal.UnknownQuery
+
+abbrev pub scan : Machine → ℕ → ℕ → ℕ → Interval → Answer
+scan m query leaf slot interval = for_query m query (scan_found m query leaf slot interval)
+
+-- the rows at s, or why there are none
+abbrev pub answer_on : ℕ → Result (List (List Value)) Refusal → Reply
+answer_on s (Ok rows) = reply.Rows s rows
+answer_on s (Err why) = Refused why
+
+-- what the query means on the tables at its timestamp, by the log so far
+abbrev pub meaning : Machine → OpenQuery → Result (List (List Value)) Refusal
+meaning m q = and_then (tables m.log q.s) (means q.text q.params)
+
+abbrev pub finish_found : Machine → OpenQuery → Answer
+finish_found m q = if q.covered then (answer_on q.s (meaning m q), m) else refused m refusal.Incomplete
+
+abbrev pub finish : Machine → ℕ → Answer
+finish m query = for_query m query (finish_found m)
+
+abbrev pub closed : Machine → ℕ → OpenQuery → Answer
+closed m query q = (reply.Closed, record m { queries = without_first (is_query query) m.queries })
+
+abbrev pub close : Machine → ℕ → Answer
+close m query = for_query m query (closed m query)
+
+-- the reply where memory suffices, and the machine after it
+abbrev pub answer : Machine → Step → Answer
+answer m (Begin owner transaction) = begin m owner transaction
+answer m (Prepare owner txn slot) = prepare m owner txn slot
+answer m (Decide owner txn v interval) = decide m owner txn v interval
+answer m (Apply owner txn slot interval) = apply_step m owner txn slot interval
+answer m (Advance slot interval) = advance m slot interval
+answer m (Open text params bound interval) = open_query m text params bound interval
+answer m (Scan query leaf slot interval) = scan m query leaf slot interval
+answer m (Finish query) = finish m query
+answer m (Close query) = close m query
+
+-- the step may want memory
+abbrev pub may_grow : Step → Bool
+may_grow (Begin owner transaction) = true
+may_grow (Prepare owner txn slot) = true
+may_grow (Decide owner txn v interval) = false
+may_grow (Apply owner txn slot interval) = false
+may_grow (Advance slot interval) = false
+may_grow (Open text params bound interval) = true
+may_grow (Scan query leaf slot interval) = true
+may_grow (Finish query) = true
+may_grow (Close query) = false
+
+-- From m, the reply to the step and the machine after it. Want of memory may stand in place of the reply, and changes nothing
+abbrev pub Steps : Machine → Step → Reply → Machine → Type 0
+Steps m s r next =
+    ((r ≡ (answer m s).0) × (next ≡ (answer m s).1))
+    ⊎ ((may_grow s ≡ true) × (r ≡ Refused refusal.OutOfMemory) × (next ≡ m))
+
+abbrev pub start : Machine
+start = record { books = (record { last = 0; floor = 0 }) ∷ []; transactions = []; log = []; queries = []; next_transaction = 1; next_query = 1 }

@@ -1,0 +1,23 @@
+use Rattle.std.specs.Prelude.{ℕ, Bool, ◌==◌, ◌&&◌, ◌||◌, nat_lt, nat_le, List, [], ◌∷◌, ◌++◌, filter, Result}
+use Rattle.std.specs.FinMap as finmap
+use Rattle.span_shard.specs.declared.mutation.CheckedMutation.{CheckedMutation}
+use Rattle.span_machine.specs.declared.transaction.Commit.{Commit}
+use Rattle.span_value.specs.declared.refusal.Refusal.{Refusal}
+use Rattle.span_machine.specs.Sorting.{in_order}
+use Rattle.span_shard.specs.Database.{Database, apply}
+
+-- by timestamp, and then by number
+abbrev pub is_before : Commit → Commit → Bool
+is_before a b = nat_lt a.timestamp b.timestamp || (a.timestamp == b.timestamp && nat_lt a.number b.number)
+
+-- the commits with a timestamp of at most s, in order
+abbrev pub upto : List Commit → ℕ → List Commit
+upto log s = in_order is_before (filter (λ c. nat_le c.timestamp s) log)
+
+abbrev pub mutations_of : List Commit → List CheckedMutation
+mutations_of [] = []
+mutations_of (c ∷ cs) = c.mutations ++ mutations_of cs
+
+-- the tables at s: every commit at s or earlier, in order of timestamps, from empty tables
+abbrev pub tables : List Commit → ℕ → Result Database Refusal
+tables log s = apply finmap.empty (mutations_of (upto log s))

@@ -1,0 +1,5 @@
+//! A shard: the versions of the rows in its key range, and the writes that are prepared there.
+#![tactic(auto)]
+
+pub mod mutation;
+pub mod transaction;

@@ -1,0 +1,42 @@
+//! A clock's answer.
+ghost use Rattle.std.specs.Prelude.{◌≡◌, ◌↔◌, ◌<◌, ◌≤◌, ◌^◌, IsTrue, IfOk, IsErrOf, IsOk};
+
+use span_value::refusal::Refusal;
+
+/// Timestamps are whole numbers below this.
+pub const TIMESTAMP_END: u64 = 1 << 62;
+
+/// What a clock answers: the true time of the call is from `earliest` to `latest`, both included.
+#[derive(Clone, Copy, Debug, PartialEq, Eq)]
+pub struct Interval {
+    pub earliest: u64,
+    pub latest: u64,
+    pub ghost ordered: { earliest ≤ latest },
+    pub ghost in_range: { latest < 2 ^ 62 },
+}
+
+impl Interval {
+    /// The interval of these two timestamps. `BadInterval` where it ends before it begins, else `TimestampRange` where it ends
+    /// past the last timestamp.
+    pub fn new(earliest: u64, latest: u64) -> Result<Interval, Refusal>
+        ensures ok { IfOk result (λ interval. (interval.earliest ≡ earliest) × (interval.latest ≡ latest)) }
+        ensures reversed { IsErrOf result Refusal.BadInterval ↔ (latest < earliest) }
+        ensures late { IsErrOf result Refusal.TimestampRange ↔ ((earliest ≤ latest) × (2 ^ 62 ≤ latest)) }
+        ensures accepted { earliest ≤ latest → latest < 2 ^ 62 → IsOk result }
+    {
+        if earliest > latest {
+            return Err(Refusal::BadInterval);
+        }
+        if latest >= TIMESTAMP_END {
+            return Err(Refusal::TimestampRange);
+        }
+        Ok(Interval { earliest, latest })
+    }
+
+    /// Whether the timestamp has definitely passed.
+    pub fn after(self, timestamp: u64) -> bool
+        ensures { IsTrue result ↔ (timestamp < self.earliest) }
+    {
+        timestamp < self.earliest
+    }
+}
