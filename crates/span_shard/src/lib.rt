@@ -1,5 +1,9 @@
 //! A shard: the versions of the rows in its key range, and the writes that are prepared there.
 #![tactic(auto)]
 
+pub mod chain;
 pub mod mutation;
+pub mod range;
+pub mod shard;
 pub mod transaction;
+pub mod write;

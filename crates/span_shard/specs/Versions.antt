@@ -1,0 +1,45 @@
+use Rattle.std.specs.Prelude.{◌≡◌, ◌≢◌, ℕ, ℤ, ◌+◌, ◌^◌, ◌-◌, Bool, true, false, ◌==◌, ◌||◌, ◌&&◌, not, nat_le, List, [], ◌∷◌, ◌++◌, length, map, filter, find, sum_by, is_some, Option, Some, None, Result, Ok, option_map, option_and_then, if◌then◌else◌}
+use Rattle.std.specs.List.{filter_map}
+use Rattle.std.specs.Ordering.{int_cmp, eq_by_cmp}
+use Rattle.std.specs.declared.cmp.Ordering.{Ordering}
+use Rattle.std.specs.declared.cmp.Ordering.TheVariants.{Less, Equal, Greater}
+use Rattle.span_value.specs.declared.value.Value.{Value}
+use Rattle.span_shard.specs.declared.mutation.CheckedMutation.{CheckedMutation}
+use Rattle.span_shard.specs.declared.chain.Version.{Version}
+use Rattle.span_shard.specs.declared.chain.PreparedWrite.{PreparedWrite}
+use Rattle.span_shard.specs.KeyVersions.{KeyVersions}
+
+-- ---- one key
+
+-- the newest version at or below s
+abbrev pub newest_at : List Version → ℕ → Option Version
+newest_at versions s = find (λ v. nat_le v.timestamp s) versions
+
+-- the row at s: that of the newest version at or below s, where there is one and it is no deletion
+abbrev pub row_at : List Version → ℕ → Option Value
+row_at versions s = option_and_then (λ v. v.row) (newest_at versions s)
+
+abbrev pub is_empty : List Version → Bool
+is_empty [] = true
+is_empty (v ∷ vs) = false
+
+-- the key has a version or a prepared write
+abbrev pub is_used : KeyVersions → Bool
+is_used c = not (is_empty c.versions) || is_some c.prepared
+
+abbrev pub with_prepared : PreparedWrite → KeyVersions → KeyVersions
+with_prepared write c = record c { prepared = Some write }
+
+-- with the row as the newest version at the commit timestamp, where there is one
+abbrev pub with_version : Option ℕ → Option Value → List Version → List Version
+with_version None row versions = versions
+with_version (Some ts) row versions = (record { timestamp = ts; row = row }) ∷ versions
+
+-- the key once this prepared write is applied
+abbrev pub applied_write : Option PreparedWrite → ℕ → Option ℕ → KeyVersions → KeyVersions
+applied_write None txn committed c = c
+applied_write (Some w) txn committed c = if w.txn == txn then record c { versions = with_version committed w.row c.versions; prepared = None } else c
+
+-- the key once the transaction's write there is applied, at its commit timestamp, or given up where there is none
+abbrev pub applied_to_key : ℕ → Option ℕ → KeyVersions → KeyVersions
+applied_to_key txn committed c = applied_write c.prepared txn committed c
