@@ -1,14 +1,15 @@
-use Rattle.std.specs.Prelude.{◌≡◌, ℕ, ℤ, ◌+◌, Bool, true, false, List, [], ◌∷◌, ◌++◌, length, map, filter, find, sum_by, is_some, Option, Some, None, option_map, if◌then◌else◌}
-use Rattle.std.specs.List.{filter_map, AllByRecursion}
+use Rattle.std.specs.Prelude.{◌≡◌, ℕ, ℤ, ◌+◌, Bool, true, List, [], ◌∷◌, ◌++◌, length, map, filter, find, sum_by, is_some, Option, Some, None, option_map, Result, Ok, Err, IfSome, slice_get, take, ◌≤◌, ◌≢◌, if◌then◌else◌}
+use Rattle.std.specs.List.{filter_map, list_any, AllByRecursion}
 use Rattle.std.specs.Ordering.{int_cmp, eq_by_cmp}
 use Rattle.std.specs.declared.cmp.Ordering.{Ordering}
 use Rattle.std.specs.declared.cmp.Ordering.TheVariants.{Less, Equal, Greater}
 use Rattle.span_value.specs.declared.value.Value.{Value}
 use Rattle.span_shard.specs.declared.chain.Version.{Version}
 use Rattle.span_shard.specs.declared.chain.PreparedWrite.{PreparedWrite}
+use Rattle.span_shard.specs.declared.mutation.CheckedMutation.{CheckedMutation}
 use Rattle.span_shard.specs.declared.range.KeyRange.{KeyRange}
 use Rattle.span_shard.specs.declared.write.Write.{Write}
-use Rattle.span_shard.specs.Database.{row_of}
+use Rattle.span_shard.specs.Database.{row_of, is_at}
 use Rattle.span_shard.specs.KeyVersions.{KeyVersions}
 use Rattle.span_shard.specs.Ranges.{contains}
 use Rattle.span_shard.specs.Versions.{row_at, is_used, with_prepared, applied_to_key}
@@ -66,6 +67,34 @@ with_write txn w (c ∷ cs) = by_order (int_cmp w.key c.key) (fresh txn w ∷ c 
 abbrev pub with_writes : ℕ → List Write → List KeyVersions → List KeyVersions
 with_writes txn [] cs = cs
 with_writes txn (w ∷ ws) cs = with_write txn w (with_writes txn ws cs)
+
+-- with the last of the writes prepared, those in front of them not yet
+pub record HasSomeOf (txn : ℕ) (ws : List Write) (old new : List KeyVersions) : Type 0 where
+  pub front : List Write
+  pub rest : List Write
+  pub whole : front ++ rest ≡ ws
+  pub put : new ≡ with_writes txn rest old
+
+-- the prepared write, if there is one, is of another transaction
+abbrev pub IsNotOf : ℕ → Option PreparedWrite → Type 0
+IsNotOf txn None = Unit {0}
+IsNotOf txn (Some w) = w.txn ≢ txn
+
+-- nothing of the transaction is prepared
+abbrev pub HasNoneOf : ℕ → List KeyVersions → Type 0
+HasNoneOf txn cs = AllByRecursion (λ c. IsNotOf txn c.prepared) cs
+
+-- nothing is prepared at any key of the mutations
+abbrev pub IsFree : List CheckedMutation → List KeyVersions → Type 0
+IsFree ms cs = AllByRecursion (λ c. list_any (is_at c.key) ms ≡ true → c.prepared ≡ None) cs
+
+-- the key comes after all in front of the place, and stands there, or does not come after what stands there
+abbrev pub IsPlaceOf : ℤ → List KeyVersions → Result ℕ ℕ → Type 0
+IsPlaceOf key cs (Ok i) = AllByRecursion (λ c. int_cmp key c.key ≡ Greater) (take i cs) × (c : KeyVersions) × (slice_get cs i ≡ Some c) × (int_cmp key c.key ≡ Equal)
+IsPlaceOf key cs (Err i) = AllByRecursion (λ c. int_cmp key c.key ≡ Greater) (take i cs) × (i ≤ length cs) × IfSome (slice_get cs i) (λ c. int_cmp key c.key ≡ Less)
+
+abbrev pub IsInUse : KeyVersions → Type 0
+IsInUse c = is_used c ≡ true
 
 -- ---- apply
 

@@ -1,10 +1,5 @@
-use Rattle.std.specs.Prelude.{◌≡◌, ◌≢◌, ℕ, ℤ, ◌+◌, ◌^◌, ◌-◌, Bool, true, false, ◌==◌, ◌||◌, ◌&&◌, not, nat_le, List, [], ◌∷◌, ◌++◌, length, map, filter, find, sum_by, is_some, Option, Some, None, Result, Ok, option_map, option_and_then, if◌then◌else◌}
-use Rattle.std.specs.List.{filter_map}
-use Rattle.std.specs.Ordering.{int_cmp, eq_by_cmp}
-use Rattle.std.specs.declared.cmp.Ordering.{Ordering}
-use Rattle.std.specs.declared.cmp.Ordering.TheVariants.{Less, Equal, Greater}
+use Rattle.std.specs.Prelude.{ℕ, Bool, true, false, ◌==◌, ◌||◌, not, nat_le, List, [], ◌∷◌, find, is_some, Option, Some, None, option_and_then, if◌then◌else◌}
 use Rattle.span_value.specs.declared.value.Value.{Value}
-use Rattle.span_shard.specs.declared.mutation.CheckedMutation.{CheckedMutation}
 use Rattle.span_shard.specs.declared.chain.Version.{Version}
 use Rattle.span_shard.specs.declared.chain.PreparedWrite.{PreparedWrite}
 use Rattle.span_shard.specs.KeyVersions.{KeyVersions}

@@ -1,4 +1,4 @@
-use Rattle.std.specs.Prelude.{◌≡◌, ◌≢◌, ℤ, ◌⊎◌, Bool, true, false, List, [], ◌∷◌, filter, find, Option, Some, None, Result, Ok, Err}
+use Rattle.std.specs.Prelude.{◌≡◌, ◌≢◌, ℤ, ◌⊎◌, Bool, true, false, List, filter, find, Option, Some, None, Result, Ok, Err}
 use Rattle.std.specs.List.{list_any}
 use Rattle.std.specs.Ordering.{int_cmp, eq_by_cmp}
 use Rattle.span_value.specs.declared.value.Value.{Value}
@@ -34,3 +34,8 @@ is_of key w = eq_by_cmp int_cmp key w.key
 -- the writes of the mutations: at every key, what they write there
 abbrev pub AreWrites : (ℤ → Option Value) → List CheckedMutation → List Write → Type 0
 AreWrites before ms ws = (key : ℤ) → IsWritten key (before key) ms (find (is_of key) ws)
+
+-- the writes at the keys of some of the mutations
+pub record AreWritesOf (before : ℤ → Option Value) (ms done : List CheckedMutation) (ws : List Write) : Type 0 where
+  pub written : (key : ℤ) → list_any (is_at key) done ≡ true → IsWritten key (before key) ms (find (is_of key) ws)
+  pub left : (key : ℤ) → list_any (is_at key) done ≡ false → find (is_of key) ws ≡ None

@@ -1,11 +1,13 @@
 //! The versions of one key.
 ghost use Rattle.std.specs.Prelude.{◌≡◌, [], Some, IfOk, OnOk, OnErr, is_some, length, reverse};
 ghost use Rattle.std.specs.Option.{option_copied};
+ghost use Rattle.std.specs.Ordering.{int_cmp};
 ghost use Rattle.span_shard.specs.Shard.{kept_of};
 ghost use Rattle.span_shard.specs.Versions.{newest_at, row_at, applied_to_key, is_used, with_prepared};
 
 use span_value::value::Value;
 use std::alloc::{AllocError, Global};
+use std::cmp::Ordering;
 use std::marker::Model;
 
 /// A row as a commit left it.
@@ -64,6 +66,13 @@ impl Chain {
         ensures { result ≡ self.now.key }
     {
         self.key
+    }
+
+    /// How a key stands to this one.
+    pub fn order_of(&self, key: i64) -> Ordering
+        ensures { result ≡ int_cmp key self.now.key }
+    {
+        key.cmp(&self.key)
     }
 
     /// How many versions there are.

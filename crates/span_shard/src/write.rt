@@ -18,11 +18,11 @@ pub struct Write {
     pub row: Option<Value>,
 }
 
-/// Whether a mutation is of the key.
-pub fn has_key(mutations: &[CheckedMutation], key: i64) -> bool
-    ensures { result ≡ list_any (is_at key) mutations.now }
+/// Whether one of the mutations is of the key of this one.
+pub fn has_key_of(mutations: &[CheckedMutation], mutation: &CheckedMutation) -> bool
+    ensures { result ≡ list_any (is_at mutation.now.key) mutations.now }
 {
-    mutations.iter().any(|m| m.key == key)
+    mutations.iter().any(|m| m.key == mutation.key)
 }
 
 /// The row once the mutation has run.

@@ -1,0 +1,21 @@
+use Rattle.std.proofs.Common.{◌≡◌, ◌∷◌, [], ◌++◌, refl, sym, ap, ◌∙◌, append_assoc}
+use Rattle.std.proofs.lemmas.List.{append-nil}
+use Rattle.span_shard.specs.Shard.{with_write}
+use Rattle.span_shard.proofs.shard.put_all.Goals as goal
+
+pub loop-write-init : goal.loop-write-init
+loop-write-init c = record { some = record { front = c.args.writes.items; rest = []; whole = append-nil c.args.writes.items; put = refl }; front = refl }
+
+pub loop-write-preserved : goal.loop-write-preserved
+loop-write-preserved c =
+    let old = c.loop-write.invariant in
+    let whole : c.loop-write.left.items ≡ c.pop.new.self.items ++ c.in-Some.write ∷ [] = c.in-Some.ensures.items in
+    record {
+      some = record {
+        front = c.pop.new.self.items;
+        rest = c.in-Some.write ∷ old.some.rest;
+        whole = sym (append_assoc c.pop.new.self.items (c.in-Some.write ∷ []) old.some.rest) ∙ ap (λ l. l ++ old.some.rest) (sym whole ∙ sym old.front) ∙ old.some.whole;
+        put = c.in_ok-put.ensures.ok ∙ ap (with_write c.args.txn c.in-Some.write) old.some.put;
+      };
+      front = refl;
+    }
