@@ -1,0 +1,315 @@
+use Rattle.std.proofs.Common.{◌≡◌, ◌≢◌, ℕ, ℤ, ◌<◌, ◌≤◌, ◌+◌, ◌^◌, max, zero, suc, Bool, true, false, cond, not, ◌&&◌, ◌||◌, ◌==◌, nat_lt, nat_le, List, [], ◌∷◌, ◌++◌, length, Option, Some, None, Result, Ok, Err, refl, ap, sym, ◌∙◌, subst, inl, inr, ◌⊎◌, ⊎_elim, arith, rules}
+use Rattle.std.specs.Prelude.{slice_get, slice_set, find, filter}
+use Rattle.std.proofs.lemmas.Bool.Decides.{nat_tests}
+use Rattle.std.specs.List.{AllByRecursion, list_any, list_all}
+use Rattle.span_machine.specs.declared.slot.Book.{Book}
+use Rattle.span_machine.specs.declared.transaction.Commit.{Commit}
+use Rattle.span_shard.specs.declared.mutation.CheckedMutation.{CheckedMutation}
+use Rattle.span_machine.specs.declared.transaction.OpenTransaction.{OpenTransaction}
+use Rattle.span_machine.specs.declared.transaction.Outcome.{Outcome}
+use Rattle.span_machine.specs.declared.transaction.Outcome.TheVariants as outcome
+use Rattle.span_machine.specs.declared.transaction.Prepared.{Prepared}
+use Rattle.span_value.specs.declared.refusal.Refusal.{Refusal}
+use Rattle.span_machine.specs.declared.step.Step.{Step}
+use Rattle.span_machine.specs.declared.step.Step.TheVariants.{Begin, Prepare, Decide, Apply, Advance, Open, Scan, Finish, Close}
+use Rattle.span_machine.specs.declared.step.Verdict.{Verdict}
+use Rattle.span_machine.specs.declared.step.Verdict.TheVariants as verdict
+use Rattle.span_truetime.specs.declared.interval.Interval.{Interval}
+use Rattle.span_shard.specs.Database.{Database, is_at}
+use Rattle.span_machine.specs.Tables.{upto}
+use Rattle.span_value.specs.declared.refusal.Refusal.TheVariants as refusal
+use Rattle.span_machine.specs.declared.query.OpenQuery.{OpenQuery}
+use Rattle.span_machine.specs.Machine.{unless_refused, first_cause, for_transaction, for_slot, for_query, begin_refusal, begun, prepare_timestamp, prepare_refusal, prepare_found, prepared, faults, mutations_in, is_query, Machine, Answer, answer, refused, holds, if_some, changed_first, without_first, begin, prepare, is_transaction, is_all_prepared, is_prepared_for, greatest, commit_timestamp, commit_refusal, commit_of, committed, aborted, decide, decide_found, is_undecided, coordinator_of, applied, applied_at, apply_refusal, apply_found, apply_step, advanced, advance, open_refusal, opened, open_query, risen, with_book, cover, scanned, scan_at, scan_found, scan, finish, finish_found, answer_on, meaning, close, closed, is_safe, with_last, add_prepared, with_outcome, without_prepared}
+use Rattle.span_truetime.specs.Time.{timestamp_end, timestamp_of}
+use Rattle.std.proofs.lemmas.Map.Views.{tells_apart}
+use Rattle.std.proofs.lemmas.Map.Lookups.{exact_signed}
+use Rattle.span_machine.specs.declared.query.Params.{Params}
+use Rattle.span_truetime.specs.declared.bound.Bound.{Bound}
+use Rattle.span_machine.specs.declared.step.Reply.TheVariants as reply
+use Rattle.span_machine.specs.declared.step.Reply.TheVariants.{Refused}
+use Rattle.span_machine.specs.Tables.{tables}
+use Rattle.span_laws.proofs.Stability.{changes_at, touches, is_some_of, changes_at-more}
+
+-- ---- lists
+
+pub slice_get-set : {A : Type 0} (xs : List A) (i j : ℕ) (v x : A) → slice_get (slice_set xs i v) j ≡ Some x → ((j ≡ i) × (x ≡ v)) ⊎ (slice_get xs j ≡ Some x)
+slice_get-set [] i j v x h = inr h
+slice_get-set (y ∷ ys) zero zero v x h = inl (refl, cc)
+slice_get-set (y ∷ ys) zero (suc j) v x h = inr h
+slice_get-set (y ∷ ys) (suc i) zero v x h = inr h
+slice_get-set (y ∷ ys) (suc i) (suc j) v x h = elim (slice_get-set ys i j v x h) [ inl e ↦ inl (ap suc e.0, e.1) | inr g ↦ inr g ]
+
+module _ {A : Type 0} (P : A → Type 0) where
+  pub all_push : (xs : List A) (x : A) → AllByRecursion P xs → P x → AllByRecursion P (xs ++ x ∷ [])
+  all_push [] x all p = (p, tt)
+  all_push (y ∷ ys) x all p = (all.0, all_push ys x all.1 p)
+
+  pub all_filtered : (q : A → Bool) (ys : List A) → AllByRecursion P ys → AllByRecursion P (filter q ys)
+  all_filtered q [] all = tt
+  all_filtered q (y ∷ ys) all = elim (q y) as (λ b. AllByRecursion P (cond b (y ∷ filter q ys) (filter q ys))) [
+    | true ↦ (all.0, all_filtered q ys all.1)
+    | false ↦ all_filtered q ys all.1
+  ]
+
+  pub all_changed : (test : A → Bool) (change : A → A) → ((x : A) → P x → P (change x)) → (xs : List A) → AllByRecursion P xs → AllByRecursion P (changed_first test change xs)
+  all_changed test change kept [] all = tt
+  all_changed test change kept (x ∷ xs) all = elim (test x) as (λ b. AllByRecursion P (cond b (change x ∷ xs) (x ∷ changed_first test change xs))) [
+    | true ↦ (kept x all.0, all.1)
+    | false ↦ (all.0, all_changed test change kept xs all.1)
+  ]
+
+  pub all_without : (test : A → Bool) (xs : List A) → AllByRecursion P xs → AllByRecursion P (without_first test xs)
+  all_without test [] all = tt
+  all_without test (x ∷ xs) all = elim (test x) as (λ b. AllByRecursion P (cond b xs (x ∷ without_first test xs))) [
+    | true ↦ all.1
+    | false ↦ (all.0, all_without test xs all.1)
+  ]
+
+  pub all_found : (test : A → Bool) (xs : List A) (x : A) → find test xs ≡ Some x → AllByRecursion P xs → P x
+  all_found test [] x = λ e all. cc
+  all_found test (y ∷ ys) x = elim (test y) as (λ b. cond b (Some y) (find test ys) ≡ Some x → P y × AllByRecursion P ys → P x) [
+    | true ↦ λ e all. let same : y ≡ x = cc in subst P same all.0
+    | false ↦ λ e all. all_found test ys x e all.1
+  ]
+
+abbrev pub touches_any : ℤ → List CheckedMutation → Bool
+touches_any key ms = is_some_of (filter (is_at key) ms)
+
+pub first_true : (a b : Bool) → (a && b) ≡ true → a ≡ true
+first_true true b e = refl
+first_true false b e = e
+
+pub second_true : (a b : Bool) → (a && b) ≡ true → b ≡ true
+second_true true b e = e
+second_true false b e = cc
+
+pub one_or_other : {A : Type 0} (P : A → Type 0) (b : Bool) (x y : A) → P x → P y → P (cond b x y)
+one_or_other P true x y p q = p
+one_or_other P false x y p q = q
+
+-- a commit that is not refused has all prepared
+pub all_ready : (undecided ready late : Bool) → first_cause ((not undecided || not ready, refusal.WrongState) ∷ (late, refusal.TimestampRange) ∷ []) ≡ None → ready ≡ true
+all_ready true true late e = refl
+all_ready true false late e = cc
+all_ready false ready late e = cc
+
+-- ---- what may still be committed
+
+-- every transaction prepared at the slot has a prepare timestamp above s there
+abbrev pub IsAbove : ℕ → ℕ → OpenTransaction → Type 0
+IsAbove s slot t = AllByRecursion (λ p. p.slot ≡ slot → s < p.timestamp) t.prepared
+
+-- no later commit changes the key at s or earlier
+pub record IsSealed (key : ℤ) (s : ℕ) (m : Machine) : Type 0 where
+  pub floors : (i : ℕ) (b : Book) → slice_get m.books i ≡ Some b → holds b key ≡ true → s ≤ b.floor
+  pub prepared : (i : ℕ) (b : Book) → slice_get m.books i ≡ Some b → holds b key ≡ true → AllByRecursion (IsAbove s i) m.transactions
+
+-- a book in the place of another, of the same range and with no lower floor
+pub record Rises (old new : List Book) : Type 0 where
+  pub from : (i : ℕ) (b : Book) → slice_get new i ≡ Some b → (a : Book) × (slice_get old i ≡ Some a) × (a.floor ≤ b.floor) × ((key : ℤ) → holds b key ≡ true → holds a key ≡ true)
+
+pub rises_same : (books : List Book) → Rises books books
+rises_same books = record { from = λ i b h. (b, h, omega arith, λ key k. k) }
+
+pub rises_set : (books : List Book) (slot : ℕ) (a b : Book) → slice_get books slot ≡ Some a → a.floor ≤ b.floor → ((key : ℤ) → holds b key ≡ true → holds a key ≡ true) → Rises books (slice_set books slot b)
+rises_set books slot a b here low range = record {
+  from = λ i c h. elim (slice_get-set books slot i b c h) [
+    | inl e ↦ (a, ap (slice_get books) e.0 ∙ here, subst (λ (d : Book). a.floor ≤ d.floor) (sym e.1) low, λ key k. range key (subst (λ (d : Book). holds d key ≡ true) e.1 k))
+    | inr g ↦ (c, g, omega arith, λ key k. k)
+  ];
+}
+
+-- a step keeps what is sealed, and the log's changes of the key at s
+pub record Keeps (key : ℤ) (s : ℕ) (m : Machine) (a : Answer) : Type 0 where
+  pub seal : IsSealed key s a.1
+  pub rises : Rises m.books a.1.books
+  pub same : changes_at key (upto a.1.log s) ≡ changes_at key (upto m.log s)
+
+module _ (key : ℤ) (s : ℕ) (m : Machine) (sealed : IsSealed key s m) where
+  pub kept_as_is : (a : Answer) → a.1 ≡ m → Keeps key s m a
+  kept_as_is a e = record {
+    seal = subst (IsSealed key s) (sym e) sealed;
+    rises = subst (λ (n : Machine). Rises m.books n.books) (sym e) (rises_same m.books);
+    same = ap (λ (n : Machine). changes_at key (upto n.log s)) e;
+  }
+
+  -- books rise, transactions stay above, and the log is the same for the key
+  pub kept_by : (a : Answer) → Rises m.books a.1.books
+    → ((i : ℕ) (b : Book) → slice_get m.books i ≡ Some b → holds b key ≡ true → AllByRecursion (IsAbove s i) m.transactions → AllByRecursion (IsAbove s i) a.1.transactions)
+    → changes_at key (upto a.1.log s) ≡ changes_at key (upto m.log s) → Keeps key s m a
+  kept_by a rises above same = record {
+    seal = record {
+      floors = λ i b h k. let old = rises.from i b h in let low = sealed.floors i old.0 old.1 (old.3 key k) in omega arith;
+      prepared = λ i b h k. let old = rises.from i b h in above i old.0 old.1 (old.3 key k) (sealed.prepared i old.0 old.1 (old.3 key k));
+    };
+    rises = rises;
+    same = same;
+  }
+
+  -- ---- choices
+  by_cond : (b : Bool) (x y : Answer) → (b ≡ true → Keeps key s m x) → (b ≡ false → Keeps key s m y) → Keeps key s m (cond b x y)
+  by_cond b x y then_keeps else_keeps = elim b as (λ v. b ≡ v → Keeps key s m (cond v x y)) [ true ↦ then_keeps | false ↦ else_keeps ] refl
+
+  pub refusal_keeps : (why : Refusal) → Keeps key s m (refused m why)
+  refusal_keeps why = kept_as_is (refused m why) refl
+
+  by_refusal : (o : Option Refusal) (a : Answer) → (o ≡ None → Keeps key s m a) → Keeps key s m (unless_refused m o a)
+  by_refusal o a keeps = elim o as (λ v. o ≡ v → Keeps key s m (unless_refused m v a)) [ None ↦ keeps | Some why ↦ λ e. refusal_keeps why ] refl
+
+  by_some : {A : Type 0} (o : Option A) (miss : Answer) (make : A → Answer) → Keeps key s m miss → ((x : A) → o ≡ Some x → Keeps key s m (make x)) → Keeps key s m (if_some o miss make)
+  by_some o miss make miss_keeps make_keeps = elim o as (λ v. o ≡ v → Keeps key s m (if_some v miss make)) [ None ↦ λ e. miss_keeps | Some x ↦ make_keeps x ] refl
+
+  by_transaction : (owner number : ℕ) (make : OpenTransaction → Answer) → ((t : OpenTransaction) → find (is_transaction owner number) m.transactions ≡ Some t → Keeps key s m (make t)) → Keeps key s m (for_transaction m owner number make)
+  by_transaction owner number make keeps = by_some (find (is_transaction owner number) m.transactions) (refused m refusal.UnknownTransaction) make (refusal_keeps refusal.UnknownTransaction) keeps
+
+  by_slot : (slot : ℕ) (make : Book → Answer) → ((b : Book) → slice_get m.books slot ≡ Some b → Keeps key s m (make b)) → Keeps key s m (for_slot m slot make)
+  by_slot slot make keeps = by_some (slice_get m.books slot) (refused m refusal.NoSlot) make (refusal_keeps refusal.NoSlot) keeps
+
+  by_query : (number : ℕ) (make : OpenQuery → Answer) → ((q : OpenQuery) → find (is_query number) m.queries ≡ Some q → Keeps key s m (make q)) → Keeps key s m (for_query m number make)
+  by_query number make keeps = by_some (find (is_query number) m.queries) (refused m refusal.UnknownQuery) make (refusal_keeps refusal.UnknownQuery) keeps
+
+  -- ---- steps
+  pub begin_keeps : (owner : ℕ) (ms : List CheckedMutation) → Keeps key s m (begin m owner ms)
+  begin_keeps owner ms = by_refusal (begin_refusal m) (begun m owner ms) (λ _.
+    kept_by (begun m owner ms) (rises_same m.books) (λ i b h k all. all_push (IsAbove s i) m.transactions (record { owner = owner; number = m.next_transaction; mutations = ms; outcome = outcome.Undecided; prepared = [] }) all tt) refl)
+
+  pub new_above : (slot i : ℕ) (book b : Book) → slice_get m.books slot ≡ Some book → slice_get m.books i ≡ Some b → holds b key ≡ true → slot ≡ i → s < prepare_timestamp book
+  new_above slot i book b here h k e =
+      let same : book ≡ b = cc in
+      let low = sealed.floors i b h k in
+      let lower : s ≤ book.floor = subst (λ (c : Book). s ≤ c.floor) (sym same) low in
+      omega arith
+
+  pub prepare_keeps : (owner txn slot : ℕ) → Keeps key s m (prepare m owner txn slot)
+  prepare_keeps owner txn slot =
+    by_transaction owner txn (λ t. for_slot m slot (prepare_found m owner txn slot t)) (λ t found.
+    by_slot slot (prepare_found m owner txn slot t) (λ book here.
+    by_refusal (prepare_refusal m slot t book) (unless_refused m (faults m (mutations_in book t.mutations)) (unless_refused m (first_cause ((nat_le timestamp_end (prepare_timestamp book), refusal.TimestampRange) ∷ [])) (prepared m owner txn slot book))) (λ _.
+    by_refusal (faults m (mutations_in book t.mutations)) (unless_refused m (first_cause ((nat_le timestamp_end (prepare_timestamp book), refusal.TimestampRange) ∷ [])) (prepared m owner txn slot book)) (λ _.
+    by_refusal (first_cause ((nat_le timestamp_end (prepare_timestamp book), refusal.TimestampRange) ∷ [])) (prepared m owner txn slot book) (λ _.
+      kept_by (prepared m owner txn slot book) (rises_set m.books slot book (record book { last = prepare_timestamp book }) here (omega arith) (λ _ k. k))
+        (λ i b h k all. all_changed (IsAbove s i) (is_transaction owner txn) (add_prepared slot (prepare_timestamp book))
+          (λ u above. all_push (λ p. p.slot ≡ i → s < p.timestamp) u.prepared (record { slot = slot; timestamp = prepare_timestamp book }) above (new_above slot i book b here h k)) m.transactions all)
+        refl)))))
+
+  pub rises_last : (slot ts : ℕ) → Rises m.books (with_last m.books slot ts)
+  rises_last slot ts = elim (slice_get m.books slot) as (λ o. slice_get m.books slot ≡ o → Rises m.books (if_some o m.books (λ book. slice_set m.books slot (record book { last = max book.last ts })))) [
+      | None ↦ λ e. rises_same m.books
+      | Some book ↦ λ e. rises_set m.books slot book (record book { last = max book.last ts }) e (omega arith) (λ _ k. k)
+    ] refl
+
+  pub above_here : (p : Prepared) (ps : List Prepared) (k : ℤ) → if_some (slice_get m.books p.slot) false (λ book. holds book k) ≡ true
+    → ((i : ℕ) (b : Book) → slice_get m.books i ≡ Some b → holds b k ≡ true → AllByRecursion (λ p. p.slot ≡ i → s < p.timestamp) (p ∷ ps)) → s < p.timestamp
+  above_here p ps k = elim (slice_get m.books p.slot) as (λ o. slice_get m.books p.slot ≡ o → if_some o false (λ book. holds book k) ≡ true
+    → ((i : ℕ) (b : Book) → slice_get m.books i ≡ Some b → holds b k ≡ true → AllByRecursion (λ p. p.slot ≡ i → s < p.timestamp) (p ∷ ps)) → s < p.timestamp) [
+      | None ↦ λ e bad above. cc
+      | Some b ↦ λ e holds_it above. (above p.slot b e holds_it).0 refl
+    ] refl
+
+  -- a transaction that is prepared for each of its mutations has, if one is of the key, a prepare timestamp above s
+  pub prepared_above : (k : ℤ) → (ps : List Prepared) → list_any (λ p. if_some (slice_get m.books p.slot) false (λ book. holds book k)) ps ≡ true
+    → ((i : ℕ) (b : Book) → slice_get m.books i ≡ Some b → holds b k ≡ true → AllByRecursion (λ p. p.slot ≡ i → s < p.timestamp) ps) → s < greatest ps
+  prepared_above k [] = λ e above. cc
+  prepared_above k (p ∷ ps) = elim (if_some (slice_get m.books p.slot) false (λ book. holds book k)) as (λ v. if_some (slice_get m.books p.slot) false (λ book. holds book k) ≡ v → (v || list_any (λ p. if_some (slice_get m.books p.slot) false (λ book. holds book k)) ps) ≡ true
+    → ((i : ℕ) (b : Book) → slice_get m.books i ≡ Some b → holds b k ≡ true → AllByRecursion (λ p. p.slot ≡ i → s < p.timestamp) (p ∷ ps)) → s < greatest (p ∷ ps)) [
+      | true ↦ λ is e above. let low = above_here p ps k is above in omega arith
+      | false ↦ λ is e above. let low = prepared_above k ps e (λ i b h g. (above i b h g).1) in omega arith
+    ] refl
+
+  -- the key of a mutation at the key is the key
+  pub some_prepared : (t : OpenTransaction) (ms : List CheckedMutation) → touches_any key ms ≡ true → list_all (is_prepared_for m t) ms ≡ true
+    → ((i : ℕ) (b : Book) → slice_get m.books i ≡ Some b → holds b key ≡ true → IsAbove s i t) → s < greatest t.prepared
+  some_prepared t [] = λ e all above. cc
+  some_prepared t (mu ∷ ms) = elim (is_at key mu) as (λ v. is_at key mu ≡ v → is_some_of (cond v (mu ∷ filter (is_at key) ms) (filter (is_at key) ms)) ≡ true → (is_prepared_for m t mu && list_all (is_prepared_for m t) ms) ≡ true
+    → ((i : ℕ) (b : Book) → slice_get m.books i ≡ Some b → holds b key ≡ true → IsAbove s i t) → s < greatest t.prepared) [
+      | true ↦ λ at e all above. prepared_above mu.key t.prepared (first_true _ _ all) (λ i b h k. above i b h (subst (λ (q : ℤ). holds b q ≡ true) (sym (tells_apart exact_signed key mu.key at)) k))
+      | false ↦ λ at e all above. some_prepared t ms e (second_true _ _ all) above
+    ] refl
+
+  -- a commit that touches the key is above s
+  pub commit_apart : (owner txn : ℕ) (interval : Interval) (t : OpenTransaction) → find (is_transaction owner txn) m.transactions ≡ Some t → commit_refusal m t interval ≡ None
+    → (touches key (commit_of (commit_timestamp m t interval) t) ≡ false) ⊎ (s < commit_timestamp m t interval)
+  commit_apart owner txn interval t found accepted = elim (touches_any key t.mutations) as (λ v. touches_any key t.mutations ≡ v → (v ≡ false) ⊎ (s < commit_timestamp m t interval)) [
+      | false ↦ λ e. inl refl
+      | true ↦ λ e.
+        let ready : is_all_prepared m t ≡ true = all_ready (is_undecided t) (is_all_prepared m t) (nat_le timestamp_end (commit_timestamp m t interval)) accepted in
+        let above : s < greatest t.prepared = some_prepared t t.mutations e (second_true (not (length t.prepared == 0)) (list_all (is_prepared_for m t) t.mutations) ready) (λ i b h k. all_found (IsAbove s i) (is_transaction owner txn) m.transactions t found (sealed.prepared i b h k)) in
+        inr (omega arith)
+    ] refl
+
+  pub commit_keeps : (owner txn : ℕ) (interval : Interval) (t : OpenTransaction) → find (is_transaction owner txn) m.transactions ≡ Some t → Keeps key s m (decide_found m owner txn verdict.Commit interval t)
+  commit_keeps owner txn interval t found =
+      by_refusal (commit_refusal m t interval) (committed m owner txn (commit_timestamp m t interval) t) (λ accepted.
+        kept_by (committed m owner txn (commit_timestamp m t interval) t) (rises_last (coordinator_of t.prepared) (commit_timestamp m t interval))
+          (λ i b h k all. all_changed (IsAbove s i) (is_transaction owner txn) (with_outcome (outcome.Committed (commit_timestamp m t interval))) (λ u above. above) m.transactions all)
+          (changes_at-more key m.log (commit_of (commit_timestamp m t interval) t) s (commit_apart owner txn interval t found accepted)))
+
+  pub abort_keeps : (owner txn : ℕ) (interval : Interval) (t : OpenTransaction) → Keeps key s m (decide_found m owner txn verdict.Abort interval t)
+  abort_keeps owner txn interval t =
+      by_refusal (first_cause ((not (is_undecided t), refusal.WrongState) ∷ [])) (aborted m owner txn t) (λ _.
+        kept_by (aborted m owner txn t) (rises_same m.books)
+          (λ i b h k all. one_or_other (AllByRecursion (IsAbove s i)) (length t.prepared == 0) _ _ (all_without (IsAbove s i) (is_transaction owner txn) m.transactions all)
+            (all_changed (IsAbove s i) (is_transaction owner txn) (with_outcome outcome.Aborted) (λ u above. above) m.transactions all))
+          refl)
+
+  pub decide_keeps : (owner txn : ℕ) (v : Verdict) (interval : Interval) → Keeps key s m (decide m owner txn v interval)
+  decide_keeps owner txn verdict.Commit interval = by_transaction owner txn (decide_found m owner txn verdict.Commit interval) (λ t found. commit_keeps owner txn interval t found)
+  decide_keeps owner txn verdict.Abort interval = by_transaction owner txn (decide_found m owner txn verdict.Abort interval) (λ t found. abort_keeps owner txn interval t)
+
+  pub applied_above : (owner txn slot : ℕ) (t : OpenTransaction) (i : ℕ) → AllByRecursion (IsAbove s i) m.transactions → AllByRecursion (IsAbove s i) (applied m owner txn slot t)
+  applied_above owner txn slot t i all = one_or_other (AllByRecursion (IsAbove s i)) (length (without_prepared slot t).prepared == 0) _ _ (all_without (IsAbove s i) (is_transaction owner txn) m.transactions all)
+      (all_changed (IsAbove s i) (is_transaction owner txn) (without_prepared slot) (λ u above. all_filtered (λ p. p.slot ≡ i → s < p.timestamp) (λ p. not (p.slot == slot)) u.prepared above) m.transactions all)
+
+  pub applied_keeps : (o : Outcome) (owner txn slot : ℕ) (t : OpenTransaction) → Keeps key s m (applied_at o m owner txn slot t)
+  applied_keeps outcome.Undecided owner txn slot t = refusal_keeps refusal.WrongState
+  applied_keeps outcome.Aborted owner txn slot t = kept_by (applied_at outcome.Aborted m owner txn slot t) (rises_same m.books) (λ i b h k all. applied_above owner txn slot t i all) refl
+  applied_keeps (outcome.Committed ts) owner txn slot t = kept_by (applied_at (outcome.Committed ts) m owner txn slot t) (rises_last slot ts) (λ i b h k all. applied_above owner txn slot t i all) refl
+
+  pub apply_keeps : (owner txn slot : ℕ) (interval : Interval) → Keeps key s m (apply_step m owner txn slot interval)
+  apply_keeps owner txn slot interval =
+    by_transaction owner txn (λ t. for_slot m slot (apply_found m owner txn slot interval t)) (λ t found.
+    by_slot slot (apply_found m owner txn slot interval t) (λ book here.
+    by_refusal (apply_refusal slot t interval) (applied_at t.outcome m owner txn slot t) (λ _. applied_keeps t.outcome owner txn slot t)))
+
+  pub advance_keeps : (slot : ℕ) (interval : Interval) → Keeps key s m (advance m slot interval)
+  advance_keeps slot interval = by_slot slot (advanced m slot interval) (λ book here.
+      kept_by (advanced m slot interval book) (rises_set m.books slot book (record book { floor = max book.floor interval.latest }) here (omega arith) (λ _ k. k)) (λ i b h k all. all) refl)
+
+  pub open_keeps : (text : List ℕ) (params : Params) (bound : Bound) (interval : Interval) → Keeps key s m (open_query m text params bound interval)
+  open_keeps text params bound interval = by_refusal (open_refusal m text (timestamp_of bound interval)) (opened m text params (timestamp_of bound interval)) (λ _.
+      kept_by (opened m text params (timestamp_of bound interval)) (rises_same m.books) (λ i b h k all. all) refl)
+
+  pub rises_risen : (slot q : ℕ) (interval : Interval) (book : Book) → slice_get m.books slot ≡ Some book → Rises m.books (slice_set m.books slot (risen book q interval))
+  rises_risen slot q interval book here = elim (nat_lt book.floor q && nat_le q interval.latest) as (λ v. (nat_lt book.floor q && nat_le q interval.latest) ≡ v → Rises m.books (slice_set m.books slot (cond v (record book { floor = q }) book))) [
+      | true ↦ λ e. rises_set m.books slot book (record book { floor = q }) here (let low : nat_lt book.floor q ≡ true = first_true (nat_lt book.floor q) (nat_le q interval.latest) e in grind (arith, nat_tests)) (λ _ k. k)
+      | false ↦ λ e. rises_set m.books slot book book here (omega arith) (λ _ k. k)
+    ] refl
+
+  pub scan_keeps : (query leaf slot : ℕ) (interval : Interval) → Keeps key s m (scan m query leaf slot interval)
+  scan_keeps query leaf slot interval = by_query query (scan_found m query leaf slot interval) (λ q found.
+      by_cond (leaf == 0) (for_slot m slot (scan_at m query slot interval q)) (refused m refusal.UnknownQuery) (λ _.
+        by_slot slot (scan_at m query slot interval q) (λ book here.
+          by_cond q.covered (reply.Nothing, m) (scanned m query slot (risen book q.s interval) q.s) (λ _. kept_as_is (reply.Nothing, m) refl) (λ _.
+            by_cond (is_safe m slot (risen book q.s interval) q.s) (reply.Scanned, record (with_book m slot (risen book q.s interval)) { queries = changed_first (is_query query) cover m.queries }) (Refused refusal.NotYet, with_book m slot (risen book q.s interval))
+              (λ _. kept_by (reply.Scanned, record (with_book m slot (risen book q.s interval)) { queries = changed_first (is_query query) cover m.queries }) (rises_risen slot q.s interval book here) (λ i b h k all. all) refl)
+              (λ _. kept_by (Refused refusal.NotYet, with_book m slot (risen book q.s interval)) (rises_risen slot q.s interval book here) (λ i b h k all. all) refl))))
+        (λ _. refusal_keeps refusal.UnknownQuery))
+
+  pub finish_keeps : (query : ℕ) → Keeps key s m (finish m query)
+  finish_keeps query = by_query query (finish_found m) (λ q found.
+      by_cond q.covered (answer_on q.s (meaning m q), m) (refused m refusal.Incomplete) (λ _. kept_as_is (answer_on q.s (meaning m q), m) refl) (λ _. refusal_keeps refusal.Incomplete))
+
+  pub close_keeps : (query : ℕ) → Keeps key s m (close m query)
+  close_keeps query = by_query query (closed m query) (λ q found. kept_by (closed m query q) (rises_same m.books) (λ i b h k all. all) refl)
+
+  -- no step changes what is sealed
+  pub answer_keeps : (step : Step) → Keeps key s m (answer m step)
+  answer_keeps (Begin owner transaction) = begin_keeps owner transaction
+  answer_keeps (Prepare owner txn slot) = prepare_keeps owner txn slot
+  answer_keeps (Decide owner txn v interval) = decide_keeps owner txn v interval
+  answer_keeps (Apply owner txn slot interval) = apply_keeps owner txn slot interval
+  answer_keeps (Advance slot interval) = advance_keeps slot interval
+  answer_keeps (Open text params bound interval) = open_keeps text params bound interval
+  answer_keeps (Scan query leaf slot interval) = scan_keeps query leaf slot interval
+  answer_keeps (Finish query) = finish_keeps query
+  answer_keeps (Close query) = close_keeps query
