@@ -3,3 +3,5 @@ pub mod Locality
 pub mod Stability
 pub mod Sealed
 pub mod InPlace
+pub mod Claims
+pub mod Placed
