@@ -5,3 +5,6 @@ pub mod Sealed
 pub mod InPlace
 pub mod Claims
 pub mod Placed
+pub mod Walks
+pub mod Members
+pub mod Numbers
