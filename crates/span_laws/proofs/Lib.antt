@@ -8,3 +8,4 @@ pub mod Placed
 pub mod Walks
 pub mod Members
 pub mod Numbers
+pub mod Holdings
