@@ -9,3 +9,4 @@ pub mod Walks
 pub mod Members
 pub mod Numbers
 pub mod Holdings
+pub mod Sound
