@@ -10,3 +10,4 @@ pub mod Members
 pub mod Numbers
 pub mod Holdings
 pub mod Sound
+pub mod Known
