@@ -1,5 +1,5 @@
-use Rattle.std.proofs.Common.{◌≡◌, ℕ, ◌<◌, ◌≤◌, ◌+◌, max, zero, suc, Bool, true, false, cond, not, ◌&&◌, ◌||◌, ◌==◌, List, [], ◌∷◌, ◌++◌, length, Option, Some, None, refl, ap, sym, ◌∙◌, subst, arith}
-use Rattle.std.specs.Prelude.{slice_get, slice_set, find, filter}
+use Rattle.std.proofs.Common.{◌≡◌, ℕ, ◌<◌, ◌≤◌, max, zero, Bool, true, false, cond, not, ◌==◌, List, [], ◌∷◌, ◌++◌, length, Some, None, refl, sym, subst, arith}
+use Rattle.std.specs.Prelude.{slice_get, slice_set, filter}
 use Rattle.std.specs.List.{AllByRecursion, list_any}
 use Rattle.std.proofs.lemmas.Bool.Decides.{nat_tests}
 use Rattle.std.proofs.lemmas.Option.{slice_get_within}
@@ -10,7 +10,7 @@ use Rattle.span_machine.specs.declared.transaction.OpenTransaction.{OpenTransact
 use Rattle.span_machine.specs.declared.transaction.Outcome.{Outcome}
 use Rattle.span_machine.specs.declared.transaction.Outcome.TheVariants as outcome
 use Rattle.span_machine.specs.declared.transaction.Prepared.{Prepared}
-use Rattle.span_machine.specs.Machine.{Machine, Answer, answer, start, if_some, is_transaction, is_undecided, is_prepared_at, conflicts, mutations_in, changed_first, without_first, with_last, with_outcome, add_prepared, prepare_timestamp, greatest, commit_timestamp, coordinator_of, without_prepared, applied, applied_at}
+use Rattle.span_machine.specs.Machine.{Machine, Answer, answer, start, if_some, is_transaction, is_undecided, is_prepared_at, conflicts, mutations_in, changed_first, without_first, with_last, with_outcome, add_prepared, prepare_timestamp, greatest, commit_timestamp, coordinator_of, without_prepared, applied_at}
 use Rattle.span_laws.proofs.Sealed.{all_push, all_changed, all_without, all_filtered, all_found}
 use Rattle.span_laws.proofs.Claims.{may_prepare, is_undecided_outcome, first_none, second_none}
 use Rattle.span_laws.proofs.Members.{IsIn, all_in, all_weaker, all_changed_found}

@@ -11,3 +11,4 @@ pub mod Numbers
 pub mod Holdings
 pub mod Sound
 pub mod Known
+pub mod History

@@ -1,7 +1,7 @@
-use Rattle.std.proofs.Common.{◌≡◌, ℕ, ◌<◌, zero, suc, Bool, true, false, cond, List, [], ◌∷◌, Option, Some, None, refl, ap, sym, ◌∙◌, subst, arith}
+use Rattle.std.proofs.Common.{◌≡◌, ℕ, zero, suc, Bool, true, false, cond, List, [], ◌∷◌, Some, refl, subst}
 use Rattle.std.specs.Prelude.{slice_get, find, filter}
 use Rattle.std.specs.List.{AllByRecursion, list_all}
-use Rattle.span_machine.specs.Machine.{changed_first, without_first}
+use Rattle.span_machine.specs.Machine.{changed_first}
 use Rattle.span_laws.proofs.Sealed.{first_true, second_true}
 
 -- x stands in the list

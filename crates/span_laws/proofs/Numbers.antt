@@ -1,12 +1,12 @@
-use Rattle.std.proofs.Common.{◌≡◌, ℕ, ◌<◌, ◌+◌, zero, suc, Bool, true, false, cond, ◌==◌, List, [], ◌∷◌, ◌++◌, length, Option, Some, None, refl, ap, sym, ◌∙◌, subst, arith}
-use Rattle.std.specs.Prelude.{slice_get, find}
+use Rattle.std.proofs.Common.{◌≡◌, ℕ, ◌<◌, ◌+◌, zero, suc, Bool, true, false, cond, ◌==◌, List, [], ◌∷◌, ◌++◌, length, Some, refl, ap, sym, subst, arith}
+use Rattle.std.specs.Prelude.{slice_get}
 use Rattle.std.specs.List.{AllByRecursion}
 use Rattle.span_machine.specs.declared.step.Step.{Step}
 use Rattle.span_machine.specs.declared.transaction.OpenTransaction.{OpenTransaction}
 use Rattle.span_machine.specs.declared.transaction.Outcome.{Outcome}
 use Rattle.span_machine.specs.declared.transaction.Outcome.TheVariants as outcome
-use Rattle.span_machine.specs.Machine.{Machine, Answer, answer, start, changed_first, without_first, is_transaction, with_outcome, add_prepared, prepare_timestamp, commit_timestamp, without_prepared, applied, applied_at}
-use Rattle.span_laws.proofs.Sealed.{all_push, all_changed, all_without, one_or_other}
+use Rattle.span_machine.specs.Machine.{Machine, answer, start, changed_first, without_first, is_transaction, with_outcome, add_prepared, prepare_timestamp, commit_timestamp, without_prepared, applied_at}
+use Rattle.span_laws.proofs.Sealed.{all_push, all_changed, all_without}
 use Rattle.span_laws.proofs.Members.{IsIn, all_at, all_weaker}
 use Rattle.span_laws.proofs.Walks.{Ends, answer_by}
 

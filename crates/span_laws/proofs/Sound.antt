@@ -1,5 +1,5 @@
-use Rattle.std.proofs.Common.{◌≡◌, ℕ, ℤ, ◌<◌, ◌≤◌, ◌+◌, max, zero, suc, Bool, true, false, cond, not, ◌&&◌, ◌||◌, ◌==◌, nat_lt, nat_le, List, [], ◌∷◌, ◌++◌, length, Option, Some, None, refl, ap, sym, ◌∙◌, subst, inl, inr, ◌⊎◌, arith}
-use Rattle.std.specs.Prelude.{slice_get, slice_set, find}
+use Rattle.std.proofs.Common.{◌≡◌, ℕ, ℤ, ◌<◌, ◌≤◌, true, false, not, ◌||◌, ◌==◌, nat_lt, nat_le, List, [], ◌∷◌, length, Some, refl, ap, sym, ◌∙◌, subst, inl, inr, arith}
+use Rattle.std.specs.Prelude.{slice_get, slice_set}
 use Rattle.std.proofs.lemmas.Bool.Decides.{nat_tests}
 use Rattle.std.proofs.lemmas.Option.{slice_get_within}
 use Rattle.std.proofs.lemmas.List.{length-set}
@@ -13,10 +13,10 @@ use Rattle.span_machine.specs.declared.transaction.Outcome.TheVariants as outcom
 use Rattle.span_machine.specs.declared.step.Step.{Step}
 use Rattle.span_machine.specs.declared.step.Reply.{Reply}
 use Rattle.span_machine.specs.Tables.{upto}
-use Rattle.span_machine.specs.Machine.{Machine, Answer, Steps, answer, start, holds, risen, with_book, cover, changed_first, without_first, is_query, is_safe, applied_at}
+use Rattle.span_machine.specs.Machine.{Machine, Steps, answer, start, risen, with_book, cover, changed_first, is_query, is_safe, applied_at}
 use Rattle.span_machine.specs.Run.{Run}
 use Rattle.span_laws.proofs.Stability.{changes_at}
-use Rattle.span_laws.proofs.Sealed.{IsSealed, IsAbove, answer_keeps, all_push, all_without, all_found, first_true, second_true}
+use Rattle.span_laws.proofs.Sealed.{IsSealed, IsAbove, answer_keeps, all_push, all_without, first_true, second_true}
 use Rattle.span_laws.proofs.Claims.{set_here}
 use Rattle.span_laws.proofs.Members.{all_true, all_weaker, all_changed_found}
 use Rattle.span_laws.proofs.Walks.{Ends, answer_by}

@@ -16,7 +16,7 @@ use Rattle.span_machine.specs.declared.step.Reply.TheVariants.{Refused}
 use Rattle.span_machine.specs.declared.step.Verdict.{Verdict}
 use Rattle.span_machine.specs.declared.step.Verdict.TheVariants as verdict
 use Rattle.span_machine.specs.declared.transaction.OpenTransaction.{OpenTransaction}
-use Rattle.span_machine.specs.Machine.{Machine, Answer, answer, refused, if_some, first_cause, unless_refused, for_transaction, for_slot, for_query, is_transaction, is_query, is_safe, is_undecided, begin_refusal, begun, begin, faults, prepare_timestamp, prepare_refusal, prepared, prepare_found, prepare, mutations_in, commit_timestamp, commit_refusal, committed, aborted, decide_found, decide, applied_at, apply_refusal, apply_found, apply_step, advanced, advance, open_refusal, opened, open_query, risen, with_book, cover, changed_first, scanned, scan_at, scan_found, scan, answer_on, meaning, finish_found, finish, closed, close}
+use Rattle.span_machine.specs.Machine.{Machine, Answer, answer, refused, if_some, first_cause, unless_refused, for_transaction, for_slot, for_query, is_transaction, is_query, is_safe, is_undecided, begin_refusal, begun, faults, prepare_timestamp, prepare_refusal, prepared, prepare_found, prepare, mutations_in, commit_timestamp, commit_refusal, committed, aborted, decide_found, decide, applied_at, apply_refusal, apply_found, apply_step, advanced, open_refusal, opened, risen, with_book, cover, changed_first, scanned, scan_at, scan_found, scan, answer_on, meaning, finish_found, finish, closed}
 
 -- what a fact about a step and its answer owes at each way that a step can end
 pub record Ends (m : Machine) (P : Step → Answer → Type 0) : Type 0 where
