@@ -1,11 +1,11 @@
 pub mod Ordered
 pub mod Locality
 pub mod Stability
+pub mod Walks
 pub mod Sealed
 pub mod InPlace
 pub mod Claims
 pub mod Placed
-pub mod Walks
 pub mod Members
 pub mod Numbers
 pub mod Holdings

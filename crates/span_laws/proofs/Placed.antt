@@ -1,4 +1,4 @@
-use Rattle.std.proofs.Common.{◌≡◌, ℕ, ℤ, ◌<◌, ◌≤◌, max, zero, suc, Bool, true, false, cond, not, ◌&&◌, ◌==◌, nat_lt, nat_le, List, [], ◌∷◌, ◌++◌, length, Option, Some, None, Ok, refl, ap, sym, ◌∙◌, subst, inl, inr, arith}
+use Rattle.std.proofs.Common.{◌≡◌, ℕ, ℤ, ◌<◌, ◌≤◌, max, zero, suc, true, false, cond, not, ◌&&◌, ◌==◌, nat_lt, nat_le, List, [], ◌∷◌, ◌++◌, length, Some, None, Ok, refl, ap, sym, ◌∙◌, subst, inl, inr, arith}
 use Rattle.std.specs.Prelude.{slice_get, slice_set, find, filter}
 use Rattle.std.proofs.lemmas.List.{append-nil}
 use Rattle.std.proofs.lemmas.List.Elements.{filter-append}
@@ -10,28 +10,18 @@ use Rattle.span_machine.specs.declared.transaction.OpenTransaction.{OpenTransact
 use Rattle.span_machine.specs.declared.transaction.Outcome.{Outcome}
 use Rattle.span_machine.specs.declared.transaction.Outcome.TheVariants as outcome
 use Rattle.span_shard.specs.Database.{Database, is_at}
-use Rattle.span_machine.specs.Sorting.{placed}
 use Rattle.span_machine.specs.Tables.{tables}
-use Rattle.span_machine.specs.Machine.{Machine, changed_first, without_first, is_prepared_at, greatest, with_last, if_some, mutations_in, faults, first_cause, is_undecided, is_prepared_for, Answer, answer, refused, unless_refused, for_transaction, for_slot, for_query, begin_refusal, begun, begin, prepare_timestamp, prepare_refusal, prepare_found, prepared, prepare, conflicts, add_prepared, is_transaction, is_query, is_all_prepared, coordinator_of, commit_timestamp, commit_refusal, commit_of, committed, aborted, decide, decide_found, with_outcome, without_prepared, applied, applied_at, apply_refusal, apply_found, apply_step, advanced, advance, open_refusal, opened, open_query, risen, with_book, cover, scanned, scan_at, scan_found, scan, finish, finish_found, answer_on, meaning, close, closed, is_safe, Steps, start}
+use Rattle.span_machine.specs.Machine.{Machine, changed_first, without_first, is_prepared_at, greatest, with_last, mutations_in, faults, is_undecided, is_prepared_for, answer, begun, prepare_timestamp, prepare_refusal, prepared, conflicts, add_prepared, is_transaction, is_query, is_all_prepared, coordinator_of, commit_timestamp, commit_of, committed, aborted, with_outcome, without_prepared, applied, applied_at, advanced, opened, risen, with_book, cover, closed, Steps, start}
 use Rattle.span_truetime.specs.Time.{timestamp_end, timestamp_of}
-use Rattle.span_value.specs.declared.refusal.Refusal.{Refusal}
-use Rattle.span_value.specs.declared.refusal.Refusal.TheVariants as refusal
 use Rattle.span_machine.specs.declared.step.Reply.{Reply}
-use Rattle.span_machine.specs.declared.step.Reply.TheVariants as reply
-use Rattle.span_machine.specs.declared.step.Reply.TheVariants.{Refused}
 use Rattle.span_machine.specs.declared.step.Step.{Step}
-use Rattle.span_machine.specs.declared.step.Step.TheVariants.{Begin, Prepare, Decide, Apply, Advance, Open, Scan, Finish, Close}
-use Rattle.span_machine.specs.declared.step.Verdict.{Verdict}
-use Rattle.span_machine.specs.declared.step.Verdict.TheVariants as verdict
 use Rattle.span_truetime.specs.declared.interval.Interval.{Interval}
-use Rattle.span_machine.specs.declared.query.Params.{Params}
-use Rattle.span_truetime.specs.declared.bound.Bound.{Bound}
-use Rattle.span_machine.specs.declared.query.OpenQuery.{OpenQuery}
 use Rattle.span_machine.specs.Run.{Run}
 use Rattle.span_laws.proofs.Stability.{changes_at, is_some_of}
 use Rattle.span_laws.proofs.Sealed.{all_push, first_true, second_true}
+use Rattle.span_laws.proofs.Walks.{Ends, answer_by}
 use Rattle.span_laws.proofs.InPlace.{IsBelow, IsUnder, IsRising, Succeeds, commits_at, claims, IsPromised, IsClaimed, IsClaim, IsInPlace, all_under, below_up, under_up, under_below, greatest_more, rising_push, changes_at-push, tables_made}
-use Rattle.span_laws.proofs.Claims.{Lifts, lifts_same, lifts_set, lifts_last, last_here, claim_up, claim_first, claim_without, unclaimed, all_held, commits_at-push, go_through, may_prepare, may_commit, may_abort, is_undecided_outcome, number_same, prepared_key, away_push, away_left, none_left, left_slot, claim_of, prepared_last, not_both, both_of, not_late}
+use Rattle.span_laws.proofs.Claims.{Lifts, lifts_same, lifts_set, lifts_last, last_here, claim_up, claim_first, claim_without, unclaimed, all_held, commits_at-push, go_through, may_prepare, may_commit, is_undecided_outcome, number_same, prepared_key, away_push, away_left, none_left, left_slot, claim_of, prepared_last, not_both, both_of, not_late}
 
 -- ---- the steps
 
@@ -49,34 +39,12 @@ module _ (key : ℤ) (slot : ℕ) (m : Machine) (o : IsInPlace key slot m) where
     claim = λ b h. let old = lifts.from slot b h in subst (λ l. IsClaim key b.last (commits_at key l) (filter (claims key slot) n.transactions)) (sym same) (claim old.0 b old.1 h old.2 (o.claim old.0 old.1));
   }
 
-  -- ---- choices
-  pub stays : (a : Answer) → a.1 ≡ m → IsInPlace key slot a.1
-  stays a e = subst (IsInPlace key slot) (sym e) o
-
-  by_cond : (b : Bool) (x y : Answer) → (b ≡ true → IsInPlace key slot x.1) → (b ≡ false → IsInPlace key slot y.1) → IsInPlace key slot (cond b x y).1
-  by_cond b x y then_in else_in = elim b as (λ v. b ≡ v → IsInPlace key slot (cond v x y).1) [ true ↦ then_in | false ↦ else_in ] refl
-
-  by_refusal : (c : Option Refusal) (a : Answer) → (c ≡ None → IsInPlace key slot a.1) → IsInPlace key slot (unless_refused m c a).1
-  by_refusal c a placed = elim c as (λ v. c ≡ v → IsInPlace key slot (unless_refused m v a).1) [ None ↦ placed | Some why ↦ λ e. o ] refl
-
-  by_some : {A : Type 0} (c : Option A) (miss : Answer) (make : A → Answer) → IsInPlace key slot miss.1 → ((x : A) → c ≡ Some x → IsInPlace key slot (make x).1) → IsInPlace key slot (if_some c miss make).1
-  by_some c miss make miss_in make_in = elim c as (λ v. c ≡ v → IsInPlace key slot (if_some v miss make).1) [ None ↦ λ e. miss_in | Some x ↦ make_in x ] refl
-
-  by_transaction : (owner number : ℕ) (make : OpenTransaction → Answer) → ((t : OpenTransaction) → find (is_transaction owner number) m.transactions ≡ Some t → IsInPlace key slot (make t).1) → IsInPlace key slot (for_transaction m owner number make).1
-  by_transaction owner number make placed = by_some (find (is_transaction owner number) m.transactions) (refused m refusal.UnknownTransaction) make o placed
-
-  by_slot : (i : ℕ) (make : Book → Answer) → ((b : Book) → slice_get m.books i ≡ Some b → IsInPlace key slot (make b).1) → IsInPlace key slot (for_slot m i make).1
-  by_slot i make placed = by_some (slice_get m.books i) (refused m refusal.NoSlot) make o placed
-
-  by_query : (number : ℕ) (make : OpenQuery → Answer) → ((q : OpenQuery) → find (is_query number) m.queries ≡ Some q → IsInPlace key slot (make q).1) → IsInPlace key slot (for_query m number make).1
-  by_query number make placed = by_some (find (is_query number) m.queries) (refused m refusal.UnknownQuery) make o placed
-
   -- ---- Begin
-  pub begin_placed : (owner : ℕ) (ms : List CheckedMutation) → IsInPlace key slot (begin m owner ms).1
-  begin_placed owner ms = by_refusal (begin_refusal m) (begun m owner ms) (λ _.
+  begin_placed : (owner : ℕ) (ms : List CheckedMutation) → IsInPlace key slot (begun m owner ms).1
+  begin_placed owner ms =
     in_place_by (begun m owner ms).1 (lifts_same m.books) refl (λ a b p q low h.
       subst (IsClaim key b.last (commits_at key m.log)) (sym (filter-append (claims key slot) m.transactions ((record { owner = owner; number = m.next_transaction; mutations = ms; outcome = outcome.Undecided; prepared = [] }) ∷ []) ∙ append-nil _))
-        (claim_up key a.last b.last (commits_at key m.log) (filter (claims key slot) m.transactions) low h)))
+        (claim_up key a.last b.last (commits_at key m.log) (filter (claims key slot) m.transactions) low h))
 
   -- ---- Prepare
   pub prepare_here : (owner txn : ℕ) (t : OpenTransaction) (book : Book) → find (is_transaction owner txn) m.transactions ≡ Some t → slice_get m.books slot ≡ Some book
@@ -129,15 +97,6 @@ module _ (key : ℤ) (slot : ℕ) (m : Machine) (o : IsInPlace key slot m) where
       | true ↦ λ e. prepare_at owner txn i t book (number_same i slot e) found here accepted well
       | false ↦ λ e. prepare_away owner txn i t book e found here may.0
     ] refl
-
-  pub prepare_placed : (owner txn i : ℕ) → IsInPlace key slot (prepare m owner txn i).1
-  prepare_placed owner txn i =
-    by_transaction owner txn (λ t. for_slot m i (prepare_found m owner txn i t)) (λ t found.
-    by_slot i (prepare_found m owner txn i t) (λ book here.
-    by_refusal (prepare_refusal m i t book) (unless_refused m (faults m (mutations_in book t.mutations)) (unless_refused m (first_cause ((nat_le timestamp_end (prepare_timestamp book), refusal.TimestampRange) ∷ [])) (prepared m owner txn i book))) (λ accepted.
-    by_refusal (faults m (mutations_in book t.mutations)) (unless_refused m (first_cause ((nat_le timestamp_end (prepare_timestamp book), refusal.TimestampRange) ∷ [])) (prepared m owner txn i book)) (λ well.
-    by_refusal (first_cause ((nat_le timestamp_end (prepare_timestamp book), refusal.TimestampRange) ∷ [])) (prepared m owner txn i book) (λ _.
-      prepare_there owner txn i t book found here accepted well)))))
 
   -- ---- Decide
   pub commit_here : (owner txn ts : ℕ) (t : OpenTransaction) → find (is_transaction owner txn) m.transactions ≡ Some t → is_undecided t ≡ true → is_all_prepared m t ≡ true → greatest t.prepared ≤ ts → ts < timestamp_end
@@ -193,12 +152,6 @@ module _ (key : ℤ) (slot : ℕ) (m : Machine) (o : IsInPlace key slot m) where
         }
     ] refl
 
-  pub commit_placed : (owner txn : ℕ) (interval : Interval) (t : OpenTransaction) → find (is_transaction owner txn) m.transactions ≡ Some t → IsInPlace key slot (decide_found m owner txn verdict.Commit interval t).1
-  commit_placed owner txn interval t found =
-      by_refusal (commit_refusal m t interval) (committed m owner txn (commit_timestamp m t interval) t) (λ accepted.
-        let may = may_commit (is_undecided t) (is_all_prepared m t) (nat_le timestamp_end (commit_timestamp m t interval)) accepted in
-        commit_here owner txn (commit_timestamp m t interval) t found may.0 may.1 (omega arith) (not_late timestamp_end (commit_timestamp m t interval) may.2))
-
   pub abort_claim : (owner txn : ℕ) (t : OpenTransaction) (n k : ℕ) → find (is_transaction owner txn) m.transactions ≡ Some t → is_undecided t ≡ true → n ≤ k → IsClaim key n (commits_at key m.log) (filter (claims key slot) m.transactions)
     → IsClaim key k (commits_at key m.log) (filter (claims key slot) (aborted m owner txn t).1.transactions)
   abort_claim owner txn t n k found open_still low h =
@@ -213,15 +166,6 @@ module _ (key : ℤ) (slot : ℕ) (m : Machine) (o : IsInPlace key slot m) where
             comes = λ x y. absurd (not_both (claims key slot t) y x);
           }) h
       ]
-
-  pub abort_placed : (owner txn : ℕ) (interval : Interval) (t : OpenTransaction) → find (is_transaction owner txn) m.transactions ≡ Some t → IsInPlace key slot (decide_found m owner txn verdict.Abort interval t).1
-  abort_placed owner txn interval t found =
-      by_refusal (first_cause ((not (is_undecided t), refusal.WrongState) ∷ [])) (aborted m owner txn t) (λ accepted.
-        in_place_by (aborted m owner txn t).1 (lifts_same m.books) refl (λ a b p q low h. abort_claim owner txn t a.last b.last found (may_abort (is_undecided t) accepted) low h))
-
-  pub decide_placed : (owner txn : ℕ) (v : Verdict) (interval : Interval) → IsInPlace key slot (decide m owner txn v interval).1
-  decide_placed owner txn verdict.Commit interval = by_transaction owner txn (decide_found m owner txn verdict.Commit interval) (λ t found. commit_placed owner txn interval t found)
-  decide_placed owner txn verdict.Abort interval = by_transaction owner txn (decide_found m owner txn verdict.Abort interval) (λ t found. abort_placed owner txn interval t found)
 
   -- ---- Apply
   pub applied_claim : (owner txn : ℕ) (t : OpenTransaction) (n k : ℕ) → find (is_transaction owner txn) m.transactions ≡ Some t → n ≤ k → (IsClaimed key n (commits_at key m.log) t t.outcome → IsBelow k (commits_at key m.log))
@@ -278,25 +222,10 @@ module _ (key : ℤ) (slot : ℕ) (m : Machine) (o : IsInPlace key slot m) where
       | false ↦ λ e. apply_away owner txn i t t.outcome e refl found
     ] refl
 
-  pub apply_placed : (owner txn i : ℕ) (interval : Interval) → IsInPlace key slot (apply_step m owner txn i interval).1
-  apply_placed owner txn i interval =
-    by_transaction owner txn (λ t. for_slot m i (apply_found m owner txn i interval t)) (λ t found.
-    by_slot i (apply_found m owner txn i interval t) (λ book here.
-    by_refusal (apply_refusal i t interval) (applied_at t.outcome m owner txn i t) (λ _.
-      apply_there owner txn i t found)))
-
   -- ---- the steps that leave log and transactions
   pub books_placed : (n : Machine) → Lifts m.books n.books → n.log ≡ m.log → n.transactions ≡ m.transactions → IsInPlace key slot n
   books_placed n lifts same_log same = in_place_by n lifts same_log (λ a b p q low h.
       subst (λ ts. IsClaim key b.last (commits_at key m.log) (filter (claims key slot) ts)) (sym same) (claim_up key a.last b.last (commits_at key m.log) (filter (claims key slot) m.transactions) low h))
-
-  pub advance_placed : (i : ℕ) (interval : Interval) → IsInPlace key slot (advance m i interval).1
-  advance_placed i interval = by_slot i (advanced m i interval) (λ book here.
-      books_placed (advanced m i interval book).1 (lifts_set m.books i book (record book { floor = max book.floor interval.latest }) here (omega arith) (λ _. refl)) refl refl)
-
-  pub open_placed : (text : List ℕ) (params : Params) (bound : Bound) (interval : Interval) → IsInPlace key slot (open_query m text params bound interval).1
-  open_placed text params bound interval = by_refusal (open_refusal m text (timestamp_of bound interval)) (opened m text params (timestamp_of bound interval)) (λ _.
-      books_placed (opened m text params (timestamp_of bound interval)).1 (lifts_same m.books) refl refl)
 
   pub lifts_risen : (i q : ℕ) (interval : Interval) (book : Book) → slice_get m.books i ≡ Some book → Lifts m.books (slice_set m.books i (risen book q interval))
   lifts_risen i q interval book here = elim (nat_lt book.floor q && nat_le q interval.latest) as (λ v. Lifts m.books (slice_set m.books i (cond v (record book { floor = q }) book))) [
@@ -304,34 +233,29 @@ module _ (key : ℤ) (slot : ℕ) (m : Machine) (o : IsInPlace key slot m) where
       | false ↦ lifts_set m.books i book book here (omega arith) (λ _. refl)
     ]
 
-  pub scan_placed : (query leaf i : ℕ) (interval : Interval) → IsInPlace key slot (scan m query leaf i interval).1
-  scan_placed query leaf i interval = by_query query (scan_found m query leaf i interval) (λ q found.
-      by_cond (leaf == 0) (for_slot m i (scan_at m query i interval q)) (refused m refusal.UnknownQuery) (λ _.
-        by_slot i (scan_at m query i interval q) (λ book here.
-          by_cond q.covered (reply.Nothing, m) (scanned m query i (risen book q.s interval) q.s) (λ _. o) (λ _.
-            by_cond (is_safe m i (risen book q.s interval) q.s) (reply.Scanned, record (with_book m i (risen book q.s interval)) { queries = changed_first (is_query query) cover m.queries }) (Refused refusal.NotYet, with_book m i (risen book q.s interval))
-              (λ _. books_placed (record (with_book m i (risen book q.s interval)) { queries = changed_first (is_query query) cover m.queries }) (lifts_risen i q.s interval book here) refl refl)
-              (λ _. books_placed (with_book m i (risen book q.s interval)) (lifts_risen i q.s interval book here) refl refl))))
-        (λ _. o))
+  placed_ends : Ends m (λ step a. IsInPlace key slot a.1)
+  placed_ends = record {
+    refuses = λ step why. o;
+    begins = λ owner ms accepted. begin_placed owner ms;
+    prepares = λ owner txn i t book found here accepted well low. prepare_there owner txn i t book found here accepted well;
+    commits = λ owner txn interval t found accepted.
+      let may = may_commit (is_undecided t) (is_all_prepared m t) (nat_le timestamp_end (commit_timestamp m t interval)) accepted in
+      commit_here owner txn (commit_timestamp m t interval) t found may.0 may.1 (omega arith) (not_late timestamp_end (commit_timestamp m t interval) may.2);
+    aborts = λ owner txn interval t found open_still. in_place_by (aborted m owner txn t).1 (lifts_same m.books) refl (λ a b p q low h. abort_claim owner txn t a.last b.last found open_still low h);
+    applies = λ owner txn i interval t book found here accepted. apply_there owner txn i t found;
+    advances = λ i interval book here. books_placed (advanced m i interval book).1 (lifts_set m.books i book (record book { floor = max book.floor interval.latest }) here (omega arith) (λ _. refl)) refl refl;
+    opens = λ text params bound interval accepted. books_placed (opened m text params (timestamp_of bound interval)).1 (lifts_same m.books) refl refl;
+    finds_nothing = λ query leaf i interval. o;
+    scans = λ query leaf i interval q book found here safe.
+      books_placed (record (with_book m i (risen book q.s interval)) { queries = changed_first (is_query query) cover m.queries }) (lifts_risen i q.s interval book here) refl refl;
+    waits = λ query leaf i interval q book found here. books_placed (with_book m i (risen book q.s interval)) (lifts_risen i q.s interval book here) refl refl;
+    finishes = λ query q found covered. o;
+    closes = λ query q found. books_placed (closed m query q).1 (lifts_same m.books) refl refl;
+  }
 
-  pub finish_placed : (query : ℕ) → IsInPlace key slot (finish m query).1
-  finish_placed query = by_query query (finish_found m) (λ q found.
-      by_cond q.covered (answer_on q.s (meaning m q), m) (refused m refusal.Incomplete) (λ _. o) (λ _. o))
-
-  pub close_placed : (query : ℕ) → IsInPlace key slot (close m query).1
-  close_placed query = by_query query (closed m query) (λ q found. books_placed (closed m query q).1 (lifts_same m.books) refl refl)
-
-  -- every step keeps the key in place
-  pub answer_placed : (step : Step) → IsInPlace key slot (answer m step).1
-  answer_placed (Begin owner transaction) = begin_placed owner transaction
-  answer_placed (Prepare owner txn i) = prepare_placed owner txn i
-  answer_placed (Decide owner txn v interval) = decide_placed owner txn v interval
-  answer_placed (Apply owner txn i interval) = apply_placed owner txn i interval
-  answer_placed (Advance i interval) = advance_placed i interval
-  answer_placed (Open text params bound interval) = open_placed text params bound interval
-  answer_placed (Scan query leaf i interval) = scan_placed query leaf i interval
-  answer_placed (Finish query) = finish_placed query
-  answer_placed (Close query) = close_placed query
+-- every step keeps the key in place
+pub answer_placed : (key : ℤ) (slot : ℕ) (m : Machine) → IsInPlace key slot m → (step : Step) → IsInPlace key slot (answer m step).1
+answer_placed key slot m o step = answer_by m (λ x a. IsInPlace key slot a.1) (placed_ends key slot m o) step
 
 -- ---- whole runs
 

@@ -1,4 +1,4 @@
-use Rattle.std.proofs.Common.{◌≡◌, ℕ, ℤ, ◌<◌, ◌≤◌, max, zero, suc, Bool, true, false, cond, not, ◌&&◌, ◌||◌, ◌==◌, nat_lt, nat_le, List, [], ◌∷◌, ◌++◌, length, Option, Some, None, refl, ap, sym, ◌∙◌, subst, inl, inr, ◌⊎◌, arith}
+use Rattle.std.proofs.Common.{◌≡◌, ℕ, ℤ, ◌<◌, ◌≤◌, max, zero, suc, Bool, true, false, cond, not, ◌&&◌, ◌||◌, ◌==◌, nat_lt, nat_le, List, [], ◌∷◌, ◌++◌, length, Some, None, refl, ap, sym, ◌∙◌, subst, inl, inr, ◌⊎◌, arith}
 use Rattle.std.specs.Prelude.{slice_get, slice_set, find, filter}
 use Rattle.std.proofs.lemmas.Bool.Decides.{nat_tests}
 use Rattle.std.specs.List.{AllByRecursion, list_any, list_all}
@@ -8,24 +8,18 @@ use Rattle.span_machine.specs.declared.transaction.OpenTransaction.{OpenTransact
 use Rattle.span_machine.specs.declared.transaction.Outcome.{Outcome}
 use Rattle.span_machine.specs.declared.transaction.Outcome.TheVariants as outcome
 use Rattle.span_machine.specs.declared.transaction.Prepared.{Prepared}
-use Rattle.span_value.specs.declared.refusal.Refusal.{Refusal}
 use Rattle.span_machine.specs.declared.step.Step.{Step}
-use Rattle.span_machine.specs.declared.step.Step.TheVariants.{Begin, Prepare, Decide, Apply, Advance, Open, Scan, Finish, Close}
-use Rattle.span_machine.specs.declared.step.Verdict.{Verdict}
-use Rattle.span_machine.specs.declared.step.Verdict.TheVariants as verdict
 use Rattle.span_truetime.specs.declared.interval.Interval.{Interval}
 use Rattle.span_shard.specs.Database.{is_at}
 use Rattle.span_machine.specs.Tables.{upto}
 use Rattle.span_value.specs.declared.refusal.Refusal.TheVariants as refusal
-use Rattle.span_machine.specs.declared.query.OpenQuery.{OpenQuery}
-use Rattle.span_machine.specs.Machine.{unless_refused, first_cause, for_transaction, for_slot, for_query, begin_refusal, begun, prepare_timestamp, prepare_refusal, prepare_found, prepared, faults, mutations_in, is_query, Machine, Answer, answer, refused, holds, if_some, changed_first, without_first, begin, prepare, is_transaction, is_all_prepared, is_prepared_for, greatest, commit_timestamp, commit_refusal, commit_of, committed, aborted, decide, decide_found, is_undecided, coordinator_of, applied, applied_at, apply_refusal, apply_found, apply_step, advanced, advance, open_refusal, opened, open_query, risen, with_book, cover, scanned, scan_at, scan_found, scan, finish, finish_found, answer_on, meaning, close, closed, is_safe, with_last, add_prepared, with_outcome, without_prepared}
+use Rattle.span_machine.specs.Machine.{first_cause, begun, prepare_timestamp, prepared, is_query, Machine, Answer, answer, refused, holds, if_some, changed_first, without_first, is_transaction, is_all_prepared, is_prepared_for, greatest, commit_timestamp, commit_refusal, commit_of, committed, aborted, is_undecided, coordinator_of, applied, applied_at, advanced, opened, risen, with_book, cover, answer_on, meaning, closed, with_last, add_prepared, with_outcome, without_prepared}
 use Rattle.span_truetime.specs.Time.{timestamp_end, timestamp_of}
 use Rattle.std.proofs.lemmas.Map.Views.{tells_apart}
 use Rattle.std.proofs.lemmas.Map.Lookups.{exact_signed}
-use Rattle.span_machine.specs.declared.query.Params.{Params}
-use Rattle.span_truetime.specs.declared.bound.Bound.{Bound}
 use Rattle.span_machine.specs.declared.step.Reply.TheVariants as reply
 use Rattle.span_machine.specs.declared.step.Reply.TheVariants.{Refused}
+use Rattle.span_laws.proofs.Walks.{Ends, answer_by}
 use Rattle.span_laws.proofs.Stability.{changes_at, touches, is_some_of, changes_at-more}
 
 -- ---- lists
@@ -144,51 +138,12 @@ module _ (key : ℤ) (s : ℕ) (m : Machine) (sealed : IsSealed key s m) where
     same = same;
   }
 
-  -- ---- choices
-  by_cond : (b : Bool) (x y : Answer) → (b ≡ true → Keeps key s m x) → (b ≡ false → Keeps key s m y) → Keeps key s m (cond b x y)
-  by_cond b x y then_keeps else_keeps = elim b as (λ v. b ≡ v → Keeps key s m (cond v x y)) [ true ↦ then_keeps | false ↦ else_keeps ] refl
-
-  pub refusal_keeps : (why : Refusal) → Keeps key s m (refused m why)
-  refusal_keeps why = kept_as_is (refused m why) refl
-
-  by_refusal : (o : Option Refusal) (a : Answer) → (o ≡ None → Keeps key s m a) → Keeps key s m (unless_refused m o a)
-  by_refusal o a keeps = elim o as (λ v. o ≡ v → Keeps key s m (unless_refused m v a)) [ None ↦ keeps | Some why ↦ λ e. refusal_keeps why ] refl
-
-  by_some : {A : Type 0} (o : Option A) (miss : Answer) (make : A → Answer) → Keeps key s m miss → ((x : A) → o ≡ Some x → Keeps key s m (make x)) → Keeps key s m (if_some o miss make)
-  by_some o miss make miss_keeps make_keeps = elim o as (λ v. o ≡ v → Keeps key s m (if_some v miss make)) [ None ↦ λ e. miss_keeps | Some x ↦ make_keeps x ] refl
-
-  by_transaction : (owner number : ℕ) (make : OpenTransaction → Answer) → ((t : OpenTransaction) → find (is_transaction owner number) m.transactions ≡ Some t → Keeps key s m (make t)) → Keeps key s m (for_transaction m owner number make)
-  by_transaction owner number make keeps = by_some (find (is_transaction owner number) m.transactions) (refused m refusal.UnknownTransaction) make (refusal_keeps refusal.UnknownTransaction) keeps
-
-  by_slot : (slot : ℕ) (make : Book → Answer) → ((b : Book) → slice_get m.books slot ≡ Some b → Keeps key s m (make b)) → Keeps key s m (for_slot m slot make)
-  by_slot slot make keeps = by_some (slice_get m.books slot) (refused m refusal.NoSlot) make (refusal_keeps refusal.NoSlot) keeps
-
-  by_query : (number : ℕ) (make : OpenQuery → Answer) → ((q : OpenQuery) → find (is_query number) m.queries ≡ Some q → Keeps key s m (make q)) → Keeps key s m (for_query m number make)
-  by_query number make keeps = by_some (find (is_query number) m.queries) (refused m refusal.UnknownQuery) make (refusal_keeps refusal.UnknownQuery) keeps
-
-  -- ---- steps
-  pub begin_keeps : (owner : ℕ) (ms : List CheckedMutation) → Keeps key s m (begin m owner ms)
-  begin_keeps owner ms = by_refusal (begin_refusal m) (begun m owner ms) (λ _.
-    kept_by (begun m owner ms) (rises_same m.books) (λ i b h k all. all_push (IsAbove s i) m.transactions (record { owner = owner; number = m.next_transaction; mutations = ms; outcome = outcome.Undecided; prepared = [] }) all tt) refl)
-
   pub new_above : (slot i : ℕ) (book b : Book) → slice_get m.books slot ≡ Some book → slice_get m.books i ≡ Some b → holds b key ≡ true → slot ≡ i → s < prepare_timestamp book
   new_above slot i book b here h k e =
       let same : book ≡ b = cc in
       let low = sealed.floors i b h k in
       let lower : s ≤ book.floor = subst (λ (c : Book). s ≤ c.floor) (sym same) low in
       omega arith
-
-  pub prepare_keeps : (owner txn slot : ℕ) → Keeps key s m (prepare m owner txn slot)
-  prepare_keeps owner txn slot =
-    by_transaction owner txn (λ t. for_slot m slot (prepare_found m owner txn slot t)) (λ t found.
-    by_slot slot (prepare_found m owner txn slot t) (λ book here.
-    by_refusal (prepare_refusal m slot t book) (unless_refused m (faults m (mutations_in book t.mutations)) (unless_refused m (first_cause ((nat_le timestamp_end (prepare_timestamp book), refusal.TimestampRange) ∷ [])) (prepared m owner txn slot book))) (λ _.
-    by_refusal (faults m (mutations_in book t.mutations)) (unless_refused m (first_cause ((nat_le timestamp_end (prepare_timestamp book), refusal.TimestampRange) ∷ [])) (prepared m owner txn slot book)) (λ _.
-    by_refusal (first_cause ((nat_le timestamp_end (prepare_timestamp book), refusal.TimestampRange) ∷ [])) (prepared m owner txn slot book) (λ _.
-      kept_by (prepared m owner txn slot book) (rises_set m.books slot book (record book { last = prepare_timestamp book }) here (omega arith) (λ _ k. k))
-        (λ i b h k all. all_changed (IsAbove s i) (is_transaction owner txn) (add_prepared slot (prepare_timestamp book))
-          (λ u above. all_push (λ p. p.slot ≡ i → s < p.timestamp) u.prepared (record { slot = slot; timestamp = prepare_timestamp book }) above (new_above slot i book b here h k)) m.transactions all)
-        refl)))))
 
   pub rises_last : (slot ts : ℕ) → Rises m.books (with_last m.books slot ts)
   rises_last slot ts = elim (slice_get m.books slot) as (λ o. slice_get m.books slot ≡ o → Rises m.books (if_some o m.books (λ book. slice_set m.books slot (record book { last = max book.last ts })))) [
@@ -235,47 +190,14 @@ module _ (key : ℤ) (s : ℕ) (m : Machine) (sealed : IsSealed key s m) where
         inr (omega arith)
     ] refl
 
-  pub commit_keeps : (owner txn : ℕ) (interval : Interval) (t : OpenTransaction) → find (is_transaction owner txn) m.transactions ≡ Some t → Keeps key s m (decide_found m owner txn verdict.Commit interval t)
-  commit_keeps owner txn interval t found =
-      by_refusal (commit_refusal m t interval) (committed m owner txn (commit_timestamp m t interval) t) (λ accepted.
-        kept_by (committed m owner txn (commit_timestamp m t interval) t) (rises_last (coordinator_of t.prepared) (commit_timestamp m t interval))
-          (λ i b h k all. all_changed (IsAbove s i) (is_transaction owner txn) (with_outcome (outcome.Committed (commit_timestamp m t interval))) (λ u above. above) m.transactions all)
-          (changes_at-more key m.log (commit_of (commit_timestamp m t interval) t) s (commit_apart owner txn interval t found accepted)))
-
-  pub abort_keeps : (owner txn : ℕ) (interval : Interval) (t : OpenTransaction) → Keeps key s m (decide_found m owner txn verdict.Abort interval t)
-  abort_keeps owner txn interval t =
-      by_refusal (first_cause ((not (is_undecided t), refusal.WrongState) ∷ [])) (aborted m owner txn t) (λ _.
-        kept_by (aborted m owner txn t) (rises_same m.books)
-          (λ i b h k all. one_or_other (AllByRecursion (IsAbove s i)) (length t.prepared == 0) _ _ (all_without (IsAbove s i) (is_transaction owner txn) m.transactions all)
-            (all_changed (IsAbove s i) (is_transaction owner txn) (with_outcome outcome.Aborted) (λ u above. above) m.transactions all))
-          refl)
-
-  pub decide_keeps : (owner txn : ℕ) (v : Verdict) (interval : Interval) → Keeps key s m (decide m owner txn v interval)
-  decide_keeps owner txn verdict.Commit interval = by_transaction owner txn (decide_found m owner txn verdict.Commit interval) (λ t found. commit_keeps owner txn interval t found)
-  decide_keeps owner txn verdict.Abort interval = by_transaction owner txn (decide_found m owner txn verdict.Abort interval) (λ t found. abort_keeps owner txn interval t)
-
   pub applied_above : (owner txn slot : ℕ) (t : OpenTransaction) (i : ℕ) → AllByRecursion (IsAbove s i) m.transactions → AllByRecursion (IsAbove s i) (applied m owner txn slot t)
   applied_above owner txn slot t i all = one_or_other (AllByRecursion (IsAbove s i)) (length (without_prepared slot t).prepared == 0) _ _ (all_without (IsAbove s i) (is_transaction owner txn) m.transactions all)
       (all_changed (IsAbove s i) (is_transaction owner txn) (without_prepared slot) (λ u above. all_filtered (λ p. p.slot ≡ i → s < p.timestamp) (λ p. not (p.slot == slot)) u.prepared above) m.transactions all)
 
-  pub applied_keeps : (o : Outcome) (owner txn slot : ℕ) (t : OpenTransaction) → Keeps key s m (applied_at o m owner txn slot t)
-  applied_keeps outcome.Undecided owner txn slot t = refusal_keeps refusal.WrongState
+  applied_keeps : (o : Outcome) (owner txn slot : ℕ) (t : OpenTransaction) → Keeps key s m (applied_at o m owner txn slot t)
+  applied_keeps outcome.Undecided owner txn slot t = kept_as_is (refused m refusal.WrongState) refl
   applied_keeps outcome.Aborted owner txn slot t = kept_by (applied_at outcome.Aborted m owner txn slot t) (rises_same m.books) (λ i b h k all. applied_above owner txn slot t i all) refl
   applied_keeps (outcome.Committed ts) owner txn slot t = kept_by (applied_at (outcome.Committed ts) m owner txn slot t) (rises_last slot ts) (λ i b h k all. applied_above owner txn slot t i all) refl
-
-  pub apply_keeps : (owner txn slot : ℕ) (interval : Interval) → Keeps key s m (apply_step m owner txn slot interval)
-  apply_keeps owner txn slot interval =
-    by_transaction owner txn (λ t. for_slot m slot (apply_found m owner txn slot interval t)) (λ t found.
-    by_slot slot (apply_found m owner txn slot interval t) (λ book here.
-    by_refusal (apply_refusal slot t interval) (applied_at t.outcome m owner txn slot t) (λ _. applied_keeps t.outcome owner txn slot t)))
-
-  pub advance_keeps : (slot : ℕ) (interval : Interval) → Keeps key s m (advance m slot interval)
-  advance_keeps slot interval = by_slot slot (advanced m slot interval) (λ book here.
-      kept_by (advanced m slot interval book) (rises_set m.books slot book (record book { floor = max book.floor interval.latest }) here (omega arith) (λ _ k. k)) (λ i b h k all. all) refl)
-
-  pub open_keeps : (text : List ℕ) (params : Params) (bound : Bound) (interval : Interval) → Keeps key s m (open_query m text params bound interval)
-  open_keeps text params bound interval = by_refusal (open_refusal m text (timestamp_of bound interval)) (opened m text params (timestamp_of bound interval)) (λ _.
-      kept_by (opened m text params (timestamp_of bound interval)) (rises_same m.books) (λ i b h k all. all) refl)
 
   pub rises_risen : (slot q : ℕ) (interval : Interval) (book : Book) → slice_get m.books slot ≡ Some book → Rises m.books (slice_set m.books slot (risen book q interval))
   rises_risen slot q interval book here = elim (nat_lt book.floor q && nat_le q interval.latest) as (λ v. (nat_lt book.floor q && nat_le q interval.latest) ≡ v → Rises m.books (slice_set m.books slot (cond v (record book { floor = q }) book))) [
@@ -283,31 +205,33 @@ module _ (key : ℤ) (s : ℕ) (m : Machine) (sealed : IsSealed key s m) where
       | false ↦ λ e. rises_set m.books slot book book here (omega arith) (λ _ k. k)
     ] refl
 
-  pub scan_keeps : (query leaf slot : ℕ) (interval : Interval) → Keeps key s m (scan m query leaf slot interval)
-  scan_keeps query leaf slot interval = by_query query (scan_found m query leaf slot interval) (λ q found.
-      by_cond (leaf == 0) (for_slot m slot (scan_at m query slot interval q)) (refused m refusal.UnknownQuery) (λ _.
-        by_slot slot (scan_at m query slot interval q) (λ book here.
-          by_cond q.covered (reply.Nothing, m) (scanned m query slot (risen book q.s interval) q.s) (λ _. kept_as_is (reply.Nothing, m) refl) (λ _.
-            by_cond (is_safe m slot (risen book q.s interval) q.s) (reply.Scanned, record (with_book m slot (risen book q.s interval)) { queries = changed_first (is_query query) cover m.queries }) (Refused refusal.NotYet, with_book m slot (risen book q.s interval))
-              (λ _. kept_by (reply.Scanned, record (with_book m slot (risen book q.s interval)) { queries = changed_first (is_query query) cover m.queries }) (rises_risen slot q.s interval book here) (λ i b h k all. all) refl)
-              (λ _. kept_by (Refused refusal.NotYet, with_book m slot (risen book q.s interval)) (rises_risen slot q.s interval book here) (λ i b h k all. all) refl))))
-        (λ _. refusal_keeps refusal.UnknownQuery))
-
-  pub finish_keeps : (query : ℕ) → Keeps key s m (finish m query)
-  finish_keeps query = by_query query (finish_found m) (λ q found.
-      by_cond q.covered (answer_on q.s (meaning m q), m) (refused m refusal.Incomplete) (λ _. kept_as_is (answer_on q.s (meaning m q), m) refl) (λ _. refusal_keeps refusal.Incomplete))
-
-  pub close_keeps : (query : ℕ) → Keeps key s m (close m query)
-  close_keeps query = by_query query (closed m query) (λ q found. kept_by (closed m query q) (rises_same m.books) (λ i b h k all. all) refl)
+  keeps_ends : Ends m (λ step a. Keeps key s m a)
+  keeps_ends = record {
+    refuses = λ step why. kept_as_is (refused m why) refl;
+    begins = λ owner ms accepted. kept_by (begun m owner ms) (rises_same m.books)
+      (λ i b h k all. all_push (IsAbove s i) m.transactions (record { owner = owner; number = m.next_transaction; mutations = ms; outcome = outcome.Undecided; prepared = [] }) all tt) refl;
+    prepares = λ owner txn slot t book found here accepted well low. kept_by (prepared m owner txn slot book) (rises_set m.books slot book (record book { last = prepare_timestamp book }) here (omega arith) (λ _ k. k))
+      (λ i b h k all. all_changed (IsAbove s i) (is_transaction owner txn) (add_prepared slot (prepare_timestamp book))
+        (λ u above. all_push (λ p. p.slot ≡ i → s < p.timestamp) u.prepared (record { slot = slot; timestamp = prepare_timestamp book }) above (new_above slot i book b here h k)) m.transactions all)
+      refl;
+    commits = λ owner txn interval t found accepted. kept_by (committed m owner txn (commit_timestamp m t interval) t) (rises_last (coordinator_of t.prepared) (commit_timestamp m t interval))
+      (λ i b h k all. all_changed (IsAbove s i) (is_transaction owner txn) (with_outcome (outcome.Committed (commit_timestamp m t interval))) (λ u above. above) m.transactions all)
+      (changes_at-more key m.log (commit_of (commit_timestamp m t interval) t) s (commit_apart owner txn interval t found accepted));
+    aborts = λ owner txn interval t found open_still. kept_by (aborted m owner txn t) (rises_same m.books)
+      (λ i b h k all. one_or_other (AllByRecursion (IsAbove s i)) (length t.prepared == 0) _ _ (all_without (IsAbove s i) (is_transaction owner txn) m.transactions all)
+        (all_changed (IsAbove s i) (is_transaction owner txn) (with_outcome outcome.Aborted) (λ u above. above) m.transactions all))
+      refl;
+    applies = λ owner txn slot interval t book found here accepted. applied_keeps t.outcome owner txn slot t;
+    advances = λ slot interval book here. kept_by (advanced m slot interval book) (rises_set m.books slot book (record book { floor = max book.floor interval.latest }) here (omega arith) (λ _ k. k)) (λ i b h k all. all) refl;
+    opens = λ text params bound interval accepted. kept_by (opened m text params (timestamp_of bound interval)) (rises_same m.books) (λ i b h k all. all) refl;
+    finds_nothing = λ query leaf slot interval. kept_as_is (reply.Nothing, m) refl;
+    scans = λ query leaf slot interval q book found here safe.
+      kept_by (reply.Scanned, record (with_book m slot (risen book q.s interval)) { queries = changed_first (is_query query) cover m.queries }) (rises_risen slot q.s interval book here) (λ i b h k all. all) refl;
+    waits = λ query leaf slot interval q book found here. kept_by (Refused refusal.NotYet, with_book m slot (risen book q.s interval)) (rises_risen slot q.s interval book here) (λ i b h k all. all) refl;
+    finishes = λ query q found covered. kept_as_is (answer_on q.s (meaning m q), m) refl;
+    closes = λ query q found. kept_by (closed m query q) (rises_same m.books) (λ i b h k all. all) refl;
+  }
 
   -- no step changes what is sealed
   pub answer_keeps : (step : Step) → Keeps key s m (answer m step)
-  answer_keeps (Begin owner transaction) = begin_keeps owner transaction
-  answer_keeps (Prepare owner txn slot) = prepare_keeps owner txn slot
-  answer_keeps (Decide owner txn v interval) = decide_keeps owner txn v interval
-  answer_keeps (Apply owner txn slot interval) = apply_keeps owner txn slot interval
-  answer_keeps (Advance slot interval) = advance_keeps slot interval
-  answer_keeps (Open text params bound interval) = open_keeps text params bound interval
-  answer_keeps (Scan query leaf slot interval) = scan_keeps query leaf slot interval
-  answer_keeps (Finish query) = finish_keeps query
-  answer_keeps (Close query) = close_keeps query
+  answer_keeps step = answer_by m (λ x a. Keeps key s m a) keeps_ends step
