@@ -21,10 +21,11 @@ use Rattle.std.specs.Ordering.{int_cmp}
 use Rattle.std.proofs.lemmas.Map.Views.{tells_apart}
 use Rattle.std.proofs.lemmas.Map.Lookups.{exact_signed}
 use Rattle.span_value.specs.declared.refusal.Refusal.TheVariants as refusal
+use Rattle.span_laws.proofs.Tests.{first_true, second_true, first_or, second_or, first_none, second_none, both_true, equal_number, no_length}
+use Rattle.span_laws.proofs.Lists.{slice_get-set, set_here, all_filtered, split_found, not_nil, both_nil}
 use Rattle.span_laws.proofs.Locality.{apply-row}
 use Rattle.span_laws.proofs.Stability.{changes_at, touches, is_some_of}
-use Rattle.span_laws.proofs.Sealed.{all_filtered, slice_get-set, first_true, second_true}
-use Rattle.span_laws.proofs.InPlace.{IsBelow, IsUnder, IsRising, Succeeds, commits_at, claims, IsPromised, IsClaimed, IsClaim, split_found, below_up, greatest_push, row_through-append, changes_at-upto}
+use Rattle.span_laws.proofs.InPlace.{IsBelow, IsUnder, IsRising, Succeeds, commits_at, claims, IsPromised, IsClaimed, IsClaim, below_up, greatest_push, row_through-append, changes_at-upto}
 
 -- ---- books
 
@@ -49,11 +50,6 @@ lifts_last books slot ts = elim (slice_get books slot) as (λ o. slice_get books
     | Some book ↦ λ e. lifts_set books slot book (record book { last = max book.last ts }) e (omega arith) (λ key. refl)
   ] refl
 
-pub set_here : {A : Type 0} (xs : List A) (i : ℕ) (v x : A) → slice_get (slice_set xs i v) i ≡ Some x → x ≡ v
-set_here [] i v x h = cc
-set_here (y ∷ ys) zero v x h = cc
-set_here (y ∷ ys) (suc i) v x h = set_here ys i v x h
-
 -- the book of the slot itself rises to ts
 pub last_here : (books : List Book) (slot ts : ℕ) (b : Book) → slice_get (with_last books slot ts) slot ≡ Some b → ts ≤ b.last
 last_here books slot ts b = elim (slice_get books slot) as (λ o. slice_get books slot ≡ o → slice_get (if_some o books (λ book. slice_set books slot (record book { last = max book.last ts }))) slot ≡ Some b → ts ≤ b.last) [
@@ -62,14 +58,6 @@ last_here books slot ts b = elim (slice_get books slot) as (λ o. slice_get book
   ] refl
 
 -- ---- claims
-
-pub not_nil : {A : Type 0} (xs ys : List A) (x : A) → xs ++ x ∷ ys ≡ [] → ⊥
-not_nil [] ys x = λ e. cc
-not_nil (z ∷ zs) ys x = λ e. cc
-
-pub both_nil : {A : Type 0} (xs ys : List A) → xs ++ ys ≡ [] → (xs ≡ []) × (ys ≡ [])
-both_nil [] ys = λ e. (refl, e)
-both_nil (z ∷ zs) ys = λ e. absurd (cc)
 
 pub promised_up : (key : ℤ) (n k : ℕ) (cs : List Commit) (t : OpenTransaction) → n ≤ k → IsPromised key n cs t → IsPromised key k cs t
 promised_up key n k cs t low p = record { below = below_up n k cs low p.below; under = p.under; through = p.through }
@@ -140,29 +128,6 @@ claim_without key slot n k cs test ts t found low leaves h =
         (subst (IsClaim key n cs) old h))
 
 -- ---- tests
-
-pub first_or : (a b : Bool) → a ≡ true → (a || b) ≡ true
-first_or true b e = refl
-first_or false b e = absurd (cc)
-
-pub second_or : (a b : Bool) → b ≡ true → (a || b) ≡ true
-second_or true b e = refl
-second_or false b e = e
-
-pub first_none : (a b : Bool) → (a || b) ≡ false → a ≡ false
-first_none true b e = e
-first_none false b e = refl
-
-pub second_none : (a b : Bool) → (a || b) ≡ false → b ≡ false
-second_none true b e = absurd (cc)
-second_none false b e = e
-
-pub both_true : (a b : Bool) → a ≡ true → b ≡ true → (a && b) ≡ false → ⊥
-both_true true b e f g = cc
-both_true false b e f g = cc
-
-pub equal_number : (a b : ℕ) → a ≡ b → (a == b) ≡ true
-equal_number a b e = grind (arith, nat_tests)
 
 pub some_any : (key : ℤ) (ms : List CheckedMutation) → is_some_of (filter (is_at key) ms) ≡ true → list_any (is_at key) ms ≡ true
 some_any key [] e = e
@@ -270,12 +235,6 @@ is_undecided_outcome outcome.Aborted e = absurd (cc)
 pub other_slot : (p i slot : ℕ) → (p == i) ≡ true → (i == slot) ≡ false → (p == slot) ≡ false
 other_slot p i slot at e = grind (arith, nat_tests)
 
-pub number_same : (a b : ℕ) → (a == b) ≡ true → a ≡ b
-number_same a b e = grind (arith, nat_tests)
-
-pub no_length : (n : ℕ) → (suc n == 0) ≡ true → ⊥
-no_length n e = let h : suc n ≡ 0 = number_same (suc n) 0 e in omega arith
-
 -- a transaction that is prepared for a mutation of the key is prepared at the key's slot, which has a book
 pub prepared_slot : (m : Machine) (slot : ℕ) (k : ℤ) → ((i : ℕ) (b : Book) → slice_get m.books i ≡ Some b → holds b k ≡ true → i ≡ slot) → (ps : List Prepared)
   → list_any (λ p. if_some (slice_get m.books p.slot) false (λ book. holds book k)) ps ≡ true → (list_any (λ p. p.slot == slot) ps ≡ true) × ((b : Book) × (slice_get m.books slot ≡ Some b))
@@ -339,14 +298,3 @@ prepared_last a book ps slot same =
     let e : a.last ≡ book.last = ap (λ (c : Book). c.last) same in
     let g : prepare_timestamp book ≤ greatest (ps ++ (record { slot = slot; timestamp = prepare_timestamp book }) ∷ []) = greatest_push ps (record { slot = slot; timestamp = prepare_timestamp book }) in
     omega arith
-
-pub not_both : (b : Bool) → b ≡ true → b ≡ false → ⊥
-not_both true e f = cc
-not_both false e f = cc
-
-pub both_of : (a b : Bool) → a ≡ true → b ≡ true → (a && b) ≡ true
-both_of true b e f = f
-both_of false b e f = absurd (cc)
-
-pub not_late : (end ts : ℕ) → nat_le end ts ≡ false → ts < end
-not_late end ts e = grind (arith, nat_tests)

@@ -21,10 +21,10 @@ use Rattle.span_truetime.specs.Time.{timestamp_end}
 use Rattle.std.proofs.Common.{append_assoc}
 use Rattle.std.specs.FinMap.{get-empty}
 use Rattle.std.specs.Ordering.{int_cmp}
+use Rattle.span_laws.proofs.Lists.{all_push, all_filtered, filter_swap}
 use Rattle.span_laws.proofs.Ordered.{filter-in_order}
 use Rattle.span_laws.proofs.Locality.{apply-succeeds}
 use Rattle.span_laws.proofs.Stability.{changes_at, touches, is_some_of, changes_at-filter, is_before-order}
-use Rattle.span_laws.proofs.Sealed.{all_push, all_filtered}
 
 -- ---- the invariant
 
@@ -87,34 +87,6 @@ later s n t late up = grind (arith, nat_tests)
 
 pub earlier : (t u n k : ℕ) → t < u → (nat_lt t u || (t == u && nat_lt n k)) ≡ true
 earlier t u n k low = grind (arith, nat_tests)
-
-pub filter_swap : {A : Type 0} (p q : A → Bool) (xs : List A) → filter p (filter q xs) ≡ filter q (filter p xs)
-filter_swap p q [] = refl
-filter_swap p q (x ∷ xs) = elim (p x) as (λ b. p x ≡ b → filter p (cond (q x) (x ∷ filter q xs) (filter q xs)) ≡ filter q (cond b (x ∷ filter p xs) (filter p xs))) [
-    | true ↦ λ e. elim (q x) as (λ v. filter p (cond v (x ∷ filter q xs) (filter q xs)) ≡ cond v (x ∷ filter q (filter p xs)) (filter q (filter p xs))) [
-      | true ↦ rw e (ap (λ l. x ∷ l) (filter_swap p q xs))
-      | false ↦ filter_swap p q xs
-    ]
-    | false ↦ λ e. elim (q x) as (λ v. filter p (cond v (x ∷ filter q xs) (filter q xs)) ≡ filter q (filter p xs)) [
-      | true ↦ rw e (filter_swap p q xs)
-      | false ↦ filter_swap p q xs
-    ]
-  ] refl
-
--- the first that passes, with what is before and behind it
-pub record Split {A : Type 0} (test : A → Bool) (xs : List A) (x : A) : Type 0 where
-  pub front : List A
-  pub back : List A
-  pub whole : xs ≡ front ++ x ∷ back
-  pub changed : (change : A → A) → changed_first test change xs ≡ front ++ change x ∷ back
-  pub without : without_first test xs ≡ front ++ back
-
-pub split_found : {A : Type 0} (test : A → Bool) (xs : List A) (x : A) → find test xs ≡ Some x → Split test xs x
-split_found test [] x = λ e. absurd (cc)
-split_found test (y ∷ ys) x = elim (test y) as (λ b. test y ≡ b → cond b (Some y) (find test ys) ≡ Some x → Split test (y ∷ ys) x) [
-    | true ↦ λ is e. let same : y ≡ x = cc in record { front = []; back = ys; whole = ap (λ z. z ∷ ys) same; changed = λ change. rw is (ap (λ z. change z ∷ ys) same); without = rw is refl }
-    | false ↦ λ is e. let rest = split_found test ys x e in record { front = y ∷ rest.front; back = rest.back; whole = ap (λ l. y ∷ l) rest.whole; changed = λ change. rw is (ap (λ l. y ∷ l) (rest.changed change)); without = rw is (ap (λ l. y ∷ l) rest.without) }
-  ] refl
 
 pub all_under : (n k : ℕ) (cs : List Commit) → n < k → IsBelow n cs → IsUnder k cs
 all_under n k [] low all = tt

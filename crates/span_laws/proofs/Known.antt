@@ -27,9 +27,9 @@ use Rattle.span_machine.specs.Commits.{Begun, begun_by, commit_by, committed_by,
 use Rattle.span_machine.specs.Run.{IsMeant}
 use Rattle.span_machine.specs.Machine as machine
 use Rattle.span_machine.specs.Machine.{Machine, committed, Answer, Steps, answer, start, first_cause, is_transaction, is_query, changed_first, without_first, add_prepared, prepare_timestamp, commit_timestamp, commit_of, with_outcome, without_prepared, applied_at, cover, answer_on, meaning}
-use Rattle.span_laws.proofs.Sealed.{IsSealed, all_push, all_changed, all_without, all_found, first_true, second_true}
-use Rattle.span_laws.proofs.Claims.{number_same}
-use Rattle.span_laws.proofs.Members.{all_weaker, found_passes}
+use Rattle.span_laws.proofs.Tests.{first_true, second_true, number_same}
+use Rattle.span_laws.proofs.Lists.{found_passes, all_push, all_changed, all_without, all_found, all_weaker}
+use Rattle.span_laws.proofs.Sealed.{IsSealed}
 use Rattle.span_laws.proofs.Walks.{Ends, answer_by}
 use Rattle.span_laws.proofs.Sound.{IsSound, IsCoveredSealed}
 

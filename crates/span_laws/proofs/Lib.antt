@@ -1,3 +1,5 @@
+pub mod Tests
+pub mod Lists
 pub mod Ordered
 pub mod Locality
 pub mod Stability
@@ -6,7 +8,6 @@ pub mod Sealed
 pub mod InPlace
 pub mod Claims
 pub mod Placed
-pub mod Members
 pub mod Numbers
 pub mod Holdings
 pub mod Sound

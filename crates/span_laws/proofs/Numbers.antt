@@ -6,8 +6,7 @@ use Rattle.span_machine.specs.declared.transaction.OpenTransaction.{OpenTransact
 use Rattle.span_machine.specs.declared.transaction.Outcome.{Outcome}
 use Rattle.span_machine.specs.declared.transaction.Outcome.TheVariants as outcome
 use Rattle.span_machine.specs.Machine.{Machine, answer, start, changed_first, without_first, is_transaction, with_outcome, add_prepared, prepare_timestamp, commit_timestamp, without_prepared, applied_at}
-use Rattle.span_laws.proofs.Sealed.{all_push, all_changed, all_without}
-use Rattle.span_laws.proofs.Members.{IsIn, all_at, all_weaker}
+use Rattle.span_laws.proofs.Lists.{IsIn, all_push, all_changed, all_without, all_at, all_weaker}
 use Rattle.span_laws.proofs.Walks.{Ends, answer_by}
 
 -- ---- numbers that rise

@@ -19,65 +19,15 @@ use Rattle.std.proofs.lemmas.Map.Views.{tells_apart}
 use Rattle.std.proofs.lemmas.Map.Lookups.{exact_signed}
 use Rattle.span_machine.specs.declared.step.Reply.TheVariants as reply
 use Rattle.span_machine.specs.declared.step.Reply.TheVariants.{Refused}
+use Rattle.span_laws.proofs.Tests.{first_true, second_true}
+use Rattle.span_laws.proofs.Lists.{slice_get-set, all_push, all_filtered, all_changed, all_without, all_found, one_or_other}
 use Rattle.span_laws.proofs.Walks.{Ends, answer_by}
 use Rattle.span_laws.proofs.Stability.{changes_at, touches, is_some_of, changes_at-more}
 
 -- ---- lists
 
-pub slice_get-set : {A : Type 0} (xs : List A) (i j : ℕ) (v x : A) → slice_get (slice_set xs i v) j ≡ Some x → ((j ≡ i) × (x ≡ v)) ⊎ (slice_get xs j ≡ Some x)
-slice_get-set [] i j v x h = inr h
-slice_get-set (y ∷ ys) zero zero v x h = inl (refl, cc)
-slice_get-set (y ∷ ys) zero (suc j) v x h = inr h
-slice_get-set (y ∷ ys) (suc i) zero v x h = inr h
-slice_get-set (y ∷ ys) (suc i) (suc j) v x h = elim (slice_get-set ys i j v x h) [ inl e ↦ inl (ap suc e.0, e.1) | inr g ↦ inr g ]
-
-module _ {A : Type 0} (P : A → Type 0) where
-  pub all_push : (xs : List A) (x : A) → AllByRecursion P xs → P x → AllByRecursion P (xs ++ x ∷ [])
-  all_push [] x all p = (p, tt)
-  all_push (y ∷ ys) x all p = (all.0, all_push ys x all.1 p)
-
-  pub all_filtered : (q : A → Bool) (ys : List A) → AllByRecursion P ys → AllByRecursion P (filter q ys)
-  all_filtered q [] all = tt
-  all_filtered q (y ∷ ys) all = elim (q y) as (λ b. AllByRecursion P (cond b (y ∷ filter q ys) (filter q ys))) [
-    | true ↦ (all.0, all_filtered q ys all.1)
-    | false ↦ all_filtered q ys all.1
-  ]
-
-  pub all_changed : (test : A → Bool) (change : A → A) → ((x : A) → P x → P (change x)) → (xs : List A) → AllByRecursion P xs → AllByRecursion P (changed_first test change xs)
-  all_changed test change kept [] all = tt
-  all_changed test change kept (x ∷ xs) all = elim (test x) as (λ b. AllByRecursion P (cond b (change x ∷ xs) (x ∷ changed_first test change xs))) [
-    | true ↦ (kept x all.0, all.1)
-    | false ↦ (all.0, all_changed test change kept xs all.1)
-  ]
-
-  pub all_without : (test : A → Bool) (xs : List A) → AllByRecursion P xs → AllByRecursion P (without_first test xs)
-  all_without test [] all = tt
-  all_without test (x ∷ xs) all = elim (test x) as (λ b. AllByRecursion P (cond b xs (x ∷ without_first test xs))) [
-    | true ↦ all.1
-    | false ↦ (all.0, all_without test xs all.1)
-  ]
-
-  pub all_found : (test : A → Bool) (xs : List A) (x : A) → find test xs ≡ Some x → AllByRecursion P xs → P x
-  all_found test [] x = λ e all. cc
-  all_found test (y ∷ ys) x = elim (test y) as (λ b. cond b (Some y) (find test ys) ≡ Some x → P y × AllByRecursion P ys → P x) [
-    | true ↦ λ e all. let same : y ≡ x = cc in subst P same all.0
-    | false ↦ λ e all. all_found test ys x e all.1
-  ]
-
 abbrev pub touches_any : ℤ → List CheckedMutation → Bool
 touches_any key ms = is_some_of (filter (is_at key) ms)
-
-pub first_true : (a b : Bool) → (a && b) ≡ true → a ≡ true
-first_true true b e = refl
-first_true false b e = e
-
-pub second_true : (a b : Bool) → (a && b) ≡ true → b ≡ true
-second_true true b e = e
-second_true false b e = cc
-
-pub one_or_other : {A : Type 0} (P : A → Type 0) (b : Bool) (x y : A) → P x → P y → P (cond b x y)
-one_or_other P true x y p q = p
-one_or_other P false x y p q = q
 
 -- a commit that is not refused has all prepared
 pub all_ready : (undecided ready late : Bool) → first_cause ((not undecided || not ready, refusal.WrongState) ∷ (late, refusal.TimestampRange) ∷ []) ≡ None → ready ≡ true

@@ -15,10 +15,10 @@ use Rattle.span_machine.specs.declared.step.Reply.{Reply}
 use Rattle.span_machine.specs.Tables.{upto}
 use Rattle.span_machine.specs.Machine.{Machine, Steps, answer, start, risen, with_book, cover, changed_first, is_query, is_safe, applied_at}
 use Rattle.span_machine.specs.Run.{Run}
+use Rattle.span_laws.proofs.Tests.{first_true, second_true}
+use Rattle.span_laws.proofs.Lists.{set_here, all_push, all_without, all_true, all_weaker, all_changed_found}
 use Rattle.span_laws.proofs.Stability.{changes_at}
-use Rattle.span_laws.proofs.Sealed.{IsSealed, IsAbove, answer_keeps, all_push, all_without, first_true, second_true}
-use Rattle.span_laws.proofs.Claims.{set_here}
-use Rattle.span_laws.proofs.Members.{all_true, all_weaker, all_changed_found}
+use Rattle.span_laws.proofs.Sealed.{IsSealed, IsAbove, answer_keeps}
 use Rattle.span_laws.proofs.Walks.{Ends, answer_by}
 use Rattle.span_laws.proofs.Holdings.{answer_slots}
 
