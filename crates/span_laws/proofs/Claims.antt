@@ -1,4 +1,4 @@
-use Rattle.std.proofs.Common.{◌≡◌, ℕ, ℤ, ◌<◌, ◌≤◌, ◌-◌, max, zero, suc, Bool, true, false, cond, not, ◌&&◌, ◌||◌, ◌==◌, nat_le, List, [], ◌∷◌, ◌++◌, length, Option, Some, None, Ok, Err, refl, ap, sym, ◌∙◌, subst, inl, inr, arith}
+use Rattle.std.proofs.Common.{◌≡◌, ℕ, ℤ, ◌<◌, ◌≤◌, ◌-◌, max, Bool, true, false, cond, not, ◌&&◌, ◌||◌, ◌==◌, nat_le, List, [], ◌∷◌, ◌++◌, length, Option, Some, None, Ok, Err, refl, ap, sym, ◌∙◌, subst, inl, inr, arith}
 use Rattle.std.specs.Prelude.{slice_get, slice_set, find, filter}
 use Rattle.std.proofs.lemmas.Bool.Decides.{nat_tests}
 use Rattle.std.proofs.lemmas.List.Elements.{filter-append}
@@ -14,15 +14,14 @@ use Rattle.span_machine.specs.declared.transaction.Outcome.{Outcome}
 use Rattle.span_machine.specs.declared.transaction.Outcome.TheVariants as outcome
 use Rattle.span_shard.specs.Database.{and_then, is_at, row_through, apply}
 use Rattle.span_machine.specs.Tables.{upto, mutations_of, tables}
-use Rattle.span_machine.specs.Machine.{Machine, holds, changed_first, without_first, is_prepared_at, greatest, with_last, if_some, have_common_key, mutations_in, faults, fault_of, first_cause, undecided, is_prepared_for, prepare_timestamp}
+use Rattle.span_machine.specs.Machine.{Machine, holds, changed_first, without_first, is_prepared_at, greatest, with_last, if_some, have_common_key, mutations_in, faults, fault_of, is_prepared_for, prepare_timestamp}
 use Rattle.span_truetime.specs.Time.{timestamp_end}
 use Rattle.std.specs.FinMap.{get-empty}
 use Rattle.std.specs.Ordering.{int_cmp}
 use Rattle.std.proofs.lemmas.Map.Views.{tells_apart}
 use Rattle.std.proofs.lemmas.Map.Lookups.{exact_signed}
-use Rattle.span_value.specs.declared.refusal.Refusal.TheVariants as refusal
 use Rattle.span_laws.proofs.Tests.{first_true, second_true, first_or, second_or, first_none, second_none, both_true, equal_number, no_length}
-use Rattle.span_laws.proofs.Lists.{slice_get-set, set_here, all_filtered, split_found, not_nil, both_nil}
+use Rattle.span_laws.proofs.Lists.{slice_get-set, set_here, split_found, not_nil, both_nil, all_filtered}
 use Rattle.span_laws.proofs.Locality.{apply-row}
 use Rattle.span_laws.proofs.Stability.{changes_at, touches, is_some_of}
 use Rattle.span_laws.proofs.InPlace.{IsBelow, IsUnder, IsRising, Succeeds, commits_at, claims, IsPromised, IsClaimed, IsClaim, below_up, greatest_push, row_through-append, changes_at-upto}
@@ -205,30 +204,6 @@ go_through key m ms under up = elim (tables m.log (timestamp_end - 1)) as (λ r.
         }
     ] refl
   ] refl
-
--- ---- judged causes
-
-pub may_prepare : (u p z c : Bool) → first_cause ((not u || p || z, refusal.WrongState) ∷ (c, refusal.Conflict) ∷ []) ≡ None → (u ≡ true) × (p ≡ false) × (c ≡ false)
-may_prepare true false false false e = (refl, refl, refl)
-may_prepare true false false true e = absurd (cc)
-may_prepare true false true c e = absurd (cc)
-may_prepare true true z c e = absurd (cc)
-may_prepare false p z c e = absurd (cc)
-
-pub may_commit : (u ready late : Bool) → first_cause ((not u || not ready, refusal.WrongState) ∷ (late, refusal.TimestampRange) ∷ []) ≡ None → (u ≡ true) × (ready ≡ true) × (late ≡ false)
-may_commit true true false e = (refl, refl, refl)
-may_commit true true true e = absurd (cc)
-may_commit true false late e = absurd (cc)
-may_commit false ready late e = absurd (cc)
-
-pub may_abort : (u : Bool) → first_cause ((not u, refusal.WrongState) ∷ []) ≡ None → u ≡ true
-may_abort true e = refl
-may_abort false e = absurd (cc)
-
-pub is_undecided_outcome : (o : Outcome) → undecided o ≡ true → o ≡ outcome.Undecided
-is_undecided_outcome outcome.Undecided e = refl
-is_undecided_outcome (outcome.Committed ts) e = absurd (cc)
-is_undecided_outcome outcome.Aborted e = absurd (cc)
 
 -- ---- prepared slots
 

@@ -11,9 +11,9 @@ use Rattle.span_machine.specs.declared.transaction.Outcome.{Outcome}
 use Rattle.span_machine.specs.declared.transaction.Outcome.TheVariants as outcome
 use Rattle.span_machine.specs.declared.transaction.Prepared.{Prepared}
 use Rattle.span_machine.specs.Machine.{Machine, Answer, answer, start, if_some, is_transaction, is_undecided, is_prepared_at, conflicts, mutations_in, changed_first, without_first, with_last, with_outcome, add_prepared, prepare_timestamp, greatest, commit_timestamp, coordinator_of, without_prepared, applied_at}
+use Rattle.span_laws.proofs.Causes.{may_prepare, is_undecided_outcome}
 use Rattle.span_laws.proofs.Tests.{first_none, second_none}
-use Rattle.span_laws.proofs.Lists.{IsIn, all_push, all_filtered, all_changed, all_without, all_found, all_in, all_weaker, all_changed_found}
-use Rattle.span_laws.proofs.Claims.{may_prepare, is_undecided_outcome}
+use Rattle.span_laws.proofs.Lists.{IsIn, all_push, all_changed, all_without, all_found, all_in, all_weaker, all_changed_found, all_filtered}
 use Rattle.span_laws.proofs.Walks.{Ends, answer_by}
 
 -- ---- how many slots there are

@@ -1,8 +1,7 @@
 use Rattle.std.proofs.Common.{◌≡◌, ℕ, ℤ, ◌<◌, ◌≤◌, max, Bool, true, false, cond, ◌&&◌, ◌||◌, ◌==◌, nat_lt, nat_le, List, [], ◌∷◌, ◌++◌, Option, Some, None, Ok, Err, refl, ap, sym, ◌∙◌, subst, arith}
-use Rattle.std.specs.Prelude.{slice_get, find, filter}
+use Rattle.std.specs.Prelude.{slice_get, filter}
 use Rattle.std.proofs.lemmas.Bool.Decides.{nat_tests}
 use Rattle.std.proofs.lemmas.List.{append-nil}
-use Rattle.std.proofs.lemmas.List.Elements.{filter-append}
 use Rattle.std.specs.List.{AllByRecursion}
 use Rattle.std.specs.FinMap as finmap
 use Rattle.span_machine.specs.declared.slot.Book.{Book}
@@ -16,15 +15,15 @@ use Rattle.span_machine.specs.declared.transaction.Outcome.TheVariants as outcom
 use Rattle.span_shard.specs.Database.{Database, and_then, row_after, is_at, row_through}
 use Rattle.span_machine.specs.Sorting.{placed, in_order}
 use Rattle.span_machine.specs.Tables.{is_before, upto, mutations_of, tables}
-use Rattle.span_machine.specs.Machine.{Machine, holds, changed_first, without_first, is_prepared_at, greatest}
+use Rattle.span_machine.specs.Machine.{Machine, holds, is_prepared_at, greatest}
 use Rattle.span_truetime.specs.Time.{timestamp_end}
 use Rattle.std.proofs.Common.{append_assoc}
 use Rattle.std.specs.FinMap.{get-empty}
 use Rattle.std.specs.Ordering.{int_cmp}
-use Rattle.span_laws.proofs.Lists.{all_push, all_filtered, filter_swap}
+use Rattle.span_laws.proofs.Lists.{all_push, filter_swap, all_filtered}
 use Rattle.span_laws.proofs.Ordered.{filter-in_order}
 use Rattle.span_laws.proofs.Locality.{apply-succeeds}
-use Rattle.span_laws.proofs.Stability.{changes_at, touches, is_some_of, changes_at-filter, is_before-order}
+use Rattle.span_laws.proofs.Stability.{changes_at, touches, is_some_of, changes_at-filter, is_before-order, changes_at-cons}
 
 -- ---- the invariant
 
@@ -132,9 +131,6 @@ front_through (m ∷ ms) ns row out = elim (row_after m row) as (λ r. and_then 
     | Ok next ↦ λ e. front_through ms ns next out e
     | Err why ↦ λ e. absurd (cc)
   ]
-
-pub changes_at-cons : (key : ℤ) (c : Commit) (cs : List Commit) → changes_at key (c ∷ cs) ≡ filter (is_at key) c.mutations ++ changes_at key cs
-changes_at-cons key c cs = filter-append (is_at key) c.mutations (mutations_of cs)
 
 pub changes_at-push : (key : ℤ) (cs : List Commit) (c : Commit) → changes_at key (cs ++ c ∷ []) ≡ changes_at key cs ++ filter (is_at key) c.mutations
 changes_at-push key [] c = changes_at-cons key c [] ∙ append-nil _

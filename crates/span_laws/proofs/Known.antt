@@ -1,4 +1,4 @@
-use Rattle.std.proofs.Common.{◌≡◌, ℕ, ℤ, ◌<◌, ◌+◌, ◌^◌, Bool, true, false, cond, not, ◌||◌, ◌==◌, nat_le, List, [], ◌∷◌, ◌++◌, length, Some, None, Result, Ok, Err, refl, ap, sym, ◌∙◌, subst, inl, inr, arith}
+use Rattle.std.proofs.Common.{◌≡◌, ℕ, ℤ, ◌<◌, ◌+◌, ◌^◌, Bool, true, false, cond, ◌||◌, ◌==◌, nat_le, List, [], ◌∷◌, ◌++◌, length, Some, Result, Ok, Err, refl, ap, sym, ◌∙◌, subst, inl, inr, arith}
 use Rattle.std.specs.Prelude.{find}
 use Rattle.std.proofs.lemmas.Bool.Decides.{nat_tests}
 use Rattle.std.proofs.lemmas.List.{append-nil}
@@ -27,6 +27,7 @@ use Rattle.span_machine.specs.Commits.{Begun, begun_by, commit_by, committed_by,
 use Rattle.span_machine.specs.Run.{IsMeant}
 use Rattle.span_machine.specs.Machine as machine
 use Rattle.span_machine.specs.Machine.{Machine, committed, Answer, Steps, answer, start, first_cause, is_transaction, is_query, changed_first, without_first, add_prepared, prepare_timestamp, commit_timestamp, commit_of, with_outcome, without_prepared, applied_at, cover, answer_on, meaning}
+use Rattle.span_laws.proofs.Causes.{may_open}
 use Rattle.span_laws.proofs.Tests.{first_true, second_true, number_same}
 use Rattle.span_laws.proofs.Lists.{found_passes, all_push, all_changed, all_without, all_found, all_weaker}
 use Rattle.span_laws.proofs.Sealed.{IsSealed}
@@ -121,11 +122,6 @@ begun_now begun t = rw (itself t.number) refl
 
 asked_now : (asked : List Asked) (q : OpenQuery) → find (λ a. a.number == q.number) (asked_of q ∷ asked) ≡ Some (asked_of q)
 asked_now asked q = rw (itself q.number) refl
-
--- an Open that is not refused has a text that is understood
-may_open : (u late full : Bool) → first_cause ((not u, refusal.Syntax) ∷ (late, refusal.TimestampRange) ∷ (full, refusal.QueryTableFull) ∷ []) ≡ None → u ≡ true
-may_open true late full e = refl
-may_open false late full e = absurd (cc)
 
 -- what is committed of a transaction that was begun
 commit_begun : (begun : List Begun) (owner txn ts : ℕ) (t : OpenTransaction) → t.owner ≡ owner → t.number ≡ txn → IsBegun begun t → commit_by ts owner txn (find (λ b. b.number == txn) begun) ≡ commit_of ts t ∷ []
@@ -241,7 +237,7 @@ module _ (begun : List Begun) (asked : List Asked) (m : Machine) (sound : IsSoun
     applies = λ owner txn slot interval t book found here accepted. tells_applied t.outcome owner txn slot interval t;
     advances = λ slot interval book here. tells_quiet _ _ _ (record { no_begun = refl; no_asked = refl; no_commit = refl }) known.transactions known.queries refl refl refl tt;
     opens = λ text params bound interval accepted. tells_opened text params bound interval (timestamp_of bound interval)
-      (may_open (is_understood text) (nat_le timestamp_end (timestamp_of bound interval)) (nat_le 64 (length m.queries) || nat_le (2 ^ 63) m.next_query) accepted);
+      (may_open (is_understood text) (nat_le timestamp_end (timestamp_of bound interval)) (nat_le 64 (length m.queries) || nat_le (2 ^ 63) m.next_query) accepted).0;
     finds_nothing = λ query leaf slot interval. tells_same _ _ (record { no_begun = refl; no_asked = refl; no_commit = refl }) tt;
     scans = λ query leaf slot interval q book found here safe. tells_quiet _ _ _ (record { no_begun = refl; no_asked = refl; no_commit = refl })
       known.transactions (all_changed (IsAsked asked) (is_query query) cover (λ u is. is) m.queries known.queries) refl refl refl tt;

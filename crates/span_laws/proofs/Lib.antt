@@ -1,5 +1,6 @@
 pub mod Tests
 pub mod Lists
+pub mod Causes
 pub mod Ordered
 pub mod Locality
 pub mod Stability
@@ -12,4 +13,5 @@ pub mod Numbers
 pub mod Holdings
 pub mod Sound
 pub mod Known
+pub mod Reached
 pub mod History

@@ -1,6 +1,7 @@
 use Rattle.std.proofs.Common.{◌≡◌, Bool, true, false, cond, List, [], ◌∷◌, refl, ap, sym, ◌∙◌}
 use Rattle.std.specs.List.{AllByRecursion, filter}
 use Rattle.span_machine.specs.Sorting.{placed, in_order, IsInOrder}
+use Rattle.span_laws.proofs.Lists.{all_filtered}
 
 pub record IsOrder {A : Type 0} (before : A → A → Bool) : Type 0 where
   pub across : (x y z : A) → before x y ≡ true → before z y ≡ false → before x z ≡ true
@@ -38,18 +39,11 @@ module _ {A : Type 0} (before : A → A → Bool) (o : IsOrder before) where
   placed_front x [] all = refl
   placed_front x (y ∷ ys) all = rw (all.0) refl
 
-  pub all_filter : (P : A → Type 0) (q : A → Bool) (ys : List A) → AllByRecursion P ys → AllByRecursion P (filter q ys)
-  all_filter P q [] all = tt
-  all_filter P q (y ∷ ys) all = elim (q y) as (λ b. AllByRecursion P (cond b (y ∷ filter q ys) (filter q ys))) [
-    | true ↦ (all.0, all_filter P q ys all.1)
-    | false ↦ all_filter P q ys all.1
-  ]
-
   -- what is placed and kept is placed among what is kept
   pub filter-placed : (q : A → Bool) (x : A) (xs : List A) → IsInOrder before xs → filter q (placed before x xs) ≡ cond (q x) (placed before x (filter q xs)) (filter q xs)
   filter-placed q x [] h = elim (q x) as (λ b. cond b (x ∷ []) [] ≡ cond b (x ∷ []) []) [ true ↦ refl | false ↦ refl ]
   filter-placed q x (y ∷ ys) h = elim (before x y) as (λ b. before x y ≡ b → filter q (cond b (x ∷ y ∷ ys) (y ∷ placed before x ys)) ≡ cond (q x) (placed before x (filter q (y ∷ ys))) (filter q (y ∷ ys))) [
-    | true ↦ λ e. ap (λ l. cond (q x) l (filter q (y ∷ ys))) (sym (placed_front x (filter q (y ∷ ys)) (all_filter (λ z. before x z ≡ true) q (y ∷ ys) (e, all_behind x y ys e h.0))))
+    | true ↦ λ e. ap (λ l. cond (q x) l (filter q (y ∷ ys))) (sym (placed_front x (filter q (y ∷ ys)) (all_filtered (λ z. before x z ≡ true) q (y ∷ ys) (e, all_behind x y ys e h.0))))
     | false ↦ λ e. elim (q y) as (λ k. cond k (y ∷ filter q (placed before x ys)) (filter q (placed before x ys)) ≡ cond (q x) (placed before x (cond k (y ∷ filter q ys) (filter q ys))) (cond k (y ∷ filter q ys) (filter q ys))) [
       | true ↦ ap (λ l. y ∷ l) (filter-placed q x ys h.1) ∙ elim (q x) as (λ b. y ∷ cond b (placed before x (filter q ys)) (filter q ys) ≡ cond b (placed before x (y ∷ filter q ys)) (y ∷ filter q ys)) [ true ↦ rw e refl | false ↦ refl ]
       | false ↦ filter-placed q x ys h.1

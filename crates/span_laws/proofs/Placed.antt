@@ -17,12 +17,13 @@ use Rattle.span_machine.specs.declared.step.Reply.{Reply}
 use Rattle.span_machine.specs.declared.step.Step.{Step}
 use Rattle.span_truetime.specs.declared.interval.Interval.{Interval}
 use Rattle.span_machine.specs.Run.{Run}
+use Rattle.span_laws.proofs.Causes.{may_prepare, may_commit, is_undecided_outcome}
 use Rattle.span_laws.proofs.Tests.{first_true, second_true, not_both, both_of, number_same, not_late}
 use Rattle.span_laws.proofs.Lists.{all_push}
 use Rattle.span_laws.proofs.Stability.{changes_at, is_some_of}
 use Rattle.span_laws.proofs.Walks.{Ends, answer_by}
 use Rattle.span_laws.proofs.InPlace.{IsBelow, IsUnder, IsRising, Succeeds, commits_at, claims, IsPromised, IsClaimed, IsClaim, IsInPlace, all_under, below_up, under_up, under_below, greatest_more, rising_push, changes_at-push, tables_made}
-use Rattle.span_laws.proofs.Claims.{Lifts, lifts_same, lifts_set, lifts_last, last_here, claim_up, claim_first, claim_without, unclaimed, all_held, commits_at-push, go_through, may_prepare, may_commit, is_undecided_outcome, prepared_key, away_push, away_left, none_left, left_slot, claim_of, prepared_last}
+use Rattle.span_laws.proofs.Claims.{Lifts, lifts_same, lifts_set, lifts_last, last_here, claim_up, claim_first, claim_without, unclaimed, all_held, commits_at-push, go_through, prepared_key, away_push, away_left, none_left, left_slot, claim_of, prepared_last}
 
 -- ---- the steps
 

@@ -1,4 +1,4 @@
-use Rattle.std.proofs.Common.{◌≡◌, ℕ, ℤ, ◌<◌, ◌≤◌, max, zero, suc, Bool, true, false, cond, not, ◌&&◌, ◌||◌, ◌==◌, nat_lt, nat_le, List, [], ◌∷◌, ◌++◌, length, Some, None, refl, ap, sym, ◌∙◌, subst, inl, inr, ◌⊎◌, arith}
+use Rattle.std.proofs.Common.{◌≡◌, ℕ, ℤ, ◌<◌, ◌≤◌, max, Bool, true, false, cond, not, ◌&&◌, ◌||◌, ◌==◌, nat_lt, nat_le, List, [], ◌∷◌, length, Some, None, refl, ap, sym, ◌∙◌, subst, inl, inr, ◌⊎◌, arith}
 use Rattle.std.specs.Prelude.{slice_get, slice_set, find, filter}
 use Rattle.std.proofs.lemmas.Bool.Decides.{nat_tests}
 use Rattle.std.specs.List.{AllByRecursion, list_any, list_all}
@@ -13,14 +13,15 @@ use Rattle.span_truetime.specs.declared.interval.Interval.{Interval}
 use Rattle.span_shard.specs.Database.{is_at}
 use Rattle.span_machine.specs.Tables.{upto}
 use Rattle.span_value.specs.declared.refusal.Refusal.TheVariants as refusal
-use Rattle.span_machine.specs.Machine.{first_cause, begun, prepare_timestamp, prepared, is_query, Machine, Answer, answer, refused, holds, if_some, changed_first, without_first, is_transaction, is_all_prepared, is_prepared_for, greatest, commit_timestamp, commit_refusal, commit_of, committed, aborted, is_undecided, coordinator_of, applied, applied_at, advanced, opened, risen, with_book, cover, answer_on, meaning, closed, with_last, add_prepared, with_outcome, without_prepared}
+use Rattle.span_machine.specs.Machine.{begun, prepare_timestamp, prepared, is_query, Machine, Answer, answer, refused, holds, if_some, changed_first, is_transaction, is_all_prepared, is_prepared_for, greatest, commit_timestamp, commit_refusal, commit_of, committed, aborted, is_undecided, coordinator_of, applied, applied_at, advanced, opened, risen, with_book, cover, answer_on, meaning, closed, with_last, add_prepared, with_outcome, without_prepared}
 use Rattle.span_truetime.specs.Time.{timestamp_end, timestamp_of}
 use Rattle.std.proofs.lemmas.Map.Views.{tells_apart}
 use Rattle.std.proofs.lemmas.Map.Lookups.{exact_signed}
 use Rattle.span_machine.specs.declared.step.Reply.TheVariants as reply
 use Rattle.span_machine.specs.declared.step.Reply.TheVariants.{Refused}
+use Rattle.span_laws.proofs.Causes.{may_commit}
 use Rattle.span_laws.proofs.Tests.{first_true, second_true}
-use Rattle.span_laws.proofs.Lists.{slice_get-set, all_push, all_filtered, all_changed, all_without, all_found, one_or_other}
+use Rattle.span_laws.proofs.Lists.{slice_get-set, all_push, all_changed, all_without, all_found, one_or_other, all_filtered}
 use Rattle.span_laws.proofs.Walks.{Ends, answer_by}
 use Rattle.span_laws.proofs.Stability.{changes_at, touches, is_some_of, changes_at-more}
 
@@ -28,12 +29,6 @@ use Rattle.span_laws.proofs.Stability.{changes_at, touches, is_some_of, changes_
 
 abbrev pub touches_any : ℤ → List CheckedMutation → Bool
 touches_any key ms = is_some_of (filter (is_at key) ms)
-
--- a commit that is not refused has all prepared
-pub all_ready : (undecided ready late : Bool) → first_cause ((not undecided || not ready, refusal.WrongState) ∷ (late, refusal.TimestampRange) ∷ []) ≡ None → ready ≡ true
-all_ready true true late e = refl
-all_ready true false late e = cc
-all_ready false ready late e = cc
 
 -- ---- what may still be committed
 
@@ -135,7 +130,7 @@ module _ (key : ℤ) (s : ℕ) (m : Machine) (sealed : IsSealed key s m) where
   commit_apart owner txn interval t found accepted = elim (touches_any key t.mutations) as (λ v. touches_any key t.mutations ≡ v → (v ≡ false) ⊎ (s < commit_timestamp m t interval)) [
       | false ↦ λ e. inl refl
       | true ↦ λ e.
-        let ready : is_all_prepared m t ≡ true = all_ready (is_undecided t) (is_all_prepared m t) (nat_le timestamp_end (commit_timestamp m t interval)) accepted in
+        let ready : is_all_prepared m t ≡ true = (may_commit (is_undecided t) (is_all_prepared m t) (nat_le timestamp_end (commit_timestamp m t interval)) accepted).1 in
         let above : s < greatest t.prepared = some_prepared t t.mutations e (second_true (not (length t.prepared == 0)) (list_all (is_prepared_for m t) t.mutations) ready) (λ i b h k. all_found (IsAbove s i) (is_transaction owner txn) m.transactions t found (sealed.prepared i b h k)) in
         inr (omega arith)
     ] refl

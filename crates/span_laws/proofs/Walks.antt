@@ -17,6 +17,7 @@ use Rattle.span_machine.specs.declared.step.Verdict.{Verdict}
 use Rattle.span_machine.specs.declared.step.Verdict.TheVariants as verdict
 use Rattle.span_machine.specs.declared.transaction.OpenTransaction.{OpenTransaction}
 use Rattle.span_machine.specs.Machine.{Machine, Answer, answer, refused, if_some, first_cause, unless_refused, for_transaction, for_slot, for_query, is_transaction, is_query, is_safe, is_undecided, begin_refusal, begun, faults, prepare_timestamp, prepare_refusal, prepared, prepare_found, prepare, mutations_in, commit_timestamp, commit_refusal, committed, aborted, decide_found, decide, applied_at, apply_refusal, apply_found, apply_step, advanced, open_refusal, opened, risen, with_book, cover, changed_first, scanned, scan_at, scan_found, scan, answer_on, meaning, finish_found, finish, closed}
+use Rattle.span_laws.proofs.Causes.{may_abort}
 
 -- what a fact about a step and its answer owes at each way that a step can end
 pub record Ends (m : Machine) (P : Step → Answer → Type 0) : Type 0 where
@@ -41,11 +42,6 @@ pub record Ends (m : Machine) (P : Step → Answer → Type 0) : Type 0 where
     → P (Scan query leaf slot interval) (Refused refusal.NotYet, with_book m slot (risen book q.s interval))
   pub finishes : (query : ℕ) (q : OpenQuery) → find (is_query query) m.queries ≡ Some q → q.covered ≡ true → P (Finish query) (answer_on q.s (meaning m q), m)
   pub closes : (query : ℕ) (q : OpenQuery) → find (is_query query) m.queries ≡ Some q → P (Close query) (closed m query q)
-
--- an Abort that is not refused finds the transaction undecided
-may_end : (u : Bool) → first_cause ((not u, refusal.WrongState) ∷ []) ≡ None → u ≡ true
-may_end true e = refl
-may_end false e = absurd (cc)
 
 module _ (m : Machine) (P : Step → Answer → Type 0) (ends : Ends m P) where
   by_cond : (step : Step) (b : Bool) (x y : Answer) → (b ≡ true → P step x) → (b ≡ false → P step y) → P step (cond b x y)
@@ -79,7 +75,7 @@ module _ (m : Machine) (P : Step → Answer → Type 0) (ends : Ends m P) where
   decide_by owner txn verdict.Commit interval = by_transaction (Decide owner txn verdict.Commit interval) owner txn (decide_found m owner txn verdict.Commit interval) (λ t found.
       by_refusal (Decide owner txn verdict.Commit interval) (commit_refusal m t interval) (committed m owner txn (commit_timestamp m t interval) t) (λ accepted. ends.commits owner txn interval t found accepted))
   decide_by owner txn verdict.Abort interval = by_transaction (Decide owner txn verdict.Abort interval) owner txn (decide_found m owner txn verdict.Abort interval) (λ t found.
-      by_refusal (Decide owner txn verdict.Abort interval) (first_cause ((not (is_undecided t), refusal.WrongState) ∷ [])) (aborted m owner txn t) (λ accepted. ends.aborts owner txn interval t found (may_end (is_undecided t) accepted)))
+      by_refusal (Decide owner txn verdict.Abort interval) (first_cause ((not (is_undecided t), refusal.WrongState) ∷ [])) (aborted m owner txn t) (λ accepted. ends.aborts owner txn interval t found (may_abort (is_undecided t) accepted)))
 
   apply_by : (owner txn slot : ℕ) (interval : Interval) → P (Apply owner txn slot interval) (apply_step m owner txn slot interval)
   apply_by owner txn slot interval =
