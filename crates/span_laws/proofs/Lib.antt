@@ -13,5 +13,6 @@ pub mod Numbers
 pub mod Holdings
 pub mod Sound
 pub mod Known
+pub mod Queries
 pub mod Reached
 pub mod History
