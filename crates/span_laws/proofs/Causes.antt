@@ -1,0 +1,50 @@
+use Rattle.std.proofs.Common.{◌≡◌, Bool, true, false, not, ◌||◌, [], ◌∷◌, None, refl}
+use Rattle.span_value.specs.declared.refusal.Refusal.TheVariants as refusal
+use Rattle.span_machine.specs.declared.transaction.Outcome.{Outcome}
+use Rattle.span_machine.specs.declared.transaction.Outcome.TheVariants as outcome
+use Rattle.span_machine.specs.Machine.{first_cause, undecided}
+
+-- what a step that is not refused has found
+
+pub may_begin : (full long : Bool) → first_cause ((full, refusal.TransactionTableFull) ∷ (long, refusal.LogFull) ∷ []) ≡ None → (full ≡ false) × (long ≡ false)
+may_begin false false e = (refl, refl)
+may_begin false true e = absurd (cc)
+may_begin true long e = absurd (cc)
+
+pub may_prepare : (u p z c : Bool) → first_cause ((not u || p || z, refusal.WrongState) ∷ (c, refusal.Conflict) ∷ []) ≡ None → (u ≡ true) × (p ≡ false) × (c ≡ false)
+may_prepare true false false false e = (refl, refl, refl)
+may_prepare true false false true e = absurd (cc)
+may_prepare true false true c e = absurd (cc)
+may_prepare true true z c e = absurd (cc)
+may_prepare false p z c e = absurd (cc)
+
+pub may_stamp : (late : Bool) → first_cause ((late, refusal.TimestampRange) ∷ []) ≡ None → late ≡ false
+may_stamp false e = refl
+may_stamp true e = absurd (cc)
+
+pub may_commit : (u ready late : Bool) → first_cause ((not u || not ready, refusal.WrongState) ∷ (late, refusal.TimestampRange) ∷ []) ≡ None → (u ≡ true) × (ready ≡ true) × (late ≡ false)
+may_commit true true false e = (refl, refl, refl)
+may_commit true true true e = absurd (cc)
+may_commit true false late e = absurd (cc)
+may_commit false ready late e = absurd (cc)
+
+pub may_abort : (u : Bool) → first_cause ((not u, refusal.WrongState) ∷ []) ≡ None → u ≡ true
+may_abort true e = refl
+may_abort false e = absurd (cc)
+
+pub may_apply : (u p early : Bool) → first_cause ((u || not p, refusal.WrongState) ∷ (early, refusal.TooEarly) ∷ []) ≡ None → (u ≡ false) × (p ≡ true) × (early ≡ false)
+may_apply false true false e = (refl, refl, refl)
+may_apply false true true e = absurd (cc)
+may_apply false false early e = absurd (cc)
+may_apply true p early e = absurd (cc)
+
+pub may_open : (u late full : Bool) → first_cause ((not u, refusal.Syntax) ∷ (late, refusal.TimestampRange) ∷ (full, refusal.QueryTableFull) ∷ []) ≡ None → (u ≡ true) × (late ≡ false) × (full ≡ false)
+may_open true false false e = (refl, refl, refl)
+may_open true false true e = absurd (cc)
+may_open true true full e = absurd (cc)
+may_open false late full e = absurd (cc)
+
+pub is_undecided_outcome : (o : Outcome) → undecided o ≡ true → o ≡ outcome.Undecided
+is_undecided_outcome outcome.Undecided e = refl
+is_undecided_outcome (outcome.Committed ts) e = absurd (cc)
+is_undecided_outcome outcome.Aborted e = absurd (cc)

@@ -1,0 +1,119 @@
+use Rattle.std.proofs.Common.{◌≡◌, ℕ, ℤ, ◌<◌, ◌≤◌, true, false, not, ◌||◌, ◌==◌, nat_lt, nat_le, List, [], ◌∷◌, length, Some, refl, ap, sym, ◌∙◌, subst, inl, inr, arith}
+use Rattle.std.specs.Prelude.{slice_get, slice_set}
+use Rattle.std.proofs.lemmas.Bool.Decides.{nat_tests}
+use Rattle.std.proofs.lemmas.Option.{slice_get_within}
+use Rattle.std.proofs.lemmas.List.{length-set}
+use Rattle.std.specs.List.{AllByRecursion, list_all}
+use Rattle.span_truetime.specs.Time.{timestamp_of}
+use Rattle.span_machine.specs.declared.slot.Book.{Book}
+use Rattle.span_machine.specs.declared.query.OpenQuery.{OpenQuery}
+use Rattle.span_machine.specs.declared.transaction.OpenTransaction.{OpenTransaction}
+use Rattle.span_machine.specs.declared.transaction.Outcome.{Outcome}
+use Rattle.span_machine.specs.declared.transaction.Outcome.TheVariants as outcome
+use Rattle.span_machine.specs.declared.step.Step.{Step}
+use Rattle.span_machine.specs.declared.step.Reply.{Reply}
+use Rattle.span_machine.specs.Tables.{upto}
+use Rattle.span_machine.specs.Machine.{Machine, Steps, answer, start, risen, with_book, cover, changed_first, is_query, is_safe, applied_at}
+use Rattle.span_machine.specs.Run.{Run}
+use Rattle.span_laws.proofs.Tests.{first_true, second_true}
+use Rattle.span_laws.proofs.Lists.{set_here, all_push, all_without, all_true, all_weaker, all_changed_found}
+use Rattle.span_laws.proofs.Stability.{changes_at}
+use Rattle.span_laws.proofs.Sealed.{IsSealed, IsAbove, answer_keeps}
+use Rattle.span_laws.proofs.Walks.{Ends, answer_by}
+use Rattle.span_laws.proofs.Holdings.{answer_slots}
+
+-- ---- the invariant
+
+-- what a covered query is to see is sealed
+abbrev pub IsCoveredSealed : Machine → OpenQuery → Type 0
+IsCoveredSealed m q = q.covered ≡ true → (key : ℤ) → IsSealed key q.s m
+
+pub record IsSound (m : Machine) : Type 0 where
+  pub one_slot : length m.books ≡ 1
+  pub queries : AllByRecursion (IsCoveredSealed m) m.queries
+
+-- what the step leaves sealed for each query, where it keeps what was sealed
+abbrev pub GoesSound : Machine → Machine → Type 0
+GoesSound m n = ((q : OpenQuery) → IsCoveredSealed m q → IsCoveredSealed n q) → AllByRecursion (IsCoveredSealed n) n.queries
+
+above_by : (p slot s ts : ℕ) → (not (p == slot) || nat_lt s ts) ≡ true → p ≡ slot → s < ts
+above_by p slot s ts e same = grind (arith, nat_tests)
+
+module _ (m : Machine) (sound : IsSound m) where
+  -- the same queries
+  goes_same : (n : Machine) → n.queries ≡ m.queries → GoesSound m n
+  goes_same n e w = subst (AllByRecursion (IsCoveredSealed n)) (sym e) (all_weaker (IsCoveredSealed m) (IsCoveredSealed n) w m.queries sound.queries)
+
+  -- a slot that is safe is sealed
+  pub sealed_by_scan : (slot s : ℕ) (before book : Book) (queries : List OpenQuery) (key : ℤ) → slice_get m.books slot ≡ Some before → is_safe m slot book s ≡ true → IsSealed key s (record (with_book m slot book) { queries = queries })
+  sealed_by_scan slot s before book queries key here safe =
+      let low : nat_le s book.floor ≡ true = first_true (nat_le s book.floor) _ safe in
+      let same_slot : (i : ℕ) (b : Book) → slice_get (slice_set m.books slot book) i ≡ Some b → i ≡ slot =
+        λ i b h. let within = slice_get_within (slice_set m.books slot book) i b h in let slot_within = slice_get_within m.books slot before here in let len = length-set m.books slot book in let one = sound.one_slot in omega arith in
+      let above : AllByRecursion (IsAbove s slot) m.transactions =
+        all_true (IsAbove s slot) (λ t. list_all (λ p. not (p.slot == slot) || nat_lt s p.timestamp) t.prepared)
+          (λ t e. all_true (λ p. p.slot ≡ slot → s < p.timestamp) (λ p. not (p.slot == slot) || nat_lt s p.timestamp) (λ p e same. above_by p.slot slot s p.timestamp e same) t.prepared e)
+          m.transactions (second_true (nat_le s book.floor) _ safe) in
+      record {
+        floors = λ i b h k. let is : b ≡ book = set_here m.books slot book b (subst (λ j. slice_get (slice_set m.books slot book) j ≡ Some b) (same_slot i b h) h) in
+          subst (λ (c : Book). s ≤ c.floor) (sym is) (grind (arith, nat_tests));
+        prepared = λ i b h k. subst (λ j. AllByRecursion (IsAbove s j) m.transactions) (sym (same_slot i b h)) above;
+      }
+
+  goes_applied : (o : Outcome) (owner txn slot : ℕ) (t : OpenTransaction) → GoesSound m (applied_at o m owner txn slot t).1
+  goes_applied outcome.Undecided owner txn slot t = goes_same (applied_at outcome.Undecided m owner txn slot t).1 refl
+  goes_applied outcome.Aborted owner txn slot t = goes_same (applied_at outcome.Aborted m owner txn slot t).1 refl
+  goes_applied (outcome.Committed ts) owner txn slot t = goes_same (applied_at (outcome.Committed ts) m owner txn slot t).1 refl
+
+  sound_ends : Ends m (λ step a. GoesSound m a.1)
+  sound_ends = record {
+    refuses = λ step why. goes_same m refl;
+    begins = λ owner ms accepted. goes_same _ refl;
+    prepares = λ owner txn slot t book found here accepted well low. goes_same _ refl;
+    commits = λ owner txn interval t found accepted. goes_same _ refl;
+    aborts = λ owner txn interval t found open_still. goes_same _ refl;
+    applies = λ owner txn slot interval t book found here accepted. goes_applied t.outcome owner txn slot t;
+    advances = λ slot interval book here. goes_same _ refl;
+    opens = λ text params bound interval accepted w. all_push (IsCoveredSealed _) m.queries (record { number = m.next_query; text = text; params = params; s = timestamp_of bound interval; covered = false })
+      (all_weaker (IsCoveredSealed m) (IsCoveredSealed _) w m.queries sound.queries) (λ bad. cc);
+    finds_nothing = λ query leaf slot interval. goes_same m refl;
+    scans = λ query leaf slot interval q book found here safe w. 
+      let after : Machine = record (with_book m slot (risen book q.s interval)) { queries = changed_first (is_query query) cover m.queries } in
+      all_changed_found (IsCoveredSealed after) (is_query query) cover m.queries q found (λ _ key. sealed_by_scan slot q.s book (risen book q.s interval) (changed_first (is_query query) cover m.queries) key here safe)
+        (all_weaker (IsCoveredSealed m) (IsCoveredSealed after) w m.queries sound.queries);
+    waits = λ query leaf slot interval q book found here. goes_same _ refl;
+    finishes = λ query q found covered. goes_same m refl;
+    closes = λ query q found w. all_without (IsCoveredSealed _) (is_query query) m.queries (all_weaker (IsCoveredSealed m) (IsCoveredSealed _) w m.queries sound.queries);
+  }
+
+-- every step leaves the machine sound
+pub answer_sound : (m : Machine) → IsSound m → (step : Step) → IsSound (answer m step).1
+answer_sound m sound step = record {
+  one_slot = answer_slots m step ∙ sound.one_slot;
+  queries = answer_by m (λ s a. GoesSound m a.1) (sound_ends m sound) step (λ q seals covered key. (answer_keeps key q.s m (seals covered key) step).seal);
+}
+
+pub start_sound : IsSound start
+start_sound = record { one_slot = refl; queries = tt }
+
+-- ---- whole runs
+
+-- one step, want of memory included
+pub step_sound : (m : Machine) (step : Step) (r : Reply) (next : Machine) → Steps m step r next → IsSound m → IsSound next
+step_sound m step r next (inl e) sound = subst IsSound (sym e.1) (answer_sound m sound step)
+step_sound m step r next (inr e) sound = subst IsSound (sym e.2) sound
+
+pub step_keeps : (key : ℤ) (s : ℕ) (m : Machine) (step : Step) (r : Reply) (next : Machine) → Steps m step r next → IsSealed key s m → IsSealed key s next × (changes_at key (upto next.log s) ≡ changes_at key (upto m.log s))
+step_keeps key s m step r next (inl e) sealed =
+    let k = answer_keeps key s m sealed step in
+    (subst (IsSealed key s) (sym e.1) k.seal, ap (λ (n : Machine). changes_at key (upto n.log s)) e.1 ∙ k.same)
+step_keeps key s m step r next (inr e) sealed = (subst (IsSealed key s) (sym e.2) sealed, ap (λ (n : Machine). changes_at key (upto n.log s)) e.2)
+
+-- a run leaves the changes of a sealed key
+pub run_keeps : (key : ℤ) (s : ℕ) (m : Machine) (steps : List Step) (replies : List Reply) (last : Machine) → Run m steps replies last → IsSealed key s m → changes_at key (upto last.log s) ≡ changes_at key (upto m.log s)
+run_keeps key s m [] [] last run sealed = ap (λ (n : Machine). changes_at key (upto n.log s)) run
+run_keeps key s m [] (r ∷ rs) last run sealed = absurd run
+run_keeps key s m (x ∷ xs) [] last run sealed = absurd run
+run_keeps key s m (x ∷ xs) (r ∷ rs) last run sealed =
+    let one = step_keeps key s m x r run.0 run.1 sealed in
+    run_keeps key s run.0 xs rs last run.2 one.0 ∙ one.1

@@ -1,0 +1,5 @@
+use Rattle.span_laws.proofs.History.{run_history}
+use Rattle.span_laws.proofs.runs_are_histories.Goals as goal
+
+pub returns : goal.returns
+returns c = run_history
