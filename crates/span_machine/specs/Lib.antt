@@ -5,3 +5,4 @@ pub mod Machine
 pub mod Place
 pub mod Commits
 pub mod Run
+pub mod Pieces
