@@ -1,5 +1,9 @@
 //! What a transaction does to rows.
+ghost use Rattle.std.specs.Prelude.{◌≡◌, MatchResult};
+
+use span_value::refusal::Refusal;
 use span_value::value::Value;
+use std::alloc::Global;
 
 /// What a mutation does with the row at its key.
 #[derive(Clone, Copy, Debug, PartialEq, Eq)]
@@ -16,4 +20,17 @@ pub struct CheckedMutation {
     pub kind: MutationKind,
     pub key: i64,
     pub cell: Value,
+}
+
+impl CheckedMutation {
+    /// An equal mutation, or the refusal for want of memory.
+    pub fn copy(&self, alloc: Global) -> Result<CheckedMutation, Refusal>
+        ensures { MatchResult result (λ copy. copy ≡ self.now) (λ why. why ≡ Refusal.OutOfMemory) }
+    {
+        Ok(CheckedMutation {
+            kind: self.kind,
+            key: self.key,
+            cell: self.cell.copy(alloc)?,
+        })
+    }
 }

@@ -1,5 +1,5 @@
 //! The timestamp that a query reads at.
-ghost use Rattle.std.specs.Prelude.{◌≡◌, ◌↔◌, ◌<◌, ◌≤◌, ◌^◌, IfOk, IsErrOf, IsOk};
+ghost use Rattle.std.specs.Prelude.{◌≡◌, ◌<◌, ◌≤◌, ◌^◌, IfOk, IfErr, IsOk};
 ghost use Rattle.span_truetime.specs.Time.{timestamp_of};
 
 use super::interval::{Interval, TIMESTAMP_END};
@@ -18,7 +18,7 @@ pub enum Bound {
 pub fn choose(bound: Bound, interval: Interval) -> Result<u64, Refusal>
     ensures chosen { IfOk result (λ s. (s ≡ timestamp_of bound interval) × (s < 2 ^ 62)) }
     ensures accepted { timestamp_of bound interval < 2 ^ 62 → IsOk result }
-    ensures refused { IsErrOf result Refusal.TimestampRange ↔ (2 ^ 62 ≤ timestamp_of bound interval) }
+    ensures refused { IfErr result (λ why. (why ≡ Refusal.TimestampRange) × (2 ^ 62 ≤ timestamp_of bound interval)) }
 {
     let s = match bound {
         Bound::Strong => interval.latest,

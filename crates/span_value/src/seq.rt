@@ -38,6 +38,14 @@ impl<T> Seq<T> {
         Seq { items }
     }
 
+    /// The vector of the items, as it is.
+    pub fn into_vec(self) -> Vec<T>
+        ensures { result.items ≡ self }
+    {
+        let Seq { items } = self;
+        items
+    }
+
     /// How many items there are.
     pub fn len(&self) -> usize
         ensures { result ≡ length self.now }

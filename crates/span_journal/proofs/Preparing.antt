@@ -1,0 +1,85 @@
+use Rattle.std.proofs.Common.{◌≡◌, ℕ, ◌<◌, ◌≤◌, ◌^◌, Bool, true, false, cond, not, ◌||◌, ◌==◌, nat_le, List, [], ◌∷◌, length, Option, Some, None, refl, ap, sym, ◌∙◌, arith}
+use Rattle.std.specs.Prelude.{filter, find, slice_get}
+use Rattle.std.specs.List.{list_any}
+use Rattle.std.proofs.lemmas.Bool.Decides.{nat_tests}
+use Rattle.span_value.specs.declared.refusal.Refusal.{Refusal}
+use Rattle.span_value.specs.declared.refusal.Refusal.TheVariants as refusal
+use Rattle.span_shard.specs.declared.mutation.CheckedMutation.{CheckedMutation}
+use Rattle.span_truetime.specs.Time.{timestamp_end}
+use Rattle.span_machine.specs.declared.slot.Book.{Book}
+use Rattle.span_machine.specs.declared.transaction.Prepared.{Prepared}
+use Rattle.span_machine.specs.declared.transaction.OpenTransaction.{OpenTransaction}
+use Rattle.span_machine.specs.Machine.{Machine, refused, first_cause, unless_refused, if_some, is_transaction, is_undecided, is_prepared_at, conflicts, mutations_in, faults, prepare, prepare_found, prepare_refusal, prepare_timestamp, prepared, for_slot}
+use Rattle.span_journal.specs.Judged.{MayPrepare, stamp_refusal}
+
+-- every mutation lies in the one slot
+pub all_in : (book : Book) (ms : List CheckedMutation) → mutations_in book ms ≡ ms
+all_in book [] = refl
+all_in book (m ∷ ms) = ap (λ l. m ∷ l) (all_in book ms)
+
+-- a list has an element that passes, or none is left of it
+pub any_left : (slot : ℕ) (ps : List Prepared) → list_any (λ p. not (p.slot == slot)) ps ≡ not (length (filter (λ p. not (p.slot == slot)) ps) == 0)
+any_left slot [] = refl
+any_left slot (p ∷ ps) = elim (not (p.slot == slot)) as (λ b. (b || list_any (λ p. not (p.slot == slot)) ps) ≡ not (length (cond b (p ∷ filter (λ p. not (p.slot == slot)) ps) (filter (λ p. not (p.slot == slot)) ps)) == 0)) [
+  | true ↦ some_length (filter (λ p. not (p.slot == slot)) ps)
+  | false ↦ any_left slot ps
+]
+  where
+    some_length : (xs : List Prepared) → true ≡ not (length (p ∷ xs) == 0)
+    some_length xs = grind (arith, nat_tests)
+
+-- the causes for which the transaction may not be prepared here
+abbrev pub is_wrong : ℕ → OpenTransaction → Bool
+is_wrong slot t = not (is_undecided t) || is_prepared_at slot t || (length t.mutations == 0)
+
+refusal_is : (m : Machine) (slot : ℕ) (t : OpenTransaction) (book : Book) → prepare_refusal m slot t book ≡ first_cause ((is_wrong slot t, refusal.WrongState) ∷ (conflicts m slot t.mutations, refusal.Conflict) ∷ [])
+refusal_is m slot t book = ap (λ (ms : List CheckedMutation). first_cause ((not (is_undecided t) || is_prepared_at slot t || (length ms == 0), refusal.WrongState) ∷ (conflicts m slot ms, refusal.Conflict) ∷ [])) (all_in book t.mutations)
+
+not_true : (b : Bool) → not b ≡ true → b ≡ false
+not_true true e = cc
+not_true false e = refl
+
+not_false : (b : Bool) → not b ≡ false → b ≡ true
+not_false true e = refl
+not_false false e = cc
+
+module _ (m : Machine) (owner txn slot : ℕ) (t : OpenTransaction) (book : Book) (found : find (is_transaction owner txn) m.transactions ≡ Some t) (here : slice_get m.books slot ≡ Some book) where
+  prepare_is : prepare m owner txn slot ≡ prepare_found m owner txn slot t book
+  prepare_is = ap (λ (o : Option OpenTransaction). if_some o (refused m refusal.UnknownTransaction) (λ t. for_slot m slot (prepare_found m owner txn slot t))) found
+      ∙ ap (λ (o : Option Book). if_some o (refused m refusal.NoSlot) (prepare_found m owner txn slot t)) here
+
+  refused_by : (why : Refusal) → prepare_refusal m slot t book ≡ Some why → prepare m owner txn slot ≡ refused m why
+  refused_by why e = prepare_is ∙ ap (λ (o : Option Refusal). unless_refused m o
+      (unless_refused m (faults m (mutations_in book t.mutations)) (unless_refused m (stamp_refusal book) (prepared m owner txn slot book)))) e
+
+  pub refused_wrong : not (is_wrong slot t) ≡ false → prepare m owner txn slot ≡ refused m refusal.WrongState
+  refused_wrong e = refused_by refusal.WrongState (refusal_is m slot t book ∙ ap (λ b. first_cause ((b, refusal.WrongState) ∷ (conflicts m slot t.mutations, refusal.Conflict) ∷ [])) (not_false (is_wrong slot t) e))
+
+  pub refused_conflict : not (is_wrong slot t) ≡ true → conflicts m slot t.mutations ≡ true → prepare m owner txn slot ≡ refused m refusal.Conflict
+  refused_conflict e f = refused_by refusal.Conflict (refusal_is m slot t book
+      ∙ ap (λ b. first_cause ((b, refusal.WrongState) ∷ (conflicts m slot t.mutations, refusal.Conflict) ∷ [])) (not_true (is_wrong slot t) e)
+      ∙ ap (λ b. first_cause ((b, refusal.Conflict) ∷ [])) f)
+
+  pub may_prepare : not (is_wrong slot t) ≡ true → conflicts m slot t.mutations ≡ false → MayPrepare m owner txn slot t.mutations
+  may_prepare e f = record {
+    transaction = t;
+    book = book;
+    found = found;
+    here = here;
+    accepted = refusal_is m slot t book
+        ∙ ap (λ b. first_cause ((b, refusal.WrongState) ∷ (conflicts m slot t.mutations, refusal.Conflict) ∷ [])) (not_true (is_wrong slot t) e)
+        ∙ ap (λ b. first_cause ((b, refusal.Conflict) ∷ [])) f;
+    mutations = sym (all_in book t.mutations);
+  }
+
+pub no_stamp : (book : Book) → 2 ^ 62 ≤ prepare_timestamp book → stamp_refusal book ≡ Some refusal.TimestampRange
+no_stamp book late = ap (λ b. first_cause ((b, refusal.TimestampRange) ∷ [])) (late_test (prepare_timestamp book) late)
+  where
+    late_test : (n : ℕ) → 2 ^ 62 ≤ n → nat_le timestamp_end n ≡ true
+    late_test n h = grind (arith, nat_tests)
+
+pub a_stamp : (book : Book) → prepare_timestamp book < 2 ^ 62 → stamp_refusal book ≡ None
+a_stamp book early = ap (λ b. first_cause ((b, refusal.TimestampRange) ∷ [])) (early_test (prepare_timestamp book) early)
+  where
+    early_test : (n : ℕ) → n < 2 ^ 62 → nat_le timestamp_end n ≡ false
+    early_test n h = grind (arith, nat_tests)

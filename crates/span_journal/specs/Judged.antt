@@ -1,0 +1,108 @@
+use Rattle.std.specs.Prelude.{◌≡◌, ℕ, false, true, nat_le, List, [], ◌∷◌, find, slice_get, Option, Some, None, Result, Ok, Err, ◌⊎◌}
+use Rattle.span_value.specs.declared.value.Value.{Value}
+use Rattle.span_value.specs.declared.refusal.Refusal.{Refusal}
+use Rattle.span_value.specs.declared.refusal.Refusal.TheVariants.{OutOfMemory, TimestampRange}
+use Rattle.span_shard.specs.declared.mutation.CheckedMutation.{CheckedMutation}
+use Rattle.span_truetime.specs.declared.interval.Interval.{Interval}
+use Rattle.span_truetime.specs.Time.{timestamp_end}
+use Rattle.span_machine.specs.declared.step.Reply.{Reply}
+use Rattle.span_machine.specs.declared.step.Reply.TheVariants as reply
+use Rattle.span_machine.specs.declared.slot.Book.{Book}
+use Rattle.span_machine.specs.declared.query.OpenQuery.{OpenQuery}
+use Rattle.span_machine.specs.declared.transaction.OpenTransaction.{OpenTransaction}
+use Rattle.span_machine.specs.declared.transaction.Outcome.{Outcome}
+use Rattle.span_machine.specs.declared.transaction.Outcome.TheVariants as outcome
+use Rattle.span_machine.specs.Machine.{Machine, first_cause, is_transaction, is_query, mutations_in, prepare_refusal, prepare_timestamp, prepared, apply_refusal, applied_at, changed_first, cover, is_safe, risen, scan, with_book}
+use Rattle.span_machine.specs.Pieces.{Pieced, Journaled, machine_of}
+
+-- the reply that a call's result stands for
+abbrev pub replied : {A : Type 0} → (A → Reply) → Result A Refusal → Reply
+replied make (Ok x) = make x
+replied make (Err why) = reply.Refused why
+
+-- the reply to a decision: its commit timestamp, or none
+abbrev pub decided : Option ℕ → Reply
+decided None = reply.Aborted
+decided (Some ts) = reply.Decided ts
+
+-- what a commit timestamp, or none, says of a transaction
+abbrev pub outcome_of : Option ℕ → Outcome
+outcome_of None = outcome.Aborted
+outcome_of (Some ts) = outcome.Committed ts
+
+-- nothing but its mutations keeps the transaction from being prepared at the slot
+pub record MayPrepare (m : Machine) (owner txn slot : ℕ) (ms : List CheckedMutation) : Type 0 where
+  pub transaction : OpenTransaction
+  pub book : Book
+  pub found : find (is_transaction owner txn) m.transactions ≡ Some transaction
+  pub here : slice_get m.books slot ≡ Some book
+  pub accepted : prepare_refusal m slot transaction book ≡ None
+  pub mutations : ms ≡ mutations_in book transaction.mutations
+
+-- the refusal for want of timestamps, if there is no prepare timestamp left
+abbrev pub stamp_refusal : Book → Option Refusal
+stamp_refusal book = first_cause ((nat_le timestamp_end (prepare_timestamp book), TimestampRange) ∷ [])
+
+-- the transaction is noted as prepared at the slot
+pub record IsNoted (old : Machine) (owner txn slot ts : ℕ) (new : Machine) : Type 0 where
+  pub book : Book
+  pub here : slice_get old.books slot ≡ Some book
+  pub stamped : stamp_refusal book ≡ None
+  pub at : ts ≡ prepare_timestamp book
+  pub after : new ≡ (prepared old owner txn slot book).1
+
+-- why a transaction is not noted: no such transaction, no such slot, no timestamp left, or want of memory
+abbrev pub IsUnnoted : Machine → ℕ → ℕ → ℕ → Refusal → Type 0
+IsUnnoted m owner txn slot why = (why ≡ OutOfMemory) ⊎ ((find (is_transaction owner txn) m.transactions ≡ None) ⊎ ((slice_get m.books slot ≡ None) ⊎ ((book : Book) × (slice_get m.books slot ≡ Some book) × (stamp_refusal book ≡ Some why))))
+
+-- the decided transaction is noted as applied at the slot
+pub record IsApplied (old : Machine) (owner txn slot : ℕ) (interval : Interval) (committed : Option ℕ) (new : Machine) : Type 0 where
+  pub transaction : OpenTransaction
+  pub book : Book
+  pub found : find (is_transaction owner txn) old.transactions ≡ Some transaction
+  pub here : slice_get old.books slot ≡ Some book
+  pub accepted : apply_refusal slot transaction interval ≡ None
+  pub outcome : transaction.outcome ≡ outcome_of committed
+  pub after : new ≡ (applied_at (outcome_of committed) old owner txn slot transaction).1
+
+-- the query's one leaf is uncovered, and the slot's safe time reaches its timestamp s once the floor has risen
+pub record MayScan (m : Machine) (query leaf slot : ℕ) (interval : Interval) (s : ℕ) : Type 0 where
+  pub question : OpenQuery
+  pub book : Book
+  pub found : find (is_query query) m.queries ≡ Some question
+  pub here : slice_get m.books slot ≡ Some book
+  pub first_leaf : leaf ≡ 0
+  pub uncovered : question.covered ≡ false
+  pub at : s ≡ question.s
+  pub safe : is_safe m slot (risen book question.s interval) question.s ≡ true
+
+-- what a scan finds: nothing uncovered, or the timestamp at which the leaf may be read
+abbrev pub IsGap : Machine → ℕ → ℕ → ℕ → Interval → Option ℕ → Type 0
+IsGap m query leaf slot interval None = scan m query leaf slot interval ≡ (reply.Nothing, m)
+IsGap m query leaf slot interval (Some s) = MayScan m query leaf slot interval s
+
+-- the query's piece covers it
+pub record IsPiece (j : Journaled) (query s : ℕ) (rows : List (List Value)) : Type 0 where
+  pub question : Pieced
+  pub found : find (λ p. is_query query p.query) j.queries ≡ Some question
+  pub covered : question.query.covered ≡ true
+  pub at : s ≡ question.query.s
+  pub rows_are : rows ≡ question.rows
+
+abbrev pub covered_by : List (List Value) → Pieced → Pieced
+covered_by rows p = record { query = cover p.query; rows = rows }
+
+-- the piece with these rows covers the query, and the slot's floor has risen to its timestamp
+pub record IsRegistered (old : Journaled) (query slot : ℕ) (interval : Interval) (rows : List (List Value)) (new : Journaled) : Type 0 where
+  pub question : Pieced
+  pub book : Book
+  pub found : find (λ p. is_query query p.query) old.queries ≡ Some question
+  pub here : slice_get old.books slot ≡ Some book
+  pub after : new ≡ record old {
+    books = (with_book (machine_of old) slot (risen book question.query.s interval)).books;
+    queries = changed_first (λ p. is_query query p.query) (covered_by rows) old.queries;
+  }
+
+-- why a piece is not registered: no such query, no such slot, or the query is covered
+abbrev pub IsUnregistered : Journaled → ℕ → ℕ → Type 0
+IsUnregistered j query slot = (find (λ p. is_query query p.query) j.queries ≡ None) ⊎ ((slice_get j.books slot ≡ None) ⊎ ((p : Pieced) × (find (λ p. is_query query p.query) j.queries ≡ Some p) × (p.query.covered ≡ true)))

@@ -1,0 +1,484 @@
+//! The journal and its calls.
+ghost use Rattle.std.specs.Prelude.{◌≡◌, ℕ, ◌<◌, ◌+◌, ◌^◌, [], ◌∷◌, ◌++◌, length, count_by, IfOk, IfErr, OnOk, OnErr, Some, None, true, false};
+ghost use Rattle.span_machine.specs.Machine.{Steps, start, is_undecided, is_query, commit_refusal, commit_timestamp, prepare, apply_step, scan, finish, open_refusal, begun, refused, without_first};
+ghost use Rattle.span_truetime.specs.Time.{timestamp_of};
+ghost use Rattle.span_machine.specs.Meaning.{is_understood};
+ghost use Rattle.span_machine.specs.Pieces.{machine_of};
+ghost use Rattle.span_machine.specs.declared.step.Step.TheVariants as step_of;
+ghost use Rattle.span_machine.specs.declared.step.Reply.TheVariants as reply_of;
+ghost use Rattle.span_machine.specs.declared.query.OpenQuery.{OpenQuery};
+ghost use Rattle.span_journal.specs.Judged.{replied, decided, MayPrepare, IsNoted, IsUnnoted, IsApplied, IsGap, IsRegistered, IsUnregistered, IsPiece};
+
+use super::queries::{cover_at, find_query};
+use super::query::KeptQuery;
+use super::slots::{
+    book_at, coordinator_slot, decision, is_ready, is_safe_at, prepare_timestamp, raise_last,
+    risen_floor, set_floor, set_last,
+};
+use super::transaction::KeptTransaction;
+use super::transactions::{
+    abort_at, commit_at, copies_of, count_undecided, end_at, find_transaction, has_conflict,
+    judge_apply, may_prepare, note_at, remove_at,
+};
+use span_machine::query::{OpenQuery, Params};
+use span_machine::slot::Book;
+use span_machine::step::Verdict;
+use span_machine::transaction::{Commit, OpenTransaction, Outcome, Prepared};
+use span_shard::mutation::CheckedMutation;
+use span_shard::transaction::Transaction;
+use span_truetime::bound::{Bound, choose};
+use span_truetime::interval::{Interval, TIMESTAMP_END};
+use span_value::refusal::Refusal;
+use span_value::seq::Seq;
+use span_value::text::Text;
+use span_value::value::Row;
+use std::alloc::{AllocError, Global};
+use std::marker::Model;
+
+/// How many transactions may be open at once.
+pub const MOST_TRANSACTIONS: usize = 256;
+
+/// How many commits and undecided transactions there may be together.
+pub const MOST_COMMITS: usize = 65536;
+
+/// How many queries may be open at once.
+pub const MOST_QUERIES: usize = 64;
+
+/// Numbers of transactions and of queries are below this.
+pub const NUMBER_END: u64 = 1 << 63;
+
+/// What is known of slots, transactions and queries.
+#[derive(Debug, Drop)]
+pub struct Journal {
+    books: Vec<Book>,
+    transactions: Vec<KeptTransaction>,
+    /// It has room for each undecided transaction.
+    log: Vec<Commit>,
+    queries: Vec<KeptQuery>,
+    next_transaction: u64,
+    next_query: u64,
+}
+
+impl Model for Journal {
+    ghost use Rattle.std.specs.Prelude.{◌+◌, ◌≤◌, count_by, vec_len, vec_capacity};
+    ghost use Rattle.span_machine.specs.Machine.{is_undecided};
+    ghost use Rattle.span_machine.specs.Pieces.{Journaled};
+
+    ghost Value = { Journaled };
+
+    ghost view = { λ a. record {
+      books = a.books.items;
+      transactions = a.transactions.items;
+      log = a.log.items;
+      queries = a.queries.items;
+      next_transaction = a.next_transaction;
+      next_query = a.next_query;
+    } };
+
+    ghost invariant = { λ a. record {
+      few : vec_len a.log + count_by is_undecided a.transactions.items ≤ 65536;
+      room : vec_len a.log + count_by is_undecided a.transactions.items ≤ vec_capacity a.log;
+    } };
+}
+
+impl Journal {
+    /// A journal with one slot, and nothing in it.
+    pub fn new(alloc: Global) -> Result<Journal, AllocError>
+        ensures start { IfOk result (λ journal. machine_of journal ≡ start) }
+        ensures pieces { IfOk result (λ journal. journal.queries ≡ []) }
+    {
+        let mut books = Vec::new(alloc);
+        books.push(Book { last: 0, floor: 0 })?;
+        Ok(Journal {
+            books,
+            transactions: Vec::new(alloc),
+            log: Vec::new(alloc),
+            queries: Vec::new(alloc),
+            next_transaction: 1,
+            next_query: 1,
+        })
+    }
+
+    /// Begins a transaction, and answers its number. It makes the room in the log and the mutations of the log's entry, which the
+    /// commit takes. `TransactionTableFull`, then `LogFull`, then `OutOfMemory`; a refusal leaves all as it was.
+    pub fn begin(
+        &mut self,
+        alloc: Global,
+        owner: u64,
+        transaction: Transaction,
+    ) -> Result<u64, Refusal>
+        ensures step { Steps (machine_of self.old) (step_of.Begin owner transaction) (replied reply_of.Began result) (machine_of self.new) }
+        ensures pieces { self.new.queries ≡ self.old.queries }
+    {
+        if self.transactions.len() >= MOST_TRANSACTIONS || self.next_transaction >= NUMBER_END {
+            return Err(Refusal::TransactionTableFull);
+        }
+        let undecided = count_undecided(self.transactions.as_slice());
+        if self.log.len() + undecided >= MOST_COMMITS {
+            return Err(Refusal::LogFull);
+        }
+        self.try_begin(alloc, undecided, owner, transaction)
+    }
+
+    fn try_begin(
+        &mut self,
+        alloc: Global,
+        undecided: usize,
+        owner: u64,
+        transaction: Transaction,
+    ) -> Result<u64, Refusal>
+        requires few { length self.old.log + count_by is_undecided self.old.transactions < 65536 }
+        requires last { self.old.next_transaction < 2 ^ 63 }
+        requires undecided { undecided ≡ count_by is_undecided self.old.transactions }
+        ensures number { IfOk result (λ n. n ≡ self.old.next_transaction) }
+        ensures ok { OnOk result (machine_of self.new ≡ (begun (machine_of self.old) owner transaction).1) }
+        ensures memory { IfErr result (λ why. why ≡ Refusal.OutOfMemory) }
+        ensures err { OnErr result (machine_of self.new ≡ machine_of self.old) }
+        ensures pieces { self.new.queries ≡ self.old.queries }
+    {
+        let entry = copies_of(alloc, transaction.mutations())?;
+        self.log.reserve(undecided + 1)?;
+        let number = self.next_transaction;
+        let opened = OpenTransaction {
+            owner,
+            number,
+            mutations: transaction.into_mutations(),
+            outcome: Outcome::Undecided,
+            prepared: Seq::new(alloc),
+        };
+        self.transactions.push(KeptTransaction::new(opened, entry))?;
+        self.next_transaction += 1;
+        Ok(number)
+    }
+
+    /// Decides a transaction: answers its commit timestamp, or None for an abort. It takes no memory: `begin` made the room.
+    /// `UnknownTransaction`, then `WrongState`, then `TimestampRange`; a refusal leaves all as it was.
+    pub fn decide(
+        &mut self,
+        alloc: Global,
+        owner: u64,
+        txn: u64,
+        verdict: Verdict,
+        interval: Interval,
+    ) -> Result<Option<u64>, Refusal>
+        ensures step { Steps (machine_of self.old) (step_of.Decide owner txn verdict interval) (replied decided result) (machine_of self.new) }
+        ensures pieces { self.new.queries ≡ self.old.queries }
+    {
+        match verdict {
+            Verdict::Commit => Ok(Some(self.commit(alloc, owner, txn, interval)?)),
+            Verdict::Abort => {
+                self.abort(owner, txn, interval)?;
+                Ok(None)
+            }
+        }
+    }
+
+    /// The commit timestamp, or why there is no commit.
+    fn judge_commit(
+        &self,
+        transaction: &KeptTransaction,
+        interval: Interval,
+    ) -> Result<u64, Refusal>
+        ensures refused { IfErr result (λ why. commit_refusal (machine_of self.now) transaction.now interval ≡ Some why) }
+        ensures accepted { IfOk result (λ ts. (commit_refusal (machine_of self.now) transaction.now interval ≡ None) × (ts ≡ commit_timestamp (machine_of self.now) transaction.now interval)) }
+        ensures undecided { OnOk result (is_undecided transaction.now ≡ true) }
+    {
+        if !transaction.is_undecided() {
+            return Err(Refusal::WrongState);
+        }
+        if !is_ready(self.books.as_slice(), transaction) {
+            return Err(Refusal::WrongState);
+        }
+        match decision(
+            self.books.as_slice(),
+            transaction.prepared(),
+            interval.latest,
+        ) {
+            Some(timestamp) => Ok(timestamp),
+            None => Err(Refusal::TimestampRange),
+        }
+    }
+
+    fn commit(
+        &mut self,
+        alloc: Global,
+        owner: u64,
+        txn: u64,
+        interval: Interval,
+    ) -> Result<u64, Refusal>
+        ensures step { Steps (machine_of self.old) (step_of.Decide owner txn Verdict.Commit interval) (replied reply_of.Decided result) (machine_of self.new) }
+        ensures pieces { self.new.queries ≡ self.old.queries }
+    {
+        let Some((at, transaction)) = find_transaction(self.transactions.as_slice(), owner, txn)
+        else {
+            return Err(Refusal::UnknownTransaction);
+        };
+        match self.judge_commit(transaction, interval) {
+            Ok(timestamp) => {
+                let coordinator = coordinator_slot(transaction.prepared());
+                raise_last(&mut self.books, coordinator, timestamp);
+                let commit = commit_at(alloc, &mut self.transactions, at, timestamp);
+                self.log.push(commit).unwrap();
+                Ok(timestamp)
+            }
+            Err(why) => Err(why),
+        }
+    }
+
+    fn abort(&mut self, owner: u64, txn: u64, interval: Interval) -> Result<(), Refusal>
+        ensures step { Steps (machine_of self.old) (step_of.Decide owner txn Verdict.Abort interval) (replied (λ _. reply_of.Aborted) result) (machine_of self.new) }
+        ensures pieces { self.new.queries ≡ self.old.queries }
+    {
+        let Some((at, transaction)) = find_transaction(self.transactions.as_slice(), owner, txn)
+        else {
+            return Err(Refusal::UnknownTransaction);
+        };
+        if !transaction.is_undecided() {
+            return Err(Refusal::WrongState);
+        }
+        if transaction.prepared().is_empty() {
+            remove_at(&mut self.transactions, at);
+        } else {
+            abort_at(&mut self.transactions, at);
+        }
+        Ok(())
+    }
+
+    /// The mutations of a transaction that lie in the slot, where nothing but they may keep it from being prepared there.
+    /// `UnknownTransaction`, then `NoSlot`, then `WrongState`, then `Conflict`.
+    pub fn judge_prepare(
+        &self,
+        owner: u64,
+        txn: u64,
+        slot: usize,
+    ) -> Result<&[CheckedMutation], Refusal>
+        ensures accepted { IfOk result (λ ms. MayPrepare (machine_of self.now) owner txn slot ms.now) }
+        ensures refused { IfErr result (λ why. prepare (machine_of self.now) owner txn slot ≡ refused (machine_of self.now) why) }
+    {
+        let Some((_, transaction)) = find_transaction(self.transactions.as_slice(), owner, txn)
+        else {
+            return Err(Refusal::UnknownTransaction);
+        };
+        let Some(_) = book_at(self.books.as_slice(), slot) else {
+            return Err(Refusal::NoSlot);
+        };
+        if !may_prepare(transaction, slot) {
+            return Err(Refusal::WrongState);
+        }
+        let mutations = transaction.mutations();
+        if has_conflict(self.transactions.as_slice(), slot, mutations) {
+            return Err(Refusal::Conflict);
+        }
+        Ok(mutations)
+    }
+
+    /// Notes that a transaction is prepared at the slot, and answers its prepare timestamp. A refusal leaves all as it was.
+    pub fn note_prepared(&mut self, owner: u64, txn: u64, slot: usize) -> Result<u64, Refusal>
+        ensures ok { IfOk result (λ ts. IsNoted (machine_of self.old) owner txn slot ts (machine_of self.new)) }
+        ensures why { IfErr result (λ why. IsUnnoted (machine_of self.old) owner txn slot why) }
+        ensures err { OnErr result (machine_of self.new ≡ machine_of self.old) }
+        ensures pieces { self.new.queries ≡ self.old.queries }
+    {
+        let Some((at, _)) = find_transaction(self.transactions.as_slice(), owner, txn) else {
+            return Err(Refusal::UnknownTransaction);
+        };
+        let Some(book) = book_at(self.books.as_slice(), slot) else {
+            return Err(Refusal::NoSlot);
+        };
+        let Some(timestamp) = prepare_timestamp(book) else {
+            return Err(Refusal::TimestampRange);
+        };
+        note_at(&mut self.transactions, at, Prepared { slot, timestamp })?;
+        set_last(&mut self.books, slot, timestamp);
+        Ok(timestamp)
+    }
+
+    /// Notes that a decided transaction is applied at the slot, and answers its commit timestamp, or None for an aborted one. It
+    /// takes no memory. `UnknownTransaction`, then `NoSlot`, then `WrongState`, then `TooEarly`; a refusal leaves all as it was.
+    pub fn note_applied(
+        &mut self,
+        alloc: Global,
+        owner: u64,
+        txn: u64,
+        slot: usize,
+        interval: Interval,
+    ) -> Result<Option<u64>, Refusal>
+        ensures ok { IfOk result (λ committed. IsApplied (machine_of self.old) owner txn slot interval committed (machine_of self.new)) }
+        ensures why { IfErr result (λ why. apply_step (machine_of self.old) owner txn slot interval ≡ refused (machine_of self.old) why) }
+        ensures err { OnErr result (machine_of self.new ≡ machine_of self.old) }
+        ensures pieces { self.new.queries ≡ self.old.queries }
+    {
+        let Some((at, transaction)) = find_transaction(self.transactions.as_slice(), owner, txn)
+        else {
+            return Err(Refusal::UnknownTransaction);
+        };
+        let Some(_) = book_at(self.books.as_slice(), slot) else {
+            return Err(Refusal::NoSlot);
+        };
+        let committed = judge_apply(transaction, slot, interval)?;
+        end_at(alloc, &mut self.transactions, at, slot);
+        if let Some(timestamp) = committed {
+            raise_last(&mut self.books, slot, timestamp);
+        }
+        Ok(committed)
+    }
+
+    /// Raises the floor of the slot to the latest time that it may be now, and answers it. It takes no memory. `NoSlot`.
+    pub fn advance(&mut self, slot: usize, interval: Interval) -> Result<u64, Refusal>
+        ensures step { Steps (machine_of self.old) (step_of.Advance slot interval) (replied reply_of.Floor result) (machine_of self.new) }
+        ensures pieces { self.new.queries ≡ self.old.queries }
+    {
+        let Some(book) = book_at(self.books.as_slice(), slot) else {
+            return Err(Refusal::NoSlot);
+        };
+        let floor = book.floor.max(interval.latest);
+        set_floor(&mut self.books, slot, floor);
+        Ok(floor)
+    }
+
+    /// The timestamp that a query is to read at, or why it is not opened.
+    fn judge_open(&self, text: &str, bound: Bound, interval: Interval) -> Result<u64, Refusal>
+        ensures accepted { IfOk result (λ s. (open_refusal (machine_of self.now) text.now s ≡ None) × (s ≡ timestamp_of bound interval)) }
+        ensures refused { IfErr result (λ why. open_refusal (machine_of self.now) text.now (timestamp_of bound interval) ≡ Some why) }
+        ensures few { OnOk result (self.now.next_query < 2 ^ 63) }
+    {
+        if !is_understood(text) {
+            return Err(Refusal::Syntax);
+        }
+        match choose(bound, interval) {
+            Ok(s) => {
+                if self.queries.len() >= MOST_QUERIES || self.next_query >= NUMBER_END {
+                    return Err(Refusal::QueryTableFull);
+                }
+                Ok(s)
+            }
+            Err(why) => Err(why),
+        }
+    }
+
+    /// Opens a query, and answers its number and the timestamp that it reads at. `Syntax`, then `TimestampRange`, then
+    /// `QueryTableFull`, then `OutOfMemory`; a refusal leaves all as it was.
+    pub fn open(
+        &mut self,
+        alloc: Global,
+        text: Text,
+        params: Params,
+        bound: Bound,
+        interval: Interval,
+    ) -> Result<(u64, u64), Refusal>
+        ensures step { Steps (machine_of self.old) (step_of.Open text params bound interval) (replied (λ r. reply_of.Opened r.0 r.1 1) result) (machine_of self.new) }
+        ensures pieces { OnOk result ((q : OpenQuery) × (q.covered ≡ false) × (self.new.queries ≡ self.old.queries ++ (record { query = q; rows = [] }) ∷ [])) }
+        ensures err { OnErr result (self.new.queries ≡ self.old.queries) }
+    {
+        let s = self.judge_open(text.as_str(), bound, interval)?;
+        let number = self.next_query;
+        let query = OpenQuery {
+            number,
+            text,
+            params,
+            s,
+            covered: false,
+        };
+        self.queries.push(KeptQuery::new(alloc, query))?;
+        self.next_query += 1;
+        Ok((number, s))
+    }
+
+    /// Judges a scan of the query's leaf in the slot: the timestamp to read at where a part of the leaf's range is uncovered there and
+    /// safe time has reached it, or None where nothing is uncovered. `UnknownQuery`, then `NoSlot`, then `NotYet`, after which alone
+    /// the slot's floor may have risen.
+    pub fn claim_gap(
+        &mut self,
+        query: u64,
+        leaf: usize,
+        slot: usize,
+        interval: Interval,
+    ) -> Result<Option<u64>, Refusal>
+        ensures gap { IfOk result (λ gap. IsGap (machine_of self.old) query leaf slot interval gap) }
+        ensures refused { IfErr result (λ why. scan (machine_of self.old) query leaf slot interval ≡ (reply_of.Refused why, machine_of self.new)) }
+        ensures ok { OnOk result (machine_of self.new ≡ machine_of self.old) }
+        ensures pieces { self.new.queries ≡ self.old.queries }
+    {
+        let Some((_, question)) = find_query(self.queries.as_slice(), query) else {
+            return Err(Refusal::UnknownQuery);
+        };
+        if leaf != 0 {
+            return Err(Refusal::UnknownQuery);
+        }
+        let Some(book) = book_at(self.books.as_slice(), slot) else {
+            return Err(Refusal::NoSlot);
+        };
+        if question.is_covered() {
+            return Ok(None);
+        }
+        let s = question.timestamp();
+        let floor = risen_floor(book, s, interval);
+        if is_safe_at(self.transactions.as_slice(), floor, slot, s) {
+            return Ok(Some(s));
+        }
+        set_floor(&mut self.books, slot, floor);
+        Err(Refusal::NotYet)
+    }
+
+    /// Covers the query by a piece with these rows, and raises the slot's floor to its timestamp where the clock has passed it. It
+    /// takes no memory. `UnknownQuery`, then `NoSlot`, then `Incomplete` where the query is covered; a refusal leaves all as it was.
+    pub fn register(
+        &mut self,
+        query: u64,
+        slot: usize,
+        interval: Interval,
+        rows: Seq<Row>,
+    ) -> Result<(), Refusal>
+        ensures ok { OnOk result (IsRegistered self.old query slot interval rows self.new) }
+        ensures why { OnErr result (IsUnregistered self.old query slot) }
+        ensures err { OnErr result (self.new ≡ self.old) }
+    {
+        let Some((at, question)) = find_query(self.queries.as_slice(), query) else {
+            return Err(Refusal::UnknownQuery);
+        };
+        let Some(book) = book_at(self.books.as_slice(), slot) else {
+            return Err(Refusal::NoSlot);
+        };
+        if question.is_covered() {
+            return Err(Refusal::Incomplete);
+        }
+        let floor = risen_floor(book, question.timestamp(), interval);
+        set_floor(&mut self.books, slot, floor);
+        cover_at(&mut self.queries, at, rows);
+        Ok(())
+    }
+
+    /// The timestamp that the query reads at, and the rows of its piece. `UnknownQuery`, then `Incomplete` where no piece covers it.
+    pub fn piece(&self, query: u64) -> Result<(u64, &[Row]), Refusal>
+        ensures ok { IfOk result (λ r. IsPiece self.now query r.0 r.1.now) }
+        ensures refused { IfErr result (λ why. finish (machine_of self.now) query ≡ refused (machine_of self.now) why) }
+    {
+        let Some((_, question)) = find_query(self.queries.as_slice(), query) else {
+            return Err(Refusal::UnknownQuery);
+        };
+        if !question.is_covered() {
+            return Err(Refusal::Incomplete);
+        }
+        Ok((question.timestamp(), question.rows()))
+    }
+
+    /// Closes a query. It takes no memory. `UnknownQuery`.
+    pub fn close(&mut self, query: u64) -> Result<(), Refusal>
+        ensures step { Steps (machine_of self.old) (step_of.Close query) (replied (λ _. reply_of.Closed) result) (machine_of self.new) }
+        ensures pieces { OnOk result (self.new.queries ≡ without_first (λ p. is_query query p.query) self.old.queries) }
+        ensures err { OnErr result (self.new.queries ≡ self.old.queries) }
+    {
+        let Some((at, _)) = find_query(self.queries.as_slice(), query) else {
+            return Err(Refusal::UnknownQuery);
+        };
+        let _ = self.queries.remove(at);
+        Ok(())
+    }
+}
+
+/// Whether the text is the one that is understood.
+fn is_understood(text: &str) -> bool
+    ensures { result ≡ is_understood text.now }
+{
+    text == "SELECT * FROM T"
+}

@@ -1,0 +1,11 @@
+//! The journal: transactions, the log of commits, what is known of each slot, and open queries with their pieces.
+//!
+//! Each call takes the machine's step as far as that needs no versions: `span_core` puts the journal and the shard together.
+#![tactic(auto)]
+
+pub mod journal;
+mod queries;
+pub mod query;
+mod slots;
+pub mod transaction;
+mod transactions;

@@ -1,0 +1,34 @@
+//! Finding open queries.
+ghost use Rattle.std.specs.Prelude.{◌≡◌, ◌<◌, None, length, slice_get, slice_set, position, find, IfSome, IfNone};
+ghost use Rattle.span_machine.specs.Machine.{is_query};
+ghost use Rattle.span_machine.specs.Place.{IsPlace};
+ghost use Rattle.span_journal.specs.Judged.{covered_by};
+
+use super::query::KeptQuery;
+use span_value::seq::Seq;
+use span_value::value::Row;
+
+fn place_of_query(queries: &[KeptQuery], number: u64) -> Option<usize>
+    ensures { result ≡ position (λ p. is_query number p.query) queries.now }
+{
+    queries.iter().position(|q| q.number() == number)
+}
+
+/// The query of this number, and its place.
+pub fn find_query(queries: &[KeptQuery], number: u64) -> Option<(usize, &KeptQuery)>
+    ensures none { IfNone result (find (λ p. is_query number p.query) queries.now ≡ None) }
+    ensures some { IfSome result (λ r. IsPlace (λ p. is_query number p.query) queries.now r.0 r.1.now) }
+{
+    match place_of_query(queries, number) {
+        Some(at) => Some((at, &queries[at])),
+        None => None,
+    }
+}
+
+/// Covers the query at a place by a piece with these rows.
+pub fn cover_at(queries: &mut Vec<KeptQuery>, at: usize, rows: Seq<Row>)
+    requires { at < length queries.old.items }
+    ensures { IfSome (slice_get queries.old.items at) (λ p. queries.new.items ≡ slice_set queries.old.items at (covered_by rows p)) }
+{
+    queries[at].cover(rows);
+}

@@ -1,0 +1,190 @@
+//! What is known of the slots, and the timestamps that they allow.
+ghost use Rattle.std.specs.Prelude.{◌≡◌, ◌<◌, ◌≤◌, ◌+◌, ◌^◌, ◌==◌, ◌&&◌, ◌||◌, not, false, max, length, nat_le, nat_lt, slice_get, slice_set, IfSome, IfNone};
+ghost use Rattle.std.specs.List.{list_any, list_all};
+ghost use Rattle.std.specs.Option.{option_copied};
+ghost use Rattle.span_machine.specs.Machine.{greatest, holds, if_some, coordinator, coordinator_of, with_last, prepare_timestamp, risen};
+
+use super::transaction::KeptTransaction;
+use span_machine::slot::Book;
+use span_machine::transaction::Prepared;
+use span_shard::mutation::CheckedMutation;
+use span_truetime::interval::{Interval, TIMESTAMP_END};
+
+/// The greatest prepare timestamp.
+pub fn greatest_timestamp(prepared: &[Prepared]) -> u64
+    ensures { result ≡ greatest prepared.now }
+{
+    let mut most = 0;
+    for p in prepared {
+        most = p.timestamp.max(most);
+    }
+    most
+}
+
+/// Whether the slot's range has the key.
+pub fn holds_key(book: &Book, _key: i64) -> bool
+    ensures { result ≡ holds book.now _key }
+{
+    true
+}
+
+/// Whether the slot is used and its range has the key.
+fn slot_holds(books: &[Book], slot: usize, key: i64) -> bool
+    ensures { result ≡ if_some (slice_get books.now slot) false (λ book. holds book key) }
+{
+    match books.get(slot) {
+        Some(book) => holds_key(book, key),
+        None => false,
+    }
+}
+
+/// Whether the transaction is prepared where this key is.
+fn is_ready_for(books: &[Book], prepared: &[Prepared], key: i64) -> bool
+    ensures { result ≡ list_any (λ p. if_some (slice_get books.now p.slot) false (λ book. holds book key)) prepared.now }
+{
+    prepared.iter().any(|p| slot_holds(books, p.slot, key))
+}
+
+fn are_all_ready(books: &[Book], prepared: &[Prepared], mutations: &[CheckedMutation]) -> bool
+    ensures { result ≡ list_all (λ m. list_any (λ p. if_some (slice_get books.now p.slot) false (λ book. holds book m.key)) prepared.now) mutations.now }
+{
+    mutations
+        .iter()
+        .all(|m| is_ready_for(books, prepared, m.key))
+}
+
+/// Whether every mutation is of a slot where the transaction is prepared.
+pub fn is_ready(books: &[Book], transaction: &KeptTransaction) -> bool
+    ensures { result ≡ (not (length transaction.now.prepared == 0) && list_all (λ m. list_any (λ p. if_some (slice_get books.now p.slot) false (λ book. holds book m.key)) transaction.now.prepared) transaction.now.mutations) }
+{
+    if transaction.prepared().len() == 0 {
+        return false;
+    }
+    are_all_ready(books, transaction.prepared(), transaction.mutations())
+}
+
+/// The lowest of the slots.
+pub fn lowest_slot(slot: usize, prepared: &[Prepared]) -> usize
+    ensures { result ≡ coordinator slot prepared.now }
+{
+    let mut least = slot;
+    for p in prepared {
+        if p.slot < least {
+            least = p.slot;
+        }
+    }
+    least
+}
+
+/// The coordinator, the lowest slot of all.
+pub fn coordinator_slot(prepared: &[Prepared]) -> usize
+    ensures { result ≡ coordinator_of prepared.now }
+{
+    match prepared {
+        [] => 0,
+        [first, rest @ ..] => lowest_slot(first.slot, rest),
+    }
+}
+
+/// The last timestamp of the slot, if it is used.
+pub fn last_timestamp(books: &[Book], slot: usize) -> u64
+    ensures { result ≡ if_some (slice_get books.now slot) 0 (λ book. book.last) }
+{
+    match books.get(slot) {
+        Some(book) => book.last,
+        None => 0,
+    }
+}
+
+/// The commit timestamp, if there is one left.
+pub fn decision(books: &[Book], prepared: &[Prepared], latest: u64) -> Option<u64>
+    ensures some { IfSome result (λ ts. (ts ≡ max (greatest prepared.now) (max (latest + 1) (if_some (slice_get books.now (coordinator_of prepared.now)) 0 (λ book. book.last) + 1))) × (ts < 2 ^ 62)) }
+    ensures none { IfNone result (2 ^ 62 ≤ max (greatest prepared.now) (max (latest + 1) (if_some (slice_get books.now (coordinator_of prepared.now)) 0 (λ book. book.last) + 1))) }
+{
+    let last = last_timestamp(books, coordinator_slot(prepared));
+    let greatest = greatest_timestamp(prepared);
+    if latest >= (1 << 62) - 1 || last >= (1 << 62) - 1 || greatest >= 1 << 62 {
+        return None;
+    }
+    Some(greatest.max((latest + 1).max(last + 1)))
+}
+
+/// Raises the last timestamp of the slot.
+pub fn raise_last(books: &mut Vec<Book>, slot: usize, timestamp: u64)
+    ensures { books.new.items ≡ with_last books.old.items slot timestamp }
+{
+    if slot < books.len() {
+        let last = books[slot].last.max(timestamp);
+        books[slot].last = last;
+    }
+}
+
+/// Whether s is at most the safe time of the slot.
+pub fn is_safe_at(transactions: &[KeptTransaction], floor: u64, slot: usize, s: u64) -> bool
+    ensures { result ≡ (nat_le s floor && list_all (λ t. list_all (λ p. not (p.slot == slot) || nat_lt s p.timestamp) t.prepared) transactions.now) }
+{
+    if s > floor {
+        return false;
+    }
+    are_all_above(transactions, slot, s)
+}
+
+fn are_all_above(transactions: &[KeptTransaction], slot: usize, s: u64) -> bool
+    ensures { result ≡ list_all (λ t. list_all (λ p. not (p.slot == slot) || nat_lt s p.timestamp) t.prepared) transactions.now }
+{
+    transactions
+        .iter()
+        .all(|t| are_above(t.prepared(), slot, s))
+}
+
+fn are_above(prepared: &[Prepared], slot: usize, s: u64) -> bool
+    ensures { result ≡ list_all (λ p. not (p.slot == slot) || nat_lt s p.timestamp) prepared.now }
+{
+    prepared.iter().all(|p| p.slot != slot || s < p.timestamp)
+}
+
+/// The next prepare timestamp of the slot, if there is one left.
+pub fn prepare_timestamp(book: &Book) -> Option<u64>
+    ensures some { IfSome result (λ ts. (ts ≡ prepare_timestamp book.now) × (ts < 2 ^ 62)) }
+    ensures none { IfNone result (2 ^ 62 ≤ prepare_timestamp book.now) }
+{
+    let last = book.last.max(book.floor);
+    if last >= TIMESTAMP_END - 1 {
+        return None;
+    }
+    Some(last + 1)
+}
+
+/// Sets the last timestamp of the slot.
+pub fn set_last(books: &mut Vec<Book>, slot: usize, timestamp: u64)
+    requires { slot < length books.old.items }
+    ensures { IfSome (slice_get books.old.items slot) (λ book. books.new.items ≡ slice_set books.old.items slot (record book { last = timestamp })) }
+{
+    books[slot].last = timestamp;
+}
+
+/// Sets the floor of the slot.
+pub fn set_floor(books: &mut Vec<Book>, slot: usize, floor: u64)
+    requires { slot < length books.old.items }
+    ensures { IfSome (slice_get books.old.items slot) (λ book. books.new.items ≡ slice_set books.old.items slot (record book { floor = floor })) }
+{
+    books[slot].floor = floor;
+}
+
+/// What is known of the slot, if it is in use.
+pub fn book_at(books: &[Book], slot: usize) -> Option<&Book>
+    ensures { option_copied result ≡ slice_get books.now slot }
+{
+    books.get(slot)
+}
+
+/// The floor of the slot once it has risen to s, which it does where the clock has passed s.
+pub fn risen_floor(book: &Book, s: u64, interval: Interval) -> u64
+    ensures { record book.now { floor = result } ≡ risen book.now s interval }
+{
+    if book.floor < s && s <= interval.latest {
+        s
+    } else {
+        book.floor
+    }
+}

@@ -1,0 +1,224 @@
+//! Finding open transactions, and what they share.
+ghost use Rattle.std.specs.Prelude.{◌≡◌, ◌<◌, ◌+◌, ◌≤◌, ◌&&◌, ◌||◌, ◌==◌, not, true, length, position, None, Some, IfOk, IfErr, remove, OnOk, OnErr, if◌then◌else◌, count_by, find, slice_get, slice_set, IfSome, IfNone, MatchResult};
+ghost use Rattle.std.specs.List.{list_any};
+ghost use Rattle.span_shard.specs.Database.{is_at};
+ghost use Rattle.span_machine.specs.Machine.{is_undecided, is_transaction, is_prepared_at, with_outcome, commit_of, add_prepared, without_prepared, have_common_key, apply_refusal};
+ghost use Rattle.span_machine.specs.Place.{IsPlace};
+ghost use Rattle.span_journal.specs.Judged.{outcome_of};
+
+use super::transaction::KeptTransaction;
+use span_machine::transaction::{Commit, Outcome, Prepared};
+use span_shard::mutation::CheckedMutation;
+use span_truetime::interval::Interval;
+use span_value::refusal::Refusal;
+use span_value::seq::Seq;
+use std::alloc::{AllocError, Global};
+
+/// How many transactions are undecided.
+pub fn count_undecided(transactions: &[KeptTransaction]) -> usize
+    ensures { result ≡ count_by is_undecided transactions.now }
+{
+    transactions.iter().filter(|t| t.is_undecided()).count()
+}
+
+fn place_of_transaction(transactions: &[KeptTransaction], owner: u64, number: u64) -> Option<usize>
+    ensures { result ≡ position (is_transaction owner number) transactions.now }
+{
+    transactions
+        .iter()
+        .position(|t| t.owner() == owner && t.number() == number)
+}
+
+/// The transaction of this owner and number, and its place.
+pub fn find_transaction(
+    transactions: &[KeptTransaction],
+    owner: u64,
+    number: u64,
+) -> Option<(usize, &KeptTransaction)>
+    ensures none { IfNone result (find (is_transaction owner number) transactions.now ≡ None) }
+    ensures some { IfSome result (λ r. IsPlace (is_transaction owner number) transactions.now r.0 r.1.now) }
+{
+    match place_of_transaction(transactions, owner, number) {
+        Some(at) => Some((at, &transactions[at])),
+        None => None,
+    }
+}
+
+/// Whether the transaction is prepared at the slot.
+pub fn is_prepared(transaction: &KeptTransaction, slot: usize) -> bool
+    ensures { result ≡ is_prepared_at slot transaction.now }
+{
+    transaction.prepared().iter().any(|p| p.slot == slot)
+}
+
+/// Commits the transaction at a place.
+pub fn commit_at(
+    alloc: Global,
+    transactions: &mut Vec<KeptTransaction>,
+    at: usize,
+    timestamp: u64,
+) -> Commit
+    requires within { at < length transactions.old.items }
+    requires open { IfSome (slice_get transactions.old.items at) (λ t. is_undecided t ≡ true) }
+    ensures commit { IfSome (slice_get transactions.old.items at) (λ t. result ≡ commit_of timestamp t) }
+    ensures after { IfSome (slice_get transactions.old.items at) (λ t. transactions.new.items ≡ slice_set transactions.old.items at (with_outcome (Outcome.Committed timestamp) t)) }
+    ensures fewer { count_by is_undecided transactions.new.items + 1 ≡ count_by is_undecided transactions.old.items }
+{
+    transactions[at].commit(alloc, timestamp)
+}
+
+/// Copies of mutations.
+pub fn copies_of(
+    alloc: Global,
+    mutations: &[CheckedMutation],
+) -> Result<Seq<CheckedMutation>, Refusal>
+    ensures { MatchResult result (λ copies. copies ≡ mutations.now) (λ why. why ≡ Refusal.OutOfMemory) }
+{
+    let mut copies = Seq::new(alloc);
+    for mutation in mutations {
+        copies.push(mutation.copy(alloc)?)?;
+    }
+    Ok(copies)
+}
+
+/// Whether a transaction that is prepared at the slot has a key of these.
+pub fn has_conflict(
+    transactions: &[KeptTransaction],
+    slot: usize,
+    mutations: &[CheckedMutation],
+) -> bool
+    ensures { result ≡ list_any (λ t. is_prepared_at slot t && have_common_key mutations.now t.mutations) transactions.now }
+{
+    transactions
+        .iter()
+        .any(|t| is_in_conflict(t, slot, mutations))
+}
+
+fn is_in_conflict(transaction: &KeptTransaction, slot: usize, mutations: &[CheckedMutation]) -> bool
+    ensures { result ≡ (is_prepared_at slot transaction.now && have_common_key mutations.now transaction.now.mutations) }
+{
+    if !is_prepared(transaction, slot) {
+        return false;
+    }
+    share_key(mutations, transaction.mutations())
+}
+
+/// Whether a key is in both lists.
+pub fn share_key(left: &[CheckedMutation], right: &[CheckedMutation]) -> bool
+    ensures { result ≡ have_common_key left.now right.now }
+{
+    left.iter().any(|m| has_key(right, m.key))
+}
+
+fn has_key(mutations: &[CheckedMutation], key: i64) -> bool
+    ensures { result ≡ list_any (is_at key) mutations.now }
+{
+    mutations.iter().any(|m| m.key == key)
+}
+
+/// Aborts the transaction at a place.
+pub fn abort_at(transactions: &mut Vec<KeptTransaction>, at: usize)
+    requires { at < length transactions.old.items }
+    ensures after { IfSome (slice_get transactions.old.items at) (λ t. transactions.new.items ≡ slice_set transactions.old.items at (with_outcome Outcome.Aborted t)) }
+    ensures fewer { count_by is_undecided transactions.new.items ≤ count_by is_undecided transactions.old.items }
+{
+    transactions[at].abort();
+}
+
+/// Notes that the transaction at a place is prepared at the slot no more.
+fn leave_at(alloc: Global, transactions: &mut Vec<KeptTransaction>, at: usize, slot: usize)
+    requires { at < length transactions.old.items }
+    ensures after { IfSome (slice_get transactions.old.items at) (λ t. transactions.new.items ≡ slice_set transactions.old.items at (without_prepared slot t)) }
+    ensures fewer { count_by is_undecided transactions.new.items ≤ count_by is_undecided transactions.old.items }
+{
+    transactions[at].leave(alloc, slot);
+}
+
+/// Ends what the transaction at a place has at the slot: it is prepared there no more, and leaves once it is prepared nowhere.
+pub fn end_at(alloc: Global, transactions: &mut Vec<KeptTransaction>, at: usize, slot: usize)
+    requires { at < length transactions.old.items }
+    ensures after { IfSome (slice_get transactions.old.items at) (λ t. transactions.new.items ≡
+        (if length (without_prepared slot t).prepared == 0 then remove transactions.old.items at else slice_set transactions.old.items at (without_prepared slot t))) }
+    ensures fewer { count_by is_undecided transactions.new.items ≤ count_by is_undecided transactions.old.items }
+{
+    if is_prepared_elsewhere(&transactions[at], slot) {
+        leave_at(alloc, transactions, at, slot);
+    } else {
+        remove_at(transactions, at);
+    }
+}
+
+/// Notes where the transaction at a place is prepared. An error leaves all as it was.
+pub fn note_at(
+    transactions: &mut Vec<KeptTransaction>,
+    at: usize,
+    prepared: Prepared,
+) -> Result<(), AllocError>
+    requires { at < length transactions.old.items }
+    ensures ok { OnOk result (IfSome (slice_get transactions.old.items at) (λ t. transactions.new.items ≡ slice_set transactions.old.items at (add_prepared prepared.slot prepared.timestamp t))) }
+    ensures err { OnErr result (transactions.new.items ≡ transactions.old.items) }
+    ensures fewer { count_by is_undecided transactions.new.items ≤ count_by is_undecided transactions.old.items }
+{
+    transactions[at].add_prepared(prepared)
+}
+
+/// Takes the transaction at a place away.
+pub fn remove_at(transactions: &mut Vec<KeptTransaction>, at: usize)
+    requires { at < length transactions.old.items }
+    ensures after { transactions.new.items ≡ remove transactions.old.items at }
+    ensures fewer { count_by is_undecided transactions.new.items ≤ count_by is_undecided transactions.old.items }
+{
+    let _ = transactions.remove(at);
+}
+
+/// Whether the transaction is in a state to be prepared at the slot, where all of its keys lie.
+pub fn may_prepare(transaction: &KeptTransaction, slot: usize) -> bool
+    ensures { result ≡ not (not (is_undecided transaction.now) || is_prepared_at slot transaction.now || (length transaction.now.mutations == 0)) }
+{
+    if !transaction.is_undecided() {
+        return false;
+    }
+    if is_prepared(transaction, slot) {
+        return false;
+    }
+    !transaction.mutations().is_empty()
+}
+
+/// Whether the transaction is prepared at another slot.
+fn is_prepared_elsewhere(transaction: &KeptTransaction, slot: usize) -> bool
+    ensures { result ≡ not (length (without_prepared slot transaction.now).prepared == 0) }
+{
+    is_elsewhere(transaction.prepared(), slot)
+}
+
+/// The commit timestamp of a transaction that may be applied at the slot, or None for an aborted one, or why it may not.
+pub fn judge_apply(
+    transaction: &KeptTransaction,
+    slot: usize,
+    interval: Interval,
+) -> Result<Option<u64>, Refusal>
+    ensures accepted { IfOk result (λ committed. (apply_refusal slot transaction.now interval ≡ None) × (transaction.now.outcome ≡ outcome_of committed)) }
+    ensures refused { IfErr result (λ why. apply_refusal slot transaction.now interval ≡ Some why) }
+{
+    if transaction.is_undecided() {
+        return Err(Refusal::WrongState);
+    }
+    if !is_prepared(transaction, slot) {
+        return Err(Refusal::WrongState);
+    }
+    match transaction.outcome() {
+        Outcome::Committed(timestamp) => {
+            if !interval.after(timestamp) {
+                return Err(Refusal::TooEarly);
+            }
+            Ok(Some(timestamp))
+        }
+        _ => Ok(None),
+    }
+}
+
+fn is_elsewhere(prepared: &[Prepared], slot: usize) -> bool
+    ensures { result ≡ list_any (λ p. not (p.slot == slot)) prepared.now }
+{
+    prepared.iter().any(|p| p.slot != slot)
+}
