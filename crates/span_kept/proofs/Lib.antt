@@ -1,3 +1,4 @@
 pub mod Keys
 pub mod Claimers
 pub mod Steps
+pub mod Rows
