@@ -2,3 +2,5 @@ pub mod Keys
 pub mod Claimers
 pub mod Steps
 pub mod Rows
+pub mod Preparing
+pub mod Applying
