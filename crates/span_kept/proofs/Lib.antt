@@ -4,3 +4,5 @@ pub mod Steps
 pub mod Rows
 pub mod Preparing
 pub mod Applying
+pub mod Snapshots
+pub mod Covers

@@ -1,4 +1,4 @@
-use Rattle.std.proofs.Common.{◌≡◌, ℕ, ℤ, nat_le, List, [], ◌∷◌, ◌++◌, Option, Some, None, Ok}
+use Rattle.std.proofs.Common.{◌≡◌, ℕ, ℤ, true, nat_le, List, [], ◌∷◌, ◌++◌, Option, Some, None, Ok}
 use Rattle.std.specs.Prelude.{filter}
 use Rattle.std.specs.List.{AllByRecursion}
 use Rattle.std.specs.Ordering.{int_cmp}
@@ -7,7 +7,7 @@ use Rattle.span_value.specs.declared.value.Value.{Value}
 use Rattle.span_shard.specs.declared.chain.Version.{Version}
 use Rattle.span_shard.specs.declared.chain.PreparedWrite.{PreparedWrite}
 use Rattle.span_shard.specs.declared.mutation.CheckedMutation.{CheckedMutation}
-use Rattle.span_shard.specs.Database.{is_at, row_through}
+use Rattle.span_shard.specs.Database.{Database, is_at, row_through, rows_of}
 use Rattle.span_shard.specs.KeyVersions.{KeyVersions}
 use Rattle.span_shard.specs.Versions.{row_at}
 use Rattle.span_shard.specs.Shard.{versions_at, prepared_at, end_of_time, IsInUse}
@@ -16,7 +16,9 @@ use Rattle.span_machine.specs.declared.transaction.Commit.{Commit}
 use Rattle.span_machine.specs.declared.transaction.OpenTransaction.{OpenTransaction}
 use Rattle.span_machine.specs.declared.transaction.Outcome.{Outcome}
 use Rattle.span_machine.specs.declared.transaction.Outcome.TheVariants as outcome
+use Rattle.span_machine.specs.Tables.{tables}
 use Rattle.span_machine.specs.Machine.{Machine, commit_of}
+use Rattle.span_machine.specs.Pieces.{Pieced}
 use Rattle.span_laws.proofs.Stability.{changes_at}
 use Rattle.span_laws.proofs.InPlace.{commits_at, claims}
 
@@ -66,3 +68,10 @@ pub record AreKept (m : Machine) (cs : List KeyVersions) : Type 0 where
   pub keys : HaveRisingKeys cs
   pub used : AllByRecursion IsInUse cs
   pub kept : (key : ℤ) → IsKeptBy key (commits_at key m.log) (versions_at cs key) (prepared_at cs key) (filter (claims key 0) m.transactions)
+
+-- a piece that covers its query has the rows of the tables
+abbrev pub IsPieced : List Commit → Pieced → Type 0
+IsPieced log p = p.query.covered ≡ true → (db : Database) × (tables log p.query.s ≡ Ok db) × (p.rows ≡ rows_of db)
+
+abbrev pub ArePieced : Machine → List Pieced → Type 0
+ArePieced m ps = AllByRecursion (IsPieced m.log) ps
