@@ -1,24 +1,19 @@
-use Rattle.std.proofs.Common.{◌≡◌, ◌≢◌, ℕ, ℤ, Bool, true, false, cond, not, ◌&&◌, ◌==◌, List, [], ◌∷◌, ◌++◌, length, Option, Some, None, Ok, refl, ap, sym, ◌∙◌, subst}
+use Rattle.std.proofs.Common.{◌≡◌, ◌≢◌, ℕ, ℤ, true, false, cond, ◌==◌, List, [], ◌∷◌, ◌++◌, length, Option, Some, None, Ok, refl, ap, sym, ◌∙◌, subst}
 use Rattle.std.specs.Prelude.{find, filter, map}
-use Rattle.std.specs.List.{AllByRecursion, list_any}
 use Rattle.span_value.specs.declared.value.Value.{Value}
-use Rattle.span_truetime.specs.declared.interval.Interval.{Interval}
 use Rattle.span_truetime.specs.Time.{timestamp_end}
 use Rattle.span_shard.specs.declared.chain.PreparedWrite.{PreparedWrite}
 use Rattle.span_shard.specs.declared.chain.Version.{Version}
-use Rattle.span_shard.specs.declared.mutation.CheckedMutation.{CheckedMutation}
 use Rattle.span_shard.specs.Database.{is_at, row_through}
 use Rattle.span_shard.specs.KeyVersions.{KeyVersions}
-use Rattle.span_shard.specs.Versions.{row_at, with_version, is_used, applied_to_key}
+use Rattle.span_shard.specs.Versions.{row_at, with_version, applied_to_key}
 use Rattle.span_shard.specs.Shard.{versions_at, prepared_at, end_of_time, IsNotOf}
 use Rattle.span_shard.specs.Shard as shard
 use Rattle.span_shard.proofs.Undo.{IsOpenFor, used_filtered}
 use Rattle.span_machine.specs.declared.transaction.Commit.{Commit}
 use Rattle.span_machine.specs.declared.transaction.OpenTransaction.{OpenTransaction}
-use Rattle.span_machine.specs.declared.transaction.Outcome.{Outcome}
 use Rattle.span_machine.specs.declared.transaction.Outcome.TheVariants as outcome
-use Rattle.span_machine.specs.Machine.{Machine, is_transaction, is_undecided, is_prepared_at, is_early, apply_refusal, without_prepared, without_first, changed_first, applied, applied_at, commit_of}
-use Rattle.span_laws.proofs.Causes.{may_apply}
+use Rattle.span_machine.specs.Machine.{Machine, is_transaction, is_prepared_at, without_prepared, without_first, changed_first, applied, applied_at, commit_of}
 use Rattle.span_laws.proofs.Tests.{second_true, number_same, equal_number}
 use Rattle.span_laws.proofs.Lists.{found_passes}
 use Rattle.span_laws.proofs.Stability.{is_some_of, touches}

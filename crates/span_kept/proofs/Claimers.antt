@@ -1,5 +1,5 @@
-use Rattle.std.proofs.Common.{◌≡◌, ℕ, ℤ, zero, suc, Bool, true, false, cond, ◌&&◌, List, [], ◌∷◌, ◌++◌, length, Some, None, refl, ap, sym, ◌∙◌, subst, arith}
-use Rattle.std.specs.Prelude.{slice_get, find, filter}
+use Rattle.std.proofs.Common.{◌≡◌, ℕ, ℤ, Bool, true, false, cond, ◌&&◌, List, [], ◌∷◌, ◌++◌, length, Some, refl, ap, sym, ◌∙◌, subst, arith}
+use Rattle.std.specs.Prelude.{pos, slice_get, find, filter}
 use Rattle.std.proofs.lemmas.List.Elements.{filter-append}
 use Rattle.span_machine.specs.declared.slot.Book.{Book}
 use Rattle.span_machine.specs.declared.transaction.OpenTransaction.{OpenTransaction}
@@ -24,6 +24,10 @@ first_of_one (b ∷ bs) e = (b, refl)
 -- a reached machine has the book of slot 0
 pub first_book : (m : Machine) → IsReached m → (b : Book) × (slice_get m.books 0 ≡ Some b)
 first_book m reached = first_of_one m.books reached.sound.one_slot
+
+-- slot 0 is the only one
+pub only_slot : (m : Machine) → IsReached m → (slot : ℕ) (book : Book) → slice_get m.books slot ≡ Some book → slot ≡ 0
+only_slot m reached slot book here = (reached.placed (pos 0)).only slot book here refl
 
 -- at most one transaction claims a key
 pub claim_here : (m : Machine) → IsReached m → (key : ℤ) → (n : ℕ) × IsClaim key n (commits_at key m.log) (filter (claims key 0) m.transactions)

@@ -1,22 +1,26 @@
-use Rattle.std.proofs.Common.{◌≡◌, ℕ, ℤ, suc, Bool, true, false, cond, List, [], ◌∷◌, ◌++◌, length, Option, Some, None, Ok, refl, ap, sym, ◌∙◌, subst}
+use Rattle.std.proofs.Common.{◌≡◌, ℕ, suc, Bool, true, false, cond, List, [], ◌∷◌, ◌++◌, length, Some, None, Ok, refl, ap, sym, ◌∙◌, subst}
 use Rattle.std.specs.Prelude.{find, option_map}
 use Rattle.std.specs.List.{AllByRecursion}
 use Rattle.std.specs.FinMap as finmap
 use Rattle.span_value.specs.declared.value.Value.{Value}
 use Rattle.span_shard.specs.Database.{Database, rows_of}
+use Rattle.span_shard.specs.KeyVersions.{KeyVersions}
+use Rattle.span_shard.specs.Shard.{snapshot}
 use Rattle.span_machine.specs.declared.query.OpenQuery.{OpenQuery}
+use Rattle.span_machine.specs.declared.slot.Book.{Book}
 use Rattle.span_machine.specs.declared.step.Step.{Step}
 use Rattle.span_machine.specs.declared.step.Step.TheVariants.{Finish}
 use Rattle.span_machine.specs.declared.step.Reply.TheVariants.{Rows}
 use Rattle.span_machine.specs.Tables.{tables, upto, mutations_of}
-use Rattle.span_machine.specs.Machine.{Machine, answer, is_query, cover, changed_first, without_first}
+use Rattle.span_machine.specs.Machine.{Machine, answer, is_query, is_safe, cover, changed_first, without_first}
 use Rattle.span_machine.specs.Pieces.{Pieced, queries_of}
 use Rattle.span_laws.proofs.Lists.{all_push, all_without, all_changed_found, all_found}
 use Rattle.span_laws.proofs.Locality.{apply_alike, ok_same}
 use Rattle.span_laws.proofs.Sealed.{answer_keeps}
 use Rattle.span_laws.proofs.Sound.{IsCoveredSealed}
-use Rattle.span_laws.proofs.Reached.{IsReached, reached_finish}
-use Rattle.span_kept.specs.Kept.{IsPieced, ArePieced}
+use Rattle.span_laws.proofs.Reached.{IsReached, reached_tables, reached_finish}
+use Rattle.span_kept.specs.Kept.{AreKept, IsPieced, ArePieced}
+use Rattle.span_kept.proofs.Snapshots.{snapshot_when_safe}
 
 -- ---- the queries of pieces
 
@@ -82,6 +86,13 @@ pieced_covered m ps test p rows db found made right pieced = all_changed_found (
 
 pub pieced_without : (m : Machine) (ps : List Pieced) (test : Pieced → Bool) → ArePieced m ps → ArePieced m (without_first test ps)
 pieced_without m ps test pieced = all_without (IsPieced m.log) test ps pieced
+
+-- a scan that finds the slot safe covers the found query with what it sees
+pub pieced_scanned : (m : Machine) (cs : List KeyVersions) (ps : List Pieced) → IsReached m → AreKept m cs → ArePieced m ps → (query : ℕ) (p : Pieced) (book : Book) → find (λ x. is_query query x.query) ps ≡ Some p
+  → is_safe m 0 book p.query.s ≡ true → ArePieced m (changed_first (λ x. is_query query x.query) (covered_with (snapshot (record { low = None; high = None }) p.query.s cs)) ps)
+pieced_scanned m cs ps reached kept pieced query p book found safe =
+    let made = reached_tables m p.query.s reached in
+    pieced_covered m ps (λ x. is_query query x.query) p (snapshot (record { low = None; high = None }) p.query.s cs) made.0 found made.1 (snapshot_when_safe m cs p.query.s book reached kept safe made.0 made.1) pieced
 
 -- ---- steps
 

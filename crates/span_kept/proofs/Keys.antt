@@ -1,5 +1,5 @@
-use Rattle.std.proofs.Common.{◌≡◌, ◌≢◌, ℕ, ℤ, Bool, true, false, cond, ◌==◌, List, [], ◌∷◌, Option, Some, None, refl, ap, sym, ◌∙◌, subst}
-use Rattle.std.specs.Prelude.{filter, find, map, option_map}
+use Rattle.std.proofs.Common.{◌≡◌, ℕ, ℤ, true, false, cond, ◌==◌, List, [], ◌∷◌, Option, Some, None, refl, ap, sym, ◌∙◌, subst}
+use Rattle.std.specs.Prelude.{find, option_map}
 use Rattle.std.specs.List.{AllByRecursion}
 use Rattle.std.specs.Ordering.{int_cmp, eq_by_cmp, is_eq, ordering_reverse}
 use Rattle.std.specs.declared.cmp.Ordering.{Ordering}
@@ -11,10 +11,10 @@ use Rattle.span_shard.specs.declared.chain.Version.{Version}
 use Rattle.span_shard.specs.declared.chain.PreparedWrite.{PreparedWrite}
 use Rattle.span_shard.specs.declared.write.Write.{Write}
 use Rattle.span_shard.specs.KeyVersions.{KeyVersions}
-use Rattle.span_shard.specs.Versions.{is_empty, is_used, with_prepared, with_version, applied_write, applied_to_key}
+use Rattle.span_shard.specs.Versions.{is_used, with_prepared, with_version, applied_write, applied_to_key}
 use Rattle.span_shard.specs.Writes.{is_of}
 use Rattle.span_shard.specs.Shard.{is_key, versions_of, prepared_of, versions_at, prepared_at, by_order, with_write, with_writes, fresh, prepared_write, applied}
-use Rattle.span_laws.proofs.Lists.{all_found, all_weaker, all_filtered}
+use Rattle.span_laws.proofs.Lists.{all_found, all_weaker}
 use Rattle.span_kept.specs.Kept.{HaveRisingKeys}
 
 -- ---- orders of keys

@@ -1,27 +1,23 @@
-use Rattle.std.proofs.Common.{◌≡◌, ◌≢◌, ℕ, ℤ, ◌-◌, Bool, true, false, cond, not, ◌&&◌, ◌||◌, ◌==◌, List, [], ◌∷◌, ◌++◌, length, Option, Some, None, Ok, Err, refl, ap, sym, ◌∙◌, subst}
+use Rattle.std.proofs.Common.{◌≡◌, ℕ, ℤ, ◌-◌, true, false, cond, ◌&&◌, ◌||◌, ◌==◌, List, [], ◌∷◌, ◌++◌, length, Option, Some, None, Ok, Err, refl, ap, sym, ◌∙◌, subst}
 use Rattle.std.specs.Prelude.{slice_get, find, filter}
-use Rattle.std.specs.List.{AllByRecursion, list_any}
+use Rattle.std.specs.List.{list_any}
 use Rattle.std.specs.FinMap as finmap
 use Rattle.span_value.specs.declared.refusal.Refusal.{Refusal}
 use Rattle.span_value.specs.declared.refusal.Refusal.TheVariants.{Exists}
 use Rattle.span_value.specs.declared.value.Value.{Value}
 use Rattle.span_truetime.specs.Time.{timestamp_end}
 use Rattle.span_shard.specs.declared.chain.PreparedWrite.{PreparedWrite}
-use Rattle.span_shard.specs.declared.chain.Version.{Version}
 use Rattle.span_shard.specs.declared.mutation.CheckedMutation.{CheckedMutation}
 use Rattle.span_shard.specs.declared.mutation.MutationKind.{MutationKind}
 use Rattle.span_shard.specs.declared.mutation.MutationKind.TheVariants.{Insert, Delete}
 use Rattle.span_shard.specs.declared.write.Write.{Write}
 use Rattle.span_shard.specs.Database.{Database, and_then, row_by, row_after, with_row, apply, is_at, row_through}
 use Rattle.span_shard.specs.KeyVersions.{KeyVersions}
-use Rattle.span_shard.specs.Versions.{row_at}
 use Rattle.span_shard.specs.Writes.{IsWrite, IsWritten, is_of, AreWrites}
-use Rattle.span_shard.specs.Shard.{versions_at, prepared_at, prepared_of, row_now, end_of_time, with_writes, prepared_write, IsNotOf, HasNoneOf, IsFree}
+use Rattle.span_shard.specs.Shard.{versions_at, prepared_at, prepared_of, row_now, with_writes, IsNotOf, HasNoneOf, IsFree}
 use Rattle.span_shard.proofs.Undo.{used_with_writes}
 use Rattle.span_machine.specs.declared.slot.Book.{Book}
-use Rattle.span_machine.specs.declared.transaction.Commit.{Commit}
 use Rattle.span_machine.specs.declared.transaction.OpenTransaction.{OpenTransaction}
-use Rattle.span_machine.specs.declared.transaction.Outcome.TheVariants as outcome
 use Rattle.span_machine.specs.declared.transaction.Prepared.{Prepared}
 use Rattle.span_machine.specs.Tables.{tables}
 use Rattle.span_machine.specs.Machine.{Machine, is_transaction, is_undecided, is_prepared_at, mutations_in, conflicts, prepare_refusal, prepare_timestamp, prepared, add_prepared, changed_first, faults, fault_of}

@@ -1,7 +1,7 @@
 use Rattle.std.proofs.Common.{◌≡◌, ℕ, ℤ, ◌<◌, ◌≤◌, Bool, true, false, cond, not, ◌&&◌, ◌||◌, ◌==◌, nat_lt, nat_le, List, [], ◌∷◌, ◌++◌, Option, Some, None, Ok, refl, ap, sym, ◌∙◌, subst, arith}
 use Rattle.std.specs.Prelude.{T, pos, slice_get, find, filter, map, option_map}
 use Rattle.std.specs.List.{AllByRecursion, list_any, list_all, filter_map, cons_option}
-use Rattle.std.specs.Ordering.{int_cmp, eq_by_cmp, is_lt}
+use Rattle.std.specs.Ordering.{int_cmp, is_lt}
 use Rattle.std.specs.Cmp.{int_cmp_total}
 use Rattle.std.specs.FinMap as finmap
 use Rattle.std.specs.FinMap.{same_map, int_cmp-IsAntisymmetric, get-from_sorted, entries-from_sorted}
@@ -17,7 +17,6 @@ use Rattle.span_shard.specs.Ranges.{contains}
 use Rattle.span_shard.specs.Versions.{row_at}
 use Rattle.span_shard.specs.Shard.{is_key, versions_of, versions_at, prepared_at, seen_at, snapshot}
 use Rattle.span_machine.specs.declared.slot.Book.{Book}
-use Rattle.span_machine.specs.declared.transaction.Commit.{Commit}
 use Rattle.span_machine.specs.declared.transaction.OpenTransaction.{OpenTransaction}
 use Rattle.span_machine.specs.declared.transaction.Outcome.{Outcome}
 use Rattle.span_machine.specs.declared.transaction.Outcome.TheVariants as outcome

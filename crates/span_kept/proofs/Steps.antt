@@ -1,4 +1,4 @@
-use Rattle.std.proofs.Common.{◌≡◌, ℕ, ℤ, Bool, true, false, cond, not, ◌==◌, nat_le, List, [], ◌∷◌, ◌++◌, length, Option, Some, None, refl, ap, sym, ◌∙◌, subst, arith}
+use Rattle.std.proofs.Common.{◌≡◌, ℕ, ℤ, Bool, true, false, cond, not, ◌==◌, nat_le, List, [], ◌∷◌, ◌++◌, length, Option, Some, None, refl, ap, sym, ◌∙◌, subst}
 use Rattle.std.specs.Prelude.{find, filter}
 use Rattle.std.specs.List.{list_all}
 use Rattle.std.proofs.lemmas.List.{append-nil}
@@ -23,7 +23,7 @@ use Rattle.span_machine.specs.declared.transaction.Commit.{Commit}
 use Rattle.span_machine.specs.declared.transaction.OpenTransaction.{OpenTransaction}
 use Rattle.span_machine.specs.declared.transaction.Outcome.{Outcome}
 use Rattle.span_machine.specs.declared.transaction.Outcome.TheVariants as outcome
-use Rattle.span_machine.specs.Machine.{Machine, Answer, start, begin, begun, decide, advance, open_query, scan, finish, close, is_transaction, is_undecided, is_prepared_at, is_all_prepared, is_prepared_for, commit_timestamp, commit_refusal, commit_of, committed, aborted, with_outcome, changed_first, without_first, refused}
+use Rattle.span_machine.specs.Machine.{Machine, Answer, answer, start, begin, begun, decide, advance, open_query, scan, finish, close, is_transaction, is_undecided, is_prepared_at, is_all_prepared, is_prepared_for, commit_timestamp, commit_of, committed, aborted, with_outcome, changed_first, without_first, refused}
 use Rattle.span_laws.proofs.Causes.{may_commit, is_undecided_outcome}
 use Rattle.span_laws.proofs.Tests.{second_true, both_of}
 use Rattle.span_laws.proofs.Stability.{is_some_of}
@@ -31,7 +31,7 @@ use Rattle.span_laws.proofs.InPlace.{commits_at, claims}
 use Rattle.span_laws.proofs.Claims.{commits_at-push, prepared_key, none_left}
 use Rattle.span_laws.proofs.Walks.{Ends, answer_by}
 use Rattle.span_laws.proofs.Reached.{IsReached}
-use Rattle.span_kept.specs.Kept.{HasRows, IsPut, IsPreparedBy, IsPending, IsKeptUnder, IsKeptBy, AreKept}
+use Rattle.span_kept.specs.Kept.{IsPut, IsPending, IsKeptUnder, IsKeptBy, AreKept}
 use Rattle.span_kept.proofs.Claimers.{and_false, false_and, claimers_of}
 
 -- an empty shard is what the start makes it
@@ -131,7 +131,7 @@ module _ (m : Machine) (reached : IsReached m) (cs : List KeyVersions) (kept : A
   kept_abandoned owner txn t found open_still = record { keys = kept.keys; used = kept.used; kept = λ key. abort_at key owner txn t found open_still }
 
   -- what a step that leaves the versions owes
-  abbrev KeepsVersions : Step → Answer → Type 0
+  abbrev pub KeepsVersions : Step → Answer → Type 0
   KeepsVersions (Prepare owner txn slot) a = Unit {0}
   KeepsVersions (Apply owner txn slot interval) a = Unit {0}
   KeepsVersions (Begin owner ms) a = AreKept a.1 cs
@@ -172,24 +172,28 @@ module _ (m : Machine) (reached : IsReached m) (cs : List KeyVersions) (kept : A
     closes = λ query q found. kept_same m _ cs kept refl refl;
   }
 
-  -- the steps that leave the versions, their refusals included
+  -- every step but a Prepare and an Apply keeps what is kept, its refusals included
+  pub kept_by_step : (step : Step) → KeepsVersions step (answer m step)
+  kept_by_step step = answer_by m KeepsVersions kept_ends step
+
+  -- step by step
   pub kept_begin : (owner : ℕ) (ms : List CheckedMutation) → AreKept (begin m owner ms).1 cs
-  kept_begin owner ms = answer_by m KeepsVersions kept_ends (Begin owner ms)
+  kept_begin owner ms = kept_by_step (Begin owner ms)
 
   pub kept_decide : (owner txn : ℕ) (v : Verdict) (interval : Interval) → AreKept (decide m owner txn v interval).1 cs
-  kept_decide owner txn v interval = answer_by m KeepsVersions kept_ends (Decide owner txn v interval)
+  kept_decide owner txn v interval = kept_by_step (Decide owner txn v interval)
 
   pub kept_advance : (slot : ℕ) (interval : Interval) → AreKept (advance m slot interval).1 cs
-  kept_advance slot interval = answer_by m KeepsVersions kept_ends (Advance slot interval)
+  kept_advance slot interval = kept_by_step (Advance slot interval)
 
   pub kept_open : (text : List ℕ) (params : Params) (bound : Bound) (interval : Interval) → AreKept (open_query m text params bound interval).1 cs
-  kept_open text params bound interval = answer_by m KeepsVersions kept_ends (Open text params bound interval)
+  kept_open text params bound interval = kept_by_step (Open text params bound interval)
 
   pub kept_scan : (query leaf slot : ℕ) (interval : Interval) → AreKept (scan m query leaf slot interval).1 cs
-  kept_scan query leaf slot interval = answer_by m KeepsVersions kept_ends (Scan query leaf slot interval)
+  kept_scan query leaf slot interval = kept_by_step (Scan query leaf slot interval)
 
   pub kept_finish : (query : ℕ) → AreKept (finish m query).1 cs
-  kept_finish query = answer_by m KeepsVersions kept_ends (Finish query)
+  kept_finish query = kept_by_step (Finish query)
 
   pub kept_close : (query : ℕ) → AreKept (close m query).1 cs
-  kept_close query = answer_by m KeepsVersions kept_ends (Close query)
+  kept_close query = kept_by_step (Close query)
