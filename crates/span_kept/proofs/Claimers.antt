@@ -43,10 +43,10 @@ pub record Claimers (key : ℤ) (test : OpenTransaction → Bool) (ts : List Ope
   pub comes : (change : OpenTransaction → OpenTransaction) → claims key 0 t ≡ false → claims key 0 (change t) ≡ true → filter (claims key 0) ts ≡ [] → filter (claims key 0) (changed_first test change ts) ≡ change t ∷ []
 
 claimers_among : (key : ℤ) (test : OpenTransaction → Bool) (ts : List OpenTransaction) (t : OpenTransaction) (xs ys : List OpenTransaction)
-  → filter (claims key 0) ts ≡ xs ++ cond (claims key 0 t) (t ∷ ys) ys
-  → ((change : OpenTransaction → OpenTransaction) → filter (claims key 0) (changed_first test change ts) ≡ xs ++ cond (claims key 0 (change t)) (change t ∷ ys) ys)
-  → filter (claims key 0) (without_first test ts) ≡ xs ++ ys
-  → (claims key 0 t ≡ true → (xs ≡ []) × (ys ≡ [])) → Claimers key test ts t
+    → filter (claims key 0) ts ≡ xs ++ cond (claims key 0 t) (t ∷ ys) ys
+    → ((change : OpenTransaction → OpenTransaction) → filter (claims key 0) (changed_first test change ts) ≡ xs ++ cond (claims key 0 (change t)) (change t ∷ ys) ys)
+    → filter (claims key 0) (without_first test ts) ≡ xs ++ ys
+    → (claims key 0 t ≡ true → (xs ≡ []) × (ys ≡ [])) → Claimers key test ts t
 claimers_among key test ts t xs ys old new rest none = record {
   here = λ is. old ∙ ap (λ b. xs ++ cond b (t ∷ ys) ys) is ∙ ap (λ l. l ++ t ∷ ys) (none is).0 ∙ ap (λ l. t ∷ l) (none is).1;
   changed = λ change is. new change ∙ ap (λ l. l ++ cond (claims key 0 (change t)) (change t ∷ ys) ys) (none is).0 ∙ ap (λ l. cond (claims key 0 (change t)) (change t ∷ l) l) (none is).1;
@@ -54,8 +54,8 @@ claimers_among key test ts t xs ys old new rest none = record {
   away = λ change off still. new change ∙ ap (λ b. xs ++ cond b (change t ∷ ys) ys) still ∙ sym (old ∙ ap (λ b. xs ++ cond b (t ∷ ys) ys) off);
   away_gone = λ off. rest ∙ sym (old ∙ ap (λ b. xs ++ cond b (t ∷ ys) ys) off);
   comes = λ change off is empty.
-    let both = both_nil xs ys (sym (old ∙ ap (λ b. xs ++ cond b (t ∷ ys) ys) off) ∙ empty) in
-    new change ∙ ap (λ b. xs ++ cond b (change t ∷ ys) ys) is ∙ ap (λ l. l ++ change t ∷ ys) both.0 ∙ ap (λ l. change t ∷ l) both.1;
+      let both = both_nil xs ys (sym (old ∙ ap (λ b. xs ++ cond b (t ∷ ys) ys) off) ∙ empty) in
+      new change ∙ ap (λ b. xs ++ cond b (change t ∷ ys) ys) is ∙ ap (λ l. l ++ change t ∷ ys) both.0 ∙ ap (λ l. change t ∷ l) both.1;
 }
 
 pub claimers_of : (m : Machine) → IsReached m → (key : ℤ) (test : OpenTransaction → Bool) (t : OpenTransaction) → find test m.transactions ≡ Some t → Claimers key test m.transactions t
@@ -63,9 +63,9 @@ claimers_of m reached key test t found =
     let sp = split_found test m.transactions t found in
     let claim = claim_here m reached key in
     let old : filter (claims key 0) m.transactions ≡ filter (claims key 0) sp.front ++ cond (claims key 0 t) (t ∷ filter (claims key 0) sp.back) (filter (claims key 0) sp.back) =
-      ap (filter (claims key 0)) sp.whole ∙ filter-append (claims key 0) sp.front (t ∷ sp.back) in
+    ap (filter (claims key 0)) sp.whole ∙ filter-append (claims key 0) sp.front (t ∷ sp.back) in
     claimers_among key test m.transactions t (filter (claims key 0) sp.front) (filter (claims key 0) sp.back) old
-      (λ change. ap (filter (claims key 0)) (sp.changed change) ∙ filter-append (claims key 0) sp.front (change t ∷ sp.back))
-      (ap (filter (claims key 0)) sp.without ∙ filter-append (claims key 0) sp.front sp.back)
-      (λ is. let a = alone key claim.0 (commits_at key m.log) (filter (claims key 0) sp.front) (filter (claims key 0) sp.back) t
-          (subst (IsClaim key claim.0 (commits_at key m.log)) (old ∙ ap (λ b. filter (claims key 0) sp.front ++ cond b (t ∷ filter (claims key 0) sp.back) (filter (claims key 0) sp.back)) is) claim.1) in (a.0, a.1))
+    (λ change. ap (filter (claims key 0)) (sp.changed change) ∙ filter-append (claims key 0) sp.front (change t ∷ sp.back))
+    (ap (filter (claims key 0)) sp.without ∙ filter-append (claims key 0) sp.front sp.back)
+    (λ is. let a = alone key claim.0 (commits_at key m.log) (filter (claims key 0) sp.front) (filter (claims key 0) sp.back) t
+    (subst (IsClaim key claim.0 (commits_at key m.log)) (old ∙ ap (λ b. filter (claims key 0) sp.front ++ cond b (t ∷ filter (claims key 0) sp.back) (filter (claims key 0) sp.back)) is) claim.1) in (a.0, a.1))

@@ -27,13 +27,13 @@ use Rattle.span_kept.proofs.Snapshots.{snapshot_when_safe}
 pub find-queries : (test : OpenQuery → Bool) (ps : List Pieced) → find test (queries_of ps) ≡ option_map (λ p. p.query) (find (λ p. test p.query) ps)
 find-queries test [] = refl
 find-queries test (p ∷ ps) = elim (test p.query) as (λ b. cond b (Some p.query) (find test (queries_of ps)) ≡ option_map (λ (p : Pieced). p.query) (cond b (Some p) (find (λ p. test p.query) ps))) [
-    | true ↦ refl
-    | false ↦ find-queries test ps
-  ]
+  | true ↦ refl
+  | false ↦ find-queries test ps
+]
 
 -- a change of the pieces that does this to their queries
 pub changed_first-queries : (test : OpenQuery → Bool) (change : OpenQuery → OpenQuery) (alter : Pieced → Pieced) → ((p : Pieced) → (alter p).query ≡ change p.query) → (ps : List Pieced)
-  → changed_first test change (queries_of ps) ≡ queries_of (changed_first (λ p. test p.query) alter ps)
+    → changed_first test change (queries_of ps) ≡ queries_of (changed_first (λ p. test p.query) alter ps)
 changed_first-queries test change alter same [] = refl
 changed_first-queries test change alter same (p ∷ ps) =
     elim (test p.query) as (λ b. cond b (change p.query ∷ queries_of ps) (p.query ∷ changed_first test change (queries_of ps)) ≡ queries_of (cond b (alter p ∷ ps) (p ∷ changed_first (λ p. test p.query) alter ps))) [
@@ -44,9 +44,9 @@ changed_first-queries test change alter same (p ∷ ps) =
 pub without_first-queries : (test : OpenQuery → Bool) (ps : List Pieced) → without_first test (queries_of ps) ≡ queries_of (without_first (λ p. test p.query) ps)
 without_first-queries test [] = refl
 without_first-queries test (p ∷ ps) = elim (test p.query) as (λ b. cond b (queries_of ps) (p.query ∷ without_first test (queries_of ps)) ≡ queries_of (cond b ps (p ∷ without_first (λ p. test p.query) ps))) [
-    | true ↦ refl
-    | false ↦ ap (λ l. p.query ∷ l) (without_first-queries test ps)
-  ]
+  | true ↦ refl
+  | false ↦ ap (λ l. p.query ∷ l) (without_first-queries test ps)
+]
 
 pub push-queries : (ps : List Pieced) (p : Pieced) → queries_of (ps ++ p ∷ []) ≡ queries_of ps ++ p.query ∷ []
 push-queries [] p = refl
@@ -81,7 +81,7 @@ covered-queries test rows ps = changed_first-queries test cover (covered_with ro
 
 -- the found query is covered by the rows of the tables
 pub pieced_covered : (m : Machine) (ps : List Pieced) (test : Pieced → Bool) (p : Pieced) (rows : List (List Value)) (db : Database) → find test ps ≡ Some p → tables m.log p.query.s ≡ Ok db → rows ≡ rows_of db
-  → ArePieced m ps → ArePieced m (changed_first test (covered_with rows) ps)
+    → ArePieced m ps → ArePieced m (changed_first test (covered_with rows) ps)
 pieced_covered m ps test p rows db found made right pieced = all_changed_found (IsPieced m.log) test (covered_with rows) ps p found (λ covered. (db, made, right)) pieced
 
 pub pieced_without : (m : Machine) (ps : List Pieced) (test : Pieced → Bool) → ArePieced m ps → ArePieced m (without_first test ps)
@@ -89,7 +89,7 @@ pieced_without m ps test pieced = all_without (IsPieced m.log) test ps pieced
 
 -- a scan that finds the slot safe covers the found query with what it sees
 pub pieced_scanned : (m : Machine) (cs : List KeyVersions) (ps : List Pieced) → IsReached m → AreKept m cs → ArePieced m ps → (query : ℕ) (p : Pieced) (book : Book) → find (λ x. is_query query x.query) ps ≡ Some p
-  → is_safe m 0 book p.query.s ≡ true → ArePieced m (changed_first (λ x. is_query query x.query) (covered_with (snapshot (record { low = None; high = None }) p.query.s cs)) ps)
+    → is_safe m 0 book p.query.s ≡ true → ArePieced m (changed_first (λ x. is_query query x.query) (covered_with (snapshot (record { low = None; high = None }) p.query.s cs)) ps)
 pieced_scanned m cs ps reached kept pieced query p book found safe =
     let made = reached_tables m p.query.s reached in
     pieced_covered m ps (λ x. is_query query x.query) p (snapshot (record { low = None; high = None }) p.query.s cs) made.0 found made.1 (snapshot_when_safe m cs p.query.s book reached kept safe made.0 made.1) pieced
@@ -97,7 +97,7 @@ pieced_scanned m cs ps reached kept pieced query p book found safe =
 -- ---- steps
 
 pieced_still : (m n : Machine) (ps : List Pieced) → ((q : OpenQuery) → IsCoveredSealed m q → q.covered ≡ true → (db : Database) → tables m.log q.s ≡ Ok db → tables n.log q.s ≡ Ok db)
-  → AllByRecursion (IsCoveredSealed m) (queries_of ps) → ArePieced m ps → ArePieced n ps
+    → AllByRecursion (IsCoveredSealed m) (queries_of ps) → ArePieced m ps → ArePieced n ps
 pieced_still m n [] stays sealed pieced = tt
 pieced_still m n (p ∷ ps) stays sealed pieced = (
   λ covered. let old = pieced.0 covered in (old.0, stays p.query sealed.0 covered old.0 old.1, old.2),
@@ -112,7 +112,7 @@ pieced_by_step m reached ps same pieced step = pieced_still m (answer m step).1 
 
 -- the rows of a piece that covers its query are the answer
 pub pieced_finish : (m : Machine) → IsReached m → (ps : List Pieced) → m.queries ≡ queries_of ps → ArePieced m ps → (number : ℕ) (p : Pieced) → find (λ x. is_query number x.query) ps ≡ Some p → p.query.covered ≡ true
-  → (answer m (Finish number)).0 ≡ Rows p.query.s p.rows
+    → (answer m (Finish number)).0 ≡ Rows p.query.s p.rows
 pieced_finish m reached ps same pieced number p found covered =
     let there : find (is_query number) m.queries ≡ Some p.query = ap (find (is_query number)) same ∙ found_query number ps p found in
     let meant = reached_finish m number p.query reached there covered in

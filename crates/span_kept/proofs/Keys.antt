@@ -55,7 +55,7 @@ all_by_key P [] up each = tt
 all_by_key P (c ∷ cs) up each = (
   each c (ap (λ b. cond b (Some c) (find (is_key c.key) cs)) (key_itself c.key)),
   all_by_key P cs up.1 (λ d found. each d (
-    ap (λ b. cond b (Some c) (find (is_key d.key) cs)) (greater_apart c.key d.key (all_found (λ (x : KeyVersions). int_cmp c.key x.key ≡ Less) (is_key d.key) cs d found up.0)) ∙ found)),
+      ap (λ b. cond b (Some c) (find (is_key d.key) cs)) (greater_apart c.key d.key (all_found (λ (x : KeyVersions). int_cmp c.key x.key ≡ Less) (is_key d.key) cs d found up.0)) ∙ found)),
 )
 
 -- ---- one write prepared
@@ -93,25 +93,25 @@ find-with_write txn w [] key up = refl
 find-with_write txn w (c ∷ cs) key up =
     elim (int_cmp w.key c.key) as (λ o. int_cmp w.key c.key ≡ o → find (is_key key) (by_order o (fresh txn w ∷ c ∷ cs) (with_prepared (prepared_write txn w) c ∷ cs) (c ∷ with_write txn w cs)) ≡ cond (is_of key w) (Some (written_key txn w (find (is_key key) (c ∷ cs)))) (find (is_key key) (c ∷ cs))) [
       | Less ↦ λ e. elim (is_of key w) as (λ b. is_of key w ≡ b → cond b (Some (fresh txn w)) (find (is_key key) (c ∷ cs)) ≡ cond b (Some (written_key txn w (find (is_key key) (c ∷ cs)))) (find (is_key key) (c ∷ cs))) [
-          | false ↦ λ at. refl
-          | true ↦ λ at.
+        | false ↦ λ at. refl
+        | true ↦ λ at.
             let same : key ≡ w.key = tells_apart exact_signed key w.key at in
             let low : int_cmp key c.key ≡ Less = ap (λ (k : ℤ). int_cmp k c.key) same ∙ e in
             ap (λ o. Some (written_key txn w o)) (sym (find_under key (c ∷ cs) (low, under_all_more key c.key cs low up.0)))
-        ] refl
+      ] refl
       | Equal ↦ λ e.
-        let same : is_of key w ≡ is_key key c = ap (λ (k : ℤ). eq_by_cmp int_cmp key k) (equal_keys w.key c.key e) in
-        elim (is_key key c) as (λ b. is_of key w ≡ b → cond b (Some (with_prepared (prepared_write txn w) c)) (find (is_key key) cs) ≡ cond (is_of key w) (Some (written_key txn w (cond b (Some c) (find (is_key key) cs)))) (cond b (Some c) (find (is_key key) cs))) [
-          | true ↦ λ at. ap (λ b. cond b (Some (with_prepared (prepared_write txn w) c)) (Some c)) (sym at)
-          | false ↦ λ at. ap (λ b. cond b (Some (written_key txn w (find (is_key key) cs))) (find (is_key key) cs)) (sym at)
-        ] same
+          let same : is_of key w ≡ is_key key c = ap (λ (k : ℤ). eq_by_cmp int_cmp key k) (equal_keys w.key c.key e) in
+          elim (is_key key c) as (λ b. is_of key w ≡ b → cond b (Some (with_prepared (prepared_write txn w) c)) (find (is_key key) cs) ≡ cond (is_of key w) (Some (written_key txn w (cond b (Some c) (find (is_key key) cs)))) (cond b (Some c) (find (is_key key) cs))) [
+            | true ↦ λ at. ap (λ b. cond b (Some (with_prepared (prepared_write txn w) c)) (Some c)) (sym at)
+            | false ↦ λ at. ap (λ b. cond b (Some (written_key txn w (find (is_key key) cs))) (find (is_key key) cs)) (sym at)
+          ] same
       | Greater ↦ λ e. elim (is_key key c) as (λ b. is_key key c ≡ b → cond b (Some c) (find (is_key key) (with_write txn w cs)) ≡ cond (is_of key w) (Some (written_key txn w (cond b (Some c) (find (is_key key) cs)))) (cond b (Some c) (find (is_key key) cs))) [
-          | true ↦ λ at.
+        | true ↦ λ at.
             let same : key ≡ c.key = tells_apart exact_signed key c.key at in
             let off : is_of key w ≡ false = ap (λ (k : ℤ). eq_by_cmp int_cmp k w.key) same ∙ less_apart c.key w.key (turned w.key c.key Greater e) in
             ap (λ b. cond b (Some (with_prepared (prepared_write txn w) c)) (Some c)) (sym off)
-          | false ↦ λ at. find-with_write txn w cs key up.1
-        ] refl
+        | false ↦ λ at. find-with_write txn w cs key up.1
+      ] refl
     ] refl
 
 -- no version comes or goes as a write is prepared
@@ -186,11 +186,11 @@ find_applied g view txn committed (c ∷ cs) key up =
             | false ↦ find_applied g view txn committed cs key up.1
           ]
       | false ↦ λ unused. elim (is_key key c) as (λ b. is_key key c ≡ b → g (find (is_key key) (applied txn committed cs)) ≡ g (option_map (applied_to_key txn committed) (cond b (Some c) (find (is_key key) cs)))) [
-          | true ↦ λ here.
+        | true ↦ λ here.
             let same : key ≡ c.key = tells_apart exact_signed key c.key here in
             ap g (find_under key (applied txn committed cs) (under_applied txn committed key cs (subst (λ (k : ℤ). IsUnderAll k cs) (sym same) up.0))) ∙ sym (view (applied_to_key txn committed c) unused)
-          | false ↦ λ away. find_applied g view txn committed cs key up.1
-        ] refl
+        | false ↦ λ away. find_applied g view txn committed cs key up.1
+      ] refl
     ] refl
 
 -- the versions of a key where this write is applied

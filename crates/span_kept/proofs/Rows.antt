@@ -42,9 +42,9 @@ all_each P (x ∷ xs) each = (each x (0, refl), all_each P xs (λ y is. each y (
 pub all_pass : {A : Type 0} (test : A → Bool) (xs : List A) → AllByRecursion (λ x. test x ≡ true) (filter test xs)
 all_pass test [] = tt
 all_pass test (x ∷ xs) = elim (test x) as (λ b. test x ≡ b → AllByRecursion (λ y. test y ≡ true) (cond b (x ∷ filter test xs) (filter test xs))) [
-    | true ↦ λ e. (e, all_pass test xs)
-    | false ↦ λ e. all_pass test xs
-  ] refl
+  | true ↦ λ e. (e, all_pass test xs)
+  | false ↦ λ e. all_pass test xs
+] refl
 
 all_front : {A : Type 0} (P : A → Type 0) (xs : List A) (x : A) → AllByRecursion P (xs ++ x ∷ []) → AllByRecursion P xs
 all_front P [] x all = tt
@@ -83,8 +83,8 @@ row_end key cs vs has under = ap (λ l. row_through None (changes_at key l)) (sy
 
 -- the rows with a commit behind these
 rows_more : (key : ℤ) (front : List Commit) (c : Commit) (vs : List Version) (after : Option Value) → HasRows key front vs → IsUnder c.timestamp front → IsUnder timestamp_end front
-  → row_through (row_at vs end_of_time) (filter (is_at key) c.mutations) ≡ Ok after → (s : ℕ) (row : Option Value) (b : Bool) → nat_le c.timestamp s ≡ b → row ≡ cond b after (row_at vs s)
-  → row_through None (changes_at key (filter (λ d. nat_le d.timestamp s) front ++ cond b (c ∷ []) [])) ≡ Ok row
+    → row_through (row_at vs end_of_time) (filter (is_at key) c.mutations) ≡ Ok after → (s : ℕ) (row : Option Value) (b : Bool) → nat_le c.timestamp s ≡ b → row ≡ cond b after (row_at vs s)
+    → row_through None (changes_at key (filter (λ d. nat_le d.timestamp s) front ++ cond b (c ∷ []) [])) ≡ Ok row
 rows_more key front c vs after has under low through s row true e is =
     let high : c.timestamp ≤ s = grind (arith, nat_tests) in
     ap (λ l. row_through None (changes_at key (l ++ c ∷ []))) (all_upto s c.timestamp front high under)
@@ -96,26 +96,26 @@ rows_more key front c vs after has under low through s row false e is =
 
 -- the commit's row as the newest version
 pub rows_push : (key : ℤ) (front : List Commit) (c : Commit) (vs : List Version) (after : Option Value) → HasRows key front vs → IsUnder c.timestamp front → IsUnder timestamp_end front
-  → row_through (row_at vs end_of_time) (filter (is_at key) c.mutations) ≡ Ok after → HasRows key (front ++ c ∷ []) ((record { timestamp = c.timestamp; row = after }) ∷ vs)
+    → row_through (row_at vs end_of_time) (filter (is_at key) c.mutations) ≡ Ok after → HasRows key (front ++ c ∷ []) ((record { timestamp = c.timestamp; row = after }) ∷ vs)
 rows_push key front c vs after has under low through = record {
   rows = λ s.
-    ap (λ l. row_through None (changes_at key l)) (filter-append (λ d. nat_le d.timestamp s) front (c ∷ []))
-    ∙ rows_more key front c vs after has under low through s (row_at ((record { timestamp = c.timestamp; row = after }) ∷ vs) s) (nat_le c.timestamp s) refl
+      ap (λ l. row_through None (changes_at key l)) (filter-append (λ d. nat_le d.timestamp s) front (c ∷ []))
+      ∙ rows_more key front c vs after has under low through s (row_at ((record { timestamp = c.timestamp; row = after }) ∷ vs) s) (nat_le c.timestamp s) refl
       (elim (nat_le c.timestamp s) as (λ b. option_and_then (λ (v : Version). v.row) (cond b (Some (record { timestamp = c.timestamp; row = after })) (find (λ v. nat_le v.timestamp s) vs)) ≡ cond b after (row_at vs s)) [ true ↦ refl | false ↦ refl ]);
 }
 
 -- the commit leaves the row as it was
 pub rows_still : (key : ℤ) (front : List Commit) (c : Commit) (vs : List Version) (after : Option Value) → HasRows key front vs → IsUnder c.timestamp front → IsUnder timestamp_end front
-  → row_through (row_at vs end_of_time) (filter (is_at key) c.mutations) ≡ Ok after → after ≡ row_at vs end_of_time → HasRows key (front ++ c ∷ []) vs
+    → row_through (row_at vs end_of_time) (filter (is_at key) c.mutations) ≡ Ok after → after ≡ row_at vs end_of_time → HasRows key (front ++ c ∷ []) vs
 rows_still key front c vs after has under low through same = record {
   rows = λ s.
-    ap (λ l. row_through None (changes_at key l)) (filter-append (λ d. nat_le d.timestamp s) front (c ∷ []))
-    ∙ rows_more key front c vs after has under low through s (row_at vs s) (nat_le c.timestamp s) refl
+      ap (λ l. row_through None (changes_at key l)) (filter-append (λ d. nat_le d.timestamp s) front (c ∷ []))
+      ∙ rows_more key front c vs after has under low through s (row_at vs s) (nat_le c.timestamp s) refl
       (elim (nat_le c.timestamp s) as (λ b. nat_le c.timestamp s ≡ b → row_at vs s ≡ cond b after (row_at vs s)) [
         | false ↦ λ e. refl
         | true ↦ λ e.
-          let high : c.timestamp ≤ s = grind (arith, nat_tests) in
-          ok_same (sym (has.rows s) ∙ ap (λ l. row_through None (changes_at key l)) (all_upto s c.timestamp front high under) ∙ row_end key front vs has low) ∙ sym same
+            let high : c.timestamp ≤ s = grind (arith, nat_tests) in
+            ok_same (sym (has.rows s) ∙ ap (λ l. row_through None (changes_at key l)) (all_upto s c.timestamp front high under) ∙ row_end key front vs has low) ∙ sym same
       ] refl);
 }
 
@@ -123,10 +123,10 @@ rows_still key front c vs after has under low through same = record {
 
 -- the row that the key's commits up to s make is that of the tables at s
 pub row_of_tables : (key : ℤ) (log : List Commit) (s : ℕ) (row : Option Value) (db : Database) → IsRising (commits_at key log) → row_through None (changes_at key (filter (λ d. nat_le d.timestamp s) (commits_at key log))) ≡ Ok row
-  → tables log s ≡ Ok db → row ≡ finmap.get db key
+    → tables log s ≡ Ok db → row ≡ finmap.get db key
 row_of_tables key log s row db up has made =
     let tabled : row_through None (changes_at key (upto log s)) ≡ Ok (finmap.get db key) =
-      subst (λ (r : Option Value). row_through r (changes_at key (upto log s)) ≡ Ok (finmap.get db key)) (get-empty int_cmp key) (apply-row (mutations_of (upto log s)) finmap.empty db key made) in
+    subst (λ (r : Option Value). row_through r (changes_at key (upto log s)) ≡ Ok (finmap.get db key)) (get-empty int_cmp key) (apply-row (mutations_of (upto log s)) finmap.empty db key made) in
     ok_same (sym has ∙ ap (row_through None) (sym (changes_at-upto key log s up)) ∙ tabled)
 
 -- the newest row of a key that no transaction claims is that of the tables
@@ -136,8 +136,8 @@ row_now_of_tables m cs key db reached kept empty made =
     let has : HasRows key (commits_at key m.log) (versions_at cs key) = (subst (IsKeptBy key (commits_at key m.log) (versions_at cs key) _) empty (kept.kept key)).1 in
     let under : IsUnder timestamp_end (commits_at key m.log) = under_filter timestamp_end (touches key) m.log place.in_range in
     row_of_tables key m.log (timestamp_end - 1) (row_now cs key) db place.rising
-      (ap (λ l. row_through None (changes_at key l)) (all_kept (timestamp_end - 1) (commits_at key m.log) under refl) ∙ row_end key (commits_at key m.log) (versions_at cs key) has under)
-      made
+    (ap (λ l. row_through None (changes_at key l)) (all_kept (timestamp_end - 1) (commits_at key m.log) under refl) ∙ row_end key (commits_at key m.log) (versions_at cs key) has under)
+    made
 
 -- ---- whose the prepared write of a key is
 
@@ -157,7 +157,7 @@ not_of_others key cs vs p (u ∷ us) txn h off = not_of u.number txn p (open_und
 
 -- the transactions that claim a key have other numbers than one that does not
 pub others_apart : (m : Machine) → IsReached m → (key : ℤ) (test : OpenTransaction → Bool) (t : OpenTransaction) → find test m.transactions ≡ Some t → claims key 0 t ≡ false
-  → AllByRecursion (λ u. u.number ≢ t.number) (filter (claims key 0) m.transactions)
+    → AllByRecursion (λ u. u.number ≢ t.number) (filter (claims key 0) m.transactions)
 others_apart m reached key test t found off = all_each (λ u. u.number ≢ t.number) (filter (claims key 0) m.transactions) (λ u is same.
     let alike : u ≡ t = same_number m reached.numbered u t (kept_in (claims key 0) m.transactions u is) (found_in test m.transactions t found) same in
     not_both (claims key 0 u) (all_in (λ x. claims key 0 x ≡ true) (filter (claims key 0) m.transactions) u is (all_pass (claims key 0) m.transactions)) (subst (λ x. claims key 0 x ≡ false) (sym alike) off))

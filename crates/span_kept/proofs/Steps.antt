@@ -45,7 +45,7 @@ open_of_put txn before after (Some w) put = put.0
 
 -- its only claimer was undecided and is committed
 pending_of : (key : ℤ) (cs : List Commit) (vs : List Version) (p : Option PreparedWrite) (t : OpenTransaction) (ts : ℕ) → IsKeptUnder key cs vs p t outcome.Undecided
-  → IsPending key (cs ++ commit_of ts t ∷ []) vs p (with_outcome (outcome.Committed ts) t) ts
+    → IsPending key (cs ++ commit_of ts t ∷ []) vs p (with_outcome (outcome.Committed ts) t) ts
 pending_of key cs vs p t ts h = record { front = cs; whole = refl; put = h.0; rows = h.1 }
 
 -- its only claimer was undecided and is aborted
@@ -58,15 +58,15 @@ kept_same m n cs kept log ts = record {
   keys = kept.keys;
   used = kept.used;
   kept = λ key. subst (λ l. IsKeptBy key (commits_at key l) (versions_at cs key) (prepared_at cs key) (filter (claims key 0) n.transactions)) (sym log)
-    (subst (λ us. IsKeptBy key (commits_at key m.log) (versions_at cs key) (prepared_at cs key) (filter (claims key 0) us)) (sym ts) (kept.kept key));
+      (subst (λ us. IsKeptBy key (commits_at key m.log) (versions_at cs key) (prepared_at cs key) (filter (claims key 0) us)) (sym ts) (kept.kept key));
 }
 
 module _ (m : Machine) (reached : IsReached m) (cs : List KeyVersions) (kept : AreKept m cs) where
   -- what is kept at a key that the found transaction claims
   pub kept_under : (key : ℤ) (test : OpenTransaction → Bool) (t : OpenTransaction) (o : Outcome) → find test m.transactions ≡ Some t → claims key 0 t ≡ true → t.outcome ≡ o
-    → IsKeptUnder key (commits_at key m.log) (versions_at cs key) (prepared_at cs key) t o
+      → IsKeptUnder key (commits_at key m.log) (versions_at cs key) (prepared_at cs key) t o
   kept_under key test t o found is e =
-    subst (IsKeptUnder key (commits_at key m.log) (versions_at cs key) (prepared_at cs key) t) e
+      subst (IsKeptUnder key (commits_at key m.log) (versions_at cs key) (prepared_at cs key) t) e
       (subst (IsKeptBy key (commits_at key m.log) (versions_at cs key) (prepared_at cs key)) ((claimers_of m reached key test t found).here is) (kept.kept key))
 
   kept_begun : (owner : ℕ) (ms : List CheckedMutation) → AreKept (begun m owner ms).1 cs
@@ -74,58 +74,58 @@ module _ (m : Machine) (reached : IsReached m) (cs : List KeyVersions) (kept : A
     keys = kept.keys;
     used = kept.used;
     kept = λ key. subst (IsKeptBy key (commits_at key m.log) (versions_at cs key) (prepared_at cs key))
-      (sym (filter-append (claims key 0) m.transactions ((record { owner = owner; number = m.next_transaction; mutations = ms; outcome = outcome.Undecided; prepared = [] }) ∷ []) ∙ append-nil _)) (kept.kept key);
+        (sym (filter-append (claims key 0) m.transactions ((record { owner = owner; number = m.next_transaction; mutations = ms; outcome = outcome.Undecided; prepared = [] }) ∷ []) ∙ append-nil _)) (kept.kept key);
   }
 
   decided_at : (key : ℤ) (owner txn ts : ℕ) (t : OpenTransaction) → find (is_transaction owner txn) m.transactions ≡ Some t → is_undecided t ≡ true → is_all_prepared m t ≡ true
-    → IsKeptBy key (commits_at key (m.log ++ commit_of ts t ∷ [])) (versions_at cs key) (prepared_at cs key) (filter (claims key 0) (changed_first (is_transaction owner txn) (with_outcome (outcome.Committed ts)) m.transactions))
+      → IsKeptBy key (commits_at key (m.log ++ commit_of ts t ∷ [])) (versions_at cs key) (prepared_at cs key) (filter (claims key 0) (changed_first (is_transaction owner txn) (with_outcome (outcome.Committed ts)) m.transactions))
   decided_at key owner txn ts t found open_still ready =
-    let them = claimers_of m reached key (is_transaction owner txn) t found in
-    elim (is_some_of (filter (is_at key) t.mutations)) as (λ v. is_some_of (filter (is_at key) t.mutations) ≡ v
+      let them = claimers_of m reached key (is_transaction owner txn) t found in
+      elim (is_some_of (filter (is_at key) t.mutations)) as (λ v. is_some_of (filter (is_at key) t.mutations) ≡ v
       → IsKeptBy key (commits_at key (m.log ++ commit_of ts t ∷ [])) (versions_at cs key) (prepared_at cs key) (filter (claims key 0) (changed_first (is_transaction owner txn) (with_outcome (outcome.Committed ts)) m.transactions))) [
-      | false ↦ λ e.
-        let same : commits_at key (m.log ++ commit_of ts t ∷ []) ≡ commits_at key m.log =
-          commits_at-push key m.log (commit_of ts t) ∙ ap (λ b. commits_at key m.log ++ cond b (commit_of ts t ∷ []) []) e ∙ append-nil _ in
-        let off : claims key 0 t ≡ false = and_false (is_prepared_at 0 t) (is_some_of (filter (is_at key) t.mutations)) e in
-        subst (λ l. IsKeptBy key l (versions_at cs key) (prepared_at cs key) (filter (claims key 0) (changed_first (is_transaction owner txn) (with_outcome (outcome.Committed ts)) m.transactions))) (sym same)
-          (subst (IsKeptBy key (commits_at key m.log) (versions_at cs key) (prepared_at cs key)) (sym (them.away (with_outcome (outcome.Committed ts)) off off)) (kept.kept key))
-      | true ↦ λ e.
-        let all : list_all (is_prepared_for m t) t.mutations ≡ true = second_true (not (length t.prepared == 0)) (list_all (is_prepared_for m t) t.mutations) ready in
-        let ready_at = prepared_key m 0 key t (reached.placed key).only t.mutations e all in
-        let is : claims key 0 t ≡ true = both_of (is_prepared_at 0 t) (is_some_of (filter (is_at key) t.mutations)) ready_at.0 e in
-        let more : commits_at key (m.log ++ commit_of ts t ∷ []) ≡ commits_at key m.log ++ commit_of ts t ∷ [] =
-          commits_at-push key m.log (commit_of ts t) ∙ ap (λ b. commits_at key m.log ++ cond b (commit_of ts t ∷ []) []) e in
-        let now : filter (claims key 0) (changed_first (is_transaction owner txn) (with_outcome (outcome.Committed ts)) m.transactions) ≡ with_outcome (outcome.Committed ts) t ∷ [] =
-          them.changed (with_outcome (outcome.Committed ts)) is ∙ ap (λ b. cond b (with_outcome (outcome.Committed ts) t ∷ []) []) is in
-        subst (IsKeptBy key (commits_at key (m.log ++ commit_of ts t ∷ [])) (versions_at cs key) (prepared_at cs key)) (sym now)
-          (subst (λ l. IsPending key l (versions_at cs key) (prepared_at cs key) (with_outcome (outcome.Committed ts) t) ts) (sym more)
+        | false ↦ λ e.
+            let same : commits_at key (m.log ++ commit_of ts t ∷ []) ≡ commits_at key m.log =
+            commits_at-push key m.log (commit_of ts t) ∙ ap (λ b. commits_at key m.log ++ cond b (commit_of ts t ∷ []) []) e ∙ append-nil _ in
+            let off : claims key 0 t ≡ false = and_false (is_prepared_at 0 t) (is_some_of (filter (is_at key) t.mutations)) e in
+            subst (λ l. IsKeptBy key l (versions_at cs key) (prepared_at cs key) (filter (claims key 0) (changed_first (is_transaction owner txn) (with_outcome (outcome.Committed ts)) m.transactions))) (sym same)
+            (subst (IsKeptBy key (commits_at key m.log) (versions_at cs key) (prepared_at cs key)) (sym (them.away (with_outcome (outcome.Committed ts)) off off)) (kept.kept key))
+        | true ↦ λ e.
+            let all : list_all (is_prepared_for m t) t.mutations ≡ true = second_true (not (length t.prepared == 0)) (list_all (is_prepared_for m t) t.mutations) ready in
+            let ready_at = prepared_key m 0 key t (reached.placed key).only t.mutations e all in
+            let is : claims key 0 t ≡ true = both_of (is_prepared_at 0 t) (is_some_of (filter (is_at key) t.mutations)) ready_at.0 e in
+            let more : commits_at key (m.log ++ commit_of ts t ∷ []) ≡ commits_at key m.log ++ commit_of ts t ∷ [] =
+            commits_at-push key m.log (commit_of ts t) ∙ ap (λ b. commits_at key m.log ++ cond b (commit_of ts t ∷ []) []) e in
+            let now : filter (claims key 0) (changed_first (is_transaction owner txn) (with_outcome (outcome.Committed ts)) m.transactions) ≡ with_outcome (outcome.Committed ts) t ∷ [] =
+            them.changed (with_outcome (outcome.Committed ts)) is ∙ ap (λ b. cond b (with_outcome (outcome.Committed ts) t ∷ []) []) is in
+            subst (IsKeptBy key (commits_at key (m.log ++ commit_of ts t ∷ [])) (versions_at cs key) (prepared_at cs key)) (sym now)
+            (subst (λ l. IsPending key l (versions_at cs key) (prepared_at cs key) (with_outcome (outcome.Committed ts) t) ts) (sym more)
             (pending_of key (commits_at key m.log) (versions_at cs key) (prepared_at cs key) t ts
-              (kept_under key (is_transaction owner txn) t outcome.Undecided found is (is_undecided_outcome t.outcome open_still))))
-    ] refl
+            (kept_under key (is_transaction owner txn) t outcome.Undecided found is (is_undecided_outcome t.outcome open_still))))
+      ] refl
 
   -- a commit is in the log before its versions are
   pub kept_decided : (owner txn ts : ℕ) (t : OpenTransaction) → find (is_transaction owner txn) m.transactions ≡ Some t → is_undecided t ≡ true → is_all_prepared m t ≡ true → AreKept (committed m owner txn ts t).1 cs
   kept_decided owner txn ts t found open_still ready = record { keys = kept.keys; used = kept.used; kept = λ key. decided_at key owner txn ts t found open_still ready }
 
   abort_at : (key : ℤ) (owner txn : ℕ) (t : OpenTransaction) → find (is_transaction owner txn) m.transactions ≡ Some t → is_undecided t ≡ true
-    → IsKeptBy key (commits_at key m.log) (versions_at cs key) (prepared_at cs key) (filter (claims key 0) (aborted m owner txn t).1.transactions)
+      → IsKeptBy key (commits_at key m.log) (versions_at cs key) (prepared_at cs key) (filter (claims key 0) (aborted m owner txn t).1.transactions)
   abort_at key owner txn t found open_still =
-    let them = claimers_of m reached key (is_transaction owner txn) t found in
-    elim (length t.prepared == 0) as (λ v. (length t.prepared == 0) ≡ v
+      let them = claimers_of m reached key (is_transaction owner txn) t found in
+      elim (length t.prepared == 0) as (λ v. (length t.prepared == 0) ≡ v
       → IsKeptBy key (commits_at key m.log) (versions_at cs key) (prepared_at cs key) (filter (claims key 0) (cond v (without_first (is_transaction owner txn) m.transactions) (changed_first (is_transaction owner txn) (with_outcome outcome.Aborted) m.transactions)))) [
-      | true ↦ λ e.
-        let off : claims key 0 t ≡ false = false_and (is_prepared_at 0 t) (is_some_of (filter (is_at key) t.mutations)) (none_left 0 t.prepared e) in
-        subst (IsKeptBy key (commits_at key m.log) (versions_at cs key) (prepared_at cs key)) (sym (them.away_gone off)) (kept.kept key)
-      | false ↦ λ e. elim (claims key 0 t) as (λ v. claims key 0 t ≡ v
-          → IsKeptBy key (commits_at key m.log) (versions_at cs key) (prepared_at cs key) (filter (claims key 0) (changed_first (is_transaction owner txn) (with_outcome outcome.Aborted) m.transactions))) [
-        | false ↦ λ off. subst (IsKeptBy key (commits_at key m.log) (versions_at cs key) (prepared_at cs key)) (sym (them.away (with_outcome outcome.Aborted) off off)) (kept.kept key)
-        | true ↦ λ is.
-          let now : filter (claims key 0) (changed_first (is_transaction owner txn) (with_outcome outcome.Aborted) m.transactions) ≡ with_outcome outcome.Aborted t ∷ [] =
-            them.changed (with_outcome outcome.Aborted) is ∙ ap (λ b. cond b (with_outcome outcome.Aborted t ∷ []) []) is in
-          subst (IsKeptBy key (commits_at key m.log) (versions_at cs key) (prepared_at cs key)) (sym now)
-            (given_up_of key (commits_at key m.log) (versions_at cs key) (prepared_at cs key) t (kept_under key (is_transaction owner txn) t outcome.Undecided found is (is_undecided_outcome t.outcome open_still)))
+        | true ↦ λ e.
+            let off : claims key 0 t ≡ false = false_and (is_prepared_at 0 t) (is_some_of (filter (is_at key) t.mutations)) (none_left 0 t.prepared e) in
+            subst (IsKeptBy key (commits_at key m.log) (versions_at cs key) (prepared_at cs key)) (sym (them.away_gone off)) (kept.kept key)
+        | false ↦ λ e. elim (claims key 0 t) as (λ v. claims key 0 t ≡ v
+            → IsKeptBy key (commits_at key m.log) (versions_at cs key) (prepared_at cs key) (filter (claims key 0) (changed_first (is_transaction owner txn) (with_outcome outcome.Aborted) m.transactions))) [
+              | false ↦ λ off. subst (IsKeptBy key (commits_at key m.log) (versions_at cs key) (prepared_at cs key)) (sym (them.away (with_outcome outcome.Aborted) off off)) (kept.kept key)
+              | true ↦ λ is.
+                  let now : filter (claims key 0) (changed_first (is_transaction owner txn) (with_outcome outcome.Aborted) m.transactions) ≡ with_outcome outcome.Aborted t ∷ [] =
+                  them.changed (with_outcome outcome.Aborted) is ∙ ap (λ b. cond b (with_outcome outcome.Aborted t ∷ []) []) is in
+                  subst (IsKeptBy key (commits_at key m.log) (versions_at cs key) (prepared_at cs key)) (sym now)
+                  (given_up_of key (commits_at key m.log) (versions_at cs key) (prepared_at cs key) t (kept_under key (is_transaction owner txn) t outcome.Undecided found is (is_undecided_outcome t.outcome open_still)))
+            ] refl
       ] refl
-    ] refl
 
   kept_abandoned : (owner txn : ℕ) (t : OpenTransaction) → find (is_transaction owner txn) m.transactions ≡ Some t → is_undecided t ≡ true → AreKept (aborted m owner txn t).1 cs
   kept_abandoned owner txn t found open_still = record { keys = kept.keys; used = kept.used; kept = λ key. abort_at key owner txn t found open_still }
@@ -159,8 +159,8 @@ module _ (m : Machine) (reached : IsReached m) (cs : List KeyVersions) (kept : A
     begins = λ owner ms accepted. kept_begun owner ms;
     prepares = λ owner txn slot t book found here accepted well low. tt;
     commits = λ owner txn interval t found accepted.
-      let may = may_commit (is_undecided t) (is_all_prepared m t) (nat_le timestamp_end (commit_timestamp m t interval)) accepted in
-      kept_decided owner txn (commit_timestamp m t interval) t found may.0 may.1;
+        let may = may_commit (is_undecided t) (is_all_prepared m t) (nat_le timestamp_end (commit_timestamp m t interval)) accepted in
+        kept_decided owner txn (commit_timestamp m t interval) t found may.0 may.1;
     aborts = λ owner txn interval t found open_still. kept_abandoned owner txn t found open_still;
     applies = λ owner txn slot interval t book found here accepted. tt;
     advances = λ slot interval book here. kept_same m _ cs kept refl refl;

@@ -19,9 +19,6 @@ ghost use Rattle.span_kept.specs.Kept.{AreKept};
 /// In every machine that a run reaches, a snapshot of the shard that is kept for it, at a timestamp where every key is sealed, has just
 /// the rows of the tables at that timestamp, in order.
 pub fn snapshots_are_tables()
-    ensures {
-        (m : Machine) (cs : List KeyVersions) (s : ℕ) → IsReached m → AreKept m cs → ((key : ℤ) → IsSealed key s m) → (db : Database) → tables m.log s ≡ Ok db
-            → snapshot (record { low = None; high = None }) s cs ≡ rows_of db
-    }
-{
-}
+    ensures { (m : Machine) (cs : List KeyVersions) (s : ℕ) → IsReached m → AreKept m cs → ((key : ℤ) → IsSealed key s m) → (db : Database) → tables m.log s ≡ Ok db
+        → snapshot (record { low = None; high = None }) s cs ≡ rows_of db }
+{}
