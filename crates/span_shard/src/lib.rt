@@ -4,6 +4,7 @@
 pub mod chain;
 pub mod mutation;
 pub mod range;
+pub mod schema;
 pub mod shard;
 pub mod transaction;
 pub mod write;
