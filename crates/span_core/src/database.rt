@@ -1,0 +1,247 @@
+//! The core and its steps.
+ghost use Rattle.std.specs.Prelude.{◌≡◌, IfOk, IfErr};
+ghost use Rattle.span_machine.specs.Machine.{Steps, start};
+ghost use Rattle.span_machine.specs.declared.step.Step.TheVariants as step_of;
+ghost use Rattle.span_machine.specs.declared.step.Reply.TheVariants as reply_of;
+ghost use Rattle.span_journal.specs.Judged.{replied};
+
+use super::rows::copies_of;
+use span_journal::journal::Journal;
+use span_machine::query::Params;
+use span_machine::step::{Reply, Step, Verdict};
+use span_shard::range::KeyRange;
+use span_shard::schema::Schema;
+use span_shard::shard::Shard;
+use span_shard::transaction::Transaction;
+use span_truetime::bound::Bound;
+use span_truetime::interval::Interval;
+use span_value::refusal::Refusal;
+use span_value::text::Text;
+use std::alloc::Global;
+use std::marker::Model;
+
+/// A database in memory. Contracts see it as the machine; that the versions in its shard are those of the machine's commits is its
+/// invariant.
+#[derive(Debug, Drop)]
+pub struct Core {
+    schema: Schema,
+    journal: Journal,
+    shard: Shard,
+}
+
+impl Model for Core {
+    ghost use Rattle.span_machine.specs.Machine.{Machine};
+
+    ghost Value = { Machine };
+
+    ghost use Rattle.span_machine.specs.Pieces.{machine_of};
+
+    ghost view = { λ a. machine_of a.journal };
+
+    ghost use Rattle.span_core.specs.Whole.{IsWhole};
+
+    ghost invariant = { λ a. IsWhole a.journal a.shard };
+}
+
+impl Core {
+    /// An empty database. `OutOfMemory` is the only refusal.
+    pub fn new(alloc: Global, schema: Schema) -> Result<Core, Refusal>
+        ensures start { IfOk result (λ core. core ≡ start) }
+        ensures memory { IfErr result (λ why. why ≡ Refusal.OutOfMemory) }
+    {
+        Ok(Core {
+            schema,
+            journal: Journal::new(alloc)?,
+            shard: Shard::new(alloc),
+        })
+    }
+
+    /// Takes one step, and answers the machine's reply. `Refused(OutOfMemory)` may stand in its place for a step that may take memory,
+    /// and then nothing has changed.
+    pub fn step(&mut self, alloc: Global, step: Step) -> Reply
+        ensures { Steps self.old step result self.new }
+    {
+        match step {
+            Step::Begin { owner, transaction } => self.begin(alloc, owner, transaction),
+            Step::Prepare { owner, txn, slot } => self.prepare(alloc, owner, txn, slot),
+            Step::Decide {
+                owner,
+                txn,
+                verdict,
+                interval,
+            } => self.decide(alloc, owner, txn, verdict, interval),
+            Step::Apply {
+                owner,
+                txn,
+                slot,
+                interval,
+            } => self.apply(alloc, owner, txn, slot, interval),
+            Step::Advance { slot, interval } => self.advance(slot, interval),
+            Step::Open {
+                text,
+                params,
+                bound,
+                interval,
+            } => self.open(alloc, text, params, bound, interval),
+            Step::Scan {
+                query,
+                leaf,
+                slot,
+                interval,
+            } => self.scan(alloc, query, leaf, slot, interval),
+            Step::Finish { query } => self.finish(alloc, query),
+            Step::Close { query } => self.close(query),
+        }
+    }
+
+    fn begin(&mut self, alloc: Global, owner: u64, transaction: Transaction) -> Reply
+        ensures { Steps self.old (step_of.Begin owner transaction) result self.new }
+    {
+        match self.journal.begin(alloc, owner, transaction) {
+            Ok(number) => Reply::Began(number),
+            Err(why) => Reply::Refused(why),
+        }
+    }
+
+    fn prepare(&mut self, alloc: Global, owner: u64, txn: u64, slot: usize) -> Reply
+        ensures { Steps self.old (step_of.Prepare owner txn slot) result self.new }
+    {
+        match self.try_prepare(alloc, owner, txn, slot) {
+            Ok(timestamp) => Reply::Prepared(timestamp),
+            Err(why) => Reply::Refused(why),
+        }
+    }
+
+    fn try_prepare(
+        &mut self,
+        alloc: Global,
+        owner: u64,
+        txn: u64,
+        slot: usize,
+    ) -> Result<u64, Refusal>
+        ensures { Steps self.old (step_of.Prepare owner txn slot) (replied reply_of.Prepared result) self.new }
+    {
+        match self.journal.judge_prepare(owner, txn, slot) {
+            Ok(mutations) => match self.shard.prepare(alloc, txn, mutations) {
+                Ok(()) => match self.journal.note_prepared(owner, txn, slot) {
+                    Ok(timestamp) => Ok(timestamp),
+                    Err(why) => {
+                        self.shard.apply(txn, None);
+                        Err(why)
+                    }
+                },
+                Err(why) => Err(why),
+            },
+            Err(why) => Err(why),
+        }
+    }
+
+    fn decide(
+        &mut self,
+        alloc: Global,
+        owner: u64,
+        txn: u64,
+        verdict: Verdict,
+        interval: Interval,
+    ) -> Reply
+        ensures { Steps self.old (step_of.Decide owner txn verdict interval) result self.new }
+    {
+        match self.journal.decide(alloc, owner, txn, verdict, interval) {
+            Ok(Some(timestamp)) => Reply::Decided(timestamp),
+            Ok(None) => Reply::Aborted,
+            Err(why) => Reply::Refused(why),
+        }
+    }
+
+    fn apply(
+        &mut self,
+        alloc: Global,
+        owner: u64,
+        txn: u64,
+        slot: usize,
+        interval: Interval,
+    ) -> Reply
+        ensures { Steps self.old (step_of.Apply owner txn slot interval) result self.new }
+    {
+        match self.journal.note_applied(alloc, owner, txn, slot, interval) {
+            Ok(committed) => {
+                self.shard.apply(txn, committed);
+                Reply::Applied
+            }
+            Err(why) => Reply::Refused(why),
+        }
+    }
+
+    fn advance(&mut self, slot: usize, interval: Interval) -> Reply
+        ensures { Steps self.old (step_of.Advance slot interval) result self.new }
+    {
+        match self.journal.advance(slot, interval) {
+            Ok(floor) => Reply::Floor(floor),
+            Err(why) => Reply::Refused(why),
+        }
+    }
+
+    fn open(
+        &mut self,
+        alloc: Global,
+        text: Text,
+        params: Params,
+        bound: Bound,
+        interval: Interval,
+    ) -> Reply
+        ensures { Steps self.old (step_of.Open text params bound interval) result self.new }
+    {
+        match self.journal.open(alloc, text, params, bound, interval) {
+            Ok((query, s)) => Reply::Opened {
+                query,
+                s,
+                leaves: 1,
+            },
+            Err(why) => Reply::Refused(why),
+        }
+    }
+
+    fn scan(
+        &mut self,
+        alloc: Global,
+        query: u64,
+        leaf: usize,
+        slot: usize,
+        interval: Interval,
+    ) -> Reply
+        ensures { Steps self.old (step_of.Scan query leaf slot interval) result self.new }
+    {
+        match self.journal.claim_gap(query, leaf, slot, interval) {
+            Ok(Some(s)) => match self.shard.snapshot(alloc, KeyRange::ALL, s) {
+                Ok(rows) => match self.journal.register(query, slot, interval, rows) {
+                    Ok(()) => Reply::Scanned,
+                    Err(why) => Reply::Refused(why),
+                },
+                Err(why) => Reply::Refused(why),
+            },
+            Ok(None) => Reply::Nothing,
+            Err(why) => Reply::Refused(why),
+        }
+    }
+
+    fn finish(&mut self, alloc: Global, query: u64) -> Reply
+        ensures { Steps self.old (step_of.Finish query) result self.new }
+    {
+        match self.journal.piece(query) {
+            Ok((s, rows)) => match copies_of(alloc, rows) {
+                Ok(rows) => Reply::Rows { s, rows },
+                Err(why) => Reply::Refused(why),
+            },
+            Err(why) => Reply::Refused(why),
+        }
+    }
+
+    fn close(&mut self, query: u64) -> Reply
+        ensures { Steps self.old (step_of.Close query) result self.new }
+    {
+        match self.journal.close(query) {
+            Ok(()) => Reply::Closed,
+            Err(why) => Reply::Refused(why),
+        }
+    }
+}

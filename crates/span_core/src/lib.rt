@@ -1,0 +1,15 @@
+//! The core: every step of the machine, taken by a journal and the shard of slot 0, and whole runs of steps.
+//!
+//! The contract of [`run::run`] is the headline: whatever the steps, the replies are the machine's, and every answer has exactly the
+//! rows that its text means on the tables of all the commits of the run at its timestamp or earlier.
+#![tactic(auto)]
+
+pub mod database;
+mod rows;
+pub mod run;
+
+pub use span_machine::query::Params;
+pub use span_machine::step::{Reply, Step, Verdict};
+pub use span_shard::mutation::{CheckedMutation, MutationKind};
+pub use span_shard::schema::{Schema, Table};
+pub use span_shard::transaction::Transaction;
