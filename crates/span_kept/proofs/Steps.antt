@@ -61,6 +61,18 @@ kept_same m n cs kept log ts = record {
       (subst (λ us. IsKeptBy key (commits_at key m.log) (versions_at cs key) (prepared_at cs key) (filter (claims key 0) us)) (sym ts) (kept.kept key));
 }
 
+-- after a step that leaves the versions, they are kept; of a Prepare and an Apply this says nothing
+abbrev pub KeepsVersions : List KeyVersions → Step → Answer → Type 0
+KeepsVersions cs (Prepare owner txn slot) a = Unit {0}
+KeepsVersions cs (Apply owner txn slot interval) a = Unit {0}
+KeepsVersions cs (Begin owner ms) a = AreKept a.1 cs
+KeepsVersions cs (Decide owner txn v interval) a = AreKept a.1 cs
+KeepsVersions cs (Advance slot interval) a = AreKept a.1 cs
+KeepsVersions cs (Open text params bound interval) a = AreKept a.1 cs
+KeepsVersions cs (Scan query leaf slot interval) a = AreKept a.1 cs
+KeepsVersions cs (Finish query) a = AreKept a.1 cs
+KeepsVersions cs (Close query) a = AreKept a.1 cs
+
 module _ (m : Machine) (reached : IsReached m) (cs : List KeyVersions) (kept : AreKept m cs) where
   -- what is kept at a key that the found transaction claims
   pub kept_under : (key : ℤ) (test : OpenTransaction → Bool) (t : OpenTransaction) (o : Outcome) → find test m.transactions ≡ Some t → claims key 0 t ≡ true → t.outcome ≡ o
@@ -130,19 +142,7 @@ module _ (m : Machine) (reached : IsReached m) (cs : List KeyVersions) (kept : A
   kept_abandoned : (owner txn : ℕ) (t : OpenTransaction) → find (is_transaction owner txn) m.transactions ≡ Some t → is_undecided t ≡ true → AreKept (aborted m owner txn t).1 cs
   kept_abandoned owner txn t found open_still = record { keys = kept.keys; used = kept.used; kept = λ key. abort_at key owner txn t found open_still }
 
-  -- what a step that leaves the versions owes
-  abbrev pub KeepsVersions : Step → Answer → Type 0
-  KeepsVersions (Prepare owner txn slot) a = Unit {0}
-  KeepsVersions (Apply owner txn slot interval) a = Unit {0}
-  KeepsVersions (Begin owner ms) a = AreKept a.1 cs
-  KeepsVersions (Decide owner txn v interval) a = AreKept a.1 cs
-  KeepsVersions (Advance slot interval) a = AreKept a.1 cs
-  KeepsVersions (Open text params bound interval) a = AreKept a.1 cs
-  KeepsVersions (Scan query leaf slot interval) a = AreKept a.1 cs
-  KeepsVersions (Finish query) a = AreKept a.1 cs
-  KeepsVersions (Close query) a = AreKept a.1 cs
-
-  kept_refused : (step : Step) (why : Refusal) → KeepsVersions step (refused m why)
+  kept_refused : (step : Step) (why : Refusal) → KeepsVersions cs step (refused m why)
   kept_refused (Prepare owner txn slot) why = tt
   kept_refused (Apply owner txn slot interval) why = tt
   kept_refused (Begin owner ms) why = kept
@@ -153,7 +153,7 @@ module _ (m : Machine) (reached : IsReached m) (cs : List KeyVersions) (kept : A
   kept_refused (Finish query) why = kept
   kept_refused (Close query) why = kept
 
-  kept_ends : Ends m KeepsVersions
+  kept_ends : Ends m (KeepsVersions cs)
   kept_ends = record {
     refuses = kept_refused;
     begins = λ owner ms accepted. kept_begun owner ms;
@@ -173,8 +173,8 @@ module _ (m : Machine) (reached : IsReached m) (cs : List KeyVersions) (kept : A
   }
 
   -- every step but a Prepare and an Apply keeps what is kept, its refusals included
-  pub kept_by_step : (step : Step) → KeepsVersions step (answer m step)
-  kept_by_step step = answer_by m KeepsVersions kept_ends step
+  pub kept_by_step : (step : Step) → KeepsVersions cs step (answer m step)
+  kept_by_step step = answer_by m (KeepsVersions cs) kept_ends step
 
   -- step by step
   pub kept_begin : (owner : ℕ) (ms : List CheckedMutation) → AreKept (begin m owner ms).1 cs
