@@ -20,7 +20,7 @@ use Rattle.span_laws.proofs.Known.{IsKnown, IsRightNow, step_tells, start_known}
 
 -- the log grows by just what the replies commit
 pub run_log : (begun : List Begun) (asked : List Asked) (m : Machine) (steps : List Step) (replies : List Reply) (last : Machine) → Run m steps replies last → IsSound m → IsKnown begun asked m
-  → last.log ≡ m.log ++ commits_after begun steps replies
+    → last.log ≡ m.log ++ commits_after begun steps replies
 run_log begun asked m [] [] last run sound known = ap (λ (n : Machine). n.log) run ∙ sym (append-nil m.log)
 run_log begun asked m [] (r ∷ rs) last run sound known = absurd run
 run_log begun asked m (x ∷ xs) [] last run sound known = absurd run
@@ -32,7 +32,7 @@ run_log begun asked m (x ∷ xs) (r ∷ rs) last run sound known =
 
 -- rows that the log so far means are meant by all that the run commits, where they are sealed
 meant_at_end : (asked : List Asked) (m : Machine) (steps : List Step) (replies : List Reply) (last : Machine) (query s : ℕ) (rows : List (List Value)) → Run m steps replies last
-  → IsMeant m.log asked query s rows → ((key : ℤ) → IsSealed key s m) → IsMeant last.log asked query s rows
+    → IsMeant m.log asked query s rows → ((key : ℤ) → IsSealed key s m) → IsMeant last.log asked query s rows
 meant_at_end asked m steps replies last query s rows run now sealed = record {
   question = now.question;
   opened = now.opened;
@@ -49,14 +49,15 @@ right_at_end asked m steps replies last _ _ run right = tt
 
 -- every answer of a run is right by all that it commits
 pub run_right : (begun : List Begun) (asked : List Asked) (m : Machine) (steps : List Step) (replies : List Reply) (last : Machine) → Run m steps replies last → IsSound m → IsKnown begun asked m
-  → AreRight last.log asked steps replies
+    → AreRight last.log asked steps replies
 run_right begun asked m [] [] last run sound known = tt
 run_right begun asked m [] (r ∷ rs) last run sound known = absurd run
 run_right begun asked m (x ∷ xs) [] last run sound known = absurd run
 run_right begun asked m (x ∷ xs) (r ∷ rs) last run sound known =
-    let one = step_tells begun asked m x r run.0 run.1 sound known in
-    (right_at_end asked m (x ∷ xs) (r ∷ rs) last x r run one.right,
-      run_right (begun_by x r ++ begun) (asked_by x r ++ asked) run.0 xs rs last run.2 (step_sound m x r run.0 run.1 sound) one.known)
+    let one = step_tells begun asked m x r run.0 run.1 sound known in (
+      right_at_end asked m (x ∷ xs) (r ∷ rs) last x r run one.right,
+      run_right (begun_by x r ++ begun) (asked_by x r ++ asked) run.0 xs rs last run.2 (step_sound m x r run.0 run.1 sound) one.known,
+    )
 
 -- the headline
 pub run_history : (steps : List Step) (replies : List Reply) (last : Machine) → Run start steps replies last → IsHistory steps replies

@@ -20,9 +20,9 @@ use Rattle.span_laws.proofs.Walks.{Ends, answer_by}
 
 pub last_length : (books : List Book) (slot ts : ℕ) → length (with_last books slot ts) ≡ length books
 last_length books slot ts = elim (slice_get books slot) as (λ o. length (if_some o books (λ book. slice_set books slot (record book { last = max book.last ts }))) ≡ length books) [
-    | None ↦ refl
-    | Some book ↦ length-set books slot (record book { last = max book.last ts })
-  ]
+  | None ↦ refl
+  | Some book ↦ length-set books slot (record book { last = max book.last ts })
+]
 
 slots_applied : (m : Machine) (o : Outcome) (owner txn slot : ℕ) (t : OpenTransaction) → length (applied_at o m owner txn slot t).1.books ≡ length m.books
 slots_applied m outcome.Undecided owner txn slot t = refl
@@ -89,9 +89,9 @@ apart_push (q ∷ qs) p apart off = (all_push (λ r. (q.slot == r.slot) ≡ fals
 pub apart_filtered : (test : Prepared → Bool) (ps : List Prepared) → AreApart ps → AreApart (filter test ps)
 apart_filtered test [] apart = tt
 apart_filtered test (p ∷ ps) apart = elim (test p) as (λ b. AreApart (cond b (p ∷ filter test ps) (filter test ps))) [
-    | true ↦ (all_filtered (λ q. (p.slot == q.slot) ≡ false) test ps apart.0, apart_filtered test ps apart.1)
-    | false ↦ apart_filtered test ps apart.1
-  ]
+  | true ↦ (all_filtered (λ q. (p.slot == q.slot) ≡ false) test ps apart.0, apart_filtered test ps apart.1)
+  | false ↦ apart_filtered test ps apart.1
+]
 
 upto_filtered : (o : Outcome) (test : Prepared → Bool) (ps : List Prepared) → IsUpto o ps → IsUpto o (filter test ps)
 upto_filtered outcome.Undecided test ps low = tt
@@ -124,7 +124,7 @@ module _ (m : Machine) (holding : AreHolding m) where
   }
 
   one_of : (b : Bool) (test : OpenTransaction → Bool) (change : OpenTransaction → OpenTransaction) → ((t : OpenTransaction) → IsHolding (length m.books) t → IsHolding (length m.books) (change t))
-    → AllByRecursion (IsHolding (length m.books)) (cond b (without_first test m.transactions) (changed_first test change m.transactions))
+      → AllByRecursion (IsHolding (length m.books)) (cond b (without_first test m.transactions) (changed_first test change m.transactions))
   one_of true test change keeps = all_without (IsHolding (length m.books)) test m.transactions holding
   one_of false test change keeps = all_changed (IsHolding (length m.books)) test change keeps m.transactions holding
 
@@ -138,21 +138,21 @@ module _ (m : Machine) (holding : AreHolding m) where
     refuses = λ step why. holding;
     begins = λ owner ms accepted. all_push (IsHolding (length m.books)) m.transactions (record { owner = owner; number = m.next_transaction; mutations = ms; outcome = outcome.Undecided; prepared = [] }) holding (record { timely = tt; apart = tt; within = tt });
     prepares = λ owner txn slot t book found here accepted well low.
-      let may = may_prepare (is_undecided t) (is_prepared_at slot t) (length (mutations_in book t.mutations) == 0) (conflicts m slot (mutations_in book t.mutations)) accepted in
-      let old = all_found (IsHolding (length m.books)) (is_transaction owner txn) m.transactions t found holding in
-      let p : Prepared = record { slot = slot; timestamp = prepare_timestamp book } in
-      all_changed_found (IsHolding (length m.books)) (is_transaction owner txn) (add_prepared slot (prepare_timestamp book)) m.transactions t found (record {
-        timely = subst (λ o. IsUpto o (t.prepared ++ (record { slot = slot; timestamp = prepare_timestamp book }) ∷ [])) (sym (is_undecided_outcome t.outcome may.0)) tt;
-        apart = apart_push t.prepared (record { slot = slot; timestamp = prepare_timestamp book }) old.apart (none_prepared slot t.prepared may.1);
-        within = all_push (λ p. p.slot < length m.books) t.prepared (record { slot = slot; timestamp = prepare_timestamp book }) old.within (slice_get_within m.books slot book here);
-      }) holding;
+        let may = may_prepare (is_undecided t) (is_prepared_at slot t) (length (mutations_in book t.mutations) == 0) (conflicts m slot (mutations_in book t.mutations)) accepted in
+        let old = all_found (IsHolding (length m.books)) (is_transaction owner txn) m.transactions t found holding in
+        let p : Prepared = record { slot = slot; timestamp = prepare_timestamp book } in
+        all_changed_found (IsHolding (length m.books)) (is_transaction owner txn) (add_prepared slot (prepare_timestamp book)) m.transactions t found (record {
+          timely = subst (λ o. IsUpto o (t.prepared ++ (record { slot = slot; timestamp = prepare_timestamp book }) ∷ [])) (sym (is_undecided_outcome t.outcome may.0)) tt;
+          apart = apart_push t.prepared (record { slot = slot; timestamp = prepare_timestamp book }) old.apart (none_prepared slot t.prepared may.1);
+          within = all_push (λ p. p.slot < length m.books) t.prepared (record { slot = slot; timestamp = prepare_timestamp book }) old.within (slice_get_within m.books slot book here);
+        }) holding;
     commits = λ owner txn interval t found accepted.
-      let old = all_found (IsHolding (length m.books)) (is_transaction owner txn) m.transactions t found holding in
-      all_changed_found (IsHolding (length m.books)) (is_transaction owner txn) (with_outcome (outcome.Committed (commit_timestamp m t interval))) m.transactions t found (record {
-        timely = all_weaker (λ p. p.timestamp ≤ greatest t.prepared) (λ p. p.timestamp ≤ commit_timestamp m t interval) (λ p low. omega arith) t.prepared (greatest_all t.prepared);
-        apart = old.apart;
-        within = old.within;
-      }) holding;
+        let old = all_found (IsHolding (length m.books)) (is_transaction owner txn) m.transactions t found holding in
+        all_changed_found (IsHolding (length m.books)) (is_transaction owner txn) (with_outcome (outcome.Committed (commit_timestamp m t interval))) m.transactions t found (record {
+          timely = all_weaker (λ p. p.timestamp ≤ greatest t.prepared) (λ p. p.timestamp ≤ commit_timestamp m t interval) (λ p low. omega arith) t.prepared (greatest_all t.prepared);
+          apart = old.apart;
+          within = old.within;
+        }) holding;
     aborts = λ owner txn interval t found open_still. one_of (length t.prepared == 0) (is_transaction owner txn) (with_outcome outcome.Aborted) (λ u h. record { timely = tt; apart = h.apart; within = h.within });
     applies = λ owner txn slot interval t book found here accepted. holding_applied t.outcome owner txn slot t;
     advances = λ slot interval book here. holding;

@@ -120,17 +120,17 @@ rising_push (d ∷ ds) c up under = (all_push (λ e. d.timestamp < e.timestamp) 
 pub row_through-append : (ms ns : List CheckedMutation) (row mid : Option Value) → row_through row ms ≡ Ok mid → row_through row (ms ++ ns) ≡ row_through mid ns
 row_through-append [] ns row mid = λ e. let same : row ≡ mid = cc in ap (λ r. row_through r ns) same
 row_through-append (m ∷ ms) ns row mid = elim (row_after m row) as (λ r. and_then r (λ next. row_through next ms) ≡ Ok mid → and_then r (λ next. row_through next (ms ++ ns)) ≡ row_through mid ns) [
-    | Ok next ↦ λ e. row_through-append ms ns next mid e
-    | Err why ↦ λ e. cc
-  ]
+  | Ok next ↦ λ e. row_through-append ms ns next mid e
+  | Err why ↦ λ e. cc
+]
 
 -- where all goes through, the front does
 pub front_through : (ms ns : List CheckedMutation) (row out : Option Value) → row_through row (ms ++ ns) ≡ Ok out → (mid : Option Value) × (row_through row ms ≡ Ok mid) × (row_through mid ns ≡ Ok out)
 front_through [] ns row out = λ e. (row, refl, e)
 front_through (m ∷ ms) ns row out = elim (row_after m row) as (λ r. and_then r (λ next. row_through next (ms ++ ns)) ≡ Ok out → (mid : Option Value) × (and_then r (λ next. row_through next ms) ≡ Ok mid) × (row_through mid ns ≡ Ok out)) [
-    | Ok next ↦ λ e. front_through ms ns next out e
-    | Err why ↦ λ e. absurd (cc)
-  ]
+  | Ok next ↦ λ e. front_through ms ns next out e
+  | Err why ↦ λ e. absurd (cc)
+]
 
 pub changes_at-push : (key : ℤ) (cs : List Commit) (c : Commit) → changes_at key (cs ++ c ∷ []) ≡ changes_at key cs ++ filter (is_at key) c.mutations
 changes_at-push key [] c = changes_at-cons key c [] ∙ append-nil _
@@ -151,7 +151,7 @@ upto_through key s (c ∷ cs) row out up h =
     let parts = front_through (filter (is_at key) c.mutations) (changes_at key cs) row out (subst (λ l. row_through row l ≡ Ok out) (changes_at-cons key c cs) h) in
     elim (nat_le c.timestamp s) as (λ b. nat_le c.timestamp s ≡ b → (r : Option Value) × (row_through row (changes_at key (cond b (c ∷ filter (λ d. nat_le d.timestamp s) cs) (filter (λ d. nat_le d.timestamp s) cs))) ≡ Ok r)) [
       | true ↦ λ e. let rest = upto_through key s cs parts.0 out up.1 parts.2 in
-        (rest.0, ap (row_through row) (changes_at-cons key c (filter (λ d. nat_le d.timestamp s) cs)) ∙ row_through-append (filter (is_at key) c.mutations) (changes_at key (filter (λ d. nat_le d.timestamp s) cs)) row parts.0 parts.1 ∙ rest.1)
+          (rest.0, ap (row_through row) (changes_at-cons key c (filter (λ d. nat_le d.timestamp s) cs)) ∙ row_through-append (filter (is_at key) c.mutations) (changes_at key (filter (λ d. nat_le d.timestamp s) cs)) row parts.0 parts.1 ∙ rest.1)
       | false ↦ λ e. (row, ap (λ l. row_through row (changes_at key l)) (none_later s c.timestamp cs e up.0))
     ] refl
 
@@ -167,17 +167,17 @@ in_order_rising (c ∷ cs) up = ap (placed is_before c) (in_order_rising cs up.1
 pub rising_filter : (s : ℕ) (cs : List Commit) → IsRising cs → IsRising (filter (λ d. nat_le d.timestamp s) cs)
 rising_filter s [] up = tt
 rising_filter s (c ∷ cs) up = elim (nat_le c.timestamp s) as (λ b. IsRising (cond b (c ∷ filter (λ d. nat_le d.timestamp s) cs) (filter (λ d. nat_le d.timestamp s) cs))) [
-    | true ↦ (all_filtered (λ d. c.timestamp < d.timestamp) (λ d. nat_le d.timestamp s) cs up.0, rising_filter s cs up.1)
-    | false ↦ rising_filter s cs up.1
-  ]
+  | true ↦ (all_filtered (λ d. c.timestamp < d.timestamp) (λ d. nat_le d.timestamp s) cs up.0, rising_filter s cs up.1)
+  | false ↦ rising_filter s cs up.1
+]
 
 -- what the tables at s do with the key is what the key's commits up to s do, in the order of the log
 pub changes_at-upto : (key : ℤ) (log : List Commit) (s : ℕ) → IsRising (commits_at key log) → changes_at key (upto log s) ≡ changes_at key (filter (λ d. nat_le d.timestamp s) (commits_at key log))
 changes_at-upto key log s up =
     sym (changes_at-filter key (upto log s))
     ∙ ap (changes_at key) (filter-in_order is_before is_before-order (touches key) (filter (λ d. nat_le d.timestamp s) log)
-      ∙ ap (in_order is_before) (filter_swap (touches key) (λ d. nat_le d.timestamp s) log)
-      ∙ in_order_rising (filter (λ d. nat_le d.timestamp s) (commits_at key log)) (rising_filter s (commits_at key log) up))
+    ∙ ap (in_order is_before) (filter_swap (touches key) (λ d. nat_le d.timestamp s) log)
+    ∙ in_order_rising (filter (λ d. nat_le d.timestamp s) (commits_at key log)) (rising_filter s (commits_at key log) up))
 
 -- ---- the tables
 
@@ -185,6 +185,8 @@ changes_at-upto key log s up =
 pub tables_made : (m : Machine) (slot : ℤ → ℕ) (s : ℕ) → ((key : ℤ) → IsInPlace key (slot key) m) → (db : Database) × (tables m.log s ≡ Ok db)
 tables_made m slot s place = apply-succeeds (mutations_of (upto m.log s)) finmap.empty (λ key.
     let o = place key in
-    let made = upto_through key s (commits_at key m.log) None o.through.row o.rising o.through.made in
-    (made.0, subst (λ (r : Option Value). row_through r (changes_at key (upto m.log s)) ≡ Ok made.0) (sym (get-empty int_cmp key))
-      (ap (row_through None) (changes_at-upto key m.log s o.rising) ∙ made.1)))
+    let made = upto_through key s (commits_at key m.log) None o.through.row o.rising o.through.made in (
+      made.0,
+      subst (λ (r : Option Value). row_through r (changes_at key (upto m.log s)) ≡ Ok made.0) (sym (get-empty int_cmp key))
+          (ap (row_through None) (changes_at-upto key m.log s o.rising) ∙ made.1),
+    ))

@@ -135,7 +135,7 @@ commit_begun begun owner txn ts t same_owner same is =
 module _ (begun : List Begun) (asked : List Asked) (m : Machine) (sound : IsSound m) (known : IsKnown begun asked m) where
   -- nothing is begun, asked or committed
   tells_quiet : (step : Step) (r : Reply) (n : Machine) → IsQuiet begun step r → AllByRecursion (IsBegun begun) n.transactions → AllByRecursion (IsAsked asked) n.queries
-    → n.next_transaction ≡ m.next_transaction → n.next_query ≡ m.next_query → n.log ≡ m.log → IsRightNow m asked step r → Tells begun asked m step r n
+      → n.next_transaction ≡ m.next_transaction → n.next_query ≡ m.next_query → n.log ≡ m.log → IsRightNow m asked step r → Tells begun asked m step r n
   tells_quiet step r n quiet ts qs same_transaction same_query same_log right = record {
     known = subst (λ bs. IsKnown (bs ++ begun) (asked_by step r ++ asked) n) (sym quiet.no_begun) (subst (λ l. IsKnown begun (l ++ asked) n) (sym quiet.no_asked) (record {
       transactions = ts;
@@ -152,24 +152,24 @@ module _ (begun : List Begun) (asked : List Asked) (m : Machine) (sound : IsSoun
   tells_same step r quiet right = tells_quiet step r m quiet known.transactions known.queries refl refl refl right
 
   either_begun : (b : Bool) (test : OpenTransaction → Bool) (change : OpenTransaction → OpenTransaction) → ((t : OpenTransaction) → IsBegun begun t → IsBegun begun (change t))
-    → AllByRecursion (IsBegun begun) (cond b (without_first test m.transactions) (changed_first test change m.transactions))
+      → AllByRecursion (IsBegun begun) (cond b (without_first test m.transactions) (changed_first test change m.transactions))
   either_begun true test change keeps = all_without (IsBegun begun) test m.transactions known.transactions
   either_begun false test change keeps = all_changed (IsBegun begun) test change keeps m.transactions known.transactions
 
   tells_applied : (o : Outcome) (owner txn slot : ℕ) (interval : Interval) (t : OpenTransaction) → Tells begun asked m (Apply owner txn slot interval) (applied_at o m owner txn slot t).0 (applied_at o m owner txn slot t).1
   tells_applied outcome.Undecided owner txn slot interval t = tells_same (Apply owner txn slot interval) (Refused refusal.WrongState) (record { no_begun = refl; no_asked = refl; no_commit = refl }) tt
   tells_applied outcome.Aborted owner txn slot interval t = tells_quiet (Apply owner txn slot interval) reply.Applied (applied_at outcome.Aborted m owner txn slot t).1 (record { no_begun = refl; no_asked = refl; no_commit = refl })
-    (either_begun (length (without_prepared slot t).prepared == 0) (is_transaction owner txn) (without_prepared slot) (λ u is. is)) known.queries refl refl refl tt
+      (either_begun (length (without_prepared slot t).prepared == 0) (is_transaction owner txn) (without_prepared slot) (λ u is. is)) known.queries refl refl refl tt
   tells_applied (outcome.Committed ts) owner txn slot interval t = tells_quiet (Apply owner txn slot interval) reply.Applied (applied_at (outcome.Committed ts) m owner txn slot t).1 (record { no_begun = refl; no_asked = refl; no_commit = refl })
-    (either_begun (length (without_prepared slot t).prepared == 0) (is_transaction owner txn) (without_prepared slot) (λ u is. is)) known.queries refl refl refl tt
+      (either_begun (length (without_prepared slot t).prepared == 0) (is_transaction owner txn) (without_prepared slot) (λ u is. is)) known.queries refl refl refl tt
 
   tells_begun : (owner : ℕ) (ms : List CheckedMutation) → Tells begun asked m (Begin owner ms) (reply.Began m.next_transaction) (machine.begun m owner ms).1
   tells_begun owner ms = record {
     known = record {
       transactions = all_push (IsBegun ((record { number = m.next_transaction; mutations = ms }) ∷ begun)) m.transactions (record { owner = owner; number = m.next_transaction; mutations = ms; outcome = outcome.Undecided; prepared = [] })
-        (all_weaker (IsBegun begun) (IsBegun ((record { number = m.next_transaction; mutations = ms }) ∷ begun))
+          (all_weaker (IsBegun begun) (IsBegun ((record { number = m.next_transaction; mutations = ms }) ∷ begun))
           (λ t is. begun_still begun (record { number = m.next_transaction; mutations = ms }) m.next_transaction t refl (begun_low begun m.next_transaction t known.begun_below is) is) m.transactions known.transactions)
-        (begun_now begun (record { owner = owner; number = m.next_transaction; mutations = ms; outcome = outcome.Undecided; prepared = [] }));
+          (begun_now begun (record { owner = owner; number = m.next_transaction; mutations = ms; outcome = outcome.Undecided; prepared = [] }));
       begun_below = (omega arith, all_weaker (λ b. b.number < m.next_transaction) (λ b. b.number < m.next_transaction + 1) (λ b low. omega arith) begun known.begun_below);
       queries = known.queries;
       asked_below = known.asked_below;
@@ -179,15 +179,15 @@ module _ (begun : List Begun) (asked : List Asked) (m : Machine) (sound : IsSoun
   }
 
   tells_opened : (text : List ℕ) (params : Params) (bound : Bound) (interval : Interval) (s : ℕ) → is_understood text ≡ true
-    → Tells begun asked m (Open text params bound interval) (reply.Opened m.next_query s 1) (record m { queries = m.queries ++ (record { number = m.next_query; text = text; params = params; s = s; covered = false }) ∷ []; next_query = m.next_query + 1 })
+      → Tells begun asked m (Open text params bound interval) (reply.Opened m.next_query s 1) (record m { queries = m.queries ++ (record { number = m.next_query; text = text; params = params; s = s; covered = false }) ∷ []; next_query = m.next_query + 1 })
   tells_opened text params bound interval s understood = record {
     known = record {
       transactions = known.transactions;
       begun_below = known.begun_below;
       queries = all_push (IsAsked ((record { number = m.next_query; text = text; params = params; s = s }) ∷ asked)) m.queries (record { number = m.next_query; text = text; params = params; s = s; covered = false })
-        (all_weaker (IsAsked asked) (IsAsked ((record { number = m.next_query; text = text; params = params; s = s }) ∷ asked))
+          (all_weaker (IsAsked asked) (IsAsked ((record { number = m.next_query; text = text; params = params; s = s }) ∷ asked))
           (λ q is. asked_still asked (record { number = m.next_query; text = text; params = params; s = s }) m.next_query q refl (asked_low asked m.next_query q known.asked_below is) is) m.queries known.queries)
-        (asked_now asked (record { number = m.next_query; text = text; params = params; s = s; covered = false }), understood);
+          (asked_now asked (record { number = m.next_query; text = text; params = params; s = s; covered = false }), understood);
       asked_below = (omega arith, all_weaker (λ a. a.number < m.next_query) (λ a. a.number < m.next_query + 1) (λ a low. omega arith) asked known.asked_below);
     };
     log = sym (append-nil m.log);
@@ -195,58 +195,61 @@ module _ (begun : List Begun) (asked : List Asked) (m : Machine) (sound : IsSoun
   }
 
   tells_committed : (owner txn ts : ℕ) (interval : Interval) (t : OpenTransaction) → find (is_transaction owner txn) m.transactions ≡ Some t
-    → Tells begun asked m (Decide owner txn verdict.Commit interval) (reply.Decided ts) (committed m owner txn ts t).1
+      → Tells begun asked m (Decide owner txn verdict.Commit interval) (reply.Decided ts) (committed m owner txn ts t).1
   tells_committed owner txn ts interval t found =
-    let is : is_transaction owner txn t ≡ true = found_passes (is_transaction owner txn) m.transactions t found in
-    record {
-      known = record {
-        transactions = all_changed (IsBegun begun) (is_transaction owner txn) (with_outcome (outcome.Committed ts)) (λ u h. h) m.transactions known.transactions;
-        begun_below = known.begun_below;
-        queries = known.queries;
-        asked_below = known.asked_below;
-      };
-      log = ap (λ cs. m.log ++ cs) (sym (commit_begun begun owner txn ts t (number_same t.owner owner (first_true (t.owner == owner) (t.number == txn) is)) (number_same t.number txn (second_true (t.owner == owner) (t.number == txn) is))
-        (all_found (IsBegun begun) (is_transaction owner txn) m.transactions t found known.transactions)));
-      right = tt;
-    }
+      let is : is_transaction owner txn t ≡ true = found_passes (is_transaction owner txn) m.transactions t found in
+      record {
+        known = record {
+          transactions = all_changed (IsBegun begun) (is_transaction owner txn) (with_outcome (outcome.Committed ts)) (λ u h. h) m.transactions known.transactions;
+          begun_below = known.begun_below;
+          queries = known.queries;
+          asked_below = known.asked_below;
+        };
+        log = ap (λ cs. m.log ++ cs) (sym (commit_begun begun owner txn ts t (number_same t.owner owner (first_true (t.owner == owner) (t.number == txn) is)) (number_same t.number txn (second_true (t.owner == owner) (t.number == txn) is))
+            (all_found (IsBegun begun) (is_transaction owner txn) m.transactions t found known.transactions)));
+        right = tt;
+      }
 
   -- the answer to a Finish, by what the query means on the tables
   right_rows : (query : ℕ) (q : OpenQuery) (r : Result Database Refusal) → q.number ≡ query → IsAsked asked q → tables m.log q.s ≡ r → ((key : ℤ) → IsSealed key q.s m) → IsRightNow m asked (Finish query) (answer_on q.s (and_then r (means q.text q.params)))
   right_rows query q (Err why) same is e sealed = tt
   right_rows query q (Ok db) same is e sealed = elim (means q.text q.params db) as (λ r. means q.text q.params db ≡ r → IsRightNow m asked (Finish query) (answer_on q.s r)) [
-      | Ok rows ↦ λ meant. (record {
-          question = asked_of q;
-          opened = subst (λ k. find (λ a. a.number == k) asked ≡ Some (asked_of q)) same is.0;
-          at = refl;
-          db = db;
-          made = e;
-          rows_meant = meant;
-        }, sealed)
-      | Err why ↦ λ bad. tt
-    ] refl
+    | Ok rows ↦ λ meant. (
+      record {
+        question = asked_of q;
+        opened = subst (λ k. find (λ a. a.number == k) asked ≡ Some (asked_of q)) same is.0;
+        at = refl;
+        db = db;
+        made = e;
+        rows_meant = meant;
+      },
+      sealed,
+    )
+    | Err why ↦ λ bad. tt
+  ] refl
 
   tells_ends : Ends m (λ step a. Tells begun asked m step a.0 a.1)
   tells_ends = record {
     refuses = λ step why. tells_same step (Refused why) (refusal_quiet begun step why) (refusal_right m asked step why);
     begins = λ owner ms accepted. tells_begun owner ms;
     prepares = λ owner txn slot t book found here accepted well low. tells_quiet _ _ _ (record { no_begun = refl; no_asked = refl; no_commit = refl })
-      (all_changed (IsBegun begun) (is_transaction owner txn) (add_prepared slot (prepare_timestamp book)) (λ u is. is) m.transactions known.transactions) known.queries refl refl refl tt;
+        (all_changed (IsBegun begun) (is_transaction owner txn) (add_prepared slot (prepare_timestamp book)) (λ u is. is) m.transactions known.transactions) known.queries refl refl refl tt;
     commits = λ owner txn interval t found accepted. tells_committed owner txn (commit_timestamp m t interval) interval t found;
     aborts = λ owner txn interval t found open_still. tells_quiet _ _ _ (record { no_begun = refl; no_asked = refl; no_commit = refl })
-      (either_begun (length t.prepared == 0) (is_transaction owner txn) (with_outcome outcome.Aborted) (λ u is. is)) known.queries refl refl refl tt;
+        (either_begun (length t.prepared == 0) (is_transaction owner txn) (with_outcome outcome.Aborted) (λ u is. is)) known.queries refl refl refl tt;
     applies = λ owner txn slot interval t book found here accepted. tells_applied t.outcome owner txn slot interval t;
     advances = λ slot interval book here. tells_quiet _ _ _ (record { no_begun = refl; no_asked = refl; no_commit = refl }) known.transactions known.queries refl refl refl tt;
     opens = λ text params bound interval accepted. tells_opened text params bound interval (timestamp_of bound interval)
-      (may_open (is_understood text) (nat_le timestamp_end (timestamp_of bound interval)) (nat_le 64 (length m.queries) || nat_le (2 ^ 63) m.next_query) accepted).0;
+        (may_open (is_understood text) (nat_le timestamp_end (timestamp_of bound interval)) (nat_le 64 (length m.queries) || nat_le (2 ^ 63) m.next_query) accepted).0;
     finds_nothing = λ query leaf slot interval. tells_same _ _ (record { no_begun = refl; no_asked = refl; no_commit = refl }) tt;
     scans = λ query leaf slot interval q book found here safe. tells_quiet _ _ _ (record { no_begun = refl; no_asked = refl; no_commit = refl })
-      known.transactions (all_changed (IsAsked asked) (is_query query) cover (λ u is. is) m.queries known.queries) refl refl refl tt;
+        known.transactions (all_changed (IsAsked asked) (is_query query) cover (λ u is. is) m.queries known.queries) refl refl refl tt;
     waits = λ query leaf slot interval q book found here. tells_quiet _ _ _ (record { no_begun = refl; no_asked = refl; no_commit = refl }) known.transactions known.queries refl refl refl tt;
     finishes = λ query q found covered. tells_same (Finish query) (answer_on q.s (meaning m q)) (record { no_begun = refl; no_asked = refl; no_commit = refl })
-      (right_rows query q (tables m.log q.s) (number_same q.number query (found_passes (is_query query) m.queries q found)) (all_found (IsAsked asked) (is_query query) m.queries q found known.queries) refl
+        (right_rows query q (tables m.log q.s) (number_same q.number query (found_passes (is_query query) m.queries q found)) (all_found (IsAsked asked) (is_query query) m.queries q found known.queries) refl
         (all_found (IsCoveredSealed m) (is_query query) m.queries q found sound.queries covered));
     closes = λ query q found. tells_quiet _ _ _ (record { no_begun = refl; no_asked = refl; no_commit = refl })
-      known.transactions (all_without (IsAsked asked) (is_query query) m.queries known.queries) refl refl refl tt;
+        known.transactions (all_without (IsAsked asked) (is_query query) m.queries known.queries) refl refl refl tt;
   }
 
 -- every step tells what it begins, asks and commits
@@ -259,7 +262,7 @@ step_tells begun asked m step r next (inl e) sound known =
     subst (λ x. Tells begun asked m step x next) (sym e.0) (subst (λ n. Tells begun asked m step (answer m step).0 n) (sym e.1) (answer_tells begun asked m sound known step))
 step_tells begun asked m step r next (inr e) sound known =
     subst (λ x. Tells begun asked m step x next) (sym e.1) (subst (λ n. Tells begun asked m step (Refused refusal.OutOfMemory) n) (sym e.2)
-      (tells_same begun asked m sound known step (Refused refusal.OutOfMemory) (refusal_quiet begun step refusal.OutOfMemory) (refusal_right m asked step refusal.OutOfMemory)))
+    (tells_same begun asked m sound known step (Refused refusal.OutOfMemory) (refusal_quiet begun step refusal.OutOfMemory) (refusal_right m asked step refusal.OutOfMemory)))
 
 pub start_known : IsKnown [] [] start
 start_known = record { transactions = tt; begun_below = tt; queries = tt; asked_below = tt }

@@ -26,17 +26,17 @@ IsIn x xs = (i : ℕ) × (slice_get xs i ≡ Some x)
 pub found_in : {A : Type 0} (test : A → Bool) (xs : List A) (x : A) → find test xs ≡ Some x → IsIn x xs
 found_in test [] x = λ e. absurd (cc)
 found_in test (y ∷ ys) x = elim (test y) as (λ b. cond b (Some y) (find test ys) ≡ Some x → IsIn x (y ∷ ys)) [
-    | true ↦ λ e. (0, e)
-    | false ↦ λ e. let rest = found_in test ys x e in (suc rest.0, rest.1)
-  ]
+  | true ↦ λ e. (0, e)
+  | false ↦ λ e. let rest = found_in test ys x e in (suc rest.0, rest.1)
+]
 
 -- what a search finds passes
 pub found_passes : {A : Type 0} (test : A → Bool) (xs : List A) (x : A) → find test xs ≡ Some x → test x ≡ true
 found_passes test [] x = λ e. absurd (cc)
 found_passes test (y ∷ ys) x = elim (test y) as (λ b. test y ≡ b → cond b (Some y) (find test ys) ≡ Some x → test x ≡ true) [
-    | true ↦ λ is e. let same : y ≡ x = cc in subst (λ z. test z ≡ true) same is
-    | false ↦ λ is e. found_passes test ys x e
-  ] refl
+  | true ↦ λ is e. let same : y ≡ x = cc in subst (λ z. test z ≡ true) same is
+  | false ↦ λ is e. found_passes test ys x e
+] refl
 
 kept_behind : {A : Type 0} (xs ys : List A) (x y : A) → (IsIn x xs → IsIn x ys) → (i : ℕ) → slice_get (y ∷ xs) i ≡ Some x → IsIn x (y ∷ ys)
 kept_behind xs ys x y back zero e = (0, e)
@@ -46,9 +46,9 @@ kept_behind xs ys x y back (suc i) e = let rest = back (i, e) in (suc rest.0, re
 pub kept_in : {A : Type 0} (test : A → Bool) (xs : List A) (x : A) → IsIn x (filter test xs) → IsIn x xs
 kept_in test [] x = λ is. is
 kept_in test (y ∷ ys) x = elim (test y) as (λ b. IsIn x (cond b (y ∷ filter test ys) (filter test ys)) → IsIn x (y ∷ ys)) [
-    | true ↦ λ is. kept_behind (filter test ys) ys x y (kept_in test ys x) is.0 is.1
-    | false ↦ λ is. let rest = kept_in test ys x is in (suc rest.0, rest.1)
-  ]
+  | true ↦ λ is. kept_behind (filter test ys) ys x y (kept_in test ys x) is.0 is.1
+  | false ↦ λ is. let rest = kept_in test ys x is in (suc rest.0, rest.1)
+]
 
 -- ---- what holds of each
 
@@ -106,9 +106,9 @@ module _ {A : Type 0} (P : A → Type 0) where
   pub all_changed_found : (test : A → Bool) (change : A → A) (xs : List A) (x : A) → find test xs ≡ Some x → P (change x) → AllByRecursion P xs → AllByRecursion P (changed_first test change xs)
   all_changed_found test change [] x = λ e p all. tt
   all_changed_found test change (y ∷ ys) x = elim (test y) as (λ b. cond b (Some y) (find test ys) ≡ Some x → P (change x) → P y × AllByRecursion P ys → AllByRecursion P (cond b (change y ∷ ys) (y ∷ changed_first test change ys))) [
-      | true ↦ λ e p all. let same : x ≡ y = cc in (subst (λ z. P (change z)) same p, all.1)
-      | false ↦ λ e p all. (all.0, all_changed_found test change ys x e p all.1)
-    ]
+    | true ↦ λ e p all. let same : x ≡ y = cc in (subst (λ z. P (change z)) same p, all.1)
+    | false ↦ λ e p all. (all.0, all_changed_found test change ys x e p all.1)
+  ]
 
 -- ---- the first that passes, and filters
 
@@ -119,15 +119,15 @@ one_or_other P false x y p q = q
 pub filter_swap : {A : Type 0} (p q : A → Bool) (xs : List A) → filter p (filter q xs) ≡ filter q (filter p xs)
 filter_swap p q [] = refl
 filter_swap p q (x ∷ xs) = elim (p x) as (λ b. p x ≡ b → filter p (cond (q x) (x ∷ filter q xs) (filter q xs)) ≡ filter q (cond b (x ∷ filter p xs) (filter p xs))) [
-    | true ↦ λ e. elim (q x) as (λ v. filter p (cond v (x ∷ filter q xs) (filter q xs)) ≡ cond v (x ∷ filter q (filter p xs)) (filter q (filter p xs))) [
-      | true ↦ rw e (ap (λ l. x ∷ l) (filter_swap p q xs))
-      | false ↦ filter_swap p q xs
-    ]
-    | false ↦ λ e. elim (q x) as (λ v. filter p (cond v (x ∷ filter q xs) (filter q xs)) ≡ filter q (filter p xs)) [
-      | true ↦ rw e (filter_swap p q xs)
-      | false ↦ filter_swap p q xs
-    ]
-  ] refl
+  | true ↦ λ e. elim (q x) as (λ v. filter p (cond v (x ∷ filter q xs) (filter q xs)) ≡ cond v (x ∷ filter q (filter p xs)) (filter q (filter p xs))) [
+    | true ↦ rw e (ap (λ l. x ∷ l) (filter_swap p q xs))
+    | false ↦ filter_swap p q xs
+  ]
+  | false ↦ λ e. elim (q x) as (λ v. filter p (cond v (x ∷ filter q xs) (filter q xs)) ≡ filter q (filter p xs)) [
+    | true ↦ rw e (filter_swap p q xs)
+    | false ↦ filter_swap p q xs
+  ]
+] refl
 
 -- the first that passes, with what is before and behind it
 pub record Split {A : Type 0} (test : A → Bool) (xs : List A) (x : A) : Type 0 where
@@ -140,9 +140,9 @@ pub record Split {A : Type 0} (test : A → Bool) (xs : List A) (x : A) : Type 0
 pub split_found : {A : Type 0} (test : A → Bool) (xs : List A) (x : A) → find test xs ≡ Some x → Split test xs x
 split_found test [] x = λ e. absurd (cc)
 split_found test (y ∷ ys) x = elim (test y) as (λ b. test y ≡ b → cond b (Some y) (find test ys) ≡ Some x → Split test (y ∷ ys) x) [
-    | true ↦ λ is e. let same : y ≡ x = cc in record { front = []; back = ys; whole = ap (λ z. z ∷ ys) same; changed = λ change. rw is (ap (λ z. change z ∷ ys) same); without = rw is refl }
-    | false ↦ λ is e. let rest = split_found test ys x e in record { front = y ∷ rest.front; back = rest.back; whole = ap (λ l. y ∷ l) rest.whole; changed = λ change. rw is (ap (λ l. y ∷ l) (rest.changed change)); without = rw is (ap (λ l. y ∷ l) rest.without) }
-  ] refl
+  | true ↦ λ is e. let same : y ≡ x = cc in record { front = []; back = ys; whole = ap (λ z. z ∷ ys) same; changed = λ change. rw is (ap (λ z. change z ∷ ys) same); without = rw is refl }
+  | false ↦ λ is e. let rest = split_found test ys x e in record { front = y ∷ rest.front; back = rest.back; whole = ap (λ l. y ∷ l) rest.whole; changed = λ change. rw is (ap (λ l. y ∷ l) (rest.changed change)); without = rw is (ap (λ l. y ∷ l) rest.without) }
+] refl
 
 pub not_nil : {A : Type 0} (xs ys : List A) (x : A) → xs ++ x ∷ ys ≡ [] → ⊥
 not_nil [] ys x = λ e. cc

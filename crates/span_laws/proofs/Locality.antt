@@ -31,12 +31,12 @@ apply-row (m ∷ ms) db out key h =
     elim (row_after m (finmap.get db m.key)) as (λ r. row_after m (finmap.get db m.key) ≡ r → and_then (and_then r (λ row. Ok (with_row db m.key row))) (λ next. apply next ms) ≡ Ok out → row_through (finmap.get db key) (filter (is_at key) (m ∷ ms)) ≡ Ok (finmap.get out key)) [
       | Err why ↦ λ e bad. cc
       | Ok row ↦ λ e rest.
-        let ih = apply-row ms (with_row db m.key row) out key rest in
-        let ih2 : row_through (cond (is_at key m) row (finmap.get db key)) (filter (is_at key) ms) ≡ Ok (finmap.get out key) = subst (λ r. row_through r (filter (is_at key) ms) ≡ Ok (finmap.get out key)) (get-with_row db m.key row key) ih in
-        elim (is_at key m) as (λ b. is_at key m ≡ b → row_through (cond b row (finmap.get db key)) (filter (is_at key) ms) ≡ Ok (finmap.get out key) → row_through (finmap.get db key) (cond b (m ∷ filter (is_at key) ms) (filter (is_at key) ms)) ≡ Ok (finmap.get out key)) [
-          | true ↦ λ at g. rw (same_key db key m.key at, e) g
-          | false ↦ λ at g. g
-        ] refl ih2
+          let ih = apply-row ms (with_row db m.key row) out key rest in
+          let ih2 : row_through (cond (is_at key m) row (finmap.get db key)) (filter (is_at key) ms) ≡ Ok (finmap.get out key) = subst (λ r. row_through r (filter (is_at key) ms) ≡ Ok (finmap.get out key)) (get-with_row db m.key row key) ih in
+          elim (is_at key m) as (λ b. is_at key m ≡ b → row_through (cond b row (finmap.get db key)) (filter (is_at key) ms) ≡ Ok (finmap.get out key) → row_through (finmap.get db key) (cond b (m ∷ filter (is_at key) ms) (filter (is_at key) ms)) ≡ Ok (finmap.get out key)) [
+            | true ↦ λ at g. rw (same_key db key m.key at, e) g
+            | false ↦ λ at g. g
+          ] refl ih2
     ] refl h
 
 pub is_ok_of : {A B : Type 0} (r : Result A Refusal) (next : A → Result B Refusal) (b : B) → and_then r next ≡ Ok b → (a : A) × (r ≡ Ok a) × (next a ≡ Ok b)
@@ -57,14 +57,14 @@ then_own m ms db row r h =
 
 pub then_each : (m : CheckedMutation) (ms : List CheckedMutation) (db : Database) (row : Option Value) → row_after m (finmap.get db m.key) ≡ Ok row → EachSucceeds (m ∷ ms) db → EachSucceeds ms (with_row db m.key row)
 then_each m ms db row first each key = elim (is_at key m) as (λ b. is_at key m ≡ b → (r : Option Value) × (row_through (finmap.get (with_row db m.key row) key) (filter (is_at key) ms) ≡ Ok r)) [
-    | true ↦ λ at.
+  | true ↦ λ at.
       let own : and_then (Ok row) (λ next. row_through next (filter (is_at m.key) ms)) ≡ Ok (each m.key).0 = subst (λ (v : Result (Option Value) Refusal). and_then v (λ next. row_through next (filter (is_at m.key) ms)) ≡ Ok (each m.key).0) first (at_own m ms db (each m.key).0 (each m.key).1) in
       ((each m.key).0, subst (λ (q : ℤ). row_through (finmap.get (with_row db m.key row) q) (filter (is_at q) ms) ≡ Ok (each m.key).0) (sym (tells_apart exact_signed key m.key at)) (then_own m ms db row (each m.key).0 own))
-    | false ↦ λ at.
+  | false ↦ λ at.
       let e : finmap.get (with_row db m.key row) key ≡ finmap.get db key = get-with_row db m.key row key ∙ ap (λ b. cond b row (finmap.get db key)) at in
       let old : row_through (finmap.get db key) (filter (is_at key) ms) ≡ Ok (each key).0 = subst (λ b. row_through (finmap.get db key) (cond b (m ∷ filter (is_at key) ms) (filter (is_at key) ms)) ≡ Ok (each key).0) at (each key).1 in
       ((each key).0, subst (λ (o : Option Value). row_through o (filter (is_at key) ms) ≡ Ok (each key).0) (sym e) old)
-  ] refl
+] refl
 
 -- where each key's mutations succeed, all do
 pub apply-succeeds : (ms : List CheckedMutation) (db : Database) → EachSucceeds ms db → (out : Database) × (apply db ms ≡ Ok out)

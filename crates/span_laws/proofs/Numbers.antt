@@ -29,16 +29,16 @@ rising_numbers_push n (u ∷ us) t e up low = (all_push (λ v. u.number < v.numb
 pub rising_numbers_changed : (test : OpenTransaction → Bool) (change : OpenTransaction → OpenTransaction) → KeepsNumber change → (ts : List OpenTransaction) → HaveRisingNumbers ts → HaveRisingNumbers (changed_first test change ts)
 rising_numbers_changed test change same [] up = tt
 rising_numbers_changed test change same (t ∷ ts) up = elim (test t) as (λ b. HaveRisingNumbers (cond b (change t ∷ ts) (t ∷ changed_first test change ts))) [
-    | true ↦ (subst (λ n. AllByRecursion (λ u. n < u.number) ts) (sym (same t)) up.0, up.1)
-    | false ↦ (all_changed (λ u. t.number < u.number) test change (λ u low. subst (λ n. t.number < n) (sym (same u)) low) ts up.0, rising_numbers_changed test change same ts up.1)
-  ]
+  | true ↦ (subst (λ n. AllByRecursion (λ u. n < u.number) ts) (sym (same t)) up.0, up.1)
+  | false ↦ (all_changed (λ u. t.number < u.number) test change (λ u low. subst (λ n. t.number < n) (sym (same u)) low) ts up.0, rising_numbers_changed test change same ts up.1)
+]
 
 pub rising_numbers_without : (test : OpenTransaction → Bool) (ts : List OpenTransaction) → HaveRisingNumbers ts → HaveRisingNumbers (without_first test ts)
 rising_numbers_without test [] up = tt
 rising_numbers_without test (t ∷ ts) up = elim (test t) as (λ b. HaveRisingNumbers (cond b ts (t ∷ without_first test ts))) [
-    | true ↦ up.1
-    | false ↦ (all_without (λ u. t.number < u.number) test ts up.0, rising_numbers_without test ts up.1)
-  ]
+  | true ↦ up.1
+  | false ↦ (all_without (λ u. t.number < u.number) test ts up.0, rising_numbers_without test ts up.1)
+]
 
 -- ---- the invariant
 
@@ -81,7 +81,7 @@ module _ (m : Machine) (numbered : IsNumbered m) where
   numbered_changed n test change same e f = record {
     rising = subst HaveRisingNumbers (sym e) (rising_numbers_changed test change same m.transactions numbered.rising);
     below = subst (λ ts. AreBelow n.next_transaction ts) (sym e) (subst (λ k. AreBelow k (changed_first test change m.transactions)) (sym f)
-      (all_changed (λ t. t.number < m.next_transaction) test change (λ t low. subst (λ k. k < m.next_transaction) (sym (same t)) low) m.transactions numbered.below));
+        (all_changed (λ t. t.number < m.next_transaction) test change (λ t low. subst (λ k. k < m.next_transaction) (sym (same t)) low) m.transactions numbered.below));
   }
 
   -- one transaction removed
@@ -93,7 +93,7 @@ module _ (m : Machine) (numbered : IsNumbered m) where
 
   -- one transaction changed or removed
   numbered_either : (b : Bool) (n : Machine) (test : OpenTransaction → Bool) (change : OpenTransaction → OpenTransaction) → KeepsNumber change
-    → n.transactions ≡ cond b (without_first test m.transactions) (changed_first test change m.transactions) → n.next_transaction ≡ m.next_transaction → IsNumbered n
+      → n.transactions ≡ cond b (without_first test m.transactions) (changed_first test change m.transactions) → n.next_transaction ≡ m.next_transaction → IsNumbered n
   numbered_either true n test change same e f = numbered_without n test e f
   numbered_either false n test change same e f = numbered_changed n test change same e f
 
@@ -108,7 +108,7 @@ module _ (m : Machine) (numbered : IsNumbered m) where
     begins = λ owner ms accepted. record {
       rising = rising_numbers_push m.next_transaction m.transactions (record { owner = owner; number = m.next_transaction; mutations = ms; outcome = outcome.Undecided; prepared = [] }) refl numbered.rising numbered.below;
       below = all_push (λ t. t.number < m.next_transaction + 1) m.transactions (record { owner = owner; number = m.next_transaction; mutations = ms; outcome = outcome.Undecided; prepared = [] })
-        (all_weaker (λ t. t.number < m.next_transaction) (λ t. t.number < m.next_transaction + 1) (λ t low. omega arith) m.transactions numbered.below) (omega arith);
+          (all_weaker (λ t. t.number < m.next_transaction) (λ t. t.number < m.next_transaction + 1) (λ t low. omega arith) m.transactions numbered.below) (omega arith);
     };
     prepares = λ owner txn slot t book found here accepted well low. numbered_changed _ (is_transaction owner txn) (add_prepared slot (prepare_timestamp book)) (λ _. refl) refl refl;
     commits = λ owner txn interval t found accepted. numbered_changed _ (is_transaction owner txn) (with_outcome (outcome.Committed (commit_timestamp m t interval))) (λ _. refl) refl refl;

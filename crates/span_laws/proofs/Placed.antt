@@ -30,8 +30,8 @@ use Rattle.span_laws.proofs.Claims.{Lifts, lifts_same, lifts_set, lifts_last, la
 module _ (key : ℤ) (slot : ℕ) (m : Machine) (o : IsInPlace key slot m) where
   -- books rise, the log is the same, and the claim is kept
   pub in_place_by : (n : Machine) → Lifts m.books n.books → n.log ≡ m.log
-    → ((a b : Book) → slice_get m.books slot ≡ Some a → slice_get n.books slot ≡ Some b → a.last ≤ b.last → IsClaim key a.last (commits_at key m.log) (filter (claims key slot) m.transactions) → IsClaim key b.last (commits_at key m.log) (filter (claims key slot) n.transactions))
-    → IsInPlace key slot n
+      → ((a b : Book) → slice_get m.books slot ≡ Some a → slice_get n.books slot ≡ Some b → a.last ≤ b.last → IsClaim key a.last (commits_at key m.log) (filter (claims key slot) m.transactions) → IsClaim key b.last (commits_at key m.log) (filter (claims key slot) n.transactions))
+      → IsInPlace key slot n
   in_place_by n lifts same claim = record {
     only = λ i b h k. let old = lifts.from i b h in o.only i old.0 old.1 (sym (old.3 key) ∙ k);
     held = λ b h. let old = lifts.from slot b h in old.3 key ∙ o.held old.0 old.1;
@@ -44,149 +44,151 @@ module _ (key : ℤ) (slot : ℕ) (m : Machine) (o : IsInPlace key slot m) where
   -- ---- Begin
   begin_placed : (owner : ℕ) (ms : List CheckedMutation) → IsInPlace key slot (begun m owner ms).1
   begin_placed owner ms =
-    in_place_by (begun m owner ms).1 (lifts_same m.books) refl (λ a b p q low h.
+      in_place_by (begun m owner ms).1 (lifts_same m.books) refl (λ a b p q low h.
       subst (IsClaim key b.last (commits_at key m.log)) (sym (filter-append (claims key slot) m.transactions ((record { owner = owner; number = m.next_transaction; mutations = ms; outcome = outcome.Undecided; prepared = [] }) ∷ []) ∙ append-nil _))
-        (claim_up key a.last b.last (commits_at key m.log) (filter (claims key slot) m.transactions) low h))
+      (claim_up key a.last b.last (commits_at key m.log) (filter (claims key slot) m.transactions) low h))
 
   -- ---- Prepare
   pub prepare_here : (owner txn : ℕ) (t : OpenTransaction) (book : Book) → find (is_transaction owner txn) m.transactions ≡ Some t → slice_get m.books slot ≡ Some book
-    → prepare_refusal m slot t book ≡ None → faults m (mutations_in book t.mutations) ≡ None → IsInPlace key slot (prepared m owner txn slot book).1
+      → prepare_refusal m slot t book ≡ None → faults m (mutations_in book t.mutations) ≡ None → IsInPlace key slot (prepared m owner txn slot book).1
   prepare_here owner txn t book found here accepted well =
-    let may = may_prepare (is_undecided t) (is_prepared_at slot t) (length (mutations_in book t.mutations) == 0) (conflicts m slot (mutations_in book t.mutations)) accepted in
-    let whole : filter (is_at key) (mutations_in book t.mutations) ≡ filter (is_at key) t.mutations = all_held key book t.mutations (o.held book here) in
-    in_place_by (prepared m owner txn slot book).1 (lifts_set m.books slot book (record book { last = prepare_timestamp book }) here (omega arith) (λ _. refl)) refl (λ a b p q low h.
+      let may = may_prepare (is_undecided t) (is_prepared_at slot t) (length (mutations_in book t.mutations) == 0) (conflicts m slot (mutations_in book t.mutations)) accepted in
+      let whole : filter (is_at key) (mutations_in book t.mutations) ≡ filter (is_at key) t.mutations = all_held key book t.mutations (o.held book here) in
+      in_place_by (prepared m owner txn slot book).1 (lifts_set m.books slot book (record book { last = prepare_timestamp book }) here (omega arith) (λ _. refl)) refl (λ a b p q low h.
       let same : a ≡ book = cc in
       claim_first key slot a.last b.last (commits_at key m.log) (commits_at key m.log) (is_transaction owner txn) (add_prepared slot (prepare_timestamp book)) m.transactions t found (λ rest empty. record {
         neither = λ x y. (low, refl);
         both = λ x y. absurd (not_both (is_prepared_at slot t) (first_true (is_prepared_at slot t) (is_some_of (filter (is_at key) t.mutations)) x) may.1);
         leaves = λ x y. absurd (not_both (is_prepared_at slot t) (first_true (is_prepared_at slot t) (is_some_of (filter (is_at key) t.mutations)) x) may.1);
-        comes = λ x y. (empty x ∙ unclaimed key slot (mutations_in book t.mutations) m.transactions (subst (λ l. is_some_of l ≡ true) (sym whole) (second_true (is_prepared_at slot (add_prepared slot (prepare_timestamp book) t)) (is_some_of (filter (is_at key) t.mutations)) y)) may.2,
+        comes = λ x y. (
+          empty x ∙ unclaimed key slot (mutations_in book t.mutations) m.transactions (subst (λ l. is_some_of l ≡ true) (sym whole) (second_true (is_prepared_at slot (add_prepared slot (prepare_timestamp book) t)) (is_some_of (filter (is_at key) t.mutations)) y)) may.2,
           λ below. subst (IsClaimed key b.last (commits_at key m.log) (add_prepared slot (prepare_timestamp book) t)) (sym (is_undecided_outcome t.outcome may.0)) (record {
             below = below_up a.last b.last (commits_at key m.log) low below;
             under = all_under a.last (greatest (t.prepared ++ (record { slot = slot; timestamp = prepare_timestamp book }) ∷ [])) (commits_at key m.log) (prepared_last a book t.prepared slot same) below;
             through = subst (λ l. Succeeds (changes_at key (commits_at key m.log) ++ l)) whole (go_through key m (mutations_in book t.mutations) o.in_range o.rising well);
-          }));
+          }),
+        );
       }) h)
 
   pub prepare_at : (owner txn i : ℕ) (t : OpenTransaction) (book : Book) → i ≡ slot → find (is_transaction owner txn) m.transactions ≡ Some t → slice_get m.books i ≡ Some book
-    → prepare_refusal m i t book ≡ None → faults m (mutations_in book t.mutations) ≡ None → IsInPlace key slot (prepared m owner txn i book).1
+      → prepare_refusal m i t book ≡ None → faults m (mutations_in book t.mutations) ≡ None → IsInPlace key slot (prepared m owner txn i book).1
   prepare_at owner txn i t book e = subst (λ j. find (is_transaction owner txn) m.transactions ≡ Some t → slice_get m.books j ≡ Some book
-    → prepare_refusal m j t book ≡ None → faults m (mutations_in book t.mutations) ≡ None → IsInPlace key slot (prepared m owner txn j book).1) (sym e) (prepare_here owner txn t book)
+      → prepare_refusal m j t book ≡ None → faults m (mutations_in book t.mutations) ≡ None → IsInPlace key slot (prepared m owner txn j book).1) (sym e) (prepare_here owner txn t book)
 
   pub prepare_away : (owner txn i : ℕ) (t : OpenTransaction) (book : Book) → (i == slot) ≡ false → find (is_transaction owner txn) m.transactions ≡ Some t → slice_get m.books i ≡ Some book
-    → is_undecided t ≡ true → IsInPlace key slot (prepared m owner txn i book).1
+      → is_undecided t ≡ true → IsInPlace key slot (prepared m owner txn i book).1
   prepare_away owner txn i t book off found here open_still =
-    let alike : claims key slot (add_prepared i (prepare_timestamp book) t) ≡ claims key slot t = ap (λ b. b && is_some_of (filter (is_at key) t.mutations)) (away_push slot i (prepare_timestamp book) t.prepared off) in
-    in_place_by (prepared m owner txn i book).1 (lifts_set m.books i book (record book { last = prepare_timestamp book }) here (omega arith) (λ _. refl)) refl (λ a b p q low h.
+      let alike : claims key slot (add_prepared i (prepare_timestamp book) t) ≡ claims key slot t = ap (λ b. b && is_some_of (filter (is_at key) t.mutations)) (away_push slot i (prepare_timestamp book) t.prepared off) in
+      in_place_by (prepared m owner txn i book).1 (lifts_set m.books i book (record book { last = prepare_timestamp book }) here (omega arith) (λ _. refl)) refl (λ a b p q low h.
       claim_first key slot a.last b.last (commits_at key m.log) (commits_at key m.log) (is_transaction owner txn) (add_prepared i (prepare_timestamp book)) m.transactions t found (λ rest empty. record {
         neither = λ x y. (low, refl);
         both = λ x y g.
-          let old : IsPromised key a.last (commits_at key m.log) t = subst (IsClaimed key a.last (commits_at key m.log) t) (is_undecided_outcome t.outcome open_still) g in
-          subst (IsClaimed key b.last (commits_at key m.log) (add_prepared i (prepare_timestamp book) t)) (sym (is_undecided_outcome t.outcome open_still)) (record {
-            below = below_up a.last b.last (commits_at key m.log) low old.below;
-            under = under_up (greatest t.prepared) (greatest (t.prepared ++ (record { slot = i; timestamp = prepare_timestamp book }) ∷ [])) (commits_at key m.log) (greatest_more t.prepared (record { slot = i; timestamp = prepare_timestamp book })) old.under;
-            through = old.through;
-          });
+            let old : IsPromised key a.last (commits_at key m.log) t = subst (IsClaimed key a.last (commits_at key m.log) t) (is_undecided_outcome t.outcome open_still) g in
+            subst (IsClaimed key b.last (commits_at key m.log) (add_prepared i (prepare_timestamp book) t)) (sym (is_undecided_outcome t.outcome open_still)) (record {
+              below = below_up a.last b.last (commits_at key m.log) low old.below;
+              under = under_up (greatest t.prepared) (greatest (t.prepared ++ (record { slot = i; timestamp = prepare_timestamp book }) ∷ [])) (commits_at key m.log) (greatest_more t.prepared (record { slot = i; timestamp = prepare_timestamp book })) old.under;
+              through = old.through;
+            });
         leaves = λ x y. absurd (not_both (claims key slot t) x (sym alike ∙ y));
         comes = λ x y. absurd (not_both (claims key slot t) (sym alike ∙ y) x);
       }) h)
 
   pub prepare_there : (owner txn i : ℕ) (t : OpenTransaction) (book : Book) → find (is_transaction owner txn) m.transactions ≡ Some t → slice_get m.books i ≡ Some book
-    → prepare_refusal m i t book ≡ None → faults m (mutations_in book t.mutations) ≡ None → IsInPlace key slot (prepared m owner txn i book).1
+      → prepare_refusal m i t book ≡ None → faults m (mutations_in book t.mutations) ≡ None → IsInPlace key slot (prepared m owner txn i book).1
   prepare_there owner txn i t book found here accepted well =
-    let may = may_prepare (is_undecided t) (is_prepared_at i t) (length (mutations_in book t.mutations) == 0) (conflicts m i (mutations_in book t.mutations)) accepted in
-    elim (i == slot) as (λ v. (i == slot) ≡ v → IsInPlace key slot (prepared m owner txn i book).1) [
-      | true ↦ λ e. prepare_at owner txn i t book (number_same i slot e) found here accepted well
-      | false ↦ λ e. prepare_away owner txn i t book e found here may.0
-    ] refl
+      let may = may_prepare (is_undecided t) (is_prepared_at i t) (length (mutations_in book t.mutations) == 0) (conflicts m i (mutations_in book t.mutations)) accepted in
+      elim (i == slot) as (λ v. (i == slot) ≡ v → IsInPlace key slot (prepared m owner txn i book).1) [
+        | true ↦ λ e. prepare_at owner txn i t book (number_same i slot e) found here accepted well
+        | false ↦ λ e. prepare_away owner txn i t book e found here may.0
+      ] refl
 
   -- ---- Decide
   pub commit_here : (owner txn ts : ℕ) (t : OpenTransaction) → find (is_transaction owner txn) m.transactions ≡ Some t → is_undecided t ≡ true → is_all_prepared m t ≡ true → greatest t.prepared ≤ ts → ts < timestamp_end
-    → IsInPlace key slot (committed m owner txn ts t).1
+      → IsInPlace key slot (committed m owner txn ts t).1
   commit_here owner txn ts t found open_still ready high low =
-    let c : Commit = commit_of ts t in
-    let cs : List Commit = commits_at key m.log in
-    let ds : List Commit = commits_at key (m.log ++ commit_of ts t ∷ []) in
-    let lifts : Lifts m.books (with_last m.books (coordinator_of t.prepared) ts) = lifts_last m.books (coordinator_of t.prepared) ts in
-    let ranged : IsUnder timestamp_end (m.log ++ commit_of ts t ∷ []) = all_push (λ d. d.timestamp < timestamp_end) m.log (commit_of ts t) o.in_range low in
-    elim (is_some_of (filter (is_at key) t.mutations)) as (λ v. is_some_of (filter (is_at key) t.mutations) ≡ v → IsInPlace key slot (committed m owner txn ts t).1) [
-      | false ↦ λ e.
-        let same : commits_at key (m.log ++ commit_of ts t ∷ []) ≡ commits_at key m.log =
-          commits_at-push key m.log (commit_of ts t) ∙ ap (λ b. commits_at key m.log ++ cond b (commit_of ts t ∷ []) []) e ∙ append-nil _ in
-        record {
-          only = λ i b h k. let old = lifts.from i b h in o.only i old.0 old.1 (sym (old.3 key) ∙ k);
-          held = λ b h. let old = lifts.from slot b h in old.3 key ∙ o.held old.0 old.1;
-          in_range = ranged;
-          rising = subst IsRising (sym same) o.rising;
-          through = subst (λ l. Succeeds (changes_at key l)) (sym same) o.through;
-          claim = λ b h. let old = lifts.from slot b h in
-            claim_first key slot old.0.last b.last (commits_at key m.log) (commits_at key (m.log ++ commit_of ts t ∷ [])) (is_transaction owner txn) (with_outcome (outcome.Committed ts)) m.transactions t found (λ rest empty. record {
-              neither = λ x y. (old.2, sym same);
-              both = λ x y. absurd (not_both (is_some_of (filter (is_at key) t.mutations)) (second_true (is_prepared_at slot t) (is_some_of (filter (is_at key) t.mutations)) x) e);
-              leaves = λ x y. absurd (not_both (claims key slot t) x y);
-              comes = λ x y. absurd (not_both (claims key slot t) y x);
-            }) (o.claim old.0 old.1);
-        }
-      | true ↦ λ e.
-        let same : commits_at key (m.log ++ commit_of ts t ∷ []) ≡ commits_at key m.log ++ commit_of ts t ∷ [] =
-          commits_at-push key m.log (commit_of ts t) ∙ ap (λ b. commits_at key m.log ++ cond b (commit_of ts t ∷ []) []) e in
-        let all : list_all (is_prepared_for m t) t.mutations ≡ true = second_true (not (length t.prepared == 0)) (list_all (is_prepared_for m t) t.mutations) ready in
-        let ready_at = prepared_key m slot key t o.only t.mutations e all in
-        let is : claims key slot t ≡ true = both_of (is_prepared_at slot t) (is_some_of (filter (is_at key) t.mutations)) ready_at.0 e in
-        let book = ready_at.1 in
-        let promised : IsPromised key book.0.last (commits_at key m.log) t =
-          subst (IsClaimed key book.0.last (commits_at key m.log) t) (is_undecided_outcome t.outcome open_still)
+      let c : Commit = commit_of ts t in
+      let cs : List Commit = commits_at key m.log in
+      let ds : List Commit = commits_at key (m.log ++ commit_of ts t ∷ []) in
+      let lifts : Lifts m.books (with_last m.books (coordinator_of t.prepared) ts) = lifts_last m.books (coordinator_of t.prepared) ts in
+      let ranged : IsUnder timestamp_end (m.log ++ commit_of ts t ∷ []) = all_push (λ d. d.timestamp < timestamp_end) m.log (commit_of ts t) o.in_range low in
+      elim (is_some_of (filter (is_at key) t.mutations)) as (λ v. is_some_of (filter (is_at key) t.mutations) ≡ v → IsInPlace key slot (committed m owner txn ts t).1) [
+        | false ↦ λ e.
+            let same : commits_at key (m.log ++ commit_of ts t ∷ []) ≡ commits_at key m.log =
+            commits_at-push key m.log (commit_of ts t) ∙ ap (λ b. commits_at key m.log ++ cond b (commit_of ts t ∷ []) []) e ∙ append-nil _ in
+            record {
+              only = λ i b h k. let old = lifts.from i b h in o.only i old.0 old.1 (sym (old.3 key) ∙ k);
+              held = λ b h. let old = lifts.from slot b h in old.3 key ∙ o.held old.0 old.1;
+              in_range = ranged;
+              rising = subst IsRising (sym same) o.rising;
+              through = subst (λ l. Succeeds (changes_at key l)) (sym same) o.through;
+              claim = λ b h. let old = lifts.from slot b h in
+                  claim_first key slot old.0.last b.last (commits_at key m.log) (commits_at key (m.log ++ commit_of ts t ∷ [])) (is_transaction owner txn) (with_outcome (outcome.Committed ts)) m.transactions t found (λ rest empty. record {
+                    neither = λ x y. (old.2, sym same);
+                    both = λ x y. absurd (not_both (is_some_of (filter (is_at key) t.mutations)) (second_true (is_prepared_at slot t) (is_some_of (filter (is_at key) t.mutations)) x) e);
+                    leaves = λ x y. absurd (not_both (claims key slot t) x y);
+                    comes = λ x y. absurd (not_both (claims key slot t) y x);
+                  }) (o.claim old.0 old.1);
+            }
+        | true ↦ λ e.
+            let same : commits_at key (m.log ++ commit_of ts t ∷ []) ≡ commits_at key m.log ++ commit_of ts t ∷ [] =
+            commits_at-push key m.log (commit_of ts t) ∙ ap (λ b. commits_at key m.log ++ cond b (commit_of ts t ∷ []) []) e in
+            let all : list_all (is_prepared_for m t) t.mutations ≡ true = second_true (not (length t.prepared == 0)) (list_all (is_prepared_for m t) t.mutations) ready in
+            let ready_at = prepared_key m slot key t o.only t.mutations e all in
+            let is : claims key slot t ≡ true = both_of (is_prepared_at slot t) (is_some_of (filter (is_at key) t.mutations)) ready_at.0 e in
+            let book = ready_at.1 in
+            let promised : IsPromised key book.0.last (commits_at key m.log) t =
+            subst (IsClaimed key book.0.last (commits_at key m.log) t) (is_undecided_outcome t.outcome open_still)
             (claim_of key slot book.0.last (commits_at key m.log) (is_transaction owner txn) m.transactions t found is (o.claim book.0 book.1)) in
-        record {
-          only = λ i b h k. let old = lifts.from i b h in o.only i old.0 old.1 (sym (old.3 key) ∙ k);
-          held = λ b h. let old = lifts.from slot b h in old.3 key ∙ o.held old.0 old.1;
-          in_range = ranged;
-          rising = subst IsRising (sym same) (rising_push (commits_at key m.log) (commit_of ts t) o.rising (under_up (greatest t.prepared) ts (commits_at key m.log) high promised.under));
-          through = subst (λ l. Succeeds (changes_at key l)) (sym same) (subst Succeeds (sym (changes_at-push key (commits_at key m.log) (commit_of ts t))) promised.through);
-          claim = λ b h. let old = lifts.from slot b h in
-            claim_first key slot old.0.last b.last (commits_at key m.log) (commits_at key (m.log ++ commit_of ts t ∷ [])) (is_transaction owner txn) (with_outcome (outcome.Committed ts)) m.transactions t found (λ rest empty. record {
-              neither = λ x y. absurd (not_both (claims key slot t) is x);
-              both = λ x y g. subst (IsBelow (max b.last ts)) (sym same)
-                (all_push (λ d. d.timestamp ≤ max b.last ts) (commits_at key m.log) (commit_of ts t) (under_below (greatest t.prepared) (max b.last ts) (commits_at key m.log) (omega arith) promised.under) (omega arith));
-              leaves = λ x y. absurd (not_both (claims key slot t) x y);
-              comes = λ x y. absurd (not_both (claims key slot t) y x);
-            }) (o.claim old.0 old.1);
-        }
-    ] refl
+            record {
+              only = λ i b h k. let old = lifts.from i b h in o.only i old.0 old.1 (sym (old.3 key) ∙ k);
+              held = λ b h. let old = lifts.from slot b h in old.3 key ∙ o.held old.0 old.1;
+              in_range = ranged;
+              rising = subst IsRising (sym same) (rising_push (commits_at key m.log) (commit_of ts t) o.rising (under_up (greatest t.prepared) ts (commits_at key m.log) high promised.under));
+              through = subst (λ l. Succeeds (changes_at key l)) (sym same) (subst Succeeds (sym (changes_at-push key (commits_at key m.log) (commit_of ts t))) promised.through);
+              claim = λ b h. let old = lifts.from slot b h in
+                  claim_first key slot old.0.last b.last (commits_at key m.log) (commits_at key (m.log ++ commit_of ts t ∷ [])) (is_transaction owner txn) (with_outcome (outcome.Committed ts)) m.transactions t found (λ rest empty. record {
+                    neither = λ x y. absurd (not_both (claims key slot t) is x);
+                    both = λ x y g. subst (IsBelow (max b.last ts)) (sym same)
+                        (all_push (λ d. d.timestamp ≤ max b.last ts) (commits_at key m.log) (commit_of ts t) (under_below (greatest t.prepared) (max b.last ts) (commits_at key m.log) (omega arith) promised.under) (omega arith));
+                    leaves = λ x y. absurd (not_both (claims key slot t) x y);
+                    comes = λ x y. absurd (not_both (claims key slot t) y x);
+                  }) (o.claim old.0 old.1);
+            }
+      ] refl
 
   pub abort_claim : (owner txn : ℕ) (t : OpenTransaction) (n k : ℕ) → find (is_transaction owner txn) m.transactions ≡ Some t → is_undecided t ≡ true → n ≤ k → IsClaim key n (commits_at key m.log) (filter (claims key slot) m.transactions)
-    → IsClaim key k (commits_at key m.log) (filter (claims key slot) (aborted m owner txn t).1.transactions)
+      → IsClaim key k (commits_at key m.log) (filter (claims key slot) (aborted m owner txn t).1.transactions)
   abort_claim owner txn t n k found open_still low h =
       let drop : IsClaimed key n (commits_at key m.log) t t.outcome → IsBelow k (commits_at key m.log) =
-        λ g. let p : IsPromised key n (commits_at key m.log) t = subst (IsClaimed key n (commits_at key m.log) t) (is_undecided_outcome t.outcome open_still) g in below_up n k (commits_at key m.log) low p.below in
+      λ g. let p : IsPromised key n (commits_at key m.log) t = subst (IsClaimed key n (commits_at key m.log) t) (is_undecided_outcome t.outcome open_still) g in below_up n k (commits_at key m.log) low p.below in
       elim (length t.prepared == 0) as (λ v. IsClaim key k (commits_at key m.log) (filter (claims key slot) (cond v (without_first (is_transaction owner txn) m.transactions) (changed_first (is_transaction owner txn) (with_outcome outcome.Aborted) m.transactions)))) [
         | true ↦ claim_without key slot n k (commits_at key m.log) (is_transaction owner txn) m.transactions t found low (λ x g. drop g) h
         | false ↦ claim_first key slot n k (commits_at key m.log) (commits_at key m.log) (is_transaction owner txn) (with_outcome outcome.Aborted) m.transactions t found (λ rest empty. record {
-            neither = λ x y. (low, refl);
-            both = λ x y g. drop g;
-            leaves = λ x y g. drop g;
-            comes = λ x y. absurd (not_both (claims key slot t) y x);
-          }) h
+          neither = λ x y. (low, refl);
+          both = λ x y g. drop g;
+          leaves = λ x y g. drop g;
+          comes = λ x y. absurd (not_both (claims key slot t) y x);
+        }) h
       ]
 
   -- ---- Apply
   pub applied_claim : (owner txn : ℕ) (t : OpenTransaction) (n k : ℕ) → find (is_transaction owner txn) m.transactions ≡ Some t → n ≤ k → (IsClaimed key n (commits_at key m.log) t t.outcome → IsBelow k (commits_at key m.log))
-    → IsClaim key n (commits_at key m.log) (filter (claims key slot) m.transactions) → IsClaim key k (commits_at key m.log) (filter (claims key slot) (applied m owner txn slot t))
+      → IsClaim key n (commits_at key m.log) (filter (claims key slot) m.transactions) → IsClaim key k (commits_at key m.log) (filter (claims key slot) (applied m owner txn slot t))
   applied_claim owner txn t n k found low drop h =
       let gone : is_prepared_at slot (without_prepared slot t) ≡ false = left_slot slot t.prepared in
       elim (length (without_prepared slot t).prepared == 0) as (λ v. IsClaim key k (commits_at key m.log) (filter (claims key slot) (cond v (without_first (is_transaction owner txn) m.transactions) (changed_first (is_transaction owner txn) (without_prepared slot) m.transactions)))) [
         | true ↦ claim_without key slot n k (commits_at key m.log) (is_transaction owner txn) m.transactions t found low (λ x g. drop g) h
         | false ↦ claim_first key slot n k (commits_at key m.log) (commits_at key m.log) (is_transaction owner txn) (without_prepared slot) m.transactions t found (λ rest empty. record {
-            neither = λ x y. (low, refl);
-            both = λ x y. absurd (not_both (is_prepared_at slot (without_prepared slot t)) (first_true (is_prepared_at slot (without_prepared slot t)) (is_some_of (filter (is_at key) t.mutations)) y) gone);
-            leaves = λ x y g. drop g;
-            comes = λ x y. absurd (not_both (is_prepared_at slot (without_prepared slot t)) (first_true (is_prepared_at slot (without_prepared slot t)) (is_some_of (filter (is_at key) t.mutations)) y) gone);
-          }) h
+          neither = λ x y. (low, refl);
+          both = λ x y. absurd (not_both (is_prepared_at slot (without_prepared slot t)) (first_true (is_prepared_at slot (without_prepared slot t)) (is_some_of (filter (is_at key) t.mutations)) y) gone);
+          leaves = λ x y g. drop g;
+          comes = λ x y. absurd (not_both (is_prepared_at slot (without_prepared slot t)) (first_true (is_prepared_at slot (without_prepared slot t)) (is_some_of (filter (is_at key) t.mutations)) y) gone);
+        }) h
       ]
 
   pub away_claim : (owner txn i : ℕ) (t : OpenTransaction) (n k : ℕ) → (i == slot) ≡ false → find (is_transaction owner txn) m.transactions ≡ Some t → n ≤ k
-    → (IsClaimed key n (commits_at key m.log) t t.outcome → IsClaimed key k (commits_at key m.log) (without_prepared i t) t.outcome)
-    → IsClaim key n (commits_at key m.log) (filter (claims key slot) m.transactions) → IsClaim key k (commits_at key m.log) (filter (claims key slot) (applied m owner txn i t))
+      → (IsClaimed key n (commits_at key m.log) t t.outcome → IsClaimed key k (commits_at key m.log) (without_prepared i t) t.outcome)
+      → IsClaim key n (commits_at key m.log) (filter (claims key slot) m.transactions) → IsClaim key k (commits_at key m.log) (filter (claims key slot) (applied m owner txn i t))
   away_claim owner txn i t n k off found low keep h =
       let still : is_prepared_at slot (without_prepared i t) ≡ is_prepared_at slot t = away_left slot i t.prepared off in
       let alike : claims key slot (without_prepared i t) ≡ claims key slot t = ap (λ b. b && is_some_of (filter (is_at key) t.mutations)) still in
@@ -194,11 +196,11 @@ module _ (key : ℤ) (slot : ℕ) (m : Machine) (o : IsInPlace key slot m) where
         | true ↦ λ e. claim_without key slot n k (commits_at key m.log) (is_transaction owner txn) m.transactions t found low
             (λ x g. absurd (not_both (is_prepared_at slot t) (first_true (is_prepared_at slot t) (is_some_of (filter (is_at key) t.mutations)) x) (sym still ∙ none_left slot (without_prepared i t).prepared e))) h
         | false ↦ λ e. claim_first key slot n k (commits_at key m.log) (commits_at key m.log) (is_transaction owner txn) (without_prepared i) m.transactions t found (λ rest empty. record {
-            neither = λ x y. (low, refl);
-            both = λ x y g. keep g;
-            leaves = λ x y. absurd (not_both (claims key slot t) x (sym alike ∙ y));
-            comes = λ x y. absurd (not_both (claims key slot t) (sym alike ∙ y) x);
-          }) h
+          neither = λ x y. (low, refl);
+          both = λ x y g. keep g;
+          leaves = λ x y. absurd (not_both (claims key slot t) x (sym alike ∙ y));
+          comes = λ x y. absurd (not_both (claims key slot t) (sym alike ∙ y) x);
+        }) h
       ] refl
 
   pub apply_here : (owner txn : ℕ) (t : OpenTransaction) (c : Outcome) → t.outcome ≡ c → find (is_transaction owner txn) m.transactions ≡ Some t → IsInPlace key slot (applied_at c m owner txn slot t).1
@@ -213,16 +215,16 @@ module _ (key : ℤ) (slot : ℕ) (m : Machine) (o : IsInPlace key slot m) where
   apply_away owner txn i t outcome.Undecided off e found = o
   apply_away owner txn i t outcome.Aborted off e found = in_place_by (applied_at outcome.Aborted m owner txn i t).1 (lifts_same m.books) refl (λ a b p q low h.
       away_claim owner txn i t a.last b.last off found low (λ g. subst (IsClaimed key b.last (commits_at key m.log) (without_prepared i t)) (sym e)
-        (below_up a.last b.last (commits_at key m.log) low (let below : IsBelow a.last (commits_at key m.log) = subst (IsClaimed key a.last (commits_at key m.log) t) e g in below))) h)
+      (below_up a.last b.last (commits_at key m.log) low (let below : IsBelow a.last (commits_at key m.log) = subst (IsClaimed key a.last (commits_at key m.log) t) e g in below))) h)
   apply_away owner txn i t (outcome.Committed ts) off e found = in_place_by (applied_at (outcome.Committed ts) m owner txn i t).1 (lifts_last m.books i ts) refl (λ a b p q low h.
       away_claim owner txn i t a.last b.last off found low (λ g. subst (IsClaimed key b.last (commits_at key m.log) (without_prepared i t)) (sym e)
-        (below_up (max a.last ts) (max b.last ts) (commits_at key m.log) (omega arith) (let below : IsBelow (max a.last ts) (commits_at key m.log) = subst (IsClaimed key a.last (commits_at key m.log) t) e g in below))) h)
+      (below_up (max a.last ts) (max b.last ts) (commits_at key m.log) (omega arith) (let below : IsBelow (max a.last ts) (commits_at key m.log) = subst (IsClaimed key a.last (commits_at key m.log) t) e g in below))) h)
 
   pub apply_there : (owner txn i : ℕ) (t : OpenTransaction) → find (is_transaction owner txn) m.transactions ≡ Some t → IsInPlace key slot (applied_at t.outcome m owner txn i t).1
   apply_there owner txn i t found = elim (i == slot) as (λ v. (i == slot) ≡ v → IsInPlace key slot (applied_at t.outcome m owner txn i t).1) [
-      | true ↦ λ e. subst (λ j. IsInPlace key slot (applied_at t.outcome m owner txn j t).1) (sym (number_same i slot e)) (apply_here owner txn t t.outcome refl found)
-      | false ↦ λ e. apply_away owner txn i t t.outcome e refl found
-    ] refl
+    | true ↦ λ e. subst (λ j. IsInPlace key slot (applied_at t.outcome m owner txn j t).1) (sym (number_same i slot e)) (apply_here owner txn t t.outcome refl found)
+    | false ↦ λ e. apply_away owner txn i t t.outcome e refl found
+  ] refl
 
   -- ---- the steps that leave log and transactions
   pub books_placed : (n : Machine) → Lifts m.books n.books → n.log ≡ m.log → n.transactions ≡ m.transactions → IsInPlace key slot n
@@ -231,9 +233,9 @@ module _ (key : ℤ) (slot : ℕ) (m : Machine) (o : IsInPlace key slot m) where
 
   pub lifts_risen : (i q : ℕ) (interval : Interval) (book : Book) → slice_get m.books i ≡ Some book → Lifts m.books (slice_set m.books i (risen book q interval))
   lifts_risen i q interval book here = elim (nat_lt book.floor q && nat_le q interval.latest) as (λ v. Lifts m.books (slice_set m.books i (cond v (record book { floor = q }) book))) [
-      | true ↦ lifts_set m.books i book (record book { floor = q }) here (omega arith) (λ _. refl)
-      | false ↦ lifts_set m.books i book book here (omega arith) (λ _. refl)
-    ]
+    | true ↦ lifts_set m.books i book (record book { floor = q }) here (omega arith) (λ _. refl)
+    | false ↦ lifts_set m.books i book book here (omega arith) (λ _. refl)
+  ]
 
   placed_ends : Ends m (λ step a. IsInPlace key slot a.1)
   placed_ends = record {
@@ -241,15 +243,15 @@ module _ (key : ℤ) (slot : ℕ) (m : Machine) (o : IsInPlace key slot m) where
     begins = λ owner ms accepted. begin_placed owner ms;
     prepares = λ owner txn i t book found here accepted well low. prepare_there owner txn i t book found here accepted well;
     commits = λ owner txn interval t found accepted.
-      let may = may_commit (is_undecided t) (is_all_prepared m t) (nat_le timestamp_end (commit_timestamp m t interval)) accepted in
-      commit_here owner txn (commit_timestamp m t interval) t found may.0 may.1 (omega arith) (not_late timestamp_end (commit_timestamp m t interval) may.2);
+        let may = may_commit (is_undecided t) (is_all_prepared m t) (nat_le timestamp_end (commit_timestamp m t interval)) accepted in
+        commit_here owner txn (commit_timestamp m t interval) t found may.0 may.1 (omega arith) (not_late timestamp_end (commit_timestamp m t interval) may.2);
     aborts = λ owner txn interval t found open_still. in_place_by (aborted m owner txn t).1 (lifts_same m.books) refl (λ a b p q low h. abort_claim owner txn t a.last b.last found open_still low h);
     applies = λ owner txn i interval t book found here accepted. apply_there owner txn i t found;
     advances = λ i interval book here. books_placed (advanced m i interval book).1 (lifts_set m.books i book (record book { floor = max book.floor interval.latest }) here (omega arith) (λ _. refl)) refl refl;
     opens = λ text params bound interval accepted. books_placed (opened m text params (timestamp_of bound interval)).1 (lifts_same m.books) refl refl;
     finds_nothing = λ query leaf i interval. o;
     scans = λ query leaf i interval q book found here safe.
-      books_placed (record (with_book m i (risen book q.s interval)) { queries = changed_first (is_query query) cover m.queries }) (lifts_risen i q.s interval book here) refl refl;
+        books_placed (record (with_book m i (risen book q.s interval)) { queries = changed_first (is_query query) cover m.queries }) (lifts_risen i q.s interval book here) refl refl;
     waits = λ query leaf i interval q book found here. books_placed (with_book m i (risen book q.s interval)) (lifts_risen i q.s interval book here) refl refl;
     finishes = λ query q found covered. o;
     closes = λ query q found. books_placed (closed m query q).1 (lifts_same m.books) refl refl;

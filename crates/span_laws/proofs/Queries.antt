@@ -43,8 +43,8 @@ module _ (m : Machine) (opened : AreOpened m) where
     applies = λ owner txn slot interval t book found here accepted. opened_applied t.outcome owner txn slot t;
     advances = λ slot interval book here. opened;
     opens = λ text params bound interval accepted.
-      let may = may_open (is_understood text) (nat_le timestamp_end (timestamp_of bound interval)) (nat_le 64 (length m.queries) || nat_le (2 ^ 63) m.next_query) accepted in
-      all_push (IsOpened (m.next_query + 1)) m.queries (record { number = m.next_query; text = text; params = params; s = timestamp_of bound interval; covered = false })
+        let may = may_open (is_understood text) (nat_le timestamp_end (timestamp_of bound interval)) (nat_le 64 (length m.queries) || nat_le (2 ^ 63) m.next_query) accepted in
+        all_push (IsOpened (m.next_query + 1)) m.queries (record { number = m.next_query; text = text; params = params; s = timestamp_of bound interval; covered = false })
         (all_weaker (IsOpened m.next_query) (IsOpened (m.next_query + 1)) (older m.next_query) m.queries opened)
         (record { understood = may.0; in_range = not_late timestamp_end (timestamp_of bound interval) may.1; below = omega arith });
     finds_nothing = λ query leaf slot interval. opened;

@@ -63,8 +63,10 @@ reached_meaning m number q reached found =
 pub reached_finish : (m : Machine) (number : ℕ) (q : OpenQuery) → IsReached m → find (is_query number) m.queries ≡ Some q → q.covered ≡ true
     → (db : Database) × (tables m.log q.s ≡ Ok db) × ((answer m (Finish number)).0 ≡ Rows q.s (rows_of db))
 reached_finish m number q reached found covered =
-    let meant = reached_meaning m number q reached found in
-    (meant.0, meant.1,
+    let meant = reached_meaning m number q reached found in (
+      meant.0,
+      meant.1,
       ap (λ o. (if_some o (refused m refusal.UnknownQuery) (finish_found m)).0) found
-      ∙ ap (λ (b : Bool). (cond {A = Answer} b (answer_on q.s (meaning m q), m) (refused m refusal.Incomplete)).0) covered
-      ∙ ap (answer_on q.s) meant.2)
+          ∙ ap (λ (b : Bool). (cond {A = Answer} b (answer_on q.s (meaning m q), m) (refused m refusal.Incomplete)).0) covered
+          ∙ ap (answer_on q.s) meant.2,
+    )

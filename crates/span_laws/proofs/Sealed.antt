@@ -72,8 +72,8 @@ module _ (key : ℤ) (s : ℕ) (m : Machine) (sealed : IsSealed key s m) where
 
   -- books rise, transactions stay above, and the log is the same for the key
   pub kept_by : (a : Answer) → Rises m.books a.1.books
-    → ((i : ℕ) (b : Book) → slice_get m.books i ≡ Some b → holds b key ≡ true → AllByRecursion (IsAbove s i) m.transactions → AllByRecursion (IsAbove s i) a.1.transactions)
-    → changes_at key (upto a.1.log s) ≡ changes_at key (upto m.log s) → Keeps key s m a
+      → ((i : ℕ) (b : Book) → slice_get m.books i ≡ Some b → holds b key ≡ true → AllByRecursion (IsAbove s i) m.transactions → AllByRecursion (IsAbove s i) a.1.transactions)
+      → changes_at key (upto a.1.log s) ≡ changes_at key (upto m.log s) → Keeps key s m a
   kept_by a rises above same = record {
     seal = record {
       floors = λ i b h k. let old = rises.from i b h in let low = sealed.floors i old.0 old.1 (old.3 key k) in omega arith;
@@ -92,48 +92,48 @@ module _ (key : ℤ) (s : ℕ) (m : Machine) (sealed : IsSealed key s m) where
 
   pub rises_last : (slot ts : ℕ) → Rises m.books (with_last m.books slot ts)
   rises_last slot ts = elim (slice_get m.books slot) as (λ o. slice_get m.books slot ≡ o → Rises m.books (if_some o m.books (λ book. slice_set m.books slot (record book { last = max book.last ts })))) [
-      | None ↦ λ e. rises_same m.books
-      | Some book ↦ λ e. rises_set m.books slot book (record book { last = max book.last ts }) e (omega arith) (λ _ k. k)
-    ] refl
+    | None ↦ λ e. rises_same m.books
+    | Some book ↦ λ e. rises_set m.books slot book (record book { last = max book.last ts }) e (omega arith) (λ _ k. k)
+  ] refl
 
   pub above_here : (p : Prepared) (ps : List Prepared) (k : ℤ) → if_some (slice_get m.books p.slot) false (λ book. holds book k) ≡ true
-    → ((i : ℕ) (b : Book) → slice_get m.books i ≡ Some b → holds b k ≡ true → AllByRecursion (λ p. p.slot ≡ i → s < p.timestamp) (p ∷ ps)) → s < p.timestamp
+      → ((i : ℕ) (b : Book) → slice_get m.books i ≡ Some b → holds b k ≡ true → AllByRecursion (λ p. p.slot ≡ i → s < p.timestamp) (p ∷ ps)) → s < p.timestamp
   above_here p ps k = elim (slice_get m.books p.slot) as (λ o. slice_get m.books p.slot ≡ o → if_some o false (λ book. holds book k) ≡ true
-    → ((i : ℕ) (b : Book) → slice_get m.books i ≡ Some b → holds b k ≡ true → AllByRecursion (λ p. p.slot ≡ i → s < p.timestamp) (p ∷ ps)) → s < p.timestamp) [
-      | None ↦ λ e bad above. cc
-      | Some b ↦ λ e holds_it above. (above p.slot b e holds_it).0 refl
-    ] refl
+      → ((i : ℕ) (b : Book) → slice_get m.books i ≡ Some b → holds b k ≡ true → AllByRecursion (λ p. p.slot ≡ i → s < p.timestamp) (p ∷ ps)) → s < p.timestamp) [
+        | None ↦ λ e bad above. cc
+        | Some b ↦ λ e holds_it above. (above p.slot b e holds_it).0 refl
+      ] refl
 
   -- a transaction that is prepared for each of its mutations has, if one is of the key, a prepare timestamp above s
   pub prepared_above : (k : ℤ) → (ps : List Prepared) → list_any (λ p. if_some (slice_get m.books p.slot) false (λ book. holds book k)) ps ≡ true
-    → ((i : ℕ) (b : Book) → slice_get m.books i ≡ Some b → holds b k ≡ true → AllByRecursion (λ p. p.slot ≡ i → s < p.timestamp) ps) → s < greatest ps
+      → ((i : ℕ) (b : Book) → slice_get m.books i ≡ Some b → holds b k ≡ true → AllByRecursion (λ p. p.slot ≡ i → s < p.timestamp) ps) → s < greatest ps
   prepared_above k [] = λ e above. cc
   prepared_above k (p ∷ ps) = elim (if_some (slice_get m.books p.slot) false (λ book. holds book k)) as (λ v. if_some (slice_get m.books p.slot) false (λ book. holds book k) ≡ v → (v || list_any (λ p. if_some (slice_get m.books p.slot) false (λ book. holds book k)) ps) ≡ true
-    → ((i : ℕ) (b : Book) → slice_get m.books i ≡ Some b → holds b k ≡ true → AllByRecursion (λ p. p.slot ≡ i → s < p.timestamp) (p ∷ ps)) → s < greatest (p ∷ ps)) [
-      | true ↦ λ is e above. let low = above_here p ps k is above in omega arith
-      | false ↦ λ is e above. let low = prepared_above k ps e (λ i b h g. (above i b h g).1) in omega arith
-    ] refl
+      → ((i : ℕ) (b : Book) → slice_get m.books i ≡ Some b → holds b k ≡ true → AllByRecursion (λ p. p.slot ≡ i → s < p.timestamp) (p ∷ ps)) → s < greatest (p ∷ ps)) [
+        | true ↦ λ is e above. let low = above_here p ps k is above in omega arith
+        | false ↦ λ is e above. let low = prepared_above k ps e (λ i b h g. (above i b h g).1) in omega arith
+      ] refl
 
   -- the key of a mutation at the key is the key
   pub some_prepared : (t : OpenTransaction) (ms : List CheckedMutation) → touches_any key ms ≡ true → list_all (is_prepared_for m t) ms ≡ true
-    → ((i : ℕ) (b : Book) → slice_get m.books i ≡ Some b → holds b key ≡ true → IsAbove s i t) → s < greatest t.prepared
+      → ((i : ℕ) (b : Book) → slice_get m.books i ≡ Some b → holds b key ≡ true → IsAbove s i t) → s < greatest t.prepared
   some_prepared t [] = λ e all above. cc
   some_prepared t (mu ∷ ms) = elim (is_at key mu) as (λ v. is_at key mu ≡ v → is_some_of (cond v (mu ∷ filter (is_at key) ms) (filter (is_at key) ms)) ≡ true → (is_prepared_for m t mu && list_all (is_prepared_for m t) ms) ≡ true
-    → ((i : ℕ) (b : Book) → slice_get m.books i ≡ Some b → holds b key ≡ true → IsAbove s i t) → s < greatest t.prepared) [
-      | true ↦ λ at e all above. prepared_above mu.key t.prepared (first_true _ _ all) (λ i b h k. above i b h (subst (λ (q : ℤ). holds b q ≡ true) (sym (tells_apart exact_signed key mu.key at)) k))
-      | false ↦ λ at e all above. some_prepared t ms e (second_true _ _ all) above
-    ] refl
+      → ((i : ℕ) (b : Book) → slice_get m.books i ≡ Some b → holds b key ≡ true → IsAbove s i t) → s < greatest t.prepared) [
+        | true ↦ λ at e all above. prepared_above mu.key t.prepared (first_true _ _ all) (λ i b h k. above i b h (subst (λ (q : ℤ). holds b q ≡ true) (sym (tells_apart exact_signed key mu.key at)) k))
+        | false ↦ λ at e all above. some_prepared t ms e (second_true _ _ all) above
+      ] refl
 
   -- a commit that touches the key is above s
   pub commit_apart : (owner txn : ℕ) (interval : Interval) (t : OpenTransaction) → find (is_transaction owner txn) m.transactions ≡ Some t → commit_refusal m t interval ≡ None
-    → (touches key (commit_of (commit_timestamp m t interval) t) ≡ false) ⊎ (s < commit_timestamp m t interval)
+      → (touches key (commit_of (commit_timestamp m t interval) t) ≡ false) ⊎ (s < commit_timestamp m t interval)
   commit_apart owner txn interval t found accepted = elim (touches_any key t.mutations) as (λ v. touches_any key t.mutations ≡ v → (v ≡ false) ⊎ (s < commit_timestamp m t interval)) [
-      | false ↦ λ e. inl refl
-      | true ↦ λ e.
+    | false ↦ λ e. inl refl
+    | true ↦ λ e.
         let ready : is_all_prepared m t ≡ true = (may_commit (is_undecided t) (is_all_prepared m t) (nat_le timestamp_end (commit_timestamp m t interval)) accepted).1 in
         let above : s < greatest t.prepared = some_prepared t t.mutations e (second_true (not (length t.prepared == 0)) (list_all (is_prepared_for m t) t.mutations) ready) (λ i b h k. all_found (IsAbove s i) (is_transaction owner txn) m.transactions t found (sealed.prepared i b h k)) in
         inr (omega arith)
-    ] refl
+  ] refl
 
   pub applied_above : (owner txn slot : ℕ) (t : OpenTransaction) (i : ℕ) → AllByRecursion (IsAbove s i) m.transactions → AllByRecursion (IsAbove s i) (applied m owner txn slot t)
   applied_above owner txn slot t i all = one_or_other (AllByRecursion (IsAbove s i)) (length (without_prepared slot t).prepared == 0) _ _ (all_without (IsAbove s i) (is_transaction owner txn) m.transactions all)
@@ -146,32 +146,32 @@ module _ (key : ℤ) (s : ℕ) (m : Machine) (sealed : IsSealed key s m) where
 
   pub rises_risen : (slot q : ℕ) (interval : Interval) (book : Book) → slice_get m.books slot ≡ Some book → Rises m.books (slice_set m.books slot (risen book q interval))
   rises_risen slot q interval book here = elim (nat_lt book.floor q && nat_le q interval.latest) as (λ v. (nat_lt book.floor q && nat_le q interval.latest) ≡ v → Rises m.books (slice_set m.books slot (cond v (record book { floor = q }) book))) [
-      | true ↦ λ e. rises_set m.books slot book (record book { floor = q }) here (let low : nat_lt book.floor q ≡ true = first_true (nat_lt book.floor q) (nat_le q interval.latest) e in grind (arith, nat_tests)) (λ _ k. k)
-      | false ↦ λ e. rises_set m.books slot book book here (omega arith) (λ _ k. k)
-    ] refl
+    | true ↦ λ e. rises_set m.books slot book (record book { floor = q }) here (let low : nat_lt book.floor q ≡ true = first_true (nat_lt book.floor q) (nat_le q interval.latest) e in grind (arith, nat_tests)) (λ _ k. k)
+    | false ↦ λ e. rises_set m.books slot book book here (omega arith) (λ _ k. k)
+  ] refl
 
   keeps_ends : Ends m (λ step a. Keeps key s m a)
   keeps_ends = record {
     refuses = λ step why. kept_as_is (refused m why) refl;
     begins = λ owner ms accepted. kept_by (begun m owner ms) (rises_same m.books)
-      (λ i b h k all. all_push (IsAbove s i) m.transactions (record { owner = owner; number = m.next_transaction; mutations = ms; outcome = outcome.Undecided; prepared = [] }) all tt) refl;
+        (λ i b h k all. all_push (IsAbove s i) m.transactions (record { owner = owner; number = m.next_transaction; mutations = ms; outcome = outcome.Undecided; prepared = [] }) all tt) refl;
     prepares = λ owner txn slot t book found here accepted well low. kept_by (prepared m owner txn slot book) (rises_set m.books slot book (record book { last = prepare_timestamp book }) here (omega arith) (λ _ k. k))
-      (λ i b h k all. all_changed (IsAbove s i) (is_transaction owner txn) (add_prepared slot (prepare_timestamp book))
+        (λ i b h k all. all_changed (IsAbove s i) (is_transaction owner txn) (add_prepared slot (prepare_timestamp book))
         (λ u above. all_push (λ p. p.slot ≡ i → s < p.timestamp) u.prepared (record { slot = slot; timestamp = prepare_timestamp book }) above (new_above slot i book b here h k)) m.transactions all)
-      refl;
+        refl;
     commits = λ owner txn interval t found accepted. kept_by (committed m owner txn (commit_timestamp m t interval) t) (rises_last (coordinator_of t.prepared) (commit_timestamp m t interval))
-      (λ i b h k all. all_changed (IsAbove s i) (is_transaction owner txn) (with_outcome (outcome.Committed (commit_timestamp m t interval))) (λ u above. above) m.transactions all)
-      (changes_at-more key m.log (commit_of (commit_timestamp m t interval) t) s (commit_apart owner txn interval t found accepted));
+        (λ i b h k all. all_changed (IsAbove s i) (is_transaction owner txn) (with_outcome (outcome.Committed (commit_timestamp m t interval))) (λ u above. above) m.transactions all)
+        (changes_at-more key m.log (commit_of (commit_timestamp m t interval) t) s (commit_apart owner txn interval t found accepted));
     aborts = λ owner txn interval t found open_still. kept_by (aborted m owner txn t) (rises_same m.books)
-      (λ i b h k all. one_or_other (AllByRecursion (IsAbove s i)) (length t.prepared == 0) _ _ (all_without (IsAbove s i) (is_transaction owner txn) m.transactions all)
+        (λ i b h k all. one_or_other (AllByRecursion (IsAbove s i)) (length t.prepared == 0) _ _ (all_without (IsAbove s i) (is_transaction owner txn) m.transactions all)
         (all_changed (IsAbove s i) (is_transaction owner txn) (with_outcome outcome.Aborted) (λ u above. above) m.transactions all))
-      refl;
+        refl;
     applies = λ owner txn slot interval t book found here accepted. applied_keeps t.outcome owner txn slot t;
     advances = λ slot interval book here. kept_by (advanced m slot interval book) (rises_set m.books slot book (record book { floor = max book.floor interval.latest }) here (omega arith) (λ _ k. k)) (λ i b h k all. all) refl;
     opens = λ text params bound interval accepted. kept_by (opened m text params (timestamp_of bound interval)) (rises_same m.books) (λ i b h k all. all) refl;
     finds_nothing = λ query leaf slot interval. kept_as_is (reply.Nothing, m) refl;
     scans = λ query leaf slot interval q book found here safe.
-      kept_by (reply.Scanned, record (with_book m slot (risen book q.s interval)) { queries = changed_first (is_query query) cover m.queries }) (rises_risen slot q.s interval book here) (λ i b h k all. all) refl;
+        kept_by (reply.Scanned, record (with_book m slot (risen book q.s interval)) { queries = changed_first (is_query query) cover m.queries }) (rises_risen slot q.s interval book here) (λ i b h k all. all) refl;
     waits = λ query leaf slot interval q book found here. kept_by (Refused refusal.NotYet, with_book m slot (risen book q.s interval)) (rises_risen slot q.s interval book here) (λ i b h k all. all) refl;
     finishes = λ query q found covered. kept_as_is (answer_on q.s (meaning m q), m) refl;
     closes = λ query q found. kept_by (closed m query q) (rises_same m.books) (λ i b h k all. all) refl;

@@ -49,14 +49,14 @@ module _ (m : Machine) (sound : IsSound m) where
   sealed_by_scan slot s before book queries key here safe =
       let low : nat_le s book.floor ≡ true = first_true (nat_le s book.floor) _ safe in
       let same_slot : (i : ℕ) (b : Book) → slice_get (slice_set m.books slot book) i ≡ Some b → i ≡ slot =
-        λ i b h. let within = slice_get_within (slice_set m.books slot book) i b h in let slot_within = slice_get_within m.books slot before here in let len = length-set m.books slot book in let one = sound.one_slot in omega arith in
+      λ i b h. let within = slice_get_within (slice_set m.books slot book) i b h in let slot_within = slice_get_within m.books slot before here in let len = length-set m.books slot book in let one = sound.one_slot in omega arith in
       let above : AllByRecursion (IsAbove s slot) m.transactions =
-        all_true (IsAbove s slot) (λ t. list_all (λ p. not (p.slot == slot) || nat_lt s p.timestamp) t.prepared)
-          (λ t e. all_true (λ p. p.slot ≡ slot → s < p.timestamp) (λ p. not (p.slot == slot) || nat_lt s p.timestamp) (λ p e same. above_by p.slot slot s p.timestamp e same) t.prepared e)
-          m.transactions (second_true (nat_le s book.floor) _ safe) in
+      all_true (IsAbove s slot) (λ t. list_all (λ p. not (p.slot == slot) || nat_lt s p.timestamp) t.prepared)
+      (λ t e. all_true (λ p. p.slot ≡ slot → s < p.timestamp) (λ p. not (p.slot == slot) || nat_lt s p.timestamp) (λ p e same. above_by p.slot slot s p.timestamp e same) t.prepared e)
+      m.transactions (second_true (nat_le s book.floor) _ safe) in
       record {
         floors = λ i b h k. let is : b ≡ book = set_here m.books slot book b (subst (λ j. slice_get (slice_set m.books slot book) j ≡ Some b) (same_slot i b h) h) in
-          subst (λ (c : Book). s ≤ c.floor) (sym is) (grind (arith, nat_tests));
+            subst (λ (c : Book). s ≤ c.floor) (sym is) (grind (arith, nat_tests));
         prepared = λ i b h k. subst (λ j. AllByRecursion (IsAbove s j) m.transactions) (sym (same_slot i b h)) above;
       }
 
@@ -75,11 +75,11 @@ module _ (m : Machine) (sound : IsSound m) where
     applies = λ owner txn slot interval t book found here accepted. goes_applied t.outcome owner txn slot t;
     advances = λ slot interval book here. goes_same _ refl;
     opens = λ text params bound interval accepted w. all_push (IsCoveredSealed _) m.queries (record { number = m.next_query; text = text; params = params; s = timestamp_of bound interval; covered = false })
-      (all_weaker (IsCoveredSealed m) (IsCoveredSealed _) w m.queries sound.queries) (λ bad. cc);
+        (all_weaker (IsCoveredSealed m) (IsCoveredSealed _) w m.queries sound.queries) (λ bad. cc);
     finds_nothing = λ query leaf slot interval. goes_same m refl;
-    scans = λ query leaf slot interval q book found here safe w. 
-      let after : Machine = record (with_book m slot (risen book q.s interval)) { queries = changed_first (is_query query) cover m.queries } in
-      all_changed_found (IsCoveredSealed after) (is_query query) cover m.queries q found (λ _ key. sealed_by_scan slot q.s book (risen book q.s interval) (changed_first (is_query query) cover m.queries) key here safe)
+    scans = λ query leaf slot interval q book found here safe w.
+        let after : Machine = record (with_book m slot (risen book q.s interval)) { queries = changed_first (is_query query) cover m.queries } in
+        all_changed_found (IsCoveredSealed after) (is_query query) cover m.queries q found (λ _ key. sealed_by_scan slot q.s book (risen book q.s interval) (changed_first (is_query query) cover m.queries) key here safe)
         (all_weaker (IsCoveredSealed m) (IsCoveredSealed after) w m.queries sound.queries);
     waits = λ query leaf slot interval q book found here. goes_same _ refl;
     finishes = λ query q found covered. goes_same m refl;

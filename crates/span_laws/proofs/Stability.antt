@@ -56,9 +56,9 @@ none_of (m ∷ ms) e = cc
 pub changes_at-filter : (key : ℤ) (cs : List Commit) → changes_at key (filter (touches key) cs) ≡ changes_at key cs
 changes_at-filter key [] = refl
 changes_at-filter key (c ∷ cs) = elim (touches key c) as (λ b. touches key c ≡ b → changes_at key (cond b (c ∷ filter (touches key) cs) (filter (touches key) cs)) ≡ changes_at key (c ∷ cs)) [
-    | true ↦ λ e. changes_at-cons key c (filter (touches key) cs) ∙ ap (λ l. filter (is_at key) c.mutations ++ l) (changes_at-filter key cs) ∙ sym (changes_at-cons key c cs)
-    | false ↦ λ e. changes_at-filter key cs ∙ sym (changes_at-cons key c cs ∙ ap (λ l. l ++ changes_at key cs) (none_of _ e))
-  ] refl
+  | true ↦ λ e. changes_at-cons key c (filter (touches key) cs) ∙ ap (λ l. filter (is_at key) c.mutations ++ l) (changes_at-filter key cs) ∙ sym (changes_at-cons key c cs)
+  | false ↦ λ e. changes_at-filter key cs ∙ sym (changes_at-cons key c cs ∙ ap (λ l. l ++ changes_at key cs) (none_of _ e))
+] refl
 
 pub not_kept : (key : ℤ) (c : Commit) (s : ℕ) → (touches key c ≡ false) ⊎ (s < c.timestamp) → filter (touches key) (filter (λ d. nat_le d.timestamp s) (c ∷ [])) ≡ []
 not_kept key c s (inl e) = elim (nat_le c.timestamp s) as (λ b. filter (touches key) (cond b (c ∷ []) []) ≡ []) [ true ↦ rw e refl | false ↦ refl ]
@@ -81,6 +81,6 @@ unfolding kept_at
 changes_at-more key log c s apart =
     let q : Commit → Bool = λ d. nat_le d.timestamp s in
     let same : kept_at key (log ++ c ∷ []) s ≡ kept_at key log s =
-      ap (filter (touches key)) (filter-append q log (c ∷ [])) ∙ filter-append (touches key) (filter q log) (filter q (c ∷ []))
-      ∙ ap (λ l. filter (touches key) (filter q log) ++ l) (not_kept key c s apart) ∙ append-nil _ in
+    ap (filter (touches key)) (filter-append q log (c ∷ [])) ∙ filter-append (touches key) (filter q log) (filter q (c ∷ []))
+    ∙ ap (λ l. filter (touches key) (filter q log) ++ l) (not_kept key c s apart) ∙ append-nil _ in
     sym (changes_at-kept key (log ++ c ∷ []) s) ∙ ap (λ l. changes_at key (in_order is_before l)) same ∙ changes_at-kept key log s

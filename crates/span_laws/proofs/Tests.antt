@@ -48,4 +48,3 @@ no_length n e = let h : suc n ≡ 0 = number_same (suc n) 0 e in omega arith
 
 pub not_late : (end ts : ℕ) → nat_le end ts ≡ false → ts < end
 not_late end ts e = grind (arith, nat_tests)
-

@@ -24,22 +24,22 @@ pub record Ends (m : Machine) (P : Step → Answer → Type 0) : Type 0 where
   pub refuses : (step : Step) (why : Refusal) → P step (refused m why)
   pub begins : (owner : ℕ) (ms : List CheckedMutation) → begin_refusal m ≡ None → P (Begin owner ms) (begun m owner ms)
   pub prepares : (owner txn slot : ℕ) (t : OpenTransaction) (book : Book) → find (is_transaction owner txn) m.transactions ≡ Some t → slice_get m.books slot ≡ Some book
-    → prepare_refusal m slot t book ≡ None → faults m (mutations_in book t.mutations) ≡ None → first_cause ((nat_le timestamp_end (prepare_timestamp book), refusal.TimestampRange) ∷ []) ≡ None
-    → P (Prepare owner txn slot) (prepared m owner txn slot book)
+      → prepare_refusal m slot t book ≡ None → faults m (mutations_in book t.mutations) ≡ None → first_cause ((nat_le timestamp_end (prepare_timestamp book), refusal.TimestampRange) ∷ []) ≡ None
+      → P (Prepare owner txn slot) (prepared m owner txn slot book)
   pub commits : (owner txn : ℕ) (interval : Interval) (t : OpenTransaction) → find (is_transaction owner txn) m.transactions ≡ Some t → commit_refusal m t interval ≡ None
-    → P (Decide owner txn verdict.Commit interval) (committed m owner txn (commit_timestamp m t interval) t)
+      → P (Decide owner txn verdict.Commit interval) (committed m owner txn (commit_timestamp m t interval) t)
   pub aborts : (owner txn : ℕ) (interval : Interval) (t : OpenTransaction) → find (is_transaction owner txn) m.transactions ≡ Some t → is_undecided t ≡ true
-    → P (Decide owner txn verdict.Abort interval) (aborted m owner txn t)
+      → P (Decide owner txn verdict.Abort interval) (aborted m owner txn t)
   pub applies : (owner txn slot : ℕ) (interval : Interval) (t : OpenTransaction) (book : Book) → find (is_transaction owner txn) m.transactions ≡ Some t → slice_get m.books slot ≡ Some book
-    → apply_refusal slot t interval ≡ None → P (Apply owner txn slot interval) (applied_at t.outcome m owner txn slot t)
+      → apply_refusal slot t interval ≡ None → P (Apply owner txn slot interval) (applied_at t.outcome m owner txn slot t)
   pub advances : (slot : ℕ) (interval : Interval) (book : Book) → slice_get m.books slot ≡ Some book → P (Advance slot interval) (advanced m slot interval book)
   pub opens : (text : List ℕ) (params : Params) (bound : Bound) (interval : Interval) → open_refusal m text (timestamp_of bound interval) ≡ None
-    → P (Open text params bound interval) (opened m text params (timestamp_of bound interval))
+      → P (Open text params bound interval) (opened m text params (timestamp_of bound interval))
   pub finds_nothing : (query leaf slot : ℕ) (interval : Interval) → P (Scan query leaf slot interval) (reply.Nothing, m)
   pub scans : (query leaf slot : ℕ) (interval : Interval) (q : OpenQuery) (book : Book) → find (is_query query) m.queries ≡ Some q → slice_get m.books slot ≡ Some book → is_safe m slot (risen book q.s interval) q.s ≡ true
-    → P (Scan query leaf slot interval) (reply.Scanned, record (with_book m slot (risen book q.s interval)) { queries = changed_first (is_query query) cover m.queries })
+      → P (Scan query leaf slot interval) (reply.Scanned, record (with_book m slot (risen book q.s interval)) { queries = changed_first (is_query query) cover m.queries })
   pub waits : (query leaf slot : ℕ) (interval : Interval) (q : OpenQuery) (book : Book) → find (is_query query) m.queries ≡ Some q → slice_get m.books slot ≡ Some book
-    → P (Scan query leaf slot interval) (Refused refusal.NotYet, with_book m slot (risen book q.s interval))
+      → P (Scan query leaf slot interval) (Refused refusal.NotYet, with_book m slot (risen book q.s interval))
   pub finishes : (query : ℕ) (q : OpenQuery) → find (is_query query) m.queries ≡ Some q → q.covered ≡ true → P (Finish query) (answer_on q.s (meaning m q), m)
   pub closes : (query : ℕ) (q : OpenQuery) → find (is_query query) m.queries ≡ Some q → P (Close query) (closed m query q)
 
@@ -69,7 +69,7 @@ module _ (m : Machine) (P : Step → Answer → Type 0) (ends : Ends m P) where
       by_refusal (Prepare owner txn slot) (prepare_refusal m slot t book) (unless_refused m (faults m (mutations_in book t.mutations)) (unless_refused m (first_cause ((nat_le timestamp_end (prepare_timestamp book), refusal.TimestampRange) ∷ [])) (prepared m owner txn slot book))) (λ accepted.
       by_refusal (Prepare owner txn slot) (faults m (mutations_in book t.mutations)) (unless_refused m (first_cause ((nat_le timestamp_end (prepare_timestamp book), refusal.TimestampRange) ∷ [])) (prepared m owner txn slot book)) (λ well.
       by_refusal (Prepare owner txn slot) (first_cause ((nat_le timestamp_end (prepare_timestamp book), refusal.TimestampRange) ∷ [])) (prepared m owner txn slot book) (λ low.
-        ends.prepares owner txn slot t book found here accepted well low)))))
+      ends.prepares owner txn slot t book found here accepted well low)))))
 
   decide_by : (owner txn : ℕ) (v : Verdict) (interval : Interval) → P (Decide owner txn v interval) (decide m owner txn v interval)
   decide_by owner txn verdict.Commit interval = by_transaction (Decide owner txn verdict.Commit interval) owner txn (decide_found m owner txn verdict.Commit interval) (λ t found.
@@ -86,12 +86,12 @@ module _ (m : Machine) (P : Step → Answer → Type 0) (ends : Ends m P) where
   scan_by : (query leaf slot : ℕ) (interval : Interval) → P (Scan query leaf slot interval) (scan m query leaf slot interval)
   scan_by query leaf slot interval = by_query (Scan query leaf slot interval) query (scan_found m query leaf slot interval) (λ q found.
       by_cond (Scan query leaf slot interval) (leaf == 0) (for_slot m slot (scan_at m query slot interval q)) (refused m refusal.UnknownQuery) (λ _.
-        by_slot (Scan query leaf slot interval) slot (scan_at m query slot interval q) (λ book here.
-          by_cond (Scan query leaf slot interval) q.covered (reply.Nothing, m) (scanned m query slot (risen book q.s interval) q.s) (λ _. ends.finds_nothing query leaf slot interval) (λ _.
-            by_cond (Scan query leaf slot interval) (is_safe m slot (risen book q.s interval) q.s) (reply.Scanned, record (with_book m slot (risen book q.s interval)) { queries = changed_first (is_query query) cover m.queries }) (Refused refusal.NotYet, with_book m slot (risen book q.s interval))
-              (λ safe. ends.scans query leaf slot interval q book found here safe)
-              (λ _. ends.waits query leaf slot interval q book found here))))
-        (λ _. ends.refuses (Scan query leaf slot interval) refusal.UnknownQuery))
+      by_slot (Scan query leaf slot interval) slot (scan_at m query slot interval q) (λ book here.
+      by_cond (Scan query leaf slot interval) q.covered (reply.Nothing, m) (scanned m query slot (risen book q.s interval) q.s) (λ _. ends.finds_nothing query leaf slot interval) (λ _.
+      by_cond (Scan query leaf slot interval) (is_safe m slot (risen book q.s interval) q.s) (reply.Scanned, record (with_book m slot (risen book q.s interval)) { queries = changed_first (is_query query) cover m.queries }) (Refused refusal.NotYet, with_book m slot (risen book q.s interval))
+      (λ safe. ends.scans query leaf slot interval q book found here safe)
+      (λ _. ends.waits query leaf slot interval q book found here))))
+      (λ _. ends.refuses (Scan query leaf slot interval) refusal.UnknownQuery))
 
   finish_by : (query : ℕ) → P (Finish query) (finish m query)
   finish_by query = by_query (Finish query) query (finish_found m) (λ q found.

@@ -16,5 +16,4 @@ ghost use Rattle.span_machine.specs.Run.{IsHistory, Run};
 /// of all of them.
 pub fn runs_are_histories()
     ensures { (steps : List Step) (replies : List Reply) (last : Machine) → Run start steps replies last → IsHistory steps replies }
-{
-}
+{}

@@ -1,0 +1,3 @@
+pub mod Wholes
+pub mod Preparing
+pub mod Runs

@@ -1,0 +1,186 @@
+use Rattle.std.proofs.Common.{◌≡◌, ℕ, cond, true, false, List, [], ◌∷◌, ◌++◌, Option, Some, None, Result, Ok, Err, refl, ap, sym, ◌∙◌, subst, inl, inr}
+use Rattle.std.specs.Prelude.{find, OnOk, OnErr, option_map}
+use Rattle.span_value.specs.declared.refusal.Refusal.{Refusal}
+use Rattle.span_value.specs.declared.refusal.Refusal.TheVariants as refusal
+use Rattle.span_value.specs.declared.value.Value.{Value}
+use Rattle.span_truetime.specs.declared.interval.Interval.{Interval}
+use Rattle.span_shard.specs.KeyVersions.{KeyVersions}
+use Rattle.span_shard.specs.Shard.{snapshot}
+use Rattle.span_shard.specs.Shard as shard
+use Rattle.span_machine.specs.declared.step.Step.{Step}
+use Rattle.span_machine.specs.declared.step.Step.TheVariants as step
+use Rattle.span_machine.specs.declared.step.Reply.{Reply}
+use Rattle.span_machine.specs.declared.step.Reply.TheVariants as reply
+use Rattle.span_machine.specs.declared.slot.Book.{Book}
+use Rattle.span_machine.specs.declared.query.OpenQuery.{OpenQuery}
+use Rattle.span_machine.specs.declared.transaction.Outcome.{Outcome}
+use Rattle.span_machine.specs.declared.transaction.Outcome.TheVariants as outcome
+use Rattle.span_machine.specs.declared.transaction.OpenTransaction.{OpenTransaction}
+use Rattle.span_machine.specs.Machine.{Machine, Answer, Steps, answer, start, refused, unless_refused, if_some, for_slot, is_query, is_transaction, is_safe, risen, with_book, cover, changed_first, without_first, scan, scan_found, scan_at, scanned, applied_at, apply_step, apply_found, finish_found, answer_on, meaning}
+use Rattle.span_machine.specs.Pieces.{Pieced, Journaled, machine_of, queries_of}
+use Rattle.span_laws.proofs.Reached.{IsReached, start_reached, answer_reached}
+use Rattle.span_kept.specs.Kept.{AreKept, ArePieced}
+use Rattle.span_kept.proofs.Steps.{start_kept, kept_scan}
+use Rattle.span_kept.proofs.Applying.{kept_committed, kept_aborted}
+use Rattle.span_kept.proofs.Claimers.{only_slot}
+use Rattle.span_kept.proofs.Covers.{no_pieces, pieced_push, pieced_without, pieced_by_step, pieced_scanned, pieced_finish, covered-queries, find-queries, found_query}
+use Rattle.span_journal.specs.Judged.{IsApplied, MayScan, IsRegistered, IsUnregistered, IsPiece, covered_by, outcome_of}
+use Rattle.span_core.specs.Whole.{IsWhole}
+
+-- an empty database
+pub start_whole : (j : Journaled) → machine_of j ≡ start → j.queries ≡ [] → IsWhole j []
+start_whole j is none = record {
+  reached = subst IsReached (sym is) start_reached;
+  kept = subst (λ (m : Machine). AreKept m []) (sym is) start_kept;
+  pieced = subst (ArePieced (machine_of j)) (sym none) (no_pieces (machine_of j));
+}
+
+-- a step that leaves the versions
+pub whole_step : (j k : Journaled) (cs : List KeyVersions) (s : Step) (r : Reply) → IsWhole j cs → Steps (machine_of j) s r (machine_of k) → AreKept (answer (machine_of j) s).1 cs
+    → ((n : Machine) → ArePieced n j.queries → ArePieced n k.queries) → IsWhole k cs
+whole_step j k cs s r w (inl e) kept pieces = record {
+  reached = subst IsReached (sym e.1) (answer_reached (machine_of j) w.reached s);
+  kept = subst (λ (m : Machine). AreKept m cs) (sym e.1) kept;
+  pieced = pieces (machine_of k) (subst (λ (m : Machine). ArePieced m j.queries) (sym e.1) (pieced_by_step (machine_of j) w.reached j.queries refl w.pieced s));
+}
+whole_step j k cs s r w (inr e) kept pieces = record {
+  reached = subst IsReached (sym e.2) w.reached;
+  kept = subst (λ (m : Machine). AreKept m cs) (sym e.2) w.kept;
+  pieced = pieces (machine_of k) (subst (λ (m : Machine). ArePieced m j.queries) (sym e.2) w.pieced);
+}
+
+-- nothing has changed
+pub whole_same : (j k : Journaled) (cs ds : List KeyVersions) → IsWhole j cs → machine_of k ≡ machine_of j → k.queries ≡ j.queries → ds ≡ cs → IsWhole k ds
+whole_same j k cs ds w is queries same = record {
+  reached = subst IsReached (sym is) w.reached;
+  kept = subst (AreKept (machine_of k)) (sym same) (subst (λ (m : Machine). AreKept m cs) (sym is) w.kept);
+  pieced = subst (ArePieced (machine_of k)) (sym queries) (subst (λ (m : Machine). ArePieced m j.queries) (sym is) w.pieced);
+}
+
+-- ---- pieces
+
+pub pieces_opened : {A : Type 0} (r : Result A Refusal) (ps qs : List Pieced) → OnOk r ((q : OpenQuery) × (q.covered ≡ false) × (qs ≡ ps ++ (record { query = q; rows = [] }) ∷ [])) → OnErr r (qs ≡ ps)
+    → (n : Machine) → ArePieced n ps → ArePieced n qs
+pieces_opened (Ok x) ps qs ok err n all = subst (ArePieced n) (sym ok.2) (pieced_push n ps (record { query = ok.0; rows = [] }) ok.1 all)
+pieces_opened (Err why) ps qs ok err n all = subst (ArePieced n) (sym err) all
+
+pub pieces_closed : {A : Type 0} (r : Result A Refusal) (query : ℕ) (ps qs : List Pieced) → OnOk r (qs ≡ without_first (λ p. is_query query p.query) ps) → OnErr r (qs ≡ ps)
+    → (n : Machine) → ArePieced n ps → ArePieced n qs
+pieces_closed (Ok x) query ps qs ok err n all = subst (ArePieced n) (sym ok) (pieced_without n ps (λ (p : Pieced). is_query query p.query) all)
+pieces_closed (Err why) query ps qs ok err n all = subst (ArePieced n) (sym err) all
+
+-- ---- apply
+
+apply_is : (m : Machine) (owner txn slot : ℕ) (interval : Interval) (committed : Option ℕ) (n : Machine) → (d : IsApplied m owner txn slot interval committed n) → apply_step m owner txn slot interval ≡ applied_at (outcome_of committed) m owner txn slot d.transaction
+apply_is m owner txn slot interval committed n d =
+    ap (λ (o : Option OpenTransaction). if_some o (refused m refusal.UnknownTransaction) (λ t. for_slot m slot (apply_found m owner txn slot interval t))) d.found
+    ∙ ap (λ (o : Option Book). if_some o (refused m refusal.NoSlot) (apply_found m owner txn slot interval d.transaction)) d.here
+    ∙ ap (λ (o : Option Refusal). unless_refused m o (applied_at d.transaction.outcome m owner txn slot d.transaction)) d.accepted
+    ∙ ap (λ (o : Outcome). applied_at o m owner txn slot d.transaction) d.outcome
+
+applied_reply : (committed : Option ℕ) (m : Machine) (owner txn slot : ℕ) (t : OpenTransaction) → (applied_at (outcome_of committed) m owner txn slot t).0 ≡ reply.Applied
+applied_reply None m owner txn slot t = refl
+applied_reply (Some ts) m owner txn slot t = refl
+
+pub applied_steps : (m : Machine) (owner txn slot : ℕ) (interval : Interval) (committed : Option ℕ) (n : Machine) → IsApplied m owner txn slot interval committed n → Steps m (step.Apply owner txn slot interval) reply.Applied n
+applied_steps m owner txn slot interval committed n d =
+    let e = apply_is m owner txn slot interval committed n d in
+    inl (sym (ap (λ (a : Answer). a.0) e ∙ applied_reply committed m owner txn slot d.transaction), d.after ∙ sym (ap (λ (a : Answer). a.1) e))
+
+kept_applied : (m : Machine) (cs : List KeyVersions) (owner txn slot : ℕ) (committed : Option ℕ) (t : OpenTransaction) → IsReached m → AreKept m cs → find (is_transaction owner txn) m.transactions ≡ Some t → slot ≡ 0 → t.outcome ≡ outcome_of committed
+    → AreKept (applied_at (outcome_of committed) m owner txn slot t).1 (shard.applied txn committed cs)
+kept_applied m cs owner txn slot None t reached kept found zero is = subst (λ i. AreKept (applied_at outcome.Aborted m owner txn i t).1 (shard.applied txn None cs)) (sym zero) (kept_aborted m reached cs kept owner txn t found is)
+kept_applied m cs owner txn slot (Some ts) t reached kept found zero is = subst (λ i. AreKept (applied_at (outcome.Committed ts) m owner txn i t).1 (shard.applied txn (Some ts) cs)) (sym zero) (kept_committed m reached cs kept owner txn t found ts is)
+
+pub whole_applied : (j k : Journaled) (cs : List KeyVersions) (owner txn slot : ℕ) (interval : Interval) (committed : Option ℕ) → IsWhole j cs → IsApplied (machine_of j) owner txn slot interval committed (machine_of k) → k.queries ≡ j.queries
+    → IsWhole k (shard.applied txn committed cs)
+whole_applied j k cs owner txn slot interval committed w d queries =
+    let m = machine_of j in
+    let zero = only_slot m w.reached slot d.book d.here in
+    let steps = applied_steps m owner txn slot interval committed (machine_of k) d in
+    let e = apply_is m owner txn slot interval committed (machine_of k) d in
+    let is : machine_of k ≡ (apply_step m owner txn slot interval).1 = d.after ∙ sym (ap (λ (a : Answer). a.1) e) in
+    record {
+      reached = subst IsReached (sym is) (answer_reached m w.reached (step.Apply owner txn slot interval));
+      kept = subst (λ (n : Machine). AreKept n (shard.applied txn committed cs)) (sym d.after) (kept_applied m cs owner txn slot committed d.transaction w.reached w.kept d.found zero d.outcome);
+      pieced = subst (ArePieced (machine_of k)) (sym queries) (subst (λ (n : Machine). ArePieced n j.queries) (sym is) (pieced_by_step m w.reached j.queries refl w.pieced (step.Apply owner txn slot interval)));
+    }
+
+-- ---- scan
+
+-- the answer of a scan that covers its query
+abbrev covers : Machine → ℕ → ℕ → Book → Answer
+covers m query slot book = (reply.Scanned, record (with_book m slot book) { queries = changed_first (is_query query) cover m.queries })
+
+abbrev waits : Machine → ℕ → Book → Answer
+waits m slot book = (reply.Refused refusal.NotYet, with_book m slot book)
+
+abbrev nothing : Machine → Answer
+nothing m = (reply.Nothing, m)
+
+scan_is : (m : Machine) (query leaf slot : ℕ) (interval : Interval) (s : ℕ) (d : MayScan m query leaf slot interval s) → scan m query leaf slot interval ≡ covers m query slot (risen d.book d.question.s interval)
+scan_is m query leaf slot interval s d =
+    ap (λ (o : Option OpenQuery). if_some o (refused m refusal.UnknownQuery) (scan_found m query leaf slot interval)) d.found
+    ∙ ap (λ i. scan_found m query i slot interval d.question) d.first_leaf
+    ∙ ap (λ (o : Option Book). if_some o (refused m refusal.NoSlot) (scan_at m query slot interval d.question)) d.here
+    ∙ ap (λ b. cond b (nothing m) (scanned m query slot (risen d.book d.question.s interval) d.question.s)) d.uncovered
+    ∙ ap (λ b. cond b (covers m query slot (risen d.book d.question.s interval)) (waits m slot (risen d.book d.question.s interval))) d.safe
+
+some_same : {A : Type 0} (x y : A) → Some x ≡ Some y → x ≡ y
+some_same x y e = cc
+
+-- a piece that may be read and is registered is the scan
+pub scanned_whole : (j k : Journaled) (cs : List KeyVersions) (query leaf slot : ℕ) (interval : Interval) (s : ℕ) → IsWhole j cs → MayScan (machine_of j) query leaf slot interval s
+    → IsRegistered j query slot interval (snapshot (record { low = None; high = None }) s cs) k → IsWhole k cs × Steps (machine_of j) (step.Scan query leaf slot interval) reply.Scanned (machine_of k)
+scanned_whole j k cs query leaf slot interval s w d g =
+    let m = machine_of j in
+    let rows = snapshot (record { low = None; high = None }) s cs in
+    let ps = changed_first (λ (p : Pieced). is_query query p.query) (covered_by rows) j.queries in
+    let same : g.question.query ≡ d.question = some_same _ _ (sym (found_query query j.queries g.question g.found) ∙ d.found) in
+    let book_same : g.book ≡ d.book = some_same _ _ (sym g.here ∙ d.here) in
+    let risen_same : risen g.book g.question.query.s interval ≡ risen d.book d.question.s interval =
+    ap (λ (b : Book). risen b g.question.query.s interval) book_same ∙ ap (λ (q : OpenQuery). risen d.book q.s interval) same in
+    let read_at : s ≡ g.question.query.s = d.at ∙ ap (λ (q : OpenQuery). q.s) (sym same) in
+    let is : machine_of k ≡ (scan m query leaf slot interval).1 =
+    ap machine_of g.after
+    ∙ ap (λ (b : Book). machine_of (record j { books = (with_book m slot b).books; queries = ps })) risen_same
+    ∙ ap (λ (qs : List OpenQuery). record (with_book m slot (risen d.book d.question.s interval)) { queries = qs }) (sym (covered-queries (is_query query) rows j.queries))
+    ∙ sym (ap (λ (a : Answer). a.1) (scan_is m query leaf slot interval s d)) in
+    let zero = only_slot m w.reached slot d.book d.here in
+    let safe : is_safe m 0 (risen d.book d.question.s interval) g.question.query.s ≡ true =
+    ap (λ (q : OpenQuery). is_safe m 0 (risen d.book d.question.s interval) q.s) same ∙ subst (λ i. is_safe m i (risen d.book d.question.s interval) d.question.s ≡ true) zero d.safe in
+    let covered = pieced_scanned m cs j.queries w.reached w.kept w.pieced query g.question (risen d.book d.question.s interval) g.found safe in
+    let pieced : ArePieced m ps = subst (λ n. ArePieced m (changed_first (λ (p : Pieced). is_query query p.query) (covered_by (snapshot (record { low = None; high = None }) n cs)) j.queries)) (sym read_at) covered in (
+      record {
+        reached = subst IsReached (sym is) (answer_reached m w.reached (step.Scan query leaf slot interval));
+        kept = subst (λ (n : Machine). AreKept n cs) (sym is) (kept_scan m w.reached cs w.kept query leaf slot interval);
+        pieced = subst (λ (l : Journaled). ArePieced (machine_of l) l.queries) (sym g.after) pieced;
+      },
+      inl (sym (ap (λ (a : Answer). a.0) (scan_is m query leaf slot interval s d)), is),
+    )
+
+-- a piece that may be read is registered
+pub registers : (j : Journaled) (query leaf slot : ℕ) (interval : Interval) (s : ℕ) → MayScan (machine_of j) query leaf slot interval s → IsUnregistered j query slot → ⊥
+registers j query leaf slot interval s d (inl none) =
+    let e : find (is_query query) (queries_of j.queries) ≡ None = find-queries (is_query query) j.queries ∙ ap (λ (o : Option Pieced). option_map (λ (p : Pieced). p.query) o) none in
+    let f = d.found in cc
+registers j query leaf slot interval s d (inr (inl none)) = let f = d.here in cc
+registers j query leaf slot interval s d (inr (inr g)) =
+    let same : g.0.query ≡ d.question = some_same _ _ (sym (found_query query j.queries g.0 g.1) ∙ d.found) in
+    let e : d.question.covered ≡ true = ap (λ (q : OpenQuery). q.covered) (sym same) ∙ g.2 in
+    let f = d.uncovered in cc
+
+-- ---- finish
+
+abbrev answers : Machine → OpenQuery → Answer
+answers m q = (answer_on q.s (meaning m q), m)
+
+-- the rows of the piece are the answer
+pub finished : (j : Journaled) (cs : List KeyVersions) (query s : ℕ) (rows : List (List Value)) → IsWhole j cs → IsPiece j query s rows → Steps (machine_of j) (step.Finish query) (reply.Rows s rows) (machine_of j)
+finished j cs query s rows w p =
+    let m = machine_of j in
+    let right : (answer m (step.Finish query)).0 ≡ reply.Rows p.question.query.s p.question.rows = pieced_finish m w.reached j.queries refl w.pieced query p.question p.found p.covered in
+    let leaves : (answer m (step.Finish query)).1 ≡ m =
+    ap (λ (a : Answer). a.1) (ap (λ (o : Option OpenQuery). if_some o (refused m refusal.UnknownQuery) (finish_found m)) (found_query query j.queries p.question p.found))
+    ∙ ap (λ b. (cond b (answers m p.question.query) (refused m refusal.Incomplete)).1) p.covered in
+    inl (ap (λ n. reply.Rows n rows) p.at ∙ ap (reply.Rows p.question.query.s) p.rows_are ∙ sym right, sym leaves)

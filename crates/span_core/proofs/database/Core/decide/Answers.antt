@@ -1,0 +1,15 @@
+use Rattle.std.proofs.Common.{sym, subst}
+use Rattle.span_machine.specs.Pieces.{machine_of}
+use Rattle.span_machine.specs.declared.step.Step.TheVariants as step
+use Rattle.span_kept.specs.Kept.{ArePieced}
+use Rattle.span_kept.proofs.Steps.{kept_decide}
+use Rattle.span_core.proofs.Wholes.{whole_step}
+use Rattle.span_core.proofs.database.Core.decide.Goals as goal
+
+pub invariant_of-self : goal.invariant_of-self
+invariant_of-self c =
+    let w = c.self.invariant in
+    let j = c.self.inside.journal in
+    let m = machine_of j in
+    let cs = c.self.inside.shard in
+    whole_step j c.decide.new.self cs (step.Decide c.args.owner c.args.txn c.args.verdict c.args.interval) _ w c.decide.ensures.step (kept_decide m w.reached cs w.kept c.args.owner c.args.txn c.args.verdict c.args.interval) (λ n all. subst (ArePieced n) (sym c.decide.ensures.pieces) all)
