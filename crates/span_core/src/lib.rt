@@ -10,6 +10,12 @@ pub mod run;
 
 pub use span_machine::query::Params;
 pub use span_machine::step::{Reply, Step, Verdict};
-pub use span_shard::mutation::{CheckedMutation, MutationKind};
+pub use span_shard::mutation::{Cell, CheckedMutation, Mutation, MutationKind};
 pub use span_shard::schema::{Schema, Table};
 pub use span_shard::transaction::Transaction;
+pub use span_truetime::bound::Bound;
+pub use span_truetime::interval::Interval;
+pub use span_value::refusal::Refusal;
+pub use span_value::seq::Seq;
+pub use span_value::text::Text;
+pub use span_value::value::{Row, Value};

@@ -1,3 +1,4 @@
 pub mod Chains
 pub mod Writing
 pub mod Undo
+pub mod Fronts

@@ -4,3 +4,4 @@ pub mod Ranges
 pub mod Versions
 pub mod Writes
 pub mod Shard
+pub mod Checking

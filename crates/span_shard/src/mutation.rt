@@ -2,6 +2,8 @@
 ghost use Rattle.std.specs.Prelude.{◌≡◌, MatchResult};
 
 use span_value::refusal::Refusal;
+use span_value::seq::Seq;
+use span_value::text::Text;
 use span_value::value::Value;
 use std::alloc::Global;
 
@@ -12,6 +14,23 @@ pub enum MutationKind {
     Insert,
     /// Removes the row; an absent one is no fault.
     Delete,
+}
+
+/// A cell that a mutation names.
+#[derive(Debug, Drop, PartialEq, Eq)]
+pub struct Cell {
+    pub column: Text,
+    pub value: Value,
+}
+
+/// A mutation as it is asked for.
+#[derive(Debug, Drop, PartialEq, Eq)]
+pub struct Mutation {
+    pub kind: MutationKind,
+    pub table: Text,
+    /// The values of the whole primary key.
+    pub key: Seq<Value>,
+    pub cells: Seq<Cell>,
 }
 
 /// A mutation that was checked against the schema: of the table T, at this key, with the cell of its column v.
