@@ -1,0 +1,43 @@
+//! The program `spansql`.
+//!
+//! `spansql first TEXT` commits two rows in a new database, asks TEXT at the commit timestamp, and writes what was answered.
+#![tactic(auto)]
+
+mod fault;
+mod first;
+
+use fault::Fault;
+use std::env;
+use std::process::ExitCode;
+use std::rt::Env;
+
+/// What a command line that asks for nothing known is told.
+const USAGE: &str = "usage: spansql first TEXT";
+
+fn main(rt: HostRuntime) -> ExitCode {
+    match answer(&rt) {
+        Ok(status) => ExitCode::from(status),
+        Err(fault) => {
+            let _ = eprintln!(rt; "spansql: {fault}");
+            ExitCode::from(1)
+        }
+    }
+}
+
+/// Does what the command line asks for, and answers the exit status.
+fn answer(rt: &(impl AllocGlobal + Print + Eprint + Env)) -> Result<u8, Fault> {
+    let mut words = env::args(rt)?;
+    let _program = words.next();
+    let (verb, text, rest) = (words.next(), words.next(), words.next());
+    match (verb, text, rest) {
+        (Some(verb), Some(text), None) => {
+            if verb.as_str() == "first" {
+                first::run(rt, text.as_str())?;
+                return Ok(0);
+            }
+        }
+        _ => {}
+    }
+    eprintln!(rt; "{USAGE}")?;
+    Ok(2)
+}
