@@ -7,6 +7,8 @@
 pub mod database;
 mod rows;
 pub mod run;
+#[cfg(test)]
+mod tests;
 
 pub use span_machine::query::Params;
 pub use span_machine::step::{Reply, Step, Verdict};
