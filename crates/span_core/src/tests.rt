@@ -122,10 +122,21 @@ fn boundary(rt: HostRuntime) -> Result<(), Fail> {
         Reply::Prepared(1),
         Reply::Decided(111),
         Reply::Applied,
-        Reply::Opened { query: 1, s: 110, leaves: 1 },
+        Reply::Opened {
+            query: 1,
+            s: 110,
+            leaves: 1
+        },
         Reply::Scanned,
-        Reply::Rows { s: 110, rows: Seq::new(alloc) },
-        Reply::Opened { query: 2, s: 111, leaves: 1 },
+        Reply::Rows {
+            s: 110,
+            rows: Seq::new(alloc)
+        },
+        Reply::Opened {
+            query: 2,
+            s: 111,
+            leaves: 1
+        },
         Reply::Refused(Refusal::Incomplete),
         Reply::Scanned,
         Reply::Nothing,
@@ -161,13 +172,20 @@ fn aborted(rt: HostRuntime) -> Result<(), Fail> {
     let expected = vec![in alloc;
         Reply::Began(1),
         Reply::Prepared(1),
-        Reply::Opened { query: 1, s: 50, leaves: 1 },
+        Reply::Opened {
+            query: 1,
+            s: 50,
+            leaves: 1
+        },
         Reply::Refused(Refusal::NotYet),
         Reply::Aborted,
         Reply::Refused(Refusal::NotYet),
         Reply::Applied,
         Reply::Scanned,
-        Reply::Rows { s: 50, rows: Seq::new(alloc) },
+        Reply::Rows {
+            s: 50,
+            rows: Seq::new(alloc)
+        },
         Reply::Refused(Refusal::UnknownTransaction),
         Reply::Refused(Refusal::Syntax),
         Reply::Refused(Refusal::TimestampRange),
@@ -205,7 +223,11 @@ fn commit_wait(rt: HostRuntime) -> Result<(), Fail> {
         Reply::Refused(Refusal::WrongState),
         Reply::Refused(Refusal::UnknownTransaction),
         Reply::Decided(111),
-        Reply::Opened { query: 1, s: 111, leaves: 1 },
+        Reply::Opened {
+            query: 1,
+            s: 111,
+            leaves: 1
+        },
         Reply::Refused(Refusal::NotYet),
         Reply::Refused(Refusal::TooEarly),
         Reply::Applied,

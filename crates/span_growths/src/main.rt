@@ -71,12 +71,7 @@ fn run(rt: &(impl AllocGlobal + Print + Eprint)) -> Result<(), Fault> {
 }
 
 /// Takes a step, and once more where it answers want of memory.
-fn take(
-    rt: &impl Eprint,
-    alloc: Global,
-    core: &mut Core,
-    number: usize,
-) -> Result<Reply, Fault> {
+fn take(rt: &impl Eprint, alloc: Global, core: &mut Core, number: usize) -> Result<Reply, Fault> {
     let reply = core.step(alloc, step_at(alloc, number)?);
     match reply {
         Reply::Refused(Refusal::OutOfMemory) => {

@@ -12,7 +12,13 @@ pub const COUNT: usize = 16;
 /// Two rows are inserted, and one of them is deleted; a query reads between, and one after.
 pub fn step_at(alloc: Global, number: usize) -> Result<Step, Fault> {
     match number {
-        0 => begin(alloc, &[(MutationKind::Insert, 2, "b"), (MutationKind::Insert, 1, "a")]),
+        0 => begin(
+            alloc,
+            &[
+                (MutationKind::Insert, 2, "b"),
+                (MutationKind::Insert, 1, "a"),
+            ],
+        ),
         1 => Ok(prepare(1)),
         2 => decide(1, 100),
         3 => apply(1, 200),
@@ -45,12 +51,7 @@ fn begin(alloc: Global, rows: &[(MutationKind, i64, &str)]) -> Result<Step, Faul
     })
 }
 
-fn mutation(
-    alloc: Global,
-    kind: MutationKind,
-    key: i64,
-    text: &str,
-) -> Result<Mutation, Fault> {
+fn mutation(alloc: Global, kind: MutationKind, key: i64, text: &str) -> Result<Mutation, Fault> {
     let mut keys = Seq::new(alloc);
     keys.push(Value::Int(key))?;
     let mut cells = Seq::new(alloc);
