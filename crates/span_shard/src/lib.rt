@@ -6,5 +6,7 @@ pub mod mutation;
 pub mod range;
 pub mod schema;
 pub mod shard;
+#[cfg(test)]
+mod tests;
 pub mod transaction;
 pub mod write;
