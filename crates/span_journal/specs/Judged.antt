@@ -98,6 +98,7 @@ pub record IsRegistered (old : Journaled) (query slot : ℕ) (interval : Interva
   pub book : Book
   pub found : find (λ p. is_query query p.query) old.queries ≡ Some question
   pub here : slice_get old.books slot ≡ Some book
+  pub uncovered : question.query.covered ≡ false
   pub after : new ≡ record old {
     books = (with_book (machine_of old) slot (risen book question.query.s interval)).books;
     queries = changed_first (λ p. is_query query p.query) (covered_by rows) old.queries;

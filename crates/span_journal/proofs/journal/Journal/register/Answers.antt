@@ -39,6 +39,7 @@ returns-clause-ok c =
       book = book;
       found = place.found;
       here = here;
+      uncovered = sym c.is_covered.ensures ∙ c.if-is_covered.false;
       after = ap (λ (l : List Book). record j { books = l; queries = c.cover_at.new.queries.items }) books_are
           ∙ ap (λ (l : List Pieced). record j { books = slice_set j.books c.args.slot (risen book p.query.s c.args.interval); queries = l }) (queries_are ∙ sym (place.changed (covered_by c.args.rows)));
     })
