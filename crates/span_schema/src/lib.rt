@@ -1,0 +1,8 @@
+//! Schemas: tables that are interleaved in one another, and the rules that they meet.
+#![tactic(auto)]
+
+
+pub mod lineage;
+pub mod rules;
+
+pub mod table;
