@@ -39,15 +39,15 @@ steps_enough tables zero m i a b = absurd (omega arith)
 steps_enough tables (suc k) zero i a b = absurd (omega arith)
 steps_enough tables (suc k) (suc m) i a b =
     ap (λ (path : List ℕ). path ++ (i + 1) ∷ [])
-      (above_same (path_in tables k) (path_in tables m) (parent_at tables i)
-        (λ p h. let before : p < i = parent_before tables i p h in steps_enough tables k m p (omega arith) (omega arith)))
+    (above_same (path_in tables k) (path_in tables m) (parent_at tables i)
+    (λ p h. let before : p < i = parent_before tables i p h in steps_enough tables k m p (omega arith) (omega arith)))
 
 -- the path to a table is the path to its parent, and then its number
 pub path_goes_on : (tables : List Table) (i : ℕ) → path_at tables i ≡ above (path_at tables) (parent_at tables i) ++ (i + 1) ∷ []
 path_goes_on tables i =
     ap (λ (path : List ℕ). path ++ (i + 1) ∷ [])
-      (above_same (path_in tables i) (path_at tables) (parent_at tables i)
-        (λ p h. let before : p < i = parent_before tables i p h in steps_enough tables i (suc p) p before (omega arith)))
+    (above_same (path_in tables i) (path_at tables) (parent_at tables i)
+    (λ p h. let before : p < i = parent_before tables i p h in steps_enough tables i (suc p) p before (omega arith)))
 
 pub line_at : (tables : List Table) (n p : ℕ) → p < n → slice_get (map (lineage_at tables) (range_with_len 0 n)) p ≡ Some (lineage_at tables p)
 line_at tables n p h =
@@ -58,7 +58,7 @@ line_at tables n p h =
 path_here : (tables : List Table) (i : ℕ) → path_below (map (lineage_at tables) (range_with_len 0 i)) (parent_at tables i) ≡ above (path_in tables i) (parent_at tables i)
 path_here tables i = above_same _ (path_in tables i) (parent_at tables i)
     (λ p h. let before : p < i = parent_before tables i p h in
-      ap path_of_line (line_at tables i p before) ∙ steps_enough tables (suc p) i p (omega arith) before)
+    ap path_of_line (line_at tables i p before) ∙ steps_enough tables (suc p) i p (omega arith) before)
 
 -- what is judged and made of the tables before is what the definitions say
 pub lineage_step : (tables : List Table) (i : ℕ) (t : Table) (lines : List Lineage) → slice_get tables i ≡ Some t → lines ≡ map (lineage_at tables) (range_with_len 0 i)
@@ -68,12 +68,13 @@ lineage_step tables i t lines at same =
     let parent : parent_place (take i tables) t ≡ parent_at tables i = sym (ap (parent_in (take i tables)) at) in
     let len : length (take i tables) ≡ i = length-take-le i tables (omega arith) in
     let path : path_below lines (parent_place (take i tables) t) ≡ above (path_in tables i) (parent_at tables i) =
-      ap (path_below lines) parent ∙ ap (λ (ls : List Lineage). path_below ls (parent_at tables i)) same ∙ path_here tables i in
+    ap (path_below lines) parent ∙ ap (λ (ls : List Lineage). path_below ls (parent_at tables i)) same ∙ path_here tables i in
     let level : length (path_below lines (parent_place (take i tables) t)) + 1 ≡ length (path_at tables i) =
-      ap (λ (ns : List ℕ). length ns + 1) path ∙ sym (length-append (above (path_in tables i) (parent_at tables i)) ((i + 1) ∷ [])) in
+    ap (λ (ns : List ℕ). length ns + 1) path ∙ sym (length-append (above (path_in tables i) (parent_at tables i)) ((i + 1) ∷ [])) in
     (made _ _ _ _ parent (joined _ _ _ _ path len), ap (λ (l : ℕ). first_cause (causes_of (take i tables) t l)) level ∙ sym (ap (cause_in (take i tables) (length (path_at tables i))) at))
   where
     made : (p q : Option ℕ) (x y : List ℕ) → p ≡ q → x ≡ y → ◌≡◌ {A = Lineage} (record { parent = p; path = x }) (record { parent = q; path = y })
     made p q x y e f = cc
+
     joined : (x y : List ℕ) (m n : ℕ) → x ≡ y → m ≡ n → x ++ (m + 1) ∷ [] ≡ y ++ (n + 1) ∷ []
     joined x y m n e f = cc

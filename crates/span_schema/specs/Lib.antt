@@ -1,3 +1,6 @@
 pub mod Tables
 pub mod Rules
 pub mod Lineages
+pub mod Layouts
+pub mod Schemas
+pub mod Numbers

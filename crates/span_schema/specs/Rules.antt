@@ -46,11 +46,11 @@ has_bad_lengths columns = list_any (λ (c : Column). has_bad_length c.kind) colu
 -- two columns of one name, an empty key, an unknown or a repeated key column, or a bad length
 abbrev pub has_bad_column : Table → Bool
 has_bad_column t =
-  has_repeated_column t.columns
-  || (length t.key == 0)
-  || has_unknown_key t.columns t.key
-  || has_repeated_key t.key
-  || has_bad_lengths t.columns
+    has_repeated_column t.columns
+    || (length t.key == 0)
+    || has_unknown_key t.columns t.key
+    || has_repeated_key t.key
+    || has_bad_lengths t.columns
 
 -- a parent that is not declared before
 abbrev pub has_no_parent : List Table → Table → Bool
@@ -88,13 +88,13 @@ has_other_key before t = not (extends_named before t.parent t)
 -- the rules in the order in which they are judged, each with whether the table breaks it
 abbrev pub causes_of : List Table → Table → ℕ → List (Bool × Refusal)
 causes_of before t level =
-  (has_too_many before t, TooMany)
-  ∷ (is_some (table_place before t.name), DuplicateTable)
-  ∷ (has_bad_column t, BadColumn)
-  ∷ (has_no_parent before t, NoParent)
-  ∷ (has_other_key before t, KeyNotPrefixed)
-  ∷ (nat_lt MOST_LEVELS level, HierarchyTooDeep)
-  ∷ []
+    (has_too_many before t, TooMany)
+    ∷ (is_some (table_place before t.name), DuplicateTable)
+    ∷ (has_bad_column t, BadColumn)
+    ∷ (has_no_parent before t, NoParent)
+    ∷ (has_other_key before t, KeyNotPrefixed)
+    ∷ (nat_lt MOST_LEVELS level, HierarchyTooDeep)
+    ∷ []
 
 abbrev pub first_cause : List (Bool × Refusal) → Option Refusal
 first_cause [] = None

@@ -32,7 +32,12 @@ pub fn lineages_of(alloc: Global, tables: &[Table]) -> Result<Vec<Lineage>, Refu
     Ok(lines)
 }
 
-fn lineage_of(alloc: Global, before: &[Table], table: &Table, lines: &[Lineage]) -> Result<Lineage, Refusal>
+fn lineage_of(
+    alloc: Global,
+    before: &[Table],
+    table: &Table,
+    lines: &[Lineage],
+) -> Result<Lineage, Refusal>
     requires { length before.now ≡ length lines.now }
     ensures { MatchResult result (λ line. (judged_in before.now table.now lines.now ≡ None) × (line ≡ lineage_in before.now table.now lines.now)) (λ why. (judged_in before.now table.now lines.now ≡ Some why) ⊎ (why ≡ Refusal.OutOfMemory)) }
 {
@@ -46,7 +51,11 @@ fn lineage_of(alloc: Global, before: &[Table], table: &Table, lines: &[Lineage])
     })
 }
 
-fn path_of_parent(alloc: Global, lines: &[Lineage], parent: Option<usize>) -> Result<Vec<usize>, AllocError>
+fn path_of_parent(
+    alloc: Global,
+    lines: &[Lineage],
+    parent: Option<usize>,
+) -> Result<Vec<usize>, AllocError>
     requires { IfSome parent (λ p. p < length lines.now) }
     ensures { IfOk result (λ path. path.items ≡ path_below lines.now parent) }
 {

@@ -4,7 +4,9 @@ ghost use Rattle.span_schema.specs.Tables.{table_place, is_same_type, type_named
 ghost use Rattle.std.specs.Option.{option_copied};
 ghost use Rattle.span_schema.specs.Rules.{has_too_many, has_bad_column, has_repeated_column, has_repeated_key, has_bad_length, has_bad_lengths, has_no_parent, has_other_key, has_unknown_key, extends_key, begins_key, is_same_key_column, first_cause, causes_of};
 
-use super::table::{Column, KeyColumn, Table, are_same, is_in_key, place_of_column, place_of_parent, place_of_table};
+use super::table::{
+    Column, KeyColumn, Table, are_same, is_in_key, place_of_column, place_of_parent, place_of_table,
+};
 use span_value::refusal::Refusal;
 use span_value::value::ColumnType;
 
@@ -88,7 +90,8 @@ fn repeats_key_column(key: &[KeyColumn]) -> bool
 fn has_unknown(columns: &[Column], key: &[KeyColumn]) -> bool
     ensures { result ≡ has_unknown_key columns.now key.now }
 {
-    key.iter().any(|k| place_of_column(columns, k.name.as_str()).is_none())
+    key.iter()
+        .any(|k| place_of_column(columns, k.name.as_str()).is_none())
 }
 
 fn has_wrong_length(columns: &[Column]) -> bool
@@ -144,7 +147,12 @@ fn begins(above: &Table, table: &Table) -> bool
     let first = above.key.as_slice();
     let second = table.key.as_slice();
     for i in 0..first.len() {
-        if !is_alike(above.columns.as_slice(), table.columns.as_slice(), &first[i], &second[i]) {
+        if !is_alike(
+            above.columns.as_slice(),
+            table.columns.as_slice(),
+            &first[i],
+            &second[i],
+        ) {
             return false;
         }
     }
@@ -156,13 +164,20 @@ fn is_alike(columns: &[Column], others: &[Column], a: &KeyColumn, b: &KeyColumn)
 {
     are_same(a.name.as_str(), b.name.as_str())
         && a.desc == b.desc
-        && have_same_type(type_of(columns, a.name.as_str()), type_of(others, b.name.as_str()))
+        && have_same_type(
+            type_of(columns, a.name.as_str()),
+            type_of(others, b.name.as_str()),
+        )
 }
 
-fn type_of(columns: &[Column], name: &str) -> Option<ColumnType>
+/// The type of the column with a name.
+pub fn type_of(columns: &[Column], name: &str) -> Option<ColumnType>
     ensures { result ≡ type_named columns.now name.now }
 {
-    columns.iter().find(|c| are_same(c.name.as_str(), name)).map(|c| c.kind)
+    columns
+        .iter()
+        .find(|c| are_same(c.name.as_str(), name))
+        .map(|c| c.kind)
 }
 
 fn have_same_type(a: Option<ColumnType>, b: Option<ColumnType>) -> bool
