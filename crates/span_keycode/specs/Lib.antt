@@ -1,3 +1,4 @@
 pub mod Order
 pub mod Coding
 pub mod Texts
+pub mod Keys

@@ -1,4 +1,7 @@
 //! Coded keys: bytes whose order is the order of keys.
 #![tactic(auto)]
 
+pub mod column;
+pub mod encode;
+pub mod key;
 pub mod text;
