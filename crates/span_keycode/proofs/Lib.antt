@@ -4,3 +4,8 @@ pub mod Reading
 pub mod KindTests
 pub mod Levels
 pub mod LevelLaws
+pub mod Exact
+pub mod Plains
+pub mod Eights
+pub mod Tuples
+pub mod Going

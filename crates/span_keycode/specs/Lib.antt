@@ -2,3 +2,4 @@ pub mod Order
 pub mod Coding
 pub mod Texts
 pub mod Keys
+pub mod Reads

@@ -5,3 +5,6 @@ pub mod column;
 pub mod encode;
 pub mod key;
 pub mod text;
+pub mod value;
+pub mod tuple;
+pub mod decode;
