@@ -215,3 +215,25 @@ levels_in_order tables [] (m ∷ ms) f g = refl
 levels_in_order tables (l ∷ ls) [] f g = refl
 levels_in_order tables (l ∷ ls) (m ∷ ms) f g =
     (decides-level tables l m f.0 g.0).at (code_of tables ls) (code_of tables ms) ∙ ap (ordering_then (level_cmp tables l m)) (levels_in_order tables ls ms f.1 g.1)
+
+append_nothing : (xs : List ℕ) → xs ++ [] ≡ xs
+append_nothing [] = refl
+append_nothing (x ∷ xs) = ap (λ (ys : List ℕ). x ∷ ys) (append_nothing xs)
+
+own_level : (tables : List Table) (i : ℕ) (vs : List Value) → code_of tables (level_of tables vs (i + 1) ∷ []) ≡ (i + 1) ∷ tuple_code (own_key_at tables i) (own_values_at tables i vs)
+own_level tables i vs = append_nothing (level_code tables (level_of tables vs (i + 1))) ∙ level_here tables i vs
+
+-- the coding of a root row's key
+pub code_root : (tables : List Table) (i : ℕ) → parent_at tables i ≡ None → (vs : List Value) → AreFit (key_at tables i) vs → code_of tables (levels_at tables i vs) ≡ (i + 1) ∷ tuple_code (own_key_at tables i) vs
+code_root tables i e vs f =
+    ap (code_of tables) (levels_root tables i e vs) ∙ own_level tables i vs
+    ∙ ap (λ (xs : List Value). (i + 1) ∷ tuple_code (own_key_at tables i) xs) (own_root tables i e vs (sym (fit_length (key_at tables i) vs f)))
+
+-- the coding of a child's key: that of its parent's key, and its own level
+pub code_child : (tables : List Table) → MeetsRules tables → (i p : ℕ) → i < length tables → parent_at tables i ≡ Some p → (vs : List Value) → AreFit (key_at tables i) vs
+    → code_of tables (levels_at tables i vs) ≡ code_of tables (levels_at tables p (take (length (key_at tables p)) vs)) ++ ((i + 1) ∷ tuple_code (own_key_at tables i) (drop (length (key_at tables p)) vs))
+code_child tables rules i p h e vs f =
+    ap (code_of tables) (levels_child tables rules i p h e vs)
+    ∙ code_append tables (levels_at tables p (take (length (key_at tables p)) vs)) (level_of tables vs (i + 1) ∷ [])
+    ∙ ap (λ (xs : List ℕ). code_of tables (levels_at tables p (take (length (key_at tables p)) vs)) ++ xs)
+        (own_level tables i vs ∙ ap (λ (xs : List Value). (i + 1) ∷ tuple_code (own_key_at tables i) xs) (own_child tables i p e vs (sym (fit_length (key_at tables i) vs f))))

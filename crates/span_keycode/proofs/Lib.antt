@@ -9,3 +9,4 @@ pub mod Plains
 pub mod Eights
 pub mod Tuples
 pub mod Going
+pub mod KeyReading
