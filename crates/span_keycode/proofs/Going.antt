@@ -19,7 +19,7 @@ abbrev Continues : List Table → Option ℕ → List ℕ → Type 0
 Continues tables o [] = Unit {0}
 Continues tables o (n ∷ ns) = IsTable tables n × (parent_of tables n ≡ o) × Continues tables (Some n) ns
 
-abbrev last_or : Option ℕ → List ℕ → Option ℕ
+abbrev pub last_or : Option ℕ → List ℕ → Option ℕ
 last_or o [] = o
 last_or o (n ∷ ns) = last_or (Some n) ns
 
@@ -35,7 +35,7 @@ continues_split : (tables : List Table) (o : Option ℕ) (ns ms : List ℕ) → 
 continues_split tables o [] ms f = f
 continues_split tables o (n ∷ ns) ms f = continues_split tables (Some n) ns ms f.2
 
-last_path : (tables : List Table) (i : ℕ) → last_or None (path_at tables i) ≡ Some (i + 1)
+pub last_path : (tables : List Table) (i : ℕ) → last_or None (path_at tables i) ≡ Some (i + 1)
 last_path tables i = ap (last_or None) (path_goes_on tables i) ∙ last_push None (above (path_at tables) (parent_at tables i)) (i + 1)
 
 parent_here : (tables : List Table) (i : ℕ) (o : Option ℕ) → parent_at tables i ≡ o → parent_of tables (i + 1) ≡ number_of o
@@ -61,11 +61,11 @@ abbrev pub tables_of : List Level → List ℕ
 tables_of [] = []
 tables_of (l ∷ ls) = l.table ∷ tables_of ls
 
-tables_back : (tables : List Table) (vs : List Value) (ns : List ℕ) → tables_of (map (level_of tables vs) ns) ≡ ns
+pub tables_back : (tables : List Table) (vs : List Value) (ns : List ℕ) → tables_of (map (level_of tables vs) ns) ≡ ns
 tables_back tables vs [] = refl
 tables_back tables vs (n ∷ ns) = ap (λ (ms : List ℕ). n ∷ ms) (tables_back tables vs ns)
 
-tables_append : (ls ms : List Level) → tables_of (ls ++ ms) ≡ tables_of ls ++ tables_of ms
+pub tables_append : (ls ms : List Level) → tables_of (ls ++ ms) ≡ tables_of ls ++ tables_of ms
 tables_append [] ms = refl
 tables_append (l ∷ ls) ms = ap (λ (ns : List ℕ). l.table ∷ ns) (tables_append ls ms)
 

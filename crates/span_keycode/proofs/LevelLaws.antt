@@ -67,7 +67,7 @@ code_append tables [] ms = refl
 code_append tables (l ∷ ls) ms = ap (λ (bs : List ℕ). level_code tables l ++ bs) (code_append tables ls ms) ∙ sym (append_assoc (level_code tables l) (code_of tables ls) (code_of tables ms))
 
 -- levels see no more values than their tables have key columns
-map_short : (tables : List Table) (ns : List ℕ) (most : ℕ) (vs : List Value) → AllByRecursion (IsShort tables most) ns → map (level_of tables vs) ns ≡ map (level_of tables (take most vs)) ns
+pub map_short : (tables : List Table) (ns : List ℕ) (most : ℕ) (vs : List Value) → AllByRecursion (IsShort tables most) ns → map (level_of tables vs) ns ≡ map (level_of tables (take most vs)) ns
 map_short tables [] most vs f = refl
 map_short tables (n ∷ ns) most vs f =
     let here : take (length (key_columns tables n)) vs ≡ take (length (key_columns tables n)) (take most vs) = sym (take_short (length (key_columns tables n)) most vs f.0) in
@@ -96,11 +96,11 @@ levels_child tables rules i p h e vs =
 pub levels_root : (tables : List Table) (i : ℕ) → parent_at tables i ≡ None → (vs : List Value) → levels_at tables i vs ≡ level_of tables vs (i + 1) ∷ []
 levels_root tables i e vs = ap (map (level_of tables vs)) (path_root tables i e)
 
-own_child : (tables : List Table) (i p : ℕ) → parent_at tables i ≡ Some p → (vs : List Value) → length vs ≡ length (key_at tables i) → own_values_at tables i vs ≡ drop (length (key_at tables p)) vs
+pub own_child : (tables : List Table) (i p : ℕ) → parent_at tables i ≡ Some p → (vs : List Value) → length vs ≡ length (key_at tables i) → own_values_at tables i vs ≡ drop (length (key_at tables p)) vs
 own_child tables i p e vs len =
     ap (λ (o : Option ℕ). drop (columns_above tables o) (take (length (key_at tables i)) vs)) e ∙ ap (drop (length (key_at tables p))) (take_all (length (key_at tables i)) vs len)
 
-own_root : (tables : List Table) (i : ℕ) → parent_at tables i ≡ None → (vs : List Value) → length vs ≡ length (key_at tables i) → own_values_at tables i vs ≡ vs
+pub own_root : (tables : List Table) (i : ℕ) → parent_at tables i ≡ None → (vs : List Value) → length vs ≡ length (key_at tables i) → own_values_at tables i vs ≡ vs
 own_root tables i e vs len =
     ap (λ (o : Option ℕ). drop (columns_above tables o) (take (length (key_at tables i)) vs)) e ∙ take_all (length (key_at tables i)) vs len
 

@@ -10,3 +10,4 @@ pub mod Eights
 pub mod Tuples
 pub mod Going
 pub mod KeyReading
+pub mod KeyLaws

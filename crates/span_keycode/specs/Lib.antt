@@ -3,3 +3,4 @@ pub mod Coding
 pub mod Texts
 pub mod Keys
 pub mod Reads
+pub mod Laws

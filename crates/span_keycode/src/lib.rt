@@ -8,3 +8,4 @@ pub mod text;
 pub mod value;
 pub mod tuple;
 pub mod decode;
+pub mod laws;
