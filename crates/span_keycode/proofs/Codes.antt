@@ -60,7 +60,7 @@ decides-high_first zero m n = let a : m % 1 ≡ 0 = omega arith in let b : n % 1
 decides-high_first (suc k) m n =
     let small : (x : ℕ) → x % 256 ^ k < 256 ^ k = λ x. mod-lt x (pos_pow k) in
     rw (splits k m, splits k n, two_digits (256 ^ k) (byte_at k m) (byte_at k n) (m % 256 ^ k) (n % 256 ^ k) (small m) (small n))
-      (decides-cons (byte_at k m) (byte_at k n) (bytes_high_first k m) (bytes_high_first k n) _ (decides-high_first k m n))
+    (decides-cons (byte_at k m) (byte_at k n) (bytes_high_first k m) (bytes_high_first k n) _ (decides-high_first k m n))
 
 pub decides-number : (m n : ℕ) → m < 2 ^ 64 → n < 2 ^ 64 → Decides (to_be_bytes w64 m) (to_be_bytes w64 n) (nat_cmp m n)
 decides-number m n low_m low_n =

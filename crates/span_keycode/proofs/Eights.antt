@@ -28,7 +28,7 @@ pub eight_turned : (way : Bool) (bs : List ℕ) (a b c d e f g h : ℕ) → 8 �
 eight_turned way bs a b c d e f g h len p0 p1 p2 p3 p4 p5 p6 p7 =
     ap (in_direction way) (eight bs len)
     ∙ one_turned way _ a _ _ p0 (one_turned way _ b _ _ p1 (one_turned way _ c _ _ p2 (one_turned way _ d _ _ p3
-      (one_turned way _ e _ _ p4 (one_turned way _ f _ _ p5 (one_turned way _ g _ _ p6 (one_turned way _ h _ _ p7 refl)))))))
+    (one_turned way _ e _ _ p4 (one_turned way _ f _ _ p5 (one_turned way _ g _ _ p6 (one_turned way _ h _ _ p7 refl)))))))
 
 bytes_at : (bs : List ℕ) → AreBytes bs → (i : ℕ) → get_or bs i 0 < 256
 bytes_at [] f i = omega arith

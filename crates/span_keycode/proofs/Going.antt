@@ -49,12 +49,12 @@ path_continues tables = by_parents tables (λ i. i < length tables → Continues
       where
         by_case : (o : Option ℕ) → parent_at tables i ≡ o → Continues tables None (path_at tables i)
         by_case None e =
-          let P : List ℕ → Type 0 = λ ns. Continues tables None ns in
-          subst P (sym (path_root tables i e)) ((omega arith, omega arith), parent_here tables i None e, tt)
+            let P : List ℕ → Type 0 = λ ns. Continues tables None ns in
+            subst P (sym (path_root tables i e)) ((omega arith, omega arith), parent_here tables i None e, tt)
         by_case (Some p) e =
-          let P : List ℕ → Type 0 = λ ns. Continues tables None ns in
-          let less : p < i = parent_before tables i p e in
-          subst P (sym (path_child tables i p e))
+            let P : List ℕ → Type 0 = λ ns. Continues tables None ns in
+            let less : p < i = parent_before tables i p e in
+            subst P (sym (path_child tables i p e))
             (continues_push tables None (path_at tables p) (i + 1) (again p e (omega arith)) (omega arith, omega arith) (parent_here tables i (Some p) e ∙ sym (last_path tables p)))
 
 abbrev pub tables_of : List Level → List ℕ
@@ -124,9 +124,9 @@ goes_on tables rules (Some n) vs rest a m ws k e =
     let P : List Level → Type 0 = λ ls. Continues tables None (tables_of ls) in
     let Q : List Level → Type 0 = λ ls. AreLevels tables ls in
     let last : last_or None (tables_of (levels_at tables (n - 1) vs)) ≡ Some n =
-      ap (last_or None) (tables_back tables vs (path_at tables (n - 1))) ∙ last_path tables (n - 1) ∙ ap (λ (k : ℕ). Some k) (place_is tables n a.0).1 in
+    ap (last_or None) (tables_back tables vs (path_at tables (n - 1))) ∙ last_path tables (n - 1) ∙ ap (λ (k : ℕ). Some k) (place_is tables n a.0).1 in
     behind tables (Some n) (levels_at tables (n - 1) vs) begins.0 rest last (subst P begins.1 known.1)
-      (fit_part tables (levels_at tables (n - 1) vs) begins.0 (subst Q begins.1 known.0)) begins.2
+    (fit_part tables (levels_at tables (n - 1) vs) begins.0 (subst Q begins.1 known.0)) begins.2
 
 -- a coding is not empty
 pub code_some : (tables : List Table) (m : ℕ) (ws : List Value) → [] ≡ key_code tables m ws → ⊥
@@ -134,6 +134,7 @@ code_some tables m ws e = elim (nonempty (path_at tables (m - 1)) refl) [ inl no
   where
     no_path : path_at tables (m - 1) ≡ [] → ⊥
     no_path e = let l : length (path_at tables (m - 1)) ≡ 0 = ap length e in omega (arith, ap (length {A = ℕ}) (path_goes_on tables (m - 1)), length-append (above (path_at tables) (parent_at tables (m - 1))) ((m - 1 + 1) ∷ []))
+
     nonempty : (ns : List ℕ) → path_at tables (m - 1) ≡ ns → (path_at tables (m - 1) ≡ []) ⊎ ⊥
     nonempty [] f = inl f
     nonempty (n ∷ ns) f = inr (let g : [] ≡ n ∷ (tuple_code (own_key_columns tables n) (level_of tables ws n).values ++ code_of tables (map (level_of tables ws) ns)) = e ∙ ap (λ (xs : List ℕ). code_of tables (map (level_of tables ws) xs)) f in absurd cc)

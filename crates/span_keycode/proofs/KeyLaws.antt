@@ -22,7 +22,7 @@ place_within tables n t = omega (arith, t.0, t.1)
 pub order_of_keys : OrderOfKeys
 order_of_keys tables rules n m vs ws k l =
     levels_in_order tables (levels_at tables (n - 1) vs) (levels_at tables (m - 1) ws)
-      (levels_fit tables rules (n - 1) (place_within tables n k.0) vs k.1) (levels_fit tables rules (m - 1) (place_within tables m l.0) ws l.1)
+    (levels_fit tables rules (n - 1) (place_within tables n k.0) vs k.1) (levels_fit tables rules (m - 1) (place_within tables m l.0) ws l.1)
 
 pub order_in_table : OrderInTable
 order_in_table tables rules n vs ws k l = decides-key tables rules (n - 1) (place_within tables n k.0) vs ws k.1 l.1
@@ -47,21 +47,21 @@ values_back : (tables : List Table) → MeetsRules tables → (i : ℕ) → i < 
 values_back tables rules = by_parents tables (λ i. i < length tables → (vs : List Value) → AreFit (key_at tables i) vs → values_of (levels_at tables i vs) ≡ vs) step
   where
     step : (i : ℕ) → ((p : ℕ) → parent_at tables i ≡ Some p → p < length tables → (vs : List Value) → AreFit (key_at tables p) vs → values_of (levels_at tables p vs) ≡ vs)
-      → i < length tables → (vs : List Value) → AreFit (key_at tables i) vs → values_of (levels_at tables i vs) ≡ vs
+        → i < length tables → (vs : List Value) → AreFit (key_at tables i) vs → values_of (levels_at tables i vs) ≡ vs
     step i again h vs f = by_case (parent_at tables i) refl
       where
         by_case : (o : Option ℕ) → parent_at tables i ≡ o → values_of (levels_at tables i vs) ≡ vs
         by_case None e = ap values_of (levels_root tables i e vs) ∙ own_here tables i vs ∙ own_root tables i e vs (sym (fit_length (key_at tables i) vs f))
         by_case (Some p) e =
-          let less : p < i = parent_before tables i p e in
-          let K = length (key_at tables p) in
-          let R : List KeyPart → Type 0 = λ cs. AreFit cs vs in
-          let both = fit_split (key_at tables p) (own_key_at tables i) vs (subst R (key_split tables rules i p h e) f) in
-          ap values_of (levels_child tables rules i p h e vs)
-          ∙ values_append (levels_at tables p (take K vs)) (level_of tables vs (i + 1) ∷ [])
-          ∙ ap (λ (us : List Value). us ++ values_of (level_of tables vs (i + 1) ∷ [])) (again p e (omega arith) (take K vs) both.0)
-          ∙ ap (λ (us : List Value). take K vs ++ us) (own_here tables i vs ∙ own_child tables i p e vs (sym (fit_length (key_at tables i) vs f)))
-          ∙ take-append-drop K vs
+            let less : p < i = parent_before tables i p e in
+            let K = length (key_at tables p) in
+            let R : List KeyPart → Type 0 = λ cs. AreFit cs vs in
+            let both = fit_split (key_at tables p) (own_key_at tables i) vs (subst R (key_split tables rules i p h e) f) in
+            ap values_of (levels_child tables rules i p h e vs)
+            ∙ values_append (levels_at tables p (take K vs)) (level_of tables vs (i + 1) ∷ [])
+            ∙ ap (λ (us : List Value). us ++ values_of (level_of tables vs (i + 1) ∷ [])) (again p e (omega arith) (take K vs) both.0)
+            ∙ ap (λ (us : List Value). take K vs ++ us) (own_here tables i vs ∙ own_child tables i p e vs (sym (fit_length (key_at tables i) vs f)))
+            ∙ take-append-drop K vs
 
 known : (tables : List Table) → MeetsRules tables → (n : ℕ) (vs : List Value) → IsKey tables n vs → AreLevels tables (levels_at tables (n - 1) vs)
 known tables rules n vs k = levels_fit tables rules (n - 1) (place_within tables n k.0) vs k.1
@@ -73,7 +73,7 @@ begun tables rules n m vs ws k l more e = record {
   path = sym (tables_back tables ws (path_at tables (m - 1))) ∙ ap tables_of e ∙ tables_append (levels_at tables (n - 1) vs) more ∙ ap (λ (ns : List ℕ). ns ++ tables_of more) (tables_back tables vs (path_at tables (n - 1)));
   values_below = values_of more;
   values = sym (values_back tables rules (m - 1) (place_within tables m l.0) ws l.1) ∙ ap values_of e ∙ values_append (levels_at tables (n - 1) vs) more
-    ∙ ap (λ (us : List Value). us ++ values_of more) (values_back tables rules (n - 1) (place_within tables n k.0) vs k.1);
+      ∙ ap (λ (us : List Value). us ++ values_of more) (values_back tables rules (n - 1) (place_within tables n k.0) vs k.1);
 }
 
 below : (tables : List Table) → MeetsRules tables → (n m : ℕ) (vs ws : List Value) → IsKey tables n vs → IsKey tables m ws → IsAtOrBelow tables n vs m ws → (rest : List ℕ) × (key_code tables m ws ≡ key_code tables n vs ++ rest)
@@ -82,15 +82,16 @@ below tables rules n m vs ws k l b =
     let front : take K ws ≡ vs = ap (take K) b.values ∙ ap (λ (j : ℕ). take j (vs ++ b.values_below)) (fit_length (key_at tables (n - 1)) vs k.1) ∙ take-append_seam vs b.values_below in
     let more = map (level_of tables ws) b.tables_below in
     let levels : levels_at tables (m - 1) ws ≡ levels_at tables (n - 1) vs ++ more =
-      ap (map (level_of tables ws)) b.path ∙ map-append (level_of tables ws) (path_at tables (n - 1)) b.tables_below
-      ∙ ap (λ (ls : List Level). ls ++ more) (map_short tables (path_at tables (n - 1)) K ws (keys_short tables rules (n - 1) (place_within tables n k.0)) ∙ ap (λ (us : List Value). levels_at tables (n - 1) us) front) in
+    ap (map (level_of tables ws)) b.path ∙ map-append (level_of tables ws) (path_at tables (n - 1)) b.tables_below
+    ∙ ap (λ (ls : List Level). ls ++ more) (map_short tables (path_at tables (n - 1)) K ws (keys_short tables rules (n - 1) (place_within tables n k.0)) ∙ ap (λ (us : List Value). levels_at tables (n - 1) us) front) in
     (code_of tables more, ap (code_of tables) levels ∙ code_append tables (levels_at tables (n - 1) vs) more)
 
 pub begins_own_rows : BeginsOwnRows
-begins_own_rows tables rules n m vs ws k l =
-    ((λ b. let levels = levels_begin tables (levels_at tables (n - 1) vs) (levels_at tables (m - 1) ws) b.0 (known tables rules n vs k) (known tables rules m ws l) (sym b.1) in
-        begun tables rules n m vs ws k l levels.0 levels.1),
-      below tables rules n m vs ws k l)
+begins_own_rows tables rules n m vs ws k l = (
+  (λ b. let levels = levels_begin tables (levels_at tables (n - 1) vs) (levels_at tables (m - 1) ws) b.0 (known tables rules n vs k) (known tables rules m ws l) (sym b.1) in
+      begun tables rules n m vs ws k l levels.0 levels.1),
+  below tables rules n m vs ws k l,
+)
 
 append_nothing : (xs : List ℕ) → xs ++ [] ≡ xs
 append_nothing [] = refl
@@ -107,12 +108,14 @@ one_key tables rules n m vs ws k l e =
     let same : levels_at tables (m - 1) ws ≡ levels_at tables (n - 1) vs = begins.1 ∙ ap (λ (ls : List Level). levels_at tables (n - 1) vs ++ ls) none ∙ levels_none (levels_at tables (n - 1) vs) in
     let paths : path_at tables (m - 1) ≡ path_at tables (n - 1) = sym (tables_back tables ws (path_at tables (m - 1))) ∙ ap tables_of same ∙ tables_back tables vs (path_at tables (n - 1)) in
     let last : Some (m - 1 + 1) ≡ Some (n - 1 + 1) = sym (last_path tables (m - 1)) ∙ ap (last_or None) paths ∙ last_path tables (n - 1) in
-    let number : m - 1 + 1 ≡ n - 1 + 1 = same_some (m - 1 + 1) (n - 1 + 1) last in
-    (omega (arith, number, k.0.0, l.0.0),
-      sym (values_back tables rules (n - 1) (place_within tables n k.0) vs k.1) ∙ ap values_of (sym same) ∙ values_back tables rules (m - 1) (place_within tables m l.0) ws l.1)
+    let number : m - 1 + 1 ≡ n - 1 + 1 = same_some (m - 1 + 1) (n - 1 + 1) last in (
+      omega (arith, number, k.0.0, l.0.0),
+      sym (values_back tables rules (n - 1) (place_within tables n k.0) vs k.1) ∙ ap values_of (sym same) ∙ values_back tables rules (m - 1) (place_within tables m l.0) ws l.1,
+    )
   where
     levels_none : (ls : List Level) → ls ++ [] ≡ ls
     levels_none [] = refl
     levels_none (l ∷ ls) = ap (λ (ms : List Level). l ∷ ms) (levels_none ls)
+
     same_some : (a b : ℕ) → Some a ≡ Some b → a ≡ b
     same_some a b e = cc

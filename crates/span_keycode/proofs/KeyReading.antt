@@ -23,10 +23,12 @@ child_key tables rules i p h e vs us f g =
     let fits = subst R (sym (key_split tables rules i p h e)) (fit_join (key_at tables p) (own_key_at tables i) vs us f g) in
     let len : length (key_at tables p) ≡ length vs = fit_length (key_at tables p) vs f in
     let front : take (length (key_at tables p)) (vs ++ us) ≡ vs = ap (λ (k : ℕ). take k (vs ++ us)) len ∙ take-append_seam vs us in
-    let end : drop (length (key_at tables p)) (vs ++ us) ≡ us = ap (λ (k : ℕ). drop k (vs ++ us)) len ∙ drop-append_seam vs us in
-    (fits, code_child tables rules i p h e (vs ++ us) fits
-      ∙ ap (λ (xs : List Value). code_of tables (levels_at tables p xs) ++ ((i + 1) ∷ tuple_code (own_key_at tables i) (drop (length (key_at tables p)) (vs ++ us)))) front
-      ∙ ap (λ (xs : List Value). code_of tables (levels_at tables p vs) ++ ((i + 1) ∷ tuple_code (own_key_at tables i) xs)) end)
+    let end : drop (length (key_at tables p)) (vs ++ us) ≡ us = ap (λ (k : ℕ). drop k (vs ++ us)) len ∙ drop-append_seam vs us in (
+      fits,
+      code_child tables rules i p h e (vs ++ us) fits
+          ∙ ap (λ (xs : List Value). code_of tables (levels_at tables p xs) ++ ((i + 1) ∷ tuple_code (own_key_at tables i) (drop (length (key_at tables p)) (vs ++ us)))) front
+          ∙ ap (λ (xs : List Value). code_of tables (levels_at tables p vs) ++ ((i + 1) ∷ tuple_code (own_key_at tables i) xs)) end,
+    )
 
 root_key : (tables : List Table) (i : ℕ) → parent_at tables i ≡ None → (us : List Value) → AreFit (own_key_at tables i) us
     → AreFit (key_at tables i) us × (code_of tables (levels_at tables i us) ≡ (i + 1) ∷ tuple_code (own_key_at tables i) us)
@@ -57,11 +59,12 @@ key_extends tables rules (Some n) vs us c a t e g =
     let within : c - 1 < length tables = omega (arith, t.0, t.1) in
     let R : ℕ → Type 0 = λ p. AreFit (key_at tables p) vs in
     let child = child_key tables rules (c - 1) found.0 within found.1 vs us (subst R place a.1) g in
-    let number : c - 1 + 1 ≡ c = omega (arith, t.0) in
-    ((t, child.0),
+    let number : c - 1 + 1 ≡ c = omega (arith, t.0) in (
+      (t, child.0),
       child.1
-      ∙ ap (λ (p : ℕ). code_of tables (levels_at tables p vs) ++ ((c - 1 + 1) ∷ tuple_code (own_key_columns tables c) us)) (sym place)
-      ∙ ap (λ (m : ℕ). key_code tables n vs ++ (m ∷ tuple_code (own_key_columns tables c) us)) number)
+          ∙ ap (λ (p : ℕ). code_of tables (levels_at tables p vs) ++ ((c - 1 + 1) ∷ tuple_code (own_key_columns tables c) us)) (sym place)
+          ∙ ap (λ (m : ℕ). key_code tables n vs ++ (m ∷ tuple_code (own_key_columns tables c) us)) number,
+    )
 
 -- so far a key was read, or nothing
 pub record IsRead (tables : List Table) (bytes : List ℕ) (o : Option ℕ) (vs : List Value) (at : ℕ) : Type 0 where
@@ -85,7 +88,7 @@ read_more tables rules bs o vs ws at w c r h byte t p tuple =
     let code = tuple_code (own_key_columns tables c) tuple.values in
     let rest : drop w (drop (at + 1) bs) ≡ drop (at + (1 + w)) bs = drop-drop w (at + 1) bs ∙ ap (λ (n : ℕ). drop n bs) (let e : at + 1 + w ≡ at + (1 + w) = omega arith in e) in
     let here : drop at bs ≡ c ∷ (code ++ drop (at + (1 + w)) bs) =
-      next_byte bs at h ∙ ap (λ (n : ℕ). n ∷ drop (at + 1) bs) (sym byte) ∙ ap (λ (xs : List ℕ). c ∷ xs) (tuple.code ∙ ap (λ (xs : List ℕ). code ++ xs) rest) in
+    next_byte bs at h ∙ ap (λ (n : ℕ). n ∷ drop (at + 1) bs) (sym byte) ∙ ap (λ (xs : List ℕ). c ∷ xs) (tuple.code ∙ ap (λ (xs : List ℕ). code ++ xs) rest) in
     subst P (sym tuple.added) (record {
       known = more.0;
       code = r.code ∙ ap (λ (xs : List ℕ). code_above tables o vs ++ xs) here ∙ sym (append_assoc (code_above tables o vs) (c ∷ code) (drop (at + (1 + w)) bs)) ∙ ap (λ (xs : List ℕ). xs ++ drop (at + (1 + w)) bs) (sym more.1);
@@ -98,12 +101,14 @@ heads a b xs ys e = (cc, cc)
 -- where the next level is no child's, or cannot be read, no key is coded
 stuck : (tables : List Table) → MeetsRules tables → (bs : List ℕ) (o : Option ℕ) (vs : List Value) (at : ℕ) → IsRead tables bs o vs at → at < length bs
     → (Next tables o (drop at bs) → ⊥) → IsUncoded tables bs
-stuck tables rules bs o vs at r h against = record { none = λ n ws k e.
-    let next = next_byte bs at h in
-    elim (goes_on tables rules o vs (drop at bs) r.known n ws k (sym r.code ∙ e)) [
-      | inl none ↦ (let f : [] ≡ get_or bs at 0 ∷ drop (at + 1) bs = sym none ∙ next in cc)
-      | inr more ↦ against more
-    ] }
+stuck tables rules bs o vs at r h against = record {
+  none = λ n ws k e.
+      let next = next_byte bs at h in
+      elim (goes_on tables rules o vs (drop at bs) r.known n ws k (sym r.code ∙ e)) [
+        | inl none ↦ (let f : [] ≡ get_or bs at 0 ∷ drop (at + 1) bs = sym none ∙ next in cc)
+        | inr more ↦ against more
+      ];
+}
 
 pub read_stop : (tables : List Table) → MeetsRules tables → (bs : List ℕ) (o : Option ℕ) (vs : List Value) (at c : ℕ) → IsRead tables bs o vs at → at < length bs → c ≡ get_or bs at 0
     → (IsTable tables c → parent_of tables c ≡ o → ⊥) → IsUncoded tables bs

@@ -72,7 +72,7 @@ map_short tables [] most vs f = refl
 map_short tables (n ∷ ns) most vs f =
     let here : take (length (key_columns tables n)) vs ≡ take (length (key_columns tables n)) (take most vs) = sym (take_short (length (key_columns tables n)) most vs f.0) in
     let l : level_of tables vs n ≡ level_of tables (take most vs) n =
-      ap (λ (ws : List Value). let level : Level = record { table = n; values = drop (columns_above tables (parent_at tables (n - 1))) ws } in level) here in
+    ap (λ (ws : List Value). let level : Level = record { table = n; values = drop (columns_above tables (parent_at tables (n - 1))) ws } in level) here in
     joined (level_of tables vs n) (level_of tables (take most vs) n) (map (level_of tables vs) ns) (map (level_of tables (take most vs)) ns) l (map_short tables ns most vs f.1)
   where
     joined : (a b : Level) (xs ys : List Level) → a ≡ b → xs ≡ ys → a ∷ xs ≡ b ∷ ys
@@ -122,27 +122,29 @@ levels_fit tables rules = by_parents tables (λ i. i < length tables → (vs : L
   where
     own : (i : ℕ) (vs : List Value) → AreFit (own_key_at tables i) (own_values_at tables i vs) → AreFit (own_key_columns tables (i + 1)) (own_values tables (i + 1) vs)
     own i vs f = let P : ℕ → Type 0 = λ k. AreFit (own_key_at tables k) (own_values_at tables k vs) in subst P (sym (back i)) f
+
     step : (i : ℕ) → ((p : ℕ) → parent_at tables i ≡ Some p → p < length tables → (vs : List Value) → AreFit (key_at tables p) vs → AreLevels tables (levels_at tables p vs))
-      → i < length tables → (vs : List Value) → AreFit (key_at tables i) vs → AreLevels tables (levels_at tables i vs)
+        → i < length tables → (vs : List Value) → AreFit (key_at tables i) vs → AreLevels tables (levels_at tables i vs)
     step i again h vs f = by_case (parent_at tables i) refl
       where
         len : length vs ≡ length (key_at tables i)
         len = sym (fit_length (key_at tables i) vs f)
+
         by_case : (o : Option ℕ) → parent_at tables i ≡ o → AreLevels tables (levels_at tables i vs)
         by_case None e =
-          let P : List Value → Type 0 = λ ws. AreFit (own_key_at tables i) ws in
-          let R : List KeyPart → Type 0 = λ cs. AreFit cs vs in
-          let here = own i vs (subst P (sym (own_root tables i e vs len)) (subst R (sym (key_root tables i e)) f)) in
-          let A : List Level → Type 0 = AreLevels tables in
-          subst A (sym (levels_root tables i e vs)) (here, tt)
+            let P : List Value → Type 0 = λ ws. AreFit (own_key_at tables i) ws in
+            let R : List KeyPart → Type 0 = λ cs. AreFit cs vs in
+            let here = own i vs (subst P (sym (own_root tables i e vs len)) (subst R (sym (key_root tables i e)) f)) in
+            let A : List Level → Type 0 = AreLevels tables in
+            subst A (sym (levels_root tables i e vs)) (here, tt)
         by_case (Some p) e =
-          let less : p < i = parent_before tables i p e in
-          let R : List KeyPart → Type 0 = λ cs. AreFit cs vs in
-          let both = fit_split (key_at tables p) (own_key_at tables i) vs (subst R (key_split tables rules i p h e) f) in
-          let P : List Value → Type 0 = λ ws. AreFit (own_key_at tables i) ws in
-          let here = own i vs (subst P (sym (own_child tables i p e vs len)) both.1) in
-          let A : List Level → Type 0 = AreLevels tables in
-          subst A (sym (levels_child tables rules i p h e vs))
+            let less : p < i = parent_before tables i p e in
+            let R : List KeyPart → Type 0 = λ cs. AreFit cs vs in
+            let both = fit_split (key_at tables p) (own_key_at tables i) vs (subst R (key_split tables rules i p h e) f) in
+            let P : List Value → Type 0 = λ ws. AreFit (own_key_at tables i) ws in
+            let here = own i vs (subst P (sym (own_child tables i p e vs len)) both.1) in
+            let A : List Level → Type 0 = AreLevels tables in
+            subst A (sym (levels_child tables rules i p h e vs))
             (levels_push tables (levels_at tables p (take (length (key_at tables p)) vs)) (level_of tables vs (i + 1)) (again p e (omega arith) (take (length (key_at tables p)) vs) both.0) here)
 
 -- two keys of one table: the codings decide as the key values do
@@ -150,47 +152,51 @@ pub decides-key : (tables : List Table) → MeetsRules tables → (i : ℕ) → 
     → Decides (code_of tables (levels_at tables i vs)) (code_of tables (levels_at tables i ws)) (tuple_cmp (key_at tables i) vs ws)
 decides-key tables rules = by_parents tables
     (λ i. i < length tables → (vs ws : List Value) → AreFit (key_at tables i) vs → AreFit (key_at tables i) ws
-      → Decides (code_of tables (levels_at tables i vs)) (code_of tables (levels_at tables i ws)) (tuple_cmp (key_at tables i) vs ws)) step
+    → Decides (code_of tables (levels_at tables i vs)) (code_of tables (levels_at tables i ws)) (tuple_cmp (key_at tables i) vs ws)) step
   where
     append_none : (xs : List ℕ) → xs ++ [] ≡ xs
     append_none [] = refl
     append_none (x ∷ xs) = ap (λ (ys : List ℕ). x ∷ ys) (append_none xs)
+
     one : (i : ℕ) (vs : List Value) → code_of tables (level_of tables vs (i + 1) ∷ []) ≡ (i + 1) ∷ tuple_code (own_key_at tables i) (own_values_at tables i vs)
     one i vs = append_none (level_code tables (level_of tables vs (i + 1))) ∙ level_here tables i vs
+
     same_number : (n : ℕ) (p q : List ℕ) (o : Ordering) → Decides p q o → Decides (n ∷ p) (n ∷ q) o
     same_number n p q o d = rw (equal_is n n refl) at (decides-cons n n p q o d)
+
     step : (i : ℕ) → ((p : ℕ) → parent_at tables i ≡ Some p → p < length tables → (vs ws : List Value) → AreFit (key_at tables p) vs → AreFit (key_at tables p) ws
-          → Decides (code_of tables (levels_at tables p vs)) (code_of tables (levels_at tables p ws)) (tuple_cmp (key_at tables p) vs ws))
-      → i < length tables → (vs ws : List Value) → AreFit (key_at tables i) vs → AreFit (key_at tables i) ws
-      → Decides (code_of tables (levels_at tables i vs)) (code_of tables (levels_at tables i ws)) (tuple_cmp (key_at tables i) vs ws)
+        → Decides (code_of tables (levels_at tables p vs)) (code_of tables (levels_at tables p ws)) (tuple_cmp (key_at tables p) vs ws))
+        → i < length tables → (vs ws : List Value) → AreFit (key_at tables i) vs → AreFit (key_at tables i) ws
+        → Decides (code_of tables (levels_at tables i vs)) (code_of tables (levels_at tables i ws)) (tuple_cmp (key_at tables i) vs ws)
     step i again h vs ws f g = by_case (parent_at tables i) refl
       where
         len : (us : List Value) → AreFit (key_at tables i) us → length us ≡ length (key_at tables i)
         len us u = sym (fit_length (key_at tables i) us u)
+
         by_case : (o : Option ℕ) → parent_at tables i ≡ o → Decides (code_of tables (levels_at tables i vs)) (code_of tables (levels_at tables i ws)) (tuple_cmp (key_at tables i) vs ws)
         by_case None e =
-          let code : (us : List Value) → AreFit (key_at tables i) us → code_of tables (levels_at tables i us) ≡ (i + 1) ∷ tuple_code (key_at tables i) us =
+            let code : (us : List Value) → AreFit (key_at tables i) us → code_of tables (levels_at tables i us) ≡ (i + 1) ∷ tuple_code (key_at tables i) us =
             λ us u. ap (code_of tables) (levels_root tables i e us) ∙ one i us
-              ∙ ap (λ (xs : List Value). (i + 1) ∷ tuple_code (own_key_at tables i) xs) (own_root tables i e us (len us u))
-              ∙ ap (λ (cs : List KeyPart). (i + 1) ∷ tuple_code cs us) (key_root tables i e) in
-          rw (code vs f, code ws g) (same_number (i + 1) _ _ _ (decides-tuple (key_at tables i) vs ws f g))
+            ∙ ap (λ (xs : List Value). (i + 1) ∷ tuple_code (own_key_at tables i) xs) (own_root tables i e us (len us u))
+            ∙ ap (λ (cs : List KeyPart). (i + 1) ∷ tuple_code cs us) (key_root tables i e) in
+            rw (code vs f, code ws g) (same_number (i + 1) _ _ _ (decides-tuple (key_at tables i) vs ws f g))
         by_case (Some p) e =
-          let less : p < i = parent_before tables i p e in
-          let K = length (key_at tables p) in
-          let R : List Value → List KeyPart → Type 0 = λ us cs. AreFit cs us in
-          let split = key_split tables rules i p h e in
-          let both_v = fit_split (key_at tables p) (own_key_at tables i) vs (subst (R vs) split f) in
-          let both_w = fit_split (key_at tables p) (own_key_at tables i) ws (subst (R ws) split g) in
-          let code : (us : List Value) → AreFit (key_at tables i) us
-              → code_of tables (levels_at tables i us) ≡ code_of tables (levels_at tables p (take K us)) ++ ((i + 1) ∷ tuple_code (own_key_at tables i) (drop K us)) =
+            let less : p < i = parent_before tables i p e in
+            let K = length (key_at tables p) in
+            let R : List Value → List KeyPart → Type 0 = λ us cs. AreFit cs us in
+            let split = key_split tables rules i p h e in
+            let both_v = fit_split (key_at tables p) (own_key_at tables i) vs (subst (R vs) split f) in
+            let both_w = fit_split (key_at tables p) (own_key_at tables i) ws (subst (R ws) split g) in
+            let code : (us : List Value) → AreFit (key_at tables i) us
+            → code_of tables (levels_at tables i us) ≡ code_of tables (levels_at tables p (take K us)) ++ ((i + 1) ∷ tuple_code (own_key_at tables i) (drop K us)) =
             λ us u. ap (code_of tables) (levels_child tables rules i p h e us)
-              ∙ code_append tables (levels_at tables p (take K us)) (level_of tables us (i + 1) ∷ [])
-              ∙ ap (λ (xs : List ℕ). code_of tables (levels_at tables p (take K us)) ++ xs) (one i us ∙ ap (λ (xs : List Value). (i + 1) ∷ tuple_code (own_key_at tables i) xs) (own_child tables i p e us (len us u))) in
-          let order : ordering_then (tuple_cmp (key_at tables p) (take K vs) (take K ws)) (tuple_cmp (own_key_at tables i) (drop K vs) (drop K ws)) ≡ tuple_cmp (key_at tables i) vs ws =
+            ∙ code_append tables (levels_at tables p (take K us)) (level_of tables us (i + 1) ∷ [])
+            ∙ ap (λ (xs : List ℕ). code_of tables (levels_at tables p (take K us)) ++ xs) (one i us ∙ ap (λ (xs : List Value). (i + 1) ∷ tuple_code (own_key_at tables i) xs) (own_child tables i p e us (len us u))) in
+            let order : ordering_then (tuple_cmp (key_at tables p) (take K vs) (take K ws)) (tuple_cmp (own_key_at tables i) (drop K vs) (drop K ws)) ≡ tuple_cmp (key_at tables i) vs ws =
             cmp_split (key_at tables p) (own_key_at tables i) vs ws (subst (R vs) split f) (subst (R ws) split g) ∙ ap (λ (cs : List KeyPart). tuple_cmp cs vs ws) (sym split) in
-          let d = decides-append _ _ _ _ _ _ (again p e (omega arith) (take K vs) (take K ws) both_v.0 both_w.0)
+            let d = decides-append _ _ _ _ _ _ (again p e (omega arith) (take K vs) (take K ws) both_v.0 both_w.0)
             (same_number (i + 1) _ _ _ (decides-tuple (own_key_at tables i) (drop K vs) (drop K ws) both_v.1 both_w.1)) in
-          rw (code vs f, code ws g, ← order) d
+            rw (code vs f, code ws g, ← order) d
 
 -- two levels
 pub decides-level : (tables : List Table) (l m : Level) → AreFit (own_key_columns tables l.table) l.values → AreFit (own_key_columns tables m.table) m.values
@@ -199,8 +205,8 @@ decides-level tables l m f g = elim (cases_order l.table m.table) [
   | inl same ↦ (let R : ℕ → Type 0 = λ t. AreFit (own_key_columns tables t) m.values in
       let g2 = subst R (sym same) g in
       let d : Decides (l.table ∷ tuple_code (own_key_columns tables l.table) l.values) (m.table ∷ tuple_code (own_key_columns tables l.table) m.values) (level_cmp tables l m) =
-        decides-cons l.table m.table (tuple_code (own_key_columns tables l.table) l.values) (tuple_code (own_key_columns tables l.table) m.values) (tuple_cmp (own_key_columns tables l.table) l.values m.values)
-          (decides-tuple (own_key_columns tables l.table) l.values m.values f g2) in
+      decides-cons l.table m.table (tuple_code (own_key_columns tables l.table) l.values) (tuple_code (own_key_columns tables l.table) m.values) (tuple_cmp (own_key_columns tables l.table) l.values m.values)
+      (decides-tuple (own_key_columns tables l.table) l.values m.values f g2) in
       let e : m.table ∷ tuple_code (own_key_columns tables l.table) m.values ≡ level_code tables m = ap (λ (t : ℕ). m.table ∷ tuple_code (own_key_columns tables t) m.values) same in
       let Q : List ℕ → Type 0 = λ bs. Decides (level_code tables l) bs (level_cmp tables l m) in
       subst Q e d)
@@ -236,4 +242,4 @@ code_child tables rules i p h e vs f =
     ap (code_of tables) (levels_child tables rules i p h e vs)
     ∙ code_append tables (levels_at tables p (take (length (key_at tables p)) vs)) (level_of tables vs (i + 1) ∷ [])
     ∙ ap (λ (xs : List ℕ). code_of tables (levels_at tables p (take (length (key_at tables p)) vs)) ++ xs)
-        (own_level tables i vs ∙ ap (λ (xs : List Value). (i + 1) ∷ tuple_code (own_key_at tables i) xs) (own_child tables i p e vs (sym (fit_length (key_at tables i) vs f))))
+    (own_level tables i vs ∙ ap (λ (xs : List Value). (i + 1) ∷ tuple_code (own_key_at tables i) xs) (own_child tables i p e vs (sym (fit_length (key_at tables i) vs f))))

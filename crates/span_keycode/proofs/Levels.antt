@@ -33,7 +33,7 @@ key_split tables rules i p h e =
       | inl here ↦ elim (slice_get_cases tables p).1 [
         | inl there ↦ (let goes = key_goes_on tables rules i p here.0 there.0 here.2 there.2 e in
             goes.1 ∙ ap (λ (own : List KeyPart). key_at tables p ++ own)
-              (sym (ap (λ (o : Option ℕ). drop (columns_above tables o) (key_at tables i)) e ∙ ap (drop (length (key_at tables p))) goes.1 ∙ past (key_at tables p) goes.0)))
+            (sym (ap (λ (o : Option ℕ). drop (columns_above tables o) (key_at tables i)) e ∙ ap (drop (length (key_at tables p))) goes.1 ∙ past (key_at tables p) goes.0)))
         | inr gone ↦ absurd (omega arith)
       ]
       | inr gone ↦ absurd (omega arith)
@@ -70,18 +70,19 @@ keys_short tables rules = by_parents tables (λ i. i < length tables → AllByRe
   where
     own : (i : ℕ) → IsShort tables (length (key_at tables i)) (i + 1)
     own i = let e : length (key_columns tables (i + 1)) ≡ length (key_at tables i) = ap (λ (k : ℕ). length (key_at tables k)) (back i) in omega arith
+
     step : (i : ℕ) → ((p : ℕ) → parent_at tables i ≡ Some p → p < length tables → AllByRecursion (IsShort tables (length (key_at tables p))) (path_at tables p))
-      → i < length tables → AllByRecursion (IsShort tables (length (key_at tables i))) (path_at tables i)
+        → i < length tables → AllByRecursion (IsShort tables (length (key_at tables i))) (path_at tables i)
     step i again h =
-      let P : List ℕ → Type 0 = AllByRecursion (IsShort tables (length (key_at tables i))) in
-      subst P (sym (path_goes_on tables i)) (all_push tables (above (path_at tables) (parent_at tables i)) (i + 1) (length (key_at tables i)) (front (parent_at tables i) refl) (own i))
+        let P : List ℕ → Type 0 = AllByRecursion (IsShort tables (length (key_at tables i))) in
+        subst P (sym (path_goes_on tables i)) (all_push tables (above (path_at tables) (parent_at tables i)) (i + 1) (length (key_at tables i)) (front (parent_at tables i) refl) (own i))
       where
         front : (o : Option ℕ) → parent_at tables i ≡ o → AllByRecursion (IsShort tables (length (key_at tables i))) (above (path_at tables) o)
         front None e = tt
         front (Some p) e =
-          let less : p < i = parent_before tables i p e in
-          let more : length (key_at tables p) ≤ length (key_at tables i) = omega (arith, ap (length {A = KeyPart}) (key_split tables rules i p h e), length-append (key_at tables p) (own_key_at tables i)) in
-          all_shorter tables (path_at tables p) (length (key_at tables p)) (length (key_at tables i)) more (again p e (omega arith))
+            let less : p < i = parent_before tables i p e in
+            let more : length (key_at tables p) ≤ length (key_at tables i) = omega (arith, ap (length {A = KeyPart}) (key_split tables rules i p h e), length-append (key_at tables p) (own_key_at tables i)) in
+            all_shorter tables (path_at tables p) (length (key_at tables p)) (length (key_at tables i)) more (again p e (omega arith))
 
 pub each_of : (P : ℕ → Type 0) (ns : List ℕ) (i d : ℕ) → AllByRecursion P ns → i < length ns → P (get_or ns i d)
 each_of P [] i d f h = absurd (let less : i < 0 = h in omega arith)

@@ -23,8 +23,10 @@ then_equal Greater = refl
 
 -- one coding after another
 pub decides-append : (p q r s : List ℕ) (o m : Ordering) → Decides p q o → Decides r s m → Decides (p ++ r) (q ++ s) (ordering_then o m)
-decides-append p q r s o m first second = record { at = λ x y.
-    rw (append_assoc, append_assoc) (first.at (r ++ x) (s ++ y) ∙ ap (ordering_then o) (second.at x y) ∙ then_assoc o m (byte_order x y)) }
+decides-append p q r s o m first second = record {
+  at = λ x y.
+      rw (append_assoc, append_assoc) (first.at (r ++ x) (s ++ y) ∙ ap (ordering_then o) (second.at x y) ∙ then_assoc o m (byte_order x y));
+}
 
 pub decides-nothing : Decides [] [] Equal
 decides-nothing = record { at = λ x y. refl }

@@ -43,8 +43,10 @@ column_found c bytes v n h p = record {
 }
 
 pub column_missed : (c : KeyPart) (bytes : List ℕ) → IsNoPlain c.kind (in_direction c.desc bytes) → IsNoColumn c bytes
-column_missed c bytes p = record { none = λ v rest f e. p.none v (in_direction c.desc rest) f
-    (ap (in_direction c.desc) e ∙ turned_append c.desc (column_code c v) rest ∙ ap (λ (front : List ℕ). front ++ in_direction c.desc rest) (turned_twice c.desc (plain v))) }
+column_missed c bytes p = record {
+  none = λ v rest f e. p.none v (in_direction c.desc rest) f
+      (ap (in_direction c.desc) e ∙ turned_append c.desc (column_code c v) rest ∙ ap (λ (front : List ℕ). front ++ in_direction c.desc rest) (turned_twice c.desc (plain v)));
+}
 
 -- what begins no value
 nothing_first : (kind : Kind) (v : Value) (rest : List ℕ) → Fits kind v → [] ≡ plain v ++ rest → ⊥

@@ -47,4 +47,3 @@ append_none (a ∷ p) = ap (λ (r : List ℕ). a ∷ r) (append_none p)
 
 pub prepend_nothing : (front rest : List ℕ) → prepend front (Some ([], rest)) ≡ Some (front, rest)
 prepend_nothing front rest = ap (λ (t : List ℕ). Some (t, rest)) (append_none front)
-

@@ -50,16 +50,17 @@ tuple_more cs bs before mid after i at w d v h t c e =
       added = e ∙ ap (λ (xs : List Value). xs ++ v ∷ []) t.added ∙ append_assoc before t.values (v ∷ []);
       fits = fit_join (take i cs) (c0 ∷ []) t.values (v ∷ []) t.fits (c.fits, tt);
       code = t.code
-        ∙ ap (λ (xs : List ℕ). tuple_code (take i cs) t.values ++ xs) (c.code ∙ ap (λ (xs : List ℕ). column_code c0 v ++ xs) (drop-drop w at bs))
-        ∙ sym (append_assoc (tuple_code (take i cs) t.values) (column_code c0 v) (drop (at + w) bs))
-        ∙ ap (λ (xs : List ℕ). (tuple_code (take i cs) t.values ++ xs) ++ drop (at + w) bs) (sym (one c0 v))
-        ∙ ap (λ (xs : List ℕ). xs ++ drop (at + w) bs) (sym (tuple_join (take i cs) (c0 ∷ []) t.values (v ∷ []) t.fits));
+          ∙ ap (λ (xs : List ℕ). tuple_code (take i cs) t.values ++ xs) (c.code ∙ ap (λ (xs : List ℕ). column_code c0 v ++ xs) (drop-drop w at bs))
+          ∙ sym (append_assoc (tuple_code (take i cs) t.values) (column_code c0 v) (drop (at + w) bs))
+          ∙ ap (λ (xs : List ℕ). (tuple_code (take i cs) t.values ++ xs) ++ drop (at + w) bs) (sym (one c0 v))
+          ∙ ap (λ (xs : List ℕ). xs ++ drop (at + w) bs) (sym (tuple_join (take i cs) (c0 ∷ []) t.values (v ∷ []) t.fits));
       within = omega (arith, t.within, c.within, length-drop at bs);
     })
   where
     none_after : (xs : List ℕ) → xs ++ [] ≡ xs
     none_after [] = refl
     none_after (x ∷ xs) = ap (λ (ys : List ℕ). x ∷ ys) (none_after xs)
+
     one : (c : KeyPart) (v : Value) → tuple_code (c ∷ []) (v ∷ []) ≡ column_code c v
     one c v = none_after (column_code c v)
 

@@ -11,6 +11,7 @@ use Rattle.span_value.specs.declared.value.Value.TheVariants.{Null, Int, Str, By
 use Rattle.span_value.specs.declared.value.Kind.{Kind}
 use Rattle.span_value.specs.declared.value.Kind.TheVariants.{Int as Numbers, Str as Texts, Bytes as Strings, Bool as Flags}
 use Rattle.span_schema.specs.declared.layout.KeyPart.{KeyPart}
+pub use Rattle.span_schema.specs.Fitting.{AreBytes, Fits, is_of_kind}
 use Rattle.span_keycode.specs.Order.{complement, byte_order}
 
 -- a signed number, moved up by 2^63 so that it is never below 0
@@ -46,27 +47,6 @@ in_direction true bytes = complement bytes
 
 abbrev pub column_code : KeyPart → Value → List ℕ
 column_code c v = in_direction c.desc (plain v)
-
-abbrev pub AreBytes : List ℕ → Type 0
-AreBytes = AllByRecursion (λ b. b < 256)
-
--- NULL, or a value of the kind
-abbrev pub Fits : Kind → Value → Type 0
-Fits k Null = Unit {0}
-Fits Numbers (Int i) = FitsSigned w64 i
-Fits Texts (Str bs) = IsUtf8 bs × AreBytes bs
-Fits Strings (Bytes bs) = AreBytes bs
-Fits Flags (Flag b) = Unit {0}
-Fits k v = ⊥
-
--- the same as a test of the kind alone
-abbrev pub is_of_kind : Kind → Value → Bool
-is_of_kind k Null = true
-is_of_kind Numbers (Int i) = true
-is_of_kind Texts (Str bs) = true
-is_of_kind Strings (Bytes bs) = true
-is_of_kind Flags (Flag b) = true
-is_of_kind k v = false
 
 -- NULL first, and then numbers by size, texts and bytes by their bytes, FALSE before TRUE
 abbrev pub value_cmp : Value → Value → Ordering

@@ -14,12 +14,12 @@ use Rattle.span_keycode.specs.Keys.{IsKey, key_code, key_cmp}
 -- byte order of codings is the order of keys, of whichever tables
 abbrev pub OrderOfKeys : Type 0
 OrderOfKeys = (tables : List Table) → MeetsRules tables → (n m : ℕ) (vs ws : List Value) → IsKey tables n vs → IsKey tables m ws
-  → byte_order (key_code tables n vs) (key_code tables m ws) ≡ key_cmp tables n vs m ws
+    → byte_order (key_code tables n vs) (key_code tables m ws) ≡ key_cmp tables n vs m ws
 
 -- codings of keys of one table compare as the key values do, column by column, whatever follows; so none begins another
 abbrev pub OrderInTable : Type 0
 OrderInTable = (tables : List Table) → MeetsRules tables → (n : ℕ) (vs ws : List Value) → IsKey tables n vs → IsKey tables n ws
-  → Decides (key_code tables n vs) (key_code tables n ws) (tuple_cmp (key_columns tables n) vs ws)
+    → Decides (key_code tables n vs) (key_code tables n ws) (tuple_cmp (key_columns tables n) vs ws)
 
 -- a row's coding begins those of itself and of the rows below it, and no others
 pub record IsAtOrBelow (tables : List Table) (n : ℕ) (vs : List Value) (m : ℕ) (ws : List Value) : Type 0 where
@@ -30,7 +30,7 @@ pub record IsAtOrBelow (tables : List Table) (n : ℕ) (vs : List Value) (m : �
 
 abbrev pub BeginsOwnRows : Type 0
 BeginsOwnRows = (tables : List Table) → MeetsRules tables → (n m : ℕ) (vs ws : List Value) → IsKey tables n vs → IsKey tables m ws
-  → ((rest : List ℕ) × (key_code tables m ws ≡ key_code tables n vs ++ rest)) ↔ IsAtOrBelow tables n vs m ws
+    → ((rest : List ℕ) × (key_code tables m ws ≡ key_code tables n vs ++ rest)) ↔ IsAtOrBelow tables n vs m ws
 
 -- a coding is that of one key
 abbrev pub OneKey : Type 0

@@ -50,7 +50,12 @@ fn read_key(alloc: Global, schema: &Schema, bytes: &[u8]) -> Result<Option<RowKe
         if !is_child(schema, table, above) {
             return Ok(None);
         }
-        match read_tuple(alloc, schema.own_key_columns(table), after(bytes, at + 1), &mut values)? {
+        match read_tuple(
+            alloc,
+            schema.own_key_columns(table),
+            after(bytes, at + 1),
+            &mut values,
+        )? {
             None => return Ok(None),
             Some(width) => {
                 at += 1 + width;

@@ -17,7 +17,12 @@ use std::alloc::{AllocError, Global};
 /// `WrongType`: there is not one value for each key column, NULL or of its kind. `KeyTooLong`: the coding has more than 1,024
 /// bytes. Neither NOT NULL nor the length of a column is looked at. `OutOfMemory` is the refusal for want of memory; a
 /// coding of up to 32 bytes takes none.
-pub fn encode_key(alloc: Global, schema: &Schema, table: usize, values: &[Value]) -> Result<Key, Refusal>
+pub fn encode_key(
+    alloc: Global,
+    schema: &Schema,
+    table: usize,
+    values: &[Value],
+) -> Result<Key, Refusal>
     requires { IsTable schema.now table }
     ensures { MatchResult result (λ key. (encode_cause schema.now table values.now ≡ None) × (key ≡ key_code schema.now table values.now)) (λ why. (encode_cause schema.now table values.now ≡ Some why) ⊎ (why ≡ Refusal.OutOfMemory)) }
 {
@@ -31,7 +36,12 @@ pub fn encode_key(alloc: Global, schema: &Schema, table: usize, values: &[Value]
     Ok(Key::from_small_vec(bytes))
 }
 
-fn code(alloc: Global, schema: &Schema, table: usize, values: &[Value]) -> Result<SmallVec<u8, INLINE_BYTES>, AllocError>
+fn code(
+    alloc: Global,
+    schema: &Schema,
+    table: usize,
+    values: &[Value],
+) -> Result<SmallVec<u8, INLINE_BYTES>, AllocError>
     requires table { IsTable schema.now table }
     requires values { length (key_columns schema.now table) ≤ length values.now }
     ensures { IfOk result (λ bytes. bytes.items ≡ key_code schema.now table values.now) }
@@ -44,7 +54,12 @@ fn code(alloc: Global, schema: &Schema, table: usize, values: &[Value]) -> Resul
     Ok(out)
 }
 
-fn push_level(out: &mut SmallVec<u8, INLINE_BYTES>, schema: &Schema, table: usize, values: &[Value]) -> Result<(), AllocError>
+fn push_level(
+    out: &mut SmallVec<u8, INLINE_BYTES>,
+    schema: &Schema,
+    table: usize,
+    values: &[Value],
+) -> Result<(), AllocError>
     requires table { IsTable schema.now table }
     requires rules { MeetsRules schema.now }
     requires values { length (key_columns schema.now table) ≤ length values.now }

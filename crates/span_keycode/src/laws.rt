@@ -4,23 +4,19 @@ ghost use Rattle.span_keycode.specs.Laws.{OrderOfKeys, OrderInTable, BeginsOwnRo
 /// Byte order of coded keys is the order of keys.
 pub fn order_of_keys()
     ensures { OrderOfKeys }
-{
-}
+{}
 
 /// Keys of one table order by their values, column by column, and no coding begins another.
 pub fn order_in_table()
     ensures { OrderInTable }
-{
-}
+{}
 
 /// A row's coded key begins its own and those of the rows below it, and no others.
 pub fn begins_own_rows()
     ensures { BeginsOwnRows }
-{
-}
+{}
 
 /// Different keys have different codings.
 pub fn one_key()
     ensures { OneKey }
-{
-}
+{}

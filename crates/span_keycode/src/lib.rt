@@ -2,10 +2,12 @@
 #![tactic(auto)]
 
 pub mod column;
+pub mod decode;
 pub mod encode;
 pub mod key;
-pub mod text;
-pub mod value;
-pub mod tuple;
-pub mod decode;
 pub mod laws;
+#[cfg(test)]
+mod tests;
+pub mod text;
+pub mod tuple;
+pub mod value;

@@ -9,7 +9,12 @@ use std::alloc::{AllocError, Global};
 
 /// Adds the values at the front of bytes, one for each column, and answers how many bytes code them; None if no values of the
 /// columns are coded there, and then some may have been added.
-pub fn read_tuple(alloc: Global, columns: &[KeyPart], bytes: &[u8], values: &mut Vec<Value>) -> Result<Option<usize>, AllocError>
+pub fn read_tuple(
+    alloc: Global,
+    columns: &[KeyPart],
+    bytes: &[u8],
+    values: &mut Vec<Value>,
+) -> Result<Option<usize>, AllocError>
     ensures { IfOk result (λ found. MatchOption found (IsNoTuple columns.now bytes.now) (λ n. IsTuple columns.now bytes.now values.old.items values.new.items n)) }
 {
     let mut at = 0;

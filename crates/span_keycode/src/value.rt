@@ -13,7 +13,11 @@ use span_value::value::{Kind, Value};
 use std::alloc::{AllocError, Global};
 
 /// The value at the front of a column's bytes, and how many bytes code it; None if no value of the column is coded there.
-pub fn read_value(alloc: Global, column: KeyPart, bytes: &[u8]) -> Result<Option<(Value, usize)>, AllocError>
+pub fn read_value(
+    alloc: Global,
+    column: KeyPart,
+    bytes: &[u8],
+) -> Result<Option<(Value, usize)>, AllocError>
     ensures { IfOk result (λ found. MatchOption found (IsNoColumn column bytes.now) (λ r. IsColumn column bytes.now r.0 r.1)) }
 {
     if bytes.len() == 0 {
@@ -37,7 +41,12 @@ pub fn after(bytes: &[u8], place: usize) -> &[u8]
     &bytes[place..]
 }
 
-fn read_body(alloc: Global, kind: Kind, desc: bool, rest: &[u8]) -> Result<Option<(Value, usize)>, AllocError>
+fn read_body(
+    alloc: Global,
+    kind: Kind,
+    desc: bool,
+    rest: &[u8],
+) -> Result<Option<(Value, usize)>, AllocError>
     ensures found { IfOk result (λ found. MatchOption found (IsNoPlain kind (1 ∷ in_direction desc rest.now)) (λ r. IsPlain kind (1 ∷ in_direction desc rest.now) r.0 (in_direction desc (drop r.1 rest.now)))) }
     ensures within { IfOk result (λ found. MatchOption found (Unit {0}) (λ r. r.1 ≤ length rest.now)) }
 {
@@ -56,7 +65,10 @@ fn number_body(rest: &[u8], desc: bool) -> Option<(Value, usize)>
     if rest.len() < 8 {
         return None;
     }
-    Some((Value::Int(lowered(u64::from_be_bytes(first_eight(rest, desc)))), 8))
+    Some((
+        Value::Int(lowered(u64::from_be_bytes(first_eight(rest, desc)))),
+        8,
+    ))
 }
 
 fn first_eight(rest: &[u8], desc: bool) -> [u8; 8]

@@ -3,6 +3,7 @@ use Rattle.std.specs.Prelude.{ℕ, ◌+◌, Bool, true, false, List, [], ◌∷�
 use Rattle.std.specs.List.{filter_map}
 use Rattle.std.specs.Option.{option_map}
 use Rattle.span_value.specs.declared.value.ColumnType.{ColumnType}
+use Rattle.span_value.specs.declared.value.Kind.{Kind}
 use Rattle.span_schema.specs.declared.table.Table.{Table}
 use Rattle.span_schema.specs.declared.table.Column.{Column}
 use Rattle.span_schema.specs.declared.table.KeyColumn.{KeyColumn}
@@ -28,8 +29,13 @@ abbrev pub other_places : List KeyColumn → ℕ → List Column → List ℕ
 other_places key i [] = []
 other_places key i (c ∷ cs) = (if is_key_name key c.name then other_places key (i + 1) cs else i ∷ other_places key (i + 1) cs)
 
+-- the kinds of the other columns, in order
+abbrev pub other_kinds : List KeyColumn → List Column → List Kind
+other_kinds key [] = []
+other_kinds key (c ∷ cs) = (if is_key_name key c.name then other_kinds key cs else kind_of c.kind ∷ other_kinds key cs)
+
 abbrev pub layout_of : Table → Layout
-layout_of t = record { key = key_parts t.columns t.key; key_places = key_places t.columns t.key; other_places = other_places t.key 0 t.columns }
+layout_of t = record { other_kinds = other_kinds t.key t.columns; key = key_parts t.columns t.key; key_places = key_places t.columns t.key; other_places = other_places t.key 0 t.columns }
 
 -- the numbers of the lines with a parent, the first of these lines having number n
 abbrev pub children_in : ℕ → ℕ → List Lineage → List ℕ

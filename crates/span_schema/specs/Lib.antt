@@ -4,3 +4,4 @@ pub mod Lineages
 pub mod Layouts
 pub mod Schemas
 pub mod Numbers
+pub mod Fitting

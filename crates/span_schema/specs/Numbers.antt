@@ -1,6 +1,7 @@
 -- What is asked of a schema. Tables go by their numbers, from 1 on; columns by their places, from 0 on.
 use Rattle.std.specs.Prelude.{ℕ, ◌+◌, ◌-◌, ◌≤◌, List, [], Option, Some, None, length, slice_get, slice_index, drop}
 use Rattle.std.specs.Option.{option_map}
+use Rattle.span_value.specs.declared.value.Kind.{Kind}
 use Rattle.span_schema.specs.declared.table.Table.{Table}
 use Rattle.span_schema.specs.declared.table.Column.{Column}
 use Rattle.span_schema.specs.declared.table.KeyColumn.{KeyColumn}
@@ -64,6 +65,10 @@ key_places tables n = layout.key_places (columns_of tables n) (key_in (table_at 
 -- the places of the columns that are not in the key
 abbrev pub other_places : List Table → ℕ → List ℕ
 other_places tables n = layout.other_places (key_in (table_at tables n)) 0 (columns_of tables n)
+
+-- the kinds of those columns
+abbrev pub other_kinds : List Table → ℕ → List Kind
+other_kinds tables n = layout.other_kinds (key_in (table_at tables n)) (columns_of tables n)
 
 abbrev pub column_named : List Table → ℕ → List ℕ → Option ℕ
 column_named tables n name = column_place (columns_of tables n) name

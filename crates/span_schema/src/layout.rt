@@ -1,7 +1,7 @@
 //! What is asked of a table again and again, worked out once.
 ghost use Rattle.std.specs.Prelude.{◌≡◌, IfOk, map, length};
 ghost use Rattle.std.specs.List.{range_with_len};
-ghost use Rattle.span_schema.specs.Layouts.{key_part, key_parts, key_places, other_places, layout_of, children_in};
+ghost use Rattle.span_schema.specs.Layouts.{key_part, key_parts, key_places, other_places, other_kinds, layout_of, children_in};
 ghost use Rattle.span_schema.specs.Lineages.{parent_at, children_at, lineage_at};
 
 use super::lineage::Lineage;
@@ -28,6 +28,8 @@ pub struct Layout {
     pub key_places: Seq<usize>,
     /// The places of the other columns, in the order of declaration.
     pub other_places: Seq<usize>,
+    /// The kinds of the other columns, in the order of declaration.
+    pub other_kinds: Seq<Kind>,
 }
 
 /// The layout of each table.
@@ -50,6 +52,7 @@ fn layout_of_table(alloc: Global, table: &Table) -> Result<Layout, AllocError>
         key: Seq::from_vec(parts_of_key(alloc, columns, key)?),
         key_places: Seq::from_vec(places_of_key(alloc, columns, key)?),
         other_places: Seq::from_vec(places_of_others(alloc, columns, key)?),
+        other_kinds: Seq::from_vec(kinds_of_others(alloc, columns, key)?),
     })
 }
 
@@ -102,6 +105,22 @@ fn places_of_others(
         }
     }
     Ok(places)
+}
+
+fn kinds_of_others(
+    alloc: Global,
+    columns: &[Column],
+    key: &[KeyColumn],
+) -> Result<Vec<Kind>, AllocError>
+    ensures { IfOk result (λ kinds. kinds.items ≡ other_kinds key.now columns.now) }
+{
+    let mut kinds = Vec::new(alloc);
+    for column in columns {
+        if !is_in_key(key, column.name.as_str()) {
+            kinds.push(kind_of_type(column.kind))?;
+        }
+    }
+    Ok(kinds)
 }
 
 /// The numbers of the children of each table, in the order of declaration.

@@ -6,6 +6,7 @@ use super::lineage::{Lineage, lineages_of};
 use super::table::{Table, place_of_column, place_of_table};
 use span_value::refusal::Refusal;
 use span_value::seq::Seq;
+use span_value::value::Kind;
 use std::alloc::Global;
 use std::marker::Model;
 
@@ -34,7 +35,7 @@ impl Model for Schema {
 impl Schema {
     ghost use Rattle.std.specs.Prelude.{◌≡◌, ◌⊎◌, ◌-◌, ◌≤◌, MatchResult, IfSome, length, Some, All};
     ghost use Rattle.span_schema.specs.Lineages.{MeetsRules, IsFirstCause, lineage_at, parent_at};
-    ghost use Rattle.span_schema.specs.Numbers.{IsTable, table_at, number_named, root_of, level_of, path_of, parent_of, children_of, key_columns, own_key_columns, columns_above, key_places, other_places, column_named};
+    ghost use Rattle.span_schema.specs.Numbers.{IsTable, table_at, number_named, root_of, level_of, path_of, parent_of, children_of, key_columns, own_key_columns, columns_above, key_places, other_places, other_kinds, column_named};
 
     /// The schema of these tables, whose names and those of their columns are names.
     ///
@@ -188,6 +189,14 @@ impl Schema {
         ensures { result.now ≡ other_places self.now table }
     {
         self.layouts[table - 1].other_places.as_slice()
+    }
+
+    /// The kinds of the columns that are not in the key, in order of declaration.
+    pub fn other_kinds(&self, table: usize) -> &[Kind]
+        requires { IsTable self.now table }
+        ensures { result.now ≡ other_kinds self.now table }
+    {
+        self.layouts[table - 1].other_kinds.as_slice()
     }
 
     /// The place of the column with a name, counted from 0. The case of ASCII letters does not count.

@@ -18,10 +18,10 @@ returns-in_ok-push_directed-in-Int c =
     let fits : FitsSigned w64 c.in-Int.number = search rules in
     let number : c.lift.result ≡ lifted c.in-Int.number = c.lift.ensures ∙ ap lifted (to_z-of_z w64 c.in-Int.number fits) in
     on_ok_weaker c.push_number.result
-      (λ e. e
-        ∙ ap (λ (xs : List ℕ). xs ++ in_direction d (to_be_bytes w64 c.lift.result)) c.in_ok-push_directed-in-Int.ensures
-        ∙ append_assoc old (in_direction d (1 ∷ [])) (in_direction d (to_be_bytes w64 c.lift.result))
-        ∙ ap (λ (xs : List ℕ). old ++ xs) (after_first d 1 (to_be_bytes w64 c.lift.result))
-        ∙ ap (λ (n : ℕ). old ++ in_direction d (1 ∷ to_be_bytes w64 n)) number
-        ∙ ap (λ (v : Value). old ++ column_code c.args.column v) (sym c.in-Int.is))
-      c.push_number.ensures
+    (λ e. e
+    ∙ ap (λ (xs : List ℕ). xs ++ in_direction d (to_be_bytes w64 c.lift.result)) c.in_ok-push_directed-in-Int.ensures
+    ∙ append_assoc old (in_direction d (1 ∷ [])) (in_direction d (to_be_bytes w64 c.lift.result))
+    ∙ ap (λ (xs : List ℕ). old ++ xs) (after_first d 1 (to_be_bytes w64 c.lift.result))
+    ∙ ap (λ (n : ℕ). old ++ in_direction d (1 ∷ to_be_bytes w64 n)) number
+    ∙ ap (λ (v : Value). old ++ column_code c.args.column v) (sym c.in-Int.is))
+    c.push_number.ensures

@@ -9,7 +9,7 @@ use Rattle.span_keycode.proofs.decode.read_key.Goals as goal
 pub returns-then-not-is_child : goal.returns-then-not-is_child
 returns-then-not-is_child c =
     read_stop c.args.schema.now c.loop-at.invariant.rules c.args.bytes.now c.loop-at.above c.loop-at.values.items c.loop-at.at _ c.loop-at.invariant.read c.loop-at-test.true refl
-      (λ t p. let f : false ≡ true = sym c.if-not-is_child.true ∙ c.is_child.ensures.1 (t, p) in cc)
+    (λ t p. let f : false ≡ true = sym c.if-not-is_child.true ∙ c.is_child.ensures.1 (t, p) in cc)
 
 pub returns-in-None : goal.returns-in-None
 returns-in-None c =

@@ -34,4 +34,4 @@ returns-in-End-clause-ok c =
     let now = rw w at c.in-End.ensures in
     let e : drop 2 (drop c.loop-byte.at bs) ≡ drop (c.loop-byte.at + 2) bs = drop-drop 2 c.loop-byte.at bs in
     sym c.loop-byte.invariant.same ∙ ap (prepend c.loop-byte.text.items) now.0 ∙ prepend_nothing c.loop-byte.text.items (in_direction c.args.desc (drop 2 (drop c.loop-byte.at bs)))
-      ∙ ap (λ (r : List ℕ). Some (c.loop-byte.text.items, in_direction c.args.desc r)) e
+    ∙ ap (λ (r : List ℕ). Some (c.loop-byte.text.items, in_direction c.args.desc r)) e

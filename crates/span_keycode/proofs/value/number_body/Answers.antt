@@ -15,7 +15,7 @@ returns-clause-found c =
     let d = c.args.desc in
     let rest = in_direction d (drop 8 c.args.rest.now) in
     let spelled : c.first_eight.result ≡ to_be_bytes w64 (lifted c.lowered.result) =
-      sym (number_spelled c.first_eight.result c.from_be_bytes.result c.first_eight.ensures.len c.first_eight.ensures.bytes c.from_be_bytes.ensures) ∙ ap (to_be_bytes w64) (sym c.lowered.ensures) in
+    sym (number_spelled c.first_eight.result c.from_be_bytes.result c.first_eight.ensures.len c.first_eight.ensures.bytes c.from_be_bytes.ensures) ∙ ap (to_be_bytes w64) (sym c.lowered.ensures) in
     let P : ℤ → Type 0 = λ z. IsPlain kind.Int (1 ∷ in_direction d c.args.rest.now) (Int z) rest in
     subst P (sym (to_z-of_z w64 c.lowered.result fits)) (record {
       fits = fits;

@@ -28,4 +28,4 @@ returns-in-Some c =
     let Q : List ℕ → Type 0 = λ xs. IsPlain c.args.column.kind (in_direction d bs) c.in-Some.value (in_direction d xs) in
     let more : drop w c.after.result.now ≡ drop (w + 1) bs = ap (drop w) c.after.ensures ∙ drop-drop w 1 bs ∙ ap (λ (n : ℕ). drop n bs) (let e : 1 + w ≡ w + 1 = omega arith in e) in
     column_found c.args.column bs c.in-Some.value (w + 1) (omega (arith, within, ap (length {A = ℕ}) c.after.ensures, length-drop 1 bs))
-      (subst Q more (subst P (ap (λ (xs : List ℕ). 1 ∷ in_direction d xs) c.after.ensures ∙ sym first) some))
+    (subst Q more (subst P (ap (λ (xs : List ℕ). 1 ∷ in_direction d xs) c.after.ensures ∙ sym first) some))
