@@ -60,8 +60,8 @@ bytes_read bs found n are h k small e is =
     let word_bytes : AreBytes word = (bytes_at bs are 0, (bytes_at bs are 1, (bytes_at bs are 2, (bytes_at bs are 3, tt)))) in
     let spelled : to_be_bytes w32 n ≡ word = be_bytes_4 word n refl (bytes_at word word_bytes) e in
     let split : drop 4 bs ≡ found ++ drop (length found + 4) bs =
-      sym (take-append-drop n (drop 4 bs)) ∙ ap (λ (xs : List ℕ). xs ++ drop n (drop 4 bs)) (sym is)
-      ∙ ap (λ (xs : List ℕ). found ++ xs) (drop-drop n 4 bs ∙ ap (λ (m : ℕ). drop m bs) (let f : 4 + n ≡ length found + 4 = omega arith in f)) in
+    sym (take-append-drop n (drop 4 bs)) ∙ ap (λ (xs : List ℕ). xs ++ drop n (drop 4 bs)) (sym is)
+    ∙ ap (λ (xs : List ℕ). found ++ xs) (drop-drop n 4 bs ∙ ap (λ (m : ℕ). drop m bs) (let f : 4 + n ≡ length found + 4 = omega arith in f)) in
     let P : List ℕ → Type 0 = AreBytes in
     record {
       code = four bs h ∙ ap (λ (xs : List ℕ). word ++ xs) split ∙ ap (λ (xs : List ℕ). xs ++ (found ++ drop (length found + 4) bs)) (sym spelled ∙ ap (to_be_bytes w32) (sym len));
@@ -172,7 +172,7 @@ signed_once : (i j : ℤ) (r s : List ℕ) → Fits Numbers (Int i) → Fits Num
 signed_once i j r s f g e =
     let words = fronts (to_be_bytes w64 (cast_unsigned w64 i)) (to_be_bytes w64 (cast_unsigned w64 j)) r s refl e in
     let bits : cast_unsigned w64 i ≡ cast_unsigned w64 j =
-      sym (from_be_bytes-to_be_bytes_8 (cast_unsigned w64 i) (Fits-of_z f).fits) ∙ ap (from_be_bytes w64) words.0 ∙ from_be_bytes-to_be_bytes_8 (cast_unsigned w64 j) (Fits-of_z g).fits in
+    sym (from_be_bytes-to_be_bytes_8 (cast_unsigned w64 i) (Fits-of_z f).fits) ∙ ap (from_be_bytes w64) words.0 ∙ from_be_bytes-to_be_bytes_8 (cast_unsigned w64 j) (Fits-of_z g).fits in
     (sym (to_z-of_z f) ∙ ap (cast_signed w64) bits ∙ to_z-of_z g, words.1)
 
 text_once : (bs cs r s : List ℕ) → length (bytes_code bs ++ r) < 2 ^ 32 → bytes_code bs ++ r ≡ bytes_code cs ++ s → (bs ≡ cs) × (r ≡ s)
@@ -183,7 +183,7 @@ text_once bs cs r s small e =
     let short : length bs < 2 ^ 32 = omega (arith, small, len, length-append bs r) in
     let short2 : length cs < 2 ^ 32 = omega (arith, small, same, len2, length-append cs s) in
     one_text bs cs r s short short2
-      (sym (append_assoc (to_be_bytes w32 (length bs)) bs r) ∙ (heads 1 1 ((to_be_bytes w32 (length bs) ++ bs) ++ r) ((to_be_bytes w32 (length cs) ++ cs) ++ s) e).1 ∙ append_assoc (to_be_bytes w32 (length cs)) cs s)
+    (sym (append_assoc (to_be_bytes w32 (length bs)) bs r) ∙ (heads 1 1 ((to_be_bytes w32 (length bs) ++ bs) ++ r) ((to_be_bytes w32 (length cs) ++ cs) ++ s) e).1 ∙ append_assoc (to_be_bytes w32 (length cs)) cs s)
 
 flag_once : (a b : Bool) (r s : List ℕ) → bit a ∷ r ≡ bit b ∷ s → (a ≡ b) × (r ≡ s)
 flag_once true true r s e = (refl, (heads 1 1 r s e).1)

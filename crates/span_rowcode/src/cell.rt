@@ -12,7 +12,11 @@ use span_value::value::{Kind, Value};
 use std::alloc::{AllocError, Global};
 
 /// The cell of a kind at the front of bytes, and how many bytes code it; None if no cell of the kind is coded there.
-pub fn read_cell(alloc: Global, kind: Kind, bytes: &[u8]) -> Result<Option<(Value, usize)>, AllocError>
+pub fn read_cell(
+    alloc: Global,
+    kind: Kind,
+    bytes: &[u8],
+) -> Result<Option<(Value, usize)>, AllocError>
     requires { length bytes.now ≤ MOST_BYTES }
     ensures { IfOk result (λ found. MatchOption found (IsNoCell kind bytes.now) (λ r. IsCell kind bytes.now r.0 r.1)) }
 {

@@ -2,5 +2,8 @@
 #![tactic(auto)]
 
 pub mod cell;
+pub mod laws;
 pub mod pack;
+#[cfg(test)]
+mod tests;
 pub mod unpack;

@@ -14,7 +14,12 @@ use std::alloc::{AllocError, Global};
 ///
 /// `BadRow`: the bytes are no packed row of the table, or more than 1,048,576. `OutOfMemory` is the refusal for want of
 /// memory.
-pub fn unpack(alloc: Global, schema: &Schema, table: usize, bytes: &[u8]) -> Result<Vec<Value>, Refusal>
+pub fn unpack(
+    alloc: Global,
+    schema: &Schema,
+    table: usize,
+    bytes: &[u8],
+) -> Result<Vec<Value>, Refusal>
     requires { IsTable schema.now table }
     ensures { MatchResult result (λ cells. IsRow (other_kinds schema.now table) cells.items × (bytes.now ≡ row_code cells.items)) (λ why. ((why ≡ Refusal.BadRow) × IsNoRow (other_kinds schema.now table) bytes.now) ⊎ (why ≡ Refusal.OutOfMemory)) }
 {

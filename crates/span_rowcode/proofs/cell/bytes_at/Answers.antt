@@ -7,4 +7,4 @@ returns c =
     let bs = c.args.rest.now in
     let are = are_bytes bs (λ i. let f = c.type_inv.rest i in omega arith) in
     bytes_read bs c.front.result.now c.from_be_bytes-len.result are (omega arith) (omega arith) (omega arith) c.from_be_bytes-len.ensures
-      (c.front.ensures ∙ ap (take c.from_be_bytes-len.result) c.after.ensures)
+    (c.front.ensures ∙ ap (take c.from_be_bytes-len.result) c.after.ensures)
