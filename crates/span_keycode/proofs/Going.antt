@@ -15,7 +15,7 @@ use Rattle.span_keycode.proofs.LevelLaws.{AreLevels, levels_fit, fit_length, fit
 use Rattle.span_keycode.proofs.Exact.{levels_begin}
 
 -- a table each of which is a child of the one before
-abbrev Continues : List Table → Option ℕ → List ℕ → Type 0
+abbrev pub Continues : List Table → Option ℕ → List ℕ → Type 0
 Continues tables o [] = Unit {0}
 Continues tables o (n ∷ ns) = IsTable tables n × (parent_of tables n ≡ o) × Continues tables (Some n) ns
 
@@ -138,3 +138,11 @@ code_some tables m ws e = elim (nonempty (path_at tables (m - 1)) refl) [ inl no
     nonempty : (ns : List ℕ) → path_at tables (m - 1) ≡ ns → (path_at tables (m - 1) ≡ []) ⊎ ⊥
     nonempty [] f = inl f
     nonempty (n ∷ ns) f = inr (let g : [] ≡ n ∷ (tuple_code (own_key_columns tables n) (level_of tables ws n).values ++ code_of tables (map (level_of tables ws) ns)) = e ∙ ap (λ (xs : List ℕ). code_of tables (map (level_of tables ws) xs)) f in absurd cc)
+
+-- what is known of the levels of a key along its path
+pub levels_on : (tables : List Table) → MeetsRules tables → (n : ℕ) (vs : List Value) → IsKey tables n vs → (ns : List ℕ) → path_at tables (n - 1) ≡ ns → AreLevels tables (map (level_of tables vs) ns) × Continues tables None ns
+levels_on tables rules n vs k ns e =
+    let within = (place_is tables n k.0).0 in
+    let P : List ℕ → Type 0 = λ ms. AreLevels tables (map (level_of tables vs) ms) in
+    let Q : List ℕ → Type 0 = λ ms. Continues tables None ms in
+    (subst P e (levels_fit tables rules (n - 1) within vs k.1), subst Q e (path_continues tables (n - 1) within))

@@ -37,7 +37,7 @@ root_key tables i e us g =
     let fits = subst R (key_root tables i e) g in
     (fits, code_root tables i e us fits)
 
-no_number : (o : Option ℕ) → number_of o ≡ None → o ≡ None
+pub no_number : (o : Option ℕ) → number_of o ≡ None → o ≡ None
 no_number None h = refl
 no_number (Some p) h = absurd (let e : Some (p + 1) ≡ None = h in cc)
 

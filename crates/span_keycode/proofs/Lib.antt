@@ -11,3 +11,5 @@ pub mod Tuples
 pub mod Going
 pub mod KeyReading
 pub mod KeyLaws
+pub mod Skips
+pub mod RootRows

@@ -4,3 +4,4 @@ pub mod Texts
 pub mod Keys
 pub mod Reads
 pub mod Laws
+pub mod Roots

@@ -21,7 +21,8 @@ pub fn directed(byte: u8, desc: bool) -> u8
     if desc { 255 - byte } else { byte }
 }
 
-fn step_at(rest: &[u8], desc: bool) -> Step
+/// What stands at the front of an escaped text.
+pub fn step_at(rest: &[u8], desc: bool) -> Step
     ensures { AtStep desc rest.now result }
 {
     if rest.len() == 0 {
