@@ -36,7 +36,7 @@ pub equal_is : (a b : ℕ) → a ≡ b → nat_cmp a b ≡ Equal
 equal_is a b e = grind (arith, nat_tests)
 
 -- numbers of two digits compare digit by digit
-two_digits : (P a b r s : ℕ) → r < P → s < P → nat_cmp (a * P + r) (b * P + s) ≡ ordering_then (nat_cmp a b) (nat_cmp r s)
+pub two_digits : (P a b r s : ℕ) → r < P → s < P → nat_cmp (a * P + r) (b * P + s) ≡ ordering_then (nat_cmp a b) (nat_cmp r s)
 two_digits P a b r s low_r low_s = elim (cases_order a b) [
   | inl e ↦ (let same : nat_cmp a b ≡ Equal = equal_is a b e in rw (same, e) (shifted (b * P) r s))
   | inr (inl lt) ↦ (let l : nat_cmp a b ≡ Less = less_is a b lt in let more : (a + 1) * P ≤ b * P = mul-le-mul_right P (omega arith) in rw l (less_is (a * P + r) (b * P + s) (omega arith)))

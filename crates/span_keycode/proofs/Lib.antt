@@ -13,3 +13,4 @@ pub mod KeyReading
 pub mod KeyLaws
 pub mod Skips
 pub mod RootRows
+pub mod Characters

@@ -30,25 +30,25 @@ root_split tables rules n vs k = by_path (path_at tables (n - 1)) refl
     by_path : (ns : List ℕ) → path_at tables (n - 1) ≡ ns → RootSplit tables n vs
     by_path [] e = absurd (code_some tables n vs (sym (ap (λ (ms : List ℕ). code_of tables (map (level_of tables vs) ms)) e)))
     by_path (r ∷ ns) e =
-      let known = levels_on tables rules n vs k (r ∷ ns) e in
-      let alone : parent_at tables (r - 1) ≡ None = no_number (parent_at tables (r - 1)) known.1.1 in
-      let K = length (key_columns tables r) in
-      let own : own_values tables r vs ≡ take K vs = ap (λ (o : Option ℕ). drop (columns_above tables o) (take K vs)) alone in
-      let P : List Value → Type 0 = λ us. AreFit (own_key_columns tables r) us in
-      let Q : List KeyPart → Type 0 = λ cs. AreFit cs (take K vs) in
-      let whole = subst Q (key_root tables (r - 1) alone) (subst P own known.0.0) in
-      let number : r - 1 + 1 ≡ r = omega (arith, known.1.0.0) in
-      record {
-        root = r;
-        more = code_of tables (map (level_of tables vs) ns);
-        is = known.1.0;
-        named = ap (λ (ms : List ℕ). slice_index ms 0) e;
-        fits = known.0.0;
-        code = ap (λ (ms : List ℕ). code_of tables (map (level_of tables vs) ms)) e;
-        prefix = code_root tables (r - 1) alone (take K vs) whole
-          ∙ ap (λ (m : ℕ). m ∷ tuple_code (own_key_columns tables r) (take K vs)) number
-          ∙ ap (λ (us : List Value). r ∷ tuple_code (own_key_columns tables r) us) (sym own);
-      }
+        let known = levels_on tables rules n vs k (r ∷ ns) e in
+        let alone : parent_at tables (r - 1) ≡ None = no_number (parent_at tables (r - 1)) known.1.1 in
+        let K = length (key_columns tables r) in
+        let own : own_values tables r vs ≡ take K vs = ap (λ (o : Option ℕ). drop (columns_above tables o) (take K vs)) alone in
+        let P : List Value → Type 0 = λ us. AreFit (own_key_columns tables r) us in
+        let Q : List KeyPart → Type 0 = λ cs. AreFit cs (take K vs) in
+        let whole = subst Q (key_root tables (r - 1) alone) (subst P own known.0.0) in
+        let number : r - 1 + 1 ≡ r = omega (arith, known.1.0.0) in
+        record {
+          root = r;
+          more = code_of tables (map (level_of tables vs) ns);
+          is = known.1.0;
+          named = ap (λ (ms : List ℕ). slice_index ms 0) e;
+          fits = known.0.0;
+          code = ap (λ (ms : List ℕ). code_of tables (map (level_of tables vs) ms)) e;
+          prefix = code_root tables (r - 1) alone (take K vs) whole
+              ∙ ap (λ (m : ℕ). m ∷ tuple_code (own_key_columns tables r) (take K vs)) number
+              ∙ ap (λ (us : List Value). r ∷ tuple_code (own_key_columns tables r) us) (sym own);
+        }
 
 heads : (a b : ℕ) (xs ys : List ℕ) → a ∷ xs ≡ b ∷ ys → (a ≡ b) × (xs ≡ ys)
 heads a b xs ys e = (cc, cc)
@@ -74,13 +74,15 @@ front_taken bs xs more a w e within m =
     ap (take (w + 1)) e ∙ ap (λ (k : ℕ). take k (a ∷ (xs ++ more))) count ∙ ap (λ (ys : List ℕ). a ∷ ys) (take-append_seam xs more)
 
 pub root_taken : (tables : List Table) → MeetsRules tables → (bs : List ℕ) (c w : ℕ) → c ≡ get_or bs 0 0 → IsTupleSkip (own_key_columns tables c) (drop 1 bs) w → IsRootPrefix tables bs (take (w + 1) bs)
-root_taken tables rules bs c w e s = record { root = λ n vs k code.
-    let split = root_split tables rules n vs k in
-    let first = first_of bs split.root _ (code ∙ split.code) in
-    let same : split.root ≡ c = sym (e ∙ first.1) in
-    let P : ℕ → Type 0 = λ m. AreFit (own_key_columns tables m) (own_values tables split.root vs) in
-    let Q : ℕ → Type 0 = λ m. drop 1 bs ≡ tuple_code (own_key_columns tables m) (own_values tables split.root vs) ++ split.more in
-    let past = s.past (own_values tables split.root vs) split.more (subst P same split.fits) (subst Q same first.2) in
-    front_taken bs (tuple_code (own_key_columns tables split.root) (own_values tables split.root vs)) split.more split.root w (code ∙ split.code) s.within past
-    ∙ sym split.prefix
-    ∙ ap (λ (m : ℕ). key_code tables m (take (length (key_columns tables m)) vs)) (sym split.named) }
+root_taken tables rules bs c w e s = record {
+  root = λ n vs k code.
+      let split = root_split tables rules n vs k in
+      let first = first_of bs split.root _ (code ∙ split.code) in
+      let same : split.root ≡ c = sym (e ∙ first.1) in
+      let P : ℕ → Type 0 = λ m. AreFit (own_key_columns tables m) (own_values tables split.root vs) in
+      let Q : ℕ → Type 0 = λ m. drop 1 bs ≡ tuple_code (own_key_columns tables m) (own_values tables split.root vs) ++ split.more in
+      let past = s.past (own_values tables split.root vs) split.more (subst P same split.fits) (subst Q same first.2) in
+      front_taken bs (tuple_code (own_key_columns tables split.root) (own_values tables split.root vs)) split.more split.root w (code ∙ split.code) s.within past
+      ∙ sym split.prefix
+      ∙ ap (λ (m : ℕ). key_code tables m (take (length (key_columns tables m)) vs)) (sym split.named);
+}

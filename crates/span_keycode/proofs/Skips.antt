@@ -71,10 +71,13 @@ skip_null c bs asc h f = record { within = h; past = λ v more g e. past_front (
 -- a value of a known length
 pub skip_known : (c : KeyPart) (bs asc : List ℕ) (first n : ℕ) → in_direction c.desc bs ≡ first ∷ asc
     → ((v : Value) (rest : List ℕ) → Fits c.kind v → first ∷ asc ≡ plain v ++ rest → length (plain v) ≡ n) → IsSkip c bs (min (length bs) n)
-skip_known c bs asc first n f known = record { within = omega arith; past = λ v more g e.
-    let len : length (column_code c v) ≡ n = column_length c v ∙ known v (in_direction c.desc more) g (marked c bs more asc v first f e) in
-    let whole : length bs ≡ length (column_code c v) + length more = ap length e ∙ length-append (column_code c v) more in
-    past_front (column_code c v) more bs (min (length bs) n) e (omega arith) }
+skip_known c bs asc first n f known = record {
+  within = omega arith;
+  past = λ v more g e.
+      let len : length (column_code c v) ≡ n = column_length c v ∙ known v (in_direction c.desc more) g (marked c bs more asc v first f e) in
+      let whole : length bs ≡ length (column_code c v) + length more = ap length e ∙ length-append (column_code c v) more in
+      past_front (column_code c v) more bs (min (length bs) n) e (omega arith);
+}
 
 pub skip_number : (c : KeyPart) (bs asc : List ℕ) (first : ℕ) → c.kind ≡ Numbers → first ≢ 0 → in_direction c.desc bs ≡ first ∷ asc → IsSkip c bs (min (length bs) 9)
 skip_number c bs asc first k p f = skip_known c bs asc first 9 f (λ v rest g e. let P : Kind → Type 0 = λ kind. Fits kind v in number_len first asc rest v p (subst P k g) e)
@@ -107,11 +110,14 @@ text_len first n whole asc rest (Bytes bs) k p q r w known f e =
 
 pub skip_text : (c : KeyPart) (bs : List ℕ) (first n : ℕ) → c.kind ≢ Numbers → c.kind ≢ Flags → first ≢ 0 → in_direction c.desc bs ≡ first ∷ in_direction c.desc (drop 1 bs) → n + 1 ≤ length bs
     → ((text more : List ℕ) → text_at (in_direction c.desc (drop 1 bs)) ≡ Some (text, more) → n + length more ≡ length (drop 1 bs)) → IsSkip c bs (n + 1)
-skip_text c bs first n p q r f h known = record { within = h; past = λ v more g e.
-    let asc = in_direction c.desc (drop 1 bs) in
-    let known2 : (text more : List ℕ) → text_at asc ≡ Some (text, more) → n + length more ≡ length asc = λ text rest t. known text rest t ∙ sym (turned_length c.desc (drop 1 bs)) in
-    past_front (column_code c v) more bs (n + 1) e
-      (sym (text_len first n (length (first ∷ asc)) asc (in_direction c.desc more) v c.kind p q r refl known2 g (marked c bs more asc v first f e)) ∙ sym (column_length c v)) }
+skip_text c bs first n p q r f h known = record {
+  within = h;
+  past = λ v more g e.
+      let asc = in_direction c.desc (drop 1 bs) in
+      let known2 : (text more : List ℕ) → text_at asc ≡ Some (text, more) → n + length more ≡ length asc = λ text rest t. known text rest t ∙ sym (turned_length c.desc (drop 1 bs)) in
+      past_front (column_code c v) more bs (n + 1) e
+      (sym (text_len first n (length (first ∷ asc)) asc (in_direction c.desc more) v c.kind p q r refl known2 g (marked c bs more asc v first f e)) ∙ sym (column_length c v));
+}
 
 -- one step of a text
 with_first_some : (b : ℕ) (r : Option (List ℕ × List ℕ)) (text more : List ℕ) → with_first b r ≡ Some (text, more) → (left : List ℕ) × (r ≡ Some (left, more))
@@ -138,16 +144,18 @@ skip_step cs bs more i at n d h s l = by_list (drop i cs) (dropped cs i d h) l.0
         by_suc [] i d h = absurd (let l : i < 0 = h in omega arith)
         by_suc (c ∷ cs) zero d h = refl
         by_suc (c ∷ cs) (suc i) d h = by_suc cs i d (omega arith)
+
     by_cons : (vs : List Value) → AreFit (get_or cs i d ∷ drop (i + 1) cs) vs → drop at bs ≡ tuple_code (get_or cs i d ∷ drop (i + 1) cs) vs ++ more → Left (drop (i + 1) cs) (drop (at + n) bs) more
     by_cons [] f e = absurd f
     by_cons (v ∷ vs) f e =
-      let past = s.past v (tuple_code (drop (i + 1) cs) vs ++ more) f.0 (e ∙ append_assoc (column_code (get_or cs i d) v) (tuple_code (drop (i + 1) cs) vs) more) in
-      (vs, f.1, sym (drop-drop n at bs) ∙ sym past)
+        let past = s.past v (tuple_code (drop (i + 1) cs) vs ++ more) f.0 (e ∙ append_assoc (column_code (get_or cs i d) v) (tuple_code (drop (i + 1) cs) vs) more) in
+        (vs, f.1, sym (drop-drop n at bs) ∙ sym past)
+
     by_list : (ds : List KeyPart) → ds ≡ get_or cs i d ∷ drop (i + 1) cs → (vs : List Value) → AreFit ds vs → drop at bs ≡ tuple_code ds vs ++ more → Left (drop (i + 1) cs) (drop (at + n) bs) more
     by_list ds same vs f e =
-      let P : List KeyPart → Type 0 = λ es. AreFit es vs in
-      let Q : List KeyPart → Type 0 = λ es. drop at bs ≡ tuple_code es vs ++ more in
-      by_cons vs (subst P same f) (subst Q same e)
+        let P : List KeyPart → Type 0 = λ es. AreFit es vs in
+        let Q : List KeyPart → Type 0 = λ es. drop at bs ≡ tuple_code es vs ++ more in
+        by_cons vs (subst P same f) (subst Q same e)
 
 pub skip_end : (cs : List KeyPart) (bs more : List ℕ) (i at : ℕ) → length cs ≤ i → Left (drop i cs) (drop at bs) more → more ≡ drop at bs
 skip_end cs bs more i at h l = by_list (drop i cs) (dropped_all cs i h) l.0 l.1 l.2
@@ -157,5 +165,6 @@ skip_end cs bs more i at h l = by_list (drop i cs) (dropped_all cs i h) l.0 l.1 
     dropped_all [] (suc i) h = refl
     dropped_all (c ∷ cs) zero h = absurd (let l : suc (length cs) ≤ 0 = h in omega arith)
     dropped_all (c ∷ cs) (suc i) h = dropped_all cs i (omega arith)
+
     by_list : (ds : List KeyPart) → ds ≡ [] → (vs : List Value) → AreFit ds vs → drop at bs ≡ tuple_code ds vs ++ more → more ≡ drop at bs
     by_list ds same vs f e = let Q : List KeyPart → Type 0 = λ es. drop at bs ≡ tuple_code es vs ++ more in sym (subst Q same e)

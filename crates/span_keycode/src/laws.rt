@@ -1,5 +1,5 @@
 //! The laws of key codings, each as the contract of a function that does nothing.
-ghost use Rattle.span_keycode.specs.Laws.{OrderOfKeys, OrderInTable, BeginsOwnRows, OneKey};
+ghost use Rattle.span_keycode.specs.Laws.{OrderOfKeys, OrderInTable, BeginsOwnRows, OneKey, OrderOfTexts};
 
 /// Byte order of coded keys is the order of keys.
 pub fn order_of_keys()
@@ -19,4 +19,9 @@ pub fn begins_own_rows()
 /// Different keys have different codings.
 pub fn one_key()
     ensures { OneKey }
+{}
+
+/// Texts order by their characters, which is the order of the bytes of their UTF-8.
+pub fn order_of_texts()
+    ensures { OrderOfTexts }
 {}

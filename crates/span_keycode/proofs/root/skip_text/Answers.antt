@@ -16,6 +16,6 @@ loop-width-preserved c =
     record {
       within = omega (arith, now.2, c.loop-width.invariant.within, length-drop at bs);
       more = λ text more h.
-        let left = c.loop-width.invariant.more text more h in
-        text_step d (drop at bs) (drop (at + w) bs) left.0 more c.in-Byte.field-0 (now.0 ∙ ap (λ (xs : List ℕ). with_first c.in-Byte.field-0 (text_at (in_direction d xs))) rest) left.1;
+          let left = c.loop-width.invariant.more text more h in
+          text_step d (drop at bs) (drop (at + w) bs) left.0 more c.in-Byte.field-0 (now.0 ∙ ap (λ (xs : List ℕ). with_first c.in-Byte.field-0 (text_at (in_direction d xs))) rest) left.1;
     }
