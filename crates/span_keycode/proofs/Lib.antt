@@ -14,3 +14,4 @@ pub mod KeyLaws
 pub mod Skips
 pub mod RootRows
 pub mod Characters
+pub mod Nexts

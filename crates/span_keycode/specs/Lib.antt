@@ -5,3 +5,4 @@ pub mod Keys
 pub mod Reads
 pub mod Laws
 pub mod Roots
+pub mod Ranges

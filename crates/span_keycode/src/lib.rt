@@ -6,6 +6,7 @@ pub mod decode;
 pub mod encode;
 pub mod key;
 pub mod laws;
+pub mod range;
 pub mod root;
 #[cfg(test)]
 mod tests;
