@@ -15,3 +15,5 @@ pub mod Skips
 pub mod RootRows
 pub mod Characters
 pub mod Nexts
+pub mod Bounds
+pub mod RangeLaws

@@ -66,14 +66,14 @@ no_front p q x y o d same = then_is_equal o _ (sym (d.at x y) ∙ ap (λ z. byte
 turned : (a b : ℕ) → a < 256 → b < 256 → nat_cmp (flipped a) (flipped b) ≡ ordering_reverse (nat_cmp a b)
 turned a b low_a low_b = grind (arith, nat_tests)
 
-not_decided_after : (b : ℕ) (q : List ℕ) (o : Ordering) → Decides [] (b ∷ q) o → ⊥
+pub not_decided_after : (b : ℕ) (q : List ℕ) (o : Ordering) → Decides [] (b ∷ q) o → ⊥
 not_decided_after b q Less d = let e : byte_order ((b + 1) ∷ []) (b ∷ q ++ []) ≡ Less = d.at ((b + 1) ∷ []) [] in
     let f : nat_cmp (b + 1) b ≡ Greater = grind (arith, nat_tests) in
     let g : ordering_then Greater (byte_order [] (q ++ [])) ≡ Less = rw f at e in cc
 not_decided_after b q Equal d = let e : byte_order [] (b ∷ q ++ []) ≡ Equal = d.at [] [] in cc
 not_decided_after b q Greater d = let e : byte_order [] (b ∷ q ++ []) ≡ Greater = d.at [] [] in cc
 
-not_decided_before : (a : ℕ) (p : List ℕ) (o : Ordering) → Decides (a ∷ p) [] o → ⊥
+pub not_decided_before : (a : ℕ) (p : List ℕ) (o : Ordering) → Decides (a ∷ p) [] o → ⊥
 not_decided_before a p Less d = let e : byte_order (a ∷ p ++ []) [] ≡ Less = d.at [] [] in cc
 not_decided_before a p Equal d = let e : byte_order (a ∷ p ++ []) [] ≡ Equal = d.at [] [] in cc
 not_decided_before a p Greater d = let e : byte_order (a ∷ p ++ []) ((a + 1) ∷ []) ≡ Greater = d.at [] ((a + 1) ∷ []) in
@@ -95,7 +95,7 @@ step a b p q o Equal e f d again =
     let rest : Decides p q o = record { at = λ x y. rw e at (d.at x y) } in
     record { at = λ x y. rw f ((again rest).at x y) }
 
-decides-equal-nothing : (o : Ordering) → Decides [] [] o → o ≡ Equal
+pub decides-equal-nothing : (o : Ordering) → Decides [] [] o → o ≡ Equal
 decides-equal-nothing o d = sym (then_equal o) ∙ sym (d.at [] [])
 
 -- the complement turns the order round

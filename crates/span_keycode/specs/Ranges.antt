@@ -1,8 +1,15 @@
 -- Ranges of coded keys, for a comparison with the first key column of a root table.
-use Rattle.std.specs.Prelude.{◌≡◌, ℕ, ◌+◌, ◌-◌, ◌<◌, ◌≤◌, List, [], ◌∷◌, ◌++◌, Bool, true, false, length, take, drop, nat_lt, slice_index, if◌then◌else◌}
+use Rattle.std.specs.Prelude.{◌≡◌, ◌≢◌, not, ℕ, ◌+◌, ◌-◌, ◌<◌, ◌≤◌, List, [], ◌∷◌, ◌++◌, Bool, true, false, length, take, drop, nat_lt, slice_index, if◌then◌else◌}
 use Rattle.std.specs.List.{AllByRecursion}
 use Rattle.span_keycode.specs.declared.range.Comparison.{Comparison}
 use Rattle.span_keycode.specs.declared.range.Comparison.TheVariants.{Equal, Less, AtMost, Greater, AtLeast}
+use Rattle.std.specs.Ordering.{is_eq, is_lt, is_gt}
+use Rattle.std.specs.declared.cmp.Ordering.{Ordering}
+use Rattle.std.specs.declared.cmp.Ordering.TheVariants as order
+use Rattle.span_value.specs.declared.value.Value.{Value}
+use Rattle.span_value.specs.declared.value.Value.TheVariants.{Null, Int, Str, Bytes, Bool as Flag}
+use Rattle.span_keycode.specs.Order.{byte_order}
+use Rattle.span_keycode.specs.Coding.{value_cmp}
 
 -- a byte in front of what comes after the others: if nothing does, the byte and 1 more, unless it is 255
 abbrev pub in_front : ℕ → List ℕ → List ℕ
@@ -43,3 +50,23 @@ high_of table true Less code = table ∷ 255 ∷ []
 high_of table true AtMost code = table ∷ 255 ∷ []
 high_of table true Greater code = code
 high_of table true AtLeast code = next_after code
+
+-- whether a comparison holds where its operands compare so
+abbrev pub holds : Comparison → Ordering → Bool
+holds Equal o = is_eq o
+holds Less o = is_lt o
+holds AtMost o = not (is_gt o)
+holds Greater o = is_gt o
+holds AtLeast o = not (is_lt o)
+
+-- whether a value compares so with another that is not NULL; NULL does not
+abbrev pub compares : Comparison → Value → Value → Bool
+compares op Null v = false
+compares op (Int i) v = holds op (value_cmp (Int i) v)
+compares op (Str s) v = holds op (value_cmp (Str s) v)
+compares op (Bytes s) v = holds op (value_cmp (Bytes s) v)
+compares op (Flag b) v = holds op (value_cmp (Flag b) v)
+
+-- at or above the first bytes of a range, and before the first behind it
+abbrev pub IsWithin : List ℕ → List ℕ → List ℕ → Type 0
+IsWithin low high key = (byte_order key low ≢ order.Less) × (byte_order key high ≡ order.Less)
