@@ -50,8 +50,8 @@ begun_before (b ∷ bs) more h = by_next (λ some. begun_before bs more some) (n
       | inr ge ↦ absurd (h (ap (in_front b) e ∙ full b ge))
     ]
     by_next go (c ∷ cs) e =
-      let again = go (λ none. let f : c ∷ cs ≡ [] = sym e ∙ none in cc) in
-      ap (λ (n : List ℕ). byte_order ((b ∷ bs) ++ more) (in_front b n)) e ∙ front_same b b (bs ++ more) (c ∷ cs) refl ∙ ap (byte_order (bs ++ more)) (sym e) ∙ again
+        let again = go (λ none. let f : c ∷ cs ≡ [] = sym e ∙ none in cc) in
+        ap (λ (n : List ℕ). byte_order ((b ∷ bs) ++ more) (in_front b n)) e ∙ front_same b b (bs ++ more) (c ∷ cs) refl ∙ ap (byte_order (bs ++ more)) (sym e) ∙ again
 
 -- what is before bytes is before what is behind them
 pub less_before : (k x more : List ℕ) → Decides k x Less → next_after x ≢ [] → byte_order (k ++ more) (next_after x) ≡ Less
@@ -65,6 +65,7 @@ less_before (a ∷ ks) (b ∷ bs) more d h = by_next (λ e some. less_before ks 
       | inr (inl l) ↦ inr l
       | inr (inr g) ↦ absurd (let e : Greater ≡ Less = sym (front_greater a b (ks ++ []) (bs ++ []) g) ∙ d.at [] [] in cc)
     ]
+
     by_next : (Decides ks bs Less → next_after bs ≢ [] → byte_order (ks ++ more) (next_after bs) ≡ Less) → (n : List ℕ) → next_after bs ≡ n → byte_order ((a ∷ ks) ++ more) (in_front b (next_after bs)) ≡ Less
     by_next go [] e = elim (cases_lt b 255) [
       | inl lt ↦ (let f : in_front b (next_after bs) ≡ (b + 1) ∷ [] = ap (in_front b) e ∙ grown b lt in
@@ -92,24 +93,28 @@ greater_behind (a ∷ ks) (b ∷ bs) more f d = elim (cases_order a b) [
 ]
   where
     by_next : a ≡ b → (next_after bs ≢ []) × (byte_order (ks ++ more) (next_after bs) ≢ Less) → (n : List ℕ) → next_after bs ≡ n
-      → (in_front b (next_after bs) ≢ []) × (byte_order ((a ∷ ks) ++ more) (in_front b (next_after bs)) ≢ Less)
+        → (in_front b (next_after bs) ≢ []) × (byte_order ((a ∷ ks) ++ more) (in_front b (next_after bs)) ≢ Less)
     by_next same again [] e = absurd (again.0 e)
     by_next same again (c ∷ cs) e =
-      let whole : in_front b (next_after bs) ≡ b ∷ (c ∷ cs) = ap (in_front b) e in
-      ((λ none. let g : b ∷ (c ∷ cs) ≡ [] = sym whole ∙ none in cc),
-        (λ less. again.1 (ap (byte_order (ks ++ more)) e ∙ sym (front_same a b (ks ++ more) (c ∷ cs) same) ∙ ap (byte_order ((a ∷ ks) ++ more)) (sym whole) ∙ less)))
+        let whole : in_front b (next_after bs) ≡ b ∷ (c ∷ cs) = ap (in_front b) e in (
+          (λ none. let g : b ∷ (c ∷ cs) ≡ [] = sym whole ∙ none in cc),
+          (λ less. again.1 (ap (byte_order (ks ++ more)) e ∙ sym (front_same a b (ks ++ more) (c ∷ cs) same) ∙ ap (byte_order ((a ∷ ks) ++ more)) (sym whole) ∙ less)),
+        )
+
     above : b < a → (n : List ℕ) → next_after bs ≡ n → (in_front b (next_after bs) ≢ []) × (byte_order ((a ∷ ks) ++ more) (in_front b (next_after bs)) ≢ Less)
     above g [] e =
-      let low : b < 255 = omega (arith, f.0) in
-      let whole : in_front b (next_after bs) ≡ (b + 1) ∷ [] = ap (in_front b) e ∙ grown b low in
-      ((λ none. let h : (b + 1) ∷ [] ≡ [] = sym whole ∙ none in cc),
-        (λ less. let now : byte_order ((a ∷ ks) ++ more) ((b + 1) ∷ []) ≡ Less = ap (byte_order ((a ∷ ks) ++ more)) (sym whole) ∙ less in
-          elim (cases_order a (b + 1)) [
-            | inl same ↦ above_nothing (ks ++ more) (sym (front_same a (b + 1) (ks ++ more) [] same) ∙ now)
-            | inr (inl l) ↦ omega arith
-            | inr (inr m) ↦ not_less _ (front_greater a (b + 1) (ks ++ more) [] m) now
-          ]))
+        let low : b < 255 = omega (arith, f.0) in
+        let whole : in_front b (next_after bs) ≡ (b + 1) ∷ [] = ap (in_front b) e ∙ grown b low in (
+          (λ none. let h : (b + 1) ∷ [] ≡ [] = sym whole ∙ none in cc),
+          (λ less. let now : byte_order ((a ∷ ks) ++ more) ((b + 1) ∷ []) ≡ Less = ap (byte_order ((a ∷ ks) ++ more)) (sym whole) ∙ less in
+              elim (cases_order a (b + 1)) [
+                | inl same ↦ above_nothing (ks ++ more) (sym (front_same a (b + 1) (ks ++ more) [] same) ∙ now)
+                | inr (inl l) ↦ omega arith
+                | inr (inr m) ↦ not_less _ (front_greater a (b + 1) (ks ++ more) [] m) now
+              ]),
+        )
     above g (c ∷ cs) e =
-      let whole : in_front b (next_after bs) ≡ b ∷ (c ∷ cs) = ap (in_front b) e in
-      ((λ none. let h : b ∷ (c ∷ cs) ≡ [] = sym whole ∙ none in cc),
-        (λ less. not_less _ (front_greater a b (ks ++ more) (c ∷ cs) g) (ap (byte_order ((a ∷ ks) ++ more)) (sym whole) ∙ less)))
+        let whole : in_front b (next_after bs) ≡ b ∷ (c ∷ cs) = ap (in_front b) e in (
+          (λ none. let h : b ∷ (c ∷ cs) ≡ [] = sym whole ∙ none in cc),
+          (λ less. not_less _ (front_greater a b (ks ++ more) (c ∷ cs) g) (ap (byte_order ((a ∷ ks) ++ more)) (sym whole) ∙ less)),
+        )

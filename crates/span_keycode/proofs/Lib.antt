@@ -17,3 +17,4 @@ pub mod Characters
 pub mod Nexts
 pub mod Bounds
 pub mod RangeLaws
+pub mod FamilyRanges

@@ -54,27 +54,27 @@ module _ {t : ℕ} {d null : Bool} {k x more : List ℕ} {r : Ordering} (s : Sta
   before_next : (next_after x ≢ [] → byte_order (k ++ more) (next_after x) ≡ Less) → (n : List ℕ) → next_after x ≡ n → byte_order (t ∷ (k ++ more)) (in_front t (next_after x)) ≡ Less
   before_next go [] e = ap (byte_order (t ∷ (k ++ more))) (ap (in_front t) e ∙ grown t s.small) ∙ top
   before_next go (c ∷ cs) e =
-    ap (λ (n : List ℕ). byte_order (t ∷ (k ++ more)) (in_front t n)) e ∙ front_same t t (k ++ more) (c ∷ cs) refl ∙ ap (byte_order (k ++ more)) (sym e) ∙ go (λ none. let f : c ∷ cs ≡ [] = sym e ∙ none in cc)
+      ap (λ (n : List ℕ). byte_order (t ∷ (k ++ more)) (in_front t n)) e ∙ front_same t t (k ++ more) (c ∷ cs) refl ∙ ap (byte_order (k ++ more)) (sym e) ∙ go (λ none. let f : c ∷ cs ≡ [] = sym e ∙ none in cc)
 
   pub after_less : directed d r ≡ Less → byte_order (t ∷ (k ++ more)) (next_after (t ∷ x)) ≡ Less
   after_less e = let P : Ordering → Type 0 = λ o. Decides k x o in before_next (less_before k x more (subst P e s.decides)) (next_after x) refl
 
   pub after_equal : directed d r ≡ Equal → byte_order (t ∷ (k ++ more)) (next_after (t ∷ x)) ≡ Less
   after_equal e =
-    let same : x ≡ k = sym (exact_bytes k x (decided k x (directed d r) s.decides ∙ e)) in
-    let P : List ℕ → Type 0 = λ y. byte_order (y ++ more) (next_after x) ≡ Less in
-    before_next (λ some. subst P same (begun_before x more some)) (next_after x) refl
+      let same : x ≡ k = sym (exact_bytes k x (decided k x (directed d r) s.decides ∙ e)) in
+      let P : List ℕ → Type 0 = λ y. byte_order (y ++ more) (next_after x) ≡ Less in
+      before_next (λ some. subst P same (begun_before x more some)) (next_after x) refl
 
   pub after_greater : directed d r ≡ Greater → byte_order (t ∷ (k ++ more)) (next_after (t ∷ x)) ≢ Less
   after_greater e =
-    let P : Ordering → Type 0 = λ o. Decides k x o in
-    let behind = greater_behind k x more s.bytes (subst P e s.decides) in
-    by_next behind.0 behind.1 (next_after x) refl
+      let P : Ordering → Type 0 = λ o. Decides k x o in
+      let behind = greater_behind k x more s.bytes (subst P e s.decides) in
+      by_next behind.0 behind.1 (next_after x) refl
     where
       by_next : next_after x ≢ [] → byte_order (k ++ more) (next_after x) ≢ Less → (n : List ℕ) → next_after x ≡ n → byte_order (t ∷ (k ++ more)) (in_front t (next_after x)) ≢ Less
       by_next some not_below [] e2 = absurd (some e2)
       by_next some not_below (c ∷ cs) e2 = λ less. not_below
-        (ap (byte_order (k ++ more)) e2 ∙ sym (front_same t t (k ++ more) (c ∷ cs) refl) ∙ sym (ap (λ (n : List ℕ). byte_order (t ∷ (k ++ more)) (in_front t n)) e2) ∙ less)
+          (ap (byte_order (k ++ more)) e2 ∙ sym (front_same t t (k ++ more) (c ∷ cs) refl) ∙ sym (ap (λ (n : List ℕ). byte_order (t ∷ (k ++ more)) (in_front t n)) e2) ∙ less)
 
   at_mark : (m : ℕ) → byte_order (t ∷ (k ++ more)) (t ∷ m ∷ []) ≡ byte_order (mark d null ∷ (s.rest ++ more)) (m ∷ [])
   at_mark m = front_same t t (k ++ more) (m ∷ []) refl ∙ ap (λ (y : List ℕ). byte_order (y ++ more) (m ∷ [])) s.marked

@@ -21,6 +21,7 @@ pub record RootSplit (tables : List Table) (n : ℕ) (vs : List Value) : Type 0 
   pub is : IsTable tables root
   pub named : root_of tables n ≡ root
   pub fits : AreFit (own_key_columns tables root) (own_values tables root vs)
+  pub front : own_values tables root vs ≡ take (length (key_columns tables root)) vs
   pub code : key_code tables n vs ≡ root ∷ (tuple_code (own_key_columns tables root) (own_values tables root vs) ++ more)
   pub prefix : key_code tables root (take (length (key_columns tables root)) vs) ≡ root ∷ tuple_code (own_key_columns tables root) (own_values tables root vs)
 
@@ -44,6 +45,7 @@ root_split tables rules n vs k = by_path (path_at tables (n - 1)) refl
           is = known.1.0;
           named = ap (λ (ms : List ℕ). slice_index ms 0) e;
           fits = known.0.0;
+          front = own;
           code = ap (λ (ms : List ℕ). code_of tables (map (level_of tables vs) ms)) e;
           prefix = code_root tables (r - 1) alone (take K vs) whole
               ∙ ap (λ (m : ℕ). m ∷ tuple_code (own_key_columns tables r) (take K vs)) number

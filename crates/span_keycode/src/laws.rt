@@ -1,5 +1,5 @@
 //! The laws of key codings, each as the contract of a function that does nothing.
-ghost use Rattle.span_keycode.specs.Laws.{OrderOfKeys, OrderInTable, BeginsOwnRows, OneKey, OrderOfTexts};
+ghost use Rattle.span_keycode.specs.Laws.{OrderOfKeys, OrderInTable, BeginsOwnRows, OneKey, OrderOfTexts, RangeOfComparison};
 
 /// Byte order of coded keys is the order of keys.
 pub fn order_of_keys()
@@ -24,4 +24,9 @@ pub fn one_key()
 /// Texts order by their characters, which is the order of the bytes of their UTF-8.
 pub fn order_of_texts()
     ensures { OrderOfTexts }
+{}
+
+/// The range of a comparison has the keys of the family in which the first root key column compares so.
+pub fn range_of_comparison()
+    ensures { RangeOfComparison }
 {}

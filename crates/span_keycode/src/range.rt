@@ -29,7 +29,13 @@ pub struct KeyRange {
 
 /// The range of the coded keys of a family in which the first key column of the root table compares so with a value that is
 /// not NULL. `table` is the root table's number, `column` its first key column.
-pub fn range_of(alloc: Global, table: u8, column: KeyPart, comparison: Comparison, value: &Value) -> Result<KeyRange, AllocError>
+pub fn range_of(
+    alloc: Global,
+    table: u8,
+    column: KeyPart,
+    comparison: Comparison,
+    value: &Value,
+) -> Result<KeyRange, AllocError>
     requires { table < 255 }
     ensures { IfOk result (λ range. (range.low ≡ low_of table column.desc comparison (table ∷ column_code column value.now)) × (range.high ≡ high_of table column.desc comparison (table ∷ column_code column value.now))) }
 {
@@ -42,7 +48,13 @@ pub fn range_of(alloc: Global, table: u8, column: KeyPart, comparison: Compariso
     })
 }
 
-fn low_key(alloc: Global, table: u8, desc: bool, comparison: Comparison, code: &[u8]) -> Result<Key, AllocError>
+fn low_key(
+    alloc: Global,
+    table: u8,
+    desc: bool,
+    comparison: Comparison,
+    code: &[u8],
+) -> Result<Key, AllocError>
     ensures { IfOk result (λ key. key ≡ low_of table desc comparison code.now) }
 {
     match (desc, comparison) {
@@ -58,7 +70,13 @@ fn low_key(alloc: Global, table: u8, desc: bool, comparison: Comparison, code: &
     }
 }
 
-fn high_key(alloc: Global, table: u8, desc: bool, comparison: Comparison, code: &[u8]) -> Result<Key, AllocError>
+fn high_key(
+    alloc: Global,
+    table: u8,
+    desc: bool,
+    comparison: Comparison,
+    code: &[u8],
+) -> Result<Key, AllocError>
     requires { table < 255 }
     ensures { IfOk result (λ key. key ≡ high_of table desc comparison code.now) }
 {

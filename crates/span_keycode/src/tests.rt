@@ -1,12 +1,15 @@
 //! The worked keys: codings, byte for byte, read again.
 use super::decode::decode_key;
 use super::encode::encode_key;
+use super::range::{Comparison, KeyRange, range_of};
+use super::root::root_prefix;
+use span_schema::layout::KeyPart;
 use span_schema::schema::Schema;
 use span_schema::table::{Column, KeyColumn, Parent, Table};
 use span_value::refusal::Refusal;
 use span_value::seq::Seq;
 use span_value::text::Text;
-use span_value::value::{ColumnType, Value};
+use span_value::value::{ColumnType, Kind, Value};
 use std::alloc::{AllocError, Global};
 use std::test::Fail;
 
@@ -218,5 +221,57 @@ fn no_keys(rt: HostRuntime) -> Result<(), Fail> {
     assert!(rt; is_bad(alloc, &schema, b"\x01\x01\x61\x00"));
     assert!(rt; is_bad(alloc, &schema, b"\x01\x01\x61\x00\x02"));
     assert!(rt; is_bad(alloc, &schema, b"\x01\x01\xff\x00\x01"));
+    Ok(())
+}
+
+fn is_range(range: &KeyRange, low: &[u8], high: &[u8]) -> bool {
+    range.low.as_slice() == low && range.high.as_slice() == high
+}
+
+#[test]
+fn ranges(rt: HostRuntime) -> Result<(), Fail> {
+    let alloc = rt.alloc();
+    let uid = KeyPart {
+        kind: Kind::Int,
+        desc: false,
+    };
+    let range = range_of(alloc, 1, uid, Comparison::Equal, &Value::Int(2))?;
+    assert!(rt;
+        is_range(
+            &range,
+            b"\x01\x01\x80\x00\x00\x00\x00\x00\x00\x02",
+            b"\x01\x01\x80\x00\x00\x00\x00\x00\x00\x03"
+        )
+    );
+    let w = KeyPart {
+        kind: Kind::Str,
+        desc: true,
+    };
+    let a = Value::Str(Text::from_str(alloc, "a")?);
+    let range = range_of(alloc, 1, w, Comparison::Less, &a)?;
+    assert!(rt; is_range(&range, b"\x01\xfe\x9e\xff\xff", b"\x01\xff"));
+    Ok(())
+}
+
+#[test]
+fn root_of_album(rt: HostRuntime) -> Result<(), Fail> {
+    let alloc = rt.alloc();
+    let schema = Schema::new(alloc, worked(alloc)?).ok().ok_or("a schema")?;
+    assert_eq!(rt; schema.len(), 2);
+    let values = vec![in alloc; Value::Int(1), Value::Int(10)]?;
+    let key = decode_key(
+        alloc,
+        &schema,
+        b"\x01\x01\x80\x00\x00\x00\x00\x00\x00\x01\x02\x01\x80\x00\x00\x00\x00\x00\x00\x0a",
+    )
+    .ok()
+    .ok_or("a key")?;
+    let coded = encode_key(alloc, &schema, key.table, key.values.as_slice())
+        .ok()
+        .ok_or("a coding")?;
+    assert_eq!(rt; values.len(), 2);
+    assert!(rt;
+        root_prefix(&schema, &coded) == b"\x01\x01\x80\x00\x00\x00\x00\x00\x00\x01".as_slice()
+    );
     Ok(())
 }
