@@ -1,0 +1,119 @@
+-- Which keys of a family a range holds.
+use Rattle.std.proofs.Common.{◌≡◌, ◌≢◌, ◌↔◌, ℕ, zero, suc, ◌+◌, ◌-◌, ◌<◌, ◌≤◌, List, [], ◌∷◌, ◌++◌, refl, sym, ◌∙◌, ap, subst, append_assoc, arith, length, take, map, Bool, true, false, ltb}
+use Rattle.std.specs.Ordering.{ordering_then}
+use Rattle.std.specs.declared.cmp.Ordering.{Ordering}
+use Rattle.std.specs.declared.cmp.Ordering.TheVariants.{Less, Equal, Greater}
+use Rattle.std.specs.Int.{to_be_bytes, w64}
+use Rattle.std.proofs.lemmas.Bool.Decides.{nat_tests}
+use Rattle.span_value.specs.declared.value.Value.{Value}
+use Rattle.span_value.specs.declared.value.Value.TheVariants.{Null, Int, Str, Bytes, Bool as Flag}
+use Rattle.span_schema.specs.declared.table.Table.{Table}
+use Rattle.span_schema.specs.declared.layout.KeyPart.{KeyPart}
+use Rattle.span_schema.specs.Lineages.{MeetsRules}
+use Rattle.span_schema.specs.Numbers.{IsTable, own_key_columns, key_columns, root_of}
+use Rattle.span_schema.proofs.Judged.{few_tables}
+use Rattle.span_keycode.specs.declared.range.Comparison.{Comparison}
+use Rattle.span_keycode.specs.Order.{flipped, complement}
+use Rattle.span_keycode.specs.Coding.{AreBytes, Fits, AreFit, lifted, escaped, bit, plain, in_direction, column_code, column_cmp, tuple_code, value_cmp}
+use Rattle.span_keycode.specs.Keys.{own_values, key_code, IsKey}
+use Rattle.span_keycode.specs.Ranges.{low_of, high_of, compares, IsWithin}
+use Rattle.span_keycode.specs.Laws.{RangeOfComparison}
+use Rattle.span_keycode.proofs.Codes.{decides-column, plain_bytes}
+use Rattle.span_keycode.proofs.RootRows.{root_split}
+use Rattle.span_keycode.proofs.RangeLaws.{mark, Stands, verdict, within_where}
+
+flipped_byte : (b : ℕ) → b < 256 → flipped b < 256
+flipped_byte b h = grind (arith, nat_tests)
+
+turned_bytes : (d : Bool) (bs : List ℕ) → AreBytes bs → AreBytes (in_direction d bs)
+turned_bytes false bs f = f
+turned_bytes true [] f = tt
+turned_bytes true (b ∷ bs) f = (flipped_byte b f.0, turned_bytes true bs f.1)
+
+abbrev is_null : Value → Bool
+is_null Null = true
+is_null (Int i) = false
+is_null (Str s) = false
+is_null (Bytes s) = false
+is_null (Flag b) = false
+
+abbrev behind_mark : Value → List ℕ
+behind_mark Null = []
+behind_mark (Int i) = to_be_bytes w64 (lifted i)
+behind_mark (Str s) = escaped s
+behind_mark (Bytes s) = escaped s
+behind_mark (Flag b) = bit b ∷ []
+
+marked : (d : Bool) (w : Value) → in_direction d (plain w) ≡ mark d (is_null w) ∷ in_direction d (behind_mark w)
+marked false Null = refl
+marked false (Int i) = refl
+marked false (Str s) = refl
+marked false (Bytes s) = refl
+marked false (Flag b) = refl
+marked true Null = refl
+marked true (Int i) = refl
+marked true (Str s) = refl
+marked true (Bytes s) = refl
+marked true (Flag b) = refl
+
+null_first : (w v : Value) → v ≢ Null → is_null w ≡ true → value_cmp w v ≡ Less
+null_first Null Null p e = absurd (p refl)
+null_first Null (Int i) p e = refl
+null_first Null (Str s) p e = refl
+null_first Null (Bytes s) p e = refl
+null_first Null (Flag b) p e = refl
+null_first (Int i) v p e = absurd (let f : false ≡ true = e in cc)
+null_first (Str s) v p e = absurd (let f : false ≡ true = e in cc)
+null_first (Bytes s) v p e = absurd (let f : false ≡ true = e in cc)
+null_first (Flag b) v p e = absurd (let f : false ≡ true = e in cc)
+
+compared : (op : Comparison) (w v : Value) → verdict (is_null w) op (value_cmp w v) ≡ compares op w v
+compared op Null v = refl
+compared op (Int i) v = refl
+compared op (Str s) v = refl
+compared op (Bytes s) v = refl
+compared op (Flag b) v = refl
+
+heads : (a b : Value) (xs ys : List Value) → a ∷ xs ≡ b ∷ ys → (a ≡ b) × (xs ≡ ys)
+heads a b xs ys e = (cc, cc)
+
+first_taken : (n : ℕ) (w u : Value) (ws us : List Value) → u ∷ us ≡ take n (w ∷ ws) → u ≡ w
+first_taken zero w u ws us e = absurd (let f : u ∷ us ≡ [] = e in cc)
+first_taken (suc n) w u ws us e = (heads u w us (take n ws) e).0
+
+pub range_of_comparison : RangeOfComparison
+range_of_comparison tables rules n w ws k t c cs root own v f some op =
+    let split = root_split tables rules n (w ∷ ws) k in
+    let same : split.root ≡ t = sym split.named ∙ root in
+    let P : ℕ → Type 0 = λ m. AreFit (own_key_columns tables m) (own_values tables split.root (w ∷ ws)) in
+    let Q : List KeyPart → Type 0 = λ ds. AreFit ds (own_values tables split.root (w ∷ ws)) in
+    let fits = subst Q own (subst P same split.fits) in
+    let code : key_code tables n (w ∷ ws) ≡ t ∷ (tuple_code (c ∷ cs) (own_values tables split.root (w ∷ ws)) ++ split.more) =
+    split.code ∙ ap (λ (m : ℕ). m ∷ (tuple_code (own_key_columns tables m) (own_values tables split.root (w ∷ ws)) ++ split.more)) same
+    ∙ ap (λ (ds : List KeyPart). t ∷ (tuple_code ds (own_values tables split.root (w ∷ ws)) ++ split.more)) own in
+    let R : ℕ → Type 0 = λ m. IsTable tables m in
+    let is = subst R same split.is in
+    let small : t < 255 = omega (arith, is.1, few_tables tables rules) in
+    by_values (length (key_columns tables split.root)) split.more (own_values tables split.root (w ∷ ws)) split.front fits code small
+  where
+    by_values : (m : ℕ) (rest : List ℕ) (us : List Value) → us ≡ take m (w ∷ ws) → AreFit (c ∷ cs) us → key_code tables n (w ∷ ws) ≡ t ∷ (tuple_code (c ∷ cs) us ++ rest) → t < 255
+        → IsWithin (low_of t c.desc op (t ∷ column_code c v)) (high_of t c.desc op (t ∷ column_code c v)) (key_code tables n (w ∷ ws)) ↔ (compares op w v ≡ true)
+    by_values m rest [] e g code small = absurd g
+    by_values m rest (u ∷ us) e g code small =
+        let first : u ≡ w = first_taken m w u ws us e in
+        let F : Value → Type 0 = λ x. Fits c.kind x in
+        let fit = subst F first g.0 in
+        let more = tuple_code cs us ++ rest in
+        let key : key_code tables n (w ∷ ws) ≡ t ∷ (column_code c w ++ more) =
+        code ∙ ap (λ (xs : List ℕ). t ∷ xs) (append_assoc (column_code c u) (tuple_code cs us) rest) ∙ ap (λ (x : Value). t ∷ (column_code c x ++ more)) first in
+        let stands : Stands t c.desc (is_null w) (column_code c w) (column_code c v) more (value_cmp w v) = record {
+          small = small;
+          decides = decides-column c w v fit f;
+          bytes = turned_bytes c.desc (plain w) (plain_bytes c.kind w fit);
+          rest = in_direction c.desc (behind_mark w);
+          marked = marked c.desc w;
+          first = null_first w v some;
+        } in
+        let both = within_where op t c.desc (is_null w) (column_code c w) (column_code c v) more (value_cmp w v) stands in
+        let K : List ℕ → Type 0 = λ xs. IsWithin (low_of t c.desc op (t ∷ column_code c v)) (high_of t c.desc op (t ∷ column_code c v)) xs in
+        ((λ inside. sym (compared op w v) ∙ both.0 (subst K key inside)), (λ true_here. subst K (sym key) (both.1 (compared op w v ∙ true_here))))

@@ -1,0 +1,32 @@
+-- The test of kinds, column by column.
+use Rattle.std.proofs.Common.{◌≡◌, ℕ, ◌+◌, ◌<◌, ◌≢◌, zero, suc, List, [], ◌∷◌, Bool, true, false, ◌&&◌, refl, sym, ◌∙◌, ap, arith, length, drop, get_or}
+use Rattle.span_value.specs.declared.value.Value.{Value}
+use Rattle.span_schema.specs.declared.layout.KeyPart.{KeyPart}
+use Rattle.span_keycode.specs.Coding.{are_of_kinds, is_of_kind}
+
+and_false : (b : Bool) → (b && false) ≡ false
+and_false true = refl
+and_false false = refl
+
+pub kinds_differ : (cs : List KeyPart) (vs : List Value) → length cs ≢ length vs → are_of_kinds cs vs ≡ false
+kinds_differ [] [] h = absurd (h refl)
+kinds_differ [] (v ∷ vs) h = refl
+kinds_differ (c ∷ cs) [] h = refl
+kinds_differ (c ∷ cs) (v ∷ vs) h = ap (λ (b : Bool). is_of_kind c.kind v && b) (kinds_differ cs vs (λ e. h (ap suc e))) ∙ and_false (is_of_kind c.kind v)
+
+pub kinds_step : (cs : List KeyPart) (vs : List Value) (i : ℕ) (c : KeyPart) (v : Value) → i < length cs → i < length vs → v ≡ get_or vs i v
+    → are_of_kinds (drop i cs) (drop i vs) ≡ (is_of_kind (get_or cs i c).kind v && are_of_kinds (drop (suc i) cs) (drop (suc i) vs))
+kinds_step [] vs i c v h k f = absurd (let less : i < 0 = h in omega arith)
+kinds_step (a ∷ cs) [] i c v h k f = absurd (let less : i < 0 = k in omega arith)
+kinds_step (a ∷ cs) (b ∷ vs) zero c v h k f = ap (λ (x : Value). is_of_kind a.kind x && are_of_kinds cs vs) (sym f)
+kinds_step (a ∷ cs) (b ∷ vs) (suc i) c v h k f = kinds_step cs vs i c v (omega arith) (omega arith) f
+
+pub kinds_length : (cs : List KeyPart) (vs : List Value) → are_of_kinds cs vs ≡ true → length cs ≡ length vs
+kinds_length [] [] h = refl
+kinds_length [] (v ∷ vs) h = absurd (let e : false ≡ true = h in cc)
+kinds_length (c ∷ cs) [] h = absurd (let e : false ≡ true = h in cc)
+kinds_length (c ∷ cs) (v ∷ vs) h = ap suc (kinds_length cs vs (second (is_of_kind c.kind v) _ h))
+  where
+    second : (a b : Bool) → (a && b) ≡ true → b ≡ true
+    second true b h = h
+    second false b h = absurd (let e : false ≡ true = h in cc)

@@ -1,0 +1,100 @@
+-- Reading a tuple, column by column.
+use Rattle.std.proofs.Common.{◌≡◌, ℕ, zero, suc, ◌+◌, ◌-◌, ◌<◌, ◌≤◌, List, [], ◌∷◌, ◌++◌, refl, sym, ◌∙◌, ap, subst, append_assoc, arith, length, length-append, length-drop, take, drop, get_or}
+use Rattle.std.proofs.lemmas.List.{drop-drop}
+use Rattle.std.proofs.lemmas.Map.Lookups.{exact_bytes}
+use Rattle.span_value.specs.declared.value.Value.{Value}
+use Rattle.span_schema.specs.declared.layout.KeyPart.{KeyPart}
+use Rattle.span_keycode.specs.Coding.{Fits, AreFit, column_code, column_cmp, tuple_code}
+use Rattle.span_keycode.specs.Reads.{IsNoColumn, IsColumn, IsNoTuple, IsTuple}
+use Rattle.span_keycode.proofs.Order.{no_front}
+use Rattle.span_keycode.proofs.Codes.{decides-column}
+use Rattle.span_keycode.proofs.LevelLaws.{fit_join}
+
+tuple_join : (cs ds : List KeyPart) (vs ws : List Value) → AreFit cs vs → tuple_code (cs ++ ds) (vs ++ ws) ≡ tuple_code cs vs ++ tuple_code ds ws
+tuple_join [] ds [] ws f = refl
+tuple_join [] ds (v ∷ vs) ws f = absurd f
+tuple_join (c ∷ cs) ds [] ws f = absurd f
+tuple_join (c ∷ cs) ds (v ∷ vs) ws f = ap (λ (bs : List ℕ). column_code c v ++ bs) (tuple_join cs ds vs ws f.1) ∙ sym (append_assoc (column_code c v) (tuple_code cs vs) (tuple_code ds ws))
+
+taken_more : (cs : List KeyPart) (i : ℕ) (d : KeyPart) → i < length cs → take (i + 1) cs ≡ take i cs ++ get_or cs i d ∷ []
+taken_more cs i d h = ap (λ (n : ℕ). take n cs) (let e : i + 1 ≡ suc i = omega arith in e) ∙ by_suc cs i d h
+  where
+    by_suc : (cs : List KeyPart) (i : ℕ) (d : KeyPart) → i < length cs → take (suc i) cs ≡ take i cs ++ get_or cs i d ∷ []
+    by_suc [] i d h = absurd (let l : i < 0 = h in omega arith)
+    by_suc (c ∷ cs) zero d h = refl
+    by_suc (c ∷ cs) (suc i) d h = ap (λ (xs : List KeyPart). c ∷ xs) (by_suc cs i d (omega arith))
+
+dropped_more : (cs : List KeyPart) (i : ℕ) (d : KeyPart) → i < length cs → drop i cs ≡ get_or cs i d ∷ drop (i + 1) cs
+dropped_more cs i d h = by_suc cs i d h ∙ ap (λ (n : ℕ). get_or cs i d ∷ drop n cs) (let e : suc i ≡ i + 1 = omega arith in e)
+  where
+    by_suc : (cs : List KeyPart) (i : ℕ) (d : KeyPart) → i < length cs → drop i cs ≡ get_or cs i d ∷ drop (suc i) cs
+    by_suc [] i d h = absurd (let l : i < 0 = h in omega arith)
+    by_suc (c ∷ cs) zero d h = refl
+    by_suc (c ∷ cs) (suc i) d h = by_suc cs i d (omega arith)
+
+pub tuple_start : (bs : List ℕ) (before : List Value) → IsTuple [] bs before before 0
+tuple_start bs before = record { values = []; added = sym (append_none before); fits = tt; code = refl; within = omega arith }
+  where
+    append_none : (xs : List Value) → xs ++ [] ≡ xs
+    append_none [] = refl
+    append_none (x ∷ xs) = ap (λ (ys : List Value). x ∷ ys) (append_none xs)
+
+-- one more column
+pub tuple_more : (cs : List KeyPart) (bs : List ℕ) (before mid after : List Value) (i at w : ℕ) (d : KeyPart) (v : Value) → i < length cs
+    → IsTuple (take i cs) bs before mid at → IsColumn (get_or cs i d) (drop at bs) v w → after ≡ mid ++ v ∷ [] → IsTuple (take (i + 1) cs) bs before after (at + w)
+tuple_more cs bs before mid after i at w d v h t c e =
+    let c0 = get_or cs i d in
+    let P : List KeyPart → Type 0 = λ ds. IsTuple ds bs before after (at + w) in
+    subst P (sym (taken_more cs i d h)) (record {
+      values = t.values ++ v ∷ [];
+      added = e ∙ ap (λ (xs : List Value). xs ++ v ∷ []) t.added ∙ append_assoc before t.values (v ∷ []);
+      fits = fit_join (take i cs) (c0 ∷ []) t.values (v ∷ []) t.fits (c.fits, tt);
+      code = t.code
+          ∙ ap (λ (xs : List ℕ). tuple_code (take i cs) t.values ++ xs) (c.code ∙ ap (λ (xs : List ℕ). column_code c0 v ++ xs) (drop-drop w at bs))
+          ∙ sym (append_assoc (tuple_code (take i cs) t.values) (column_code c0 v) (drop (at + w) bs))
+          ∙ ap (λ (xs : List ℕ). (tuple_code (take i cs) t.values ++ xs) ++ drop (at + w) bs) (sym (one c0 v))
+          ∙ ap (λ (xs : List ℕ). xs ++ drop (at + w) bs) (sym (tuple_join (take i cs) (c0 ∷ []) t.values (v ∷ []) t.fits));
+      within = omega (arith, t.within, c.within, length-drop at bs);
+    })
+  where
+    none_after : (xs : List ℕ) → xs ++ [] ≡ xs
+    none_after [] = refl
+    none_after (x ∷ xs) = ap (λ (ys : List ℕ). x ∷ ys) (none_after xs)
+
+    one : (c : KeyPart) (v : Value) → tuple_code (c ∷ []) (v ∷ []) ≡ column_code c v
+    one c v = none_after (column_code c v)
+
+no_first : (c : KeyPart) (cs : List KeyPart) (bs : List ℕ) → IsNoColumn c bs → (vs : List Value) (rest : List ℕ) → AreFit (c ∷ cs) vs → bs ≡ tuple_code (c ∷ cs) vs ++ rest → ⊥
+no_first c cs bs n [] rest f e = f
+no_first c cs bs n (v ∷ vs) rest f e = n.none v (tuple_code cs vs ++ rest) f.0 (e ∙ append_assoc (column_code c v) (tuple_code cs vs) rest)
+
+no_rest : (c : KeyPart) (cs : List KeyPart) (more : List ℕ) (w : Value) → Fits c.kind w → IsNoTuple cs more → (vs : List Value) (rest : List ℕ) → AreFit (c ∷ cs) vs
+    → column_code c w ++ more ≡ tuple_code (c ∷ cs) vs ++ rest → ⊥
+no_rest c cs more w g n [] rest f e = f
+no_rest c cs more w g n (v ∷ vs) rest f e =
+    let both = no_front (column_code c w) (column_code c v) more (tuple_code cs vs ++ rest) (column_cmp c w v) (decides-column c w v g f.0) (e ∙ append_assoc (column_code c v) (tuple_code cs vs) rest) in
+    n.none vs rest f.1 (exact_bytes _ _ both.1)
+
+-- no tuple, where the next column is none
+pub tuple_none : (cs : List KeyPart) (bs : List ℕ) (i at : ℕ) (d : KeyPart) → i < length cs → (IsNoTuple (drop i cs) (drop at bs) → IsNoTuple cs bs) → IsNoColumn (get_or cs i d) (drop at bs) → IsNoTuple cs bs
+tuple_none cs bs i at d h back n =
+    let P : List KeyPart → Type 0 = λ ds. IsNoTuple ds (drop at bs) in
+    back (subst P (sym (dropped_more cs i d h)) (record { none = no_first (get_or cs i d) (drop (i + 1) cs) (drop at bs) n }))
+
+-- no tuple, where there is none behind the next column
+pub tuple_back : (cs : List KeyPart) (bs : List ℕ) (i at w : ℕ) (d : KeyPart) (v : Value) → i < length cs → (IsNoTuple (drop i cs) (drop at bs) → IsNoTuple cs bs) → IsColumn (get_or cs i d) (drop at bs) v w
+    → IsNoTuple (drop (i + 1) cs) (drop (at + w) bs) → IsNoTuple cs bs
+tuple_back cs bs i at w d v h back c n =
+    let P : List KeyPart → Type 0 = λ ds. IsNoTuple ds (drop at bs) in
+    let Q : List ℕ → Type 0 = λ xs. IsNoTuple (get_or cs i d ∷ drop (i + 1) cs) xs in
+    let here : drop at bs ≡ column_code (get_or cs i d) v ++ drop (at + w) bs = c.code ∙ ap (λ (xs : List ℕ). column_code (get_or cs i d) v ++ xs) (drop-drop w at bs) in
+    back (subst P (sym (dropped_more cs i d h)) (subst Q (sym here) (record { none = no_rest (get_or cs i d) (drop (i + 1) cs) (drop (at + w) bs) v c.fits n })))
+
+pub tuple_end : (cs : List KeyPart) (bs : List ℕ) (before after : List Value) (at i : ℕ) → length cs ≤ i → IsTuple (take i cs) bs before after at → IsTuple cs bs before after at
+tuple_end cs bs before after at i h t = let P : List KeyPart → Type 0 = λ ds. IsTuple ds bs before after at in subst P (taken_all cs i h) t
+  where
+    taken_all : (cs : List KeyPart) (i : ℕ) → length cs ≤ i → take i cs ≡ cs
+    taken_all [] zero h = refl
+    taken_all [] (suc i) h = refl
+    taken_all (c ∷ cs) zero h = absurd (let l : suc (length cs) ≤ 0 = h in omega arith)
+    taken_all (c ∷ cs) (suc i) h = ap (λ (xs : List KeyPart). c ∷ xs) (taken_all cs i (omega arith))

@@ -1,0 +1,131 @@
+//! The coding of one column's value.
+ghost use Rattle.std.specs.Prelude.{◌≡◌, ◌++◌, ◌∷◌, [], OnOk, length};
+ghost use Rattle.std.specs.Int.{to_be_bytes, w64};
+ghost use Rattle.span_keycode.specs.Coding.{lifted, escaped, escaped_byte, in_direction, column_code, tuple_code, is_of_kind, are_of_kinds};
+
+use crate::key::INLINE_BYTES;
+use crate::text::directed;
+use smallvec::SmallVec;
+use span_schema::layout::KeyPart;
+use span_value::value::{Kind, Value};
+use std::alloc::AllocError;
+
+type Bytes = SmallVec<u8, INLINE_BYTES>;
+
+/// Whether the value is NULL or of the kind.
+pub fn has_kind(kind: Kind, value: &Value) -> bool
+    ensures { result ≡ is_of_kind kind value.now }
+{
+    match (kind, value) {
+        (_, Value::Null) => true,
+        (Kind::Int, Value::Int(_)) => true,
+        (Kind::Str, Value::Str(_)) => true,
+        (Kind::Bytes, Value::Bytes(_)) => true,
+        (Kind::Bool, Value::Bool(_)) => true,
+        _ => false,
+    }
+}
+
+/// Whether there is one value for each column, NULL or of its kind.
+pub fn have_kinds(columns: &[KeyPart], values: &[Value]) -> bool
+    ensures { result ≡ are_of_kinds columns.now values.now }
+{
+    if columns.len() != values.len() {
+        return false;
+    }
+    for i in 0..columns.len() {
+        if !has_kind(columns[i].kind, &values[i]) {
+            return false;
+        }
+    }
+    true
+}
+
+fn lift(number: i64) -> u64
+    ensures { result ≡ lifted number }
+{
+    if number < 0 {
+        (number + i64::MAX + 1) as u64
+    } else {
+        number as u64 + (1 << 63)
+    }
+}
+
+fn push_directed(out: &mut Bytes, byte: u8, desc: bool) -> Result<(), AllocError>
+    ensures { OnOk result (out.new.items ≡ out.old.items ++ in_direction desc (byte ∷ [])) }
+{
+    out.push(directed(byte, desc))?;
+    Ok(())
+}
+
+fn push_escaped_byte(out: &mut Bytes, byte: u8, desc: bool) -> Result<(), AllocError>
+    ensures { OnOk result (out.new.items ≡ out.old.items ++ in_direction desc (escaped_byte byte [])) }
+{
+    push_directed(out, byte, desc)?;
+    if byte == 0 {
+        return push_directed(out, 255, desc);
+    }
+    Ok(())
+}
+
+fn push_escaped(out: &mut Bytes, bytes: &[u8], desc: bool) -> Result<(), AllocError>
+    ensures { OnOk result (out.new.items ≡ out.old.items ++ in_direction desc (escaped bytes.now)) }
+{
+    for byte in bytes {
+        push_escaped_byte(out, *byte, desc)?;
+    }
+    push_directed(out, 0, desc)?;
+    push_directed(out, 1, desc)
+}
+
+fn push_all(out: &mut Bytes, bytes: &[u8], desc: bool) -> Result<(), AllocError>
+    ensures { OnOk result (out.new.items ≡ out.old.items ++ in_direction desc bytes.now) }
+{
+    for byte in bytes {
+        push_directed(out, *byte, desc)?;
+    }
+    Ok(())
+}
+
+fn push_number(out: &mut Bytes, number: u64, desc: bool) -> Result<(), AllocError>
+    ensures { OnOk result (out.new.items ≡ out.old.items ++ in_direction desc (to_be_bytes w64 number)) }
+{
+    push_all(out, &number.to_be_bytes(), desc)
+}
+
+/// Adds the coding of a column's value. An error may leave a part of it.
+pub fn push_value(out: &mut Bytes, column: KeyPart, value: &Value) -> Result<(), AllocError>
+    ensures { OnOk result (out.new.items ≡ out.old.items ++ column_code column value.now) }
+{
+    let desc = column.desc;
+    match value {
+        Value::Null => push_directed(out, 0, desc),
+        Value::Int(number) => {
+            push_directed(out, 1, desc)?;
+            push_number(out, lift(*number), desc)
+        }
+        Value::Str(text) => {
+            push_directed(out, 1, desc)?;
+            push_escaped(out, text.as_str().as_bytes(), desc)
+        }
+        Value::Bytes(bytes) => {
+            push_directed(out, 1, desc)?;
+            push_escaped(out, bytes.as_slice(), desc)
+        }
+        Value::Bool(flag) => {
+            push_directed(out, 1, desc)?;
+            push_directed(out, *flag as u8, desc)
+        }
+    }
+}
+
+/// Adds the codings of columns, one value for each. An error may leave a part of them.
+pub fn push_tuple(out: &mut Bytes, columns: &[KeyPart], values: &[Value]) -> Result<(), AllocError>
+    requires { length columns.now ≡ length values.now }
+    ensures { OnOk result (out.new.items ≡ out.old.items ++ tuple_code columns.now values.now) }
+{
+    for i in 0..columns.len() {
+        push_value(out, columns[i], &values[i])?;
+    }
+    Ok(())
+}

@@ -1,0 +1,15 @@
+//! Coded keys: bytes whose order is the order of keys.
+#![tactic(auto)]
+
+pub mod column;
+pub mod decode;
+pub mod encode;
+pub mod key;
+pub mod laws;
+pub mod range;
+pub mod root;
+#[cfg(test)]
+mod tests;
+pub mod text;
+pub mod tuple;
+pub mod value;

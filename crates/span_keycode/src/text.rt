@@ -1,0 +1,66 @@
+//! Reading the escaped text of a STRING or BYTES column.
+ghost use Rattle.std.specs.Prelude.{◌≡◌, ◌∷◌, [], ◌≤◌, IfOk, MatchOption, Some, None, drop, length};
+ghost use Rattle.span_keycode.specs.Coding.{in_direction, AreBytes};
+ghost use Rattle.span_keycode.specs.Texts.{AtStep, text_at};
+
+use std::alloc::{AllocError, Global};
+
+/// What stands at the front of an escaped text.
+#[derive(Debug, Clone, Copy)]
+pub enum Step {
+    /// A byte of the text, and how many bytes code it.
+    Byte(u8, usize),
+    End,
+    Bad,
+}
+
+/// A byte as it stands in a column that is descending or not.
+pub fn directed(byte: u8, desc: bool) -> u8
+    ensures { in_direction desc (byte ∷ []) ≡ result ∷ [] }
+{
+    if desc { 255 - byte } else { byte }
+}
+
+/// What stands at the front of an escaped text.
+pub fn step_at(rest: &[u8], desc: bool) -> Step
+    ensures { AtStep desc rest.now result }
+{
+    if rest.len() == 0 {
+        return Step::Bad;
+    }
+    let first = directed(rest[0], desc);
+    if first != 0 {
+        return Step::Byte(first, 1);
+    }
+    if rest.len() == 1 {
+        return Step::Bad;
+    }
+    match directed(rest[1], desc) {
+        1 => Step::End,
+        255 => Step::Byte(0, 2),
+        _ => Step::Bad,
+    }
+}
+
+/// The escaped text at the front, and how many bytes code it; None if there is none.
+pub fn read_text(
+    alloc: Global,
+    bytes: &[u8],
+    desc: bool,
+) -> Result<Option<(Vec<u8>, usize)>, AllocError>
+    ensures ok { IfOk result (λ found. MatchOption found (text_at (in_direction desc bytes.now) ≡ None) (λ r. text_at (in_direction desc bytes.now) ≡ Some (r.0.items, in_direction desc (drop r.1 bytes.now)))) }
+    ensures within { IfOk result (λ found. MatchOption found (Unit {0}) (λ r. (r.1 ≤ length bytes.now) × AreBytes r.0.items)) }
+{
+    let mut text = Vec::new(alloc);
+    let mut at = 0;
+    loop {
+        match step_at(&bytes[at..], desc) {
+            Step::Byte(byte, width) => {
+                text.push(byte)?;
+                at += width;
+            }
+            Step::End => return Ok(Some((text, at + 2))),
+            Step::Bad => return Ok(None),
+        }
+    }
+}

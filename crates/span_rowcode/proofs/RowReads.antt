@@ -1,0 +1,380 @@
+-- Reading cells.
+use Rattle.std.proofs.Common.{◌≡◌, ◌≢◌, ℕ, ℤ, zero, suc, ◌+◌, ◌-◌, ◌<◌, ◌≤◌, ◌^◌, List, [], ◌∷◌, ◌++◌, Bool, true, false, refl, sym, ◌∙◌, ap, subst, append_assoc, arith, length, length-append, length-drop, drop, take, get_or}
+use Rattle.std.specs.Int.{to_be_bytes, from_be_bytes, cast_unsigned, cast_signed, w32, w64}
+use Rattle.std.specs.Str.{IsUtf8}
+use Rattle.std.proofs.lemmas.List.{take-append-drop, drop-drop, length-take-le}
+use Rattle.std.proofs.lemmas.Nat.{be_bytes_8, be_bytes_4, from_be_bytes-to_be_bytes_8, from_be_bytes-to_be_bytes_4}
+use Rattle.std.proofs.Math.Facts.{to_z-of_z, Fits-of_z}
+use Rattle.span_value.specs.declared.value.Value.{Value}
+use Rattle.span_value.specs.declared.value.Value.TheVariants.{Null, Int, Str, Bytes, Bool as Flag}
+use Rattle.span_value.specs.declared.value.Kind.{Kind}
+use Rattle.span_value.specs.declared.value.Kind.TheVariants.{Int as Numbers, Str as Texts, Bytes as Strings, Bool as Flags}
+use Rattle.span_schema.specs.Fitting.{Fits, AreBytes}
+use Rattle.span_rowcode.specs.Rows.{bit, bytes_code, cell_code, row_code, AreCells, IsNoCell, IsCell}
+use Rattle.span_rowcode.specs.Cells.{IsNoBody, IsBody, HasBytes, HasNoBytes}
+
+pub heads : (a b : ℕ) (xs ys : List ℕ) → a ∷ xs ≡ b ∷ ys → (a ≡ b) × (xs ≡ ys)
+heads a b xs ys e = (cc, cc)
+
+one_is_zero : (bs rest : List ℕ) → 1 ∷ bs ≡ 0 ∷ rest → ⊥
+one_is_zero bs rest e = let g = (heads 1 0 bs rest e).0 in omega arith
+
+-- bytes that are known place by place
+pub are_bytes : (bs : List ℕ) → ((i : ℕ) → get_or bs i 0 < 256) → AreBytes bs
+are_bytes [] h = tt
+are_bytes (b ∷ bs) h = (h 0, are_bytes bs (λ i. h (suc i)))
+
+pub bytes_drop : (n : ℕ) (bs : List ℕ) → AreBytes bs → AreBytes (drop n bs)
+bytes_drop zero bs f = f
+bytes_drop (suc n) [] f = tt
+bytes_drop (suc n) (b ∷ bs) f = bytes_drop n bs f.1
+
+pub bytes_take : (n : ℕ) (bs : List ℕ) → AreBytes bs → AreBytes (take n bs)
+bytes_take zero bs f = tt
+bytes_take (suc n) [] f = tt
+bytes_take (suc n) (b ∷ bs) f = (f.0, bytes_take n bs f.1)
+
+pub bytes_at : (bs : List ℕ) → AreBytes bs → (i : ℕ) → get_or bs i 0 < 256
+bytes_at [] f i = omega arith
+bytes_at (b ∷ bs) f zero = f.0
+bytes_at (b ∷ bs) f (suc i) = bytes_at bs f.1 i
+
+pub four : (bs : List ℕ) → 4 ≤ length bs → bs ≡ get_or bs 0 0 ∷ get_or bs 1 0 ∷ get_or bs 2 0 ∷ get_or bs 3 0 ∷ drop 4 bs
+four [] h = absurd (let l : 4 ≤ 0 = h in omega arith)
+four (a ∷ []) h = absurd (let l : 4 ≤ 1 = h in omega arith)
+four (a ∷ (b ∷ [])) h = absurd (let l : 4 ≤ 2 = h in omega arith)
+four (a ∷ (b ∷ (c ∷ []))) h = absurd (let l : 4 ≤ 3 = h in omega arith)
+four (a ∷ (b ∷ (c ∷ (d ∷ bs)))) h = refl
+
+-- the number in eight bytes
+pub eight_read : (bs : List ℕ) (n : ℕ) → 8 ≤ length bs → AreBytes bs → n ≡ from_be_bytes w64 (take 8 bs) → bs ≡ to_be_bytes w64 n ++ drop 8 bs
+eight_read bs n h are e = sym (take-append-drop 8 bs) ∙ ap (λ (xs : List ℕ). xs ++ drop 8 bs) (sym (be_bytes_8 (take 8 bs) n (length-take-le 8 bs h) (bytes_at (take 8 bs) (bytes_take 8 bs are)) e))
+
+-- the bytes behind their length
+pub bytes_read : (bs found : List ℕ) (n : ℕ) → AreBytes bs → 4 ≤ length bs → n ≤ length bs - 4 → n < 2 ^ 32
+    → n ≡ from_be_bytes w32 (get_or bs 0 0 ∷ get_or bs 1 0 ∷ get_or bs 2 0 ∷ get_or bs 3 0 ∷ []) → found ≡ take n (drop 4 bs) → HasBytes bs found
+bytes_read bs found n are h k small e is =
+    let rest : length (drop 4 bs) ≡ length bs - 4 = length-drop 4 bs in
+    let len : length found ≡ n = ap length is ∙ length-take-le n (drop 4 bs) (omega arith) in
+    let word = get_or bs 0 0 ∷ get_or bs 1 0 ∷ get_or bs 2 0 ∷ get_or bs 3 0 ∷ [] in
+    let word_bytes : AreBytes word = (bytes_at bs are 0, (bytes_at bs are 1, (bytes_at bs are 2, (bytes_at bs are 3, tt)))) in
+    let spelled : to_be_bytes w32 n ≡ word = be_bytes_4 word n refl (bytes_at word word_bytes) e in
+    let split : drop 4 bs ≡ found ++ drop (length found + 4) bs =
+    sym (take-append-drop n (drop 4 bs)) ∙ ap (λ (xs : List ℕ). xs ++ drop n (drop 4 bs)) (sym is)
+    ∙ ap (λ (xs : List ℕ). found ++ xs) (drop-drop n 4 bs ∙ ap (λ (m : ℕ). drop m bs) (let f : 4 + n ≡ length found + 4 = omega arith in f)) in
+    let P : List ℕ → Type 0 = AreBytes in
+    record {
+      code = four bs h ∙ ap (λ (xs : List ℕ). word ++ xs) split ∙ ap (λ (xs : List ℕ). xs ++ (found ++ drop (length found + 4) bs)) (sym spelled ∙ ap (to_be_bytes w32) (sym len));
+      are = subst P (sym is) (bytes_take n (drop 4 bs) (bytes_drop 4 bs are));
+      within = omega arith;
+      short = omega arith;
+    }
+
+-- what begins no cell
+nothing_first : (k : Kind) (v : Value) (rest : List ℕ) → [] ≡ cell_code v ++ rest → ⊥
+nothing_first k Null rest e = absurd (let g : [] ≡ 0 ∷ rest = e in cc)
+nothing_first k (Int i) rest e = absurd (let g : [] ≡ 1 ∷ (to_be_bytes w64 (cast_unsigned w64 i) ++ rest) = e in cc)
+nothing_first k (Str bs) rest e = absurd (let g : [] ≡ 1 ∷ ((to_be_bytes w32 (length bs) ++ bs) ++ rest) = e in cc)
+nothing_first k (Bytes bs) rest e = absurd (let g : [] ≡ 1 ∷ ((to_be_bytes w32 (length bs) ++ bs) ++ rest) = e in cc)
+nothing_first k (Flag b) rest e = absurd (let g : [] ≡ 1 ∷ (bit b ∷ rest) = e in cc)
+
+pub no_cell_nothing : (k : Kind) → IsNoCell k []
+no_cell_nothing k = record { none = λ v rest f e. nothing_first k v rest e }
+
+other_first : (a : ℕ) (bs : List ℕ) → a ≢ 0 → a ≢ 1 → (v : Value) (rest : List ℕ) → a ∷ bs ≡ cell_code v ++ rest → ⊥
+other_first a bs p q Null rest e = p (heads a 0 bs rest e).0
+other_first a bs p q (Int i) rest e = q (heads a 1 bs (to_be_bytes w64 (cast_unsigned w64 i) ++ rest) e).0
+other_first a bs p q (Str cs) rest e = q (heads a 1 bs ((to_be_bytes w32 (length cs) ++ cs) ++ rest) e).0
+other_first a bs p q (Bytes cs) rest e = q (heads a 1 bs ((to_be_bytes w32 (length cs) ++ cs) ++ rest) e).0
+other_first a bs p q (Flag b) rest e = q (heads a 1 bs (bit b ∷ rest) e).0
+
+pub no_cell_other : (k : Kind) (a : ℕ) (bs : List ℕ) → a ≢ 0 → a ≢ 1 → IsNoCell k (a ∷ bs)
+no_cell_other k a bs p q = record { none = λ v rest f e. other_first a bs p q v rest e }
+
+pub no_cell_body : (k : Kind) (bs : List ℕ) → IsNoBody k bs → IsNoCell k (1 ∷ bs)
+no_cell_body k bs b = record { none = b.none }
+
+wrong_bytes : (bs : List ℕ) → HasNoBytes bs → (v : Value) (rest : List ℕ) → Fits Strings v → 1 ∷ bs ≡ cell_code v ++ rest → ⊥
+wrong_bytes bs h Null rest f e = one_is_zero bs rest e
+wrong_bytes bs h (Bytes cs) rest f e = h.none cs rest ((heads 1 1 bs ((to_be_bytes w32 (length cs) ++ cs) ++ rest) e).1 ∙ append_assoc (to_be_bytes w32 (length cs)) cs rest)
+wrong_bytes bs h (Int x) rest f e = absurd f
+wrong_bytes bs h (Str x) rest f e = absurd f
+wrong_bytes bs h (Flag x) rest f e = absurd f
+
+pub no_bytes : (bs : List ℕ) → HasNoBytes bs → IsNoBody Strings bs
+no_bytes bs h = record { none = wrong_bytes bs h }
+
+wrong_text : (bs : List ℕ) → HasNoBytes bs → (v : Value) (rest : List ℕ) → Fits Texts v → 1 ∷ bs ≡ cell_code v ++ rest → ⊥
+wrong_text bs h Null rest f e = one_is_zero bs rest e
+wrong_text bs h (Str cs) rest f e = h.none cs rest ((heads 1 1 bs ((to_be_bytes w32 (length cs) ++ cs) ++ rest) e).1 ∙ append_assoc (to_be_bytes w32 (length cs)) cs rest)
+wrong_text bs h (Int x) rest f e = absurd f
+wrong_text bs h (Bytes x) rest f e = absurd f
+wrong_text bs h (Flag x) rest f e = absurd f
+
+pub no_text : (bs : List ℕ) → HasNoBytes bs → IsNoBody Texts bs
+no_text bs h = record { none = wrong_text bs h }
+
+-- equal lists with fronts of one length
+pub fronts : (xs ys r s : List ℕ) → length xs ≡ length ys → xs ++ r ≡ ys ++ s → (xs ≡ ys) × (r ≡ s)
+fronts [] [] r s l e = (refl, e)
+fronts [] (y ∷ ys) r s l e = absurd (let f : 0 ≡ suc (length ys) = l in omega arith)
+fronts (x ∷ xs) [] r s l e = absurd (let f : suc (length xs) ≡ 0 = l in omega arith)
+fronts (x ∷ xs) (y ∷ ys) r s l e =
+    let both = heads x y (xs ++ r) (ys ++ s) e in
+    let again = fronts xs ys r s (let f : suc (length xs) ≡ suc (length ys) = l in omega arith) both.1 in
+    (joined x y xs ys both.0 again.0, again.1)
+  where
+    joined : (a b : ℕ) (xs ys : List ℕ) → a ≡ b → xs ≡ ys → a ∷ xs ≡ b ∷ ys
+    joined a b xs ys e f = cc
+
+-- a length in four bytes is one length
+one_length : (m n : ℕ) → m < 2 ^ 32 → n < 2 ^ 32 → to_be_bytes w32 m ≡ to_be_bytes w32 n → m ≡ n
+one_length m n a b e = sym (from_be_bytes-to_be_bytes_4 m a) ∙ ap (from_be_bytes w32) e ∙ from_be_bytes-to_be_bytes_4 n b
+
+-- bytes behind their length are one text
+pub one_text : (bs cs r s : List ℕ) → length bs < 2 ^ 32 → length cs < 2 ^ 32 → to_be_bytes w32 (length bs) ++ (bs ++ r) ≡ to_be_bytes w32 (length cs) ++ (cs ++ s) → (bs ≡ cs) × (r ≡ s)
+one_text bs cs r s a b e =
+    let words = fronts (to_be_bytes w32 (length bs)) (to_be_bytes w32 (length cs)) (bs ++ r) (cs ++ s) refl e in
+    fronts bs cs r s (one_length (length bs) (length cs) a b words.0) words.1
+
+other_text : (bs ts : List ℕ) → HasBytes bs ts → length bs < 2 ^ 32 → (IsUtf8 ts → ⊥) → (v : Value) (rest : List ℕ) → Fits Texts v → 1 ∷ bs ≡ cell_code v ++ rest → ⊥
+other_text bs ts h small bad Null rest f e = one_is_zero bs rest e
+other_text bs ts h small bad (Str cs) rest f e =
+    let code : bs ≡ to_be_bytes w32 (length cs) ++ (cs ++ rest) = (heads 1 1 bs ((to_be_bytes w32 (length cs) ++ cs) ++ rest) e).1 ∙ append_assoc (to_be_bytes w32 (length cs)) cs rest in
+    let len : length bs ≡ 4 + length (cs ++ rest) = ap length code ∙ length-append (to_be_bytes w32 (length cs)) (cs ++ rest) in
+    let short : length cs < 2 ^ 32 = omega (arith, len, length-append cs rest) in
+    let same = (one_text ts cs (drop (length ts + 4) bs) rest h.short short (sym h.code ∙ code)).0 in
+    let P : List ℕ → Type 0 = IsUtf8 in bad (subst P (sym same) f.0)
+other_text bs ts h small bad (Int x) rest f e = absurd f
+other_text bs ts h small bad (Bytes x) rest f e = absurd f
+other_text bs ts h small bad (Flag x) rest f e = absurd f
+
+pub no_utf8 : (bs ts : List ℕ) → HasBytes bs ts → length bs < 2 ^ 32 → (IsUtf8 ts → ⊥) → IsNoBody Texts bs
+no_utf8 bs ts h small bad = record { none = other_text bs ts h small bad }
+
+-- what is read is coded so
+pub bytes_coded : (bs found : List ℕ) → HasBytes bs found → 1 ∷ bs ≡ bytes_code found ++ drop (length found + 4) bs
+bytes_coded bs found h = ap (λ (xs : List ℕ). 1 ∷ xs) (h.code ∙ sym (append_assoc (to_be_bytes w32 (length found)) found (drop (length found + 4) bs)))
+
+pub cell_found : (k : Kind) (bs : List ℕ) (first : ℕ) (rest : List ℕ) (v : Value) (w : ℕ) → bs ≡ 1 ∷ drop 1 bs → IsBody k (drop 1 bs) v w → IsCell k bs v (w + 1)
+cell_found k bs first rest v w e b = record {
+  fits = b.fits;
+  code = e ∙ b.code ∙ ap (λ (xs : List ℕ). cell_code v ++ xs) (drop-drop w 1 bs ∙ ap (λ (n : ℕ). drop n bs) (let f : 1 + w ≡ w + 1 = omega arith in f));
+  within = omega (arith, b.within, length-drop 1 bs, ap (length {A = ℕ}) e);
+}
+
+pub first_byte : (bs : List ℕ) (a : ℕ) → 0 < length bs → get_or bs 0 0 ≡ a → bs ≡ a ∷ drop 1 bs
+first_byte [] a h e = absurd (let l : 0 < 0 = h in omega arith)
+first_byte (b ∷ bs) a h e = ap (λ (n : ℕ). n ∷ bs) e
+
+-- cells of one kind that are coded alike are the same
+signed_once : (i j : ℤ) (r s : List ℕ) → Fits Numbers (Int i) → Fits Numbers (Int j) → to_be_bytes w64 (cast_unsigned w64 i) ++ r ≡ to_be_bytes w64 (cast_unsigned w64 j) ++ s → (i ≡ j) × (r ≡ s)
+signed_once i j r s f g e =
+    let words = fronts (to_be_bytes w64 (cast_unsigned w64 i)) (to_be_bytes w64 (cast_unsigned w64 j)) r s refl e in
+    let bits : cast_unsigned w64 i ≡ cast_unsigned w64 j =
+    sym (from_be_bytes-to_be_bytes_8 (cast_unsigned w64 i) (Fits-of_z f).fits) ∙ ap (from_be_bytes w64) words.0 ∙ from_be_bytes-to_be_bytes_8 (cast_unsigned w64 j) (Fits-of_z g).fits in
+    (sym (to_z-of_z f) ∙ ap (cast_signed w64) bits ∙ to_z-of_z g, words.1)
+
+text_once : (bs cs r s : List ℕ) → length (bytes_code bs ++ r) < 2 ^ 32 → bytes_code bs ++ r ≡ bytes_code cs ++ s → (bs ≡ cs) × (r ≡ s)
+text_once bs cs r s small e =
+    let len : length (bytes_code bs ++ r) ≡ suc (suc (suc (suc (suc (length (bs ++ r)))))) = ap (λ (xs : List ℕ). length (1 ∷ xs)) (append_assoc (to_be_bytes w32 (length bs)) bs r) in
+    let len2 : length (bytes_code cs ++ s) ≡ suc (suc (suc (suc (suc (length (cs ++ s)))))) = ap (λ (xs : List ℕ). length (1 ∷ xs)) (append_assoc (to_be_bytes w32 (length cs)) cs s) in
+    let same = ap (length {A = ℕ}) e in
+    let short : length bs < 2 ^ 32 = omega (arith, small, len, length-append bs r) in
+    let short2 : length cs < 2 ^ 32 = omega (arith, small, same, len2, length-append cs s) in
+    one_text bs cs r s short short2
+    (sym (append_assoc (to_be_bytes w32 (length bs)) bs r) ∙ (heads 1 1 ((to_be_bytes w32 (length bs) ++ bs) ++ r) ((to_be_bytes w32 (length cs) ++ cs) ++ s) e).1 ∙ append_assoc (to_be_bytes w32 (length cs)) cs s)
+
+flag_once : (a b : Bool) (r s : List ℕ) → bit a ∷ r ≡ bit b ∷ s → (a ≡ b) × (r ≡ s)
+flag_once true true r s e = (refl, (heads 1 1 r s e).1)
+flag_once false false r s e = (refl, (heads 0 0 r s e).1)
+flag_once true false r s e = absurd (one_is_zero r s e)
+flag_once false true r s e = absurd (one_is_zero s r (sym e))
+
+pub one_cell : (k : Kind) (v w : Value) (r s : List ℕ) → Fits k v → Fits k w → length (cell_code v ++ r) < 2 ^ 32 → cell_code v ++ r ≡ cell_code w ++ s → (v ≡ w) × (r ≡ s)
+one_cell k Null Null r s f g h e = (refl, (heads 0 0 r s e).1)
+one_cell k Null (Int i) r s f g h e = absurd (one_is_zero (to_be_bytes w64 (cast_unsigned w64 i) ++ s) r (sym e))
+one_cell k Null (Str cs) r s f g h e = absurd (one_is_zero ((to_be_bytes w32 (length cs) ++ cs) ++ s) r (sym e))
+one_cell k Null (Bytes cs) r s f g h e = absurd (one_is_zero ((to_be_bytes w32 (length cs) ++ cs) ++ s) r (sym e))
+one_cell k Null (Flag b) r s f g h e = absurd (one_is_zero (bit b ∷ s) r (sym e))
+one_cell k (Int i) Null r s f g h e = absurd (one_is_zero (to_be_bytes w64 (cast_unsigned w64 i) ++ r) s e)
+one_cell k (Str bs) Null r s f g h e = absurd (one_is_zero ((to_be_bytes w32 (length bs) ++ bs) ++ r) s e)
+one_cell k (Bytes bs) Null r s f g h e = absurd (one_is_zero ((to_be_bytes w32 (length bs) ++ bs) ++ r) s e)
+one_cell k (Flag b) Null r s f g h e = absurd (one_is_zero (bit b ∷ r) s e)
+one_cell Numbers (Int i) (Int j) r s f g h e = let same = signed_once i j r s f g (heads 1 1 (to_be_bytes w64 (cast_unsigned w64 i) ++ r) (to_be_bytes w64 (cast_unsigned w64 j) ++ s) e).1 in (ap Int same.0, same.1)
+one_cell Texts (Str bs) (Str cs) r s f g h e = let same = text_once bs cs r s h e in (ap Str same.0, same.1)
+one_cell Strings (Bytes bs) (Bytes cs) r s f g h e = let same = text_once bs cs r s h e in (ap Bytes same.0, same.1)
+one_cell Flags (Flag a) (Flag b) r s f g h e = let same = flag_once a b r s (heads 1 1 (bit a ∷ r) (bit b ∷ s) e).1 in (ap Flag same.0, same.1)
+one_cell Numbers (Int x) (Str y) r s f g h e = absurd g
+one_cell Numbers (Int x) (Bytes y) r s f g h e = absurd g
+one_cell Numbers (Int x) (Flag y) r s f g h e = absurd g
+one_cell Numbers (Str x) (Int y) r s f g h e = absurd f
+one_cell Numbers (Str x) (Str y) r s f g h e = absurd f
+one_cell Numbers (Str x) (Bytes y) r s f g h e = absurd f
+one_cell Numbers (Str x) (Flag y) r s f g h e = absurd f
+one_cell Numbers (Bytes x) (Int y) r s f g h e = absurd f
+one_cell Numbers (Bytes x) (Str y) r s f g h e = absurd f
+one_cell Numbers (Bytes x) (Bytes y) r s f g h e = absurd f
+one_cell Numbers (Bytes x) (Flag y) r s f g h e = absurd f
+one_cell Numbers (Flag x) (Int y) r s f g h e = absurd f
+one_cell Numbers (Flag x) (Str y) r s f g h e = absurd f
+one_cell Numbers (Flag x) (Bytes y) r s f g h e = absurd f
+one_cell Numbers (Flag x) (Flag y) r s f g h e = absurd f
+one_cell Texts (Int x) (Int y) r s f g h e = absurd f
+one_cell Texts (Int x) (Str y) r s f g h e = absurd f
+one_cell Texts (Int x) (Bytes y) r s f g h e = absurd f
+one_cell Texts (Int x) (Flag y) r s f g h e = absurd f
+one_cell Texts (Str x) (Int y) r s f g h e = absurd g
+one_cell Texts (Str x) (Bytes y) r s f g h e = absurd g
+one_cell Texts (Str x) (Flag y) r s f g h e = absurd g
+one_cell Texts (Bytes x) (Int y) r s f g h e = absurd f
+one_cell Texts (Bytes x) (Str y) r s f g h e = absurd f
+one_cell Texts (Bytes x) (Bytes y) r s f g h e = absurd f
+one_cell Texts (Bytes x) (Flag y) r s f g h e = absurd f
+one_cell Texts (Flag x) (Int y) r s f g h e = absurd f
+one_cell Texts (Flag x) (Str y) r s f g h e = absurd f
+one_cell Texts (Flag x) (Bytes y) r s f g h e = absurd f
+one_cell Texts (Flag x) (Flag y) r s f g h e = absurd f
+one_cell Strings (Int x) (Int y) r s f g h e = absurd f
+one_cell Strings (Int x) (Str y) r s f g h e = absurd f
+one_cell Strings (Int x) (Bytes y) r s f g h e = absurd f
+one_cell Strings (Int x) (Flag y) r s f g h e = absurd f
+one_cell Strings (Str x) (Int y) r s f g h e = absurd f
+one_cell Strings (Str x) (Str y) r s f g h e = absurd f
+one_cell Strings (Str x) (Bytes y) r s f g h e = absurd f
+one_cell Strings (Str x) (Flag y) r s f g h e = absurd f
+one_cell Strings (Bytes x) (Int y) r s f g h e = absurd g
+one_cell Strings (Bytes x) (Str y) r s f g h e = absurd g
+one_cell Strings (Bytes x) (Flag y) r s f g h e = absurd g
+one_cell Strings (Flag x) (Int y) r s f g h e = absurd f
+one_cell Strings (Flag x) (Str y) r s f g h e = absurd f
+one_cell Strings (Flag x) (Bytes y) r s f g h e = absurd f
+one_cell Strings (Flag x) (Flag y) r s f g h e = absurd f
+one_cell Flags (Int x) (Int y) r s f g h e = absurd f
+one_cell Flags (Int x) (Str y) r s f g h e = absurd f
+one_cell Flags (Int x) (Bytes y) r s f g h e = absurd f
+one_cell Flags (Int x) (Flag y) r s f g h e = absurd f
+one_cell Flags (Str x) (Int y) r s f g h e = absurd f
+one_cell Flags (Str x) (Str y) r s f g h e = absurd f
+one_cell Flags (Str x) (Bytes y) r s f g h e = absurd f
+one_cell Flags (Str x) (Flag y) r s f g h e = absurd f
+one_cell Flags (Bytes x) (Int y) r s f g h e = absurd f
+one_cell Flags (Bytes x) (Str y) r s f g h e = absurd f
+one_cell Flags (Bytes x) (Bytes y) r s f g h e = absurd f
+one_cell Flags (Bytes x) (Flag y) r s f g h e = absurd f
+one_cell Flags (Flag x) (Int y) r s f g h e = absurd g
+one_cell Flags (Flag x) (Str y) r s f g h e = absurd g
+one_cell Flags (Flag x) (Bytes y) r s f g h e = absurd g
+
+-- no cells are all of the bytes
+pub record IsNoCells (ks : List Kind) (bytes : List ℕ) : Type 0 where
+  pub none : (vs : List Value) → AreCells ks vs → bytes ≡ row_code vs → ⊥
+
+-- cells of the kinds are coded in the first bytes, up to a place
+pub record IsCells (ks : List Kind) (bytes : List ℕ) (vs : List Value) (at : ℕ) : Type 0 where
+  pub are : AreCells ks vs
+  pub code : bytes ≡ row_code vs ++ drop at bytes
+  pub within : at ≤ length bytes
+
+cells_push : (ks : List Kind) (vs : List Value) (k : Kind) (v : Value) → AreCells ks vs → Fits k v → AreCells (ks ++ k ∷ []) (vs ++ v ∷ [])
+cells_push [] [] k v f g = (g, tt)
+cells_push [] (w ∷ vs) k v f g = absurd f
+cells_push (l ∷ ks) [] k v f g = absurd f
+cells_push (l ∷ ks) (w ∷ vs) k v f g = (f.0, cells_push ks vs k v f.1 g)
+
+row_push : (vs : List Value) (v : Value) (rest : List ℕ) → row_code (vs ++ v ∷ []) ++ rest ≡ row_code vs ++ (cell_code v ++ rest)
+row_push [] v rest = append_assoc (cell_code v) [] rest
+row_push (w ∷ vs) v rest = append_assoc (cell_code w) (row_code (vs ++ v ∷ [])) rest ∙ ap (λ (xs : List ℕ). cell_code w ++ xs) (row_push vs v rest) ∙ sym (append_assoc (cell_code w) (row_code vs) (cell_code v ++ rest))
+
+taken_more : (ks : List Kind) (i : ℕ) (d : Kind) → i < length ks → take (i + 1) ks ≡ take i ks ++ get_or ks i d ∷ []
+taken_more ks i d h = ap (λ (n : ℕ). take n ks) (let e : i + 1 ≡ suc i = omega arith in e) ∙ by_suc ks i d h
+  where
+    by_suc : (ks : List Kind) (i : ℕ) (d : Kind) → i < length ks → take (suc i) ks ≡ take i ks ++ get_or ks i d ∷ []
+    by_suc [] i d h = absurd (let l : i < 0 = h in omega arith)
+    by_suc (k ∷ ks) zero d h = refl
+    by_suc (k ∷ ks) (suc i) d h = ap (λ (xs : List Kind). k ∷ xs) (by_suc ks i d (omega arith))
+
+dropped_more : (ks : List Kind) (i : ℕ) (d : Kind) → i < length ks → drop i ks ≡ get_or ks i d ∷ drop (i + 1) ks
+dropped_more ks i d h = by_suc ks i d h ∙ ap (λ (n : ℕ). get_or ks i d ∷ drop n ks) (let e : suc i ≡ i + 1 = omega arith in e)
+  where
+    by_suc : (ks : List Kind) (i : ℕ) (d : Kind) → i < length ks → drop i ks ≡ get_or ks i d ∷ drop (suc i) ks
+    by_suc [] i d h = absurd (let l : i < 0 = h in omega arith)
+    by_suc (k ∷ ks) zero d h = refl
+    by_suc (k ∷ ks) (suc i) d h = by_suc ks i d (omega arith)
+
+pub cells_more : (ks : List Kind) (bs : List ℕ) (mid after : List Value) (i at w : ℕ) (d : Kind) (v : Value) → i < length ks → IsCells (take i ks) bs mid at → IsCell (get_or ks i d) (drop at bs) v w
+    → after ≡ mid ++ v ∷ [] → IsCells (take (i + 1) ks) bs after (at + w)
+cells_more ks bs mid after i at w d v h t c e =
+    let P : List Kind → Type 0 = λ ls. IsCells ls bs after (at + w) in
+    let Q : List Value → Type 0 = λ vs. IsCells (take i ks ++ get_or ks i d ∷ []) bs vs (at + w) in
+    subst P (sym (taken_more ks i d h)) (subst Q (sym e) (record {
+      are = cells_push (take i ks) mid (get_or ks i d) v t.are c.fits;
+      code = t.code ∙ ap (λ (xs : List ℕ). row_code mid ++ xs) (c.code ∙ ap (λ (xs : List ℕ). cell_code v ++ xs) (drop-drop w at bs)) ∙ sym (row_push mid v (drop (at + w) bs));
+      within = omega (arith, t.within, c.within, length-drop at bs);
+    }))
+
+no_first : (k : Kind) (ks : List Kind) (bs : List ℕ) → IsNoCell k bs → (vs : List Value) → AreCells (k ∷ ks) vs → bs ≡ row_code vs → ⊥
+no_first k ks bs n [] f e = f
+no_first k ks bs n (v ∷ vs) f e = n.none v (row_code vs) f.0 e
+
+no_rest : (k : Kind) (ks : List Kind) (more : List ℕ) (w : Value) → Fits k w → length (cell_code w ++ more) < 2 ^ 32 → IsNoCells ks more → (vs : List Value) → AreCells (k ∷ ks) vs → cell_code w ++ more ≡ row_code vs → ⊥
+no_rest k ks more w g small n [] f e = f
+no_rest k ks more w g small n (v ∷ vs) f e = n.none vs f.1 (one_cell k w v more (row_code vs) g f.0 small e).1
+
+pub cells_none : (ks : List Kind) (bs : List ℕ) (i at : ℕ) (d : Kind) → i < length ks → (IsNoCells (drop i ks) (drop at bs) → IsNoCells ks bs) → IsNoCell (get_or ks i d) (drop at bs) → IsNoCells ks bs
+cells_none ks bs i at d h back n =
+    let P : List Kind → Type 0 = λ ls. IsNoCells ls (drop at bs) in
+    back (subst P (sym (dropped_more ks i d h)) (record { none = no_first (get_or ks i d) (drop (i + 1) ks) (drop at bs) n }))
+
+pub cells_back : (ks : List Kind) (bs : List ℕ) (i at w : ℕ) (d : Kind) (v : Value) → i < length ks → length bs < 2 ^ 32 → (IsNoCells (drop i ks) (drop at bs) → IsNoCells ks bs) → IsCell (get_or ks i d) (drop at bs) v w
+    → IsNoCells (drop (i + 1) ks) (drop (at + w) bs) → IsNoCells ks bs
+cells_back ks bs i at w d v h small back c n =
+    let P : List Kind → Type 0 = λ ls. IsNoCells ls (drop at bs) in
+    let Q : List ℕ → Type 0 = λ xs. IsNoCells (get_or ks i d ∷ drop (i + 1) ks) xs in
+    let here : drop at bs ≡ cell_code v ++ drop (at + w) bs = c.code ∙ ap (λ (xs : List ℕ). cell_code v ++ xs) (drop-drop w at bs) in
+    let short : length (cell_code v ++ drop (at + w) bs) < 2 ^ 32 = omega (arith, ap (length {A = ℕ}) here, length-drop at bs, small) in
+    back (subst P (sym (dropped_more ks i d h)) (subst Q (sym here) (record { none = no_rest (get_or ks i d) (drop (i + 1) ks) (drop (at + w) bs) v c.fits short n })))
+
+dropped_all : {X : Type 0} (bs : List X) (at : ℕ) → length bs ≤ at → drop at bs ≡ []
+dropped_all [] zero h = refl
+dropped_all [] (suc at) h = refl
+dropped_all (b ∷ bs) zero h = absurd (let l : suc (length bs) ≤ 0 = h in omega arith)
+dropped_all (b ∷ bs) (suc at) h = dropped_all bs at (omega arith)
+
+taken_all : {X : Type 0} (xs : List X) (i : ℕ) → length xs ≤ i → take i xs ≡ xs
+taken_all [] zero h = refl
+taken_all [] (suc i) h = refl
+taken_all (c ∷ xs) zero h = absurd (let l : suc (length xs) ≤ 0 = h in omega arith)
+taken_all {X} (c ∷ xs) (suc i) h = ap (λ (ys : List X). c ∷ ys) (taken_all xs i (omega arith))
+
+append_nothing : (xs : List ℕ) → xs ++ [] ≡ xs
+append_nothing [] = refl
+append_nothing (x ∷ xs) = ap (λ (ys : List ℕ). x ∷ ys) (append_nothing xs)
+
+left_over : (bs : List ℕ) (at : ℕ) → at < length bs → (vs : List Value) → AreCells [] vs → drop at bs ≡ row_code vs → ⊥
+left_over bs at h [] f e = let l : length (drop at bs) ≡ 0 = ap length e in omega (arith, length-drop at bs)
+left_over bs at h (v ∷ vs) f e = f
+
+pub cells_left : (ks : List Kind) (bs : List ℕ) (i at : ℕ) → length ks ≤ i → at < length bs → (IsNoCells (drop i ks) (drop at bs) → IsNoCells ks bs) → IsNoCells ks bs
+cells_left ks bs i at h k back =
+    let P : List Kind → Type 0 = λ ls. IsNoCells ls (drop at bs) in
+    back (subst P (sym (dropped_all ks i h)) (record { none = left_over bs at k }))
+
+pub cells_end : (ks : List Kind) (bs : List ℕ) (vs : List Value) (i at : ℕ) → length ks ≤ i → length bs ≤ at → IsCells (take i ks) bs vs at → AreCells ks vs × (bs ≡ row_code vs)
+cells_end ks bs vs i at h k t =
+    let P : List Kind → Type 0 = λ ls. AreCells ls vs in
+    (subst P (taken_all ks i h) t.are, t.code ∙ ap (λ (xs : List ℕ). row_code vs ++ xs) (dropped_all bs at k) ∙ append_nothing (row_code vs))
+
+-- a packed row is that of one row
+pub one_row : (ks : List Kind) (vs ws : List Value) → AreCells ks vs → AreCells ks ws → length (row_code vs) < 2 ^ 32 → row_code vs ≡ row_code ws → vs ≡ ws
+one_row [] [] [] f g h e = refl
+one_row [] (v ∷ vs) ws f g h e = absurd f
+one_row [] [] (w ∷ ws) f g h e = absurd g
+one_row (k ∷ ks) [] ws f g h e = absurd f
+one_row (k ∷ ks) (v ∷ vs) [] f g h e = absurd g
+one_row (k ∷ ks) (v ∷ vs) (w ∷ ws) f g h e =
+    let both = one_cell k v w (row_code vs) (row_code ws) f.0 g.0 h e in
+    joined v w vs ws both.0 (one_row ks vs ws f.1 g.1 (omega (arith, length-append (cell_code v) (row_code vs))) both.1)
+  where
+    joined : (a b : Value) (xs ys : List Value) → a ≡ b → xs ≡ ys → a ∷ xs ≡ b ∷ ys
+    joined a b xs ys e f = cc

@@ -1,0 +1,9 @@
+//! Packed rows: the bytes of the columns outside the primary key.
+#![tactic(auto)]
+
+pub mod cell;
+pub mod laws;
+pub mod pack;
+#[cfg(test)]
+mod tests;
+pub mod unpack;

@@ -1,0 +1,5 @@
+pub mod Paths
+pub mod Children
+pub mod Judged
+pub mod Prefixes
+pub mod Numbered
