@@ -1,0 +1,4 @@
+pub mod Characters
+pub mod Lexing
+pub mod Literals
+pub mod Spellings

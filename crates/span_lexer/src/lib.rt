@@ -1,0 +1,8 @@
+//! Tokens of SQL texts and schema texts, with their places.
+#![tactic(auto)]
+
+mod character;
+pub mod lexer;
+pub mod literal;
+pub mod token;
+pub mod word;
