@@ -9,7 +9,7 @@ use Rattle.span_lexer.proofs.Words.{if_true, if_false}
 abbrev behind : Literal → ℕ → List ℕ → Option ℕ → Option ℕ
 behind t q bs o = elim o [ None ↦ None | Some n ↦ one_more (closed t q (n - 1) bs) ]
 
-closed_nil : (t : Literal) (q k : ℕ) → closed t q k [] ≡ None
+pub closed_nil : (t : Literal) (q k : ℕ) → closed t q k [] ≡ None
 unfolding closed
 closed_nil t q k = refl
 
@@ -33,7 +33,7 @@ with_suc : (k : ℕ) (o : Option ℕ) → one_more (with_more k o) ≡ with_more
 with_suc k None = refl
 with_suc k (Some n) = ap Some (omega arith)
 
-with_with : (j k : ℕ) (o : Option ℕ) → with_more j (with_more k o) ≡ with_more (j + k) o
+pub with_with : (j k : ℕ) (o : Option ℕ) → with_more j (with_more k o) ≡ with_more (j + k) o
 with_with j k None = refl
 with_with j k (Some n) = ap Some (omega arith)
 

@@ -16,6 +16,10 @@ pub if_false : {A : Type 0} (b : Bool) (x y : A) → b ≡ false → (if b then 
 if_false false x y h = refl
 if_false true x y h = absurd cc
 
+pub choose : {A : Type 0} (P : A → Type 0) (b : Bool) (x y : A) → (b ≡ true → P x) → (b ≡ false → P y) → P (if b then x else y)
+choose P true x y f g = f refl
+choose P false x y f g = g refl
+
 in_lower_case : (v : Word) → str_to_ascii_lowercase (word v) ≡ word v
 in_lower_case w.All = refl
 in_lower_case w.And = refl

@@ -1,5 +1,5 @@
 -- What stands at the front of a text, and the tokens of a whole text.
-use Rattle.std.specs.Prelude.{ℕ, zero, suc, ◌+◌, ◌-◌, ◌*◌, ◌==◌, nat_lt, Bool, true, false, not, ◌&&◌, ◌||◌, List, [], ◌∷◌, length, take, Option, Some, None, if◌then◌else◌}
+use Rattle.std.specs.Prelude.{ℕ, zero, suc, ◌+◌, ◌-◌, ◌*◌, ◌<◌, ◌≤◌, ◌==◌, nat_lt, Bool, true, false, not, ◌&&◌, ◌||◌, List, [], ◌∷◌, length, take, Option, Some, None, if◌then◌else◌}
 use Rattle.std.specs.Option.{option_map}
 use Rattle.std.specs.List.{prefix_len}
 use Rattle.span_lexer.specs.declared.token.TokenKind.{TokenKind}
@@ -101,6 +101,12 @@ front_of (b ∷ bs) =
     else (if is_quote b then literal_or_wrong kind.Str 1 (closed literal.Text b 0 bs)
     else (if b == 45 && begins (λ c. c == 45) bs then front.Gap (1 + prefix_len on_line bs)
     else sign_front b bs))))))
+
+-- a front is not empty, and ends within so many bytes
+abbrev pub Reaches : ℕ → Front → Type 0
+Reaches most (front.Gap n) = (0 < n) × (n ≤ most)
+Reaches most (front.Lexeme k n) = (0 < n) × (n ≤ most)
+Reaches most front.Wrong = Unit {0}
 
 abbrev pub with_token : Token → Option (List Token) → Option (List Token)
 with_token t o = option_map (λ ts. t ∷ ts) o

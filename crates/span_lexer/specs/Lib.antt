@@ -2,3 +2,4 @@ pub mod Characters
 pub mod Lexing
 pub mod Literals
 pub mod Spellings
+pub mod Tokens

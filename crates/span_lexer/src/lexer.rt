@@ -1,7 +1,7 @@
 //! The tokens of a text.
 //!
 //! A text is read front by front: a blank or a comment, or the one token that stands there.
-ghost use Rattle.std.specs.Prelude.{◌≡◌, ◌==◌, ◌+◌, ◌<◌, ◌≤◌, length, IfSome};
+ghost use Rattle.std.specs.Prelude.{◌≡◌, ◌==◌, ◌⊎◌, ◌+◌, ◌<◌, ◌≤◌, ◌-◌, length, drop, IfSome, IfOk, IfErr};
 ghost use Rattle.std.specs.List.{prefix_len};
 ghost use Rattle.span_lexer.specs.Characters as character;
 ghost use Rattle.span_lexer.specs.Lexing as spec;
@@ -11,7 +11,10 @@ use super::character::{from_place, is_blank, is_digit, is_letter, is_mark, is_qu
 use super::literal::{Literal, closing_quote};
 use super::token::{Sign, Token, TokenKind};
 use super::word::reserved_word;
-use std::alloc::Global;
+use span_value::refusal::Refusal;
+use span_value::seq::Seq;
+use std::alloc::{AllocError, AllocFailed, Global};
+use std::fmt;
 
 /// What stands at the front of a text, with its length in bytes.
 #[derive(Clone, Copy, Debug, PartialEq, Eq)]
@@ -23,11 +26,55 @@ pub(crate) enum Front {
     Wrong,
 }
 
+/// The greatest length of a text in bytes.
+pub const LONGEST_TEXT: usize = 65536;
+
 /// The greatest integer of a text.
 pub const GREATEST_INTEGER: u64 = 9223372036854775807;
 
 /// The greatest length of a name in bytes.
 pub const LONGEST_WORD: usize = 128;
+
+/// Why a text was not read, and the byte from which on it was not.
+#[derive(Clone, Copy, Debug, PartialEq, Eq)]
+pub struct Misread {
+    pub refusal: Refusal,
+    pub place: usize,
+}
+
+impl fmt::Display for Misread {
+    fn fmt<W: fmt::Write>(&self, f: &mut fmt::Formatter<W>) -> fmt::Result {
+        write!(f, "refused {} at byte {}", self.refusal, self.place)
+    }
+}
+
+impl From<AllocError> for Misread {
+    ghost use Rattle.std.specs.Prelude.{◌≡◌};
+    ghost use Rattle.span_value.specs.declared.refusal.Refusal.TheVariants.{OutOfMemory};
+
+    ghost from_gives = { λ _ e. e.refusal ≡ OutOfMemory };
+
+    fn from(_error: AllocError) -> Misread {
+        Misread {
+            refusal: Refusal::OutOfMemory,
+            place: 0,
+        }
+    }
+}
+
+impl<T: Drop> From<AllocFailed<T>> for Misread {
+    ghost use Rattle.std.specs.Prelude.{◌≡◌};
+    ghost use Rattle.span_value.specs.declared.refusal.Refusal.TheVariants.{OutOfMemory};
+
+    ghost from_gives = { λ _ e. e.refusal ≡ OutOfMemory };
+
+    fn from(_error: AllocFailed<T>) -> Misread {
+        Misread {
+            refusal: Refusal::OutOfMemory,
+            place: 0,
+        }
+    }
+}
 
 /// How many letters, digits and `_` stand at the front.
 fn run(bytes: &[u8]) -> usize
@@ -151,6 +198,7 @@ fn starts_with(bytes: &[u8], byte: u8) -> bool
 /// The bytes literal whose quote stands first, behind its mark.
 #[tactic(auto, unfolding(crate::specs::Lexing::bytes_front))]
 fn bytes_front(bytes: &[u8]) -> Front
+    requires { length bytes.now ≤ LONGEST_TEXT }
     ensures { result ≡ spec.bytes_front bytes.now }
 {
     let Some((quote, body)) = bytes.split_first() else {
@@ -164,6 +212,7 @@ fn bytes_front(bytes: &[u8]) -> Front
 
 /// The string whose quote stands before the bytes.
 fn string_front(quote: u8, body: &[u8]) -> Front
+    requires { length body.now ≤ LONGEST_TEXT }
     ensures { result ≡ spec.literal_or_wrong TokenKind.Str 1 (literal.closed Literal.Text quote 0 body.now) }
 {
     match closing_quote(Literal::Text, quote, body) {
@@ -202,6 +251,7 @@ fn sign_front(first: u8, rest: &[u8]) -> Front
 /// What stands at the front of a text.
 #[tactic(auto, unfolding(crate::specs::Lexing::front_of))]
 fn front_of(bytes: &[u8]) -> Front
+    requires { length bytes.now ≤ LONGEST_TEXT }
     ensures { result ≡ spec.front_of bytes.now }
 {
     let Some((first, rest)) = bytes.split_first() else {
@@ -229,4 +279,45 @@ fn front_of(bytes: &[u8]) -> Front
         return Front::Gap(1 + line_length(rest));
     }
     sign_front(*first, rest)
+}
+
+/// What stands at a place of a text, which reaches on and not past the end.
+fn front_at(bytes: &[u8], place: usize) -> Front
+    requires text { length bytes.now ≤ LONGEST_TEXT }
+    requires inside { place < length bytes.now }
+    ensures front { result ≡ spec.front_of (drop place bytes.now) }
+    ensures reaches { spec.Reaches (length bytes.now - place) result }
+{
+    front_of(from_place(bytes, place))
+}
+
+/// The tokens of a text of at most `LONGEST_TEXT` bytes.
+#[tactic(auto, using(crate::proofs::Whole::lexed_rules))]
+fn lexemes(alloc: Global, bytes: &[u8]) -> Result<Vec<Token>, Misread>
+    requires { length bytes.now ≤ LONGEST_TEXT }
+    ensures ok { IfOk result (λ found. spec.lexed 0 0 bytes.now ≡ Some found.items) }
+    ensures err { IfErr result (λ e. (e.refusal ≡ Refusal.OutOfMemory) ⊎ ((e.refusal ≡ Refusal.BadToken) × (spec.lexed 0 0 bytes.now ≡ None))) }
+{
+    let mut found = Vec::new(alloc);
+    let mut at = 0;
+    while at < bytes.len() {
+        match front_at(bytes, at) {
+            Front::Gap(length) => at += length,
+            Front::Lexeme(kind, length) => {
+                found.push(Token {
+                    kind,
+                    start: at,
+                    end: at + length,
+                })?;
+                at += length;
+            }
+            Front::Wrong => {
+                return Err(Misread {
+                    refusal: Refusal::BadToken,
+                    place: at,
+                });
+            }
+        }
+    }
+    Ok(found)
 }

@@ -15,7 +15,8 @@ pub enum Literal {
 /// or a wrong escape or character stands before the quote.
 #[tactic(auto, using(crate::proofs::Closing::closing_rules))]
 pub(crate) fn closing_quote(literal: Literal, quote: u8, bytes: &[u8]) -> Option<usize>
-    ensures { result ≡ spec.closed literal quote 0 bytes.now }
+    ensures end { result ≡ spec.closed literal quote 0 bytes.now }
+    ensures within { IfSome result (λ n. n ≤ length bytes.now) }
 {
     let mut at = 0;
     while at < bytes.len() {
