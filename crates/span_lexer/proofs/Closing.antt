@@ -1,6 +1,5 @@
 -- Going on through a literal, piece by piece.
 use Rattle.std.proofs.Common.{◌≡◌, ◌≢◌, ℕ, zero, suc, ◌+◌, ◌-◌, ◌<◌, ◌≤◌, ◌==◌, Bool, true, false, List, [], ◌∷◌, length, drop, get_or, Option, Some, None, if◌then◌else◌, refl, sym, ap, ◌∙◌, arith, eqb-true, eq-eqb}
-use Rattle.std.specs.Option.{option_map}
 use Rattle.std.proofs.lemmas.Grind.{common_steps}
 use Rattle.span_lexer.specs.declared.literal.Literal.{Literal}
 use Rattle.span_lexer.specs.Literals.{closed, piece_end, one_more, with_more}
@@ -52,7 +51,7 @@ pub piece_then : (t : Literal) (q b n : ℕ) (bs : List ℕ) → b ≢ q → pie
 piece_then t q b zero bs ne e pos = absurd (omega arith)
 piece_then t q b (suc n) bs ne e pos =
     closed_at t q b bs ∙ if_false (b == q) (Some 1) (behind t q bs (piece_end t (b ∷ bs))) (differ b q (b == q) refl ne)
-      ∙ ap (behind t q bs) e ∙ ap (λ (k : ℕ). one_more (closed t q k bs)) (let m : suc n - 1 ≡ n = omega arith in m) ∙ ap one_more (skipped t q n bs) ∙ with_suc n (closed t q 0 (drop n bs))
+    ∙ ap (behind t q bs) e ∙ ap (λ (k : ℕ). one_more (closed t q k bs)) (let m : suc n - 1 ≡ n = omega arith in m) ∙ ap one_more (skipped t q n bs) ∙ with_suc n (closed t q 0 (drop n bs))
 
 pub no_piece : (t : Literal) (q b : ℕ) (bs : List ℕ) → b ≢ q → piece_end t (b ∷ bs) ≡ None → closed t q 0 (b ∷ bs) ≡ None
 no_piece t q b bs ne e = closed_at t q b bs ∙ if_false (b == q) (Some 1) (behind t q bs (piece_end t (b ∷ bs))) (differ b q (b == q) refl ne) ∙ ap (behind t q bs) e
@@ -78,7 +77,7 @@ pub closing_steps : (t : Literal) (q : ℕ) (bytes : List ℕ) (at n : ℕ) → 
 closing_steps t q bytes at n h l ne e pos =
     let f = at_front bytes at l in
     let step : closed t q 0 (drop at bytes) ≡ with_more n (closed t q 0 (drop n (drop at bytes))) =
-        ap (closed t q 0) f ∙ piece_then t q (get_or bytes at 0) n (drop (at + 1) bytes) ne (ap (piece_end t) (sym f) ∙ e) pos ∙ ap (λ (w : List ℕ). with_more n (closed t q 0 (drop n w))) (sym f) in
+    ap (closed t q 0) f ∙ piece_then t q (get_or bytes at 0) n (drop (at + 1) bytes) ne (ap (piece_end t) (sym f) ∙ e) pos ∙ ap (λ (w : List ℕ). with_more n (closed t q 0 (drop n w))) (sym f) in
     sym (with_with at n (closed t q 0 (drop (at + n) bytes))) ∙ ap (λ (w : List ℕ). with_more at (with_more n (closed t q 0 w))) (sym (drop_drop n at bytes)) ∙ ap (with_more at) (sym step) ∙ h
 
 pub closing_fails : (t : Literal) (q : ℕ) (bytes : List ℕ) (at : ℕ) → IsClosedFrom t q bytes at → at < length bytes → get_or bytes at 0 ≢ q → piece_end t (drop at bytes) ≡ None → closed t q 0 bytes ≡ None

@@ -1,22 +1,19 @@
 -- What stands at the front is an item.
-use Rattle.std.proofs.Common.{◌≡◌, ◌≢◌, ℕ, zero, suc, ◌+◌, ◌-◌, ◌*◌, ◌<◌, ◌≤◌, ◌==◌, nat_lt, Bool, true, false, not, ◌&&◌, ◌||◌, List, [], ◌∷◌, ◌++◌, length, drop, take, get_or, Option, Some, None, if◌then◌else◌, refl, sym, ap, subst, ◌∙◌, arith, eqb-true, eq-eqb, lit≤}
+use Rattle.std.proofs.Common.{◌≡◌, ℕ, zero, suc, ◌+◌, ◌-◌, ◌*◌, ◌<◌, ◌≤◌, ◌==◌, nat_lt, Bool, true, false, not, ◌&&◌, ◌||◌, List, [], ◌∷◌, ◌++◌, length, drop, take, get_or, Option, Some, None, if◌then◌else◌, refl, sym, ap, subst, ◌∙◌, arith, eqb-true, lit≤}
 use Rattle.std.specs.List.{prefix_len}
 use Rattle.std.proofs.lemmas.Grind.{common_steps}
 use Rattle.std.proofs.lemmas.List.Sums.{prefix_len-le-length}
-use Rattle.span_lexer.specs.declared.token.TokenKind.{TokenKind}
 use Rattle.span_lexer.specs.declared.token.TokenKind.TheVariants as kind
-use Rattle.span_lexer.specs.declared.token.Word.{Word}
 use Rattle.span_lexer.specs.declared.token.Sign.{Sign}
 use Rattle.span_lexer.specs.declared.token.Sign.TheVariants as sgn
 use Rattle.span_lexer.specs.declared.lexer.Front.{Front}
 use Rattle.span_lexer.specs.declared.lexer.Front.TheVariants as front
-use Rattle.span_lexer.specs.declared.literal.Literal.{Literal}
 use Rattle.span_lexer.specs.declared.literal.Literal.TheVariants as literal
 use Rattle.span_lexer.specs.Characters.{is_blank, is_letter, is_digit, is_word, is_quote, is_mark, begins}
 use Rattle.span_lexer.specs.Spellings.{reserved, sign}
 use Rattle.span_lexer.specs.Literals.{closed}
 use Rattle.span_lexer.specs.Lexing.{run, word_front, word_or_name, integer, next_integer, integer_front, int_or_wrong, parameter_front, name_or_wrong, literal_or_wrong, bytes_front, sign_front, on_line, front_of, greatest_integer, longest_word, Reaches}
-use Rattle.span_lexer.specs.Tokens.{Each, Stops, IsName, NoMark, number_behind, IsInteger, is_pair, NoPair, IsToken, Item, Blank, Comment, Lexeme, item_bytes, IsItem, IsBody}
+use Rattle.span_lexer.specs.Tokens.{Each, Stops, IsName, NoMark, number_behind, is_pair, IsToken, Item, Blank, Comment, Lexeme, item_bytes, IsItem}
 use Rattle.span_lexer.proofs.Words.{if_true, if_false, choose}
 use Rattle.span_lexer.proofs.Pieces.{body_read, ReadsBody}
 
@@ -29,7 +26,7 @@ pub each_run : (p : ℕ → Bool) (bs : List ℕ) → Each p (take (prefix_len p
 each_run p [] = tt
 each_run p (b ∷ bs) =
     elim (p b) as (λ v. p b ≡ v → Each p (take (if v then 1 + prefix_len p bs else 0) (b ∷ bs))) [
-      true ↦ λ e. let P : ℕ → Type 0 = λ n. Each p (take n (b ∷ bs)) in subst P (sym (one_plus (prefix_len p bs))) (e, each_run p bs)
+      | true ↦ λ e. let P : ℕ → Type 0 = λ n. Each p (take n (b ∷ bs)) in subst P (sym (one_plus (prefix_len p bs))) (e, each_run p bs)
       | false ↦ λ e. tt
     ] refl
 
@@ -37,7 +34,7 @@ pub stops_run : (p : ℕ → Bool) (bs : List ℕ) → Stops p (drop (prefix_len
 stops_run p [] = refl
 stops_run p (b ∷ bs) =
     elim (p b) as (λ v. p b ≡ v → Stops p (drop (if v then 1 + prefix_len p bs else 0) (b ∷ bs))) [
-      true ↦ λ e. let P : ℕ → Type 0 = λ n. Stops p (drop n (b ∷ bs)) in subst P (sym (one_plus (prefix_len p bs))) (stops_run p bs)
+      | true ↦ λ e. let P : ℕ → Type 0 = λ n. Stops p (drop n (b ∷ bs)) in subst P (sym (one_plus (prefix_len p bs))) (stops_run p bs)
       | false ↦ λ e. e
     ] refl
 
@@ -95,10 +92,10 @@ word_holds b bs e m =
     let P : ℕ → Type 0 = λ k. NoMark (take k (b ∷ bs)) (drop k (b ∷ bs)) in
     let unmarked : NoMark (take n (b ∷ bs)) (drop n (b ∷ bs)) = subst P (sym first) (no_mark b bs (run bs) m) in
     choose (Holds (b ∷ bs)) (nat_lt longest_word n) front.Wrong _ (λ h. tt)
-      (λ h. elim (reserved (take n (b ∷ bs))) as (λ o. reserved (take n (b ∷ bs)) ≡ o → Holds (b ∷ bs) (front.Lexeme (word_or_name o) n)) [
-        None ↦ λ r. ((name_of b bs e (not_less longest_word n h), unmarked, r), some, prefix_len-le-length is_word (b ∷ bs))
-        | Some w ↦ λ r. ((name_of b bs e (not_less longest_word n h), unmarked, r), some, prefix_len-le-length is_word (b ∷ bs))
-      ] refl)
+    (λ h. elim (reserved (take n (b ∷ bs))) as (λ o. reserved (take n (b ∷ bs)) ≡ o → Holds (b ∷ bs) (front.Lexeme (word_or_name o) n)) [
+      | None ↦ λ r. ((name_of b bs e (not_less longest_word n h), unmarked, r), some, prefix_len-le-length is_word (b ∷ bs))
+      | Some w ↦ λ r. ((name_of b bs e (not_less longest_word n h), unmarked, r), some, prefix_len-le-length is_word (b ∷ bs))
+    ] refl)
 
 -- ---- numbers
 
@@ -136,7 +133,7 @@ integer_holds b bs d =
     let within = prefix_len-le-length is_word (b ∷ bs) in
     let long : 0 < length (take n (b ∷ bs)) = grind (arith, common_steps, some, within) in
     elim (integer 0 (take n (b ∷ bs))) as (λ o. Counts 0 (take n (b ∷ bs)) o → Holds (b ∷ bs) (int_or_wrong n o)) [
-      None ↦ λ h. tt
+      | None ↦ λ h. tt
       | Some v ↦ λ h. (record { some = long; only = h.0; says = h.1; small = h.2; whole = stops_run is_word (b ∷ bs) }, some, within)
     ] (counts 0 (take n (b ∷ bs)) (lit≤ tt))
 
@@ -158,14 +155,14 @@ unfolding parameter_front
 parameter_holds bs =
     let n = run bs in
     choose (Holds (64 ∷ bs)) (not (begins is_letter bs) || nat_lt longest_word n) front.Wrong _ (λ h. tt)
-      (λ h. let two = not_or (begins is_letter bs) (nat_lt longest_word n) h in
-        elim (reserved (take n bs)) as (λ o. reserved (take n bs) ≡ o → Holds (64 ∷ bs) (name_or_wrong n o)) [
-          None ↦ λ r.
-            let P : ℕ → Type 0 = λ k. IsToken kind.Parameter (take k (64 ∷ bs)) (drop k (64 ∷ bs)) in
-            let within = prefix_len-le-length is_word bs in
-            (subst P (sym (plus_one n)) (take n bs, refl, first_of_word bs two.0 (not_less longest_word n two.1), r), omega arith, omega (arith, within))
-          | Some w ↦ λ r. tt
-        ] refl)
+    (λ h. let two = not_or (begins is_letter bs) (nat_lt longest_word n) h in
+    elim (reserved (take n bs)) as (λ o. reserved (take n bs) ≡ o → Holds (64 ∷ bs) (name_or_wrong n o)) [
+      | None ↦ λ r.
+          let P : ℕ → Type 0 = λ k. IsToken kind.Parameter (take k (64 ∷ bs)) (drop k (64 ∷ bs)) in
+          let within = prefix_len-le-length is_word bs in
+          (subst P (sym (plus_one n)) (take n bs, refl, first_of_word bs two.0 (not_less longest_word n two.1), r), omega arith, omega (arith, within))
+      | Some w ↦ λ r. tt
+    ] refl)
 
 -- ---- literals
 
@@ -198,9 +195,14 @@ one_byte b k s bs e spelled alone =
 
 two_bytes : (b k c : ℕ) (s : Sign) (bs : List ℕ) → (b == k) ≡ true → begins (λ x. x == c) bs ≡ true → k ∷ c ∷ [] ≡ sign s → Holds (b ∷ bs) (front.Lexeme (kind.Sign s) 2)
 two_bytes b k c s [] e f spelled = absurd (let t : false ≡ true = f in cc)
-two_bytes b k c s (d ∷ bs) e f spelled =
-    ((ap (λ (w : ℕ). w ∷ d ∷ []) (eqb-true b k e) ∙ ap (λ (w : ℕ). k ∷ w ∷ []) (eqb-true d c f) ∙ spelled,
-      λ x y more same after. absurd (let l : 2 ≡ 1 = ap length same in omega (arith, l))), omega arith, omega arith)
+two_bytes b k c s (d ∷ bs) e f spelled = (
+  (
+    ap (λ (w : ℕ). w ∷ d ∷ []) (eqb-true b k e) ∙ ap (λ (w : ℕ). k ∷ w ∷ []) (eqb-true d c f) ∙ spelled,
+    λ x y more same after. absurd (let l : 2 ≡ 1 = ap length same in omega (arith, l)),
+  ),
+  omega arith,
+  omega arith,
+)
 
 other_next : (p : ℕ → Bool) (bs : List ℕ) (c : ℕ) (more : List ℕ) → begins p bs ≡ false → bs ≡ c ∷ more → p c ≡ false
 other_next p bs c more e same = sym (ap (begins p) same) ∙ e
@@ -233,17 +235,17 @@ sign_holds b bs m =
     (λ e7. choose (Holds (b ∷ bs)) (b == 45) _ _ (λ e. one_byte b 45 sgn.Minus bs e refl (λ c more h. minus_alone c (other_next (λ x. x == 45) bs c more (no_comment b bs e m) h)))
     (λ e8. choose (Holds (b ∷ bs)) (b == 61) _ _ (λ e. one_byte b 61 sgn.Equal bs e refl (λ c more h. refl))
     (λ e9. choose (Holds (b ∷ bs)) (b == 60) _ _
-      (λ e. choose (Holds (b ∷ bs)) (begins (λ c. c == 61) bs) _ _ (λ f. two_bytes b 60 61 sgn.LessEqual bs e f refl)
-        (λ f. choose (Holds (b ∷ bs)) (begins (λ c. c == 62) bs) _ _ (λ g. two_bytes b 60 62 sgn.LessGreater bs e g refl)
-          (λ g. one_byte b 60 sgn.Less bs e refl (λ c more h. less_alone c (other_next (λ x. x == 61) bs c more f h) (other_next (λ x. x == 62) bs c more g h)))))
+    (λ e. choose (Holds (b ∷ bs)) (begins (λ c. c == 61) bs) _ _ (λ f. two_bytes b 60 61 sgn.LessEqual bs e f refl)
+    (λ f. choose (Holds (b ∷ bs)) (begins (λ c. c == 62) bs) _ _ (λ g. two_bytes b 60 62 sgn.LessGreater bs e g refl)
+    (λ g. one_byte b 60 sgn.Less bs e refl (λ c more h. less_alone c (other_next (λ x. x == 61) bs c more f h) (other_next (λ x. x == 62) bs c more g h)))))
     (λ e10. choose (Holds (b ∷ bs)) (b == 62) _ _
-      (λ e. choose (Holds (b ∷ bs)) (begins (λ c. c == 61) bs) _ _ (λ f. two_bytes b 62 61 sgn.GreaterEqual bs e f refl)
-        (λ f. one_byte b 62 sgn.Greater bs e refl (λ c more h. greater_alone c (other_next (λ x. x == 61) bs c more f h))))
+    (λ e. choose (Holds (b ∷ bs)) (begins (λ c. c == 61) bs) _ _ (λ f. two_bytes b 62 61 sgn.GreaterEqual bs e f refl)
+    (λ f. one_byte b 62 sgn.Greater bs e refl (λ c more h. greater_alone c (other_next (λ x. x == 61) bs c more f h))))
     (λ e11. choose (Holds (b ∷ bs)) (b == 33) _ _
-      (λ e. choose (Holds (b ∷ bs)) (begins (λ c. c == 61) bs) _ front.Wrong (λ f. two_bytes b 33 61 sgn.BangEqual bs e f refl) (λ f. tt))
+    (λ e. choose (Holds (b ∷ bs)) (begins (λ c. c == 61) bs) _ front.Wrong (λ f. two_bytes b 33 61 sgn.BangEqual bs e f refl) (λ f. tt))
     (λ e12. choose (Holds (b ∷ bs)) (b == 124) _ front.Wrong
-      (λ e. choose (Holds (b ∷ bs)) (begins (λ c. c == 124) bs) _ front.Wrong (λ f. two_bytes b 124 124 sgn.Concat bs e f refl) (λ f. tt))
-      (λ e13. tt)))))))))))))
+    (λ e. choose (Holds (b ∷ bs)) (begins (λ c. c == 124) bs) _ front.Wrong (λ f. two_bytes b 124 124 sgn.Concat bs e f refl) (λ f. tt))
+    (λ e13. tt)))))))))))))
 
 -- ---- the whole front
 

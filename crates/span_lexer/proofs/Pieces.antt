@@ -1,11 +1,9 @@
 -- A literal reaches up to a quote exactly where there is one.
-use Rattle.std.proofs.Common.{◌≡◌, ◌≢◌, ℕ, zero, suc, ◌+◌, ◌-◌, ◌<◌, ◌≤◌, ◌==◌, nat_lt, Bool, true, false, not, ◌&&◌, ◌||◌, List, [], ◌∷◌, ◌++◌, length, drop, take, Option, Some, None, if◌then◌else◌, refl, sym, ap, subst, ◌∙◌, append_assoc, arith, eqb-true, eq-eqb}
-use Rattle.std.specs.Option.{option_map}
+use Rattle.std.proofs.Common.{◌≡◌, ◌≢◌, ℕ, zero, suc, ◌+◌, ◌<◌, ◌≤◌, ◌==◌, nat_lt, Bool, true, false, not, ◌&&◌, ◌||◌, List, [], ◌∷◌, ◌++◌, length, drop, take, Option, Some, None, if◌then◌else◌, refl, sym, ap, subst, ◌∙◌, append_assoc, arith, eqb-true, eq-eqb}
 use Rattle.std.proofs.lemmas.Grind.{common_steps}
 use Rattle.span_lexer.specs.declared.literal.Literal.{Literal}
-use Rattle.span_lexer.specs.declared.literal.Literal.TheVariants as literal
 use Rattle.span_lexer.specs.Characters.{is_hex, is_quote, is_escape, is_below_8}
-use Rattle.span_lexer.specs.Literals.{is_bytes, is_d, hex_end, unicode_end, escape_end, piece_end, closed, one_more, with_more}
+use Rattle.span_lexer.specs.Literals.{is_bytes, is_d, hex_end, unicode_end, escape_end, piece_end, closed, with_more}
 use Rattle.span_lexer.specs.Tokens.{Piece, Plain, Escaped, Hex, Unicode, piece_bytes, IsPiece, ArePieces, pieces_bytes, IsBody}
 use Rattle.span_lexer.proofs.Words.{if_true, if_false, choose}
 use Rattle.span_lexer.proofs.Closing.{piece_then, no_piece, closed_here, closed_nil}
@@ -40,16 +38,16 @@ unfolding escape_end
 reads_escape t q [] = tt
 reads_escape t q (e ∷ bs) =
     pick t q (92 ∷ e ∷ bs) (is_escape e) (Some 2) _ (λ i. (Escaped e, i, refl, omega arith, omega arith))
-      (λ i. pick t q (92 ∷ e ∷ bs) (e == 120) (hex_end t bs) _ (λ j. subst (λ (x : ℕ). Reads t q (92 ∷ x ∷ bs) (hex_end t bs)) (sym (eqb-true e 120 j)) (reads_hex t q bs))
-        (λ j. pick t q (92 ∷ e ∷ bs) (e == 117) _ None
-          (λ k. pick t q (92 ∷ e ∷ bs) (is_bytes t) None (unicode_end bs) (λ m. tt) (λ m. subst (λ (x : ℕ). Reads t q (92 ∷ x ∷ bs) (unicode_end bs)) (sym (eqb-true e 117 k)) (reads_unicode t q bs m)))
-          (λ k. tt)))
+    (λ i. pick t q (92 ∷ e ∷ bs) (e == 120) (hex_end t bs) _ (λ j. subst (λ (x : ℕ). Reads t q (92 ∷ x ∷ bs) (hex_end t bs)) (sym (eqb-true e 120 j)) (reads_hex t q bs))
+    (λ j. pick t q (92 ∷ e ∷ bs) (e == 117) _ None
+    (λ k. pick t q (92 ∷ e ∷ bs) (is_bytes t) None (unicode_end bs) (λ m. tt) (λ m. subst (λ (x : ℕ). Reads t q (92 ∷ x ∷ bs) (unicode_end bs)) (sym (eqb-true e 117 k)) (reads_unicode t q bs m)))
+    (λ k. tt)))
 
 pub reads_piece : (t : Literal) (q b : ℕ) (bs : List ℕ) → (b == q) ≡ false → Reads t q (b ∷ bs) (piece_end t (b ∷ bs))
 unfolding piece_end
 reads_piece t q b bs n =
     pick t q (b ∷ bs) (b == 92) (escape_end t bs) _ (λ i. subst (λ (x : ℕ). Reads t q (x ∷ bs) (escape_end t bs)) (sym (eqb-true b 92 i)) (reads_escape t q bs))
-      (λ i. pick t q (b ∷ bs) (b == 10 || (is_bytes t && nat_lt 127 b)) None (Some 1) (λ j. tt) (λ j. (Plain b, (n, i, j), refl, omega arith, omega arith)))
+    (λ i. pick t q (b ∷ bs) (b == 10 || (is_bytes t && nat_lt 127 b)) None (Some 1) (λ j. tt) (λ j. (Plain b, (n, i, j), refl, omega arith, omega arith)))
 
 -- ---- each piece is read
 
@@ -108,13 +106,13 @@ pieces_close : (t : Literal) (q : ℕ) → 92 ≢ q → (ps : List Piece) (rest 
 pieces_close t q n [] rest h = closed_here t q q rest refl ∙ ap Some (omega arith)
 pieces_close t q n (p ∷ ps) rest h =
     ap (closed t q 0) (append_assoc (piece_bytes p) (pieces_bytes ps) (q ∷ rest)) ∙ piece_closes t q n p (pieces_bytes ps ++ (q ∷ rest)) h.0
-      ∙ ap (with_more (length (piece_bytes p))) (pieces_close t q n ps rest h.1) ∙ ap Some (grind (arith, common_steps))
+    ∙ ap (with_more (length (piece_bytes p))) (pieces_close t q n ps rest h.1) ∙ ap Some (grind (arith, common_steps))
 
 -- a body is read, whatever follows it
 pub body_closes : (t : Literal) (q : ℕ) (body rest : List ℕ) → is_quote q ≡ true → IsBody t q body → closed t q 0 (body ++ rest) ≡ Some (length body)
 body_closes t q body rest quote b =
     ap (closed t q 0) (ap (λ (w : List ℕ). w ++ rest) b.spells ∙ append_assoc (pieces_bytes b.pieces) (q ∷ []) rest)
-      ∙ pieces_close t q (back_is_no_quote q quote) b.pieces rest b.fits ∙ ap Some (let e : length body ≡ length (pieces_bytes b.pieces ++ (q ∷ [])) = ap length b.spells in grind (arith, common_steps))
+    ∙ pieces_close t q (back_is_no_quote q quote) b.pieces rest b.fits ∙ ap Some (let e : length body ≡ length (pieces_bytes b.pieces ++ (q ∷ [])) = ap length b.spells in grind (arith, common_steps))
 
 -- ---- what is read is a body
 
@@ -131,21 +129,23 @@ piece_before : (t : Literal) (q n : ℕ) (bs : List ℕ) (p : Piece) → IsPiece
 piece_before t q n bs p h e l None r = tt
 piece_before t q n bs p h e l (Some k) r = (
   record { pieces = p ∷ r.0.pieces; fits = (h, r.0.fits); spells = take_more n k bs ∙ ap (λ (w : List ℕ). w ++ take k (drop n bs)) e ∙ ap (λ (w : List ℕ). piece_bytes p ++ w) r.0.spells ∙ sym (append_assoc (piece_bytes p) (pieces_bytes r.0.pieces) (q ∷ [])) },
-  omega (arith, r.1), grind (arith, common_steps, r.2))
+  omega (arith, r.1),
+  grind (arith, common_steps, r.2),
+)
 
 piece_or_none : (t : Literal) (q m b : ℕ) (bs : List ℕ) → (b == q) ≡ false → length (b ∷ bs) ≤ suc m → (o : Option ℕ) → piece_end t (b ∷ bs) ≡ o → Reads t q (b ∷ bs) o
     → ((ws : List ℕ) → length ws ≤ m → ReadsBody t q ws (closed t q 0 ws)) → ReadsBody t q (b ∷ bs) (closed t q 0 (b ∷ bs))
 piece_or_none t q m b bs n l None e r shorter = subst (ReadsBody t q (b ∷ bs)) (sym (no_piece t q b bs (not_quote q b n) e)) tt
 piece_or_none t q m b bs n l (Some k) e r shorter =
     subst (ReadsBody t q (b ∷ bs)) (sym (piece_then t q b k bs (not_quote q b n) e r.3))
-      (piece_before t q k (b ∷ bs) r.0 r.1 r.2 r.4 (closed t q 0 (drop k (b ∷ bs))) (shorter (drop k (b ∷ bs)) (grind (arith, common_steps, r.3, r.4))))
+    (piece_before t q k (b ∷ bs) r.0 r.1 r.2 r.4 (closed t q 0 (drop k (b ∷ bs))) (shorter (drop k (b ∷ bs)) (grind (arith, common_steps, r.3, r.4))))
 
 reads_body : (t : Literal) (q m : ℕ) (bs : List ℕ) → length bs ≤ m → ReadsBody t q bs (closed t q 0 bs)
 reads_body t q m [] l = subst (ReadsBody t q []) (sym (closed_nil t q 0)) tt
 reads_body t q zero (b ∷ bs) l = absurd (omega arith)
 reads_body t q (suc m) (b ∷ bs) l =
     elim (b == q) as (λ v. (b == q) ≡ v → ReadsBody t q (b ∷ bs) (closed t q 0 (b ∷ bs))) [
-      true ↦ λ e. subst (ReadsBody t q (b ∷ bs)) (sym (closed_here t q b bs (eqb-true b q e))) (record { pieces = []; fits = tt; spells = ap (λ (w : ℕ). w ∷ []) (eqb-true b q e) }, omega arith, omega arith)
+      | true ↦ λ e. subst (ReadsBody t q (b ∷ bs)) (sym (closed_here t q b bs (eqb-true b q e))) (record { pieces = []; fits = tt; spells = ap (λ (w : ℕ). w ∷ []) (eqb-true b q e) }, omega arith, omega arith)
       | false ↦ λ e. piece_or_none t q m b bs e l (piece_end t (b ∷ bs)) refl (reads_piece t q b bs e) (λ ws h. reads_body t q m ws h)
     ] refl
 

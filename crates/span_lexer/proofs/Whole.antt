@@ -1,9 +1,7 @@
 -- The tokens of a whole text, front by front.
-use Rattle.std.proofs.Common.{◌≡◌, ◌≢◌, ℕ, zero, suc, ◌+◌, ◌-◌, ◌<◌, ◌≤◌, ◌==◌, nat_lt, Bool, true, false, not, ◌&&◌, ◌||◌, List, [], ◌∷◌, ◌++◌, length, drop, take, get_or, Option, Some, None, if◌then◌else◌, refl, sym, ap, subst, ◌∙◌, append_assoc, arith}
+use Rattle.std.proofs.Common.{◌≡◌, ℕ, zero, suc, ◌+◌, ◌-◌, ◌<◌, ◌≤◌, List, [], ◌∷◌, ◌++◌, length, drop, get_or, Option, Some, None, refl, sym, ap, ◌∙◌, append_assoc, arith}
 use Rattle.std.specs.Option.{option_map}
-use Rattle.std.specs.List.{prefix_len}
 use Rattle.std.proofs.lemmas.Grind.{common_steps}
-use Rattle.std.proofs.lemmas.List.Sums.{prefix_len-le-length}
 use Rattle.span_lexer.specs.declared.token.TokenKind.{TokenKind}
 use Rattle.span_lexer.specs.declared.token.Token.{Token}
 use Rattle.span_lexer.specs.declared.lexer.Front.{Front}
@@ -12,12 +10,12 @@ use Rattle.span_lexer.specs.Lexing.{front_of, lexed, with_token}
 
 abbrev going : ℕ → List ℕ → Front → Option (List Token)
 going at bs f = elim f [
-    front.Gap n ↦ lexed (n - 1) (at + 1) bs
-    | front.Lexeme k n ↦ with_token (record { kind = k; start = at; end = at + n }) (lexed (n - 1) (at + 1) bs)
-    | front.Wrong ↦ None
-  ]
+  | front.Gap n ↦ lexed (n - 1) (at + 1) bs
+  | front.Lexeme k n ↦ with_token (record { kind = k; start = at; end = at + n }) (lexed (n - 1) (at + 1) bs)
+  | front.Wrong ↦ None
+]
 
-lexed_nil : (skip at : ℕ) → lexed skip at [] ≡ Some []
+pub lexed_nil : (skip at : ℕ) → lexed skip at [] ≡ Some []
 unfolding lexed
 lexed_nil skip at = refl
 
@@ -48,7 +46,7 @@ pub lexeme_then : (at b n : ℕ) (k : TokenKind) (bs : List ℕ) → front_of (b
 lexeme_then at b zero k bs e pos = absurd (omega arith)
 lexeme_then at b (suc n) k bs e pos =
     lexed_at at b bs ∙ ap (going at bs) e
-      ∙ ap (with_token (record { kind = k; start = at; end = at + suc n })) (ap (λ (j : ℕ). lexed j (at + 1) bs) (less_one n) ∙ skipped n (at + 1) bs ∙ ap (λ (j : ℕ). lexed 0 j (drop n bs)) (omega arith))
+    ∙ ap (with_token (record { kind = k; start = at; end = at + suc n })) (ap (λ (j : ℕ). lexed j (at + 1) bs) (less_one n) ∙ skipped n (at + 1) bs ∙ ap (λ (j : ℕ). lexed 0 j (drop n bs)) (omega arith))
 
 pub wrong_then : (at b : ℕ) (bs : List ℕ) → front_of (b ∷ bs) ≡ front.Wrong → lexed 0 at (b ∷ bs) ≡ None
 wrong_then at b bs e = lexed_at at b bs ∙ ap (going at bs) e
@@ -92,8 +90,8 @@ pub lexeme_steps : (bytes : List ℕ) (out : List Token) (at n : ℕ) (k : Token
 lexeme_steps bytes out at n k h l e pos =
     let f = at_front bytes at l in
     sym (put_token out (record { kind = k; start = at; end = at + n }) (lexed 0 (at + n) (drop (at + n) bytes)))
-      ∙ sym (ap (put out) (ap (lexed 0 at) f ∙ lexeme_then at (get_or bytes at 0) n k (drop (at + 1) bytes) (ap front_of (sym f) ∙ e) pos
-        ∙ ap (with_token (record { kind = k; start = at; end = at + n })) (ap (λ (w : List ℕ). lexed 0 (at + n) (drop n w)) (sym f) ∙ ap (lexed 0 (at + n)) (drop_drop n at bytes)))) ∙ h
+    ∙ sym (ap (put out) (ap (lexed 0 at) f ∙ lexeme_then at (get_or bytes at 0) n k (drop (at + 1) bytes) (ap front_of (sym f) ∙ e) pos
+    ∙ ap (with_token (record { kind = k; start = at; end = at + n })) (ap (λ (w : List ℕ). lexed 0 (at + n) (drop n w)) (sym f) ∙ ap (lexed 0 (at + n)) (drop_drop n at bytes)))) ∙ h
 
 pub lexing_fails : (bytes : List ℕ) (out : List Token) (at : ℕ) → IsLexedFrom bytes out at → at < length bytes → front_of (drop at bytes) ≡ front.Wrong → lexed 0 0 bytes ≡ None
 lexing_fails bytes out at h l e =

@@ -1,5 +1,5 @@
 -- The bytes that tokens are made of.
-use Rattle.std.specs.Prelude.{ℕ, ◌==◌, Bool, false, true, ◌||◌, ◌&&◌, List, [], ◌∷◌}
+use Rattle.std.specs.Prelude.{ℕ, ◌==◌, Bool, false, ◌||◌, List, [], ◌∷◌}
 use Rattle.std.specs.Int.{is_in_range}
 
 unfoldable pub is_blank : ℕ → Bool

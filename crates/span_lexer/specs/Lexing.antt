@@ -1,12 +1,11 @@
 -- What stands at the front of a text, and the tokens of a whole text.
-use Rattle.std.specs.Prelude.{ℕ, zero, suc, ◌+◌, ◌-◌, ◌*◌, ◌<◌, ◌≤◌, ◌==◌, nat_lt, Bool, true, false, not, ◌&&◌, ◌||◌, List, [], ◌∷◌, length, take, Option, Some, None, if◌then◌else◌}
+use Rattle.std.specs.Prelude.{ℕ, zero, suc, ◌+◌, ◌-◌, ◌*◌, ◌<◌, ◌≤◌, ◌==◌, nat_lt, Bool, not, ◌&&◌, ◌||◌, List, [], ◌∷◌, take, Option, Some, None, if◌then◌else◌}
 use Rattle.std.specs.Option.{option_map}
 use Rattle.std.specs.List.{prefix_len}
 use Rattle.span_lexer.specs.declared.token.TokenKind.{TokenKind}
 use Rattle.span_lexer.specs.declared.token.TokenKind.TheVariants as kind
 use Rattle.span_lexer.specs.declared.token.Token.{Token}
 use Rattle.span_lexer.specs.declared.token.Word.{Word}
-use Rattle.span_lexer.specs.declared.token.Sign.{Sign}
 use Rattle.span_lexer.specs.declared.token.Sign.TheVariants as sign
 use Rattle.span_lexer.specs.declared.literal.Literal.TheVariants as literal
 use Rattle.span_lexer.specs.declared.lexer.Front.{Front}
@@ -116,7 +115,7 @@ unfoldable pub lexed : ℕ → ℕ → List ℕ → Option (List Token)
 lexed skip at [] = Some []
 lexed (suc skip) at (b ∷ bs) = lexed skip (at + 1) bs
 lexed zero at (b ∷ bs) = elim (front_of (b ∷ bs)) [
-    front.Gap n ↦ lexed (n - 1) (at + 1) bs
-    | front.Lexeme k n ↦ with_token (record { kind = k; start = at; end = at + n }) (lexed (n - 1) (at + 1) bs)
-    | front.Wrong ↦ None
-  ]
+  | front.Gap n ↦ lexed (n - 1) (at + 1) bs
+  | front.Lexeme k n ↦ with_token (record { kind = k; start = at; end = at + n }) (lexed (n - 1) (at + 1) bs)
+  | front.Wrong ↦ None
+]

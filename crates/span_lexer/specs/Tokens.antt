@@ -1,5 +1,5 @@
 -- What a text is made of, apart from how it is read: items, one behind the other, and the tokens among them.
-use Rattle.std.specs.Prelude.{◌≡◌, ◌≢◌, ℕ, ◌+◌, ◌*◌, ◌-◌, ◌<◌, ◌≤◌, ◌==◌, nat_lt, Bool, true, false, not, ◌||◌, ◌&&◌, List, [], ◌∷◌, ◌++◌, length, Option, Some, None}
+use Rattle.std.specs.Prelude.{◌≡◌, ℕ, ◌+◌, ◌*◌, ◌-◌, ◌<◌, ◌≤◌, ◌==◌, nat_lt, Bool, true, false, not, ◌||◌, ◌&&◌, List, [], ◌∷◌, ◌++◌, length, Some, None}
 use Rattle.span_lexer.specs.declared.token.TokenKind.{TokenKind}
 use Rattle.span_lexer.specs.declared.token.TokenKind.TheVariants as kind
 use Rattle.span_lexer.specs.declared.token.Token.{Token}

@@ -1,10 +1,12 @@
 //! The tokens of a text.
 //!
 //! A text is read front by front: a blank or a comment, or the one token that stands there.
-ghost use Rattle.std.specs.Prelude.{◌≡◌, ◌==◌, ◌⊎◌, ◌+◌, ◌<◌, ◌≤◌, ◌-◌, length, drop, IfSome, IfOk, IfErr};
+ghost use Rattle.std.specs.Prelude.{◌≡◌, ◌==◌, ◌⊎◌, ◌+◌, ◌<◌, ◌≤◌, ◌-◌, length, drop, List, IfSome, IfOk, IfErr};
 ghost use Rattle.std.specs.List.{prefix_len};
 ghost use Rattle.span_lexer.specs.Characters as character;
 ghost use Rattle.span_lexer.specs.Lexing as spec;
+ghost use Rattle.span_lexer.specs.Readings.{ReadsOrNoMemory, IsMisread};
+ghost use Rattle.span_lexer.specs.Tokens.{Item, AreItems, text_of, tokens_of};
 ghost use Rattle.span_lexer.specs.Literals as literal;
 
 use super::character::{from_place, is_blank, is_digit, is_letter, is_mark, is_quote, is_word};
@@ -321,3 +323,32 @@ fn lexemes(alloc: Global, bytes: &[u8]) -> Result<Vec<Token>, Misread>
     }
     Ok(found)
 }
+
+/// The tokens of a text, in order, with the bytes at which they begin and end.
+///
+/// The error is `TextTooLong` for a text of more than `LONGEST_TEXT` bytes; else `BadToken` where no token stands, at the
+/// first such byte; or want of memory.
+pub fn tokens(alloc: Global, text: &str) -> Result<Seq<Token>, Misread>
+    // What is read is the tokens of the items that the text is made of.
+    ensures read { IfOk result (λ found. (is : List Item) × AreItems is × (text.now ≡ text_of is) × (found ≡ tokens_of 0 is)) }
+    // A text of items, if it is not too long, is read.
+    ensures read_all { (is : List Item) → AreItems is → text.now ≡ text_of is → length text.now ≤ LONGEST_TEXT → ReadsOrNoMemory (tokens_of 0 is) result }
+    // A text that is too long is told from one that is made of no items.
+    ensures refused { IfErr result (λ e. IsMisread text.now e.refusal) }
+{
+    if text.len() > LONGEST_TEXT {
+        return Err(Misread {
+            refusal: Refusal::TextTooLong,
+            place: LONGEST_TEXT,
+        });
+    }
+    match lexemes(alloc, text.as_bytes()) {
+        Ok(found) => Ok(Seq::from_vec(found)),
+        Err(why) => Err(why),
+    }
+}
+
+/// A law, which takes no time: a text has one list of tokens.
+pub fn texts_have_one_reading()
+    ensures { (is js : List Item) → AreItems is → AreItems js → text_of is ≡ text_of js → tokens_of 0 is ≡ tokens_of 0 js }
+{}

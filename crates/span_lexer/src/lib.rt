@@ -4,5 +4,7 @@
 mod character;
 pub mod lexer;
 pub mod literal;
+#[cfg(test)]
+mod tests;
 pub mod token;
 pub mod word;

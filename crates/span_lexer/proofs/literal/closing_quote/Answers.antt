@@ -1,6 +1,5 @@
-use Rattle.std.proofs.Common.{◌≡◌, ◌≢◌, ◌+◌, ◌∙◌, sym, ap, ℕ, List, drop, get_or, Some, None, arith}
-use Rattle.std.proofs.lemmas.Grind.{common_steps}
-use Rattle.span_lexer.specs.Literals.{closed, piece_end}
+use Rattle.std.proofs.Common.{◌≡◌, ◌∙◌, sym, ap, drop, Some, None}
+use Rattle.span_lexer.specs.Literals.{piece_end}
 use Rattle.span_lexer.proofs.Closing.{closing_here, closing_fails, closing_steps}
 use Rattle.span_lexer.proofs.literal.closing_quote.Goals as goal
 
