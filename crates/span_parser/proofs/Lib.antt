@@ -1,0 +1,4 @@
+pub mod Follow
+pub mod Shaped
+pub mod Sound
+pub mod Whole

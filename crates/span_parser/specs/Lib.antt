@@ -1,0 +1,4 @@
+pub mod Grammar
+pub mod Rules
+pub mod Shapes
+pub mod Texts

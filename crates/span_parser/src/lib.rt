@@ -1,0 +1,5 @@
+//! The grammar of queries and of schema texts, and whether a text is in it.
+#![tactic(auto)]
+
+pub mod class;
+pub mod grammar;
