@@ -1,4 +1,14 @@
+pub mod Apart
+pub mod Ending
+pub mod Facts
 pub mod Follow
+pub mod Having
+pub mod Nothings
+pub mod Ranks
+pub mod Repeated
 pub mod Shaped
 pub mod Sound
+pub mod Steps
+pub mod Tables
+pub mod Verdicts
 pub mod Whole

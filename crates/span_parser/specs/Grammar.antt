@@ -612,8 +612,11 @@ table_more_rule = Then (One sort.Separator) table_rule
 unfoldable pub table_rest_rule : Rule
 table_rest_rule = Many table_more_rule
 
+unfoldable pub maybe_last_semicolon_rule : Rule
+maybe_last_semicolon_rule = Or (One sort.LastSemicolon) nothing_rule
+
 unfoldable pub schema_from_table_rest_rule : Rule
-schema_from_table_rest_rule = Then table_rest_rule maybe_semicolon_rule
+schema_from_table_rest_rule = Then table_rest_rule maybe_last_semicolon_rule
 
 -- schema
 unfoldable pub schema_rule : Rule
@@ -634,7 +637,7 @@ in_key_columns_from_key_column_rest_rule = Then key_column_rest_rule (One (sort.
 unfoldable pub in_key_columns_rule : Rule
 in_key_columns_rule = Then key_column_rule in_key_columns_from_key_column_rest_rule
 
-abbrev pub rule_of : Part → Rule
+unfoldable pub rule_of : Part → Rule
 rule_of (part.Token s) = One s
 rule_of part.Nothing = nothing_rule
 rule_of part.Parenthesis = parenthesis_rule
@@ -822,6 +825,7 @@ rule_of part.TableFromWordTable = table_from_word_table_rule
 rule_of part.Table = table_rule
 rule_of part.TableMore = table_more_rule
 rule_of part.TableRest = table_rest_rule
+rule_of part.MaybeLastSemicolon = maybe_last_semicolon_rule
 rule_of part.SchemaFromTableRest = schema_from_table_rest_rule
 rule_of part.Schema = schema_rule
 rule_of part.InLength = in_length_rule

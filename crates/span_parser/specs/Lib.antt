@@ -1,4 +1,6 @@
+pub mod Goals
 pub mod Grammar
+pub mod Reading
 pub mod Rules
 pub mod Shapes
 pub mod Texts

@@ -24,6 +24,7 @@ is_of sort.Str class.Str = true
 is_of sort.Bytes class.Bytes = true
 is_of (sort.Sign s) (class.Sign v) = sameb sign_type s v
 is_of sort.Separator (class.Sign v) = sameb sign_type sign.Semicolon v
+is_of sort.LastSemicolon class.LastSemicolon = true
 is_of sort.AnySemicolon (class.Sign v) = sameb sign_type sign.Semicolon v
 is_of sort.AnySemicolon class.LastSemicolon = true
 is_of _ _ = false

@@ -10,7 +10,7 @@ use Rattle.span_parser.specs.declared.grammar.Place.TheVariants as place
 use Rattle.span_parser.specs.declared.grammar.Shape.{Shape}
 use Rattle.span_parser.specs.declared.grammar.Shape.TheVariants as shape
 
-abbrev pub shape_of : Part → Shape
+unfoldable pub shape_of : Part → Shape
 shape_of (part.Token s) = shape.One s
 shape_of part.Nothing = shape.Empty
 shape_of part.Parenthesis = shape.Open (sort.Sign sign.Open) place.InParenthesis
@@ -198,7 +198,8 @@ shape_of part.TableFromWordTable = shape.Then (part.Token (sort.Context context.
 shape_of part.Table = shape.Then (part.Token (sort.Word word.Create)) part.TableFromWordTable
 shape_of part.TableMore = shape.Then (part.Token sort.Separator) part.Table
 shape_of part.TableRest = shape.Many part.TableMore
-shape_of part.SchemaFromTableRest = shape.Then part.TableRest part.MaybeSemicolon
+shape_of part.MaybeLastSemicolon = shape.Or (part.Token sort.LastSemicolon) part.Nothing
+shape_of part.SchemaFromTableRest = shape.Then part.TableRest part.MaybeLastSemicolon
 shape_of part.Schema = shape.Then part.Table part.SchemaFromTableRest
 shape_of part.InLength = shape.Then part.LengthBound (part.Token (sort.Sign sign.Close))
 shape_of part.InTableColumnsFromTableColumnRest = shape.Then part.TableColumnRest (part.Token (sort.Sign sign.Close))
@@ -207,7 +208,7 @@ shape_of part.InKeyColumnsFromKeyColumnRest = shape.Then part.KeyColumnRest (par
 shape_of part.InKeyColumns = shape.Then part.KeyColumn part.InKeyColumnsFromKeyColumnRest
 
 -- what stands behind an opening
-abbrev pub part_inside : Place → Part
+unfoldable pub part_inside : Place → Part
 part_inside place.InParenthesis = part.InParenthesis
 part_inside place.InArguments = part.InArguments
 part_inside place.InMembers = part.InMembers

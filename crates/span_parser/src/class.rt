@@ -56,5 +56,6 @@ pub enum Sort {
     Sign(Sign),
     /// A semicolon behind which the text goes on.
     Separator,
+    LastSemicolon,
     AnySemicolon,
 }

@@ -241,6 +241,7 @@ pub enum Part {
     Table,
     TableMore,
     TableRest,
+    MaybeLastSemicolon,
     SchemaFromTableRest,
     /// `schema`
     Schema,
@@ -284,6 +285,7 @@ pub enum Shape {
 }
 
 /// What stands at a place.
+#[tactic(auto, unfolding(crate::specs::Shapes::part_inside))]
 pub(crate) fn inside(place: Place) -> Part
     ensures { result ≡ part_inside place }
 {
@@ -302,6 +304,7 @@ pub(crate) fn inside(place: Place) -> Part
 }
 
 /// How a part is made of others.
+#[tactic(auto, unfolding(crate::specs::Shapes::shape_of))]
 pub(crate) fn made_of(part: Part) -> Shape
     ensures { result ≡ shape_of part }
 {
@@ -493,7 +496,8 @@ pub(crate) fn made_of(part: Part) -> Shape
         Part::Table => Shape::Then(Part::Token(Sort::Word(Word::Create)), Part::TableFromWordTable),
         Part::TableMore => Shape::Then(Part::Token(Sort::Separator), Part::Table),
         Part::TableRest => Shape::Many(Part::TableMore),
-        Part::SchemaFromTableRest => Shape::Then(Part::TableRest, Part::MaybeSemicolon),
+        Part::MaybeLastSemicolon => Shape::Or(Part::Token(Sort::LastSemicolon), Part::Nothing),
+        Part::SchemaFromTableRest => Shape::Then(Part::TableRest, Part::MaybeLastSemicolon),
         Part::Schema => Shape::Then(Part::Table, Part::SchemaFromTableRest),
         Part::InLength => Shape::Then(Part::LengthBound, Part::Token(Sort::Sign(Sign::Close))),
         Part::InTableColumnsFromTableColumnRest => Shape::Then(Part::TableColumnRest, Part::Token(Sort::Sign(Sign::Close))),

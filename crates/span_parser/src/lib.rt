@@ -3,3 +3,5 @@
 
 pub mod class;
 pub mod grammar;
+pub mod judge;
+pub mod reader;
