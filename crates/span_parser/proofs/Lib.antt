@@ -1,4 +1,5 @@
 pub mod Apart
+pub mod Classing
 pub mod Ending
 pub mod Facts
 pub mod Follow
@@ -8,6 +9,7 @@ pub mod Ranks
 pub mod Repeated
 pub mod Shaped
 pub mod Sound
+pub mod Spelled
 pub mod Steps
 pub mod Tables
 pub mod Verdicts

@@ -1,3 +1,5 @@
+pub mod Classes
+pub mod Contexts
 pub mod Goals
 pub mod Grammar
 pub mod Reading

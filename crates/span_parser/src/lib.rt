@@ -2,6 +2,7 @@
 #![tactic(auto)]
 
 pub mod class;
+pub mod classify;
 pub mod grammar;
 pub mod judge;
 pub mod reader;
