@@ -1,7 +1,7 @@
 //! The tokens of a text.
 //!
 //! A text is read front by front: a blank or a comment, or the one token that stands there.
-ghost use Rattle.std.specs.Prelude.{◌≡◌, ◌==◌, ◌⊎◌, ◌+◌, ◌<◌, ◌≤◌, ◌-◌, length, drop, List, IfSome, IfOk, IfErr};
+ghost use Rattle.std.specs.Prelude.{◌≡◌, ◌==◌, ◌⊎◌, ◌+◌, ◌<◌, ◌≤◌, ◌-◌, length, drop, List, IfSome, IfOk, OnOk, IfErr};
 ghost use Rattle.std.specs.List.{prefix_len};
 ghost use Rattle.span_lexer.specs.Characters as character;
 ghost use Rattle.span_lexer.specs.Lexing as spec;
@@ -331,6 +331,7 @@ fn lexemes(alloc: Global, bytes: &[u8]) -> Result<Vec<Token>, Misread>
 pub fn tokens(alloc: Global, text: &str) -> Result<Seq<Token>, Misread>
     // What is read is the tokens of the items that the text is made of.
     ensures read { IfOk result (λ found. (is : List Item) × AreItems is × (text.now ≡ text_of is) × (found ≡ tokens_of 0 is)) }
+    ensures short { OnOk result (length text.now ≤ LONGEST_TEXT) }
     // A text of items, if it is not too long, is read.
     ensures read_all { (is : List Item) → AreItems is → text.now ≡ text_of is → length text.now ≤ LONGEST_TEXT → ReadsOrNoMemory (tokens_of 0 is) result }
     // A text that is too long is told from one that is made of no items.

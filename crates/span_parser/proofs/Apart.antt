@@ -1,5 +1,5 @@
 -- Sets of tokens, by number, and what they say of a rule.
-use Rattle.std.proofs.Common.{◌≡◌, ◌⊎◌, inl, inr, ℕ, ◌==◌, Bool, true, false, List, [], ◌∷◌, ◌++◌, refl, sym, ap, subst, ◌∙◌, eqb-true, eq-eqb, rules}
+use Rattle.std.proofs.Common.{◌≡◌, ◌⊎◌, inl, inr, ℕ, ◌==◌, Bool, true, false, List, [], ◌∷◌, ◌++◌, refl, sym, ap, ◌∙◌, eqb-true, eq-eqb, rules}
 use Rattle.std.specs.Prelude.{if◌then◌else◌, ◌||◌, ◌&&◌, not}
 use denote.Enum.Bare.{same_true}
 use Rattle.span_parser.specs.declared.class.Class.{Class}
@@ -12,7 +12,7 @@ use Rattle.span_lexer.specs.contracts.token.Sign.{the_type as sign_type}
 use Rattle.span_parser.specs.contracts.class.Context.{the_type as context_type}
 use Rattle.span_parser.specs.declared.grammar.Place.{Place}
 use Rattle.span_parser.specs.Rules.{is_of, Rule, Empty, One, Then, Or, Many, Open, nullable, first}
-use Rattle.span_parser.proofs.Follow.{goes_on, Good, Apart}
+use Rattle.span_parser.proofs.Follow.{goes_on, Good}
 use Rattle.span_parser.proofs.Tables.{code, word_code, context_code, sign_code, sort_codes, place_codes}
 use Rattle.span_lexer.specs.declared.token.Word.{Word}
 use Rattle.span_lexer.specs.declared.token.Sign.{Sign}

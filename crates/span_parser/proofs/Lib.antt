@@ -4,6 +4,7 @@ pub mod Ending
 pub mod Facts
 pub mod Follow
 pub mod Having
+pub mod Judging
 pub mod Nothings
 pub mod Ranks
 pub mod Repeated

@@ -1,5 +1,5 @@
 -- How each shape of part is read, step by step.
-use Rattle.std.proofs.Common.{◌≡◌, ℕ, zero, suc, ◌+◌, ◌-◌, ◌*◌, ◌<◌, ◌≤◌, Bool, true, false, List, [], ◌∷◌, ◌++◌, length, refl, sym, ap, subst, ◌∙◌, arith, Result, Ok, Err}
+use Rattle.std.proofs.Common.{◌≡◌, ℕ, zero, suc, ◌-◌, ◌<◌, ◌≤◌, Bool, true, false, List, [], ◌∷◌, length, refl, sym, ap, subst, ◌∙◌, arith, Ok, Err}
 use Rattle.std.specs.Prelude.{if◌then◌else◌, ◌||◌, ◌&&◌}
 use Rattle.span_parser.specs.declared.class.Class.{Class}
 use Rattle.span_parser.specs.declared.class.Sort.{Sort}
@@ -9,7 +9,7 @@ use Rattle.span_parser.specs.declared.grammar.Shape.{Shape}
 use Rattle.span_parser.specs.declared.grammar.Shape.TheVariants as shape
 use Rattle.span_parser.specs.declared.reader.Stop.{Stop}
 use Rattle.span_parser.specs.declared.reader.Stop.TheVariants as stop
-use Rattle.span_parser.specs.Rules.{is_of, Rule, Empty, One, Then, Or, Many, Open, Tree, Nothing, Leaf, Pair, Left, Right, End, More, Nest, marks, limit, Answer, Read, Wrong, Deep, bind, nullable, first, starts, many, one, Deeper, No, go_in, opening, parse_with, deeper, parse}
+use Rattle.span_parser.specs.Rules.{is_of, Rule, Empty, One, Then, Or, Many, Open, Tree, Leaf, Pair, Left, Right, End, More, Nest, marks, limit, Answer, Read, Wrong, Deep, bind, nullable, first, starts, many, one, Deeper, No, go_in, opening, deeper, parse}
 use Rattle.span_parser.specs.Shapes.{shape_of, part_inside}
 use Rattle.span_parser.specs.Grammar.{inside, rule_of}
 use Rattle.span_parser.specs.Reading.{Outcome, outcome, part_read, sort_read}

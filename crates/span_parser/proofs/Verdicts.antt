@@ -1,5 +1,5 @@
 -- All the tokens are answered as the grammar says, both ways.
-use Rattle.std.proofs.Common.{◌≡◌, ◌≢◌, ℕ, List, [], ◌∷◌, length, Result, Ok, Err, refl, sym, ap, subst, ◌∙◌, arith}
+use Rattle.std.proofs.Common.{◌≡◌, ◌≢◌, List, [], ◌∷◌, length, Result, Ok, Err, refl, sym, ap, ◌∙◌, arith}
 use Rattle.span_parser.specs.declared.class.Class.{Class}
 use Rattle.span_parser.specs.declared.grammar.Part.{Part}
 use Rattle.span_parser.specs.declared.grammar.Place.{Place}
@@ -7,12 +7,11 @@ use Rattle.span_parser.specs.declared.judge.Goal.{Goal}
 use Rattle.span_parser.specs.declared.judge.Goal.TheVariants as goal
 use Rattle.span_parser.specs.declared.reader.Stop.{Stop}
 use Rattle.span_parser.specs.declared.reader.Stop.TheVariants as stop
-use Rattle.span_parser.specs.Rules.{Rule, Tree, Answer, Read, Wrong, Deep, limit, parse}
+use Rattle.span_parser.specs.Rules.{Tree, Answer, Read, Wrong, Deep, limit, parse}
 use Rattle.span_parser.specs.Grammar.{inside, rule_of}
 use Rattle.span_parser.specs.Goals.{goal_part, goal_rule}
 use Rattle.span_parser.specs.Texts.{HasTree, IsWrong, IsTooDeep}
-use Rattle.span_parser.specs.Reading.{Outcome, outcome, part_read, text_read, ended}
-use Rattle.span_parser.proofs.Sound.{Ends}
+use Rattle.span_parser.specs.Reading.{outcome, part_read, text_read, ended}
 use Rattle.span_parser.proofs.Follow.{Good, Stretches}
 use Rattle.span_parser.proofs.Whole.{whole, Right, answered, tree_answered, deep_answered, wrong_answered, one_tree}
 use Rattle.span_parser.proofs.Ending.{ends, inside_ends}

@@ -2,7 +2,6 @@
 use Rattle.std.proofs.Common.{◌≡◌, ℕ, zero, suc, ◌<◌, ◌≤◌, ◌⊎◌, inl, inr, Bool, List, [], ◌∷◌, ◌++◌, length, refl, sym, ap, subst, ◌∙◌, append_assoc, arith, length-append}
 use Rattle.std.proofs.lemmas.Bool.{cases_lt}
 use Rattle.span_parser.specs.declared.class.Class.{Class}
-use Rattle.span_parser.specs.declared.class.Sort.{Sort}
 use Rattle.span_parser.specs.declared.grammar.Place.{Place}
 use Rattle.span_parser.specs.Rules.{Rule, Tree, Marks, marks, words, limit, Shallow, Fits, Answer, Read, Wrong, Deep, parse, deeper}
 use Rattle.span_parser.specs.Texts.{HasTree, NoneGoesOn, IsWrong, IsTooDeep}

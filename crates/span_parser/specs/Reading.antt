@@ -6,7 +6,7 @@ use Rattle.span_parser.specs.declared.class.Sort.{Sort}
 use Rattle.span_parser.specs.declared.grammar.Part.{Part}
 use Rattle.span_parser.specs.declared.reader.Stop.{Stop}
 use Rattle.span_parser.specs.declared.reader.Stop.TheVariants as stop
-use Rattle.span_parser.specs.Rules.{Rule, is_of, Answer, Read, Wrong, Deep, limit, parse}
+use Rattle.span_parser.specs.Rules.{is_of, Answer, Read, Wrong, Deep, limit, parse}
 use Rattle.span_parser.specs.Grammar.{inside, rule_of}
 
 abbrev pub Outcome : Type 0

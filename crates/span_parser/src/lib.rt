@@ -6,3 +6,7 @@ pub mod classify;
 pub mod grammar;
 pub mod judge;
 pub mod reader;
+pub mod text;
+
+#[cfg(test)]
+mod tests;

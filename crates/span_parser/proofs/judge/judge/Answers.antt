@@ -1,5 +1,4 @@
-use Rattle.std.proofs.Common.{◌≡◌, ◌∙◌, sym, ap}
-use Rattle.span_parser.specs.Goals.{goal_part}
+use Rattle.std.proofs.Common.{◌∙◌, sym, ap}
 use Rattle.span_parser.specs.Reading.{text_read}
 use Rattle.span_parser.proofs.Verdicts.{reads, reads_all, wrongs, wrongs_all, deeps, deeps_all}
 use Rattle.span_parser.proofs.judge.judge.Goals as goal
