@@ -159,7 +159,7 @@ or_facts a b fa ga fb gb f g nb ea eb x y h =
     record {
       begins = λ t e. both_sets true fa fb f (code t) (first a t) (first b t) p.0 (x.begins t) (y.begins t) e;
       goes = λ t e. both_sets true ga (if nb then gb ++ fa else gb) g (code t) (goes_on st a t) (goes_on st b t || (nullable b && first a t)) q.0 (x.goes t)
-        (λ i. some_more nb gb fa (code t) (goes_on st b t) (first a t) (y.goes t) (x.begins t) (ap (λ (v : Bool). goes_on st b t || (v && first a t)) (sym eb) ∙ i)) e;
+          (λ i. some_more nb gb fa (code t) (goes_on st b t) (first a t) (y.goes t) (x.begins t) (ap (λ (v : Bool). goes_on st b t || (v && first a t)) (sym eb) ∙ i)) e;
       good = (x.good, y.good, ea, λ t e i. never fa fb (code t) q.1 (x.begins t e) (y.begins t i));
     }
   where

@@ -20,7 +20,7 @@ pub class_added : (text : List ℕ) (out new : List Class) (t : Token) (rest beh
     → new ++ classes_of text behind ≡ classes_of text tokens
 class_added text out new t rest behind tokens h e n =
     ap (λ (w : List Class). w ++ classes_of text behind) n ∙ append_assoc out (class_at text t behind ∷ []) (classes_of text behind)
-      ∙ ap (λ (w : List Class). out ++ w) (sym (cons_is text t behind) ∙ ap (classes_of text) (sym e)) ∙ h
+    ∙ ap (λ (w : List Class). out ++ w) (sym (cons_is text t behind) ∙ ap (classes_of text) (sym e)) ∙ h
 
 pub classes_over : (text : List ℕ) (out : List Class) (rest tokens : List Token) → out ++ classes_of text rest ≡ classes_of text tokens → rest ≡ [] → out ≡ classes_of text tokens
 classes_over text out rest tokens h e = sym (append_nil out) ∙ ap (λ (w : List Class). out ++ w) (sym (nil_is text) ∙ ap (classes_of text) (sym e)) ∙ h

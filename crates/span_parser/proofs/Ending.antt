@@ -9,9 +9,9 @@ use Rattle.span_parser.specs.declared.grammar.Place.{Place}
 use Rattle.span_parser.specs.declared.grammar.Place.TheVariants as place
 use Rattle.span_parser.specs.declared.class.Sort.{Sort}
 use Rattle.span_parser.specs.Rules.{One}
-use Rattle.span_parser.specs.Grammar.{rule_of, inside, nothing_rule, parenthesis_rule, arguments_rule, members_rule, subquery_rule, case_rule, negation_rule, opposite_rule, qualifier_rule, after_name_from_qualifier_rule, after_name_rule, named_rule, if_call_rule, primary_from_case_rule, primary_from_if_call_rule, primary_from_named_rule, primary_from_a_parameter_rule, primary_from_word_null_rule, primary_from_word_false_rule, primary_from_word_true_rule, primary_from_a_bytes_rule, primary_from_a_string_rule, primary_rule, unary_rule, term_sign_rule, term_more_rule, term_rest_rule, term_rule, sum_sign_rule, sum_more_rule, sum_rest_rule, sum_rule, comparison_from_sign_greater_rule, comparison_from_sign_less_equal_rule, comparison_from_sign_less_rule, comparison_from_sign_bang_equal_rule, comparison_from_sign_less_greater_rule, comparison_rule, compared_rule, maybe_not_rule, is_null_from_maybe_not_rule, is_null_rule, like_rule, between_from_word_and_rule, between_from_sum_rule, between_rule, within_rule, test_from_between_rule, test_rule, maybe_not_test_rule, predicate_rest_from_maybe_not_test_rule, predicate_rest_from_is_null_rule, predicate_rest_rule, predicate_rule, negated_rule, conjunction_more_rule, conjunction_rest_rule, conjunction_rule, expression_more_rule, expression_rest_rule, expression_rule, list_more_rule, list_rest_rule, list_rule, in_parenthesis_rule, argument_list_from_list_rule, argument_list_rule, in_arguments_rule, in_members_rule, when_from_word_then_rule, when_from_expression_rule, when_rule, when_rest_rule, case_operand_rule, else_rule, case_else_rule, in_case_from_case_else_rule, in_case_from_when_rest_rule, in_case_from_when_rule, in_case_rule, as_name_rule, alias_from_a_name_rule, alias_rule, all_of_table_from_sign_dot_rule, all_of_table_rule, output_expression_rule, output_from_all_of_table_rule, output_rule, output_more_rule, output_rest_rule, outputs_rule, source_rule, item_rule, inner_join_rule, maybe_outer_rule, left_join_from_maybe_outer_rule, left_join_rule, join_kind_from_word_join_rule, join_kind_rule, join_from_word_on_rule, join_from_item_rule, join_rule, joins_rule, maybe_quantifier_from_word_distinct_rule, maybe_quantifier_rule, where_rule, maybe_where_rule, maybe_qualifier_rule, column_rule, column_more_rule, column_rest_rule, group_by_from_column_rule, group_by_from_word_by_rule, group_by_rule, maybe_group_by_rule, having_rule, maybe_having_rule, block_from_maybe_group_by_rule, block_from_maybe_where_rule, block_from_joins_rule, block_from_item_rule, block_from_word_from_rule, block_from_outputs_rule, block_from_maybe_quantifier_rule, block_rule, union_more_from_word_all_rule, union_more_rule, union_rest_rule, direction_from_word_desc_rule, direction_rule, sort_column_rule, sort_key_rule, sort_key_more_rule, sort_key_rest_rule, order_by_from_sort_key_rule, order_by_from_word_by_rule, order_by_rule, maybe_order_by_rule, skip_rule, maybe_skip_rule, limit_from_an_integer_rule, limit_rule, maybe_limit_rule, query_from_maybe_order_by_rule, query_from_union_rest_rule, query_rule, in_subquery_rule, maybe_semicolon_rule, statement_rule, length_bound_rule, long_kind_rule, length_parenthesis_rule, long_type_rule, type_from_word_bool_rule, type_rule, not_null_rule, maybe_not_null_rule, table_column_from_type_rule, table_column_rule, table_column_more_rule, table_column_rest_rule, table_columns_rule, key_column_rule, key_column_more_rule, key_column_rest_rule, key_columns_rule, no_action_rule, action_rule, on_delete_from_word_delete_rule, on_delete_rule, maybe_on_delete_rule, interleave_from_a_name_rule, interleave_from_word_parent_rule, interleave_from_word_in_rule, interleave_from_word_interleave_rule, interleave_rule, maybe_interleave_rule, table_from_key_columns_rule, table_from_word_key_rule, table_from_word_primary_rule, table_from_table_columns_rule, table_from_a_name_rule, table_from_word_table_rule, table_rule, table_more_rule, table_rest_rule, maybe_last_semicolon_rule, schema_from_table_rest_rule, schema_rule, in_length_rule, in_table_columns_from_table_column_rest_rule, in_table_columns_rule, in_key_columns_from_key_column_rest_rule, in_key_columns_rule}
+use Rattle.span_parser.specs.Grammar.{rule_of, inside, nothing_rule, parenthesis_rule, arguments_rule, members_rule, subquery_rule, case_rule, negation_rule, opposite_rule, qualifier_rule, after_name_from_qualifier_rule, after_name_rule, named_rule, if_call_rule, primary_from_case_rule, primary_from_if_call_rule, primary_from_named_rule, primary_from_a_parameter_rule, primary_from_word_null_rule, primary_from_word_false_rule, primary_from_word_true_rule, primary_from_a_bytes_rule, primary_from_a_string_rule, primary_rule, unary_rule, term_sign_rule, term_more_rule, term_rest_rule, term_rule, sum_sign_rule, sum_more_rule, sum_rest_rule, sum_rule, comparison_from_sign_greater_rule, comparison_from_sign_less_equal_rule, comparison_from_sign_less_rule, comparison_from_sign_bang_equal_rule, comparison_from_sign_less_greater_rule, comparison_rule, compared_rule, maybe_not_rule, is_null_from_maybe_not_rule, is_null_rule, like_rule, between_from_word_and_rule, between_from_sum_rule, between_rule, within_rule, test_from_between_rule, test_rule, maybe_not_test_rule, predicate_rest_from_maybe_not_test_rule, predicate_rest_from_is_null_rule, predicate_rest_rule, predicate_rule, negated_rule, conjunction_more_rule, conjunction_rest_rule, conjunction_rule, expression_more_rule, expression_rest_rule, expression_rule, list_more_rule, list_rest_rule, list_rule, in_parenthesis_rule, argument_list_from_list_rule, argument_list_rule, in_arguments_rule, in_members_rule, when_from_word_then_rule, when_from_expression_rule, when_rule, when_rest_rule, case_operand_rule, else_rule, case_else_rule, in_case_from_case_else_rule, in_case_from_when_rest_rule, in_case_from_when_rule, in_case_rule, as_name_rule, alias_from_a_name_rule, alias_rule, all_of_table_from_sign_dot_rule, all_of_table_rule, output_expression_rule, output_from_all_of_table_rule, output_rule, output_more_rule, output_rest_rule, outputs_rule, required_alias_rule, named_item_rule, derived_item_rule, item_rule, inner_join_rule, maybe_outer_rule, left_join_from_maybe_outer_rule, left_join_rule, join_kind_from_word_join_rule, join_kind_rule, join_from_word_on_rule, join_from_item_rule, join_rule, joins_rule, maybe_quantifier_from_word_distinct_rule, maybe_quantifier_rule, where_rule, maybe_where_rule, maybe_qualifier_rule, column_rule, column_more_rule, column_rest_rule, group_by_from_column_rule, group_by_from_word_by_rule, group_by_rule, maybe_group_by_rule, having_rule, maybe_having_rule, block_from_maybe_group_by_rule, block_from_maybe_where_rule, block_from_joins_rule, block_from_item_rule, block_from_word_from_rule, block_from_outputs_rule, block_from_maybe_quantifier_rule, block_rule, union_more_from_word_all_rule, union_more_rule, union_rest_rule, direction_from_word_desc_rule, direction_rule, sort_column_rule, sort_key_rule, sort_key_more_rule, sort_key_rest_rule, order_by_from_sort_key_rule, order_by_from_word_by_rule, order_by_rule, maybe_order_by_rule, skip_rule, maybe_skip_rule, limit_from_an_integer_rule, limit_rule, maybe_limit_rule, query_from_maybe_order_by_rule, query_from_union_rest_rule, query_rule, in_subquery_rule, maybe_semicolon_rule, statement_rule, length_bound_rule, long_kind_rule, length_parenthesis_rule, long_type_rule, type_from_word_bool_rule, type_rule, not_null_rule, maybe_not_null_rule, table_column_from_type_rule, table_column_rule, table_column_more_rule, table_column_rest_rule, table_columns_rule, key_column_rule, key_column_more_rule, key_column_rest_rule, key_columns_rule, no_action_rule, action_rule, on_delete_from_word_delete_rule, on_delete_rule, maybe_on_delete_rule, interleave_from_a_name_rule, interleave_from_word_parent_rule, interleave_from_word_in_rule, interleave_from_word_interleave_rule, interleave_rule, maybe_interleave_rule, table_from_key_columns_rule, table_from_word_key_rule, table_from_word_primary_rule, table_from_table_columns_rule, table_from_a_name_rule, table_from_word_table_rule, table_rule, table_more_rule, table_rest_rule, maybe_last_semicolon_rule, schema_from_table_rest_rule, schema_rule, in_length_rule, in_table_columns_from_table_column_rest_rule, in_table_columns_rule, in_key_columns_from_key_column_rest_rule, in_key_columns_rule}
 use Rattle.span_parser.proofs.Sound.{Ends}
-use Rattle.span_parser.proofs.Having.{one_of, one_has, inside_has, arguments_has, members_has, after_name_has, unary_has, term_rest_has, term_has, sum_rest_has, sum_has, is_null_from_maybe_not_has, between_from_word_and_has, between_from_sum_has, test_has, predicate_rest_has, negated_has, conjunction_rest_has, conjunction_has, expression_rest_has, expression_has, list_rest_has, when_from_word_then_has, when_from_expression_has, in_case_from_case_else_has, in_case_from_when_rest_has, in_case_from_when_has, alias_has, all_of_table_from_sign_dot_has, output_has, output_rest_has, left_join_from_maybe_outer_has, join_from_word_on_has, join_from_item_has, maybe_qualifier_has, column_has, column_rest_has, group_by_from_column_has, group_by_from_word_by_has, maybe_having_has, block_from_maybe_group_by_has, block_from_maybe_where_has, block_from_joins_has, block_from_item_has, block_from_word_from_has, block_from_outputs_has, block_from_maybe_quantifier_has, block_has, union_more_from_word_all_has, direction_has, sort_key_has, sort_key_rest_has, order_by_from_sort_key_has, order_by_from_word_by_has, maybe_skip_has, limit_from_an_integer_has, maybe_limit_has, query_from_maybe_order_by_has, query_from_union_rest_has, maybe_semicolon_has, length_parenthesis_has, maybe_not_null_has, table_column_from_type_has, table_column_has, key_column_has, action_has, on_delete_from_word_delete_has, maybe_on_delete_has, interleave_from_a_name_has, interleave_from_word_parent_has, interleave_from_word_in_has, interleave_from_word_interleave_has, maybe_interleave_has, table_from_key_columns_has, table_from_word_key_has, table_from_word_primary_has, table_from_table_columns_has, table_from_a_name_has, table_from_word_table_has, table_has, maybe_last_semicolon_has, schema_from_table_rest_has, in_table_columns_from_table_column_rest_has, in_key_columns_from_key_column_rest_has}
+use Rattle.span_parser.proofs.Having.{one_of, one_has, inside_has, arguments_has, members_has, after_name_has, unary_has, term_rest_has, term_has, sum_rest_has, sum_has, is_null_from_maybe_not_has, between_from_word_and_has, between_from_sum_has, test_has, predicate_rest_has, negated_has, conjunction_rest_has, conjunction_has, expression_rest_has, expression_has, list_rest_has, when_from_word_then_has, when_from_expression_has, in_case_from_case_else_has, in_case_from_when_rest_has, in_case_from_when_has, alias_has, all_of_table_from_sign_dot_has, output_has, output_rest_has, required_alias_has, left_join_from_maybe_outer_has, join_from_word_on_has, join_from_item_has, maybe_qualifier_has, column_has, column_rest_has, group_by_from_column_has, group_by_from_word_by_has, maybe_having_has, block_from_maybe_group_by_has, block_from_maybe_where_has, block_from_joins_has, block_from_item_has, block_from_word_from_has, block_from_outputs_has, block_from_maybe_quantifier_has, block_has, union_more_from_word_all_has, direction_has, sort_key_has, sort_key_rest_has, order_by_from_sort_key_has, order_by_from_word_by_has, maybe_skip_has, limit_from_an_integer_has, maybe_limit_has, query_from_maybe_order_by_has, query_from_union_rest_has, maybe_semicolon_has, length_parenthesis_has, maybe_not_null_has, table_column_from_type_has, table_column_has, key_column_has, action_has, on_delete_from_word_delete_has, maybe_on_delete_has, interleave_from_a_name_has, interleave_from_word_parent_has, interleave_from_word_in_has, interleave_from_word_interleave_has, maybe_interleave_has, table_from_key_columns_has, table_from_word_key_has, table_from_word_primary_has, table_from_table_columns_has, table_from_a_name_has, table_from_word_table_has, table_has, maybe_last_semicolon_has, schema_from_table_rest_has, in_table_columns_from_table_column_rest_has, in_key_columns_from_key_column_rest_has}
 
 one_ends : (s : Sort) → Ends inside (One s)
 one_ends s = one_of s
@@ -380,13 +380,21 @@ pub outputs_ends : Ends inside outputs_rule
 unfolding outputs_rule
 outputs_ends = (output_ends, output_rest_ends, output_rest_has)
 
-pub source_ends : Ends inside source_rule
-unfolding source_rule
-source_ends = (one_ends sort.Name, subquery_ends)
+pub required_alias_ends : Ends inside required_alias_rule
+unfolding required_alias_rule
+required_alias_ends = (as_name_ends, one_ends sort.Name)
+
+pub named_item_ends : Ends inside named_item_rule
+unfolding named_item_rule
+named_item_ends = (one_ends sort.Name, alias_ends, alias_has)
+
+pub derived_item_ends : Ends inside derived_item_rule
+unfolding derived_item_rule
+derived_item_ends = (subquery_ends, required_alias_ends, required_alias_has)
 
 pub item_ends : Ends inside item_rule
 unfolding item_rule
-item_ends = (source_ends, alias_ends, alias_has)
+item_ends = (named_item_ends, derived_item_ends)
 
 pub inner_join_ends : Ends inside inner_join_rule
 unfolding inner_join_rule
@@ -886,7 +894,9 @@ ends part.Output = output_ends
 ends part.OutputMore = output_more_ends
 ends part.OutputRest = output_rest_ends
 ends part.Outputs = outputs_ends
-ends part.Source = source_ends
+ends part.RequiredAlias = required_alias_ends
+ends part.NamedItem = named_item_ends
+ends part.DerivedItem = derived_item_ends
 ends part.Item = item_ends
 ends part.InnerJoin = inner_join_ends
 ends part.MaybeOuter = maybe_outer_ends

@@ -124,7 +124,6 @@ meets_is : (e : ℕ) (h : Class) (r : List Class) (s s2 : Answer) → s ≡ s2 �
 meets_is e h r s s2 i m = subst (λ (x : Answer). Meets e h r x) (sym i) m
 
 module _ (inside : Place → Rule) (st : Place → Class → Bool) where
-
   pub none_of : (x : Tree) (a : Rule) (d : ℕ) → Fits inside x a → marks d x ≡ [] → nullable a ≡ true
   none_of Nothing Empty d h e = refl
   none_of (Leaf t) (One s) d h e = absurd cc
@@ -233,8 +232,8 @@ module _ (inside : Place → Rule) (st : Place → Class → Bool) where
       let e1 : f ts ≡ Read x rest = ap f i ∙ all x h.0 (shallow_left (marks d x) (marks d more) s) rest stop1 in
       let e2 : many f a n rest ≡ Read more k = many_reads d a f all nn apart n more h.1 (shallow_right (marks d x) (marks d more) s) k stop (omega (arith, ap length i)) in
       if_true (starts a ts) (bind (f ts) (λ x2 k3. bind (many f a n k3) (λ more2 k2. Read (More x2 more2) k2))) (Read End ts) st1
-        ∙ ap (λ (w : Answer). bind w (λ x2 k3. bind (many f a n k3) (λ more2 k2. Read (More x2 more2) k2))) e1
-        ∙ ap (λ (w : Answer). bind w (λ more2 k2. Read (More x more2) k2)) e2
+      ∙ ap (λ (w : Answer). bind w (λ x2 k3. bind (many f a n k3) (λ more2 k2. Read (More x2 more2) k2))) e1
+      ∙ ap (λ (w : Answer). bind w (λ more2 k2. Read (More x more2) k2)) e2
   many_reads d a f all nn apart _ _ h s k stop le = absurd h
 
   abbrev pub ReadsIn : ℕ → Deeper → Type 0
@@ -264,19 +263,19 @@ module _ (inside : Place → Rule) (st : Place → Class → Bool) where
       let e1 : parse_with g a ts ≡ Read x rest = ap (λ (w : List Class). parse_with g a w) i ∙ reads_with wide d g r a good.0 x h.0 (shallow_left (marks d x) (marks d y) s) rest stop1 in
       let e2 : parse_with g b rest ≡ Read y k = reads_with wide d g r b good.1 y h.1 (shallow_right (marks d x) (marks d y) s) k (stops_then a b k stop) in
       ap (λ (w : Answer). bind w (λ x2 k3. bind (parse_with g b k3) (λ y2 k2. Read (Pair x2 y2) k2))) e1
-        ∙ ap (λ (w : Answer). bind w (λ y2 k2. Read (Pair x y2) k2)) e2
+      ∙ ap (λ (w : Answer). bind w (λ y2 k2. Read (Pair x y2) k2)) e2
   reads_with wide d g r (Or a b) good (Left x) h s k stop =
       let ts : List Class = words (marks d x) ++ k in
       if_true (starts a ts) (bind (parse_with g a ts) (λ x2 k2. Read (Left x2) k2)) (bind (parse_with g b ts) (λ y2 k2. Read (Right y2) k2)) (starts_with a k (marks d x) (never_none x a d h good.2) (first_of x a d h))
-        ∙ ap (λ (w : Answer). bind w (λ x2 k2. Read (Left x2) k2)) (reads_with wide d g r a good.0 x h s k (stops_left a b k stop))
+      ∙ ap (λ (w : Answer). bind w (λ x2 k2. Read (Left x2) k2)) (reads_with wide d g r a good.0 x h s k (stops_left a b k stop))
   reads_with wide d g r (Or a b) good (Right y) h s k stop =
       let ts : List Class = words (marks d y) ++ k in
       if_false (starts a ts) (bind (parse_with g a ts) (λ x2 k2. Read (Left x2) k2)) (bind (parse_with g b ts) (λ y2 k2. Read (Right y2) k2)) (starts_not a k (marks d y) (λ e. starts_right a b k stop (none_of y b d h e)) (λ m q e. apart_at (first a m.0) (λ f. good.3 m.0 f (first_of y b d h m q e))))
-        ∙ ap (λ (w : Answer). bind w (λ x2 k2. Read (Right x2) k2)) (reads_with wide d g r b good.1 y h s k (stops_right a b k stop))
+      ∙ ap (λ (w : Answer). bind w (λ x2 k2. Read (Right x2) k2)) (reads_with wide d g r b good.1 y h s k (stops_right a b k stop))
   reads_with wide d g r (Many a) good x h s k stop = many_reads d a (λ ts. parse_with g a ts) (reads_with wide d g r a good.0) good.1 good.2 (length (words (marks d x) ++ k)) x h s k stop (omega arith)
   reads_with wide d g r (Open o p) good (Nest t x) h s k stop =
       if_true (is_of o t) (go_in g p t (words (marks (suc d) x) ++ k)) (Wrong (t ∷ (words (marks (suc d) x) ++ k))) h.0
-        ∙ go_in_reads d g r p t x h.1 s k (stops_in wide o p k stop)
+      ∙ go_in_reads d g r p t x h.1 s k (stops_in wide o p k stop)
   reads_with wide d g r _ good _ h s k stop = absurd h
 
   pub deeper_reads : Stretches → ((p : Place) → Good st (inside p)) → (n d : ℕ) → n + d ≡ limit → ReadsIn d (deeper inside n)
@@ -301,11 +300,11 @@ module _ (inside : Place → Rule) (st : Place → Class → Bool) where
 
   -- one part after another: the token is in the first or in the second
   pair_meets : (d : ℕ) (a b : Rule) (mk : Tree → Tree → Tree) (f f2 : List Class → Answer)
-    → Reads d a f → Meeting d a f → ((ts : List Class) → Sound d (Is inside b) ts (f2 ts)) → Apart (goes_on st a) (first b)
-    → (x y : Tree) → Fits inside x a → Fits inside y b
-    → (p : Marks) (m : Class × ℕ) (q : Marks) → marks d x ++ marks d y ≡ p ++ (m ∷ q) → Shallow p → (r : List Class)
-    → ((i : Marks) → p ≡ marks d x ++ i → marks d y ≡ i ++ (m ∷ q) → Shallow i → Meets m.1 m.0 r (f2 (words i ++ (m.0 ∷ r))))
-    → Meets m.1 m.0 r (bind (f (words p ++ (m.0 ∷ r))) (λ x2 k3. bind (f2 k3) (λ y2 k2. Read (mk x2 y2) k2)))
+      → Reads d a f → Meeting d a f → ((ts : List Class) → Sound d (Is inside b) ts (f2 ts)) → Apart (goes_on st a) (first b)
+      → (x y : Tree) → Fits inside x a → Fits inside y b
+      → (p : Marks) (m : Class × ℕ) (q : Marks) → marks d x ++ marks d y ≡ p ++ (m ∷ q) → Shallow p → (r : List Class)
+      → ((i : Marks) → p ≡ marks d x ++ i → marks d y ≡ i ++ (m ∷ q) → Shallow i → Meets m.1 m.0 r (f2 (words i ++ (m.0 ∷ r))))
+      → Meets m.1 m.0 r (bind (f (words p ++ (m.0 ∷ r))) (λ x2 k3. bind (f2 k3) (λ y2 k2. Read (mk x2 y2) k2)))
   pair_meets d a b mk f f2 rd mt snd apart x y hx hy p m q e s r ih =
       elim (split (marks d x) (marks d y) p q m e) [
         | inl i ↦ meets_bind m.1 m.0 r (f (words p ++ (m.0 ∷ r))) (λ x2 k3. bind (f2 k3) (λ y2 k2. Read (mk x2 y2) k2)) (λ x2 k. past_mk d b f2 (mk x2) snd k) (mt x hx p m i.0 i.1 s r)
@@ -317,8 +316,8 @@ module _ (inside : Place → Rule) (st : Place → Class → Bool) where
             let stop : Stops st a rest = stops_begun a i.0 [] r (marks d y) m q i.2 (λ n t g. apart_at (goes_on st a n.0) (λ go. apart n.0 go (first_of y b d hy n t g))) in
             let e1 : f ts ≡ Read x rest = ap f j ∙ rd x hx (shallow_left (marks d x) i.0 s2) rest stop in
             meets_is m.1 m.0 r (bind (f ts) (λ x2 k3. bind (f2 k3) (λ y2 k2. Read (mk x2 y2) k2))) (bind (f2 rest) (λ y2 k2. Read (mk x y2) k2))
-              (ap (λ (w : Answer). bind w (λ x2 k3. bind (f2 k3) (λ y2 k2. Read (mk x2 y2) k2))) e1)
-              (meets_bind m.1 m.0 r (f2 rest) (λ y2 k2. Read (mk x y2) k2) (λ y2 k2. omega arith) (ih i.0 i.1 i.2 (shallow_right (marks d x) i.0 s2)))
+            (ap (λ (w : Answer). bind w (λ x2 k3. bind (f2 k3) (λ y2 k2. Read (mk x2 y2) k2))) e1)
+            (meets_bind m.1 m.0 r (f2 rest) (λ y2 k2. Read (mk x y2) k2) (λ y2 k2. omega arith) (ih i.0 i.1 i.2 (shallow_right (marks d x) i.0 s2)))
       ]
 
   shorter : (mx p i : Marks) (t : List Class) (n : ℕ) → p ≡ mx ++ i → (mx ≡ [] → ⊥) → length (words p ++ t) ≤ suc n → length (words i ++ t) ≤ n
@@ -327,7 +326,7 @@ module _ (inside : Place → Rule) (st : Place → Class → Bool) where
       omega (arith, g, ap (λ (w : Marks). length (words w ++ t)) j, ap length (regroup mx i t))
 
   many_meets : (d : ℕ) (a : Rule) (f : List Class → Answer) → Reads d a f → Meeting d a f → ((ts : List Class) → Sound d (Is inside a) ts (f ts)) → nullable a ≡ false → Apart (goes_on st a) (first a)
-    → (n : ℕ) (x : Tree) → Fits inside x (Many a) → (p : Marks) (m : Class × ℕ) (q : Marks) → marks d x ≡ p ++ (m ∷ q) → Shallow p → (r : List Class) → length (words p ++ (m.0 ∷ r)) ≤ n → Meets m.1 m.0 r (many f a n (words p ++ (m.0 ∷ r)))
+      → (n : ℕ) (x : Tree) → Fits inside x (Many a) → (p : Marks) (m : Class × ℕ) (q : Marks) → marks d x ≡ p ++ (m ∷ q) → Shallow p → (r : List Class) → length (words p ++ (m.0 ∷ r)) ≤ n → Meets m.1 m.0 r (many f a n (words p ++ (m.0 ∷ r)))
   many_meets d a f rd mt snd nn apart n End h [] m q e s r le = absurd cc
   many_meets d a f rd mt snd nn apart n End h (l ∷ p) m q e s r le = absurd cc
   many_meets d a f rd mt snd nn apart zero (More x more) h p m q e s r le = absurd (omega (arith, length-append (words p) (m.0 ∷ r)))
@@ -335,9 +334,9 @@ module _ (inside : Place → Rule) (st : Place → Class → Bool) where
       let ts : List Class = words p ++ (m.0 ∷ r) in
       let st1 : starts a ts ≡ true = starts_begun a true p r (marks d (More x more)) m q e (λ l t g. first_of (More x more) (Many a) d h l t g) in
       meets_is m.1 m.0 r (many f a (suc n) ts) (bind (f ts) (λ x2 k3. bind (many f a n k3) (λ more2 k2. Read (More x2 more2) k2)))
-        (if_true (starts a ts) (bind (f ts) (λ x2 k3. bind (many f a n k3) (λ more2 k2. Read (More x2 more2) k2))) (Read End ts) st1)
-        (pair_meets d a (Many a) More f (λ k. many f a n k) rd mt (λ k. many_sound inside d a f snd n k) apart x more h.0 h.1 p m q e s r
-          (λ i j g s2. many_meets d a f rd mt snd nn apart n more h.1 i m q g s2 r (shorter (marks d x) p i (m.0 ∷ r) n j (never_none x a d h.0 nn) le)))
+      (if_true (starts a ts) (bind (f ts) (λ x2 k3. bind (many f a n k3) (λ more2 k2. Read (More x2 more2) k2))) (Read End ts) st1)
+      (pair_meets d a (Many a) More f (λ k. many f a n k) rd mt (λ k. many_sound inside d a f snd n k) apart x more h.0 h.1 p m q e s r
+      (λ i j g s2. many_meets d a f rd mt snd nn apart n more h.1 i m q g s2 r (shorter (marks d x) p i (m.0 ∷ r) n j (never_none x a d h.0 nn) le)))
   many_meets d a f rd mt snd nn apart n _ h p m q e s r le = absurd h
 
   abbrev pub MeetsIn : ℕ → Deeper → Type 0
@@ -348,20 +347,20 @@ module _ (inside : Place → Rule) (st : Place → Class → Bool) where
   open_meets d No k o l t x i h [] m q e s r =
       let j : (t, suc d) ≡ m = cc in
       subst (λ (w : Class × ℕ). Meets w.1 w.0 r (opening No o l (w.0 ∷ r))) j
-        (meets_is (suc d) t r (opening No o l (t ∷ r)) (Deep (t ∷ r)) (if_true (is_of o t) (Deep (t ∷ r)) (Wrong (t ∷ r)) i) (record { passes = λ le. absurd (omega arith); stops = λ lt. refl }))
+      (meets_is (suc d) t r (opening No o l (t ∷ r)) (Deep (t ∷ r)) (if_true (is_of o t) (Deep (t ∷ r)) (Wrong (t ∷ r)) i) (record { passes = λ le. absurd (omega arith); stops = λ lt. refl }))
   open_meets d No k o l t x i h (n ∷ p) m q e s r = let j : (t, suc d) ≡ n = cc in absurd (omega (arith, ap (λ (w : Class × ℕ). w.1) j, s.0))
   open_meets d (Yes f) k o l t x i h [] m q e s r =
       let j : (t, suc d) ≡ m = cc in
       subst (λ (w : Class × ℕ). Meets w.1 w.0 r (opening (Yes f) o l (w.0 ∷ r))) j
-        (meets_is (suc d) t r (opening (Yes f) o l (t ∷ r)) (bind (f l r) (λ y k2. Read (Nest t y) k2)) (if_true (is_of o t) (bind (f l r) (λ y k2. Read (Nest t y) k2)) (Wrong (t ∷ r)) i)
-          (record { passes = λ le. past_mk (suc d) (inside l) (f l) (λ y. Nest t y) (k.1 l) r; stops = λ lt. absurd (omega (arith, k.0)) }))
+      (meets_is (suc d) t r (opening (Yes f) o l (t ∷ r)) (bind (f l r) (λ y k2. Read (Nest t y) k2)) (if_true (is_of o t) (bind (f l r) (λ y k2. Read (Nest t y) k2)) (Wrong (t ∷ r)) i)
+      (record { passes = λ le. past_mk (suc d) (inside l) (f l) (λ y. Nest t y) (k.1 l) r; stops = λ lt. absurd (omega (arith, k.0)) }))
   open_meets d (Yes f) k o l t x i h (n ∷ p) m q e s r =
       let j : (t, suc d) ≡ n = cc in
       let j2 : marks (suc d) x ≡ p ++ (m ∷ q) = cc in
       let us : List Class = words p ++ (m.0 ∷ r) in
       subst (λ (w : Class × ℕ). Meets m.1 m.0 r (opening (Yes f) o l (w.0 ∷ us))) j
-        (meets_is m.1 m.0 r (opening (Yes f) o l (t ∷ us)) (bind (f l us) (λ y k2. Read (Nest t y) k2)) (if_true (is_of o t) (bind (f l us) (λ y k2. Read (Nest t y) k2)) (Wrong (t ∷ us)) i)
-          (meets_bind m.1 m.0 r (f l us) (λ y k2. Read (Nest t y) k2) (λ y k2. omega arith) (k.2 l x h p m q j2 s.1 r)))
+      (meets_is m.1 m.0 r (opening (Yes f) o l (t ∷ us)) (bind (f l us) (λ y k2. Read (Nest t y) k2)) (if_true (is_of o t) (bind (f l us) (λ y k2. Read (Nest t y) k2)) (Wrong (t ∷ us)) i)
+      (meets_bind m.1 m.0 r (f l us) (λ y k2. Read (Nest t y) k2) (λ y k2. omega arith) (k.2 l x h p m q j2 s.1 r)))
 
   pub meets_with : Stretches → (d : ℕ) (g : Deeper) → SoundIn inside d g → ReadsIn d g → MeetsIn d g → (a : Rule) → Ends inside a → Good st a → Meeting d a (λ ts. parse_with g a ts)
   meets_with wide d g so rd mt Empty en good Nothing h [] m q e s r = absurd cc
@@ -369,22 +368,22 @@ module _ (inside : Place → Rule) (st : Place → Class → Bool) where
   meets_with wide d g so rd mt (One o) en good (Leaf t) h [] m q e s r =
       let j : (t, d) ≡ m = cc in
       subst (λ (w : Class × ℕ). Meets w.1 w.0 r (one o (w.0 ∷ r))) j
-        (meets_is d t r (one o (t ∷ r)) (Read (Leaf t) r) (if_true (is_of o t) (Read (Leaf t) r) (Wrong (t ∷ r)) h) (record { passes = λ le. omega arith; stops = λ lt. absurd (omega (arith, depth_in inside d g so)) }))
+      (meets_is d t r (one o (t ∷ r)) (Read (Leaf t) r) (if_true (is_of o t) (Read (Leaf t) r) (Wrong (t ∷ r)) h) (record { passes = λ le. omega arith; stops = λ lt. absurd (omega (arith, depth_in inside d g so)) }))
   meets_with wide d g so rd mt (One o) en good (Leaf t) h (n ∷ []) m q e s r = absurd cc
   meets_with wide d g so rd mt (One o) en good (Leaf t) h (n ∷ n2 ∷ p) m q e s r = absurd cc
   meets_with wide d g so rd mt (Then a b) en good (Pair x y) h p m q e s r =
       pair_meets d a b Pair (λ ts. parse_with g a ts) (λ ts. parse_with g b ts) (reads_with wide d g rd a good.0) (meets_with wide d g so rd mt a en.0 good.0) (λ ts. sound_with inside d g so b en.1 ts) good.2 x y h.0 h.1 p m q e s r
-        (λ i j k s2. meets_with wide d g so rd mt b en.1 good.1 y h.1 i m q k s2 r)
+      (λ i j k s2. meets_with wide d g so rd mt b en.1 good.1 y h.1 i m q k s2 r)
   meets_with wide d g so rd mt (Or a b) en good (Left x) h p m q e s r =
       let ts : List Class = words p ++ (m.0 ∷ r) in
       let st1 : starts a ts ≡ true = starts_begun a true p r (marks d x) m q e (λ l t k. first_of x a d h l t k) in
       meets_is m.1 m.0 r (parse_with g (Or a b) ts) (bind (parse_with g a ts) (λ x2 k2. Read (Left x2) k2)) (if_true (starts a ts) (bind (parse_with g a ts) (λ x2 k2. Read (Left x2) k2)) (bind (parse_with g b ts) (λ y2 k2. Read (Right y2) k2)) st1)
-        (meets_bind m.1 m.0 r (parse_with g a ts) (λ x2 k2. Read (Left x2) k2) (λ y k2. omega arith) (meets_with wide d g so rd mt a en.0 good.0 x h p m q e s r))
+      (meets_bind m.1 m.0 r (parse_with g a ts) (λ x2 k2. Read (Left x2) k2) (λ y k2. omega arith) (meets_with wide d g so rd mt a en.0 good.0 x h p m q e s r))
   meets_with wide d g so rd mt (Or a b) en good (Right y) h p m q e s r =
       let ts : List Class = words p ++ (m.0 ∷ r) in
       let st1 : starts a ts ≡ false = starts_begun a false p r (marks d y) m q e (λ l t k. apart_at (first a l.0) (λ f. good.3 l.0 f (first_of y b d h l t k))) in
       meets_is m.1 m.0 r (parse_with g (Or a b) ts) (bind (parse_with g b ts) (λ x2 k2. Read (Right x2) k2)) (if_false (starts a ts) (bind (parse_with g a ts) (λ x2 k2. Read (Left x2) k2)) (bind (parse_with g b ts) (λ y2 k2. Read (Right y2) k2)) st1)
-        (meets_bind m.1 m.0 r (parse_with g b ts) (λ x2 k2. Read (Right x2) k2) (λ y k2. omega arith) (meets_with wide d g so rd mt b en.1 good.1 y h p m q e s r))
+      (meets_bind m.1 m.0 r (parse_with g b ts) (λ x2 k2. Read (Right x2) k2) (λ y k2. omega arith) (meets_with wide d g so rd mt b en.1 good.1 y h p m q e s r))
   meets_with wide d g so rd mt (Many a) en good x h p m q e s r =
       many_meets d a (λ ts. parse_with g a ts) (reads_with wide d g rd a good.0) (meets_with wide d g so rd mt a en good.0) (λ ts. sound_with inside d g so a en ts) good.1 good.2 (length (words p ++ (m.0 ∷ r))) x h p m q e s r (omega arith)
   meets_with wide d g so rd mt (Open o l) en good (Nest t x) h p m q e s r = open_meets d g mt o l t x h.0 h.1 p m q e s r
@@ -393,7 +392,8 @@ module _ (inside : Place → Rule) (st : Place → Class → Bool) where
   pub deeper_meets : Stretches → ((p : Place) → Ends inside (inside p)) → ((p : Place) → Good st (inside p)) → (n d : ℕ) → n + d ≡ limit → MeetsIn d (deeper inside n)
   deeper_meets wide en all zero d e = omega arith
   deeper_meets wide en all (suc n) d e =
-      let so = deeper_sound inside en n (suc d) (omega arith) in
-      (omega arith,
-       λ p ts. sound_with inside (suc d) (deeper inside n) so (inside p) (en p) ts,
-       λ p. meets_with wide (suc d) (deeper inside n) so (deeper_reads wide all n (suc d) (omega arith)) (deeper_meets wide en all n (suc d) (omega arith)) (inside p) (en p) (all p))
+      let so = deeper_sound inside en n (suc d) (omega arith) in (
+        omega arith,
+        λ p ts. sound_with inside (suc d) (deeper inside n) so (inside p) (en p) ts,
+        λ p. meets_with wide (suc d) (deeper inside n) so (deeper_reads wide all n (suc d) (omega arith)) (deeper_meets wide en all n (suc d) (omega arith)) (inside p) (en p) (all p),
+      )

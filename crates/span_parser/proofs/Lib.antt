@@ -2,7 +2,9 @@ pub mod Apart
 pub mod Classing
 pub mod Ending
 pub mod Facts
+pub mod Firsts
 pub mod Follow
+pub mod Goings
 pub mod Having
 pub mod Judging
 pub mod Nothings

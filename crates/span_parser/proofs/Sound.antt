@@ -50,7 +50,6 @@ Sound d P ts (Deep k) = DeepAt d P ts k
 -- ---- a part and a part
 
 module _ (d : ℕ) (P Q R : Tree → Type 0) (mk : Tree → Tree → Tree) (joins : (x y : Tree) → marks d (mk x y) ≡ marks d x ++ marks d y) (fit : (x y : Tree) → P x → Q y → R (mk x y)) where
-
   wrong_first : (ts k : List Class) (y : Tree) → Q y → WrongAt d P ts k → WrongAt d R ts k
   wrong_first ts k y q w = record {
     tree = mk w.tree y;
@@ -128,7 +127,6 @@ module _ (d : ℕ) (P Q R : Tree → Type 0) (mk : Tree → Tree → Tree) (join
 -- ---- one part under another tree of the same marks
 
 module _ (d : ℕ) (P R : Tree → Type 0) (mk : Tree → Tree) (same : (x : Tree) → marks d (mk x) ≡ marks d x) (fit : (x : Tree) → P x → R (mk x)) where
-
   wrapped : (ts : List Class) (s : Answer) → Sound d P ts s → Sound d R ts (bind s (λ x k. Read (mk x) k))
   wrapped ts (Read x k) h = record { fits = fit x h.fits; front = subst (λ (m : Marks). ts ≡ words m ++ k) (sym (same x)) h.front; shallow = subst Shallow (sym (same x)) h.shallow }
   wrapped ts (Wrong k) h = record { tree = mk h.tree; before = h.before; after = h.after; fits = fit h.tree h.fits; parts = same h.tree ∙ h.parts; shallow = h.shallow; front = h.front }
@@ -173,8 +171,8 @@ module _ (inside : Place → Rule) where
   many_sound d a f all zero ts = record { fits = tt; front = refl; shallow = tt }
   many_sound d a f all (suc n) ts =
       choose d (Is (Many a)) ts (starts a ts) (bind (f ts) (λ x k. bind (many f a n k) (λ more k2. Read (More x more) k2))) (Read End ts)
-          (both_sound d (Is a) (Is (Many a)) (Is (Many a)) More (λ x y. refl) (λ x y p q. (p, q)) ts End tt (f ts) (all ts) (λ k. many f a n k) (λ k. many_sound d a f all n k))
-          (record { fits = tt; front = refl; shallow = tt })
+      (both_sound d (Is a) (Is (Many a)) (Is (Many a)) More (λ x y. refl) (λ x y p q. (p, q)) ts End tt (f ts) (all ts) (λ k. many f a n k) (λ k. many_sound d a f all n k))
+      (record { fits = tt; front = refl; shallow = tt })
 
   -- what is known of the way in
   abbrev pub SoundIn : ℕ → Deeper → Type 0
@@ -209,8 +207,8 @@ module _ (inside : Place → Rule) where
       both_sound d (Is a) (Is b) (Is (Then a b)) Pair (λ x y. refl) (λ x y p q. (p, q)) ts e.2.0 e.2.1 (parse_with g a ts) (sound_with d g k a e.0 ts) (λ us. parse_with g b us) (λ us. sound_with d g k b e.1 us)
   sound_with d g k (Or a b) e ts =
       choose d (Is (Or a b)) ts (starts a ts) _ _
-          (wrapped d (Is a) (Is (Or a b)) Left (λ x. refl) (λ x h. h) ts (parse_with g a ts) (sound_with d g k a e.0 ts))
-          (wrapped d (Is b) (Is (Or a b)) Right (λ x. refl) (λ x h. h) ts (parse_with g b ts) (sound_with d g k b e.1 ts))
+      (wrapped d (Is a) (Is (Or a b)) Left (λ x. refl) (λ x h. h) ts (parse_with g a ts) (sound_with d g k a e.0 ts))
+      (wrapped d (Is b) (Is (Or a b)) Right (λ x. refl) (λ x h. h) ts (parse_with g b ts) (sound_with d g k b e.1 ts))
   sound_with d g k (Many a) e ts = many_sound d a (λ us. parse_with g a us) (λ us. sound_with d g k a e us) (length ts) ts
   sound_with d g k (Open s p) e ts = open_sound d g k s p ts e.1 (Nest e.0.0 e.1.0, (e.0.1, e.1.1))
 

@@ -130,7 +130,7 @@ pub read_then_ok : (n : ℕ) (p a b : Part) (ts k : List Class) → shape.Then a
 unfolding part_read
 read_then_ok n p a b ts k h i =
     by_rule n p (Then (rule_of a) (rule_of b)) ts (rule_is p (shape.Then a b) h)
-      ∙ bind_ok (parse inside n (rule_of a) ts) k _ (λ j. outcome (parse inside n (rule_of b) j)) (λ x j. kept (λ y. Pair x y) (parse inside n (rule_of b) j)) i
+    ∙ bind_ok (parse inside n (rule_of a) ts) k _ (λ j. outcome (parse inside n (rule_of b) j)) (λ x j. kept (λ y. Pair x y) (parse inside n (rule_of b) j)) i
 
 pub read_then_err : (n : ℕ) (p a b : Part) (ts : List Class) (e : Stop) → shape.Then a b ≡ shape_of p → part_read n a ts ≡ Err e → part_read n p ts ≡ Err e
 unfolding part_read
@@ -197,7 +197,7 @@ unfolding part_read
 read_many_err n p a [] e h i j = absurd cc
 read_many_err n p a (t ∷ ts) e h i j =
     many_at n p a (t ∷ ts) h ∙ ap outcome (if_true (starts (rule_of a) (t ∷ ts)) (once (λ us. parse inside n (rule_of a) us) (rule_of a) (length ts) (t ∷ ts)) (Read End (t ∷ ts)) i)
-      ∙ bind_err (parse inside n (rule_of a) (t ∷ ts)) e _ j
+    ∙ bind_err (parse inside n (rule_of a) (t ∷ ts)) e _ j
 
 pub read_many_ok : (n : ℕ) (p a : Part) (ts k : List Class) → shape.Many a ≡ shape_of p → starts (rule_of a) ts ≡ true → part_read n a ts ≡ Ok k → n ≤ limit → part_read n p ts ≡ part_read n p k
 unfolding part_read
@@ -207,9 +207,9 @@ read_many_ok n p a (t ∷ ts) k h i j le =
     let full = repeated_full p a h in
     let short = many_shorter n p a (t ∷ ts) k h le j in
     many_at n p a (t ∷ ts) h ∙ ap outcome (if_true (starts (rule_of a) (t ∷ ts)) (once f (rule_of a) (length ts) (t ∷ ts)) (Read End (t ∷ ts)) i)
-      ∙ bind_ok (f (t ∷ ts)) k (λ x k3. bind (many f (rule_of a) (length ts) k3) (λ more k2. Read (More x more) k2)) (λ us. outcome (many f (rule_of a) (length ts) us)) (λ x us. kept (λ more. More x more) (many f (rule_of a) (length ts) us)) j
-      ∙ ap outcome (many_fuel (rule_of a) f (λ us us2 x e. shrinks n a full le us us2 x e) (length ts) (length k) k (omega (arith, short)) (omega arith))
-      ∙ sym (many_at n p a k h)
+    ∙ bind_ok (f (t ∷ ts)) k (λ x k3. bind (many f (rule_of a) (length ts) k3) (λ more k2. Read (More x more) k2)) (λ us. outcome (many f (rule_of a) (length ts) us)) (λ x us. kept (λ more. More x more) (many f (rule_of a) (length ts) us)) j
+    ∙ ap outcome (many_fuel (rule_of a) f (λ us us2 x e. shrinks n a full le us us2 x e) (length ts) (length k) k (omega (arith, short)) (omega arith))
+    ∙ sym (many_at n p a k h)
 
 -- ---- openings
 
@@ -225,11 +225,13 @@ opening_err g s l (t ∷ ts) e h =
 opening_ok : (g : Deeper) (s : Sort) (l : Place) (ts k : List Class) → sort_read s ts ≡ Ok k → (t : Class) × (outcome (opening g s l ts) ≡ outcome (go_in g l t k))
 unfolding sort_read
 opening_ok g s l [] k h = absurd cc
-opening_ok g s l (t ∷ ts) k h =
-    (t, elim (is_of s t) as (λ v. (if v then Ok ts else Err stop.Syntax) ≡ Ok k → outcome (if v then go_in g l t ts else Wrong (t ∷ ts)) ≡ outcome (go_in g l t k)) [
-      true ↦ λ i. ap (λ (w : List Class). outcome (go_in g l t w)) (ok_is ts k i)
-      | false ↦ λ i. absurd cc
-    ] h)
+opening_ok g s l (t ∷ ts) k h = (
+  t,
+  elim (is_of s t) as (λ v. (if v then Ok ts else Err stop.Syntax) ≡ Ok k → outcome (if v then go_in g l t ts else Wrong (t ∷ ts)) ≡ outcome (go_in g l t k)) [
+    | true ↦ λ i. ap (λ (w : List Class). outcome (go_in g l t w)) (ok_is ts k i)
+    | false ↦ λ i. absurd cc
+  ] h,
+)
 
 pub read_open_err : (n : ℕ) (p : Part) (s : Sort) (l : Place) (ts : List Class) (e : Stop) → shape.Open s l ≡ shape_of p → sort_read s ts ≡ Err e → part_read n p ts ≡ Err e
 read_open_err n p s l ts e h i = open_at n p s l ts h ∙ opening_err (deeper inside n) s l ts e i
@@ -244,7 +246,7 @@ read_open_in zero p q s l ts k h i z j = absurd (omega arith)
 read_open_in (suc n) p q s l ts k h i z j =
     let o = opening_ok (deeper inside (suc n)) s l ts k i in
     open_at (suc n) p s l ts h ∙ o.1 ∙ kept (λ x. Nest o.0 x) (parse inside n (inside l) k)
-      ∙ ap (λ (r : Rule). outcome (parse inside n r k)) (sym (inside_is l) ∙ ap rule_of (sym j))
-      ∙ ap (λ (m : ℕ). outcome (parse inside m (rule_of q) k)) (let e : n ≡ suc n - 1 = omega arith in e)
+    ∙ ap (λ (r : Rule). outcome (parse inside n r k)) (sym (inside_is l) ∙ ap rule_of (sym j))
+    ∙ ap (λ (m : ℕ). outcome (parse inside m (rule_of q) k)) (let e : n ≡ suc n - 1 = omega arith in e)
 
 pub ruleset read_steps = (read_empty, read_one, read_then_ok, read_then_err, read_or_first, read_or_second, read_many_end, read_many_err, read_many_ok, many_shorter, read_open_err, read_open_deep, read_open_in, below_first_then, below_second_then, below_first_or, below_second_or, below_many, rank_small)

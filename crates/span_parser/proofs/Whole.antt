@@ -32,9 +32,9 @@ first_deep (n ∷ ms) =
     elim (cases_lt limit n.1) [
       | inl lt ↦ inr (record { p = []; m = n; q = ms; parts = refl; shallow = tt; over = lt })
       | inr le ↦ elim (first_deep ms) [
-          | inl s ↦ inl (le, s)
-          | inr h ↦ inr (record { p = n ∷ h.p; m = h.m; q = h.q; parts = ap (λ (w : Marks). n ∷ w) h.parts; shallow = (le, h.shallow); over = h.over })
-        ]
+        | inl s ↦ inl (le, s)
+        | inr h ↦ inr (record { p = n ∷ h.p; m = h.m; q = h.q; parts = ap (λ (w : Marks). n ∷ w) h.parts; shallow = (le, h.shallow); over = h.over })
+      ]
     ]
 
 record Cut (ms : Marks) (n : ℕ) : Type 0 where
@@ -103,7 +103,6 @@ goes_along (w ∷ b) (z ∷ a) x y c c2 c3 e le =
     (h.0, ap (λ (l : List Class). z ∷ l) h.1 ∙ ap (λ (t : Class). t ∷ (b ++ (y ∷ h.0))) i)
 
 module _ (inside : Place → Rule) (st : Place → Class → Bool) (wide : Stretches inside st) (ends : (p : Place) → Ends inside (inside p)) (good : (p : Place) → Good st (inside p)) (a : Rule) (ends_a : Ends inside a) (good_a : Good st a) where
-
   abbrev run : List Class → Answer
   run ts = parse inside limit a ts
 
@@ -129,9 +128,9 @@ module _ (inside : Place → Rule) (st : Place → Class → Bool) (wide : Stret
       elim (first_deep p) [
         | inr d ↦ inr (deep_there y h p (m ∷ q) e d (m.0 ∷ r))
         | inl s ↦ elim (cases_lt limit m.1) [
-            | inl lt ↦ inr (m.0 ∷ r, (all_meets y h p m q e s r).stops lt)
-            | inr le ↦ inl ((all_meets y h p m q e s r).passes le)
-          ]
+          | inl lt ↦ inr (m.0 ∷ r, (all_meets y h p m q e s r).stops lt)
+          | inr le ↦ inl ((all_meets y h p m q e s r).passes le)
+        ]
       ]
 
   -- a whole tree is read, unless it is too deep
@@ -166,10 +165,28 @@ module _ (inside : Place → Rule) (st : Place → Class → Bool) (wide : Stret
 
   right_of : (ts : List Class) (s : Answer) → run ts ≡ s → Sound 0 (Is inside a) ts s → Right ts (whole s)
   right_of ts (Read x []) i h = record { fits = h.fits; spells = h.front ∙ append-nil (words (marks 0 x)); shallow = h.shallow }
-  right_of ts (Read x (t ∷ k)) i h = record { tree = x; before = marks 0 x; after = []; rest = t ∷ k; fits = h.fits; parts = sym (append-marks (marks 0 x)); shallow = h.shallow; spells = h.front;
-      none = stops_right ts (words (marks 0 x)) (t ∷ k) h.front (Read x (t ∷ k)) i refl (λ j e. cc) (λ y e. cc) }
-  right_of ts (Wrong k) i h = record { tree = h.tree; before = h.before; after = h.after; rest = k; fits = h.fits; parts = h.parts; shallow = h.shallow; spells = h.front;
-      none = stops_right ts (words h.before) k h.front (Wrong k) i refl (λ j e. cc) (λ y e. cc) }
+  right_of ts (Read x (t ∷ k)) i h = record {
+    tree = x;
+    before = marks 0 x;
+    after = [];
+    rest = t ∷ k;
+    fits = h.fits;
+    parts = sym (append-marks (marks 0 x));
+    shallow = h.shallow;
+    spells = h.front;
+    none = stops_right ts (words (marks 0 x)) (t ∷ k) h.front (Read x (t ∷ k)) i refl (λ j e. cc) (λ y e. cc);
+  }
+  right_of ts (Wrong k) i h = record {
+    tree = h.tree;
+    before = h.before;
+    after = h.after;
+    rest = k;
+    fits = h.fits;
+    parts = h.parts;
+    shallow = h.shallow;
+    spells = h.front;
+    none = stops_right ts (words h.before) k h.front (Wrong k) i refl (λ j e. cc) (λ y e. cc);
+  }
   right_of ts (Deep k) i h = record { tree = h.tree; before = h.before; token = h.token; depth = h.depth; after = h.after; rest = h.rest; fits = h.fits; parts = h.parts; shallow = h.shallow; over = h.over; spells = h.front ∙ ap (λ (w : List Class). words h.before ++ w) h.stands }
 
   -- what is answered is so

@@ -313,12 +313,21 @@ output_rest_rule = Many output_more_rule
 unfoldable pub outputs_rule : Rule
 outputs_rule = Then output_rule output_rest_rule
 
-unfoldable pub source_rule : Rule
-source_rule = Or (One sort.Name) subquery_rule
+-- [AS] name
+unfoldable pub required_alias_rule : Rule
+required_alias_rule = Or as_name_rule (One sort.Name)
+
+-- name [[AS] name]
+unfoldable pub named_item_rule : Rule
+named_item_rule = Then (One sort.Name) alias_rule
+
+-- "(" query ")" [AS] name
+unfoldable pub derived_item_rule : Rule
+derived_item_rule = Then subquery_rule required_alias_rule
 
 -- item
 unfoldable pub item_rule : Rule
-item_rule = Then source_rule alias_rule
+item_rule = Or named_item_rule derived_item_rule
 
 unfoldable pub inner_join_rule : Rule
 inner_join_rule = Then (One (sort.Word word.Inner)) (One (sort.Word word.Join))
@@ -730,7 +739,9 @@ rule_of part.Output = output_rule
 rule_of part.OutputMore = output_more_rule
 rule_of part.OutputRest = output_rest_rule
 rule_of part.Outputs = outputs_rule
-rule_of part.Source = source_rule
+rule_of part.RequiredAlias = required_alias_rule
+rule_of part.NamedItem = named_item_rule
+rule_of part.DerivedItem = derived_item_rule
 rule_of part.Item = item_rule
 rule_of part.InnerJoin = inner_join_rule
 rule_of part.MaybeOuter = maybe_outer_rule

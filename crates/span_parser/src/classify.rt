@@ -96,19 +96,30 @@ fn first_spelled(words: &[Context], bytes: &[u8]) -> Option<Context>
 fn spelled<'a>(text: &'a [u8], token: &Token) -> &'a [u8]
     ensures { result.now ≡ spec.spelled text.now token.now }
 {
-    front(behind(text, token.start), token.end.saturating_sub(token.start))
+    front(
+        behind(text, token.start),
+        token.end.saturating_sub(token.start),
+    )
 }
 
 /// The bytes from a place on, as far as there are.
 fn behind(bytes: &[u8], place: usize) -> &[u8]
     ensures { result.now ≡ drop place bytes.now }
 {
-    if place <= bytes.len() { &bytes[place..] } else { &[] }
+    if place <= bytes.len() {
+        &bytes[place..]
+    } else {
+        &[]
+    }
 }
 
 /// So many bytes, as far as there are.
 fn front(bytes: &[u8], count: usize) -> &[u8]
     ensures { result.now ≡ take count bytes.now }
 {
-    if count <= bytes.len() { &bytes[..count] } else { bytes }
+    if count <= bytes.len() {
+        &bytes[..count]
+    } else {
+        bytes
+    }
 }

@@ -33,7 +33,11 @@ fn read_all(part: Part, tokens: &[Class]) -> Result<(), Stop>
     ensures { result ≡ text_read part tokens.now }
 {
     let rest = read(part, DEEPEST, tokens)?;
-    if rest.is_empty() { Ok(()) } else { Err(Stop::Syntax) }
+    if rest.is_empty() {
+        Ok(())
+    } else {
+        Err(Stop::Syntax)
+    }
 }
 
 /// Whether the tokens are in the grammar.
@@ -57,5 +61,4 @@ pub fn judge(goal: Goal, tokens: &[Class]) -> Result<(), Stop>
 /// A law, which takes no time: tokens have at most one tree.
 pub fn tokens_have_one_tree(goal: Goal, tokens: &[Class])
     ensures { (x y : Tree) → HasTree inside (goal_rule goal) tokens.now x → HasTree inside (goal_rule goal) tokens.now y → x ≡ y }
-{
-}
+{}

@@ -6,7 +6,6 @@ pub mod classify;
 pub mod grammar;
 pub mod judge;
 pub mod reader;
-pub mod text;
-
 #[cfg(test)]
 mod tests;
+pub mod text;

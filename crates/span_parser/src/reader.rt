@@ -70,7 +70,8 @@ fn begins(part: Part, class: Class) -> bool
     match made_of(part) {
         Shape::Empty => false,
         Shape::One(sort) => is_class(sort, class),
-        Shape::Then(first, second) => begins(first, class) || (may_be_nothing(first) && begins(second, class)),
+        Shape::Then(first, second) => begins(first, class)
+            || (may_be_nothing(first) && begins(second, class)),
         Shape::Or(first, second) => begins(first, class) || begins(second, class),
         Shape::Many(repeated) => begins(repeated, class),
         Shape::Open(sort, _) => is_class(sort, class),

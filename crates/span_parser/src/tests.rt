@@ -4,11 +4,19 @@ use super::text::judge_text;
 use span_value::refusal::Refusal;
 use std::alloc::{AllocError, Global};
 
-const USERS: &str = "CREATE TABLE Users (uid INT64 NOT NULL, email STRING(MAX))\n  PRIMARY KEY (uid);\nCREATE TABLE Albums (uid INT64 NOT NULL, aid INT64 NOT NULL,\n  name STRING(MAX)) PRIMARY KEY (uid, aid),\n  INTERLEAVE IN PARENT Users ON DELETE CASCADE";
+const USERS: &str =
+    "CREATE TABLE Users (uid INT64 NOT NULL, email STRING(MAX))\n  PRIMARY KEY (uid);\nCREATE TABLE Albums (uid INT64 NOT NULL, aid INT64 NOT NULL,\n  name STRING(MAX)) PRIMARY KEY (uid, aid),\n  INTERLEAVE IN PARENT Users ON DELETE CASCADE";
 
-const JOIN: &str = "SELECT u.uid FROM Users u JOIN Albums a ON a.uid = u.uid WHERE u.uid BETWEEN 2 AND 5";
+const JOIN: &str =
+    "SELECT u.uid FROM Users u JOIN Albums a ON a.uid = u.uid WHERE u.uid BETWEEN 2 AND 5";
 
-fn repeated(alloc: Global, head: &str, part: &str, times: usize, tail: &str) -> Result<String, AllocError> {
+fn repeated(
+    alloc: Global,
+    head: &str,
+    part: &str,
+    times: usize,
+    tail: &str,
+) -> Result<String, AllocError> {
     let mut text = String::from_str(alloc, head)?;
     for _ in 0..times {
         text.push_str(part)?;
@@ -33,7 +41,11 @@ fn texts_in_the_grammar(rt: HostRuntime) {
         "SELECT a <> b, a != b, a <= b, a >= b, a < b, a > b, (a), ((5)) FROM t -- end",
     ];
     for text in texts {
-        assert_eq!(rt; judge_text(rt.alloc(), Goal::Statement, text), Ok(()), "at {text}");
+        assert_eq!(rt;
+            judge_text(rt.alloc(), Goal::Statement, text),
+            Ok(()),
+            "at {text}"
+        );
     }
 }
 
@@ -50,6 +62,7 @@ fn texts_not_in_the_grammar(rt: HostRuntime) {
         "SELECT a FROM select",
         "SELECT a AS from FROM t",
         "SELECT FROM t",
+        "SELECT a FROM (SELECT b FROM t)",
         "SELECT a, COUNT(*), FROM t AS x",
         "SELECT a FROM t AS x, WHERE",
         "SELECT a b c FROM t",
@@ -72,7 +85,11 @@ fn texts_not_in_the_grammar(rt: HostRuntime) {
         "SELECT a) FROM t",
     ];
     for text in texts {
-        assert_eq!(rt; judge_text(rt.alloc(), Goal::Statement, text), Err(Refusal::Syntax), "at {text}");
+        assert_eq!(rt;
+            judge_text(rt.alloc(), Goal::Statement, text),
+            Err(Refusal::Syntax),
+            "at {text}"
+        );
     }
 }
 
@@ -80,12 +97,38 @@ fn texts_not_in_the_grammar(rt: HostRuntime) {
 fn schemas(rt: HostRuntime) -> Result<(), Refusal> {
     let a = rt.alloc();
     assert_eq!(rt; judge_text(a, Goal::Schema, USERS), Ok(()));
-    assert_eq!(rt; judge_text(a, Goal::Schema, format!(in a; "{USERS};")?.as_str()), Ok(()));
-    assert_eq!(rt; judge_text(a, Goal::Schema, format!(in a; "{USERS};;")?.as_str()), Err(Refusal::Syntax));
-    assert_eq!(rt; judge_text(a, Goal::Schema, "create table key (max bytes(7), b bool not null) primary key (max desc, b asc), interleave in parent no on delete no action"), Ok(()));
-    assert_eq!(rt; judge_text(a, Goal::Schema, "CREATE TABLE t (a STRING) PRIMARY KEY (a)"), Err(Refusal::Syntax));
-    assert_eq!(rt; judge_text(a, Goal::Schema, "CREATE TABLE t () PRIMARY KEY (a)"), Err(Refusal::Syntax));
-    assert_eq!(rt; judge_text(a, Goal::Schema, "CREATE TABLE t (a FLOAT64) PRIMARY KEY (a)"), Err(Refusal::Syntax));
+    assert_eq!(rt;
+        judge_text(a, Goal::Schema, format!(in a; "{USERS};")?.as_str()),
+        Ok(())
+    );
+    assert_eq!(rt;
+        judge_text(a, Goal::Schema, format!(in a; "{USERS};;")?.as_str()),
+        Err(Refusal::Syntax)
+    );
+    assert_eq!(rt;
+        judge_text(
+            a,
+            Goal::Schema,
+            "create table key (max bytes(7), b bool not null) primary key (max desc, b asc), interleave in parent no on delete no action"
+        ),
+        Ok(())
+    );
+    assert_eq!(rt;
+        judge_text(a, Goal::Schema, "CREATE TABLE t (a STRING) PRIMARY KEY (a)"),
+        Err(Refusal::Syntax)
+    );
+    assert_eq!(rt;
+        judge_text(a, Goal::Schema, "CREATE TABLE t () PRIMARY KEY (a)"),
+        Err(Refusal::Syntax)
+    );
+    assert_eq!(rt;
+        judge_text(
+            a,
+            Goal::Schema,
+            "CREATE TABLE t (a FLOAT64) PRIMARY KEY (a)"
+        ),
+        Err(Refusal::Syntax)
+    );
     assert_eq!(rt; judge_text(a, Goal::Schema, JOIN), Err(Refusal::Syntax));
     assert_eq!(rt; judge_text(a, Goal::Statement, USERS), Err(Refusal::Syntax));
     Ok(())
@@ -94,22 +137,64 @@ fn schemas(rt: HostRuntime) -> Result<(), Refusal> {
 #[test]
 fn nesting(rt: HostRuntime) -> Result<(), Refusal> {
     let a = rt.alloc();
-    for (part, close) in [("(", ")"), ("NOT ", ""), ("- ", ""), ("f(", ")"), ("CASE WHEN ", " THEN 1 END"), ("1 IN (", ")")] {
+    for (part, close) in [
+        ("(", ")"),
+        ("NOT ", ""),
+        ("- ", ""),
+        ("f(", ")"),
+        ("CASE WHEN ", " THEN 1 END"),
+        ("1 IN (", ")"),
+    ] {
         let inner = repeated(a, "SELECT ", part, 32, "1")?;
         let good = repeated(a, inner.as_str(), close, 32, " FROM t")?;
-        assert_eq!(rt; judge_text(a, Goal::Statement, good.as_str()), Ok(()), "at {part}");
+        assert_eq!(rt;
+            judge_text(a, Goal::Statement, good.as_str()),
+            Ok(()),
+            "at {part}"
+        );
         let deeper = repeated(a, "SELECT ", part, 33, "1")?;
         let deep = repeated(a, deeper.as_str(), close, 33, " FROM t")?;
-        assert_eq!(rt; judge_text(a, Goal::Statement, deep.as_str()), Err(Refusal::TooDeep), "at {part}");
+        assert_eq!(rt;
+            judge_text(a, Goal::Statement, deep.as_str()),
+            Err(Refusal::TooDeep),
+            "at {part}"
+        );
     }
     // The 33rd opening is judged where it stands, and a fault before it first.
-    assert_eq!(rt; judge_text(a, Goal::Statement, repeated(a, "SELECT ", "(", 33, ")")?.as_str()), Err(Refusal::TooDeep));
-    assert_eq!(rt; judge_text(a, Goal::Statement, repeated(a, "SELECT ", "(", 32, ")")?.as_str()), Err(Refusal::Syntax));
-    assert_eq!(rt; judge_text(a, Goal::Statement, repeated(a, "SELECT , ", "(", 33, "1")?.as_str()), Err(Refusal::Syntax));
+    assert_eq!(rt;
+        judge_text(
+            a,
+            Goal::Statement,
+            repeated(a, "SELECT ", "(", 33, ")")?.as_str()
+        ),
+        Err(Refusal::TooDeep)
+    );
+    assert_eq!(rt;
+        judge_text(
+            a,
+            Goal::Statement,
+            repeated(a, "SELECT ", "(", 32, ")")?.as_str()
+        ),
+        Err(Refusal::Syntax)
+    );
+    assert_eq!(rt;
+        judge_text(
+            a,
+            Goal::Statement,
+            repeated(a, "SELECT , ", "(", 33, "1")?.as_str()
+        ),
+        Err(Refusal::Syntax)
+    );
     let names = repeated(a, "SELECT ", "(", 32, "IF 1")?;
-    assert_eq!(rt; judge_text(a, Goal::Statement, names.as_str()), Err(Refusal::Syntax));
+    assert_eq!(rt;
+        judge_text(a, Goal::Statement, names.as_str()),
+        Err(Refusal::Syntax)
+    );
     let calls = repeated(a, "SELECT ", "(", 32, "f(1")?;
-    assert_eq!(rt; judge_text(a, Goal::Statement, calls.as_str()), Err(Refusal::TooDeep));
+    assert_eq!(rt;
+        judge_text(a, Goal::Statement, calls.as_str()),
+        Err(Refusal::TooDeep)
+    );
     Ok(())
 }
 
@@ -118,7 +203,17 @@ fn long_texts(rt: HostRuntime) -> Result<(), Refusal> {
     let a = rt.alloc();
     let text = repeated(a, "SELECT a", " OR a", 13000, " FROM t")?;
     assert_eq!(rt; judge_text(a, Goal::Statement, text.as_str()), Ok(()));
-    assert_eq!(rt; judge_text(a, Goal::Statement, repeated(a, "SELECT", " ", 65531, "")?.as_str()), Err(Refusal::TextTooLong));
-    assert_eq!(rt; judge_text(a, Goal::Statement, "SELECT 'abc"), Err(Refusal::BadToken));
+    assert_eq!(rt;
+        judge_text(
+            a,
+            Goal::Statement,
+            repeated(a, "SELECT", " ", 65531, "")?.as_str()
+        ),
+        Err(Refusal::TextTooLong)
+    );
+    assert_eq!(rt;
+        judge_text(a, Goal::Statement, "SELECT 'abc"),
+        Err(Refusal::BadToken)
+    );
     Ok(())
 }

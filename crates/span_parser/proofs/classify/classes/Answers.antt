@@ -8,7 +8,7 @@ pub loop-token-preserved : goal.loop-token-preserved
 loop-token-preserved c =
     let whole : c.loop-token.rest.now ≡ c.in-Some.token.now ∷ c.in-Some.behind.now = grind (arith, common_steps) in
     class_added c.args.text.now c.loop-token.found.items c.push.new.self.items c.in-Some.token.now c.loop-token.rest.now c.in-Some.behind.now c.args.tokens.now c.loop-token.invariant whole
-      (c.in_ok-push.ensures.items ∙ ap (λ (w : Class). c.loop-token.found.items ++ (w ∷ [])) c.class_at.ensures)
+    (c.in_ok-push.ensures.items ∙ ap (λ (w : Class). c.loop-token.found.items ++ (w ∷ [])) c.class_at.ensures)
 
 pub returns : goal.returns
 returns c =
