@@ -1,1 +1,4 @@
+pub mod Cells
+pub mod Orders
 pub mod Refusals
+pub mod Truths

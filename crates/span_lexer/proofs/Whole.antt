@@ -1,0 +1,104 @@
+-- The tokens of a whole text, front by front.
+use Rattle.std.proofs.Common.{◌≡◌, ℕ, zero, suc, ◌+◌, ◌-◌, ◌<◌, ◌≤◌, List, [], ◌∷◌, ◌++◌, length, drop, get_or, Option, Some, None, refl, sym, ap, ◌∙◌, append_assoc, arith}
+use Rattle.std.specs.Option.{option_map}
+use Rattle.std.proofs.lemmas.Grind.{common_steps}
+use Rattle.span_lexer.specs.declared.token.TokenKind.{TokenKind}
+use Rattle.span_lexer.specs.declared.token.Token.{Token}
+use Rattle.span_lexer.specs.declared.lexer.Front.{Front}
+use Rattle.span_lexer.specs.declared.lexer.Front.TheVariants as front
+use Rattle.span_lexer.specs.Lexing.{front_of, lexed, with_token}
+
+abbrev going : ℕ → List ℕ → Front → Option (List Token)
+going at bs f = elim f [
+  | front.Gap n ↦ lexed (n - 1) (at + 1) bs
+  | front.Lexeme k n ↦ with_token (record { kind = k; start = at; end = at + n }) (lexed (n - 1) (at + 1) bs)
+  | front.Wrong ↦ None
+]
+
+pub lexed_nil : (skip at : ℕ) → lexed skip at [] ≡ Some []
+unfolding lexed
+lexed_nil skip at = refl
+
+lexed_in : (skip at b : ℕ) (bs : List ℕ) → lexed (suc skip) at (b ∷ bs) ≡ lexed skip (at + 1) bs
+unfolding lexed
+lexed_in skip at b bs = refl
+
+lexed_at : (at b : ℕ) (bs : List ℕ) → lexed 0 at (b ∷ bs) ≡ going at bs (front_of (b ∷ bs))
+unfolding lexed
+lexed_at at b bs = refl
+
+-- what belongs to the front before is passed over
+pub skipped : (k at : ℕ) (bs : List ℕ) → lexed k at bs ≡ lexed 0 (at + k) (drop k bs)
+skipped zero at bs = ap (λ (n : ℕ). lexed 0 n bs) (omega arith)
+skipped (suc k) at [] = lexed_nil (suc k) at ∙ sym (lexed_nil 0 (at + suc k))
+skipped (suc k) at (b ∷ bs) = lexed_in k at b bs ∙ skipped k (at + 1) bs ∙ ap (λ (n : ℕ). lexed 0 n (drop k bs)) (omega arith)
+
+less_one : (n : ℕ) → suc n - 1 ≡ n
+less_one n = omega arith
+
+pub gap_then : (at b n : ℕ) (bs : List ℕ) → front_of (b ∷ bs) ≡ front.Gap n → 0 < n → lexed 0 at (b ∷ bs) ≡ lexed 0 (at + n) (drop n (b ∷ bs))
+gap_then at b zero bs e pos = absurd (omega arith)
+gap_then at b (suc n) bs e pos =
+    lexed_at at b bs ∙ ap (going at bs) e ∙ ap (λ (k : ℕ). lexed k (at + 1) bs) (less_one n) ∙ skipped n (at + 1) bs ∙ ap (λ (k : ℕ). lexed 0 k (drop n bs)) (omega arith)
+
+pub lexeme_then : (at b n : ℕ) (k : TokenKind) (bs : List ℕ) → front_of (b ∷ bs) ≡ front.Lexeme k n → 0 < n
+    → lexed 0 at (b ∷ bs) ≡ with_token (record { kind = k; start = at; end = at + n }) (lexed 0 (at + n) (drop n (b ∷ bs)))
+lexeme_then at b zero k bs e pos = absurd (omega arith)
+lexeme_then at b (suc n) k bs e pos =
+    lexed_at at b bs ∙ ap (going at bs) e
+    ∙ ap (with_token (record { kind = k; start = at; end = at + suc n })) (ap (λ (j : ℕ). lexed j (at + 1) bs) (less_one n) ∙ skipped n (at + 1) bs ∙ ap (λ (j : ℕ). lexed 0 j (drop n bs)) (omega arith))
+
+pub wrong_then : (at b : ℕ) (bs : List ℕ) → front_of (b ∷ bs) ≡ front.Wrong → lexed 0 at (b ∷ bs) ≡ None
+wrong_then at b bs e = lexed_at at b bs ∙ ap (going at bs) e
+
+-- ---- for the loop
+
+abbrev pub put : List Token → Option (List Token) → Option (List Token)
+put out o = option_map (λ ts. out ++ ts) o
+
+abbrev pub IsLexedFrom : List ℕ → List Token → ℕ → Type 0
+IsLexedFrom bytes out at = put out (lexed 0 at (drop at bytes)) ≡ lexed 0 0 bytes
+
+put_nil : (o : Option (List Token)) → put [] o ≡ o
+put_nil None = refl
+put_nil (Some w) = refl
+
+put_token : (out : List Token) (t : Token) (o : Option (List Token)) → put out (with_token t o) ≡ put (out ++ (t ∷ [])) o
+put_token out t None = refl
+put_token out t (Some w) = ap Some (sym (append_assoc out (t ∷ []) w))
+
+append_nil : (out : List Token) → out ++ [] ≡ out
+append_nil [] = refl
+append_nil (t ∷ out) = ap (λ (w : List Token). t ∷ w) (append_nil out)
+
+pub lexing_begins : (bytes : List ℕ) → IsLexedFrom bytes [] 0
+lexing_begins bytes = put_nil (lexed 0 0 bytes)
+
+at_front : (bytes : List ℕ) (at : ℕ) → at < length bytes → drop at bytes ≡ get_or bytes at 0 ∷ drop (at + 1) bytes
+at_front bytes at h = grind (arith, common_steps)
+
+drop_drop : (n at : ℕ) (bytes : List ℕ) → drop n (drop at bytes) ≡ drop (at + n) bytes
+drop_drop n at bytes = grind (arith, common_steps)
+
+pub gap_steps : (bytes : List ℕ) (out : List Token) (at n : ℕ) → IsLexedFrom bytes out at → at < length bytes → front_of (drop at bytes) ≡ front.Gap n → 0 < n → IsLexedFrom bytes out (at + n)
+gap_steps bytes out at n h l e pos =
+    let f = at_front bytes at l in
+    sym (ap (put out) (ap (lexed 0 at) f ∙ gap_then at (get_or bytes at 0) n (drop (at + 1) bytes) (ap front_of (sym f) ∙ e) pos ∙ ap (λ (w : List ℕ). lexed 0 (at + n) (drop n w)) (sym f) ∙ ap (lexed 0 (at + n)) (drop_drop n at bytes))) ∙ h
+
+pub lexeme_steps : (bytes : List ℕ) (out : List Token) (at n : ℕ) (k : TokenKind) → IsLexedFrom bytes out at → at < length bytes → front_of (drop at bytes) ≡ front.Lexeme k n → 0 < n
+    → IsLexedFrom bytes (out ++ (record { kind = k; start = at; end = at + n } ∷ [])) (at + n)
+lexeme_steps bytes out at n k h l e pos =
+    let f = at_front bytes at l in
+    sym (put_token out (record { kind = k; start = at; end = at + n }) (lexed 0 (at + n) (drop (at + n) bytes)))
+    ∙ sym (ap (put out) (ap (lexed 0 at) f ∙ lexeme_then at (get_or bytes at 0) n k (drop (at + 1) bytes) (ap front_of (sym f) ∙ e) pos
+    ∙ ap (with_token (record { kind = k; start = at; end = at + n })) (ap (λ (w : List ℕ). lexed 0 (at + n) (drop n w)) (sym f) ∙ ap (lexed 0 (at + n)) (drop_drop n at bytes)))) ∙ h
+
+pub lexing_fails : (bytes : List ℕ) (out : List Token) (at : ℕ) → IsLexedFrom bytes out at → at < length bytes → front_of (drop at bytes) ≡ front.Wrong → lexed 0 0 bytes ≡ None
+lexing_fails bytes out at h l e =
+    let f = at_front bytes at l in
+    sym h ∙ ap (put out) (ap (lexed 0 at) f ∙ wrong_then at (get_or bytes at 0) (drop (at + 1) bytes) (ap front_of (sym f) ∙ e))
+
+pub lexing_over : (bytes : List ℕ) (out : List Token) (at : ℕ) → IsLexedFrom bytes out at → length bytes ≤ at → lexed 0 0 bytes ≡ Some out
+lexing_over bytes out at h l = sym h ∙ ap (put out) (ap (lexed 0 at) (let e : drop at bytes ≡ [] = grind (arith, common_steps) in e) ∙ lexed_nil 0 at) ∙ ap Some (append_nil out)
+
+pub ruleset lexed_rules = (lexing_begins, gap_steps, lexeme_steps, lexing_fails, lexing_over)

@@ -1,0 +1,91 @@
+-- Looking a reserved word up.
+use Rattle.std.proofs.Common.{◌≡◌, ◌≢◌, ℕ, ◌+◌, ◌<◌, ◌≤◌, Bool, true, false, List, [], ◌∷◌, length, drop, get_or, Some, None, if◌then◌else◌, refl, sym, ap, ◌∙◌, arith}
+use Rattle.std.proofs.lemmas.Grind.{common_steps}
+use Rattle.std.specs.Str.{bytes_eq, str_to_ascii_lowercase}
+use Rattle.std.specs.Cmp.Lexicographic.{same_text, nat_list_eq_equiv}
+use Rattle.span_lexer.specs.declared.token.Word.{Word}
+use Rattle.span_lexer.specs.declared.token.Word.TheVariants as w
+use Rattle.span_lexer.specs.Spellings.{word, spelled_by}
+
+pub if_true : {A : Type 0} (b : Bool) (x y : A) → b ≡ true → (if b then x else y) ≡ x
+if_true true x y h = refl
+if_true false x y h = absurd cc
+
+pub if_false : {A : Type 0} (b : Bool) (x y : A) → b ≡ false → (if b then x else y) ≡ y
+if_false false x y h = refl
+if_false true x y h = absurd cc
+
+pub choose : {A : Type 0} (P : A → Type 0) (b : Bool) (x y : A) → (b ≡ true → P x) → (b ≡ false → P y) → P (if b then x else y)
+choose P true x y f g = f refl
+choose P false x y f g = g refl
+
+in_lower_case : (v : Word) → str_to_ascii_lowercase (word v) ≡ word v
+in_lower_case w.All = refl
+in_lower_case w.And = refl
+in_lower_case w.As = refl
+in_lower_case w.Asc = refl
+in_lower_case w.Between = refl
+in_lower_case w.By = refl
+in_lower_case w.Case = refl
+in_lower_case w.Create = refl
+in_lower_case w.Desc = refl
+in_lower_case w.Distinct = refl
+in_lower_case w.Else = refl
+in_lower_case w.End = refl
+in_lower_case w.False = refl
+in_lower_case w.From = refl
+in_lower_case w.Group = refl
+in_lower_case w.Having = refl
+in_lower_case w.If = refl
+in_lower_case w.In = refl
+in_lower_case w.Inner = refl
+in_lower_case w.Is = refl
+in_lower_case w.Join = refl
+in_lower_case w.Left = refl
+in_lower_case w.Like = refl
+in_lower_case w.Limit = refl
+in_lower_case w.Not = refl
+in_lower_case w.Null = refl
+in_lower_case w.On = refl
+in_lower_case w.Or = refl
+in_lower_case w.Order = refl
+in_lower_case w.Outer = refl
+in_lower_case w.Select = refl
+in_lower_case w.Then = refl
+in_lower_case w.True = refl
+in_lower_case w.Union = refl
+in_lower_case w.When = refl
+in_lower_case w.Where = refl
+
+equal_texts : (xs ys : List ℕ) → xs ≡ ys → bytes_eq xs ys ≡ true
+equal_texts xs ys e = ap (λ (v : List ℕ). bytes_eq xs v) (sym e) ∙ nat_list_eq_equiv.refl xs
+
+not_equal_texts : (xs ys : List ℕ) → xs ≢ ys → bytes_eq xs ys ≡ false
+not_equal_texts xs ys n = elim (bytes_eq xs ys) as (λ v. bytes_eq xs ys ≡ v → v ≡ false) [ true ↦ λ h. absurd (n (same_text xs ys (sym h))) | false ↦ λ h. refl ] refl
+
+-- one look at a word
+pub spelled_here : (v : Word) (vs : List Word) (bytes : List ℕ) → str_to_ascii_lowercase bytes ≡ str_to_ascii_lowercase (word v) → spelled_by (v ∷ vs) bytes ≡ Some v
+unfolding spelled_by
+spelled_here v vs bytes e = if_true (bytes_eq (str_to_ascii_lowercase bytes) (word v)) _ _ (equal_texts _ _ (e ∙ in_lower_case v))
+
+pub spelled_later : (v : Word) (vs : List Word) (bytes : List ℕ) → str_to_ascii_lowercase bytes ≢ str_to_ascii_lowercase (word v) → spelled_by (v ∷ vs) bytes ≡ spelled_by vs bytes
+unfolding spelled_by
+spelled_later v vs bytes n = if_false (bytes_eq (str_to_ascii_lowercase bytes) (word v)) _ _ (not_equal_texts _ _ (λ e. n (e ∙ sym (in_lower_case v))))
+
+pub spelled_nowhere : (bytes : List ℕ) → spelled_by [] bytes ≡ None
+unfolding spelled_by
+spelled_nowhere bytes = refl
+
+at_word : (words : List Word) (at : ℕ) (d : Word) → at < length words → drop at words ≡ get_or words at d ∷ drop (at + 1) words
+at_word words at d h = grind (arith, common_steps)
+
+pub word_found : (words : List Word) (bytes : List ℕ) (at : ℕ) (d : Word) → spelled_by (drop at words) bytes ≡ spelled_by words bytes → at < length words
+    → str_to_ascii_lowercase bytes ≡ str_to_ascii_lowercase (word (get_or words at d)) → spelled_by words bytes ≡ Some (get_or words at d)
+word_found words bytes at d h l e = sym h ∙ ap (λ (v : List Word). spelled_by v bytes) (at_word words at d l) ∙ spelled_here (get_or words at d) (drop (at + 1) words) bytes e
+
+pub word_passed : (words : List Word) (bytes : List ℕ) (at : ℕ) (d : Word) → spelled_by (drop at words) bytes ≡ spelled_by words bytes → at < length words
+    → str_to_ascii_lowercase bytes ≢ str_to_ascii_lowercase (word (get_or words at d)) → spelled_by (drop (at + 1) words) bytes ≡ spelled_by words bytes
+word_passed words bytes at d h l n = sym (spelled_later (get_or words at d) (drop (at + 1) words) bytes n) ∙ ap (λ (v : List Word). spelled_by v bytes) (sym (at_word words at d l)) ∙ h
+
+pub words_over : (words : List Word) (bytes : List ℕ) (at : ℕ) → spelled_by (drop at words) bytes ≡ spelled_by words bytes → length words ≤ at → spelled_by words bytes ≡ None
+words_over words bytes at h l = sym h ∙ ap (λ (v : List Word). spelled_by v bytes) (let e : drop at words ≡ [] = grind (arith, common_steps) in e) ∙ spelled_nowhere bytes

@@ -1,0 +1,6 @@
+pub mod Characters
+pub mod Lexing
+pub mod Literals
+pub mod Readings
+pub mod Spellings
+pub mod Tokens

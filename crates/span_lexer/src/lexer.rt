@@ -1,0 +1,355 @@
+//! The tokens of a text.
+//!
+//! A text is read front by front: a blank or a comment, or the one token that stands there.
+ghost use Rattle.std.specs.Prelude.{◌≡◌, ◌==◌, ◌⊎◌, ◌+◌, ◌<◌, ◌≤◌, ◌-◌, length, drop, List, IfSome, IfOk, OnOk, IfErr};
+ghost use Rattle.std.specs.List.{prefix_len};
+ghost use Rattle.span_lexer.specs.Characters as character;
+ghost use Rattle.span_lexer.specs.Lexing as spec;
+ghost use Rattle.span_lexer.specs.Readings.{ReadsOrNoMemory, IsMisread};
+ghost use Rattle.span_lexer.specs.Tokens.{Item, AreItems, text_of, tokens_of};
+ghost use Rattle.span_lexer.specs.Literals as literal;
+
+use super::character::{from_place, is_blank, is_digit, is_letter, is_mark, is_quote, is_word};
+use super::literal::{Literal, closing_quote};
+use super::token::{Sign, Token, TokenKind};
+use super::word::reserved_word;
+use span_value::refusal::Refusal;
+use span_value::seq::Seq;
+use std::alloc::{AllocError, AllocFailed, Global};
+use std::fmt;
+
+/// What stands at the front of a text, with its length in bytes.
+#[derive(Clone, Copy, Debug, PartialEq, Eq)]
+pub(crate) enum Front {
+    /// A blank or a comment.
+    Gap(usize),
+    Lexeme(TokenKind, usize),
+    /// No token stands here.
+    Wrong,
+}
+
+/// The greatest length of a text in bytes.
+pub const LONGEST_TEXT: usize = 65536;
+
+/// The greatest integer of a text.
+pub const GREATEST_INTEGER: u64 = 9223372036854775807;
+
+/// The greatest length of a name in bytes.
+pub const LONGEST_WORD: usize = 128;
+
+/// Why a text was not read, and the byte from which on it was not.
+#[derive(Clone, Copy, Debug, PartialEq, Eq)]
+pub struct Misread {
+    pub refusal: Refusal,
+    pub place: usize,
+}
+
+impl fmt::Display for Misread {
+    fn fmt<W: fmt::Write>(&self, f: &mut fmt::Formatter<W>) -> fmt::Result {
+        write!(f, "refused {} at byte {}", self.refusal, self.place)
+    }
+}
+
+impl From<AllocError> for Misread {
+    ghost use Rattle.std.specs.Prelude.{◌≡◌};
+    ghost use Rattle.span_value.specs.declared.refusal.Refusal.TheVariants.{OutOfMemory};
+
+    ghost from_gives = { λ _ e. e.refusal ≡ OutOfMemory };
+
+    fn from(_error: AllocError) -> Misread {
+        Misread {
+            refusal: Refusal::OutOfMemory,
+            place: 0,
+        }
+    }
+}
+
+impl<T: Drop> From<AllocFailed<T>> for Misread {
+    ghost use Rattle.std.specs.Prelude.{◌≡◌};
+    ghost use Rattle.span_value.specs.declared.refusal.Refusal.TheVariants.{OutOfMemory};
+
+    ghost from_gives = { λ _ e. e.refusal ≡ OutOfMemory };
+
+    fn from(_error: AllocFailed<T>) -> Misread {
+        Misread {
+            refusal: Refusal::OutOfMemory,
+            place: 0,
+        }
+    }
+}
+
+/// How many letters, digits and `_` stand at the front.
+fn run(bytes: &[u8]) -> usize
+    ensures count { result ≡ spec.run bytes.now }
+    ensures within { result ≤ length bytes.now }
+{
+    bytes.iter().take_while(|byte| is_word(**byte)).count()
+}
+
+/// How many bytes there are up to an LF or the end.
+fn line_length(bytes: &[u8]) -> usize
+    ensures count { result ≡ prefix_len spec.on_line bytes.now }
+    ensures within { result ≤ length bytes.now }
+{
+    bytes.iter().take_while(|byte| is_on_line(**byte)).count()
+}
+
+#[tactic(auto, unfolding(crate::specs::Lexing::on_line))]
+fn is_on_line(byte: u8) -> bool
+    ensures { result ≡ spec.on_line byte }
+{
+    byte != b'\n'
+}
+
+/// A reserved word or a name.
+#[tactic(auto, unfolding(crate::specs::Lexing::word_front))]
+fn word_front(bytes: &[u8]) -> Front
+    ensures { result ≡ spec.word_front bytes.now }
+{
+    let length = run(bytes);
+    if length > LONGEST_WORD {
+        return Front::Wrong;
+    }
+    match reserved_word(&bytes[..length]) {
+        Some(word) => Front::Lexeme(TokenKind::Word(word), length),
+        None => Front::Lexeme(TokenKind::Name, length),
+    }
+}
+
+/// The number that decimal digits write; None where one is no digit or the number is too great.
+#[tactic(auto, using(crate::proofs::Integers::integer_rules))]
+fn integer(digits: &[u8]) -> Option<u64>
+    ensures { result ≡ spec.integer 0 digits.now }
+{
+    let mut value: u64 = 0;
+    for digit in digits {
+        value = one_digit_more(value, *digit)?;
+    }
+    Some(value)
+}
+
+#[tactic(auto, unfolding(crate::specs::Lexing::next_integer, crate::specs::Characters::is_digit))]
+fn one_digit_more(value: u64, digit: u8) -> Option<u64>
+    requires { value ≤ spec.greatest_integer }
+    ensures next { result ≡ spec.next_integer value digit }
+    ensures within { IfSome result (λ n. n ≤ spec.greatest_integer) }
+{
+    if !is_digit(digit) {
+        return None;
+    }
+    let unit = u64::from(digit - b'0');
+    if value > (GREATEST_INTEGER - unit) / 10 {
+        return None;
+    }
+    Some(value * 10 + unit)
+}
+
+#[tactic(auto, unfolding(crate::specs::Lexing::integer_front))]
+fn integer_front(bytes: &[u8]) -> Front
+    ensures { result ≡ spec.integer_front bytes.now }
+{
+    let length = run(bytes);
+    match integer(&bytes[..length]) {
+        Some(value) => Front::Lexeme(TokenKind::Int(value), length),
+        None => Front::Wrong,
+    }
+}
+
+/// What stands behind `@`.
+#[tactic(auto, unfolding(crate::specs::Lexing::parameter_front))]
+fn parameter_front(bytes: &[u8]) -> Front
+    ensures { result ≡ spec.parameter_front bytes.now }
+{
+    let length = run(bytes);
+    if !starts_with_letter(bytes) || length > LONGEST_WORD {
+        return Front::Wrong;
+    }
+    match reserved_word(&bytes[..length]) {
+        Some(_) => Front::Wrong,
+        None => Front::Lexeme(TokenKind::Parameter, length + 1),
+    }
+}
+
+fn starts_with_letter(bytes: &[u8]) -> bool
+    ensures { result ≡ character.begins character.is_letter bytes.now }
+{
+    match bytes {
+        [first, ..] => is_letter(*first),
+        [] => false,
+    }
+}
+
+fn starts_with_quote(bytes: &[u8]) -> bool
+    ensures { result ≡ character.begins character.is_quote bytes.now }
+{
+    match bytes {
+        [first, ..] => is_quote(*first),
+        [] => false,
+    }
+}
+
+fn starts_with(bytes: &[u8], byte: u8) -> bool
+    ensures { result ≡ character.begins (λ c. c == byte) bytes.now }
+{
+    match bytes {
+        [first, ..] => *first == byte,
+        [] => false,
+    }
+}
+
+/// The bytes literal whose quote stands first, behind its mark.
+#[tactic(auto, unfolding(crate::specs::Lexing::bytes_front))]
+fn bytes_front(bytes: &[u8]) -> Front
+    requires { length bytes.now ≤ LONGEST_TEXT }
+    ensures { result ≡ spec.bytes_front bytes.now }
+{
+    let Some((quote, body)) = bytes.split_first() else {
+        return Front::Wrong;
+    };
+    match closing_quote(Literal::Bytes, *quote, body) {
+        Some(length) => Front::Lexeme(TokenKind::Bytes, 2 + length),
+        None => Front::Wrong,
+    }
+}
+
+/// The string whose quote stands before the bytes.
+fn string_front(quote: u8, body: &[u8]) -> Front
+    requires { length body.now ≤ LONGEST_TEXT }
+    ensures { result ≡ spec.literal_or_wrong TokenKind.Str 1 (literal.closed Literal.Text quote 0 body.now) }
+{
+    match closing_quote(Literal::Text, quote, body) {
+        Some(length) => Front::Lexeme(TokenKind::Str, 1 + length),
+        None => Front::Wrong,
+    }
+}
+
+/// The sign that begins with a byte, before the bytes behind it; the longest is taken.
+#[tactic(auto, unfolding(crate::specs::Lexing::sign_front))]
+fn sign_front(first: u8, rest: &[u8]) -> Front
+    ensures { result ≡ spec.sign_front first rest.now }
+{
+    let (sign, length) = match first {
+        b'(' => (Sign::Open, 1),
+        b')' => (Sign::Close, 1),
+        b',' => (Sign::Comma, 1),
+        b'.' => (Sign::Dot, 1),
+        b';' => (Sign::Semicolon, 1),
+        b'*' => (Sign::Star, 1),
+        b'+' => (Sign::Plus, 1),
+        b'-' => (Sign::Minus, 1),
+        b'=' => (Sign::Equal, 1),
+        b'<' if starts_with(rest, b'=') => (Sign::LessEqual, 2),
+        b'<' if starts_with(rest, b'>') => (Sign::LessGreater, 2),
+        b'<' => (Sign::Less, 1),
+        b'>' if starts_with(rest, b'=') => (Sign::GreaterEqual, 2),
+        b'>' => (Sign::Greater, 1),
+        b'!' if starts_with(rest, b'=') => (Sign::BangEqual, 2),
+        b'|' if starts_with(rest, b'|') => (Sign::Concat, 2),
+        _ => return Front::Wrong,
+    };
+    Front::Lexeme(TokenKind::Sign(sign), length)
+}
+
+/// What stands at the front of a text.
+#[tactic(auto, unfolding(crate::specs::Lexing::front_of))]
+fn front_of(bytes: &[u8]) -> Front
+    requires { length bytes.now ≤ LONGEST_TEXT }
+    ensures { result ≡ spec.front_of bytes.now }
+{
+    let Some((first, rest)) = bytes.split_first() else {
+        return Front::Wrong;
+    };
+    if is_blank(*first) {
+        return Front::Gap(1);
+    }
+    if is_mark(*first) && starts_with_quote(rest) {
+        return bytes_front(rest);
+    }
+    if is_letter(*first) {
+        return word_front(bytes);
+    }
+    if is_digit(*first) {
+        return integer_front(bytes);
+    }
+    if *first == b'@' {
+        return parameter_front(rest);
+    }
+    if is_quote(*first) {
+        return string_front(*first, rest);
+    }
+    if *first == b'-' && starts_with(rest, b'-') {
+        return Front::Gap(1 + line_length(rest));
+    }
+    sign_front(*first, rest)
+}
+
+/// What stands at a place of a text, which reaches on and not past the end.
+fn front_at(bytes: &[u8], place: usize) -> Front
+    requires text { length bytes.now ≤ LONGEST_TEXT }
+    requires inside { place < length bytes.now }
+    ensures front { result ≡ spec.front_of (drop place bytes.now) }
+    ensures reaches { spec.Reaches (length bytes.now - place) result }
+{
+    front_of(from_place(bytes, place))
+}
+
+/// The tokens of a text of at most `LONGEST_TEXT` bytes.
+#[tactic(auto, using(crate::proofs::Whole::lexed_rules))]
+fn lexemes(alloc: Global, bytes: &[u8]) -> Result<Vec<Token>, Misread>
+    requires { length bytes.now ≤ LONGEST_TEXT }
+    ensures ok { IfOk result (λ found. spec.lexed 0 0 bytes.now ≡ Some found.items) }
+    ensures err { IfErr result (λ e. (e.refusal ≡ Refusal.OutOfMemory) ⊎ ((e.refusal ≡ Refusal.BadToken) × (spec.lexed 0 0 bytes.now ≡ None))) }
+{
+    let mut found = Vec::new(alloc);
+    let mut at = 0;
+    while at < bytes.len() {
+        match front_at(bytes, at) {
+            Front::Gap(length) => at += length,
+            Front::Lexeme(kind, length) => {
+                found.push(Token {
+                    kind,
+                    start: at,
+                    end: at + length,
+                })?;
+                at += length;
+            }
+            Front::Wrong => {
+                return Err(Misread {
+                    refusal: Refusal::BadToken,
+                    place: at,
+                });
+            }
+        }
+    }
+    Ok(found)
+}
+
+/// The tokens of a text, in order, with the bytes at which they begin and end.
+///
+/// The error is `TextTooLong` for a text of more than `LONGEST_TEXT` bytes; else `BadToken` where no token stands, at the
+/// first such byte; or want of memory.
+pub fn tokens(alloc: Global, text: &str) -> Result<Seq<Token>, Misread>
+    // What is read is the tokens of the items that the text is made of.
+    ensures read { IfOk result (λ found. (is : List Item) × AreItems is × (text.now ≡ text_of is) × (found ≡ tokens_of 0 is)) }
+    ensures short { OnOk result (length text.now ≤ LONGEST_TEXT) }
+    // A text of items, if it is not too long, is read.
+    ensures read_all { (is : List Item) → AreItems is → text.now ≡ text_of is → length text.now ≤ LONGEST_TEXT → ReadsOrNoMemory (tokens_of 0 is) result }
+    // A text that is too long is told from one that is made of no items.
+    ensures refused { IfErr result (λ e. IsMisread text.now e.refusal) }
+{
+    if text.len() > LONGEST_TEXT {
+        return Err(Misread {
+            refusal: Refusal::TextTooLong,
+            place: LONGEST_TEXT,
+        });
+    }
+    match lexemes(alloc, text.as_bytes()) {
+        Ok(found) => Ok(Seq::from_vec(found)),
+        Err(why) => Err(why),
+    }
+}
+
+/// A law, which takes no time: a text has one list of tokens.
+pub fn texts_have_one_reading()
+    ensures { (is js : List Item) → AreItems is → AreItems js → text_of is ≡ text_of js → tokens_of 0 is ≡ tokens_of 0 js }
+{}

@@ -1,0 +1,10 @@
+//! Tokens of SQL texts and schema texts, with their places.
+#![tactic(auto)]
+
+mod character;
+pub mod lexer;
+pub mod literal;
+#[cfg(test)]
+mod tests;
+pub mod token;
+pub mod word;

@@ -1,0 +1,3 @@
+pub mod CellTexts
+pub mod IntCells
+pub mod Total

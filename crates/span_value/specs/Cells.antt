@@ -1,0 +1,74 @@
+-- The cell that a value is written as in a record, and of which kinds a value is.
+use Rattle.std.specs.Prelude.{◌≡◌, ◌≢◌, ℕ, length, slice_index, ◌+◌, ◌-◌, ◌*◌, ◌/◌, ◌%◌, ◌<◌, ◌==◌, nat_lt, Bool, true, false, List, [], ◌∷◌, if◌then◌else◌, Option, Some, None, FitsSigned}
+use Rattle.std.specs.Int.{w64}
+use Rattle.std.specs.Option.{option_map}
+use Rattle.std.specs.Fmt.{signed_decimal}
+use Rattle.std.specs.Char.{digit_char}
+use Rattle.std.specs.List.{All}
+use Rattle.span_value.specs.declared.value.Value.{Value}
+use Rattle.span_value.specs.declared.value.Value.TheVariants as value
+use Rattle.span_value.specs.declared.value.Kind.{Kind}
+use Rattle.span_value.specs.declared.value.Kind.TheVariants as kind
+
+-- a text with each backslash doubled
+unfoldable pub doubled : List ℕ → List ℕ
+doubled [] = []
+doubled (b ∷ bs) = if b == 92 then 92 ∷ 92 ∷ doubled bs else b ∷ doubled bs
+
+-- each byte as two hexadecimal digits in lower case
+unfoldable pub hex_pairs : List ℕ → List ℕ
+hex_pairs [] = []
+hex_pairs (b ∷ bs) = digit_char (b / 16) ∷ digit_char (b % 16) ∷ hex_pairs bs
+
+-- The cell of a value: NULL is \N, a BOOL `true` or `false`, an INT64 in decimal, a STRING its text with each backslash
+-- doubled, BYTES \x and two hexadecimal digits a byte.
+abbrev pub cell_of : Value → List ℕ
+cell_of value.Null = 92 ∷ 78 ∷ []
+cell_of (value.Bool true) = 116 ∷ 114 ∷ 117 ∷ 101 ∷ []
+cell_of (value.Bool false) = 102 ∷ 97 ∷ 108 ∷ 115 ∷ 101 ∷ []
+cell_of (value.Int n) = signed_decimal n
+cell_of (value.Str text) = doubled text
+cell_of (value.Bytes bytes) = 92 ∷ 120 ∷ hex_pairs bytes
+
+-- the value is of the kind; NULL is of every kind
+abbrev pub IsOf : Kind → Value → Type 0
+IsOf kind value.Null = Unit {0}
+IsOf kind.Bool (value.Bool b) = Unit {0}
+IsOf kind.Int (value.Int n) = FitsSigned w64 n
+IsOf kind.Str (value.Str text) = Unit {0}
+IsOf kind.Bytes (value.Bytes bytes) = All (λ b. b < 256) bytes
+IsOf kind v = ⊥
+
+-- the text is the cell of a value of the kind
+abbrev pub IsCell : Kind → Value → List ℕ → Type 0
+IsCell kind v text = IsOf kind v × (cell_of v ≡ text)
+
+-- ---- reading
+
+-- the text that was doubled, if one was; `behind` says that a backslash stands before
+unfoldable pub halved_behind : Bool → List ℕ → Option (List ℕ)
+halved_behind false [] = Some []
+halved_behind true [] = None
+halved_behind false (b ∷ bs) = if b == 92 then halved_behind true bs else option_map (λ w. b ∷ w) (halved_behind false bs)
+halved_behind true (b ∷ bs) = if b == 92 then option_map (λ w. 92 ∷ w) (halved_behind false bs) else None
+
+abbrev pub halved : List ℕ → Option (List ℕ)
+halved bs = halved_behind false bs
+
+-- the number that a hexadecimal digit in lower case stands for
+unfoldable pub half_byte : ℕ → Option ℕ
+half_byte c = if nat_lt c 48 then None else (if nat_lt c 58 then Some (c - 48) else (if nat_lt c 97 then None else (if nat_lt c 103 then Some (c - 87) else None)))
+
+abbrev pub byte_of : Option ℕ → Option ℕ → Option (List ℕ) → Option (List ℕ)
+byte_of (Some high) (Some low) (Some bytes) = Some ((high * 16 + low) ∷ bytes)
+byte_of high low bytes = None
+
+-- the bytes that stand there as pairs of digits
+unfoldable pub unhexed : List ℕ → Option (List ℕ)
+unhexed [] = Some []
+unhexed (high ∷ []) = None
+unhexed (high ∷ low ∷ bs) = byte_of (half_byte high) (half_byte low) (unhexed bs)
+
+-- no backslash stands in the text
+abbrev pub IsClean : List ℕ → Type 0
+IsClean bs = (i : ℕ) → i < length bs → slice_index bs i ≢ 92

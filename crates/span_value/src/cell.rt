@@ -1,0 +1,222 @@
+//! Cells: values as the fields of a record.
+//!
+//! NULL is `\N`, a BOOL `true` or `false`, an INT64 its decimal digits, a STRING its text with each backslash doubled, BYTES
+//! `\x` and two hexadecimal digits a byte, in lower case.
+ghost use Rattle.std.specs.Prelude.{◌≡◌, ◌≢◌, [], ◌∷◌, ◌++◌, ◌+◌, ◌*◌, ◌/◌, ◌%◌, ◌⊎◌, ◌<◌, ℕ, ℤ, Bool, List, IfOk, OnOk, IfErr, IfSome, IsOkUnless, MatchOption, string_bytes};
+ghost use Rattle.std.specs.Char.{digit_char};
+ghost use Rattle.span_value.specs.Cells.{cell_of, IsCell, IsClean, doubled, hex_pairs, halved, unhexed, half_byte};
+
+use super::refusal::Refusal;
+use super::seq::Seq;
+use super::text::Text;
+use super::value::{Kind, Value};
+use itoa::Buffer;
+use std::alloc::{AllocError, Global};
+
+/// The cell of a value. An error is want of memory.
+pub fn cell_text(alloc: Global, value: &Value) -> Result<String, Refusal>
+    ensures cell { IfOk result (λ text. string_bytes text ≡ cell_of value.now) }
+    ensures memory { IsOkUnless result Refusal.OutOfMemory }
+{
+    Ok(match value {
+        Value::Null => String::from_str(alloc, "\\N")?,
+        Value::Int(n) => String::from_str(alloc, Buffer::new().format(*n))?,
+        Value::Str(text) => doubled_text(alloc, text.as_str())?,
+        Value::Bytes(bytes) => hex_text(alloc, bytes.as_slice())?,
+        Value::Bool(true) => String::from_str(alloc, "true")?,
+        Value::Bool(false) => String::from_str(alloc, "false")?,
+    })
+}
+
+/// The text with each backslash doubled.
+fn doubled_text(alloc: Global, text: &str) -> Result<String, AllocError>
+    ensures { IfOk result (λ out. string_bytes out ≡ doubled text.now) }
+{
+    let mut out = String::new(alloc);
+    let mut rest = text;
+    while let Some((front, behind)) = at_backslash(rest) {
+        out.push_str(front)?;
+        out.push_str("\\\\")?;
+        rest = behind;
+    }
+    out.push_str(rest)?;
+    Ok(out)
+}
+
+/// `\x` and the bytes in hexadecimal.
+fn hex_text(alloc: Global, bytes: &[u8]) -> Result<String, AllocError>
+    ensures { IfOk result (λ out. string_bytes out ≡ 92 ∷ 120 ∷ hex_pairs bytes.now) }
+{
+    let mut out = String::from_str(alloc, "\\x")?;
+    for byte in bytes {
+        push_pair(&mut out, *byte)?;
+    }
+    Ok(out)
+}
+
+/// Adds the two hexadecimal digits of a byte.
+fn push_pair(out: &mut String, byte: u8) -> Result<(), AllocError>
+    ensures { OnOk result (string_bytes out.new ≡ string_bytes out.old ++ (digit_char (byte / 16) ∷ digit_char (byte % 16) ∷ [])) }
+{
+    out.push(hex_digit(byte / 16))?;
+    out.push(hex_digit(byte % 16))?;
+    Ok(())
+}
+
+fn hex_digit(half: u8) -> char
+    requires { half < 16 }
+    ensures digit { result ≡ digit_char half }
+    ensures ascii { result < 128 }
+{
+    if half < 10 {
+        char::from(b'0' + half)
+    } else {
+        char::from(b'a' + (half - 10))
+    }
+}
+
+/// The value of a kind whose cell the text is. The text `\N` is NULL of every kind.
+///
+/// The error is `WrongType` exactly where the text is no cell of the kind, or want of memory.
+pub fn read_cell(alloc: Global, kind: Kind, text: &str) -> Result<Value, Refusal>
+    // What is read has this cell.
+    ensures read { IfOk result (λ value. IsCell kind value text.now) }
+    // Each cell of the kind is read.
+    ensures read_all { (value : Value) → IsCell kind value text.now → (result ≡ Ok value) ⊎ (result ≡ Err Refusal.OutOfMemory) }
+    ensures refusals { IfErr result (λ why. (why ≡ Refusal.WrongType) ⊎ (why ≡ Refusal.OutOfMemory)) }
+{
+    if text == "\\N" {
+        return Ok(Value::Null);
+    }
+    match kind {
+        Kind::Int => read_int(text),
+        Kind::Str => read_text(alloc, text),
+        Kind::Bytes => read_bytes(alloc, text),
+        Kind::Bool => read_bool(text),
+    }
+}
+
+fn read_int(text: &str) -> Result<Value, Refusal>
+    ensures read { IfOk result (λ value. IsCell Kind.Int value text.now) }
+    ensures read_all { (n : ℤ) → IsCell Kind.Int (Value.Int n) text.now → result ≡ Ok (Value.Int n) }
+    ensures refusals { IfErr result (λ why. why ≡ Refusal.WrongType) }
+{
+    let Ok(number) = text.parse::<i64>() else {
+        return Err(Refusal::WrongType);
+    };
+    // The library's reader also takes a plus and leading zeros.
+    if Buffer::new().format(number) == text {
+        Ok(Value::Int(number))
+    } else {
+        Err(Refusal::WrongType)
+    }
+}
+
+fn read_bool(text: &str) -> Result<Value, Refusal>
+    ensures read { IfOk result (λ value. IsCell Kind.Bool value text.now) }
+    ensures read_all { (b : Bool) → IsCell Kind.Bool (Value.Bool b) text.now → result ≡ Ok (Value.Bool b) }
+    ensures refusals { IfErr result (λ why. why ≡ Refusal.WrongType) }
+{
+    match text {
+        "true" => Ok(Value::Bool(true)),
+        "false" => Ok(Value::Bool(false)),
+        _ => Err(Refusal::WrongType),
+    }
+}
+
+/// What stands before the first backslash and behind it.
+fn at_backslash(text: &str) -> Option<(&str, &str)>
+    ensures { MatchOption result (IsClean text.now) (λ x. (text.now ≡ x.0.now ++ 92 ∷ x.1.now) × IsClean x.0.now) }
+{
+    text.split_once('\\')
+}
+
+/// What stands behind a backslash at the front.
+fn behind_backslash(text: &str) -> Option<&str>
+    ensures { MatchOption result ((rest : List ℕ) → text.now ≢ 92 ∷ rest) (λ rest. text.now ≡ 92 ∷ rest.now) }
+{
+    text.strip_prefix('\\')
+}
+
+fn read_text(alloc: Global, text: &str) -> Result<Value, Refusal>
+    ensures read { IfOk result (λ value. IsCell Kind.Str value text.now) }
+    ensures read_all { (w : List ℕ) → IsCell Kind.Str (Value.Str w) text.now → (result ≡ Ok (Value.Str w)) ⊎ (result ≡ Err Refusal.OutOfMemory) }
+    ensures refusals { IfErr result (λ why. (why ≡ Refusal.WrongType) ⊎ (why ≡ Refusal.OutOfMemory)) }
+{
+    match halved_text(alloc, text)? {
+        Some(halved) => Ok(Value::Str(Text::from_string(halved))),
+        None => Err(Refusal::WrongType),
+    }
+}
+
+/// The text whose doubled text this is, if there is one.
+fn halved_text(alloc: Global, text: &str) -> Result<Option<String>, AllocError>
+    ensures { IfOk result (λ o. MatchOption o (halved text.now ≡ None) (λ s. halved text.now ≡ Some (string_bytes s))) }
+{
+    let mut out = String::new(alloc);
+    let mut rest = text;
+    while let Some((front, behind)) = at_backslash(rest) {
+        let Some(after) = behind_backslash(behind) else {
+            return Ok(None);
+        };
+        out.push_str(front)?;
+        out.push('\\')?;
+        rest = after;
+    }
+    out.push_str(rest)?;
+    Ok(Some(out))
+}
+
+fn read_bytes(alloc: Global, text: &str) -> Result<Value, Refusal>
+    ensures read { IfOk result (λ value. IsCell Kind.Bytes value text.now) }
+    ensures read_all { (w : List ℕ) → IsCell Kind.Bytes (Value.Bytes w) text.now → (result ≡ Ok (Value.Bytes w)) ⊎ (result ≡ Err Refusal.OutOfMemory) }
+    ensures refusals { IfErr result (λ why. (why ≡ Refusal.WrongType) ⊎ (why ≡ Refusal.OutOfMemory)) }
+{
+    let Some(digits) = text.as_bytes().strip_prefix(b"\\x") else {
+        return Err(Refusal::WrongType);
+    };
+    match unhexed_bytes(alloc, digits)? {
+        Some(bytes) => Ok(Value::Bytes(Seq::from_vec(bytes))),
+        None => Err(Refusal::WrongType),
+    }
+}
+
+/// The bytes that stand there as pairs of hexadecimal digits, if nothing else does.
+fn unhexed_bytes(alloc: Global, digits: &[u8]) -> Result<Option<Vec<u8>>, AllocError>
+    ensures { IfOk result (λ o. MatchOption o (unhexed digits.now ≡ None) (λ v. unhexed digits.now ≡ Some v.items)) }
+{
+    let mut out = Vec::new(alloc);
+    let mut rest = digits;
+    while let Some((high, behind)) = rest.split_first() {
+        let Some((low, after)) = behind.split_first() else {
+            return Ok(None);
+        };
+        let Some(byte) = byte_from(*high, *low) else {
+            return Ok(None);
+        };
+        out.push(byte)?;
+        rest = after;
+    }
+    Ok(Some(out))
+}
+
+fn byte_from(high: u8, low: u8) -> Option<u8>
+    ensures { MatchOption result ((half_byte high ≡ None) ⊎ (half_byte low ≡ None)) (λ byte. (h : ℕ) × (l : ℕ) × (half_byte high ≡ Some h) × (half_byte low ≡ Some l) × (byte ≡ h * 16 + l)) }
+{
+    let high = half_byte_from(high)?;
+    let low = half_byte_from(low)?;
+    Some(high * 16 + low)
+}
+
+/// What a hexadecimal digit in lower case stands for.
+#[tactic(auto, unfolding(crate::specs::Cells::half_byte))]
+fn half_byte_from(digit: u8) -> Option<u8>
+    ensures value { result ≡ half_byte digit }
+    ensures half { IfSome result (λ half. half < 16) }
+{
+    match digit {
+        b'0'..=b'9' => Some(digit - b'0'),
+        b'a'..=b'f' => Some(digit - b'a' + 10),
+        _ => None,
+    }
+}
