@@ -2,7 +2,6 @@
 use super::decode::decode_key;
 use super::encode::encode_key;
 use super::range::{Comparison, KeyRange, range_of};
-use super::root::root_prefix;
 use span_schema::layout::KeyPart;
 use span_schema::schema::Schema;
 use span_schema::table::{Column, KeyColumn, Parent, Table};
@@ -250,28 +249,5 @@ fn ranges(rt: HostRuntime) -> Result<(), Fail> {
     let a = Value::Str(Text::from_str(alloc, "a")?);
     let range = range_of(alloc, 1, w, Comparison::Less, &a)?;
     assert!(rt; is_range(&range, b"\x01\xfe\x9e\xff\xff", b"\x01\xff"));
-    Ok(())
-}
-
-#[test]
-fn root_of_album(rt: HostRuntime) -> Result<(), Fail> {
-    let alloc = rt.alloc();
-    let schema = Schema::new(alloc, worked(alloc)?).ok().ok_or("a schema")?;
-    assert_eq!(rt; schema.len(), 2);
-    let values = vec![in alloc; Value::Int(1), Value::Int(10)]?;
-    let key = decode_key(
-        alloc,
-        &schema,
-        b"\x01\x01\x80\x00\x00\x00\x00\x00\x00\x01\x02\x01\x80\x00\x00\x00\x00\x00\x00\x0a",
-    )
-    .ok()
-    .ok_or("a key")?;
-    let coded = encode_key(alloc, &schema, key.table, key.values.as_slice())
-        .ok()
-        .ok_or("a coding")?;
-    assert_eq!(rt; values.len(), 2);
-    assert!(rt;
-        root_prefix(&schema, &coded) == b"\x01\x01\x80\x00\x00\x00\x00\x00\x00\x01".as_slice()
-    );
     Ok(())
 }
