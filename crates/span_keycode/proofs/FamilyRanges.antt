@@ -1,5 +1,5 @@
 -- Which keys of a family a range holds.
-use Rattle.std.proofs.Common.{◌≡◌, ◌≢◌, ◌↔◌, ℕ, zero, suc, ◌+◌, ◌-◌, ◌<◌, ◌≤◌, List, [], ◌∷◌, ◌++◌, refl, sym, ◌∙◌, ap, subst, append_assoc, arith, length, take, map, Bool, true, false, ltb}
+use Rattle.std.proofs.Common.{◌≡◌, ◌≢◌, ◌↔◌, ℕ, zero, suc, ◌+◌, ◌-◌, ◌<◌, ◌≤◌, List, [], ◌∷◌, ◌++◌, refl, sym, ◌∙◌, ap, subst, append_assoc, arith, length, take, map, Bool, true, false, not, ◌&&◌, ltb}
 use Rattle.std.specs.Ordering.{ordering_then}
 use Rattle.std.specs.declared.cmp.Ordering.{Ordering}
 use Rattle.std.specs.declared.cmp.Ordering.TheVariants.{Less, Equal, Greater}
@@ -13,10 +13,10 @@ use Rattle.span_schema.specs.Lineages.{MeetsRules}
 use Rattle.span_schema.specs.Numbers.{IsTable, own_key_columns, key_columns, root_of}
 use Rattle.span_schema.proofs.Judged.{few_tables}
 use Rattle.span_keycode.specs.declared.range.Comparison.{Comparison}
-use Rattle.span_keycode.specs.Order.{flipped, complement}
+use Rattle.span_keycode.specs.Order.{flipped, complement, byte_order}
 use Rattle.span_keycode.specs.Coding.{AreBytes, Fits, AreFit, lifted, escaped, bit, plain, in_direction, column_code, column_cmp, tuple_code, value_cmp}
 use Rattle.span_keycode.specs.Keys.{own_values, key_code, IsKey}
-use Rattle.span_keycode.specs.Ranges.{low_of, high_of, compares, IsWithin}
+use Rattle.span_keycode.specs.Ranges.{low_of, high_of, holds, is_null, first_of, behind_of, compares, IsWithin}
 use Rattle.span_keycode.specs.Laws.{RangeOfComparison}
 use Rattle.span_keycode.proofs.Codes.{decides-column, plain_bytes}
 use Rattle.span_keycode.proofs.RootRows.{root_split}
@@ -29,13 +29,6 @@ turned_bytes : (d : Bool) (bs : List ℕ) → AreBytes bs → AreBytes (in_direc
 turned_bytes false bs f = f
 turned_bytes true [] f = tt
 turned_bytes true (b ∷ bs) f = (flipped_byte b f.0, turned_bytes true bs f.1)
-
-abbrev is_null : Value → Bool
-is_null Null = true
-is_null (Int i) = false
-is_null (Str s) = false
-is_null (Bytes s) = false
-is_null (Flag b) = false
 
 abbrev behind_mark : Value → List ℕ
 behind_mark Null = []
@@ -56,8 +49,8 @@ marked true (Str s) = refl
 marked true (Bytes s) = refl
 marked true (Flag b) = refl
 
-null_first : (w v : Value) → v ≢ Null → is_null w ≡ true → value_cmp w v ≡ Less
-null_first Null Null p e = absurd (p refl)
+null_first : (w v : Value) → is_null v ≡ false → is_null w ≡ true → value_cmp w v ≡ Less
+null_first Null Null p e = absurd (let f : true ≡ false = p in cc)
 null_first Null (Int i) p e = refl
 null_first Null (Str s) p e = refl
 null_first Null (Bytes s) p e = refl
@@ -67,12 +60,25 @@ null_first (Str s) v p e = absurd (let f : false ≡ true = e in cc)
 null_first (Bytes s) v p e = absurd (let f : false ≡ true = e in cc)
 null_first (Flag b) v p e = absurd (let f : false ≡ true = e in cc)
 
-compared : (op : Comparison) (w v : Value) → verdict (is_null w) op (value_cmp w v) ≡ compares op w v
-compared op Null v = refl
-compared op (Int i) v = refl
-compared op (Str s) v = refl
-compared op (Bytes s) v = refl
-compared op (Flag b) v = refl
+compared : (op : Comparison) (w v : Value) → is_null v ≡ false → verdict (is_null w) op (value_cmp w v) ≡ compares op w v
+compared op Null v p = refl
+compared op (Int i) v p = sym (ap (λ b. not b && holds op (value_cmp (Int i) v)) p)
+compared op (Str s) v p = sym (ap (λ b. not b && holds op (value_cmp (Str s) v)) p)
+compared op (Bytes s) v p = sym (ap (λ b. not b && holds op (value_cmp (Bytes s) v)) p)
+compared op (Flag b) v p = sym (ap (λ n. not n && holds op (value_cmp (Flag b) v)) p)
+
+-- nothing compares with NULL
+nothing : (op : Comparison) (w : Value) → compares op w Null ≡ true → ⊥
+nothing op Null e = let f : false ≡ true = e in cc
+nothing op (Int i) e = let f : false ≡ true = e in cc
+nothing op (Str s) e = let f : false ≡ true = e in cc
+nothing op (Bytes s) e = let f : false ≡ true = e in cc
+nothing op (Flag b) e = let f : false ≡ true = e in cc
+
+-- and nothing is before no bytes
+before_none : (xs : List ℕ) → byte_order xs [] ≡ Less → ⊥
+before_none [] e = let f : Equal ≡ Less = e in cc
+before_none (x ∷ xs) e = let f : Greater ≡ Less = e in cc
 
 heads : (a b : Value) (xs ys : List Value) → a ∷ xs ≡ b ∷ ys → (a ≡ b) × (xs ≡ ys)
 heads a b xs ys e = (cc, cc)
@@ -81,8 +87,11 @@ first_taken : (n : ℕ) (w u : Value) (ws us : List Value) → u ∷ us ≡ take
 first_taken zero w u ws us e = absurd (let f : u ∷ us ≡ [] = e in cc)
 first_taken (suc n) w u ws us e = (heads u w us (take n ws) e).0
 
-pub range_of_comparison : RangeOfComparison
-range_of_comparison tables rules n w ws k t c cs root own v f some op =
+-- the law, for a value that is not NULL
+with_value : (tables : List Table) → MeetsRules tables → (n : ℕ) (w : Value) (ws : List Value) → IsKey tables n (w ∷ ws)
+    → (t : ℕ) (c : KeyPart) (cs : List KeyPart) → root_of tables n ≡ t → own_key_columns tables t ≡ c ∷ cs → (v : Value) → Fits c.kind v → is_null v ≡ false → (op : Comparison)
+    → IsWithin (low_of t c.desc op (t ∷ column_code c v)) (high_of t c.desc op (t ∷ column_code c v)) (key_code tables n (w ∷ ws)) ↔ (compares op w v ≡ true)
+with_value tables rules n w ws k t c cs root own v f some op =
     let split = root_split tables rules n (w ∷ ws) k in
     let same : split.root ≡ t = sym split.named ∙ root in
     let P : ℕ → Type 0 = λ m. AreFit (own_key_columns tables m) (own_values tables split.root (w ∷ ws)) in
@@ -116,4 +125,11 @@ range_of_comparison tables rules n w ws k t c cs root own v f some op =
         } in
         let both = within_where op t c.desc (is_null w) (column_code c w) (column_code c v) more (value_cmp w v) stands in
         let K : List ℕ → Type 0 = λ xs. IsWithin (low_of t c.desc op (t ∷ column_code c v)) (high_of t c.desc op (t ∷ column_code c v)) xs in
-        ((λ inside. sym (compared op w v) ∙ both.0 (subst K key inside)), (λ true_here. subst K (sym key) (both.1 (compared op w v ∙ true_here))))
+        ((λ inside. sym (compared op w v some) ∙ both.0 (subst K key inside)), (λ true_here. subst K (sym key) (both.1 (compared op w v some ∙ true_here))))
+
+pub range_of_comparison : RangeOfComparison
+range_of_comparison tables rules n w ws k t c cs root own Null f op = ((λ inside. absurd (before_none _ inside.1)), (λ true_here. absurd (nothing op w true_here)))
+range_of_comparison tables rules n w ws k t c cs root own (Int i) f op = with_value tables rules n w ws k t c cs root own (Int i) f refl op
+range_of_comparison tables rules n w ws k t c cs root own (Str s) f op = with_value tables rules n w ws k t c cs root own (Str s) f refl op
+range_of_comparison tables rules n w ws k t c cs root own (Bytes s) f op = with_value tables rules n w ws k t c cs root own (Bytes s) f refl op
+range_of_comparison tables rules n w ws k t c cs root own (Flag b) f op = with_value tables rules n w ws k t c cs root own (Flag b) f refl op

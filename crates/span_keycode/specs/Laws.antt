@@ -1,5 +1,5 @@
 -- The laws of key codings.
-use Rattle.std.specs.Prelude.{◌≡◌, ◌≢◌, ℕ, List, [], ◌∷◌, ◌++◌, ◌↔◌, true}
+use Rattle.std.specs.Prelude.{◌≡◌, ℕ, List, [], ◌∷◌, ◌++◌, ◌↔◌, true}
 use Rattle.std.specs.Cmp.Lexicographic.{slice_cmp}
 use Rattle.std.specs.Ordering.{nat_cmp}
 use Rattle.std.specs.Str.{IsUtf8, chars}
@@ -8,11 +8,10 @@ use Rattle.span_schema.specs.declared.table.Table.{Table}
 use Rattle.span_schema.specs.Lineages.{MeetsRules}
 use Rattle.span_schema.specs.Numbers.{key_columns, own_key_columns, path_of, root_of}
 use Rattle.span_schema.specs.declared.layout.KeyPart.{KeyPart}
-use Rattle.span_value.specs.declared.value.Value.TheVariants.{Null}
 use Rattle.span_keycode.specs.declared.range.Comparison.{Comparison}
-use Rattle.span_keycode.specs.Ranges.{low_of, high_of, compares, IsWithin}
+use Rattle.span_keycode.specs.Ranges.{first_of, behind_of, compares, IsWithin}
 use Rattle.span_keycode.specs.Order.{byte_order, Decides}
-use Rattle.span_keycode.specs.Coding.{Fits, column_code, tuple_cmp}
+use Rattle.span_keycode.specs.Coding.{Fits, tuple_cmp}
 use Rattle.span_keycode.specs.Keys.{IsKey, key_code, key_cmp}
 
 -- byte order of codings is the order of keys, of whichever tables
@@ -44,9 +43,9 @@ OneKey = (tables : List Table) → MeetsRules tables → (n m : ℕ) (vs ws : Li
 abbrev pub OrderOfTexts : Type 0
 OrderOfTexts = (bs cs : List ℕ) → IsUtf8 bs → IsUtf8 cs → byte_order bs cs ≡ slice_cmp nat_cmp (chars bs) (chars cs)
 
--- the range of a comparison of the first root key column c with a value that is not NULL has the keys of the family in which
--- that column compares so
+-- the range of a comparison of the first root key column c with a value has the keys of the family in which that column compares so:
+-- none where the value is NULL
 abbrev pub RangeOfComparison : Type 0
 RangeOfComparison = (tables : List Table) → MeetsRules tables → (n : ℕ) (w : Value) (ws : List Value) → IsKey tables n (w ∷ ws)
-    → (t : ℕ) (c : KeyPart) (cs : List KeyPart) → root_of tables n ≡ t → own_key_columns tables t ≡ c ∷ cs → (v : Value) → Fits c.kind v → v ≢ Null → (op : Comparison)
-    → IsWithin (low_of t c.desc op (t ∷ column_code c v)) (high_of t c.desc op (t ∷ column_code c v)) (key_code tables n (w ∷ ws)) ↔ (compares op w v ≡ true)
+    → (t : ℕ) (c : KeyPart) (cs : List KeyPart) → root_of tables n ≡ t → own_key_columns tables t ≡ c ∷ cs → (v : Value) → Fits c.kind v → (op : Comparison)
+    → IsWithin (first_of t c op v) (behind_of t c op v) (key_code tables n (w ∷ ws)) ↔ (compares op w v ≡ true)

@@ -1,5 +1,5 @@
 -- Ranges of coded keys, for a comparison with the first key column of a root table.
-use Rattle.std.specs.Prelude.{◌≡◌, ◌≢◌, not, ℕ, ◌+◌, ◌-◌, ◌<◌, ◌≤◌, List, [], ◌∷◌, ◌++◌, Bool, true, false, length, take, drop, nat_lt, slice_index, if◌then◌else◌}
+use Rattle.std.specs.Prelude.{◌≡◌, ◌≢◌, not, ℕ, ◌+◌, ◌-◌, ◌<◌, ◌≤◌, List, [], ◌∷◌, ◌++◌, Bool, true, false, ◌&&◌, length, take, drop, nat_lt, slice_index, if◌then◌else◌}
 use Rattle.std.specs.List.{AllByRecursion}
 use Rattle.span_keycode.specs.declared.range.Comparison.{Comparison}
 use Rattle.span_keycode.specs.declared.range.Comparison.TheVariants.{Equal, Less, AtMost, Greater, AtLeast}
@@ -9,7 +9,8 @@ use Rattle.std.specs.declared.cmp.Ordering.TheVariants as order
 use Rattle.span_value.specs.declared.value.Value.{Value}
 use Rattle.span_value.specs.declared.value.Value.TheVariants.{Null, Int, Str, Bytes, Bool as Flag}
 use Rattle.span_keycode.specs.Order.{byte_order}
-use Rattle.span_keycode.specs.Coding.{value_cmp}
+use Rattle.span_schema.specs.declared.layout.KeyPart.{KeyPart}
+use Rattle.span_keycode.specs.Coding.{column_code, value_cmp}
 
 -- a byte in front of what comes after the others: if nothing does, the byte and 1 more, unless it is 255
 abbrev pub in_front : ℕ → List ℕ → List ℕ
@@ -59,13 +60,23 @@ holds AtMost o = not (is_gt o)
 holds Greater o = is_gt o
 holds AtLeast o = not (is_lt o)
 
--- whether a value compares so with another that is not NULL; NULL does not
+abbrev pub is_null : Value → Bool
+is_null Null = true
+is_null (Int i) = false
+is_null (Str s) = false
+is_null (Bytes s) = false
+is_null (Flag b) = false
+
+-- whether a value compares so with another; NULL compares with nothing
 abbrev pub compares : Comparison → Value → Value → Bool
-compares op Null v = false
-compares op (Int i) v = holds op (value_cmp (Int i) v)
-compares op (Str s) v = holds op (value_cmp (Str s) v)
-compares op (Bytes s) v = holds op (value_cmp (Bytes s) v)
-compares op (Flag b) v = holds op (value_cmp (Flag b) v)
+compares op w v = not (is_null w) && (not (is_null v) && holds op (value_cmp w v))
+
+-- the first bytes of the range of a comparison with a value, and the first behind it: none is between them where the value is NULL
+abbrev pub first_of : ℕ → KeyPart → Comparison → Value → List ℕ
+first_of t c op v = (if is_null v then [] else low_of t c.desc op (t ∷ column_code c v))
+
+abbrev pub behind_of : ℕ → KeyPart → Comparison → Value → List ℕ
+behind_of t c op v = (if is_null v then [] else high_of t c.desc op (t ∷ column_code c v))
 
 -- at or above the first bytes of a range, and before the first behind it
 abbrev pub IsWithin : List ℕ → List ℕ → List ℕ → Type 0

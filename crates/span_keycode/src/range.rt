@@ -1,7 +1,6 @@
 //! Ranges of coded keys, for a comparison with the first key column of a root table.
-ghost use Rattle.std.specs.Prelude.{◌≡◌, ◌<◌, ◌∷◌, IfOk};
-ghost use Rattle.span_keycode.specs.Coding.{column_code};
-ghost use Rattle.span_keycode.specs.Ranges.{next_after, low_of, high_of, IsKept};
+ghost use Rattle.std.specs.Prelude.{◌≡◌, ◌<◌, IfOk};
+ghost use Rattle.span_keycode.specs.Ranges.{next_after, low_of, high_of, is_null, first_of, behind_of, IsKept};
 
 use crate::column::push_value;
 use crate::key::Key;
@@ -27,8 +26,8 @@ pub struct KeyRange {
     pub high: Key,
 }
 
-/// The range of the coded keys of a family in which the first key column of the root table compares so with a value that is
-/// not NULL. `table` is the root table's number, `column` its first key column.
+/// The range of the coded keys of a family in which the first key column of the root table compares so with a value: none where
+/// the value is NULL. `table` is the root table's number, `column` its first key column.
 pub fn range_of(
     alloc: Global,
     table: u8,
@@ -37,8 +36,14 @@ pub fn range_of(
     value: &Value,
 ) -> Result<KeyRange, AllocError>
     requires { table < 255 }
-    ensures { IfOk result (λ range. (range.low ≡ low_of table column.desc comparison (table ∷ column_code column value.now)) × (range.high ≡ high_of table column.desc comparison (table ∷ column_code column value.now))) }
+    ensures { IfOk result (λ range. (range.low ≡ first_of table column comparison value.now) × (range.high ≡ behind_of table column comparison value.now)) }
 {
+    if is_null(value) {
+        return Ok(KeyRange {
+            low: Key::from_slice(alloc, &[])?,
+            high: Key::from_slice(alloc, &[])?,
+        });
+    }
     let mut code = SmallVec::new(alloc);
     code.push(table)?;
     push_value(&mut code, column, value)?;
@@ -46,6 +51,12 @@ pub fn range_of(
         low: low_key(alloc, table, column.desc, comparison, code.as_slice())?,
         high: high_key(alloc, table, column.desc, comparison, code.as_slice())?,
     })
+}
+
+fn is_null(value: &Value) -> bool
+    ensures { result ≡ is_null value.now }
+{
+    matches!(value, Value::Null)
 }
 
 fn low_key(

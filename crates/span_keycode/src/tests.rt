@@ -249,5 +249,7 @@ fn ranges(rt: HostRuntime) -> Result<(), Fail> {
     let a = Value::Str(Text::from_str(alloc, "a")?);
     let range = range_of(alloc, 1, w, Comparison::Less, &a)?;
     assert!(rt; is_range(&range, b"\x01\xfe\x9e\xff\xff", b"\x01\xff"));
+    let none = range_of(alloc, 1, uid, Comparison::Greater, &Value::Null)?;
+    assert!(rt; is_range(&none, b"", b""));
     Ok(())
 }
