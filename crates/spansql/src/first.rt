@@ -5,6 +5,7 @@ use span_core::{
     Bound, Cell, Interval, Mutation, MutationKind, Params, Refusal, Reply, Row, Schema, Seq, Step,
     Text, Transaction, Value, Verdict,
 };
+use span_value::cell::cell_text;
 use std::alloc::Global;
 
 /// Commits the rows (2, b) and (1, a) in one transaction, asks the text at its commit timestamp, and writes what was answered.
@@ -88,7 +89,7 @@ fn insert(alloc: Global, key: i64, text: &str) -> Result<Mutation, Fault> {
     })
 }
 
-fn write_rows(rt: &impl Print, s: u64, rows: &[Row]) -> Result<(), Fault> {
+fn write_rows(rt: &(impl AllocGlobal + Print), s: u64, rows: &[Row]) -> Result<(), Fault> {
     println!(rt; "rows {} at {s}", rows.len())?;
     for row in rows {
         write_row(rt, row.as_slice())?;
@@ -96,19 +97,14 @@ fn write_rows(rt: &impl Print, s: u64, rows: &[Row]) -> Result<(), Fault> {
     Ok(())
 }
 
-/// Writes the values of a row, parted by commas.
-fn write_row(rt: &impl Print, row: &[Value]) -> Result<(), Fault> {
+/// Writes the cells of a row, parted by commas.
+fn write_row(rt: &(impl AllocGlobal + Print), row: &[Value]) -> Result<(), Fault> {
     for (at, value) in row.iter().enumerate() {
         if at > 0 {
             print!(rt; ",")?;
         }
-        match value {
-            Value::Null => print!(rt; "\\N")?,
-            Value::Int(n) => print!(rt; "{n}")?,
-            Value::Str(text) => print!(rt; "{}", text.as_str())?,
-            Value::Bytes(bytes) => print!(rt; "{bytes:?}")?,
-            Value::Bool(b) => print!(rt; "{b}")?,
-        }
+        let cell = cell_text(rt.alloc(), value)?;
+        print!(rt; "{}", cell.as_str())?;
     }
     println!(rt; "")?;
     Ok(())
