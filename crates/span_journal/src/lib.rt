@@ -5,7 +5,7 @@
 
 pub mod journal;
 mod queries;
-pub mod query;
+mod query;
 mod slots;
-pub mod transaction;
+mod transaction;
 mod transactions;

@@ -15,7 +15,7 @@ fn place_of_query(queries: &[KeptQuery], number: u64) -> Option<usize>
 }
 
 /// The query of this number, and its place.
-pub fn find_query(queries: &[KeptQuery], number: u64) -> Option<(usize, &KeptQuery)>
+pub(crate) fn find_query(queries: &[KeptQuery], number: u64) -> Option<(usize, &KeptQuery)>
     ensures none { IfNone result (find (λ p. is_query number p.query) queries.now ≡ None) }
     ensures some { IfSome result (λ r. IsPlace (λ p. is_query number p.query) queries.now r.0 r.1.now) }
 {
@@ -26,7 +26,7 @@ pub fn find_query(queries: &[KeptQuery], number: u64) -> Option<(usize, &KeptQue
 }
 
 /// Covers the query at a place by a piece with these rows.
-pub fn cover_at(queries: &mut Vec<KeptQuery>, at: usize, rows: Seq<Row>)
+pub(crate) fn cover_at(queries: &mut Vec<KeptQuery>, at: usize, rows: Seq<Row>)
     requires { at < length queries.old.items }
     ensures { IfSome (slice_get queries.old.items at) (λ p. queries.new.items ≡ slice_set queries.old.items at (covered_by rows p)) }
 {

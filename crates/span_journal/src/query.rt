@@ -25,7 +25,7 @@ impl Model for KeptQuery {
 
 impl KeptQuery {
     /// A query that no piece covers. It takes no memory.
-    pub fn new(alloc: Global, query: OpenQuery) -> KeptQuery
+    pub(crate) fn new(alloc: Global, query: OpenQuery) -> KeptQuery
         ensures { result ≡ record { query = query; rows = [] } }
     {
         KeptQuery {
@@ -35,35 +35,35 @@ impl KeptQuery {
     }
 
     /// Its number.
-    pub fn number(&self) -> u64
+    pub(crate) fn number(&self) -> u64
         ensures { result ≡ self.now.query.number }
     {
         self.open.number
     }
 
     /// The timestamp that it reads at.
-    pub fn timestamp(&self) -> u64
+    pub(crate) fn timestamp(&self) -> u64
         ensures { result ≡ self.now.query.s }
     {
         self.open.s
     }
 
     /// Whether a piece covers it.
-    pub fn is_covered(&self) -> bool
+    pub(crate) fn is_covered(&self) -> bool
         ensures { result ≡ self.now.query.covered }
     {
         self.open.covered
     }
 
     /// The rows of its piece.
-    pub fn rows(&self) -> &[Row]
+    pub(crate) fn rows(&self) -> &[Row]
         ensures { result.now ≡ self.now.rows }
     {
         self.rows.as_slice()
     }
 
     /// Covers it by a piece with these rows.
-    pub fn cover(&mut self, rows: Seq<Row>)
+    pub(crate) fn cover(&mut self, rows: Seq<Row>)
         ensures { self.new ≡ record { query = cover self.old.query; rows = rows } }
     {
         self.open.covered = true;

@@ -11,7 +11,7 @@ use span_shard::mutation::CheckedMutation;
 use span_truetime::interval::{Interval, TIMESTAMP_END};
 
 /// The greatest prepare timestamp.
-pub fn greatest_timestamp(prepared: &[Prepared]) -> u64
+pub(crate) fn greatest_timestamp(prepared: &[Prepared]) -> u64
     ensures { result ≡ greatest prepared.now }
 {
     let mut most = 0;
@@ -22,7 +22,7 @@ pub fn greatest_timestamp(prepared: &[Prepared]) -> u64
 }
 
 /// Whether the slot's range has the key.
-pub fn holds_key(book: &Book, _key: i64) -> bool
+pub(crate) fn holds_key(book: &Book, _key: i64) -> bool
     ensures { result ≡ holds book.now _key }
 {
     true
@@ -54,7 +54,7 @@ fn are_all_ready(books: &[Book], prepared: &[Prepared], mutations: &[CheckedMuta
 }
 
 /// Whether every mutation is of a slot where the transaction is prepared.
-pub fn is_ready(books: &[Book], transaction: &KeptTransaction) -> bool
+pub(crate) fn is_ready(books: &[Book], transaction: &KeptTransaction) -> bool
     ensures { result ≡ (not (length transaction.now.prepared == 0) && list_all (λ m. list_any (λ p. if_some (slice_get books.now p.slot) false (λ book. holds book m.key)) transaction.now.prepared) transaction.now.mutations) }
 {
     if transaction.prepared().len() == 0 {
@@ -64,7 +64,7 @@ pub fn is_ready(books: &[Book], transaction: &KeptTransaction) -> bool
 }
 
 /// The lowest of the slots.
-pub fn lowest_slot(slot: usize, prepared: &[Prepared]) -> usize
+pub(crate) fn lowest_slot(slot: usize, prepared: &[Prepared]) -> usize
     ensures { result ≡ coordinator slot prepared.now }
 {
     let mut least = slot;
@@ -77,7 +77,7 @@ pub fn lowest_slot(slot: usize, prepared: &[Prepared]) -> usize
 }
 
 /// The coordinator, the lowest slot of all.
-pub fn coordinator_slot(prepared: &[Prepared]) -> usize
+pub(crate) fn coordinator_slot(prepared: &[Prepared]) -> usize
     ensures { result ≡ coordinator_of prepared.now }
 {
     match prepared {
@@ -87,7 +87,7 @@ pub fn coordinator_slot(prepared: &[Prepared]) -> usize
 }
 
 /// The last timestamp of the slot, if it is used.
-pub fn last_timestamp(books: &[Book], slot: usize) -> u64
+pub(crate) fn last_timestamp(books: &[Book], slot: usize) -> u64
     ensures { result ≡ if_some (slice_get books.now slot) 0 (λ book. book.last) }
 {
     match books.get(slot) {
@@ -97,7 +97,7 @@ pub fn last_timestamp(books: &[Book], slot: usize) -> u64
 }
 
 /// The commit timestamp, if there is one left.
-pub fn decision(books: &[Book], prepared: &[Prepared], latest: u64) -> Option<u64>
+pub(crate) fn decision(books: &[Book], prepared: &[Prepared], latest: u64) -> Option<u64>
     ensures some { IfSome result (λ ts. (ts ≡ max (greatest prepared.now) (max (latest + 1) (if_some (slice_get books.now (coordinator_of prepared.now)) 0 (λ book. book.last) + 1))) × (ts < 2 ^ 62)) }
     ensures none { IfNone result (2 ^ 62 ≤ max (greatest prepared.now) (max (latest + 1) (if_some (slice_get books.now (coordinator_of prepared.now)) 0 (λ book. book.last) + 1))) }
 {
@@ -110,7 +110,7 @@ pub fn decision(books: &[Book], prepared: &[Prepared], latest: u64) -> Option<u6
 }
 
 /// Raises the last timestamp of the slot.
-pub fn raise_last(books: &mut Vec<Book>, slot: usize, timestamp: u64)
+pub(crate) fn raise_last(books: &mut Vec<Book>, slot: usize, timestamp: u64)
     ensures { books.new.items ≡ with_last books.old.items slot timestamp }
 {
     if slot < books.len() {
@@ -120,7 +120,7 @@ pub fn raise_last(books: &mut Vec<Book>, slot: usize, timestamp: u64)
 }
 
 /// Whether s is at most the safe time of the slot.
-pub fn is_safe_at(transactions: &[KeptTransaction], floor: u64, slot: usize, s: u64) -> bool
+pub(crate) fn is_safe_at(transactions: &[KeptTransaction], floor: u64, slot: usize, s: u64) -> bool
     ensures { result ≡ (nat_le s floor && list_all (λ t. list_all (λ p. not (p.slot == slot) || nat_lt s p.timestamp) t.prepared) transactions.now) }
 {
     if s > floor {
@@ -144,7 +144,7 @@ fn are_above(prepared: &[Prepared], slot: usize, s: u64) -> bool
 }
 
 /// The next prepare timestamp of the slot, if there is one left.
-pub fn prepare_timestamp(book: &Book) -> Option<u64>
+pub(crate) fn prepare_timestamp(book: &Book) -> Option<u64>
     ensures some { IfSome result (λ ts. (ts ≡ prepare_timestamp book.now) × (ts < 2 ^ 62)) }
     ensures none { IfNone result (2 ^ 62 ≤ prepare_timestamp book.now) }
 {
@@ -156,7 +156,7 @@ pub fn prepare_timestamp(book: &Book) -> Option<u64>
 }
 
 /// Sets the last timestamp of the slot.
-pub fn set_last(books: &mut Vec<Book>, slot: usize, timestamp: u64)
+pub(crate) fn set_last(books: &mut Vec<Book>, slot: usize, timestamp: u64)
     requires { slot < length books.old.items }
     ensures { IfSome (slice_get books.old.items slot) (λ book. books.new.items ≡ slice_set books.old.items slot (record book { last = timestamp })) }
 {
@@ -164,7 +164,7 @@ pub fn set_last(books: &mut Vec<Book>, slot: usize, timestamp: u64)
 }
 
 /// Sets the floor of the slot.
-pub fn set_floor(books: &mut Vec<Book>, slot: usize, floor: u64)
+pub(crate) fn set_floor(books: &mut Vec<Book>, slot: usize, floor: u64)
     requires { slot < length books.old.items }
     ensures { IfSome (slice_get books.old.items slot) (λ book. books.new.items ≡ slice_set books.old.items slot (record book { floor = floor })) }
 {
@@ -172,14 +172,14 @@ pub fn set_floor(books: &mut Vec<Book>, slot: usize, floor: u64)
 }
 
 /// What is known of the slot, if it is in use.
-pub fn book_at(books: &[Book], slot: usize) -> Option<&Book>
+pub(crate) fn book_at(books: &[Book], slot: usize) -> Option<&Book>
     ensures { option_copied result ≡ slice_get books.now slot }
 {
     books.get(slot)
 }
 
 /// The floor of the slot once it has risen to s, which it does where the clock has passed s.
-pub fn risen_floor(book: &Book, s: u64, interval: Interval) -> u64
+pub(crate) fn risen_floor(book: &Book, s: u64, interval: Interval) -> u64
     ensures { record book.now { floor = result } ≡ risen book.now s interval }
 {
     if book.floor < s && s <= interval.latest {

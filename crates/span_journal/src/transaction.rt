@@ -31,7 +31,7 @@ impl Model for KeptTransaction {
 
 impl KeptTransaction {
     /// A transaction, and a copy of its mutations for the log.
-    pub fn new(transaction: OpenTransaction, entry: Seq<CheckedMutation>) -> KeptTransaction
+    pub(crate) fn new(transaction: OpenTransaction, entry: Seq<CheckedMutation>) -> KeptTransaction
         requires { entry ≡ transaction.mutations }
         ensures { result ≡ transaction }
     {
@@ -42,7 +42,7 @@ impl KeptTransaction {
     }
 
     /// Commits at the timestamp, and gives the log's entry. It takes no memory.
-    pub fn commit(&mut self, alloc: Global, timestamp: u64) -> Commit
+    pub(crate) fn commit(&mut self, alloc: Global, timestamp: u64) -> Commit
         requires { is_undecided self.old ≡ true }
         ensures commit { result ≡ commit_of timestamp self.old }
         ensures after { self.new ≡ with_outcome (Outcome.Committed timestamp) self.old }
@@ -57,56 +57,56 @@ impl KeptTransaction {
     }
 
     /// Aborts. It takes no memory.
-    pub fn abort(&mut self)
+    pub(crate) fn abort(&mut self)
         ensures { self.new ≡ with_outcome Outcome.Aborted self.old }
     {
         self.open.outcome = Outcome::Aborted;
     }
 
     /// The owner that began it.
-    pub fn owner(&self) -> u64
+    pub(crate) fn owner(&self) -> u64
         ensures { result ≡ self.now.owner }
     {
         self.open.owner
     }
 
     /// Its number.
-    pub fn number(&self) -> u64
+    pub(crate) fn number(&self) -> u64
         ensures { result ≡ self.now.number }
     {
         self.open.number
     }
 
     /// What was decided of it.
-    pub fn outcome(&self) -> Outcome
+    pub(crate) fn outcome(&self) -> Outcome
         ensures { result ≡ self.now.outcome }
     {
         self.open.outcome
     }
 
     /// Whether nothing is decided yet.
-    pub fn is_undecided(&self) -> bool
+    pub(crate) fn is_undecided(&self) -> bool
         ensures { result ≡ is_undecided self.now }
     {
         matches!(self.open.outcome, Outcome::Undecided)
     }
 
     /// Where it is prepared.
-    pub fn prepared(&self) -> &[Prepared]
+    pub(crate) fn prepared(&self) -> &[Prepared]
         ensures { result.now ≡ self.now.prepared }
     {
         self.open.prepared.as_slice()
     }
 
     /// Its mutations.
-    pub fn mutations(&self) -> &[CheckedMutation]
+    pub(crate) fn mutations(&self) -> &[CheckedMutation]
         ensures { result.now ≡ self.now.mutations }
     {
         self.open.mutations.as_slice()
     }
 
     /// Notes where it is prepared. An error leaves all as it was.
-    pub fn add_prepared(&mut self, prepared: Prepared) -> Result<(), AllocError>
+    pub(crate) fn add_prepared(&mut self, prepared: Prepared) -> Result<(), AllocError>
         ensures ok { OnOk result (self.new ≡ add_prepared prepared.slot prepared.timestamp self.old) }
         ensures err { OnErr result (self.new ≡ self.old) }
     {
@@ -115,7 +115,7 @@ impl KeptTransaction {
     }
 
     /// Notes that it is prepared at the slot no more. It takes no memory.
-    pub fn leave(&mut self, alloc: Global, slot: usize)
+    pub(crate) fn leave(&mut self, alloc: Global, slot: usize)
         ensures { self.new ≡ without_prepared slot self.old }
     {
         let mut prepared = mem::replace(&mut self.open.prepared, Seq::new(alloc)).into_vec();

@@ -15,7 +15,7 @@ use span_value::seq::Seq;
 use std::alloc::{AllocError, Global};
 
 /// How many transactions are undecided.
-pub fn count_undecided(transactions: &[KeptTransaction]) -> usize
+pub(crate) fn count_undecided(transactions: &[KeptTransaction]) -> usize
     ensures { result ≡ count_by is_undecided transactions.now }
 {
     transactions.iter().filter(|t| t.is_undecided()).count()
@@ -30,7 +30,7 @@ fn place_of_transaction(transactions: &[KeptTransaction], owner: u64, number: u6
 }
 
 /// The transaction of this owner and number, and its place.
-pub fn find_transaction(
+pub(crate) fn find_transaction(
     transactions: &[KeptTransaction],
     owner: u64,
     number: u64,
@@ -45,14 +45,14 @@ pub fn find_transaction(
 }
 
 /// Whether the transaction is prepared at the slot.
-pub fn is_prepared(transaction: &KeptTransaction, slot: usize) -> bool
+pub(crate) fn is_prepared(transaction: &KeptTransaction, slot: usize) -> bool
     ensures { result ≡ is_prepared_at slot transaction.now }
 {
     transaction.prepared().iter().any(|p| p.slot == slot)
 }
 
 /// Commits the transaction at a place.
-pub fn commit_at(
+pub(crate) fn commit_at(
     alloc: Global,
     transactions: &mut Vec<KeptTransaction>,
     at: usize,
@@ -68,7 +68,7 @@ pub fn commit_at(
 }
 
 /// Copies of mutations.
-pub fn copies_of(
+pub(crate) fn copies_of(
     alloc: Global,
     mutations: &[CheckedMutation],
 ) -> Result<Seq<CheckedMutation>, Refusal>
@@ -82,7 +82,7 @@ pub fn copies_of(
 }
 
 /// Whether a transaction that is prepared at the slot has a key of these.
-pub fn has_conflict(
+pub(crate) fn has_conflict(
     transactions: &[KeptTransaction],
     slot: usize,
     mutations: &[CheckedMutation],
@@ -104,7 +104,7 @@ fn is_in_conflict(transaction: &KeptTransaction, slot: usize, mutations: &[Check
 }
 
 /// Whether a key is in both lists.
-pub fn share_key(left: &[CheckedMutation], right: &[CheckedMutation]) -> bool
+pub(crate) fn share_key(left: &[CheckedMutation], right: &[CheckedMutation]) -> bool
     ensures { result ≡ have_common_key left.now right.now }
 {
     left.iter().any(|m| has_key(right, m.key))
@@ -117,7 +117,7 @@ fn has_key(mutations: &[CheckedMutation], key: i64) -> bool
 }
 
 /// Aborts the transaction at a place.
-pub fn abort_at(transactions: &mut Vec<KeptTransaction>, at: usize)
+pub(crate) fn abort_at(transactions: &mut Vec<KeptTransaction>, at: usize)
     requires { at < length transactions.old.items }
     ensures after { IfSome (slice_get transactions.old.items at) (λ t. transactions.new.items ≡ slice_set transactions.old.items at (with_outcome Outcome.Aborted t)) }
     ensures fewer { count_by is_undecided transactions.new.items ≤ count_by is_undecided transactions.old.items }
@@ -135,7 +135,7 @@ fn leave_at(alloc: Global, transactions: &mut Vec<KeptTransaction>, at: usize, s
 }
 
 /// Ends what the transaction at a place has at the slot: it is prepared there no more, and leaves once it is prepared nowhere.
-pub fn end_at(alloc: Global, transactions: &mut Vec<KeptTransaction>, at: usize, slot: usize)
+pub(crate) fn end_at(alloc: Global, transactions: &mut Vec<KeptTransaction>, at: usize, slot: usize)
     requires { at < length transactions.old.items }
     ensures after { IfSome (slice_get transactions.old.items at) (λ t. transactions.new.items ≡
         (if length (without_prepared slot t).prepared == 0 then remove transactions.old.items at else slice_set transactions.old.items at (without_prepared slot t))) }
@@ -149,7 +149,7 @@ pub fn end_at(alloc: Global, transactions: &mut Vec<KeptTransaction>, at: usize,
 }
 
 /// Notes where the transaction at a place is prepared. An error leaves all as it was.
-pub fn note_at(
+pub(crate) fn note_at(
     transactions: &mut Vec<KeptTransaction>,
     at: usize,
     prepared: Prepared,
@@ -163,7 +163,7 @@ pub fn note_at(
 }
 
 /// Takes the transaction at a place away.
-pub fn remove_at(transactions: &mut Vec<KeptTransaction>, at: usize)
+pub(crate) fn remove_at(transactions: &mut Vec<KeptTransaction>, at: usize)
     requires { at < length transactions.old.items }
     ensures after { transactions.new.items ≡ remove transactions.old.items at }
     ensures fewer { count_by is_undecided transactions.new.items ≤ count_by is_undecided transactions.old.items }
@@ -172,7 +172,7 @@ pub fn remove_at(transactions: &mut Vec<KeptTransaction>, at: usize)
 }
 
 /// Whether the transaction is in a state to be prepared at the slot, where all of its keys lie.
-pub fn may_prepare(transaction: &KeptTransaction, slot: usize) -> bool
+pub(crate) fn may_prepare(transaction: &KeptTransaction, slot: usize) -> bool
     ensures { result ≡ not (not (is_undecided transaction.now) || is_prepared_at slot transaction.now || (length transaction.now.mutations == 0)) }
 {
     if !transaction.is_undecided() {
@@ -192,7 +192,7 @@ fn is_prepared_elsewhere(transaction: &KeptTransaction, slot: usize) -> bool
 }
 
 /// The commit timestamp of a transaction that may be applied at the slot, or None for an aborted one, or why it may not.
-pub fn judge_apply(
+pub(crate) fn judge_apply(
     transaction: &KeptTransaction,
     slot: usize,
     interval: Interval,

@@ -1,40 +1,28 @@
 //! The coding of one column's value.
-ghost use Rattle.std.specs.Prelude.{◌≡◌, ◌++◌, ◌∷◌, [], OnOk, length};
+ghost use Rattle.std.specs.Prelude.{◌≡◌, ◌++◌, ◌∷◌, [], OnOk, IsTrue, length};
 ghost use Rattle.std.specs.Int.{to_be_bytes, w64};
-ghost use Rattle.span_keycode.specs.Coding.{lifted, escaped, escaped_byte, in_direction, column_code, tuple_code, is_of_kind, are_of_kinds};
+ghost use Rattle.span_keycode.specs.Coding.{lifted, escaped, escaped_byte, in_direction, column_code, tuple_code, are_of_kinds, AreFit};
 
 use crate::key::INLINE_BYTES;
 use crate::text::directed;
 use smallvec::SmallVec;
+use span_schema::fitting::is_of_kind;
 use span_schema::layout::KeyPart;
-use span_value::value::{Kind, Value};
+use span_value::value::Value;
 use std::alloc::AllocError;
 
 type Bytes = SmallVec<u8, INLINE_BYTES>;
 
-/// Whether the value is NULL or of the kind.
-pub fn has_kind(kind: Kind, value: &Value) -> bool
-    ensures { result ≡ is_of_kind kind value.now }
-{
-    match (kind, value) {
-        (_, Value::Null) => true,
-        (Kind::Int, Value::Int(_)) => true,
-        (Kind::Str, Value::Str(_)) => true,
-        (Kind::Bytes, Value::Bytes(_)) => true,
-        (Kind::Bool, Value::Bool(_)) => true,
-        _ => false,
-    }
-}
-
-/// Whether there is one value for each column, NULL or of its kind.
-pub fn have_kinds(columns: &[KeyPart], values: &[Value]) -> bool
-    ensures { result ≡ are_of_kinds columns.now values.now }
+/// Whether there is one value for each column, NULL or of its kind. Then each fits its column.
+pub(crate) fn have_kinds(columns: &[KeyPart], values: &[Value]) -> bool
+    ensures kinds { result ≡ are_of_kinds columns.now values.now }
+    ensures fits { IsTrue result → AreFit columns.now values.now }
 {
     if columns.len() != values.len() {
         return false;
     }
     for i in 0..columns.len() {
-        if !has_kind(columns[i].kind, &values[i]) {
+        if !is_of_kind(columns[i].kind, &values[i]) {
             return false;
         }
     }
@@ -94,7 +82,7 @@ fn push_number(out: &mut Bytes, number: u64, desc: bool) -> Result<(), AllocErro
 }
 
 /// Adds the coding of a column's value. An error may leave a part of it.
-pub fn push_value(out: &mut Bytes, column: KeyPart, value: &Value) -> Result<(), AllocError>
+pub(crate) fn push_value(out: &mut Bytes, column: KeyPart, value: &Value) -> Result<(), AllocError>
     ensures { OnOk result (out.new.items ≡ out.old.items ++ column_code column value.now) }
 {
     let desc = column.desc;
@@ -120,7 +108,11 @@ pub fn push_value(out: &mut Bytes, column: KeyPart, value: &Value) -> Result<(),
 }
 
 /// Adds the codings of columns, one value for each. An error may leave a part of them.
-pub fn push_tuple(out: &mut Bytes, columns: &[KeyPart], values: &[Value]) -> Result<(), AllocError>
+pub(crate) fn push_tuple(
+    out: &mut Bytes,
+    columns: &[KeyPart],
+    values: &[Value],
+) -> Result<(), AllocError>
     requires { length columns.now ≡ length values.now }
     ensures { OnOk result (out.new.items ≡ out.old.items ++ tuple_code columns.now values.now) }
 {

@@ -1,8 +1,8 @@
 //! Coding keys.
-ghost use Rattle.std.specs.Prelude.{◌≡◌, ◌⊎◌, ◌≤◌, ◌++◌, MatchResult, IfOk, OnOk, length, take, drop};
+ghost use Rattle.std.specs.Prelude.{◌≡◌, ◌⊎◌, ◌≤◌, ◌++◌, MatchResult, IfOk, OnOk, None, Some, length, take, drop};
 ghost use Rattle.span_schema.specs.Lineages.{MeetsRules};
 ghost use Rattle.span_schema.specs.Numbers.{IsTable, key_columns};
-ghost use Rattle.span_keycode.specs.Keys.{key_code, level_code, level_of, encode_cause};
+ghost use Rattle.span_keycode.specs.Keys.{IsCodedKey, key_code, level_code, level_of, encode_cause};
 
 use crate::column::{have_kinds, push_tuple};
 use crate::key::{INLINE_BYTES, Key, MOST_BYTES};
@@ -24,7 +24,7 @@ pub fn encode_key(
     values: &[Value],
 ) -> Result<Key, Refusal>
     requires { IsTable schema.now table }
-    ensures { MatchResult result (λ key. (encode_cause schema.now table values.now ≡ None) × (key ≡ key_code schema.now table values.now)) (λ why. (encode_cause schema.now table values.now ≡ Some why) ⊎ (why ≡ Refusal.OutOfMemory)) }
+    ensures { MatchResult result (λ key. (encode_cause schema.now table values.now ≡ None) × IsCodedKey schema.now table values.now × (key ≡ key_code schema.now table values.now)) (λ why. (encode_cause schema.now table values.now ≡ Some why) ⊎ (why ≡ Refusal.OutOfMemory)) }
 {
     if !have_kinds(schema.key_columns(table), values) {
         return Err(Refusal::WrongType);

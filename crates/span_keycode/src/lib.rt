@@ -1,7 +1,7 @@
 //! Coded keys: bytes whose order is the order of keys.
 #![tactic(auto)]
 
-pub mod column;
+mod column;
 pub mod decode;
 pub mod encode;
 pub mod key;
@@ -10,6 +10,6 @@ pub mod range;
 pub mod root;
 #[cfg(test)]
 mod tests;
-pub mod text;
-pub mod tuple;
-pub mod value;
+mod text;
+mod tuple;
+mod value;

@@ -2,6 +2,7 @@
 use super::decode::decode_key;
 use super::encode::encode_key;
 use super::range::{Comparison, KeyRange, range_of};
+use super::root::root_prefix;
 use span_schema::layout::KeyPart;
 use span_schema::schema::Schema;
 use span_schema::table::{Column, KeyColumn, Parent, Table};
@@ -85,6 +86,17 @@ fn has_code(alloc: Global, schema: &Schema, table: usize, values: Vec<Value>, co
     coded && read
 }
 
+// Whether the coding of a key begins with this coding of the key of its root row.
+fn has_root(alloc: Global, schema: &Schema, table: usize, values: Vec<Value>, code: &[u8]) -> bool {
+    if table == 0 || table > schema.len() {
+        return false;
+    }
+    match encode_key(alloc, schema, table, values.as_slice()) {
+        Ok(key) => root_prefix(schema, &key) == code,
+        Err(_why) => false,
+    }
+}
+
 fn word(alloc: Global, text: &str) -> Result<Vec<Value>, AllocError> {
     Ok(vec![in alloc; Value::Str(Text::from_str(alloc, text)?)]?)
 }
@@ -118,6 +130,24 @@ fn worked_keys(rt: HostRuntime) -> Result<(), Fail> {
             2,
             vec![in alloc; Value::Int(1), Value::Int(10)]?,
             b"\x01\x01\x80\x00\x00\x00\x00\x00\x00\x01\x02\x01\x80\x00\x00\x00\x00\x00\x00\x0a"
+        )
+    );
+    Ok(())
+}
+
+#[test]
+fn root_keys(rt: HostRuntime) -> Result<(), Fail> {
+    let alloc = rt.alloc();
+    let schema = Schema::new(alloc, worked(alloc)?).ok().ok_or("a schema")?;
+    let user = b"\x01\x01\x80\x00\x00\x00\x00\x00\x00\x01";
+    assert!(rt; has_root(alloc, &schema, 1, vec![in alloc; Value::Int(1)]?, user));
+    assert!(rt;
+        has_root(
+            alloc,
+            &schema,
+            2,
+            vec![in alloc; Value::Int(1), Value::Int(10)]?,
+            user
         )
     );
     Ok(())

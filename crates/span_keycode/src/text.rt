@@ -15,14 +15,14 @@ pub enum Step {
 }
 
 /// A byte as it stands in a column that is descending or not.
-pub fn directed(byte: u8, desc: bool) -> u8
+pub(crate) fn directed(byte: u8, desc: bool) -> u8
     ensures { in_direction desc (byte ∷ []) ≡ result ∷ [] }
 {
     if desc { 255 - byte } else { byte }
 }
 
 /// What stands at the front of an escaped text.
-pub fn step_at(rest: &[u8], desc: bool) -> Step
+pub(crate) fn step_at(rest: &[u8], desc: bool) -> Step
     ensures { AtStep desc rest.now result }
 {
     if rest.len() == 0 {
@@ -43,7 +43,7 @@ pub fn step_at(rest: &[u8], desc: bool) -> Step
 }
 
 /// The escaped text at the front, and how many bytes code it; None if there is none.
-pub fn read_text(
+pub(crate) fn read_text(
     alloc: Global,
     bytes: &[u8],
     desc: bool,

@@ -9,7 +9,7 @@ use std::alloc::{AllocError, Global};
 
 /// Adds the values at the front of bytes, one for each column, and answers how many bytes code them; None if no values of the
 /// columns are coded there, and then some may have been added.
-pub fn read_tuple(
+pub(crate) fn read_tuple(
     alloc: Global,
     columns: &[KeyPart],
     bytes: &[u8],

@@ -12,7 +12,7 @@ use span_value::value::{Kind, Value};
 use std::alloc::{AllocError, Global};
 
 /// The cell of a kind at the front of bytes, and how many bytes code it; None if no cell of the kind is coded there.
-pub fn read_cell(
+pub(crate) fn read_cell(
     alloc: Global,
     kind: Kind,
     bytes: &[u8],
@@ -34,7 +34,7 @@ pub fn read_cell(
 }
 
 /// The bytes from a place on.
-pub fn after(bytes: &[u8], place: usize) -> &[u8]
+pub(crate) fn after(bytes: &[u8], place: usize) -> &[u8]
     requires { place ≤ length bytes.now }
     ensures { result.now ≡ drop place bytes.now }
 {

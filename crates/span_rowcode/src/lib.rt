@@ -1,7 +1,7 @@
 //! Packed rows: the bytes of the columns outside the primary key.
 #![tactic(auto)]
 
-pub mod cell;
+mod cell;
 pub mod laws;
 pub mod pack;
 #[cfg(test)]

@@ -33,7 +33,7 @@ pub struct Layout {
 }
 
 /// The layout of each table.
-pub fn layouts_of(alloc: Global, tables: &[Table]) -> Result<Vec<Layout>, AllocError>
+pub(crate) fn layouts_of(alloc: Global, tables: &[Table]) -> Result<Vec<Layout>, AllocError>
     ensures { IfOk result (λ layouts. layouts.items ≡ map layout_of tables.now) }
 {
     let mut layouts = Vec::new(alloc);
@@ -124,7 +124,7 @@ fn kinds_of_others(
 }
 
 /// The numbers of the children of each table, in the order of declaration.
-pub fn children_of(
+pub(crate) fn children_of(
     alloc: Global,
     lines: &[Lineage],
     tables: &[Table],

@@ -1,9 +1,10 @@
 //! Schemas: tables that are interleaved in one another, and the rules that they meet.
 #![tactic(auto)]
 
+pub mod fitting;
 pub mod layout;
-pub mod lineage;
-pub mod rules;
+mod lineage;
+mod rules;
 pub mod schema;
 pub mod table;
 #[cfg(test)]

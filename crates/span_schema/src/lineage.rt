@@ -21,7 +21,7 @@ pub struct Lineage {
 }
 
 /// Where each table stands, if all of them meet the rules, and else the first cause of refusal.
-pub fn lineages_of(alloc: Global, tables: &[Table]) -> Result<Vec<Lineage>, Refusal>
+pub(crate) fn lineages_of(alloc: Global, tables: &[Table]) -> Result<Vec<Lineage>, Refusal>
     ensures { MatchResult result (λ lines. MeetsRules tables.now × (lines.items ≡ map (lineage_at tables.now) (range_with_len 0 (length tables.now)))) (λ why. IsFirstCause tables.now why ⊎ (why ≡ Refusal.OutOfMemory)) }
 {
     let mut lines = Vec::new(alloc);

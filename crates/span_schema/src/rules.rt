@@ -23,7 +23,7 @@ pub const MOST_LEVELS: usize = 7;
 pub const LONGEST: u64 = 1_048_576;
 
 /// The first rule that a table breaks, if it breaks one. The tables before it meet the rules; `level` is its own level.
-pub fn judge_table(before: &[Table], table: &Table, level: usize) -> Result<(), Refusal>
+pub(crate) fn judge_table(before: &[Table], table: &Table, level: usize) -> Result<(), Refusal>
     ensures { MatchResult result (λ _. first_cause (causes_of before.now table.now level) ≡ None) (λ why. first_cause (causes_of before.now table.now level) ≡ Some why) }
 {
     if is_too_many(before, table) {
@@ -171,7 +171,7 @@ fn is_alike(columns: &[Column], others: &[Column], a: &KeyColumn, b: &KeyColumn)
 }
 
 /// The type of the column with a name.
-pub fn type_of(columns: &[Column], name: &str) -> Option<ColumnType>
+pub(crate) fn type_of(columns: &[Column], name: &str) -> Option<ColumnType>
     ensures { result ≡ type_named columns.now name.now }
 {
     columns

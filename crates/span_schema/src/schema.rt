@@ -136,7 +136,7 @@ impl Schema {
     {
         match self.line(table).parent {
             None => None,
-            Some(place) => Some(place + 1),
+            Some(above) => Some(above + 1),
         }
     }
 

@@ -65,21 +65,21 @@ pub fn are_same(a: &str, b: &str) -> bool
 }
 
 /// The place of the column with a name, counted from 0.
-pub fn place_of_column(columns: &[Column], name: &str) -> Option<usize>
+pub(crate) fn place_of_column(columns: &[Column], name: &str) -> Option<usize>
     ensures { result ≡ column_place columns.now name.now }
 {
     columns.iter().position(|c| are_same(c.name.as_str(), name))
 }
 
 /// Whether a column of the key has the name.
-pub fn is_in_key(key: &[KeyColumn], name: &str) -> bool
+pub(crate) fn is_in_key(key: &[KeyColumn], name: &str) -> bool
     ensures { result ≡ is_key_name key.now name.now }
 {
     key.iter().any(|k| are_same(k.name.as_str(), name))
 }
 
 /// The place of the table that a table names as its parent, among those declared before it.
-pub fn place_of_parent(before: &[Table], table: &Table) -> Option<usize>
+pub(crate) fn place_of_parent(before: &[Table], table: &Table) -> Option<usize>
     ensures place { result ≡ parent_place before.now table.now }
     ensures within { IfSome result (λ p. p < length before.now) }
 {
@@ -90,7 +90,7 @@ pub fn place_of_parent(before: &[Table], table: &Table) -> Option<usize>
 }
 
 /// The place of the table with a name, counted from 0.
-pub fn place_of_table(tables: &[Table], name: &str) -> Option<usize>
+pub(crate) fn place_of_table(tables: &[Table], name: &str) -> Option<usize>
     ensures place { result ≡ table_place tables.now name.now }
     ensures within { IfSome result (λ p. p < length tables.now) }
 {

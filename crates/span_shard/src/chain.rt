@@ -50,7 +50,7 @@ impl Model for Chain {
 
 impl Chain {
     /// A key with no version, where a write is prepared.
-    pub fn new(alloc: Global, key: i64, write: PreparedWrite) -> Result<Chain, AllocError>
+    pub(crate) fn new(alloc: Global, key: i64, write: PreparedWrite) -> Result<Chain, AllocError>
         ensures { IfOk result (λ chain. chain ≡ record { key = key; versions = []; prepared = Some write }) }
     {
         let versions = Vec::with_capacity(alloc, 1)?;
@@ -62,42 +62,42 @@ impl Chain {
     }
 
     /// The key.
-    pub fn key(&self) -> i64
+    pub(crate) fn key(&self) -> i64
         ensures { result ≡ self.now.key }
     {
         self.key
     }
 
     /// How a key stands to this one.
-    pub fn order_of(&self, key: i64) -> Ordering
+    pub(crate) fn order_of(&self, key: i64) -> Ordering
         ensures { result ≡ int_cmp key self.now.key }
     {
         key.cmp(&self.key)
     }
 
     /// How many versions there are.
-    pub fn len(&self) -> usize
+    pub(crate) fn len(&self) -> usize
         ensures { result ≡ length self.now.versions }
     {
         self.versions.len()
     }
 
     /// Whether a write is prepared.
-    pub fn is_prepared(&self) -> bool
+    pub(crate) fn is_prepared(&self) -> bool
         ensures { result ≡ is_some self.now.prepared }
     {
         self.prepared.is_some()
     }
 
     /// The newest version at or below s.
-    pub fn newest_at(&self, s: u64) -> Option<&Version>
+    pub(crate) fn newest_at(&self, s: u64) -> Option<&Version>
         ensures { option_copied result ≡ newest_at self.now.versions s }
     {
         newest(self.versions.as_slice(), s)
     }
 
     /// The row at s, if there is one.
-    pub fn row_at(&self, s: u64) -> Option<&Value>
+    pub(crate) fn row_at(&self, s: u64) -> Option<&Value>
         ensures { option_copied result ≡ row_at self.now.versions s }
     {
         match self.newest_at(s) {
@@ -107,21 +107,21 @@ impl Chain {
     }
 
     /// Whether the key has a version or a prepared write.
-    pub fn is_used(&self) -> bool
+    pub(crate) fn is_used(&self) -> bool
         ensures { result ≡ is_used self.now }
     {
         !self.versions.is_empty() || self.prepared.is_some()
     }
 
     /// How many versions are kept, the prepared one included.
-    pub fn kept(&self) -> usize
+    pub(crate) fn kept(&self) -> usize
         ensures { result ≡ kept_of self.now }
     {
         self.versions.len() + if self.prepared.is_some() { 1 } else { 0 }
     }
 
     /// Prepares a write, and makes the room for its version. An error leaves all as it was.
-    pub fn prepare(&mut self, write: PreparedWrite) -> Result<(), AllocError>
+    pub(crate) fn prepare(&mut self, write: PreparedWrite) -> Result<(), AllocError>
         ensures ok { OnOk result (self.new ≡ with_prepared write self.old) }
         ensures err { OnErr result (self.new ≡ self.old) }
     {
@@ -132,7 +132,7 @@ impl Chain {
 
     /// Ends the write of a transaction: it becomes a version at the commit timestamp, or is given up where there is none. It takes
     /// no memory.
-    pub fn apply(&mut self, txn: u64, committed: Option<u64>)
+    pub(crate) fn apply(&mut self, txn: u64, committed: Option<u64>)
         ensures { self.new ≡ applied_to_key txn committed self.old }
     {
         match self.prepared.take() {

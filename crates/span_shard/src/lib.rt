@@ -1,7 +1,7 @@
 //! A shard: the versions of the rows in its key range, and the writes that are prepared there.
 #![tactic(auto)]
 
-pub mod chain;
+mod chain;
 pub mod mutation;
 pub mod range;
 pub mod schema;
@@ -9,4 +9,4 @@ pub mod shard;
 #[cfg(test)]
 mod tests;
 pub mod transaction;
-pub mod write;
+mod write;

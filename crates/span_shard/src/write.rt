@@ -19,7 +19,7 @@ pub struct Write {
 }
 
 /// Whether one of the mutations is of the key of this one.
-pub fn has_key_of(mutations: &[CheckedMutation], mutation: &CheckedMutation) -> bool
+pub(crate) fn has_key_of(mutations: &[CheckedMutation], mutation: &CheckedMutation) -> bool
     ensures { result ≡ list_any (is_at mutation.now.key) mutations.now }
 {
     mutations.iter().any(|m| m.key == mutation.key)
@@ -82,7 +82,7 @@ fn copy_of_row(alloc: Global, row: Option<&Value>) -> Result<Option<Value>, Refu
 }
 
 /// What the mutations write at a key that had this row, if they change it.
-pub fn write_at(
+pub(crate) fn write_at(
     alloc: Global,
     before: Option<&Value>,
     mutations: &[CheckedMutation],

@@ -9,7 +9,7 @@ use span_value::cell::cell_text;
 use std::alloc::Global;
 
 /// Commits the rows (2, b) and (1, a) in one transaction, asks the text at its commit timestamp, and writes what was answered.
-pub fn run(rt: &(impl AllocGlobal + Print), text: &str) -> Result<(), Fault> {
+pub(super) fn run(rt: &(impl AllocGlobal + Print), text: &str) -> Result<(), Fault> {
     let alloc = rt.alloc();
     let replies = run_steps(alloc, Schema::ONE_TABLE, steps(alloc, text)?)?;
     for reply in &replies {

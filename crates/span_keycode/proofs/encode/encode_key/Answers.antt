@@ -6,5 +6,5 @@ use Rattle.span_keycode.proofs.encode.encode_key.Goals as goal
 
 pub code-requires-clause-values : goal.code-requires-clause-values
 code-requires-clause-values c =
-    let same = kinds_length c.key_columns.result.now c.args.values.now (sym c.have_kinds.ensures ∙ c.if-not-have_kinds.false) in
+    let same = kinds_length c.key_columns.result.now c.args.values.now (sym c.have_kinds.ensures.kinds ∙ c.if-not-have_kinds.false) in
     omega (arith, same, ap (length {A = KeyPart}) c.key_columns.ensures)
