@@ -1,0 +1,4 @@
+pub mod Columns
+pub mod Checking
+pub mod Rows
+pub mod Database

@@ -1,0 +1,9 @@
+//! Mutations: what a transaction asks for, and what it makes of the rows of a directory.
+#![tactic(auto)]
+
+pub mod check;
+pub mod column;
+pub mod mutation;
+pub mod root;
+pub mod row;
+pub mod transaction;
