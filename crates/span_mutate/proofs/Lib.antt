@@ -1,6 +1,13 @@
+pub mod Begins
 pub mod Breaks
+pub mod ByRoots
 pub mod Deletes
+pub mod Families
+pub mod Filters
 pub mod Fronts
 pub mod Keys
+pub mod Local
+pub mod Orders
+pub mod Placing
 pub mod Runs
 pub mod Worked

@@ -11,7 +11,7 @@ use Rattle.span_value.specs.declared.refusal.Refusal.TheVariants.{Exists, Missin
 use Rattle.span_schema.specs.declared.table.Table.{Table}
 use Rattle.span_schema.specs.declared.table.Parent.{Parent}
 use Rattle.span_schema.specs.Rules.{first_cause}
-use Rattle.span_schema.specs.Numbers.{table_at, key_in, key_columns, parent_of, path_of}
+use Rattle.span_schema.specs.Numbers.{table_at, key_columns, parent_of, path_of}
 use Rattle.span_rowcode.specs.Rows.{row_code}
 use Rattle.span_rowcode.specs.declared.pack.TheConstants.{MOST_BYTES}
 use Rattle.span_mutate.specs.declared.mutation.MutationKind.{MutationKind}
@@ -67,7 +67,7 @@ is_held tables n key db = list_any (is_in (tables_holding tables n) key) db
 -- its parent row is absent
 abbrev pub lacks_parent : List Table → Option ℕ → List Value → List TableRow → Bool
 lacks_parent tables None key db = false
-lacks_parent tables (Some p) key db = is_none (row_at p (take (length (key_in (table_at tables p))) key) db)
+lacks_parent tables (Some p) key db = is_none (row_at p (take (length (key_columns tables p)) key) db)
 
 abbrev pub cells_of : Option TableRow → List Value
 cells_of None = []

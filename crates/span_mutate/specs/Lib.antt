@@ -2,3 +2,4 @@ pub mod Columns
 pub mod Checking
 pub mod Rows
 pub mod Database
+pub mod Directories

@@ -1,5 +1,5 @@
 //! The check of one mutation against the schema, before any row is looked at.
-ghost use Rattle.std.specs.Prelude.{◌≡◌, ◌⊎◌, [], MatchResult, None, Some, Ok, Err, take};
+ghost use Rattle.std.specs.Prelude.{◌≡◌, ◌⊎◌, [], IfOk, MatchResult, None, Some, Ok, Err, take};
 ghost use Rattle.span_schema.specs.Rules.{first_cause};
 ghost use Rattle.span_schema.specs.Numbers.{IsTable, table_at};
 ghost use Rattle.span_mutate.specs.Checking.{key_causes, cell_causes, cells_cause, lack_causes, mutation_cause, checked, checked_at};
@@ -114,7 +114,8 @@ fn check_at(
     mutation: Mutation,
 ) -> Result<CheckedMutation, Refusal>
     requires { IsTable schema.now number }
-    ensures { MatchResult result (λ c. checked_at schema.now number (table_at schema.now number) mutation ≡ Ok c) (λ why. (checked_at schema.now number (table_at schema.now number) mutation ≡ Err why) ⊎ (why ≡ Refusal.OutOfMemory)) }
+    ensures checked { MatchResult result (λ c. checked_at schema.now number (table_at schema.now number) mutation ≡ Ok c) (λ why. (checked_at schema.now number (table_at schema.now number) mutation ≡ Err why) ⊎ (why ≡ Refusal.OutOfMemory)) }
+    ensures table { IfOk result (λ c. c.table ≡ number) }
 {
     let table = schema.table(number);
     judge(alloc, schema, number, table, &mutation)?;
@@ -135,7 +136,8 @@ fn check_at(
 /// A mutation, checked against the schema. `docs/REFUSALS.md` has the order of the refusals; `OutOfMemory` is the one for want of
 /// memory.
 pub fn check(alloc: Global, schema: &Schema, mutation: Mutation) -> Result<CheckedMutation, Refusal>
-    ensures { MatchResult result (λ c. checked schema.now mutation ≡ Ok c) (λ why. (checked schema.now mutation ≡ Err why) ⊎ (why ≡ Refusal.OutOfMemory)) }
+    ensures checked { MatchResult result (λ c. checked schema.now mutation ≡ Ok c) (λ why. (checked schema.now mutation ≡ Err why) ⊎ (why ≡ Refusal.OutOfMemory)) }
+    ensures table { IfOk result (λ c. IsTable schema.now c.table) }
 {
     match schema.find(mutation.table.as_str()) {
         None => Err(Refusal::NoTable),

@@ -119,7 +119,7 @@ fn lacks_parent(schema: &Schema, table: usize, key: &[Value], rows: &[TableRow])
     match schema.parent_of(table) {
         None => false,
         Some(parent) => {
-            let len = schema.table(parent).key.len();
+            let len = schema.key_columns(parent).len();
             row_at(parent, front(key, len), rows).is_none()
         }
     }

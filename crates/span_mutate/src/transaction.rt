@@ -1,5 +1,6 @@
 //! A transaction as it is begun: mutations that were checked against the schema.
-ghost use Rattle.std.specs.Prelude.{◌≡◌, ◌⊎◌, Ok, Err, IfOk, IfErr, MatchResult};
+ghost use Rattle.std.specs.Prelude.{◌≡◌, ◌⊎◌, Ok, Err, IfOk, IfErr, MatchResult, All};
+ghost use Rattle.span_schema.specs.Numbers.{IsTable};
 ghost use Rattle.span_mutate.specs.Checking.{checked, checked_all, checked_transaction};
 
 use super::check::check;
@@ -41,6 +42,7 @@ impl Transaction {
         mutations: Vec<Mutation>,
     ) -> Result<Transaction, Refusal>
         ensures ok { IfOk result (λ t. checked_transaction schema.now mutations.items ≡ Ok t) }
+        ensures tables { IfOk result (λ t. All (λ m. IsTable schema.now m.table) t) }
         ensures refused { IfErr result (λ why. (why ≡ Refusal.OutOfMemory) ⊎ (checked_transaction schema.now mutations.items ≡ Err why)) }
     {
         if mutations.is_empty() {
@@ -72,9 +74,10 @@ fn check_all(
     schema: &Schema,
     mutations: Vec<Mutation>,
 ) -> Result<Vec<CheckedMutation>, Refusal>
-    ensures { MatchResult result
+    ensures checked { MatchResult result
         (λ cs. checked_all schema.now mutations.items ≡ Ok cs.items)
         (λ why. (why ≡ Refusal.OutOfMemory) ⊎ (checked_all schema.now mutations.items ≡ Err why)) }
+    ensures tables { IfOk result (λ cs. All (λ m. IsTable schema.now m.table) cs.items) }
 {
     let mut checked = Vec::with_capacity(alloc, mutations.len())?;
     for mutation in mutations {

@@ -1,4 +1,7 @@
-use Rattle.std.proofs.Common.{◌≡◌, List, [], length, Ok, sym, ◌∙◌, ap, inl, inr, arith}
+use Rattle.std.proofs.Common.{◌≡◌, List, [], length, Ok, sym, ◌∙◌, ap, inl, inr, subst, arith}
+use Rattle.std.specs.Prelude.{All}
+use Rattle.std.proofs.lemmas.List.Elements.{All-push}
+use Rattle.span_schema.specs.Numbers.{IsTable}
 use Rattle.std.specs.Vec.Iter.{into_iter_items}
 use Rattle.std.proofs.lemmas.List.{append-nil, nil_from_length}
 use Rattle.std.proofs.lemmas.Result.{err_from_is_err_and}
@@ -8,12 +11,12 @@ use Rattle.span_mutate.specs.Checking.{checked_all, with_front}
 use Rattle.span_mutate.proofs.Fronts.{front_more, front_refused}
 use Rattle.span_mutate.proofs.transaction.check_all.Goals as goal
 
-pub returns-in_err-check : goal.returns-in_err-check
-returns-in_err-check c =
+pub returns-in_err-check-clause-checked : goal.returns-in_err-check-clause-checked
+returns-in_err-check-clause-checked c =
     let next = c.in-Some.ensures.steps in
     let front = c.loop-mutation.checked.items in
     let p = err_from_is_err_and c.from_residual-in_err-check.result c.from_residual-in_err-check.ensures.1 in
-    rw (p.1, p.2) (elim c.in_err-check.ensures [
+    rw (p.1, p.2) (elim c.in_err-check.ensures.checked [
       | inl e ↦ inr (sym c.loop-mutation.invariant.so_far ∙ ap (λ (l : List Mutation). with_front front (checked_all c.args.schema.now l)) next.0
           ∙ front_refused c.args.schema.now front c.in-Some.mutation (into_iter_items c.next.new.self) c.in_err-check.field-0.0 e)
       | inr e ↦ inl e
@@ -26,13 +29,16 @@ loop-mutation-preserved c =
     let rest = into_iter_items c.next.new.self in
     record {
       so_far = ap (λ (l : List CheckedMutation). with_front l (checked_all c.args.schema.now rest)) c.in_ok-push.ensures.items
-          ∙ front_more c.args.schema.now front c.in-Some.mutation rest c.in_ok-check.field-0 c.in_ok-check.ensures
+          ∙ front_more c.args.schema.now front c.in-Some.mutation rest c.in_ok-check.field-0 c.in_ok-check.ensures.checked
           ∙ ap (λ (l : List Mutation). with_front front (checked_all c.args.schema.now l)) (sym next.0) ∙ c.loop-mutation.invariant.so_far;
+      tables = let P : CheckedMutation → Type 0 = λ m. IsTable c.args.schema.now m.table in
+          let Q : List CheckedMutation → Type 0 = All P in
+          subst Q (sym c.in_ok-push.ensures.items) (All-push P front c.in_ok-check.field-0 c.loop-mutation.invariant.tables c.in_ok-check.ensures.table);
       count = omega (arith, ap length next.0, next.1, c.loop-mutation.invariant.count);
     }
 
-pub returns : goal.returns
-returns c =
+pub returns-clause-checked : goal.returns-clause-checked
+returns-clause-checked c =
     let front = c.loop-mutation.checked.items in
     let done : into_iter_items c.loop-mutation.mutation-iterator ≡ [] = nil_from_length _ (sym c.loop-mutation.invariant.count ∙ c.in-None.ensures.steps.0) in
     sym c.loop-mutation.invariant.so_far ∙ ap (λ (l : List Mutation). with_front front (checked_all c.args.schema.now l)) done ∙ ap Ok (append-nil front)
