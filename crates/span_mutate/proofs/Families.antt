@@ -24,7 +24,7 @@ front_stays (m ∷ ms) ns h = refl
 root_child : (tables : List Table) (i p : ℕ) → parent_at tables i ≡ Some p → root_at tables i ≡ root_at tables p
 root_child tables i p e = ap (λ (ns : List ℕ). get_or ns 0 0) (path_child tables i p e) ∙ front_stays (path_at tables p) ((i + 1) ∷ []) (path_has tables p)
 
-number_here : (o : Option ℕ) (q : ℕ) → number_of o ≡ Some q → (p : ℕ) × (o ≡ Some p) × (q ≡ p + 1)
+pub number_here : (o : Option ℕ) (q : ℕ) → number_of o ≡ Some q → (p : ℕ) × (o ≡ Some p) × (q ≡ p + 1)
 number_here None q e = absurd (let f : None ≡ Some q = e in cc)
 number_here (Some p) q e = (p, refl, (let f : Some (p + 1) ≡ Some q = e in cc))
 

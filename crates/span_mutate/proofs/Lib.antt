@@ -1,3 +1,4 @@
+pub mod Apart
 pub mod Begins
 pub mod Breaks
 pub mod ByRoots
@@ -5,6 +6,7 @@ pub mod Deletes
 pub mod Families
 pub mod Filters
 pub mod Fronts
+pub mod Keyed
 pub mod Keys
 pub mod Local
 pub mod Orders

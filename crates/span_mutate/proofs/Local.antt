@@ -1,7 +1,7 @@
 -- What a mutation does is decided by the rows of its directory, and leaves the others alone.
 use Rattle.std.proofs.Common.{◌≡◌, ℕ, ◌≤◌, Bool, true, false, ◌==◌, ◌&&◌, not, cond, List, [], ◌∷◌, Option, Some, None, is_some, is_none, Result, Ok, Err, length, take, refl, sym, ap, subst, ◌∙◌, arith}
 use Rattle.std.specs.Prelude.{nat_lt}
-use Rattle.std.specs.List.{list_any}
+use Rattle.std.specs.List.{list_any, AllByRecursion}
 use Rattle.std.specs.declared.cmp.Ordering.TheVariants.{Equal}
 use Rattle.std.proofs.lemmas.Map.Views.{any-filter_same}
 use Rattle.span_value.specs.declared.value.Value.{Value}
@@ -19,12 +19,15 @@ use Rattle.span_mutate.specs.Columns.{is_delete}
 use Rattle.span_mutate.specs.Checking.{unless}
 use Rattle.span_mutate.specs.Rows.{begins, is_same_key, is_at, row_at, placed}
 use Rattle.span_mutate.specs.Database.{is_at_or_below, cascades, is_holding, tables_under, tables_holding, all_tables, is_in, is_under, is_held, lacks_parent, is_insert, is_update, cells_after, causes, row_after, without, changed, apply_to, apply_one}
-use Rattle.span_mutate.specs.Directories.{Root, is_of, directory, key_len, IsKeyed, rows_cmp, IsInOrder}
+use Rattle.span_mutate.specs.Directories.{Root, is_of, directory, key_len, IsKeyed, rows_cmp, IsInOrder, IsDatabase}
 use Rattle.span_mutate.proofs.Begins.{both_hold, both_make, same_key, same_number, number_itself, front_on, front_of_front, front_of_taken}
 use Rattle.span_mutate.proofs.Families.{parent_family, below_root, root_short}
 use Rattle.span_mutate.proofs.Filters.{filters_turned, filter_within, find_kept, found_passes}
 use Rattle.span_mutate.proofs.Orders.{rows_equal, rows_total}
-use Rattle.span_mutate.proofs.Placing.{put_kept, put_lost, put_in_order, rising_filter}
+use Rattle.span_mutate.proofs.Placing.{put_kept, put_lost, put_in_order, put_all, rising_filter, all_filter}
+
+abbrev AreKeyedRows : List Table → List TableRow → Type 0
+AreKeyedRows tables db = AllByRecursion (λ (r : TableRow). IsKeyed tables r.table r.key) db
 
 -- keys of one family and with one front are of one directory
 moved : (tables : List Table) (root : Root) (n m : ℕ) (vs ws : List Value) → is_of tables root n vs ≡ true → root_of tables m ≡ root_of tables n → begins root.key ws ≡ true → is_of tables root m ws ≡ true
@@ -131,7 +134,7 @@ changed_apart tables rules root len m keyed h db sorted before = pick (is_delete
     pick false = put_lost (rows_cmp tables) (rows_total tables) (λ (q : TableRow). is_of tables root q.table q.key) (row_after m before) h lost db sorted
 
 -- the rows stay in order
-pub changed_in_order : (tables : List Table) (m : CheckedMutation) (db : List TableRow) → IsInOrder tables db → (before : Option TableRow) → IsInOrder tables (changed tables db m before)
+changed_in_order : (tables : List Table) (m : CheckedMutation) (db : List TableRow) → IsInOrder tables db → (before : Option TableRow) → IsInOrder tables (changed tables db m before)
 changed_in_order tables m db sorted before = pick (is_delete m.kind)
   where
     removed : (o : Option TableRow) → IsInOrder tables (without tables m.table m.key o db)
@@ -175,6 +178,25 @@ step_apart tables rules root len m keyed h db sorted next e =
     ∙ ap (directory tables root) (unless_ok (first_cause (causes tables db m (row_at m.table m.key db))) _ next e)
 
 -- the rows stay in order
-pub step_in_order : (tables : List Table) (m : CheckedMutation) (db : List TableRow) → IsInOrder tables db → (next : List TableRow) → apply_one tables db m ≡ Ok next → IsInOrder tables next
+step_in_order : (tables : List Table) (m : CheckedMutation) (db : List TableRow) → IsInOrder tables db → (next : List TableRow) → apply_one tables db m ≡ Ok next → IsInOrder tables next
 step_in_order tables m db sorted next e =
     subst (IsInOrder tables) (unless_ok (first_cause (causes tables db m (row_at m.table m.key db))) _ next e) (changed_in_order tables m db sorted (row_at m.table m.key db))
+
+-- each row has a whole key
+changed_keyed : (tables : List Table) (m : CheckedMutation) → IsKeyed tables m.table m.key → (db : List TableRow) → AreKeyedRows tables db → (before : Option TableRow) → AreKeyedRows tables (changed tables db m before)
+changed_keyed tables m keyed db each before = pick (is_delete m.kind)
+  where
+    removed : (o : Option TableRow) → AreKeyedRows tables (without tables m.table m.key o db)
+    removed None = each
+    removed (Some r) = all_filter (λ (r : TableRow). IsKeyed tables r.table r.key) (λ (q : TableRow). not (is_under tables m.table m.key q)) db each
+
+    pick : (b : Bool) → AreKeyedRows tables (cond b (without tables m.table m.key before db) (placed (key_columns tables m.table) (row_after m before) db))
+    pick true = removed before
+    pick false = put_all (λ (r : TableRow). IsKeyed tables r.table r.key) (rows_cmp tables) (row_after m before) db keyed each
+
+-- the rows are a database again
+pub step_database : (tables : List Table) (m : CheckedMutation) → IsKeyed tables m.table m.key → (db : List TableRow) → IsDatabase tables db → (next : List TableRow) → apply_one tables db m ≡ Ok next → IsDatabase tables next
+step_database tables m keyed db is next e = (
+  step_in_order tables m db is.0 next e,
+  subst (AreKeyedRows tables) (unless_ok (first_cause (causes tables db m (row_at m.table m.key db))) _ next e) (changed_keyed tables m keyed db is.1 (row_at m.table m.key db)),
+)

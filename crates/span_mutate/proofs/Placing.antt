@@ -9,7 +9,7 @@ use Rattle.std.proofs.lemmas.List.Elements.{filter-append}
 use Rattle.span_mutate.specs.Directories.{IsRising}
 use Rattle.span_mutate.proofs.Filters.{filter_yes, filter_no, filters_turned}
 
-all_filter : {X : Type 0} (P : X → Type 0) (p : X → Bool) (xs : List X) → AllByRecursion P xs → AllByRecursion P (filter p xs)
+pub all_filter : {X : Type 0} (P : X → Type 0) (p : X → Bool) (xs : List X) → AllByRecursion P xs → AllByRecursion P (filter p xs)
 all_filter P p [] h = tt
 all_filter {X} P p (x ∷ xs) h = cases (all_filter P p xs h.1) (p x) refl
   where
@@ -145,3 +145,11 @@ put_in_order {X} R total r xs sorted =
     join : (l : List X) → AllByRecursion (λ x. R x r ≡ Less) l → IsRising R l → IsRising R (l ++ r ∷ filter (λ x. is_gt (R x r)) xs)
     join [] h s = (backs xs, rising_filter R (λ x. is_gt (R x r)) xs sorted)
     join (x ∷ l) h s = (both x l (r ∷ filter (λ x. is_gt (R x r)) xs) s.0 (h.0, through x h.0 (filter (λ x. is_gt (R x r)) xs) (backs xs)), join l h.1 s.1)
+
+-- what holds of an item and of others holds of all of them
+pub put_all : {X : Type 0} (P : X → Type 0) (R : X → X → Ordering) (r : X) (xs : List X) → P r → AllByRecursion P xs → AllByRecursion P (put R r xs)
+put_all {X} P R r xs h each = join (filter (λ x. is_lt (R x r)) xs) (all_filter P (λ x. is_lt (R x r)) xs each)
+  where
+    join : (l : List X) → AllByRecursion P l → AllByRecursion P (l ++ r ∷ filter (λ x. is_gt (R x r)) xs)
+    join [] g = (h, all_filter P (λ x. is_gt (R x r)) xs each)
+    join (x ∷ l) g = (g.0, join l g.1)

@@ -54,6 +54,11 @@ IsRising R (x ∷ xs) = AllByRecursion (λ y. R x y ≡ Less) xs × IsRising R x
 abbrev pub IsInOrder : List Table → List TableRow → Type 0
 IsInOrder tables db = IsRising (rows_cmp tables) db
 
+-- a database: each row has a value for each key column of its table, and the rows stand in order
+abbrev pub IsDatabase : List Table → List TableRow → Type 0
+IsDatabase tables db = IsInOrder tables db × AllByRecursion (λ (r : TableRow). IsKeyed tables r.table r.key) db
+
+-- mutations of tables, with whole keys
 abbrev pub AreKeyed : List Table → List CheckedMutation → Type 0
 AreKeyed tables ms = AllByRecursion (λ (m : CheckedMutation). IsKeyed tables m.table m.key) ms
 
@@ -73,10 +78,15 @@ pub record FirstFault (tables : List Table) (db : List TableRow) (ms : List Chec
 
 -- an outcome that is put together of the outcomes of the directories
 abbrev pub IsPutTogether : List Table → List TableRow → List CheckedMutation → Result (List TableRow) Refusal → Type 0
-IsPutTogether tables db ms (Ok after) = IsInOrder tables after × RunsTo tables db ms after
+IsPutTogether tables db ms (Ok after) = IsDatabase tables after × RunsTo tables db ms after
 IsPutTogether tables db ms (Err why) = FirstFault tables db ms why
 
 -- Apply's outcome on a database is the outcomes of its directories put together, the first fault included
 abbrev pub RootByRoot : Type 0
-RootByRoot = (tables : List Table) → MeetsRules tables → (db : List TableRow) (ms : List CheckedMutation) → IsInOrder tables db → AreKeyed tables ms
+RootByRoot = (tables : List Table) → MeetsRules tables → (db : List TableRow) (ms : List CheckedMutation) → IsDatabase tables db → AreKeyed tables ms
     → IsPutTogether tables db ms (apply tables db ms)
+
+-- a database is put together of its directories in one way
+abbrev pub OneDatabase : Type 0
+OneDatabase = (tables : List Table) → MeetsRules tables → (a b : List TableRow) → IsDatabase tables a → IsDatabase tables b
+    → ((root : Root) → IsKeyed tables root.table root.key → directory tables root a ≡ directory tables root b) → a ≡ b

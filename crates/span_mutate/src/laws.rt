@@ -1,7 +1,12 @@
-//! The law of mutations, as the contract of a function that does nothing.
-ghost use Rattle.span_mutate.specs.Directories.{RootByRoot};
+//! The laws of mutations, each as the contract of a function that does nothing.
+ghost use Rattle.span_mutate.specs.Directories.{RootByRoot, OneDatabase};
 
 /// Apply works root by root: its outcome on a database is the outcomes of its directories put together, the first fault included.
 pub fn root_by_root()
     ensures { RootByRoot }
+{}
+
+/// A database is put together of its directories in one way: databases with the same directories are the same.
+pub fn one_database()
+    ensures { OneDatabase }
 {}

@@ -1,7 +1,8 @@
 //! A transaction as it is begun: mutations that were checked against the schema.
 ghost use Rattle.std.specs.Prelude.{◌≡◌, ◌⊎◌, Ok, Err, IfOk, IfErr, MatchResult, All};
 ghost use Rattle.span_schema.specs.Numbers.{IsTable};
-ghost use Rattle.span_mutate.specs.Checking.{checked, checked_all, checked_transaction};
+ghost use Rattle.span_mutate.specs.Checking.{checked_all, checked_transaction};
+ghost use Rattle.span_mutate.specs.Directories.{AreKeyed};
 
 use super::check::check;
 use super::mutation::{CheckedMutation, Mutation};
@@ -43,6 +44,7 @@ impl Transaction {
     ) -> Result<Transaction, Refusal>
         ensures ok { IfOk result (λ t. checked_transaction schema.now mutations.items ≡ Ok t) }
         ensures tables { IfOk result (λ t. All (λ m. IsTable schema.now m.table) t) }
+        ensures keyed { IfOk result (λ t. AreKeyed schema.now t) }
         ensures refused { IfErr result (λ why. (why ≡ Refusal.OutOfMemory) ⊎ (checked_transaction schema.now mutations.items ≡ Err why)) }
     {
         if mutations.is_empty() {
@@ -78,6 +80,7 @@ fn check_all(
         (λ cs. checked_all schema.now mutations.items ≡ Ok cs.items)
         (λ why. (why ≡ Refusal.OutOfMemory) ⊎ (checked_all schema.now mutations.items ≡ Err why)) }
     ensures tables { IfOk result (λ cs. All (λ m. IsTable schema.now m.table) cs.items) }
+    ensures keyed { IfOk result (λ cs. AreKeyed schema.now cs.items) }
 {
     let mut checked = Vec::with_capacity(alloc, mutations.len())?;
     for mutation in mutations {

@@ -8,6 +8,7 @@ use Rattle.std.proofs.lemmas.Result.{err_from_is_err_and}
 use Rattle.span_mutate.specs.declared.mutation.Mutation.{Mutation}
 use Rattle.span_mutate.specs.declared.mutation.CheckedMutation.{CheckedMutation}
 use Rattle.span_mutate.specs.Checking.{checked_all, with_front}
+use Rattle.span_mutate.proofs.Keyed.{keyed_all}
 use Rattle.span_mutate.proofs.Fronts.{front_more, front_refused}
 use Rattle.span_mutate.proofs.transaction.check_all.Goals as goal
 
@@ -42,3 +43,6 @@ returns-clause-checked c =
     let front = c.loop-mutation.checked.items in
     let done : into_iter_items c.loop-mutation.mutation-iterator ≡ [] = nil_from_length _ (sym c.loop-mutation.invariant.count ∙ c.in-None.ensures.steps.0) in
     sym c.loop-mutation.invariant.so_far ∙ ap (λ (l : List Mutation). with_front front (checked_all c.args.schema.now l)) done ∙ ap Ok (append-nil front)
+
+pub returns-clause-keyed : goal.returns-clause-keyed
+returns-clause-keyed c = keyed_all c.args.schema.now c.args.mutations.items _ (returns-clause-checked c)
