@@ -7,4 +7,6 @@ pub mod laws;
 pub mod mutation;
 pub mod root;
 pub mod row;
+#[cfg(test)]
+mod tests;
 pub mod transaction;
