@@ -12,4 +12,5 @@ pub mod Local
 pub mod Orders
 pub mod Placing
 pub mod Runs
+pub mod TableLists
 pub mod Worked

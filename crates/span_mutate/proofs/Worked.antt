@@ -15,7 +15,8 @@ use Rattle.span_mutate.specs.declared.mutation.Mutation.{Mutation}
 use Rattle.span_mutate.specs.declared.mutation.CheckedMutation.{CheckedMutation}
 use Rattle.span_mutate.specs.declared.row.TableRow.{TableRow}
 use Rattle.span_mutate.specs.Checking.{checked_transaction}
-use Rattle.span_mutate.specs.Database.{apply}
+use Rattle.span_mutate.specs.Database.{apply, rows_of}
+use Rattle.span_mutate.specs.Directories.{directory, root_row}
 
 -- a column, by its letter
 abbrev column : ℕ → ColumnType → Bool → Column
@@ -172,3 +173,13 @@ delete_with_cell = refl
 -- the second mutation is judged where nothing refuses the first
 second : checked_transaction (schema true true) (asked Delete 65 (one ∷ []) [] ∷ asked Insert 65 (one ∷ []) (cell 117 one ∷ []) ∷ []) ≡ Err WrongType
 second = refl
+
+-- the rows of a table, and those of a directory
+rows_of_b : rows_of 2 family ≡ b11 ∷ []
+rows_of_b = refl
+
+directory_of_a1 : directory (schema true true) (record { table = 1; key = one ∷ [] }) family ≡ a1 ∷ b11 ∷ c111 ∷ []
+directory_of_a1 = refl
+
+root_of_c111 : root_row (schema true true) 3 (one ∷ one ∷ one ∷ []) ≡ record { table = 1; key = one ∷ [] }
+root_of_c111 = refl

@@ -10,8 +10,8 @@ use Rattle.span_schema.specs.Lineages.{MeetsRules}
 use Rattle.span_schema.specs.Numbers.{IsTable, key_columns, root_of}
 use Rattle.span_mutate.specs.declared.mutation.CheckedMutation.{CheckedMutation}
 use Rattle.span_mutate.specs.declared.row.TableRow.{TableRow}
-use Rattle.span_mutate.specs.Rows.{begins, row_order}
-use Rattle.span_mutate.specs.Database.{apply_one, apply}
+use Rattle.span_mutate.specs.Rows.{begins, key_order, row_order}
+use Rattle.span_mutate.specs.Database.{rows_of, apply_one, apply}
 
 -- a root row: its table, and its key
 pub record Root : Type 0 where
@@ -90,3 +90,11 @@ RootByRoot = (tables : List Table) → MeetsRules tables → (db : List TableRow
 abbrev pub OneDatabase : Type 0
 OneDatabase = (tables : List Table) → MeetsRules tables → (a b : List TableRow) → IsDatabase tables a → IsDatabase tables b
     → ((root : Root) → IsKeyed tables root.table root.key → directory tables root a ≡ directory tables root b) → a ≡ b
+
+-- rows of table n by their keys
+abbrev pub by_key : List Table → ℕ → TableRow → TableRow → Ordering
+by_key tables n q r = key_order (key_columns tables n) q.key r.key
+
+-- the list of a table's rows in a database is in the order of its primary key, with one row at each key
+abbrev pub RowsInOrder : Type 0
+RowsInOrder = (tables : List Table) (db : List TableRow) → IsDatabase tables db → (n : ℕ) → IsRising (by_key tables n) (rows_of n db)

@@ -3,6 +3,7 @@
 
 pub mod check;
 pub mod column;
+pub mod copy;
 pub mod laws;
 pub mod mutation;
 pub mod root;

@@ -11,6 +11,7 @@ ghost use Rattle.span_mutate.specs.Columns.{is_delete};
 ghost use Rattle.span_mutate.specs.Rows.{row_at};
 ghost use Rattle.span_mutate.specs.Database.{is_at_or_below, tables_under, cascades, is_holding, tables_holding, is_in, is_under, is_held, lacks_parent, cells_of, cells_over, apply_one, apply};
 
+use super::copy::copy_of_values;
 use super::mutation::{CheckedMutation, MutationKind, is_delete};
 use super::row::{TableRow, begins, placed, row_at};
 use span_rowcode::pack::pack;
@@ -168,16 +169,6 @@ fn cells_of<'a>(row: Option<&'a TableRow>) -> &'a [Value]
         None => &[],
         Some(row) => row.cells.as_slice(),
     }
-}
-
-fn copy_of_values(alloc: Global, values: &[Value]) -> Result<Vec<Value>, Refusal>
-    ensures { MatchResult result (λ copy. copy.items ≡ values.now) (λ why. why ≡ Refusal.OutOfMemory) }
-{
-    let mut copy = Vec::with_capacity(alloc, values.len())?;
-    for value in values {
-        copy.push(value.copy(alloc)?)?;
-    }
-    Ok(copy)
 }
 
 fn put(

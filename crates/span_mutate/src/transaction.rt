@@ -5,6 +5,7 @@ ghost use Rattle.span_mutate.specs.Checking.{checked_all, checked_transaction};
 ghost use Rattle.span_mutate.specs.Directories.{AreKeyed};
 
 use super::check::check;
+use super::copy::copy_of_mutations;
 use super::mutation::{CheckedMutation, Mutation};
 use span_schema::schema::Schema;
 use span_value::refusal::Refusal;
@@ -52,6 +53,15 @@ impl Transaction {
         }
         Ok(Transaction {
             mutations: Seq::from_vec(check_all(alloc, schema, mutations)?),
+        })
+    }
+
+    /// An equal transaction, or the refusal for want of memory.
+    pub fn copy(&self, alloc: Global) -> Result<Transaction, Refusal>
+        ensures { MatchResult result (λ copy. copy ≡ self.now) (λ why. why ≡ Refusal.OutOfMemory) }
+    {
+        Ok(Transaction {
+            mutations: Seq::from_vec(copy_of_mutations(alloc, self.mutations.as_slice())?),
         })
     }
 
