@@ -42,7 +42,7 @@ right_kinds tables n t key e = not_not (are_of_kinds (key_columns tables n) key)
     ∷ []
     ) e)
 
-unless_none : {A : Type 0} (w : Option Refusal) (x y : A) → unless w x ≡ Ok y → (w ≡ None) × (x ≡ y)
+pub unless_none : {A : Type 0} (w : Option Refusal) (x y : A) → unless w x ≡ Ok y → (w ≡ None) × (x ≡ y)
 unless_none None x y e = (refl, cc)
 unless_none (Some why) x y e = absurd cc
 

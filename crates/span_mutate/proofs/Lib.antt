@@ -10,6 +10,7 @@ pub mod Keyed
 pub mod Keys
 pub mod Local
 pub mod Orders
+pub mod Parents
 pub mod Placing
 pub mod Runs
 pub mod TableLists

@@ -1,5 +1,5 @@
 -- Directories: a root row and all rows below it. Apply works on each as on its own.
-use Rattle.std.specs.Prelude.{◌≡◌, ℕ, ◌==◌, ◌&&◌, Bool, List, [], ◌∷◌, ◌++◌, length, take, filter, Result, Ok, Err}
+use Rattle.std.specs.Prelude.{◌≡◌, ℕ, ◌==◌, ◌&&◌, Bool, false, List, [], ◌∷◌, ◌++◌, length, take, filter, Result, Ok, Err}
 use Rattle.std.specs.List.{AllByRecursion}
 use Rattle.std.specs.declared.cmp.Ordering.{Ordering}
 use Rattle.std.specs.declared.cmp.Ordering.TheVariants.{Less}
@@ -7,11 +7,11 @@ use Rattle.span_value.specs.declared.value.Value.{Value}
 use Rattle.span_value.specs.declared.refusal.Refusal.{Refusal}
 use Rattle.span_schema.specs.declared.table.Table.{Table}
 use Rattle.span_schema.specs.Lineages.{MeetsRules}
-use Rattle.span_schema.specs.Numbers.{IsTable, key_columns, root_of}
+use Rattle.span_schema.specs.Numbers.{IsTable, key_columns, parent_of, root_of}
 use Rattle.span_mutate.specs.declared.mutation.CheckedMutation.{CheckedMutation}
 use Rattle.span_mutate.specs.declared.row.TableRow.{TableRow}
 use Rattle.span_mutate.specs.Rows.{begins, key_order, row_order}
-use Rattle.span_mutate.specs.Database.{rows_of, apply_one, apply}
+use Rattle.span_mutate.specs.Database.{rows_of, lacks_parent, apply_one, apply}
 
 -- a root row: its table, and its key
 pub record Root : Type 0 where
@@ -98,3 +98,12 @@ by_key tables n q r = key_order (key_columns tables n) q.key r.key
 -- the list of a table's rows in a database is in the order of its primary key, with one row at each key
 abbrev pub RowsInOrder : Type 0
 RowsInOrder = (tables : List Table) (db : List TableRow) → IsDatabase tables db → (n : ℕ) → IsRising (by_key tables n) (rows_of n db)
+
+-- no row is without its parent row
+abbrev pub HasParents : List Table → List TableRow → Type 0
+HasParents tables db = AllByRecursion (λ (r : TableRow). lacks_parent tables (parent_of tables r.table) r.key db ≡ false) db
+
+-- Apply leaves no row without its parent row
+abbrev pub ParentsStay : Type 0
+ParentsStay = (tables : List Table) (db : List TableRow) (ms : List CheckedMutation) (after : List TableRow) → IsDatabase tables db → AreKeyed tables ms → HasParents tables db
+    → apply tables db ms ≡ Ok after → HasParents tables after
