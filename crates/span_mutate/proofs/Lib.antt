@@ -1,0 +1,17 @@
+pub mod Apart
+pub mod Begins
+pub mod Breaks
+pub mod ByRoots
+pub mod Deletes
+pub mod Families
+pub mod Filters
+pub mod Fronts
+pub mod Keyed
+pub mod Keys
+pub mod Local
+pub mod Orders
+pub mod Parents
+pub mod Placing
+pub mod Runs
+pub mod TableLists
+pub mod Worked

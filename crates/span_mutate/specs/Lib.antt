@@ -1,0 +1,5 @@
+pub mod Columns
+pub mod Checking
+pub mod Rows
+pub mod Database
+pub mod Directories

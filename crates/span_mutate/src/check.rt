@@ -1,0 +1,146 @@
+//! The check of one mutation against the schema, before any row is looked at.
+ghost use Rattle.std.specs.Prelude.{◌≡◌, ◌⊎◌, [], IfOk, MatchResult, None, Some, Ok, Err, take};
+ghost use Rattle.span_schema.specs.Rules.{first_cause};
+ghost use Rattle.span_schema.specs.Numbers.{IsTable, table_at};
+ghost use Rattle.span_mutate.specs.Checking.{key_causes, cell_causes, cells_cause, lack_causes, mutation_cause, checked, checked_at};
+
+use super::column::{
+    cell_column, has_long, has_null, has_wrong_type, is_named, is_null_refused, is_too_long,
+    lacks_cell, values_named,
+};
+use super::mutation::{Cell, CheckedMutation, Mutation, MutationKind, is_delete, may_insert};
+use span_keycode::column::have_kinds;
+use span_keycode::encode::encode_key;
+use span_schema::schema::Schema;
+use span_schema::table::Table;
+use span_value::refusal::Refusal;
+use span_value::seq::Seq;
+use span_value::value::Value;
+use std::alloc::Global;
+
+// Whether the key may be one of the table with this number.
+fn judge_key(
+    alloc: Global,
+    schema: &Schema,
+    number: usize,
+    table: &Table,
+    key: &[Value],
+) -> Result<(), Refusal>
+    requires { IsTable schema.now number }
+    ensures { MatchResult result (λ _. first_cause (key_causes schema.now number table.now key.now) ≡ None) (λ why. (first_cause (key_causes schema.now number table.now key.now) ≡ Some why) ⊎ (why ≡ Refusal.OutOfMemory)) }
+{
+    if !have_kinds(schema.key_columns(number), key) {
+        return Err(Refusal::WrongType);
+    }
+    if has_null(table.columns.as_slice(), table.key.as_slice(), key) {
+        return Err(Refusal::NullNotAllowed);
+    }
+    if has_long(table.columns.as_slice(), table.key.as_slice(), key) {
+        return Err(Refusal::ValueTooLong);
+    }
+    let _coded = encode_key(alloc, schema, number, key)?;
+    Ok(())
+}
+
+// Whether a cell may stand behind those before it.
+fn judge_cell(
+    table: &Table,
+    kind: MutationKind,
+    before: &[Cell],
+    cell: &Cell,
+) -> Result<(), Refusal>
+    ensures { MatchResult result (λ _. first_cause (cell_causes table.now kind before.now cell.now) ≡ None) (λ why. first_cause (cell_causes table.now kind before.now cell.now) ≡ Some why) }
+{
+    let column = cell_column(table, cell.column.as_str());
+    if is_delete(kind) || column.is_none() || is_named(before, cell.column.as_str()) {
+        return Err(Refusal::NoColumn);
+    }
+    if has_wrong_type(column, &cell.value) {
+        return Err(Refusal::WrongType);
+    }
+    if is_null_refused(column, &cell.value) {
+        return Err(Refusal::NullNotAllowed);
+    }
+    if is_too_long(column, &cell.value) {
+        return Err(Refusal::ValueTooLong);
+    }
+    Ok(())
+}
+
+fn judge_cells(table: &Table, kind: MutationKind, cells: &[Cell]) -> Result<(), Refusal>
+    ensures { MatchResult result (λ _. cells_cause table.now kind [] cells.now ≡ None) (λ why. cells_cause table.now kind [] cells.now ≡ Some why) }
+{
+    for i in 0..cells.len() {
+        judge_cell(table, kind, &cells[..i], &cells[i])?;
+    }
+    Ok(())
+}
+
+fn judge_lack(table: &Table, mutation: &Mutation) -> Result<(), Refusal>
+    ensures { MatchResult result (λ _. first_cause (lack_causes table.now mutation.now) ≡ None) (λ why. first_cause (lack_causes table.now mutation.now) ≡ Some why) }
+{
+    if may_insert(mutation.kind)
+        && lacks_cell(
+            table.key.as_slice(),
+            mutation.cells.as_slice(),
+            table.columns.as_slice(),
+        )
+    {
+        return Err(Refusal::NullNotAllowed);
+    }
+    Ok(())
+}
+
+// Whether a mutation of the table with this number breaks no rule.
+fn judge(
+    alloc: Global,
+    schema: &Schema,
+    number: usize,
+    table: &Table,
+    mutation: &Mutation,
+) -> Result<(), Refusal>
+    requires { IsTable schema.now number }
+    ensures { MatchResult result (λ _. mutation_cause schema.now number table.now mutation.now ≡ None) (λ why. (mutation_cause schema.now number table.now mutation.now ≡ Some why) ⊎ (why ≡ Refusal.OutOfMemory)) }
+{
+    judge_key(alloc, schema, number, table, mutation.key.as_slice())?;
+    judge_cells(table, mutation.kind, mutation.cells.as_slice())?;
+    judge_lack(table, mutation)
+}
+
+fn check_at(
+    alloc: Global,
+    schema: &Schema,
+    number: usize,
+    mutation: Mutation,
+) -> Result<CheckedMutation, Refusal>
+    requires { IsTable schema.now number }
+    ensures checked { MatchResult result (λ c. checked_at schema.now number (table_at schema.now number) mutation ≡ Ok c) (λ why. (checked_at schema.now number (table_at schema.now number) mutation ≡ Err why) ⊎ (why ≡ Refusal.OutOfMemory)) }
+    ensures table { IfOk result (λ c. c.table ≡ number) }
+{
+    let table = schema.table(number);
+    judge(alloc, schema, number, table, &mutation)?;
+    let cells = values_named(
+        alloc,
+        table.key.as_slice(),
+        mutation.cells.as_slice(),
+        table.columns.as_slice(),
+    )?;
+    Ok(CheckedMutation {
+        kind: mutation.kind,
+        table: number,
+        key: mutation.key,
+        cells: Seq::from_vec(cells),
+    })
+}
+
+/// A mutation, checked against the schema. `docs/REFUSALS.md` has the order of the refusals; `OutOfMemory` is the one for want of
+/// memory.
+pub fn check(alloc: Global, schema: &Schema, mutation: Mutation) -> Result<CheckedMutation, Refusal>
+    ensures checked { MatchResult result (λ c. checked schema.now mutation ≡ Ok c) (λ why. (checked schema.now mutation ≡ Err why) ⊎ (why ≡ Refusal.OutOfMemory)) }
+    ensures table { IfOk result (λ c. IsTable schema.now c.table) }
+{
+    match schema.find(mutation.table.as_str()) {
+        None => Err(Refusal::NoTable),
+        Some(number) => check_at(alloc, schema, number, mutation),
+    }
+}

@@ -1,0 +1,167 @@
+//! What a column takes, and which columns cells name.
+ghost use Rattle.std.specs.Prelude.{◌≡◌, MatchResult, length};
+ghost use Rattle.std.specs.Option.{option_copied};
+ghost use Rattle.std.specs.Str.{chars};
+ghost use Rattle.span_mutate.specs.Columns.{column_named, cell_column, has_wrong_type, is_null, is_null_refused, is_over, is_over_type, is_too_long, key_breaks, is_named, is_lacking, lacks_cell, value_named, values_named};
+
+use super::mutation::Cell;
+use span_keycode::column::has_kind;
+use span_schema::table::{Column, KeyColumn, Table, are_same, is_in_key, kind_of_type};
+use span_value::refusal::Refusal;
+use span_value::value::{ColumnType, Value};
+use std::alloc::Global;
+
+fn column_of<'a>(columns: &'a [Column], name: &str) -> Option<&'a Column>
+    ensures { option_copied result ≡ column_named columns.now name.now }
+{
+    columns.iter().find(|c| are_same(c.name.as_str(), name))
+}
+
+/// The column with a name that is outside the key.
+pub fn cell_column<'a>(table: &'a Table, name: &str) -> Option<&'a Column>
+    ensures { option_copied result ≡ cell_column table.now name.now }
+{
+    if is_in_key(table.key.as_slice(), name) {
+        return None;
+    }
+    column_of(table.columns.as_slice(), name)
+}
+
+/// Whether the value is of another type than the column.
+pub fn has_wrong_type(column: Option<&Column>, value: &Value) -> bool
+    ensures { result ≡ has_wrong_type (option_copied column.entry) value.now }
+{
+    match column {
+        None => false,
+        Some(c) => !has_kind(kind_of_type(c.kind), value),
+    }
+}
+
+fn is_null(value: &Value) -> bool
+    ensures { result ≡ is_null value.now }
+{
+    match value {
+        Value::Null => true,
+        _ => false,
+    }
+}
+
+/// Whether the value is NULL and the column is NOT NULL.
+pub fn is_null_refused(column: Option<&Column>, value: &Value) -> bool
+    ensures { result ≡ is_null_refused (option_copied column.entry) value.now }
+{
+    match column {
+        None => false,
+        Some(c) => c.not_null && is_null(value),
+    }
+}
+
+fn is_over(most: Option<u64>, len: usize) -> bool
+    ensures { result ≡ is_over most len }
+{
+    match most {
+        None => false,
+        Some(most) => most < len as u64,
+    }
+}
+
+fn char_count(text: &str) -> usize
+    ensures { result ≡ length (chars text.now) }
+{
+    text.chars().count()
+}
+
+fn is_over_type(kind: ColumnType, value: &Value) -> bool
+    ensures { result ≡ is_over_type kind value.now }
+{
+    match (kind, value) {
+        (ColumnType::Str(most), Value::Str(text)) => is_over(most, char_count(text.as_str())),
+        (ColumnType::Bytes(most), Value::Bytes(bytes)) => is_over(most, bytes.len()),
+        _ => false,
+    }
+}
+
+/// Whether the value is longer than the column allows.
+pub fn is_too_long(column: Option<&Column>, value: &Value) -> bool
+    ensures { result ≡ is_too_long (option_copied column.entry) value.now }
+{
+    match column {
+        None => false,
+        Some(c) => is_over_type(c.kind, value),
+    }
+}
+
+/// Whether NULL stands in a NOT NULL column of the key.
+pub fn has_null(columns: &[Column], key: &[KeyColumn], values: &[Value]) -> bool
+    ensures { result ≡ key_breaks is_null_refused columns.now key.now values.now }
+{
+    for i in 0..key.len().min(values.len()) {
+        if is_null_refused(column_of(columns, key[i].name.as_str()), &values[i]) {
+            return true;
+        }
+    }
+    false
+}
+
+/// Whether a value of the key is longer than its column allows.
+pub fn has_long(columns: &[Column], key: &[KeyColumn], values: &[Value]) -> bool
+    ensures { result ≡ key_breaks is_too_long columns.now key.now values.now }
+{
+    for i in 0..key.len().min(values.len()) {
+        if is_too_long(column_of(columns, key[i].name.as_str()), &values[i]) {
+            return true;
+        }
+    }
+    false
+}
+
+/// Whether a cell is of the column with this name.
+pub fn is_named(cells: &[Cell], name: &str) -> bool
+    ensures { result ≡ is_named cells.now name.now }
+{
+    cells.iter().any(|c| are_same(c.column.as_str(), name))
+}
+
+/// Whether the cells name not all NOT NULL columns outside the key.
+pub fn lacks_cell(key: &[KeyColumn], cells: &[Cell], columns: &[Column]) -> bool
+    ensures { result ≡ lacks_cell key.now cells.now columns.now }
+{
+    columns.iter().any(|c| is_lacking(key, cells, c))
+}
+
+fn is_lacking(key: &[KeyColumn], cells: &[Cell], column: &Column) -> bool
+    ensures { result ≡ is_lacking key.now cells.now column.now }
+{
+    column.not_null
+        && !is_in_key(key, column.name.as_str())
+        && !is_named(cells, column.name.as_str())
+}
+
+// The value that the cells give the column with a name.
+fn value_named(alloc: Global, cells: &[Cell], name: &str) -> Result<Option<Value>, Refusal>
+    ensures { MatchResult result (λ value. value ≡ value_named cells.now name.now) (λ why. why ≡ Refusal.OutOfMemory) }
+{
+    match cells.iter().find(|c| are_same(c.column.as_str(), name)) {
+        None => Ok(None),
+        Some(cell) => Ok(Some(cell.value.copy(alloc)?)),
+    }
+}
+
+/// For each column outside the key, in the order of declaration, the value that the cells give it. `OutOfMemory` is the refusal
+/// for want of memory.
+pub fn values_named(
+    alloc: Global,
+    key: &[KeyColumn],
+    cells: &[Cell],
+    columns: &[Column],
+) -> Result<Vec<Option<Value>>, Refusal>
+    ensures { MatchResult result (λ values. values.items ≡ values_named key.now cells.now columns.now) (λ why. why ≡ Refusal.OutOfMemory) }
+{
+    let mut values = Vec::new(alloc);
+    for column in columns {
+        if !is_in_key(key, column.name.as_str()) {
+            values.push(value_named(alloc, cells, column.name.as_str())?)?;
+        }
+    }
+    Ok(values)
+}

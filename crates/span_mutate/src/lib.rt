@@ -1,0 +1,13 @@
+//! Mutations: what a transaction asks for, and what it makes of the rows of a directory.
+#![tactic(auto)]
+
+pub mod check;
+pub mod column;
+pub mod copy;
+pub mod laws;
+pub mod mutation;
+pub mod root;
+pub mod row;
+#[cfg(test)]
+mod tests;
+pub mod transaction;

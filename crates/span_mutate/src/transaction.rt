@@ -1,0 +1,100 @@
+//! A transaction as it is begun: mutations that were checked against the schema.
+ghost use Rattle.std.specs.Prelude.{◌≡◌, ◌⊎◌, Ok, Err, IfOk, IfErr, MatchResult, All};
+ghost use Rattle.span_schema.specs.Numbers.{IsTable};
+ghost use Rattle.span_mutate.specs.Checking.{checked_all, checked_transaction};
+ghost use Rattle.span_mutate.specs.Directories.{AreKeyed};
+
+use super::check::check;
+use super::copy::copy_of_mutations;
+use super::mutation::{CheckedMutation, Mutation};
+use span_schema::schema::Schema;
+use span_value::refusal::Refusal;
+use span_value::seq::Seq;
+use std::alloc::Global;
+use std::marker::Model;
+
+/// The mutations of a transaction, in the order in which they run. Contracts see it as their list.
+#[derive(Debug, Drop, PartialEq, Eq)]
+pub struct Transaction {
+    mutations: Seq<CheckedMutation>,
+}
+
+impl Model for Transaction {
+    ghost use Rattle.std.specs.Prelude.{List};
+    ghost use Rattle.span_mutate.specs.declared.mutation.CheckedMutation.{CheckedMutation};
+
+    ghost Value = { List CheckedMutation };
+
+    ghost view = { λ a. a.mutations };
+
+    ghost inverse = { λ ms. record { mutations = ms } };
+}
+
+impl Transaction {
+    /// A transaction of these mutations.
+    ///
+    /// `EmptyTransaction` where there is none; else the first mutation that breaks a rule gives the refusal, the first of these:
+    /// `NoTable`; of the whole key `WrongType` (also where it has not one value for each key column), `NullNotAllowed`,
+    /// `ValueTooLong`, `KeyTooLong`; of each cell in turn `NoColumn` (no such column, one of the key, one named before, or any cell
+    /// of a Delete), `WrongType`, `NullNotAllowed`, `ValueTooLong`; `NullNotAllowed` where an Insert or InsertOrUpdate does not name
+    /// a NOT NULL column. `OutOfMemory` is the refusal for want of memory.
+    pub fn new(
+        alloc: Global,
+        schema: &Schema,
+        mutations: Vec<Mutation>,
+    ) -> Result<Transaction, Refusal>
+        ensures ok { IfOk result (λ t. checked_transaction schema.now mutations.items ≡ Ok t) }
+        ensures tables { IfOk result (λ t. All (λ m. IsTable schema.now m.table) t) }
+        ensures keyed { IfOk result (λ t. AreKeyed schema.now t) }
+        ensures refused { IfErr result (λ why. (why ≡ Refusal.OutOfMemory) ⊎ (checked_transaction schema.now mutations.items ≡ Err why)) }
+    {
+        if mutations.is_empty() {
+            return Err(Refusal::EmptyTransaction);
+        }
+        Ok(Transaction {
+            mutations: Seq::from_vec(check_all(alloc, schema, mutations)?),
+        })
+    }
+
+    /// An equal transaction, or the refusal for want of memory.
+    pub fn copy(&self, alloc: Global) -> Result<Transaction, Refusal>
+        ensures { MatchResult result (λ copy. copy ≡ self.now) (λ why. why ≡ Refusal.OutOfMemory) }
+    {
+        Ok(Transaction {
+            mutations: Seq::from_vec(copy_of_mutations(alloc, self.mutations.as_slice())?),
+        })
+    }
+
+    /// The mutations.
+    pub fn mutations(&self) -> &[CheckedMutation]
+        ensures { result.now ≡ self.now }
+    {
+        self.mutations.as_slice()
+    }
+
+    /// The list of the mutations, without a copy.
+    pub fn into_mutations(self) -> Seq<CheckedMutation>
+        ensures { result ≡ self }
+    {
+        let Transaction { mutations } = self;
+        mutations
+    }
+}
+
+fn check_all(
+    alloc: Global,
+    schema: &Schema,
+    mutations: Vec<Mutation>,
+) -> Result<Vec<CheckedMutation>, Refusal>
+    ensures checked { MatchResult result
+        (λ cs. checked_all schema.now mutations.items ≡ Ok cs.items)
+        (λ why. (why ≡ Refusal.OutOfMemory) ⊎ (checked_all schema.now mutations.items ≡ Err why)) }
+    ensures tables { IfOk result (λ cs. All (λ m. IsTable schema.now m.table) cs.items) }
+    ensures keyed { IfOk result (λ cs. AreKeyed schema.now cs.items) }
+{
+    let mut checked = Vec::with_capacity(alloc, mutations.len())?;
+    for mutation in mutations {
+        checked.push(check(alloc, schema, mutation)?)?;
+    }
+    Ok(checked)
+}
