@@ -1,5 +1,5 @@
 -- Chains and their records.
-use Rattle.std.proofs.Common.{◌≡◌, ◌≢◌, ℕ, zero, suc, ◌+◌, ◌<◌, ◌≤◌, ◌^◌, List, [], ◌∷◌, ◌++◌, refl, sym, ◌∙◌, ap, arith, length, map, Option, Some, None, get_or, set, inl, inr}
+use Rattle.std.proofs.Common.{◌≡◌, ◌≢◌, ℕ, zero, suc, ◌+◌, ◌<◌, ◌^◌, List, [], ◌∷◌, refl, sym, ◌∙◌, ap, arith, length, map, Option, Some, None, get_or, set, inl, inr}
 use Rattle.std.proofs.lemmas.List.{get_or-set_other, get_or-set_same, get_or_default}
 use Rattle.std.proofs.Math.Seq.{map-set_same}
 use Rattle.std.proofs.lemmas.Bool.{cases_eq}
@@ -8,8 +8,8 @@ use Rattle.span_arena.specs.declared.record.NodeRecord.{NodeRecord}
 use Rattle.span_arena.specs.declared.record.ChainRecord.{ChainRecord}
 use Rattle.span_arena.specs.declared.record.ChainRecord.TheVariants as chain
 use Rattle.span_arena.specs.declared.record.Links.{Links}
-use Rattle.span_arena.specs.Content.{Content, Prepared, versions, versions_in, IsChain, sum_for, one_for, prepared_for}
-use Rattle.span_arena.specs.Runs.{walk, IsRun, node_at, chain_of, record_at, links_at, links_of, no_record, no_links, content}
+use Rattle.span_arena.specs.Content.{Prepared, versions_in, one_for, prepared_for}
+use Rattle.span_arena.specs.Runs.{walk, IsRun, chain_of, record_at, links_at, links_of, no_record}
 
 of_record : (f : ℕ → NodeRecord) (r : ChainRecord) → versions_in (chain_of f r) ≡ walk f (links_of r).count (links_of r).newest
 of_record f (chain.Free next k) = refl

@@ -1,6 +1,6 @@
 -- What each call does to the content.
-use Rattle.std.proofs.Common.{◌≡◌, ◌≢◌, ℕ, zero, suc, ◌+◌, ◌-◌, ◌<◌, ◌≤◌, ◌^◌, List, [], ◌∷◌, ◌++◌, refl, sym, ◌∙◌, ap, arith, length, map, Option, Some, None, subst, get_or, set, inl, inr, add-one, true, false}
-use Rattle.std.specs.Prelude.{nat_lt, nat_eq, Bool, ◌&&◌}
+use Rattle.std.proofs.Common.{◌≡◌, ◌≢◌, ℕ, zero, suc, ◌+◌, ◌-◌, ◌<◌, ◌≤◌, ◌^◌, List, [], ◌∷◌, ◌++◌, refl, sym, ◌∙◌, ap, arith, length, map, Option, Some, None, get_or, set, inl, inr, add-one, true, false}
+use Rattle.std.specs.Prelude.{nat_lt, nat_eq, ◌&&◌}
 use Rattle.std.proofs.Math.ListN.{get_or-eq_default}
 use Rattle.std.proofs.lemmas.List.{get_or-set_same, length-map, map-set, map-append, get_or-map, get_or_default}
 use Rattle.std.proofs.lemmas.Bool.{cases_lt}
@@ -10,13 +10,12 @@ use Rattle.span_arena.specs.declared.record.NodeRecord.{NodeRecord}
 use Rattle.span_arena.specs.declared.record.ChainRecord.{ChainRecord}
 use Rattle.span_arena.specs.declared.record.ChainRecord.TheVariants as chain
 use Rattle.span_arena.specs.declared.record.Links.{Links}
-use Rattle.span_arena.specs.declared.record.Place.{Place}
 use Rattle.span_arena.specs.declared.record.Place.TheVariants.{Free, Reserved, Linked}
-use Rattle.span_arena.specs.Content.{Content, Prepared, versions, versions_in, IsChain, IsInOrder, IsFalling, is_unused, live, count_versions, count_prepared, linked, linked_as, given_back, prepared_at, CanLink, IsSomePrepared, IsReserved, IsRefusedNode, with_at, sum_for, one_if, one_for, prepared_for}
-use Rattle.span_arena.specs.Runs.{walk, IsRun, IsFreeList, IsSound, node_at, blank, chain_of, record_at, links_at, links_of, no_record, prepared_of, prepared_of_place, content, total}
+use Rattle.span_arena.specs.Content.{Content, Prepared, versions, versions_in, IsInOrder, IsFalling, is_unused, live, linked, linked_as, given_back, IsSomePrepared, IsReserved, with_at, one_for, prepared_for}
+use Rattle.span_arena.specs.Runs.{walk, IsRun, IsFreeList, IsSound, node_at, blank, chain_of, record_at, links_at, links_of, prepared_of, content}
 use Rattle.span_arena.proofs.Frames.{changed-set, changed-push, reserved_apart, free_apart}
 use Rattle.span_arena.proofs.Counts.{length-walk, versions_counted, one_for-at, one_for-same}
-use Rattle.span_arena.proofs.Chains.{with_prepared, versions_are, used_of, chain_at, used_in_range, used_prepared, read_used, links_were, chains_step}
+use Rattle.span_arena.proofs.Chains.{with_prepared, versions_are, chain_at, used_prepared, read_used, links_were, chains_step}
 use Rattle.span_arena.proofs.Steps.{maps_stay, is_for, is_none-free, is_none-linked}
 
 abbrev pub of_parts : List (Option (List Version)) → List (Option Prepared) → ℕ → ℕ → Content

@@ -1,16 +1,13 @@
 -- Lengths and sums.
-use Rattle.std.proofs.Common.{◌≡◌, ◌≢◌, ℕ, zero, suc, ◌+◌, ◌<◌, ◌≤◌, List, [], ◌∷◌, ◌++◌, refl, sym, ◌∙◌, ap, arith, length, map, Option, Some, None, get_or, set, inl, inr, true, false, nat_eq}
-use Rattle.std.proofs.Math.ListN.{get_or-eq_default}
+use Rattle.std.proofs.Common.{◌≡◌, ◌≢◌, ℕ, zero, suc, ◌+◌, ◌<◌, ◌≤◌, List, [], ◌∷◌, ◌++◌, refl, ap, arith, length, map, Option, Some, None, get_or, set, inl, inr, true, false, nat_eq}
 use Rattle.std.proofs.lemmas.List.{length-map, map-set, map-append, get_or-map}
-use Rattle.std.proofs.lemmas.Bool.{cases_lt, cases_eq}
+use Rattle.std.proofs.lemmas.Bool.{cases_eq}
 use Rattle.std.proofs.lemmas.Bool.Decides.{nat_tests}
-use Rattle.span_arena.specs.declared.version.Version.{Version}
 use Rattle.span_arena.specs.declared.record.NodeRecord.{NodeRecord}
 use Rattle.span_arena.specs.declared.record.ChainRecord.{ChainRecord}
 use Rattle.span_arena.specs.declared.record.ChainRecord.TheVariants as chain
-use Rattle.span_arena.specs.declared.record.Links.{Links}
 use Rattle.span_arena.specs.Content.{Prepared, sum_for, one_if, one_for, count_versions, versions_in}
-use Rattle.span_arena.specs.Runs.{walk, node_at, blank, chain_of, total, record_at, links_at, links_of, no_record, prepared_of}
+use Rattle.span_arena.specs.Runs.{walk, node_at, blank, chain_of, total, links_at, links_of, prepared_of}
 
 pub length-walk : (f : ℕ → NodeRecord) (k h : ℕ) → length (walk f k h) ≡ k
 length-walk f zero h = refl

@@ -1,7 +1,7 @@
 -- A chain that is cut in two.
-use Rattle.std.proofs.Common.{◌≡◌, ◌≢◌, ℕ, zero, suc, ◌+◌, ◌-◌, ◌<◌, ◌≤◌, ◌^◌, List, [], ◌∷◌, ◌++◌, refl, sym, ◌∙◌, ap, arith, length, map, Option, Some, None, get_or, set, add-one, sub-one, subst, inl, inr, append_assoc}
+use Rattle.std.proofs.Common.{◌≡◌, ℕ, zero, suc, ◌+◌, ◌-◌, ◌<◌, ◌≤◌, ◌^◌, List, [], ◌∷◌, ◌++◌, refl, sym, ◌∙◌, ap, arith, length, map, Option, Some, None, set, add-one, sub-one, subst, inl, inr, append_assoc}
 use Rattle.std.specs.Prelude.{nat_le, true, false, is_some}
-use Rattle.std.proofs.lemmas.List.{get_or-set_same, get_or-set_other, length-set, map-set, append-nil}
+use Rattle.std.proofs.lemmas.List.{get_or-set_same, length-set, map-set, append-nil}
 use Rattle.std.proofs.lemmas.Bool.{cases_eq}
 use Rattle.std.proofs.lemmas.Bool.Decides.{nat_tests}
 use Rattle.std.proofs.Math.Seq.{map-set_same}
@@ -10,12 +10,11 @@ use Rattle.span_arena.specs.declared.record.NodeRecord.{NodeRecord}
 use Rattle.span_arena.specs.declared.record.ChainRecord.{ChainRecord}
 use Rattle.span_arena.specs.declared.record.ChainRecord.TheVariants as chain
 use Rattle.span_arena.specs.declared.record.Links.{Links}
-use Rattle.span_arena.specs.declared.record.Place.{Place}
-use Rattle.span_arena.specs.declared.record.Place.TheVariants.{Free, Reserved, Linked}
-use Rattle.span_arena.specs.Content.{Content, Prepared, versions, versions_in, kept_upto, kept_by, kept_at, with_kept, sum_for, one_if, one_for, prepared_for}
-use Rattle.span_arena.specs.Runs.{walk, hop, IsRun, IsAbove, IsFreeList, IsSound, IsCut, IsTrimming, node_at, blank, chain_of, record_at, links_at, links_of, no_record, prepared_of, content, total}
+use Rattle.span_arena.specs.declared.record.Place.TheVariants.{Free, Linked}
+use Rattle.span_arena.specs.Content.{versions, versions_in, kept_upto, kept_by, kept_at, with_kept, sum_for, one_if, one_for, prepared_for}
+use Rattle.span_arena.specs.Runs.{walk, hop, IsRun, IsAbove, IsSound, IsCut, IsTrimming, node_at, blank, chain_of, record_at, links_at, links_of, prepared_of, content, total}
 use Rattle.span_arena.proofs.Frames.{IsChanged, run_stays, walk_stays, free_stays, changed-set, linked_apart}
-use Rattle.span_arena.proofs.Counts.{length-walk, total-set, sum-node}
+use Rattle.span_arena.proofs.Counts.{length-walk, total-set}
 use Rattle.span_arena.proofs.Chains.{used_in_range, links_were, links_here, links_elsewhere, chain_at, chains_stay}
 use Rattle.span_arena.proofs.Steps.{is_none-free, is_none-linked}
 use Rattle.span_arena.proofs.Contents.{of_parts, parts_equal}

@@ -6,3 +6,4 @@ pub mod Contents
 pub mod Spares
 pub mod Walking
 pub mod Cutting
+pub mod Keeping

@@ -1,21 +1,20 @@
 -- The free chains.
-use Rattle.std.proofs.Common.{◌≡◌, ◌≢◌, ℕ, zero, suc, ◌+◌, ◌-◌, ◌<◌, ◌≤◌, ◌^◌, List, [], ◌∷◌, ◌++◌, refl, sym, ◌∙◌, ap, arith, length, map, Option, Some, None, get_or, set, inl, inr, true, false, add-one, sub-one, length-append}
+use Rattle.std.proofs.Common.{◌≡◌, ◌≢◌, ℕ, zero, suc, ◌+◌, ◌-◌, ◌<◌, ◌≤◌, ◌^◌, List, [], ◌∷◌, ◌++◌, refl, sym, ◌∙◌, ap, arith, length, map, None, get_or, set, inl, inr, true, false, add-one, length-append}
 use Rattle.std.specs.Prelude.{nat_lt, nat_eq, ◌&&◌}
 use Rattle.std.proofs.Math.ListN.{get_or-eq_default}
 use Rattle.std.proofs.Math.Seq.{get_or-append_seam}
 use Rattle.std.proofs.lemmas.List.{get_or-set_same, get_or-set_other, get_or_default, get_or-map, get_or_append_left, length-map, length-set, map-set, map-append}
 use Rattle.std.proofs.lemmas.Bool.{cases_lt, cases_eq}
 use Rattle.std.proofs.lemmas.Bool.Decides.{nat_tests}
-use Rattle.span_arena.specs.declared.version.Version.{Version}
 use Rattle.span_arena.specs.declared.record.NodeRecord.{NodeRecord}
 use Rattle.span_arena.specs.declared.record.ChainRecord.{ChainRecord}
 use Rattle.span_arena.specs.declared.record.ChainRecord.TheVariants as chain
 use Rattle.span_arena.specs.declared.record.Links.{Links}
-use Rattle.span_arena.specs.Content.{Content, IsNewChain, AreAllChains, without_chain, with_at, is_unused, prepared_for}
-use Rattle.span_arena.specs.Runs.{walk, IsRun, IsSound, IsSpare, AreSpare, one_used, used_count, node_at, chain_of, record_at, links_at, links_of, no_record, no_links, prepared_of, content, total}
+use Rattle.span_arena.specs.Content.{IsNewChain, AreAllChains, without_chain, is_unused}
+use Rattle.span_arena.specs.Runs.{walk, IsRun, IsSound, IsSpare, AreSpare, one_used, used_count, node_at, chain_of, record_at, links_at, links_of, no_record, no_links, content, total}
 use Rattle.span_arena.proofs.Counts.{total-set, total-push}
 use Rattle.span_arena.proofs.Chains.{used_in_range, links_were, chain_at}
-use Rattle.span_arena.proofs.Contents.{of_parts, parts_equal, unused_is}
+use Rattle.span_arena.proofs.Contents.{parts_equal, unused_is}
 
 -- the list of free chains stays where the record that is written is not in it
 pub spare_stays : (rs ss : List ChainRecord) (c : ℕ) → ((d : ℕ) → d ≢ c → record_at ss d ≡ record_at rs d) → (k h : ℕ)

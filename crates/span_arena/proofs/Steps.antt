@@ -1,9 +1,8 @@
 -- What each call leaves of the layout: every node in one place, every chain with its versions.
-use Rattle.std.proofs.Common.{◌≡◌, ◌≢◌, ℕ, zero, suc, ◌+◌, ◌-◌, ◌<◌, ◌≤◌, ◌^◌, List, [], ◌∷◌, ◌++◌, refl, sym, ◌∙◌, ap, arith, length, map, Option, Some, None, subst, get_or, set, inl, inr, add-one, length-append}
+use Rattle.std.proofs.Common.{◌≡◌, ◌≢◌, ℕ, zero, suc, ◌+◌, ◌-◌, ◌<◌, ◌≤◌, ◌^◌, List, [], ◌∷◌, ◌++◌, refl, sym, ◌∙◌, ap, arith, length, map, Option, Some, None, set, inl, inr, add-one, length-append}
 use Rattle.std.proofs.lemmas.List.{get_or-set_same, length-set}
 use Rattle.std.proofs.lemmas.Bool.{cases_eq}
 use Rattle.std.proofs.Math.ListN.{get_or-eq_default}
-use Rattle.span_arena.specs.declared.version.Version.{Version}
 use Rattle.span_arena.specs.declared.record.NodeRecord.{NodeRecord}
 use Rattle.span_arena.specs.declared.record.ChainRecord.{ChainRecord}
 use Rattle.span_arena.specs.declared.record.ChainRecord.TheVariants as chain
@@ -11,7 +10,7 @@ use Rattle.span_arena.specs.declared.record.Links.{Links}
 use Rattle.span_arena.specs.declared.record.Place.{Place}
 use Rattle.span_arena.specs.declared.record.Place.TheVariants.{Free, Reserved, Linked}
 use Rattle.span_arena.specs.Content.{Prepared, sum_for, one_if, one_for, prepared_for, IsAboveNewest}
-use Rattle.span_arena.specs.Runs.{walk, IsRun, IsFreeList, IsSound, node_at, blank, total, chain_of, record_at, links_at, links_of, no_record, prepared_of, prepared_of_place}
+use Rattle.span_arena.specs.Runs.{walk, IsRun, IsFreeList, IsSound, node_at, blank, total, chain_of, record_at, links_at, links_of, prepared_of, prepared_of_place}
 use Rattle.span_arena.proofs.Frames.{IsChanged, run_stays, walk_stays, free_stays, changed-set, changed-push, reserved_apart, free_apart}
 use Rattle.span_arena.proofs.Counts.{total-set, sum-node, sum-one_more, one_for-same, one_for-other}
 use Rattle.span_arena.proofs.Chains.{with_prepared, used_in_range, links_were, links_here, links_elsewhere, prepared_step, runs_step, chains_stay}

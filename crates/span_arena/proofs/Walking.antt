@@ -1,19 +1,17 @@
 -- A walk along a chain, step by step.
-use Rattle.std.proofs.Common.{◌≡◌, ◌≢◌, ℕ, zero, suc, ◌+◌, ◌-◌, ◌<◌, ◌≤◌, ◌^◌, List, [], ◌∷◌, refl, sym, ◌∙◌, ap, arith, length, map, Option, Some, None, get_or, sub-one, inl, inr}
+use Rattle.std.proofs.Common.{◌≡◌, ℕ, zero, suc, ◌-◌, ◌<◌, ◌≤◌, ◌^◌, List, ◌∷◌, refl, sym, ◌∙◌, ap, arith, length, Some, get_or, sub-one, inl, inr}
 use Rattle.std.proofs.Math.ListN.{get_or-eq_default}
 use Rattle.std.proofs.lemmas.List.{get_or_default}
 use Rattle.std.proofs.lemmas.Bool.{cases_lt}
 use Rattle.std.proofs.lemmas.Bool.Decides.{nat_tests}
 use Rattle.std.specs.Prelude.{nat_le, true, false}
-use Rattle.span_arena.specs.declared.version.Version.{Version}
 use Rattle.span_arena.specs.declared.record.NodeRecord.{NodeRecord}
 use Rattle.span_arena.specs.declared.record.ChainRecord.{ChainRecord}
 use Rattle.span_arena.specs.declared.record.ChainRecord.TheVariants as chain
 use Rattle.span_arena.specs.declared.record.Links.{Links}
-use Rattle.span_arena.specs.declared.record.Place.{Place}
-use Rattle.span_arena.specs.declared.record.Place.TheVariants.{Free, Reserved, Linked}
-use Rattle.span_arena.specs.Content.{Content, versions, versions_in, IsChain, newest_upto}
-use Rattle.span_arena.specs.Runs.{walk, IsRun, IsSound, node_at, blank, chain_of, record_at, links_at, content}
+use Rattle.span_arena.specs.declared.record.Place.TheVariants.{Linked}
+use Rattle.span_arena.specs.Content.{versions, versions_in, newest_upto}
+use Rattle.span_arena.specs.Runs.{walk, IsRun, IsSound, node_at, blank, record_at, content}
 use Rattle.span_arena.proofs.Chains.{chain_at, links_were}
 
 pub in_range-linked : (nodes : List NodeRecord) (i c : ℕ) → (node_at nodes i).place ≡ Linked c → i < length nodes

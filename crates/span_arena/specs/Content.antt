@@ -1,5 +1,5 @@
 -- What a caller sees of an arena: a map from chains to versions, what is prepared, and how many nodes are free.
-use Rattle.std.specs.Prelude.{◌≡◌, ◌⊎◌, ℕ, ◌+◌, ◌-◌, ◌<◌, ◌≤◌, List, [], ◌∷◌, ◌++◌, ◌&&◌, length, Option, Some, None, slice_index_or, slice_set, Bool, true, nat_le, nat_lt, nat_eq, ◌^◌, find, cond, if◌then◌else◌}
+use Rattle.std.specs.Prelude.{◌≡◌, ◌⊎◌, ℕ, ◌+◌, ◌-◌, ◌<◌, ◌≤◌, List, [], ◌∷◌, ◌++◌, ◌&&◌, length, Option, Some, None, slice_index_or, slice_set, Bool, nat_le, nat_lt, nat_eq, ◌^◌, find, if◌then◌else◌}
 use Rattle.span_arena.specs.declared.version.Version.{Version}
 use Rattle.span_value.specs.declared.refusal.Refusal.{Refusal}
 use Rattle.span_value.specs.declared.refusal.Refusal.TheVariants.{ShardFull, OutOfMemory}

@@ -7,5 +7,7 @@
 pub mod arena;
 mod cut;
 mod record;
+#[cfg(test)]
+mod tests;
 pub mod token;
 pub mod version;

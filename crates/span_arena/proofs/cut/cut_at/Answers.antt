@@ -1,6 +1,6 @@
-use Rattle.std.proofs.Common.{◌≡◌, ℕ, sym, ◌∙◌, refl, arith, ◌<◌, length, get_or}
+use Rattle.std.proofs.Common.{sym, ◌∙◌, arith, ◌<◌, length}
 use Rattle.std.proofs.lemmas.List.{get_or_default}
-use Rattle.span_arena.specs.Runs.{node_at, blank}
+use Rattle.span_arena.specs.Runs.{blank}
 use Rattle.span_arena.proofs.Cutting.{cut_in_range, cut_here, cut_more, cut_behind, cut_before}
 use Rattle.span_arena.proofs.cut.cut_at.Goals as goal
 

@@ -1,4 +1,4 @@
-use Rattle.std.proofs.Common.{◌≡◌, ap, sym, ◌∙◌, refl, arith, length, ◌<◌}
+use Rattle.std.proofs.Common.{ap, ◌∙◌, arith}
 use Rattle.span_arena.specs.Runs.{node_at}
 use Rattle.span_arena.specs.Content.{without_chain}
 use Rattle.span_arena.proofs.Chains.{used_of}

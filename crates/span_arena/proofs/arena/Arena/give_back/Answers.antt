@@ -1,8 +1,8 @@
-use Rattle.std.proofs.Common.{◌≡◌, ap, sym, ◌∙◌, refl, arith}
+use Rattle.std.proofs.Common.{ap, ◌∙◌, refl, arith}
 use Rattle.span_arena.specs.Content.{given_back}
 use Rattle.span_arena.proofs.Chains.{used_in_range, read_not_free}
 use Rattle.span_arena.proofs.Steps.{sound-give_back}
-use Rattle.span_arena.proofs.Contents.{IsHeld, held, links_held, content-give_back}
+use Rattle.span_arena.proofs.Contents.{held, links_held, content-give_back}
 use Rattle.span_arena.proofs.Spares.{are_spare-used}
 use Rattle.span_arena.proofs.arena.Arena.give_back.Goals as goal
 

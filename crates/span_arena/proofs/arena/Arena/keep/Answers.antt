@@ -1,11 +1,11 @@
-use Rattle.std.proofs.Common.{◌≡◌, ℕ, sym, ◌∙◌, ap, refl, arith, ◌<◌, ◌+◌, ◌-◌, length, get_or}
+use Rattle.std.proofs.Common.{◌≡◌, ◌∙◌, ap, refl, arith, ◌<◌, ◌+◌, ◌-◌, length}
 use Rattle.std.proofs.lemmas.List.{get_or_default}
 use Rattle.span_arena.specs.Content.{Content, versions, with_kept, kept_by}
-use Rattle.span_arena.specs.Runs.{node_at, blank, content}
+use Rattle.span_arena.specs.Runs.{node_at, blank}
 use Rattle.span_arena.proofs.Chains.{used_of, read_used}
 use Rattle.span_arena.proofs.Spares.{are_spare-used}
 use Rattle.span_arena.proofs.Walking.{init_run}
-use Rattle.span_arena.proofs.Cutting.{trimming_starts, trimming_ends, trim_in_range, trim_content, trim_sound}
+use Rattle.span_arena.proofs.Cutting.{trimming_starts, trim_in_range, trim_content, trim_sound}
 use Rattle.span_arena.proofs.arena.Arena.keep.Goals as goal
 
 pub cut-kept-requires : goal.cut-kept-requires

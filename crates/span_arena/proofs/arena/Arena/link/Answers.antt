@@ -1,10 +1,10 @@
-use Rattle.std.proofs.Common.{◌≡◌, ap, sym, ◌∙◌, refl, arith, ◌≤◌}
+use Rattle.std.proofs.Common.{ap, ◌∙◌, refl, arith}
 use Rattle.span_arena.specs.Content.{linked, IsAboveNewest}
 use Rattle.span_arena.specs.Runs.{node_at, walk}
 use Rattle.span_arena.proofs.Counts.{count-total}
 use Rattle.span_arena.proofs.Chains.{used_in_range, read_not_free, links_were}
 use Rattle.span_arena.proofs.Steps.{sound-link}
-use Rattle.span_arena.proofs.Contents.{IsHeld, held, links_held, chain_versions, content-link}
+use Rattle.span_arena.proofs.Contents.{held, links_held, chain_versions, content-link}
 use Rattle.span_arena.proofs.Spares.{are_spare-used}
 use Rattle.span_arena.proofs.arena.Arena.link.Goals as goal
 

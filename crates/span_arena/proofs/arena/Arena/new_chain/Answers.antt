@@ -1,5 +1,5 @@
-use Rattle.std.proofs.Common.{◌≡◌, ap, sym, ◌∙◌, refl, arith, length}
-use Rattle.span_arena.specs.Runs.{node_at, AreSpare}
+use Rattle.std.proofs.Common.{◌≡◌, refl, arith, length}
+use Rattle.span_arena.specs.Runs.{AreSpare}
 use Rattle.span_arena.proofs.Spares.{spare_not_used, spare_in_range, spare_was, are_spare-taken, are_spare-push, all_chains, sound-new_chain, content-new_chain, sound-more_chains, content-more_chains}
 use Rattle.span_arena.proofs.arena.Arena.new_chain.Goals as goal
 

@@ -1,4 +1,4 @@
-use Rattle.std.proofs.Common.{◌≡◌, ℕ, ap, sym, ◌∙◌, refl, arith, ◌<◌, length}
+use Rattle.std.proofs.Common.{◌≡◌, ap, sym, ◌∙◌, arith, ◌<◌, length}
 use Rattle.span_arena.specs.Content.{newest_upto}
 use Rattle.span_arena.specs.Runs.{node_at}
 use Rattle.span_arena.proofs.Chains.{used_of, read_used}

@@ -1,4 +1,4 @@
-use Rattle.std.proofs.Common.{◌≡◌, ◌≤◌, ◌<◌, ℕ, suc, ◌-◌, ap, sym, ◌∙◌, refl, arith, length, map, inl, inr}
+use Rattle.std.proofs.Common.{◌≡◌, ◌<◌, suc, ◌-◌, refl, arith, length, map, inl, inr}
 use Rattle.span_arena.specs.Runs.{node_at, prepared_of}
 use Rattle.span_arena.proofs.Counts.{part_prepared}
 use Rattle.span_arena.proofs.Chains.{used_of, read_used, links_were}
