@@ -1,0 +1,64 @@
+-- A walk along a chain, step by step.
+use Rattle.std.proofs.Common.{◌≡◌, ℕ, zero, suc, ◌-◌, ◌<◌, ◌≤◌, ◌^◌, List, ◌∷◌, refl, sym, ◌∙◌, ap, arith, length, Some, get_or, sub-one, inl, inr}
+use Rattle.std.proofs.Math.ListN.{get_or-eq_default}
+use Rattle.std.proofs.lemmas.List.{get_or_default}
+use Rattle.std.proofs.lemmas.Bool.{cases_lt}
+use Rattle.std.proofs.lemmas.Bool.Decides.{nat_tests}
+use Rattle.std.specs.Prelude.{nat_le, true, false}
+use Rattle.span_arena.specs.declared.record.NodeRecord.{NodeRecord}
+use Rattle.span_arena.specs.declared.record.ChainRecord.{ChainRecord}
+use Rattle.span_arena.specs.declared.record.ChainRecord.TheVariants as chain
+use Rattle.span_arena.specs.declared.record.Links.{Links}
+use Rattle.span_arena.specs.declared.record.Place.TheVariants.{Linked}
+use Rattle.span_arena.specs.Content.{versions, versions_in, newest_upto}
+use Rattle.span_arena.specs.Runs.{walk, IsRun, IsSound, node_at, blank, record_at, content}
+use Rattle.span_arena.proofs.Chains.{chain_at, links_were}
+
+pub in_range-linked : (nodes : List NodeRecord) (i c : ℕ) → (node_at nodes i).place ≡ Linked c → i < length nodes
+in_range-linked nodes i c h = elim (cases_lt i (length nodes)) [
+  | inl lt ↦ lt
+  | inr ge ↦ (let e : node_at nodes i ≡ blank = get_or-eq_default nodes blank ge in
+      let f : blank.place ≡ Linked c = rw e at h in cc)
+]
+
+-- the start: the run of a chain has its versions
+pub init_run : (nodes : List NodeRecord) (rs : List ChainRecord) (free count most : ℕ) (sound : IsSound nodes rs free count most) (c : ℕ) (l : Links) → record_at rs c ≡ chain.Used l
+    → ((bound : ℕ) × IsRun (node_at nodes) c bound l.count l.newest) × (walk (node_at nodes) l.count l.newest ≡ versions (content nodes rs count most) c)
+init_run nodes rs free count most sound c l used =
+    let run : IsRun (node_at nodes) c (2 ^ 64) l.count l.newest = rw (links_were rs c l l used) at (sound.runs c) in
+    ((2 ^ 64, run), sym (ap versions_in (chain_at (node_at nodes) rs c l used)))
+
+module _ (nodes : List NodeRecord) (c bound k h : ℕ) (run : IsRun (node_at nodes) c bound k h) (some : 0 < k) where
+  pub here_in_range : h < length nodes
+  here_in_range = in_range c bound k h run some
+    where
+      in_range : (c bound k h : ℕ) → IsRun (node_at nodes) c bound k h → 0 < k → h < length nodes
+      in_range c bound zero h run some = absurd (omega arith)
+      in_range c bound (suc k) h run some = in_range-linked nodes h c run.0
+
+  read_is : (n : NodeRecord) → n ≡ get_or nodes h n → n ≡ node_at nodes h
+  read_is n read = read ∙ get_or_default nodes h n blank here_in_range
+
+  pub next_run : (n : NodeRecord) → n ≡ get_or nodes h n → (b : ℕ) × IsRun (node_at nodes) c b (k - 1) n.next
+  next_run n read = rw (read_is n read) (go c bound k h run some)
+    where
+      go : (c bound k h : ℕ) → IsRun (node_at nodes) c bound k h → 0 < k → (b : ℕ) × IsRun (node_at nodes) c b (k - 1) (node_at nodes h).next
+      go c bound zero h run some = absurd (omega arith)
+      go c bound (suc k) h run some = ((node_at nodes h).version.timestamp, rw sub-one run.2)
+
+  walk_more : walk (node_at nodes) k h ≡ (node_at nodes h).version ∷ walk (node_at nodes) (k - 1) (node_at nodes h).next
+  walk_more = go k h some
+    where
+      go : (k h : ℕ) → 0 < k → walk (node_at nodes) k h ≡ (node_at nodes h).version ∷ walk (node_at nodes) (k - 1) (node_at nodes h).next
+      go zero h some = absurd (omega arith)
+      go (suc k) h some = rw sub-one refl
+
+  pub found_here : (n : NodeRecord) → n ≡ get_or nodes h n → (s : ℕ) → n.version.timestamp ≤ s → newest_upto s (walk (node_at nodes) k h) ≡ Some n.version
+  found_here n read s le =
+      let t : nat_le n.version.timestamp s ≡ true = grind (arith, nat_tests) in
+      rw (walk_more, ← (read_is n read), t) refl
+
+  pub next_same : (n : NodeRecord) → n ≡ get_or nodes h n → (s : ℕ) → s < n.version.timestamp → newest_upto s (walk (node_at nodes) (k - 1) n.next) ≡ newest_upto s (walk (node_at nodes) k h)
+  next_same n read s lt =
+      let t : nat_le n.version.timestamp s ≡ false = grind (arith, nat_tests) in
+      rw (walk_more, ← (read_is n read), t) refl

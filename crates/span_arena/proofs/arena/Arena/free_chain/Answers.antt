@@ -1,0 +1,37 @@
+use Rattle.std.proofs.Common.{ap, ◌∙◌, arith}
+use Rattle.span_arena.specs.Runs.{node_at}
+use Rattle.span_arena.specs.Content.{without_chain}
+use Rattle.span_arena.proofs.Chains.{used_of}
+use Rattle.span_arena.proofs.Spares.{are_spare-free, spare_count_below, sound-free_chain, content-free_chain}
+use Rattle.span_arena.proofs.arena.Arena.free_chain.Goals as goal
+
+pub overflow_add-self-inside : goal.overflow_add-self-inside
+overflow_add-self-inside c =
+    let i = c.self.inside in
+    let h = rw (← c.self.view_is) at c.requires.is_chain in
+    let u = used_of (node_at i.nodes.items) i.chains.items c.args.chain.number h.0 h.1 in
+    omega (arith, i.chains.small, i.chains.ok, spare_count_below i.chains.items i.spare i.spare_count c.args.chain.number u.0 u.1 c.self.invariant.spare)
+
+pub overflow_add-self : goal.overflow_add-self
+overflow_add-self c =
+    let i = c.self.inside in
+    let h = rw (← c.self.view_is) at c.requires.is_chain in
+    let u = used_of (node_at i.nodes.items) i.chains.items c.args.chain.number h.0 h.1 in
+    omega (arith, i.chains.small, i.chains.ok, spare_count_below i.chains.items i.spare i.spare_count c.args.chain.number u.0 u.1 c.self.invariant.spare)
+
+pub invariant_of-self : goal.invariant_of-self
+invariant_of-self c =
+    let i = c.self.inside in
+    let h = rw (← c.self.view_is) at c.requires.is_chain in
+    let unused = rw (← c.self.view_is) at c.requires.unused in
+    let u = used_of (node_at i.nodes.items) i.chains.items c.args.chain.number h.0 h.1 in
+    record {
+      sound = sound-free_chain i.nodes.items i.chains.items i.free i.free_count i.most c.self.invariant.sound c.args.chain.number u.0 _ _ u.1 unused;
+      spare = are_spare-free i.chains.items i.spare i.spare_count c.args.chain.number u.0 u.1 c.self.invariant.spare;
+    }
+
+pub returns : goal.returns
+returns c =
+    let i = c.self.inside in
+    content-free_chain i.nodes.items i.chains.items i.free i.free_count i.most c.self.invariant.sound c.args.chain.number _ _
+    ∙ ap (λ w. without_chain w c.args.chain.number) c.self.view_is

@@ -1,0 +1,126 @@
+-- How an arena lays out its nodes and chains. No public clause cites this module.
+use Rattle.std.specs.Prelude.{◌≡◌, ℕ, zero, suc, ◌+◌, ◌<◌, ◌≤◌, ◌^◌, List, [], ◌∷◌, length, map, Option, Some, None, slice_index_or}
+use Rattle.span_arena.specs.declared.version.Version.{Version}
+use Rattle.span_arena.specs.declared.record.NodeRecord.{NodeRecord}
+use Rattle.span_arena.specs.declared.record.ChainRecord.{ChainRecord}
+use Rattle.span_arena.specs.declared.record.ChainRecord.TheVariants as chain
+use Rattle.span_arena.specs.declared.record.Links.{Links}
+use Rattle.span_arena.specs.declared.record.Place.{Place}
+use Rattle.span_arena.specs.declared.record.Place.TheVariants.{Free, Reserved, Linked}
+use Rattle.span_arena.specs.Content.{Content, Prepared, sum_for, one_if, prepared_for, kept_by}
+
+-- what a place past the end is taken to have
+abbrev pub blank : NodeRecord
+blank = record { place = Free 0; next = 0; version = record { timestamp = 0; image = None } }
+
+abbrev pub node_at : List NodeRecord → ℕ → NodeRecord
+node_at nodes i = slice_index_or nodes i blank
+
+abbrev pub prepared_of_place : Place → Option (List ℕ) → Option Prepared
+prepared_of_place (Free k) image = None
+prepared_of_place (Reserved c) image = Some (record { chain = c; image = image })
+prepared_of_place (Linked c) image = None
+
+abbrev pub prepared_of : NodeRecord → Option Prepared
+prepared_of n = prepared_of_place n.place n.version.image
+
+-- so many versions, from node h on
+abbrev pub walk : (ℕ → NodeRecord) → ℕ → ℕ → List Version
+walk f zero h = []
+walk f (suc k) h = (f h).version ∷ walk f k (f h).next
+
+-- so many nodes from h on are linked into chain c, and their timestamps fall
+abbrev pub IsRun : (ℕ → NodeRecord) → ℕ → ℕ → ℕ → ℕ → Type 0
+IsRun f c bound zero h = Unit {0}
+IsRun f c bound (suc k) h = ((f h).place ≡ Linked c) × ((f h).version.timestamp < bound) × IsRun f c (f h).version.timestamp k (f h).next
+
+-- so many nodes from h on are free, and each keeps how many there are from it on
+abbrev pub IsFreeList : (ℕ → NodeRecord) → ℕ → ℕ → Type 0
+IsFreeList f zero h = Unit {0}
+IsFreeList f (suc k) h = ((f h).place ≡ Free (suc k)) × IsFreeList f k (f h).next
+
+-- the links of a chain; one that is free has no version and nothing prepared
+abbrev pub no_links : Links
+no_links = record { newest = 0; count = 0; prepared = 0 }
+
+abbrev pub links_of : ChainRecord → Links
+links_of (chain.Free next k) = no_links
+links_of (chain.Used l) = l
+
+abbrev pub chain_of : (ℕ → NodeRecord) → ChainRecord → Option (List Version)
+chain_of f (chain.Free next k) = None
+chain_of f (chain.Used l) = Some (walk f l.count l.newest)
+
+abbrev pub no_record : ChainRecord
+no_record = chain.Free 0 0
+
+abbrev pub record_at : List ChainRecord → ℕ → ChainRecord
+record_at rs c = slice_index_or rs c no_record
+
+abbrev pub links_at : List ChainRecord → ℕ → Links
+links_at rs c = links_of (record_at rs c)
+
+abbrev pub total : List ChainRecord → ℕ
+total [] = 0
+total (r ∷ rs) = (links_of r).count + total rs
+
+abbrev pub content : List NodeRecord → List ChainRecord → ℕ → ℕ → Content
+content nodes rs free_count most = record {
+  chains = map (chain_of (node_at nodes)) rs;
+  prepared = map prepared_of nodes;
+  free = free_count;
+  most = most;
+}
+
+-- each chain has its versions, as many are prepared for it as it says, and each node is in a chain, prepared or in the free list
+pub record IsSound (nodes : List NodeRecord) (rs : List ChainRecord) (free free_count most : ℕ) : Type 0 where
+  pub runs : (c : ℕ) → IsRun (node_at nodes) c (2 ^ 64) (links_at rs c).count (links_at rs c).newest
+  pub free_list : IsFreeList (node_at nodes) free_count free
+  pub prepared : (c : ℕ) → prepared_for c (map prepared_of nodes) ≡ (links_at rs c).prepared
+  pub counted : free_count + (total rs + sum_for one_if (map prepared_of nodes)) ≡ length nodes
+  pub bounded : length nodes ≤ most
+
+-- so many chains from h on are free, and each keeps how many there are from it on
+abbrev pub IsSpare : List ChainRecord → ℕ → ℕ → Type 0
+IsSpare rs h zero = Unit {0}
+IsSpare rs h (suc k) = (next : ℕ) × (record_at rs h ≡ chain.Free next (suc k)) × IsSpare rs next k
+
+abbrev pub one_used : ChainRecord → ℕ
+one_used (chain.Free next k) = 0
+one_used (chain.Used l) = 1
+
+abbrev pub used_count : List ChainRecord → ℕ
+used_count [] = 0
+used_count (r ∷ rs) = one_used r + used_count rs
+
+-- the list of free chains has every chain that is not in use
+pub record AreSpare (rs : List ChainRecord) (spare spare_count : ℕ) : Type 0 where
+  pub list : IsSpare rs spare spare_count
+  pub counted : spare_count + used_count rs ≡ length rs
+
+-- so many links on from node h
+abbrev pub hop : (ℕ → NodeRecord) → ℕ → ℕ → ℕ
+hop f zero h = h
+hop f (suc k) h = hop f k (f h).next
+
+-- so many nodes from h on have a timestamp of at least low
+abbrev pub IsAbove : (ℕ → NodeRecord) → ℕ → ℕ → ℕ → Type 0
+IsAbove f low zero h = Unit {0}
+IsAbove f low (suc k) h = (low ≤ (f h).version.timestamp) × IsAbove f low k (f h).next
+
+-- where a chain is cut
+pub record IsCut (f : ℕ → NodeRecord) (h count : ℕ) (horizon : Option ℕ) (kept at : ℕ) : Type 0 where
+  pub within : kept ≤ count
+  pub here : at ≡ hop f kept h
+  pub same : walk f kept h ≡ kept_by horizon (walk f count h)
+
+-- the state while nodes of a chain are freed: so many from at on are in no chain any more
+pub record IsTrimming (nodes : List NodeRecord) (rs : List ChainRecord) (free free_count most c left at : ℕ) : Type 0 where
+  pub runs : (d : ℕ) → IsRun (node_at nodes) d (2 ^ 64) (links_at rs d).count (links_at rs d).newest
+  pub low : ℕ
+  pub above : IsAbove (node_at nodes) low (links_at rs c).count (links_at rs c).newest
+  pub loose : IsRun (node_at nodes) c low left at
+  pub free_list : IsFreeList (node_at nodes) free_count free
+  pub prepared : (d : ℕ) → prepared_for d (map prepared_of nodes) ≡ (links_at rs d).prepared
+  pub counted : free_count + (left + (total rs + sum_for one_if (map prepared_of nodes))) ≡ length nodes
+  pub bounded : length nodes ≤ most

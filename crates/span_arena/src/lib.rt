@@ -1,0 +1,13 @@
+//! Versions of rows, in chains that are linked by index in one vector.
+//!
+//! A shard keeps the versions of each key in a chain, newest first. Memory is taken before a transaction is decided, by `new_chain`
+//! and `reserve_node`; all that comes after moves links alone.
+#![tactic(auto)]
+
+pub mod arena;
+mod cut;
+mod record;
+#[cfg(test)]
+mod tests;
+pub mod token;
+pub mod version;

@@ -1,0 +1,13 @@
+//! What an arena hands out for its chains and its nodes.
+
+/// A chain of an arena, from `Arena::new_chain`.
+#[derive(Clone, Copy, Debug, PartialEq, Eq)]
+pub struct Chain {
+    pub(crate) number: usize,
+}
+
+/// A node of an arena in which something is prepared, from `Arena::reserve_node`.
+#[derive(Clone, Copy, Debug, PartialEq, Eq)]
+pub struct Node {
+    pub(crate) number: usize,
+}
