@@ -14,7 +14,7 @@ use std::alloc::AllocError;
 type Bytes = SmallVec<u8, INLINE_BYTES>;
 
 /// Whether there is one value for each column, NULL or of its kind. Then each fits its column.
-pub(crate) fn have_kinds(columns: &[KeyPart], values: &[Value]) -> bool
+pub fn have_kinds(columns: &[KeyPart], values: &[Value]) -> bool
     ensures kinds { result ≡ are_of_kinds columns.now values.now }
     ensures fits { IsTrue result → AreFit columns.now values.now }
 {

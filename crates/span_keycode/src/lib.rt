@@ -1,7 +1,7 @@
 //! Coded keys: bytes whose order is the order of keys.
 #![tactic(auto)]
 
-mod column;
+pub mod column;
 pub mod decode;
 pub mod encode;
 pub mod key;

@@ -135,7 +135,11 @@ fn check_at(
 
 /// A mutation, checked against the schema. `docs/REFUSALS.md` has the order of the refusals; `OutOfMemory` is the one for want of
 /// memory.
-pub fn check(alloc: Global, schema: &Schema, mutation: Mutation) -> Result<CheckedMutation, Refusal>
+pub(crate) fn check(
+    alloc: Global,
+    schema: &Schema,
+    mutation: Mutation,
+) -> Result<CheckedMutation, Refusal>
     ensures checked { MatchResult result (λ c. checked schema.now mutation ≡ Ok c) (λ why. (checked schema.now mutation ≡ Err why) ⊎ (why ≡ Refusal.OutOfMemory)) }
     ensures table { IfOk result (λ c. IsTable schema.now c.table) }
 {

@@ -5,7 +5,7 @@ ghost use Rattle.std.specs.Str.{chars};
 ghost use Rattle.span_mutate.specs.Columns.{column_named, cell_column, has_wrong_type, is_null, is_null_refused, is_over, is_over_type, is_too_long, key_breaks, is_named, is_lacking, lacks_cell, value_named, values_named};
 
 use super::mutation::Cell;
-use span_keycode::column::has_kind;
+use span_schema::fitting::is_of_kind;
 use span_schema::table::{Column, KeyColumn, Table, are_same, is_in_key, kind_of_type};
 use span_value::refusal::Refusal;
 use span_value::value::{ColumnType, Value};
@@ -18,7 +18,7 @@ fn column_of<'a>(columns: &'a [Column], name: &str) -> Option<&'a Column>
 }
 
 /// The column with a name that is outside the key.
-pub fn cell_column<'a>(table: &'a Table, name: &str) -> Option<&'a Column>
+pub(crate) fn cell_column<'a>(table: &'a Table, name: &str) -> Option<&'a Column>
     ensures { option_copied result ≡ cell_column table.now name.now }
 {
     if is_in_key(table.key.as_slice(), name) {
@@ -28,12 +28,12 @@ pub fn cell_column<'a>(table: &'a Table, name: &str) -> Option<&'a Column>
 }
 
 /// Whether the value is of another type than the column.
-pub fn has_wrong_type(column: Option<&Column>, value: &Value) -> bool
+pub(crate) fn has_wrong_type(column: Option<&Column>, value: &Value) -> bool
     ensures { result ≡ has_wrong_type (option_copied column.entry) value.now }
 {
     match column {
         None => false,
-        Some(c) => !has_kind(kind_of_type(c.kind), value),
+        Some(c) => !is_of_kind(kind_of_type(c.kind), value),
     }
 }
 
@@ -47,7 +47,7 @@ fn is_null(value: &Value) -> bool
 }
 
 /// Whether the value is NULL and the column is NOT NULL.
-pub fn is_null_refused(column: Option<&Column>, value: &Value) -> bool
+pub(crate) fn is_null_refused(column: Option<&Column>, value: &Value) -> bool
     ensures { result ≡ is_null_refused (option_copied column.entry) value.now }
 {
     match column {
@@ -82,7 +82,7 @@ fn is_over_type(kind: ColumnType, value: &Value) -> bool
 }
 
 /// Whether the value is longer than the column allows.
-pub fn is_too_long(column: Option<&Column>, value: &Value) -> bool
+pub(crate) fn is_too_long(column: Option<&Column>, value: &Value) -> bool
     ensures { result ≡ is_too_long (option_copied column.entry) value.now }
 {
     match column {
@@ -92,7 +92,7 @@ pub fn is_too_long(column: Option<&Column>, value: &Value) -> bool
 }
 
 /// Whether NULL stands in a NOT NULL column of the key.
-pub fn has_null(columns: &[Column], key: &[KeyColumn], values: &[Value]) -> bool
+pub(crate) fn has_null(columns: &[Column], key: &[KeyColumn], values: &[Value]) -> bool
     ensures { result ≡ key_breaks is_null_refused columns.now key.now values.now }
 {
     for i in 0..key.len().min(values.len()) {
@@ -104,7 +104,7 @@ pub fn has_null(columns: &[Column], key: &[KeyColumn], values: &[Value]) -> bool
 }
 
 /// Whether a value of the key is longer than its column allows.
-pub fn has_long(columns: &[Column], key: &[KeyColumn], values: &[Value]) -> bool
+pub(crate) fn has_long(columns: &[Column], key: &[KeyColumn], values: &[Value]) -> bool
     ensures { result ≡ key_breaks is_too_long columns.now key.now values.now }
 {
     for i in 0..key.len().min(values.len()) {
@@ -116,14 +116,14 @@ pub fn has_long(columns: &[Column], key: &[KeyColumn], values: &[Value]) -> bool
 }
 
 /// Whether a cell is of the column with this name.
-pub fn is_named(cells: &[Cell], name: &str) -> bool
+pub(crate) fn is_named(cells: &[Cell], name: &str) -> bool
     ensures { result ≡ is_named cells.now name.now }
 {
     cells.iter().any(|c| are_same(c.column.as_str(), name))
 }
 
 /// Whether the cells name not all NOT NULL columns outside the key.
-pub fn lacks_cell(key: &[KeyColumn], cells: &[Cell], columns: &[Column]) -> bool
+pub(crate) fn lacks_cell(key: &[KeyColumn], cells: &[Cell], columns: &[Column]) -> bool
     ensures { result ≡ lacks_cell key.now cells.now columns.now }
 {
     columns.iter().any(|c| is_lacking(key, cells, c))
@@ -149,7 +149,7 @@ fn value_named(alloc: Global, cells: &[Cell], name: &str) -> Result<Option<Value
 
 /// For each column outside the key, in the order of declaration, the value that the cells give it. `OutOfMemory` is the refusal
 /// for want of memory.
-pub fn values_named(
+pub(crate) fn values_named(
     alloc: Global,
     key: &[KeyColumn],
     cells: &[Cell],

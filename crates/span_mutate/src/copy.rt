@@ -41,7 +41,7 @@ impl CheckedMutation {
 }
 
 /// Equal values, or the refusal for want of memory.
-pub fn copy_of_values(alloc: Global, values: &[Value]) -> Result<Vec<Value>, Refusal>
+pub(crate) fn copy_of_values(alloc: Global, values: &[Value]) -> Result<Vec<Value>, Refusal>
     ensures { MatchResult result (λ copy. copy.items ≡ values.now) (λ why. why ≡ Refusal.OutOfMemory) }
 {
     let mut copy = Vec::with_capacity(alloc, values.len())?;
@@ -90,7 +90,7 @@ fn copy_of_cells(alloc: Global, cells: &[Cell]) -> Result<Vec<Cell>, Refusal>
 }
 
 /// Equal mutations, or the refusal for want of memory.
-pub fn copy_of_mutations(
+pub(crate) fn copy_of_mutations(
     alloc: Global,
     mutations: &[CheckedMutation],
 ) -> Result<Vec<CheckedMutation>, Refusal>

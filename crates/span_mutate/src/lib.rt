@@ -1,9 +1,9 @@
 //! Mutations: what a transaction asks for, and what it makes of the rows of a directory.
 #![tactic(auto)]
 
-pub mod check;
-pub mod column;
-pub mod copy;
+mod check;
+mod column;
+mod copy;
 pub mod laws;
 pub mod mutation;
 pub mod root;

@@ -50,7 +50,7 @@ pub struct CheckedMutation {
 }
 
 /// Whether the mutation removes a row.
-pub fn is_delete(kind: MutationKind) -> bool
+pub(crate) fn is_delete(kind: MutationKind) -> bool
     ensures { result ≡ is_delete kind }
 {
     match kind {
@@ -60,7 +60,7 @@ pub fn is_delete(kind: MutationKind) -> bool
 }
 
 /// Whether the mutation may make a new row.
-pub fn may_insert(kind: MutationKind) -> bool
+pub(crate) fn may_insert(kind: MutationKind) -> bool
     ensures { result ≡ may_insert kind }
 {
     match kind {

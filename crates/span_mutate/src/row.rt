@@ -23,7 +23,7 @@ pub struct TableRow {
 }
 
 /// Whether the values stand at the front of the others.
-pub fn begins(front: &[Value], values: &[Value]) -> bool
+pub(crate) fn begins(front: &[Value], values: &[Value]) -> bool
     ensures { result ≡ begins front.now values.now }
 {
     if front.len() > values.len() {
@@ -50,7 +50,7 @@ fn is_at(table: usize, key: &[Value], row: &TableRow) -> bool
 }
 
 /// The row of the table with this number that has this key, if it is among the rows.
-pub fn row_at<'a>(table: usize, key: &[Value], rows: &'a [TableRow]) -> Option<&'a TableRow>
+pub(crate) fn row_at<'a>(table: usize, key: &[Value], rows: &'a [TableRow]) -> Option<&'a TableRow>
     ensures { option_copied result ≡ row_at table key.now rows.now }
 {
     rows.iter().find(|r| is_at(table, key, r))
@@ -72,7 +72,7 @@ fn is_descending(columns: &[KeyPart], place: usize) -> bool
 }
 
 /// How two keys stand to each other: column by column, each in its direction.
-pub fn key_order(columns: &[KeyPart], left: &[Value], right: &[Value]) -> Ordering
+pub(crate) fn key_order(columns: &[KeyPart], left: &[Value], right: &[Value]) -> Ordering
     ensures { result ≡ key_order columns.now left.now right.now }
 {
     for i in 0..left.len().min(right.len()) {
@@ -92,7 +92,7 @@ fn row_order(columns: &[KeyPart], left: &TableRow, right: &TableRow) -> Ordering
 
 /// The rows with this one at its place among them, where a row with its key was or behind those that come before it. The columns
 /// are those of its key.
-pub fn placed(
+pub(crate) fn placed(
     alloc: Global,
     columns: &[KeyPart],
     rows: Vec<TableRow>,

@@ -72,7 +72,7 @@ pub(crate) fn place_of_column(columns: &[Column], name: &str) -> Option<usize>
 }
 
 /// Whether a column of the key has the name.
-pub(crate) fn is_in_key(key: &[KeyColumn], name: &str) -> bool
+pub fn is_in_key(key: &[KeyColumn], name: &str) -> bool
     ensures { result ≡ is_key_name key.now name.now }
 {
     key.iter().any(|k| are_same(k.name.as_str(), name))
