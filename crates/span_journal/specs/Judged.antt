@@ -1,7 +1,7 @@
-use Rattle.std.specs.Prelude.{◌≡◌, ℕ, false, true, nat_le, List, [], ◌∷◌, find, slice_get, Option, Some, None, Result, Ok, Err, ◌⊎◌}
+use Rattle.std.specs.Prelude.{◌≡◌, ◌≢◌, ℕ, false, true, nat_le, List, [], ◌∷◌, find, slice_get, Option, Some, None, Result, Ok, Err, ◌⊎◌}
 use Rattle.span_value.specs.declared.value.Value.{Value}
 use Rattle.span_value.specs.declared.refusal.Refusal.{Refusal}
-use Rattle.span_value.specs.declared.refusal.Refusal.TheVariants.{OutOfMemory, TimestampRange}
+use Rattle.span_value.specs.declared.refusal.Refusal.TheVariants.{OutOfMemory, TimestampRange, UnknownQuery, NoSlot, Incomplete}
 use Rattle.span_shard.specs.declared.mutation.CheckedMutation.{CheckedMutation}
 use Rattle.span_truetime.specs.declared.interval.Interval.{Interval}
 use Rattle.span_truetime.specs.Time.{timestamp_end}
@@ -104,6 +104,9 @@ pub record IsRegistered (old : Journaled) (query slot : ℕ) (interval : Interva
     queries = changed_first (λ p. is_query query p.query) (covered_by rows) old.queries;
   }
 
--- why a piece is not registered: no such query, no such slot, or the query is covered
-abbrev pub IsUnregistered : Journaled → ℕ → ℕ → Type 0
-IsUnregistered j query slot = (find (λ p. is_query query p.query) j.queries ≡ None) ⊎ ((slice_get j.books slot ≡ None) ⊎ ((p : Pieced) × (find (λ p. is_query query p.query) j.queries ≡ Some p) × (p.query.covered ≡ true)))
+-- why a piece is not registered: no such query, then no such slot, then a query that is covered
+abbrev pub IsUnregistered : Journaled → ℕ → ℕ → Refusal → Type 0
+IsUnregistered j query slot why =
+    ((find (λ p. is_query query p.query) j.queries ≡ None) × (why ≡ UnknownQuery))
+    ⊎ (((p : Pieced) × (find (λ p. is_query query p.query) j.queries ≡ Some p) × (slice_get j.books slot ≡ None) × (why ≡ NoSlot))
+    ⊎ ((p : Pieced) × (find (λ p. is_query query p.query) j.queries ≡ Some p) × (slice_get j.books slot ≢ None) × (p.query.covered ≡ true) × (why ≡ Incomplete)))

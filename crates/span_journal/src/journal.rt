@@ -430,7 +430,7 @@ impl Journal {
         rows: Seq<Row>,
     ) -> Result<(), Refusal>
         ensures ok { OnOk result (IsRegistered self.old query slot interval rows self.new) }
-        ensures why { OnErr result (IsUnregistered self.old query slot) }
+        ensures why { IfErr result (λ why. IsUnregistered self.old query slot why) }
         ensures err { OnErr result (self.new ≡ self.old) }
     {
         let Some((at, question)) = find_query(self.queries.as_slice(), query) else {

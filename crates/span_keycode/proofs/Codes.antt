@@ -1,11 +1,9 @@
 -- Each coding decides.
-use Rattle.std.proofs.Common.{◌≡◌, ℕ, ℤ, pos, negsuc, zero, suc, ◌+◌, ◌-◌, ◌*◌, ◌/◌, ◌%◌, ◌^◌, ◌<◌, ◌≤◌, List, [], ◌∷◌, ◌++◌, map, refl, sym, ◌∙◌, ap, append_assoc, arith, length, true, false, Bool, inl, inr}
-use Rattle.std.specs.Ordering.{nat_cmp, ordering_then, ordering_reverse}
-use Rattle.std.specs.Cmp.Lexicographic.{slice_cmp}
+use Rattle.std.proofs.Common.{◌≡◌, ℕ, ℤ, pos, negsuc, zero, suc, ◌+◌, ◌*◌, ◌%◌, ◌^◌, ◌<◌, ◌≤◌, List, [], ◌∷◌, ◌++◌, refl, ◌∙◌, ap, arith, true, false, Bool, inl, inr}
+use Rattle.std.specs.Ordering.{nat_cmp, ordering_then}
 use Rattle.std.specs.declared.cmp.Ordering.{Ordering}
 use Rattle.std.specs.declared.cmp.Ordering.TheVariants.{Less, Equal, Greater}
-use Rattle.std.specs.Int.{to_be_bytes, from_be_bytes, w64, bytes_high_first, byte_at}
-use Rattle.std.specs.List.{AllByRecursion}
+use Rattle.std.specs.Int.{to_be_bytes, w64, bytes_high_first, byte_at}
 use Rattle.std.proofs.lemmas.Bool.Decides.{nat_tests}
 use Rattle.std.specs.Prelude.{FitsSigned}
 use Rattle.std.specs.Ordering.{int_cmp}
@@ -15,7 +13,7 @@ use Rattle.span_value.specs.declared.value.Value.TheVariants.{Null, Int, Str, By
 use Rattle.span_value.specs.declared.value.Kind.{Kind}
 use Rattle.span_value.specs.declared.value.Kind.TheVariants.{Int as Numbers, Str as Texts, Bytes as Strings, Bool as Flags}
 use Rattle.span_schema.specs.declared.layout.KeyPart.{KeyPart}
-use Rattle.span_keycode.specs.Order.{byte_order, Decides, complement}
+use Rattle.span_keycode.specs.Order.{byte_order, Decides}
 use Rattle.span_keycode.specs.Coding.{lifted, escaped, escaped_byte, bit, plain, in_direction, column_code, AreBytes, Fits, value_cmp, directed, column_cmp, AreFit, tuple_code, tuple_cmp}
 use Rattle.std.proofs.lemmas.Bool.{cases_order}
 use Rattle.std.proofs.Math.Nat.{mul-le-mul_right, mod-lt, pow-suc, pow-succ'}

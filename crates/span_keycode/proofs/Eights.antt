@@ -1,8 +1,8 @@
 -- The eight bytes of a number.
-use Rattle.std.proofs.Common.{◌≡◌, ℕ, zero, suc, ◌<◌, ◌≤◌, ◌^◌, List, [], ◌∷◌, ◌++◌, Bool, true, false, refl, sym, ◌∙◌, ap, arith, length, drop, get_or}
+use Rattle.std.proofs.Common.{◌≡◌, ℕ, zero, suc, ◌<◌, ◌≤◌, List, [], ◌∷◌, Bool, true, false, refl, ◌∙◌, ap, arith, length, drop, get_or}
 use Rattle.std.specs.Int.{to_be_bytes, from_be_bytes, w64}
 use Rattle.std.proofs.lemmas.Nat.{be_bytes_8}
-use Rattle.span_keycode.specs.Order.{complement, flipped}
+use Rattle.span_keycode.specs.Order.{flipped}
 use Rattle.span_keycode.specs.Coding.{in_direction, AreBytes}
 
 eight : (bs : List ℕ) → 8 ≤ length bs

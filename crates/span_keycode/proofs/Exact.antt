@@ -1,6 +1,6 @@
 -- Values that compare alike are the same, and so are levels.
-use Rattle.std.proofs.Common.{◌≡◌, ℕ, ℤ, ◌<ℤ◌, ◌+◌, ◌<◌, List, [], ◌∷◌, ◌++◌, Bool, true, false, refl, sym, ◌∙◌, ap, subst, append_assoc, arith, inl, inr}
-use Rattle.std.specs.Ordering.{nat_cmp, int_cmp, ordering_then, ordering_reverse, MatchOrdering}
+use Rattle.std.proofs.Common.{◌≡◌, ℕ, ℤ, ◌<ℤ◌, List, [], ◌∷◌, ◌++◌, Bool, true, false, refl, sym, ◌∙◌, ap, subst, append_assoc, arith}
+use Rattle.std.specs.Ordering.{nat_cmp, int_cmp, ordering_then, MatchOrdering}
 use Rattle.std.specs.Cmp.{int_ranks}
 use Rattle.std.specs.declared.cmp.Ordering.{Ordering}
 use Rattle.std.specs.declared.cmp.Ordering.TheVariants.{Less, Equal, Greater}
@@ -13,7 +13,6 @@ use Rattle.span_value.specs.declared.value.Kind.TheVariants.{Int as Numbers, Str
 use Rattle.span_schema.specs.declared.table.Table.{Table}
 use Rattle.span_schema.specs.declared.layout.KeyPart.{KeyPart}
 use Rattle.span_schema.specs.Numbers.{own_key_columns}
-use Rattle.span_keycode.specs.Order.{byte_order}
 use Rattle.span_keycode.specs.Coding.{bit, Fits, AreFit, directed, value_cmp, column_cmp, tuple_code, tuple_cmp}
 use Rattle.span_keycode.specs.Keys.{Level, level_code, code_of, level_cmp}
 use Rattle.span_keycode.proofs.Order.{no_front}

@@ -1,7 +1,5 @@
 -- Which keys of a family a range holds.
-use Rattle.std.proofs.Common.{◌≡◌, ◌≢◌, ◌↔◌, ℕ, zero, suc, ◌+◌, ◌-◌, ◌<◌, ◌≤◌, List, [], ◌∷◌, ◌++◌, refl, sym, ◌∙◌, ap, subst, append_assoc, arith, length, take, map, Bool, true, false, not, ◌&&◌, ltb}
-use Rattle.std.specs.Ordering.{ordering_then}
-use Rattle.std.specs.declared.cmp.Ordering.{Ordering}
+use Rattle.std.proofs.Common.{◌≡◌, ◌↔◌, ℕ, zero, suc, ◌<◌, List, [], ◌∷◌, ◌++◌, refl, sym, ◌∙◌, ap, subst, append_assoc, arith, length, take, Bool, true, false, not, ◌&&◌}
 use Rattle.std.specs.declared.cmp.Ordering.TheVariants.{Less, Equal, Greater}
 use Rattle.std.specs.Int.{to_be_bytes, w64}
 use Rattle.std.proofs.lemmas.Bool.Decides.{nat_tests}
@@ -13,10 +11,10 @@ use Rattle.span_schema.specs.Lineages.{MeetsRules}
 use Rattle.span_schema.specs.Numbers.{IsTable, own_key_columns, key_columns, root_of}
 use Rattle.span_schema.proofs.Judged.{few_tables}
 use Rattle.span_keycode.specs.declared.range.Comparison.{Comparison}
-use Rattle.span_keycode.specs.Order.{flipped, complement, byte_order}
-use Rattle.span_keycode.specs.Coding.{AreBytes, Fits, AreFit, lifted, escaped, bit, plain, in_direction, column_code, column_cmp, tuple_code, value_cmp}
+use Rattle.span_keycode.specs.Order.{flipped, byte_order}
+use Rattle.span_keycode.specs.Coding.{AreBytes, Fits, AreFit, lifted, escaped, bit, plain, in_direction, column_code, tuple_code, value_cmp}
 use Rattle.span_keycode.specs.Keys.{own_values, key_code, IsKey}
-use Rattle.span_keycode.specs.Ranges.{low_of, high_of, holds, is_null, first_of, behind_of, compares, IsWithin}
+use Rattle.span_keycode.specs.Ranges.{low_of, high_of, holds, is_null, compares, IsWithin}
 use Rattle.span_keycode.specs.Laws.{RangeOfComparison}
 use Rattle.span_keycode.proofs.Codes.{decides-column, plain_bytes}
 use Rattle.span_keycode.proofs.RootRows.{root_split}

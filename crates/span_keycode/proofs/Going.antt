@@ -1,17 +1,14 @@
 -- How a coding goes on behind the key of a table.
-use Rattle.std.proofs.Common.{◌≡◌, ℕ, zero, suc, ◌+◌, ◌-◌, ◌<◌, ◌≤◌, List, [], ◌∷◌, ◌++◌, Option, Some, None, refl, sym, ◌∙◌, ap, subst, append_assoc, arith, length, length-append, map, take, drop, inl, inr, ◌⊎◌}
-use Rattle.std.specs.Option.{option_map}
-use Rattle.std.proofs.lemmas.List.{map-append}
+use Rattle.std.proofs.Common.{◌≡◌, ℕ, ◌+◌, ◌-◌, ◌<◌, List, [], ◌∷◌, ◌++◌, Option, Some, None, refl, sym, ◌∙◌, ap, subst, arith, length, length-append, map, inl, inr, ◌⊎◌}
 use Rattle.span_value.specs.declared.value.Value.{Value}
 use Rattle.span_schema.specs.declared.table.Table.{Table}
-use Rattle.span_schema.specs.declared.layout.KeyPart.{KeyPart}
 use Rattle.span_schema.specs.Lineages.{parent_at, above, path_at, MeetsRules}
-use Rattle.span_schema.specs.Numbers.{IsTable, number_of, parent_of, path_of, key_at, key_columns, own_key_at, own_key_columns, columns_above}
+use Rattle.span_schema.specs.Numbers.{IsTable, number_of, parent_of, own_key_columns}
 use Rattle.span_schema.proofs.Paths.{parent_before, path_goes_on}
-use Rattle.span_keycode.specs.Coding.{Fits, AreFit, tuple_code}
-use Rattle.span_keycode.specs.Keys.{Level, own_values_at, level_of, level_code, code_of, key_code, IsKey}
-use Rattle.span_keycode.proofs.Levels.{by_parents, key_split, key_root, levels_at, back}
-use Rattle.span_keycode.proofs.LevelLaws.{AreLevels, levels_fit, fit_length, fit_join, levels_child, levels_root, level_here, code_append, path_child, path_root}
+use Rattle.span_keycode.specs.Coding.{AreFit, tuple_code}
+use Rattle.span_keycode.specs.Keys.{Level, level_of, code_of, key_code, IsKey}
+use Rattle.span_keycode.proofs.Levels.{by_parents, levels_at, back}
+use Rattle.span_keycode.proofs.LevelLaws.{AreLevels, levels_fit, path_child, path_root}
 use Rattle.span_keycode.proofs.Exact.{levels_begin}
 
 -- a table each of which is a child of the one before

@@ -1,5 +1,5 @@
 -- The laws of key codings.
-use Rattle.std.proofs.Common.{◌≡◌, ℕ, zero, suc, ◌+◌, ◌-◌, ◌<◌, ◌≤◌, List, [], ◌∷◌, ◌++◌, Option, Some, None, refl, sym, ◌∙◌, ap, subst, append_assoc, arith, length, length-append, map, take, drop, inl, inr}
+use Rattle.std.proofs.Common.{◌≡◌, ℕ, ◌+◌, ◌-◌, ◌<◌, List, [], ◌∷◌, ◌++◌, Option, Some, None, refl, sym, ◌∙◌, ap, subst, append_assoc, arith, length, map, take}
 use Rattle.std.proofs.lemmas.List.{map-append, take-append-drop}
 use Rattle.std.proofs.Math.Seq.{take-append_seam}
 use Rattle.span_value.specs.declared.value.Value.{Value}
@@ -9,7 +9,7 @@ use Rattle.span_schema.specs.Lineages.{parent_at, path_at, MeetsRules}
 use Rattle.span_schema.specs.Numbers.{IsTable, key_at, own_key_at, own_key_columns}
 use Rattle.span_schema.proofs.Paths.{parent_before}
 use Rattle.span_keycode.specs.Coding.{AreFit, tuple_code}
-use Rattle.span_keycode.specs.Keys.{Level, own_values_at, level_of, level_code, code_of, key_code, IsKey}
+use Rattle.span_keycode.specs.Keys.{Level, own_values_at, level_of, code_of, key_code, IsKey}
 use Rattle.span_keycode.specs.Laws.{OrderOfKeys, OrderInTable, IsAtOrBelow, BeginsOwnRows, OneKey}
 use Rattle.span_keycode.proofs.Levels.{by_parents, key_split, levels_at, keys_short, back}
 use Rattle.span_keycode.proofs.LevelLaws.{AreLevels, fit_length, fit_split, levels_fit, levels_in_order, levels_child, levels_root, own_child, own_root, decides-key, code_append, map_short}

@@ -1,5 +1,5 @@
 -- Reading a key, level by level.
-use Rattle.std.proofs.Common.{◌≡◌, ℕ, zero, suc, ◌+◌, ◌-◌, ◌<◌, ◌≤◌, List, [], ◌∷◌, ◌++◌, Option, Some, None, refl, sym, ◌∙◌, ap, subst, append_assoc, arith, length, length-append, length-drop, map, take, drop, get_or, inl, inr}
+use Rattle.std.proofs.Common.{◌≡◌, ℕ, zero, suc, ◌+◌, ◌-◌, ◌<◌, ◌≤◌, List, [], ◌∷◌, ◌++◌, Option, Some, None, refl, sym, ◌∙◌, ap, subst, append_assoc, arith, length, length-drop, take, drop, get_or, inl, inr}
 use Rattle.std.proofs.lemmas.List.{drop-drop}
 use Rattle.std.proofs.Math.Seq.{take-append_seam, drop-append_seam}
 use Rattle.span_value.specs.declared.value.Value.{Value}
@@ -7,7 +7,6 @@ use Rattle.span_schema.specs.declared.table.Table.{Table}
 use Rattle.span_schema.specs.declared.layout.KeyPart.{KeyPart}
 use Rattle.span_schema.specs.Lineages.{parent_at, MeetsRules}
 use Rattle.span_schema.specs.Numbers.{IsTable, number_of, parent_of, key_at, own_key_at, own_key_columns}
-use Rattle.span_schema.proofs.Paths.{parent_before}
 use Rattle.span_keycode.specs.Coding.{AreFit, tuple_code}
 use Rattle.span_keycode.specs.Keys.{code_of, key_code, IsKey}
 use Rattle.span_keycode.specs.Reads.{IsNoTuple, IsTuple, IsUncoded}

@@ -1,12 +1,10 @@
 -- What follows for keys from the law of one column.
-use Rattle.std.proofs.Common.{◌≡◌, ℕ, zero, suc, ◌+◌, ◌-◌, ◌<◌, ◌≤◌, List, [], ◌∷◌, ◌++◌, Option, Some, None, refl, sym, ◌∙◌, ap, subst, arith, length, length-append, map, take, drop, append_assoc, inl, inr}
+use Rattle.std.proofs.Common.{◌≡◌, ℕ, zero, suc, ◌+◌, ◌-◌, ◌<◌, ◌≤◌, List, [], ◌∷◌, ◌++◌, Option, Some, None, refl, sym, ◌∙◌, ap, subst, arith, length, map, take, drop, append_assoc, inl, inr}
 use Rattle.std.specs.List.{AllByRecursion}
-use Rattle.std.specs.Ordering.{nat_cmp, int_cmp, ordering_then, ordering_reverse}
+use Rattle.std.specs.Ordering.{ordering_then}
 use Rattle.std.specs.declared.cmp.Ordering.{Ordering}
-use Rattle.std.specs.declared.cmp.Ordering.TheVariants.{Less, Equal, Greater}
 use Rattle.std.proofs.lemmas.List.{map-append}
 use Rattle.std.proofs.lemmas.Bool.{cases_order}
-use Rattle.std.proofs.lemmas.Map.Lookups.{exact_bytes}
 use Rattle.span_value.specs.declared.value.Value.{Value}
 use Rattle.span_schema.specs.declared.table.Table.{Table}
 use Rattle.span_schema.specs.declared.layout.KeyPart.{KeyPart}
@@ -14,9 +12,9 @@ use Rattle.span_schema.specs.Lineages.{parent_at, above, path_at, MeetsRules}
 use Rattle.span_schema.specs.Numbers.{key_at, key_columns, own_key_at, own_key_columns, columns_above}
 use Rattle.span_schema.proofs.Paths.{parent_before, path_goes_on}
 use Rattle.span_keycode.specs.Order.{byte_order, Decides}
-use Rattle.span_keycode.specs.Coding.{Fits, AreFit, column_cmp, tuple_code, tuple_cmp}
+use Rattle.span_keycode.specs.Coding.{AreFit, column_cmp, tuple_code, tuple_cmp}
 use Rattle.span_keycode.specs.Keys.{Level, own_values_at, own_values, level_of, level_code, code_of, level_cmp, levels_cmp}
-use Rattle.span_keycode.proofs.Order.{then_assoc, decides-append, decides-less, decides-greater, no_front}
+use Rattle.span_keycode.proofs.Order.{then_assoc, decides-append, decides-less, decides-greater}
 use Rattle.span_keycode.proofs.Codes.{decides-cons, decides-tuple, less_is, greater_is, equal_is}
 use Rattle.span_keycode.proofs.Levels.{by_parents, key_split, key_root, levels_at, keys_short, back, IsShort}
 

@@ -1,17 +1,15 @@
 -- Keys, level by level.
-use Rattle.std.proofs.Common.{◌≡◌, ℕ, zero, suc, ◌+◌, ◌-◌, ◌<◌, ◌≤◌, List, [], ◌∷◌, ◌++◌, Option, Some, None, refl, sym, ◌∙◌, ap, subst, arith, length, length-append, length-drop, map, take, drop, get_or, append_assoc, inl, inr}
+use Rattle.std.proofs.Common.{◌≡◌, ℕ, zero, suc, ◌+◌, ◌-◌, ◌<◌, ◌≤◌, List, [], ◌∷◌, ◌++◌, Option, Some, None, refl, sym, ◌∙◌, ap, subst, arith, length, length-append, map, drop, get_or, inl, inr}
 use Rattle.std.specs.List.{AllByRecursion}
 use Rattle.std.proofs.lemmas.Option.{slice_get_cases}
-use Rattle.std.proofs.lemmas.List.{length-take, length-take-le}
 use Rattle.span_value.specs.declared.value.Value.{Value}
 use Rattle.span_schema.specs.declared.table.Table.{Table}
 use Rattle.span_schema.specs.declared.layout.KeyPart.{KeyPart}
 use Rattle.span_schema.specs.Lineages.{parent_at, above, path_at, MeetsRules}
-use Rattle.span_schema.specs.Numbers.{key_at, key_columns, own_key_at, own_key_columns, columns_above}
+use Rattle.span_schema.specs.Numbers.{key_at, key_columns, own_key_at, columns_above}
 use Rattle.span_schema.proofs.Paths.{parent_before, path_goes_on}
 use Rattle.span_schema.proofs.Prefixes.{key_goes_on}
-use Rattle.span_keycode.specs.Coding.{Fits, AreFit, tuple_code, tuple_cmp}
-use Rattle.span_keycode.specs.Keys.{Level, own_values_at, level_of, level_code, code_of}
+use Rattle.span_keycode.specs.Keys.{Level, level_of}
 
 -- what holds of a table where it holds of its parent holds of each
 pub by_parents : (tables : List Table) (P : ℕ → Type 0) → ((i : ℕ) → ((p : ℕ) → parent_at tables i ≡ Some p → P p) → P i) → (i : ℕ) → P i

@@ -1,12 +1,9 @@
 -- What follows from the law.
-use Rattle.std.proofs.Common.{◌≡◌, ℕ, ◌-◌, ◌+◌, ◌<◌, List, [], ◌∷◌, ◌++◌, map, refl, sym, ◌∙◌, ap, append_assoc, arith, length}
+use Rattle.std.proofs.Common.{◌≡◌, ℕ, ◌+◌, ◌<◌, List, [], ◌∷◌, ◌++◌, refl, sym, ◌∙◌, ap, append_assoc, arith}
 use Rattle.std.specs.Ordering.{nat_cmp, ordering_then, ordering_reverse}
-use Rattle.std.specs.Cmp.Lexicographic.{slice_cmp}
 use Rattle.std.specs.declared.cmp.Ordering.{Ordering}
 use Rattle.std.specs.declared.cmp.Ordering.TheVariants.{Less, Equal, Greater}
-use Rattle.std.proofs.lemmas.Cmp.{tied_itself, nat_list_cmp_total, ranked}
-use Rattle.std.specs.Cmp.{nat_cmp_is}
-use Rattle.std.specs.List.{AllByRecursion}
+use Rattle.std.proofs.lemmas.Cmp.{tied_itself, nat_list_cmp_total}
 use Rattle.std.proofs.lemmas.Bool.Decides.{nat_tests}
 use Rattle.span_keycode.specs.Coding.{AreBytes}
 use Rattle.span_keycode.specs.Order.{byte_order, Decides, flipped, complement}

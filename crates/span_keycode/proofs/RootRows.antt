@@ -1,17 +1,17 @@
 -- The root row of a key.
-use Rattle.std.proofs.Common.{◌≡◌, ℕ, zero, suc, ◌+◌, ◌-◌, ◌<◌, ◌≤◌, List, [], ◌∷◌, ◌++◌, Option, Some, None, refl, sym, ◌∙◌, ap, subst, append_assoc, arith, length, length-append, length-drop, map, take, drop, get_or, slice_index}
-use Rattle.std.proofs.Math.Seq.{take-append_seam, drop-append_seam}
+use Rattle.std.proofs.Common.{◌≡◌, ℕ, suc, ◌+◌, ◌-◌, ◌<◌, ◌≤◌, List, [], ◌∷◌, ◌++◌, Option, None, refl, sym, ◌∙◌, ap, subst, arith, length, length-append, length-drop, map, take, drop, get_or, slice_index}
+use Rattle.std.proofs.Math.Seq.{take-append_seam}
 use Rattle.span_value.specs.declared.value.Value.{Value}
 use Rattle.span_schema.specs.declared.table.Table.{Table}
 use Rattle.span_schema.specs.declared.layout.KeyPart.{KeyPart}
 use Rattle.span_schema.specs.Lineages.{parent_at, path_at, MeetsRules}
-use Rattle.span_schema.specs.Numbers.{IsTable, number_of, parent_of, key_at, key_columns, own_key_at, own_key_columns, columns_above, root_of}
+use Rattle.span_schema.specs.Numbers.{IsTable, key_columns, own_key_columns, columns_above, root_of}
 use Rattle.span_keycode.specs.Coding.{AreFit, tuple_code}
 use Rattle.span_keycode.specs.Keys.{own_values, level_of, code_of, key_code, IsKey}
 use Rattle.span_keycode.specs.Roots.{IsCoding, IsRootPrefix, IsTupleSkip}
-use Rattle.span_keycode.proofs.Levels.{key_root, levels_at}
+use Rattle.span_keycode.proofs.Levels.{key_root}
 use Rattle.span_keycode.proofs.LevelLaws.{code_root}
-use Rattle.span_keycode.proofs.Going.{Continues, levels_on, code_some}
+use Rattle.span_keycode.proofs.Going.{levels_on, code_some}
 use Rattle.span_keycode.proofs.KeyReading.{no_number}
 
 -- the first level of a key

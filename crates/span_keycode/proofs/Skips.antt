@@ -1,18 +1,18 @@
 -- Skipping the codings of values.
-use Rattle.std.proofs.Common.{◌≡◌, ◌≢◌, ℕ, zero, suc, ◌+◌, ◌-◌, ◌<◌, ◌≤◌, min, List, [], ◌∷◌, ◌++◌, Option, Some, None, Bool, true, false, refl, sym, ◌∙◌, ap, subst, append_assoc, arith, length, length-append, length-drop, map, take, drop, get_or}
+use Rattle.std.proofs.Common.{◌≡◌, ◌≢◌, ℕ, zero, suc, ◌+◌, ◌<◌, ◌≤◌, min, List, [], ◌∷◌, ◌++◌, Option, Some, None, Bool, true, false, refl, sym, ◌∙◌, ap, subst, append_assoc, arith, length, length-append, drop, get_or}
 use Rattle.std.specs.Int.{to_be_bytes, w64}
 use Rattle.std.proofs.lemmas.List.{length-map, drop-drop}
 use Rattle.std.proofs.lemmas.Option.{some_pair_parts}
-use Rattle.std.proofs.Math.Seq.{drop-append_seam, take-append_seam}
+use Rattle.std.proofs.Math.Seq.{drop-append_seam}
 use Rattle.span_value.specs.declared.value.Value.{Value}
 use Rattle.span_value.specs.declared.value.Value.TheVariants.{Null, Int, Str, Bytes, Bool as Flag}
 use Rattle.span_value.specs.declared.value.Kind.{Kind}
 use Rattle.span_value.specs.declared.value.Kind.TheVariants.{Int as Numbers, Str as Texts, Bytes as Strings, Bool as Flags}
 use Rattle.span_schema.specs.declared.layout.KeyPart.{KeyPart}
-use Rattle.span_keycode.specs.Order.{flipped, complement}
+use Rattle.span_keycode.specs.Order.{flipped}
 use Rattle.span_keycode.specs.Coding.{lifted, escaped, bit, plain, in_direction, column_code, tuple_code, Fits, AreFit}
 use Rattle.span_keycode.specs.Texts.{text_at, with_first}
-use Rattle.span_keycode.specs.Roots.{IsSkip, IsTupleSkip}
+use Rattle.span_keycode.specs.Roots.{IsSkip}
 use Rattle.span_keycode.proofs.Reading.{text_again}
 use Rattle.span_keycode.proofs.Plains.{turned_twice, turned_append}
 

@@ -1,5 +1,5 @@
 -- The coding of a whole key: a level for its root row, and one for each table below it.
-use Rattle.std.specs.Prelude.{◌≡◌, ℕ, ◌+◌, ◌-◌, ◌≤◌, List, [], ◌∷◌, ◌++◌, map, length, take, drop, Option, Some, None, nat_lt, if◌then◌else◌}
+use Rattle.std.specs.Prelude.{ℕ, ◌-◌, ◌≤◌, List, [], ◌∷◌, ◌++◌, map, length, take, drop, Option, Some, None, nat_lt, if◌then◌else◌}
 use Rattle.span_value.specs.declared.refusal.Refusal.{Refusal}
 use Rattle.span_value.specs.declared.refusal.Refusal.TheVariants.{WrongType, KeyTooLong}
 use Rattle.std.specs.Ordering.{nat_cmp, ordering_then}
@@ -7,7 +7,7 @@ use Rattle.std.specs.Cmp.Lexicographic.{slice_cmp}
 use Rattle.std.specs.declared.cmp.Ordering.{Ordering}
 use Rattle.span_value.specs.declared.value.Value.{Value}
 use Rattle.span_schema.specs.declared.table.Table.{Table}
-use Rattle.span_schema.specs.Lineages.{parent_at, path_at}
+use Rattle.span_schema.specs.Lineages.{parent_at}
 use Rattle.span_schema.specs.Numbers.{IsTable, key_at, key_columns, own_key_columns, columns_above, path_of}
 use Rattle.span_keycode.specs.Coding.{AreFit, are_of_kinds, tuple_code, tuple_cmp}
 use Rattle.span_keycode.specs.declared.key.TheConstants.{MOST_BYTES}

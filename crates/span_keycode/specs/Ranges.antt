@@ -1,6 +1,5 @@
 -- Ranges of coded keys, for a comparison with the first key column of a root table.
-use Rattle.std.specs.Prelude.{◌≡◌, ◌≢◌, not, ℕ, ◌+◌, ◌-◌, ◌<◌, ◌≤◌, List, [], ◌∷◌, ◌++◌, Bool, true, false, ◌&&◌, length, take, drop, nat_lt, slice_index, if◌then◌else◌}
-use Rattle.std.specs.List.{AllByRecursion}
+use Rattle.std.specs.Prelude.{◌≡◌, ◌≢◌, not, ℕ, ◌+◌, ◌-◌, ◌<◌, ◌≤◌, List, [], ◌∷◌, Bool, true, false, ◌&&◌, length, take, nat_lt, slice_index, if◌then◌else◌}
 use Rattle.span_keycode.specs.declared.range.Comparison.{Comparison}
 use Rattle.span_keycode.specs.declared.range.Comparison.TheVariants.{Equal, Less, AtMost, Greater, AtLeast}
 use Rattle.std.specs.Ordering.{is_eq, is_lt, is_gt}

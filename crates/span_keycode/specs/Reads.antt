@@ -1,10 +1,10 @@
 -- What reading finds at the front of bytes.
-use Rattle.std.specs.Prelude.{◌≡◌, ℕ, ◌≤◌, List, [], ◌∷◌, ◌++◌, length, drop}
+use Rattle.std.specs.Prelude.{◌≡◌, ℕ, ◌≤◌, List, ◌++◌, length, drop}
 use Rattle.span_value.specs.declared.value.Value.{Value}
 use Rattle.span_value.specs.declared.value.Kind.{Kind}
 use Rattle.span_schema.specs.declared.table.Table.{Table}
 use Rattle.span_schema.specs.declared.layout.KeyPart.{KeyPart}
-use Rattle.span_keycode.specs.Coding.{Fits, AreFit, plain, in_direction, column_code, tuple_code}
+use Rattle.span_keycode.specs.Coding.{Fits, AreFit, plain, column_code, tuple_code}
 use Rattle.span_keycode.specs.Keys.{IsKey, IsCodedKey, key_code}
 
 -- no value of the kind is coded at the front, in ascending direction

@@ -1,4 +1,4 @@
-//! The worked keys: codings, byte for byte, read again.
+//! The worked keys, in a table: codings, byte for byte, read again, with their roots and their order.
 use super::decode::decode_key;
 use super::encode::encode_key;
 use super::range::{Comparison, KeyRange, range_of};
@@ -29,7 +29,7 @@ fn key_column(alloc: Global, name: &str, desc: bool) -> Result<KeyColumn, AllocE
 }
 
 // Users (uid, email) and Albums (uid, aid, name) in it.
-fn worked(alloc: Global) -> Result<Vec<Table>, AllocError> {
+fn users_and_albums(alloc: Global) -> Result<Vec<Table>, AllocError> {
     let mut tables = Vec::new(alloc);
     tables.push(Table {
         name: Text::from_str(alloc, "Users")?,
@@ -71,139 +71,148 @@ fn words(alloc: Global, desc: bool) -> Result<Vec<Table>, AllocError> {
     ]?)
 }
 
-fn has_code(alloc: Global, schema: &Schema, table: usize, values: Vec<Value>, code: &[u8]) -> bool {
-    if table == 0 || table > schema.len() {
-        return false;
-    }
-    let coded = match encode_key(alloc, schema, table, values.as_slice()) {
-        Ok(key) => key.as_slice() == code,
-        Err(_why) => false,
-    };
-    let read = match decode_key(alloc, schema, code) {
-        Ok(key) => key.table == table && key.values == Seq::from_vec(values),
-        Err(_why) => false,
-    };
-    coded && read
+// Which schema a worked key is of: `Users` and `Albums`, or `Words` with its key ascending or descending.
+#[derive(Clone, Copy, PartialEq, Eq)]
+enum Family {
+    Users,
+    Words,
+    WordsDown,
 }
 
-// Whether the coding of a key begins with this coding of the key of its root row.
-fn has_root(alloc: Global, schema: &Schema, table: usize, values: Vec<Value>, code: &[u8]) -> bool {
-    if table == 0 || table > schema.len() {
-        return false;
+// A schema for each.
+#[derive(Drop)]
+struct Families {
+    users: Schema,
+    up: Schema,
+    down: Schema,
+}
+
+fn the_schemas(alloc: Global) -> Result<Families, Fail> {
+    let users = Schema::new(alloc, users_and_albums(alloc)?);
+    let up = Schema::new(alloc, words(alloc, false)?);
+    let down = Schema::new(alloc, words(alloc, true)?);
+    Ok(Families {
+        users: users.ok().ok_or("a schema")?,
+        up: up.ok().ok_or("a schema")?,
+        down: down.ok().ok_or("a schema")?,
+    })
+}
+
+fn schema_of(schemas: &Families, family: Family) -> &Schema {
+    match family {
+        Family::Users => &schemas.users,
+        Family::Words => &schemas.up,
+        Family::WordsDown => &schemas.down,
     }
-    match encode_key(alloc, schema, table, values.as_slice()) {
-        Ok(key) => root_prefix(schema, &key) == code,
-        Err(_why) => false,
+}
+
+// A key, its coding and the coding of its root row's key.
+#[derive(Drop)]
+struct Worked {
+    family: Family,
+    table: usize,
+    values: Vec<Value>,
+    code: &'static [u8],
+    root: &'static [u8],
+}
+
+fn user(
+    alloc: Global,
+    table: usize,
+    numbers: &[i64],
+    code: &'static [u8],
+    root: &'static [u8],
+) -> Result<Worked, AllocError> {
+    let mut values = Vec::new(alloc);
+    for number in numbers {
+        values.push(Value::Int(*number))?;
     }
+    Ok(Worked {
+        family: Family::Users,
+        table,
+        values,
+        code,
+        root,
+    })
 }
 
 fn word(alloc: Global, text: &str) -> Result<Vec<Value>, AllocError> {
     Ok(vec![in alloc; Value::Str(Text::from_str(alloc, text)?)]?)
 }
 
+fn worded(
+    alloc: Global,
+    family: Family,
+    text: Option<&str>,
+    code: &'static [u8],
+) -> Result<Worked, AllocError> {
+    let values = match text {
+        Some(letters) => word(alloc, letters)?,
+        None => vec![in alloc; Value::Null]?,
+    };
+    Ok(Worked {
+        family,
+        table: 1,
+        values,
+        code,
+        root: code,
+    })
+}
+
+// The worked keys, each family's in the order of its keys.
+fn keys_in_order(alloc: Global) -> Result<Vec<Worked>, AllocError> {
+    let first = b"\x01\x01\x80\x00\x00\x00\x00\x00\x00\x01";
+    let album = b"\x01\x01\x80\x00\x00\x00\x00\x00\x00\x01\x02\x01\x80\x00\x00\x00\x00\x00\x00\x0a";
+    let negative = b"\x01\x01\x7f\xff\xff\xff\xff\xff\xff\xff";
+    let up = Family::Words;
+    let down = Family::WordsDown;
+    Ok(vec![in alloc;
+        user(alloc, 1, &[-1], negative, negative)?,
+        user(alloc, 1, &[1], first, first)?,
+        user(alloc, 2, &[1, 10], album, first)?,
+        worded(alloc, up, None, b"\x01\x00")?,
+        worded(alloc, up, Some(""), b"\x01\x01\x00\x01")?,
+        worded(alloc, up, Some("a"), b"\x01\x01\x61\x00\x01")?,
+        worded(alloc, up, Some("a\0"), b"\x01\x01\x61\x00\xff\x00\x01")?,
+        worded(alloc, up, Some("a\x01"), b"\x01\x01\x61\x01\x00\x01")?,
+        worded(alloc, down, Some("a\x01"), b"\x01\xfe\x9e\xfe\xff\xfe")?,
+        worded(alloc, down, Some("a\0"), b"\x01\xfe\x9e\xff\x00\xff\xfe")?,
+        worded(alloc, down, Some("a"), b"\x01\xfe\x9e\xff\xfe")?,
+        worded(alloc, down, Some(""), b"\x01\xfe\xff\xfe")?,
+        worded(alloc, down, None, b"\x01\xff")?,
+    ]?)
+}
+
+// Whether the key is coded so, is read again from its coding, and has this root.
+fn is_so(alloc: Global, schema: &Schema, key: &Worked) -> bool {
+    if key.table == 0 || key.table > schema.len() {
+        return false;
+    }
+    let coded = match encode_key(alloc, schema, key.table, key.values.as_slice()) {
+        Ok(bytes) => bytes.as_slice() == key.code && root_prefix(schema, &bytes) == key.root,
+        Err(_why) => false,
+    };
+    let read = match decode_key(alloc, schema, key.code) {
+        Ok(row) => row.table == key.table && row.values.as_slice() == key.values.as_slice(),
+        Err(_why) => false,
+    };
+    coded && read
+}
+
 #[test]
 fn worked_keys(rt: HostRuntime) -> Result<(), Fail> {
     let alloc = rt.alloc();
-    let schema = Schema::new(alloc, worked(alloc)?).ok().ok_or("a schema")?;
-    assert!(rt;
-        has_code(
-            alloc,
-            &schema,
-            1,
-            vec![in alloc; Value::Int(1)]?,
-            b"\x01\x01\x80\x00\x00\x00\x00\x00\x00\x01"
-        )
-    );
-    assert!(rt;
-        has_code(
-            alloc,
-            &schema,
-            1,
-            vec![in alloc; Value::Int(-1)]?,
-            b"\x01\x01\x7f\xff\xff\xff\xff\xff\xff\xff"
-        )
-    );
-    assert!(rt;
-        has_code(
-            alloc,
-            &schema,
-            2,
-            vec![in alloc; Value::Int(1), Value::Int(10)]?,
-            b"\x01\x01\x80\x00\x00\x00\x00\x00\x00\x01\x02\x01\x80\x00\x00\x00\x00\x00\x00\x0a"
-        )
-    );
-    Ok(())
-}
-
-#[test]
-fn root_keys(rt: HostRuntime) -> Result<(), Fail> {
-    let alloc = rt.alloc();
-    let schema = Schema::new(alloc, worked(alloc)?).ok().ok_or("a schema")?;
-    let user = b"\x01\x01\x80\x00\x00\x00\x00\x00\x00\x01";
-    assert!(rt; has_root(alloc, &schema, 1, vec![in alloc; Value::Int(1)]?, user));
-    assert!(rt;
-        has_root(
-            alloc,
-            &schema,
-            2,
-            vec![in alloc; Value::Int(1), Value::Int(10)]?,
-            user
-        )
-    );
-    Ok(())
-}
-
-#[test]
-fn worked_words(rt: HostRuntime) -> Result<(), Fail> {
-    let alloc = rt.alloc();
-    let up = Schema::new(alloc, words(alloc, false)?)
-        .ok()
-        .ok_or("a schema")?;
-    assert!(rt; has_code(alloc, &up, 1, vec![in alloc; Value::Null]?, b"\x01\x00"));
-    assert!(rt; has_code(alloc, &up, 1, word(alloc, "")?, b"\x01\x01\x00\x01"));
-    assert!(rt; has_code(alloc, &up, 1, word(alloc, "a")?, b"\x01\x01\x61\x00\x01"));
-    assert!(rt;
-        has_code(
-            alloc,
-            &up,
-            1,
-            word(alloc, "a\0")?,
-            b"\x01\x01\x61\x00\xff\x00\x01"
-        )
-    );
-    assert!(rt;
-        has_code(
-            alloc,
-            &up,
-            1,
-            word(alloc, "a\x01")?,
-            b"\x01\x01\x61\x01\x00\x01"
-        )
-    );
-    let down = Schema::new(alloc, words(alloc, true)?)
-        .ok()
-        .ok_or("a schema")?;
-    assert!(rt;
-        has_code(
-            alloc,
-            &down,
-            1,
-            word(alloc, "a\x01")?,
-            b"\x01\xfe\x9e\xfe\xff\xfe"
-        )
-    );
-    assert!(rt;
-        has_code(
-            alloc,
-            &down,
-            1,
-            word(alloc, "a\0")?,
-            b"\x01\xfe\x9e\xff\x00\xff\xfe"
-        )
-    );
-    assert!(rt; has_code(alloc, &down, 1, word(alloc, "a")?, b"\x01\xfe\x9e\xff\xfe"));
-    assert!(rt; has_code(alloc, &down, 1, word(alloc, "")?, b"\x01\xfe\xff\xfe"));
-    assert!(rt; has_code(alloc, &down, 1, vec![in alloc; Value::Null]?, b"\x01\xff"));
+    let schemas = the_schemas(alloc)?;
+    let keys = keys_in_order(alloc)?;
+    for key in keys.as_slice() {
+        assert!(rt; is_so(alloc, schema_of(&schemas, key.family), key));
+    }
+    for pair in keys.windows(2) {
+        let [before, after] = pair else {
+            return Err(Fail::from("a pair"));
+        };
+        assert!(rt; before.family != after.family || before.code.cmp(after.code).is_lt());
+    }
     Ok(())
 }
 

@@ -38,16 +38,17 @@ fn users(alloc: Global) -> Result<Vec<Table>, AllocError> {
     ]?)
 }
 
-fn has_code(alloc: Global, schema: &Schema, cells: Vec<Value>, code: &[u8]) -> bool {
+// Whether the row of these cells is packed so, and read again from these bytes.
+fn is_so(alloc: Global, schema: &Schema, cells: &[Value], code: &[u8]) -> bool {
     if schema.len() == 0 {
         return false;
     }
-    let packed = match pack(alloc, cells.as_slice()) {
+    let packed = match pack(alloc, cells) {
         Ok(bytes) => bytes.as_slice() == code,
         Err(_why) => false,
     };
     let read = match unpack(alloc, schema, 1, code) {
-        Ok(row) => row.as_slice() == cells.as_slice(),
+        Ok(row) => row.as_slice() == cells,
         Err(_why) => false,
     };
     packed && read
@@ -67,28 +68,34 @@ fn is_bad(alloc: Global, schema: &Schema, bytes: &[u8]) -> bool {
 fn worked_rows(rt: HostRuntime) -> Result<(), Fail> {
     let alloc = rt.alloc();
     let schema = Schema::new(alloc, users(alloc)?).ok().ok_or("a schema")?;
-    assert!(rt;
-        has_code(
-            alloc,
-            &schema,
-            vec![in alloc; Value::Str(Text::from_str(alloc, "a")?)]?,
-            b"\x01\x00\x00\x00\x01\x61"
-        )
-    );
-    assert!(rt; has_code(alloc, &schema, vec![in alloc; Value::Null]?, b"\x00"));
-    assert!(rt;
-        has_code(
-            alloc,
-            &schema,
-            vec![in alloc; Value::Str(Text::from_str(alloc, "")?)]?,
-            b"\x01\x00\x00\x00\x00"
-        )
-    );
-    assert!(rt; is_bad(alloc, &schema, b""));
-    assert!(rt; is_bad(alloc, &schema, b"\x02"));
-    assert!(rt; is_bad(alloc, &schema, b"\x00\x00"));
-    assert!(rt; is_bad(alloc, &schema, b"\x01\x00\x00\x00\x01"));
-    assert!(rt; is_bad(alloc, &schema, b"\x01\x00\x00\x00\x01\xff"));
+    let rows = [
+        (Some("a"), b"\x01\x00\x00\x00\x01\x61".as_slice()),
+        (None, b"\x00".as_slice()),
+        (Some(""), b"\x01\x00\x00\x00\x00".as_slice()),
+    ];
+    for (email, code) in rows {
+        let cell = match email {
+            Some(letters) => Value::Str(Text::from_str(alloc, letters)?),
+            None => Value::Null,
+        };
+        assert!(rt; is_so(alloc, &schema, vec![in alloc; cell]?.as_slice(), code));
+    }
+    Ok(())
+}
+
+#[test]
+fn no_rows(rt: HostRuntime) -> Result<(), Fail> {
+    let alloc = rt.alloc();
+    let schema = Schema::new(alloc, users(alloc)?).ok().ok_or("a schema")?;
+    for bytes in [
+        b"".as_slice(),
+        b"\x02".as_slice(),
+        b"\x00\x00".as_slice(),
+        b"\x01\x00\x00\x00\x01".as_slice(),
+        b"\x01\x00\x00\x00\x01\xff".as_slice(),
+    ] {
+        assert!(rt; is_bad(alloc, &schema, bytes));
+    }
     Ok(())
 }
 

@@ -1,8 +1,8 @@
 -- Children, read off the lines.
-use Rattle.std.proofs.Common.{◌≡◌, ℕ, zero, suc, ◌+◌, ◌-◌, List, [], ◌∷◌, refl, sym, ◌∙◌, ap, arith, Bool, cond, map, length}
+use Rattle.std.proofs.Common.{◌≡◌, ℕ, zero, suc, ◌+◌, ◌-◌, List, ◌∷◌, refl, ap, arith, Bool, cond, map}
 use Rattle.std.specs.List.{range_with_len, filter}
 use Rattle.span_schema.specs.declared.table.Table.{Table}
-use Rattle.span_schema.specs.Lineages.{parent_at, is_parent, lineage_at, children_at}
+use Rattle.span_schema.specs.Lineages.{parent_at, is_parent, lineage_at}
 use Rattle.span_schema.specs.Layouts.{children_in}
 
 pub children_read : (tables : List Table) (parent a b n : ℕ) → a ≡ b + 1

@@ -1,5 +1,5 @@
 -- What a table that breaks no rule is known to be.
-use Rattle.std.proofs.Common.{◌≡◌, ℕ, zero, suc, ◌<◌, ◌≤◌, ◌||◌, arith, inl, inr, List, Option, Some, None, refl, sym, ◌∙◌, ap, Bool, true, false, cond, length, take, ltb}
+use Rattle.std.proofs.Common.{◌≡◌, ℕ, zero, suc, ◌<◌, ◌≤◌, ◌||◌, arith, inl, inr, List, Option, Some, None, refl, sym, ◌∙◌, ap, Bool, true, false, cond, length, take}
 use Rattle.std.specs.Prelude.{is_some, nat_lt, nat_le, slice_get}
 use Rattle.std.proofs.lemmas.Bool.Decides.{nat_tests}
 use Rattle.std.proofs.lemmas.List.{length-take-le}

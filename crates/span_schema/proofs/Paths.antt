@@ -1,5 +1,5 @@
 -- Paths: a parent stands before its child, so what is known of the tables before gives the path to a table.
-use Rattle.std.proofs.Common.{◌≡◌, ℕ, zero, suc, ◌+◌, ◌-◌, ◌<◌, ◌≤◌, List, [], ◌∷◌, ◌++◌, Option, Some, None, refl, sym, ◌∙◌, ap, arith, Bool, true, false, cond, length, length-append, take, map, ltb}
+use Rattle.std.proofs.Common.{◌≡◌, ℕ, zero, suc, ◌+◌, ◌<◌, List, [], ◌∷◌, ◌++◌, Option, Some, None, refl, sym, ◌∙◌, ap, arith, Bool, length, length-append, take, map}
 use Rattle.std.specs.List.{slice_get, position, range_with_len}
 use Rattle.std.proofs.lemmas.Bool.Decides.{nat_tests}
 use Rattle.std.proofs.lemmas.Option.{cond_some, slice_get_within, slice_get-get_or}
@@ -8,7 +8,7 @@ use Rattle.std.proofs.lemmas.List.FromFn.{get_or-map-range_with_len, length-map-
 use Rattle.span_schema.specs.declared.table.Table.{Table}
 use Rattle.span_schema.specs.declared.table.Parent.{Parent}
 use Rattle.span_schema.specs.declared.lineage.Lineage.{Lineage}
-use Rattle.span_schema.specs.Tables.{table_place, parent_place, parent_place_of}
+use Rattle.span_schema.specs.Tables.{parent_place, parent_place_of}
 use Rattle.span_schema.specs.Rules.{first_cause, causes_of}
 use Rattle.span_schema.specs.Lineages.{parent_in, parent_at, above, path_in, path_at, lineage_at, path_of_line, path_below, lineage_in, judged_in, cause_in, cause_at}
 

@@ -1,9 +1,9 @@
 -- The key of a child begins with that of its parent.
-use Rattle.std.proofs.Common.{◌≡◌, ℕ, ◌+◌, ◌<◌, ◌≤◌, List, [], ◌∷◌, ◌++◌, Option, Some, None, refl, sym, ◌∙◌, ap, arith, Bool, true, false, not, ◌&&◌, cond, length, length-append, take, get_or, ltb}
-use Rattle.std.specs.List.{slice_get, position, find, cons_option, filter_map}
+use Rattle.std.proofs.Common.{◌≡◌, ℕ, ◌<◌, ◌≤◌, List, [], ◌∷◌, ◌++◌, Option, Some, None, refl, sym, ◌∙◌, ap, arith, Bool, true, false, not, ◌&&◌, length, take}
+use Rattle.std.specs.List.{slice_get, cons_option}
 use Rattle.std.specs.Option.{option_map}
 use Rattle.std.proofs.lemmas.Option.{cond_some, slice_get_within, slice_get-get_or, get_or_from_slice_get}
-use Rattle.std.proofs.lemmas.List.{length-take, length-take-le, get_or-take}
+use Rattle.std.proofs.lemmas.List.{length-take, get_or-take}
 use Rattle.std.proofs.lemmas.List.Folds.{find_at}
 use Rattle.span_value.specs.declared.value.ColumnType.{ColumnType}
 use Rattle.span_value.specs.declared.value.ColumnType.TheVariants.{Int, Str, Bytes, Bool as Truth}
@@ -13,9 +13,9 @@ use Rattle.span_schema.specs.declared.table.KeyColumn.{KeyColumn}
 use Rattle.span_schema.specs.declared.table.Parent.{Parent}
 use Rattle.span_schema.specs.declared.layout.KeyPart.{KeyPart}
 use Rattle.span_schema.specs.Tables.{kind_of, is_same_name, is_same_column_type, is_same_type, type_named, table_named, table_place, parent_place, parent_place_of}
-use Rattle.span_schema.specs.Rules.{is_same_direction, is_same_key_column, begins_key, extends_key, extends_found, extends_named, has_other_key}
+use Rattle.span_schema.specs.Rules.{is_same_direction, is_same_key_column, begins_key, extends_key, extends_found, extends_named}
 use Rattle.span_schema.specs.Layouts.{key_part, key_parts}
-use Rattle.span_schema.specs.Lineages.{parent_in, parent_at, path_at, MeetsRules}
+use Rattle.span_schema.specs.Lineages.{parent_in, parent_at, MeetsRules}
 use Rattle.span_schema.specs.Numbers.{key_at, columns_in, key_in}
 use Rattle.span_schema.proofs.Paths.{parent_before}
 use Rattle.span_schema.proofs.Judged.{passes_at}

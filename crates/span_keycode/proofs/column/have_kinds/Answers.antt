@@ -1,4 +1,4 @@
-use Rattle.std.proofs.Common.{◌≡◌, ℕ, ◌+◌, ◌<◌, ◌&&◌, suc, Bool, true, false, refl, sym, ◌∙◌, ap, arith, length, drop, get_or, add-one}
+use Rattle.std.proofs.Common.{◌≡◌, ◌<◌, ◌&&◌, suc, Bool, true, false, sym, ◌∙◌, ap, arith, length, drop, get_or, add-one}
 use Rattle.span_value.specs.declared.value.Kind.TheVariants as kind
 use Rattle.span_schema.specs.declared.layout.KeyPart.{KeyPart}
 use Rattle.span_keycode.specs.Coding.{are_of_kinds, is_of_kind}

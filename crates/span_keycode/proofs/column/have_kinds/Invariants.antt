@@ -1,4 +1,4 @@
-use Rattle.std.proofs.Common.{◌≡◌, ◌++◌, drop}
+use Rattle.std.proofs.Common.{◌≡◌, drop}
 use Rattle.span_keycode.specs.Coding.{AreFit, are_of_kinds}
 use Rattle.span_keycode.proofs.column.have_kinds.Given as goal
 

@@ -1,9 +1,9 @@
-use Rattle.std.proofs.Common.{◌≡◌, ℕ, ◌+◌, ◌<◌, ◌≤◌, List, Option, Some, None, true, false, arith, refl, sym, ◌∙◌, ap, subst, drop, get_or, length}
+use Rattle.std.proofs.Common.{◌≡◌, ℕ, List, Option, true, false, refl, sym, ◌∙◌, subst, get_or}
 use Rattle.std.proofs.lemmas.Option.{MatchOption-at_some, MatchOption-at_none}
 use Rattle.span_schema.specs.declared.layout.KeyPart.{KeyPart}
-use Rattle.span_schema.specs.Numbers.{IsTable, parent_of, own_key_columns}
+use Rattle.span_schema.specs.Numbers.{own_key_columns}
 use Rattle.span_keycode.specs.Reads.{IsNoTuple, IsTuple}
-use Rattle.span_keycode.proofs.KeyReading.{IsRead, read_more, read_stop, read_none, read_nothing, read_end}
+use Rattle.span_keycode.proofs.KeyReading.{IsRead, read_more, read_stop, read_none, read_nothing}
 use Rattle.span_keycode.proofs.decode.read_key.Goals as goal
 
 pub returns-then-not-is_child : goal.returns-then-not-is_child

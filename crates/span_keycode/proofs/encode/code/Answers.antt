@@ -1,4 +1,4 @@
-use Rattle.std.proofs.Common.{◌≡◌, ◌≤◌, ◌<◌, ◌-◌, ℕ, List, arith, length, sym, ◌∙◌, ap, subst, get_or}
+use Rattle.std.proofs.Common.{◌≤◌, ◌<◌, ◌-◌, ℕ, List, arith, length, sym, ap, subst, get_or}
 use Rattle.span_schema.specs.Numbers.{key_at, key_columns}
 use Rattle.span_schema.specs.Lineages.{path_at}
 use Rattle.span_keycode.proofs.Levels.{each_of, keys_short, IsShort}

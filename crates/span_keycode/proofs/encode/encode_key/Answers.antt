@@ -1,5 +1,4 @@
-use Rattle.std.proofs.Common.{◌≡◌, ◌≤◌, arith, length, sym, ◌∙◌, ap}
-use Rattle.span_value.specs.declared.value.Value.{Value}
+use Rattle.std.proofs.Common.{arith, length, sym, ◌∙◌, ap}
 use Rattle.span_schema.specs.declared.layout.KeyPart.{KeyPart}
 use Rattle.span_keycode.proofs.KindTests.{kinds_length}
 use Rattle.span_keycode.proofs.encode.encode_key.Goals as goal

@@ -1,5 +1,4 @@
-use Rattle.std.proofs.Common.{◌≡◌, ◌-◌, ◌<◌, ◌≤◌, arith, sym, ◌∙◌, ap, length, take}
-use Rattle.span_keycode.specs.Ranges.{next_after}
+use Rattle.std.proofs.Common.{arith, ◌∙◌}
 use Rattle.span_keycode.proofs.Nexts.{kept_less}
 use Rattle.span_keycode.proofs.range.kept_len.Goals as goal
 

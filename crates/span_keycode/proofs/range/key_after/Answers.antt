@@ -1,5 +1,4 @@
-use Rattle.std.proofs.Common.{◌≡◌, ◌+◌, ◌-◌, ◌<◌, ◌≤◌, ◌++◌, ◌∷◌, [], List, ℕ, arith, sym, ◌∙◌, ap, length, take, get_or}
-use Rattle.span_keycode.specs.Ranges.{next_after}
+use Rattle.std.proofs.Common.{◌+◌, ◌-◌, ◌<◌, ◌++◌, ◌∷◌, [], List, ℕ, arith, sym, ◌∙◌, ap, get_or}
 use Rattle.span_keycode.proofs.Nexts.{kept_grown}
 use Rattle.span_keycode.proofs.range.key_after.Goals as goal
 

@@ -1,4 +1,4 @@
-use Rattle.std.proofs.Common.{◌≡◌, ℕ, ◌+◌, ◌<◌, ◌≤◌, List, arith, refl, sym, ◌∙◌, ap, subst, drop, get_or, length, length-drop}
+use Rattle.std.proofs.Common.{ℕ, List, arith, refl, ap, subst, get_or, length, length-drop}
 use Rattle.span_schema.specs.declared.layout.KeyPart.{KeyPart}
 use Rattle.span_schema.specs.Numbers.{own_key_columns}
 use Rattle.span_keycode.specs.Roots.{IsTupleSkip}

@@ -1,4 +1,4 @@
-use Rattle.std.proofs.Common.{◌≡◌, ℕ, ◌+◌, ◌≤◌, List, Some, arith, sym, ◌∙◌, ap, drop, length, length-drop}
+use Rattle.std.proofs.Common.{◌≡◌, ℕ, ◌+◌, List, arith, ◌∙◌, ap, drop, length-drop}
 use Rattle.std.proofs.lemmas.List.{drop-drop}
 use Rattle.span_keycode.specs.Coding.{in_direction}
 use Rattle.span_keycode.specs.Texts.{text_at, with_first}

@@ -1,4 +1,4 @@
-use Rattle.std.proofs.Common.{◌≡◌, ◌≢◌, ℕ, ◌+◌, ◌<◌, ◌≤◌, List, Some, arith, sym, ◌∙◌, ap, subst, drop, length, length-drop}
+use Rattle.std.proofs.Common.{◌≡◌, ℕ, ◌+◌, ◌<◌, List, Some, arith, ap, subst, length, length-drop}
 use Rattle.span_keycode.specs.Coding.{in_direction}
 use Rattle.span_keycode.specs.Texts.{text_at}
 use Rattle.span_keycode.proofs.Eights.{first_turned}

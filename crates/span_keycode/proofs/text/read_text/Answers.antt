@@ -1,8 +1,8 @@
-use Rattle.std.proofs.Common.{◌≡◌, ℕ, ◌+◌, ◌-◌, ◌≤◌, ◌∙◌, ◌∷◌, ◌++◌, [], List, sym, ap, arith, length, drop, take, length-drop, Some, subst}
+use Rattle.std.proofs.Common.{◌≡◌, ℕ, ◌+◌, ◌-◌, ◌∙◌, ◌∷◌, ◌++◌, [], List, sym, ap, arith, length, drop, take, length-drop, Some, subst}
 use Rattle.std.proofs.lemmas.List.{drop-drop}
 use Rattle.std.proofs.lemmas.Grind.{common_steps}
 use Rattle.span_keycode.specs.Coding.{in_direction, AreBytes}
-use Rattle.span_keycode.specs.Texts.{text_at, prepend, with_first, AtStep}
+use Rattle.span_keycode.specs.Texts.{text_at, prepend, with_first}
 use Rattle.span_keycode.proofs.Codes.{bytes_push}
 use Rattle.span_keycode.proofs.Reading.{prepend_more, prepend_nothing}
 use Rattle.span_keycode.proofs.text.read_text.Goals as goal

@@ -1,4 +1,4 @@
-use Rattle.std.proofs.Common.{◌≡◌, ℕ, ◌+◌, ◌≤◌, List, arith, false, sym, ◌∙◌, ap, subst, drop, get_or, length, length-drop}
+use Rattle.std.proofs.Common.{ℕ, List, arith, false, subst, drop, get_or, length-drop}
 use Rattle.std.proofs.lemmas.Option.{MatchOption-at_some}
 use Rattle.span_value.specs.declared.value.Kind.TheVariants as kind
 use Rattle.span_schema.specs.declared.layout.KeyPart.{KeyPart}

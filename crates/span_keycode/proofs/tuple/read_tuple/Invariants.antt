@@ -1,4 +1,4 @@
-use Rattle.std.proofs.Common.{◌≡◌, ◌≤◌, take, drop, length}
+use Rattle.std.proofs.Common.{◌≤◌, take, drop, length}
 use Rattle.span_keycode.specs.Reads.{IsNoTuple, IsTuple}
 use Rattle.span_keycode.proofs.tuple.read_tuple.Given as goal
 

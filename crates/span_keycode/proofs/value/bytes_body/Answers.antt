@@ -1,4 +1,4 @@
-use Rattle.std.proofs.Common.{◌≡◌, ℕ, List, ◌∷◌, arith, refl, sym, ◌∙◌, ap, subst, drop}
+use Rattle.std.proofs.Common.{ℕ, List, ◌∷◌, sym, subst, drop}
 use Rattle.std.proofs.lemmas.Option.{MatchOption-at_some, MatchOption-at_none}
 use Rattle.span_value.specs.declared.value.Value.TheVariants.{Bytes}
 use Rattle.span_value.specs.declared.value.Kind.TheVariants as kind

@@ -1,10 +1,10 @@
-use Rattle.std.proofs.Common.{◌≡◌, ◌≢◌, ℕ, ◌+◌, ◌<◌, List, [], ◌∷◌, arith, refl, sym, ◌∙◌, ap, subst, drop, length, length-drop}
+use Rattle.std.proofs.Common.{◌≡◌, ℕ, ◌+◌, List, [], ◌∷◌, arith, sym, ◌∙◌, ap, subst, drop, length, length-drop}
 use Rattle.std.proofs.lemmas.List.{drop-drop}
 use Rattle.std.proofs.lemmas.Option.{MatchOption-at_some, MatchOption-at_none}
 use Rattle.span_keycode.specs.Coding.{in_direction}
 use Rattle.span_keycode.specs.Reads.{IsNoPlain, IsPlain}
 use Rattle.span_keycode.proofs.Eights.{first_turned}
-use Rattle.span_keycode.proofs.Plains.{column_found, column_missed, no_plain_nothing, no_plain_other}
+use Rattle.span_keycode.proofs.Plains.{column_found, column_missed}
 use Rattle.span_keycode.proofs.value.read_value.Goals as goal
 
 pub returns-in-None : goal.returns-in-None

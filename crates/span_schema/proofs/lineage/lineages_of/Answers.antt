@@ -1,10 +1,10 @@
-use Rattle.std.proofs.Common.{◌≡◌, ℕ, ◌+◌, ◌<◌, ◌≤◌, ◌++◌, ◌∷◌, [], arith, length, take, map, inl, inr, sym, refl, ◌∙◌, ap, below_more, None, Some}
+use Rattle.std.proofs.Common.{◌≡◌, ◌++◌, ◌∷◌, [], arith, length, map, inl, inr, sym, refl, ◌∙◌, ap, below_more, Some}
 use Rattle.std.specs.List.{range_with_len, slice_get}
 use Rattle.std.proofs.lemmas.Option.{slice_get_read}
 use Rattle.std.proofs.lemmas.List.{length-take-le}
 use Rattle.std.proofs.lemmas.List.FromFn.{length-map-range_with_len, map-range_with_len_more}
 use Rattle.std.proofs.lemmas.Result.{err_from_is_err_and}
-use Rattle.span_schema.specs.Lineages.{lineage_at, cause_at}
+use Rattle.span_schema.specs.Lineages.{lineage_at}
 use Rattle.span_schema.proofs.Paths.{lineage_step}
 use Rattle.span_schema.proofs.lineage.lineages_of.Goals as goal
 

@@ -26,7 +26,7 @@ invariant_of-self c =
     (subst (λ (rows : List (List Value)). IsRegistered k c.args.query c.args.slot c.args.interval rows c.register.new.self) c.in-Ok.ensures.rows g) in
     elim c.match-register.branch [
       | in-Ok-register w ↦ (done w.in-Ok-register.ensures.ok).0
-      | in-Err-register w ↦ absurd (registers k c.args.query c.args.leaf c.args.slot c.args.interval s may w.in-Err-register.ensures.why)
+      | in-Err-register w ↦ absurd (registers k c.args.query c.args.leaf c.args.slot c.args.interval s w.in-Err-register.why may w.in-Err-register.ensures.why)
     ]
 
 pub invariant_of-self-in-Err : goal.invariant_of-self-in-Err
@@ -53,6 +53,6 @@ returns-after-register c =
     let right : Steps (machine_of k) (step.Scan c.args.query c.args.leaf c.args.slot c.args.interval) c.match-register.result (machine_of c.register.new.self) =
     elim c.match-register.branch [
       | in-Ok-register w ↦ subst (λ (r : Reply). Steps (machine_of k) (step.Scan c.args.query c.args.leaf c.args.slot c.args.interval) r (machine_of c.register.new.self)) (sym w.result-is) (done w.in-Ok-register.ensures.ok).1
-      | in-Err-register w ↦ absurd (registers k c.args.query c.args.leaf c.args.slot c.args.interval s may w.in-Err-register.ensures.why)
+      | in-Err-register w ↦ absurd (registers k c.args.query c.args.leaf c.args.slot c.args.interval s w.in-Err-register.why may w.in-Err-register.ensures.why)
     ] in
     subst (λ (n : Machine). Steps n (step.Scan c.args.query c.args.leaf c.args.slot c.args.interval) c.match-register.result (machine_of c.register.new.self)) (c.in-Ok-Some.ensures.ok ∙ c.self.view_is) right

@@ -1,4 +1,4 @@
-use Rattle.std.proofs.Common.{◌≡◌, List, Some, None, Option, sym, ap, ◌∙◌, subst, inl}
+use Rattle.std.proofs.Common.{◌≡◌, List, Some, None, Option, refl, sym, ap, ◌∙◌, subst, inl}
 use Rattle.std.specs.Prelude.{find, slice_get, slice_set, IfSome}
 use Rattle.std.proofs.lemmas.Option.{slice_get_within}
 use Rattle.span_machine.specs.declared.slot.Book.{Book}
@@ -12,7 +12,7 @@ pub returns-in_default-clause-why : goal.returns-in_default-clause-why
 returns-in_default-clause-why c =
     let none : find (λ (p : Pieced). is_query c.args.query p.query) c.args.self.now.queries ≡ None =
     subst (λ (l : List Pieced). find (λ (p : Pieced). is_query c.args.query p.query) l ≡ None) (c.as_slice.ensures.value ∙ ap (λ (j : Journaled). j.queries) c.self.view_is) c.in_default.ensures.none in
-    inl none
+    inl (none, refl)
 
 pub set_floor-requires : goal.set_floor-requires
 set_floor-requires c =

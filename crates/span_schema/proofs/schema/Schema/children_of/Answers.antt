@@ -1,4 +1,4 @@
-use Rattle.std.proofs.Common.{◌≡◌, ◌-◌, ◌<◌, List, arith, length, sym, ◌∙◌, ap}
+use Rattle.std.proofs.Common.{◌-◌, ◌<◌, List, arith, length, ◌∙◌, ap}
 use Rattle.span_schema.specs.declared.table.Table.{Table}
 use Rattle.span_schema.specs.Lineages.{children_at}
 use Rattle.span_schema.proofs.Numbered.{each_at, each_length}

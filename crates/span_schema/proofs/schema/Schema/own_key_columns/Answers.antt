@@ -1,4 +1,4 @@
-use Rattle.std.proofs.Common.{◌≡◌, ◌-◌, ◌≤◌, arith, length, ap}
+use Rattle.std.proofs.Common.{◌-◌, arith, length, ap}
 use Rattle.span_schema.specs.declared.layout.KeyPart.{KeyPart}
 use Rattle.span_schema.proofs.Numbered.{above_within}
 use Rattle.span_schema.proofs.schema.Schema.own_key_columns.Goals as goal
