@@ -164,10 +164,10 @@ pub registers : (j : Journaled) (query leaf slot : ℕ) (interval : Interval) (s
 registers j query leaf slot interval s why d (inl none) =
     let e : find (is_query query) (queries_of j.queries) ≡ None = find-queries (is_query query) j.queries ∙ ap (λ (o : Option Pieced). option_map (λ (p : Pieced). p.query) o) none.0 in
     let f = d.found in cc
-registers j query leaf slot interval s why d (inr (inl g)) = let f = d.here in let e = g.2.0 in cc
+registers j query leaf slot interval s why d (inr (inl g)) = let f = d.here in let e = g.2 in cc
 registers j query leaf slot interval s why d (inr (inr g)) =
-    let same : g.0.query ≡ d.question = some_same _ _ (sym (found_query query j.queries g.0 g.1.0) ∙ d.found) in
-    let e : d.question.covered ≡ true = ap (λ (q : OpenQuery). q.covered) (sym same) ∙ g.1.1.1.0 in
+    let same : g.0.query ≡ d.question = some_same _ _ (sym (found_query query j.queries g.0 g.1) ∙ d.found) in
+    let e : d.question.covered ≡ true = ap (λ (q : OpenQuery). q.covered) (sym same) ∙ g.3 in
     let f = d.uncovered in cc
 
 -- ---- finish
