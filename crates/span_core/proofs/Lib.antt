@@ -1,3 +1,5 @@
 pub mod Wholes
 pub mod Preparing
 pub mod Runs
+pub mod Values
+pub mod Entries

@@ -1,14 +1,11 @@
-use Rattle.std.proofs.Common.{◌≡◌, ℕ, ℤ, List, [], Option, Some, None, refl, ap, sym, ◌∙◌, subst, inl, inr}
-use Rattle.std.specs.Prelude.{filter, slice_get, Err}
-use Rattle.span_shard.specs.Database.{row_through, is_at}
+use Rattle.std.proofs.Common.{◌≡◌, ℕ, List, Option, Some, None, refl, ap, sym, ◌∙◌, subst, inl, inr}
+use Rattle.std.specs.Prelude.{slice_get, Ok, Err, ◌⊎◌}
 use Rattle.span_value.specs.declared.refusal.Refusal.{Refusal}
 use Rattle.span_value.specs.declared.refusal.Refusal.TheVariants as refusal
-use Rattle.span_shard.specs.declared.mutation.CheckedMutation.{CheckedMutation}
+use Rattle.span_mutate.specs.declared.mutation.CheckedMutation.{CheckedMutation}
 use Rattle.span_shard.specs.declared.write.Write.{Write}
 use Rattle.span_shard.specs.KeyVersions.{KeyVersions}
-use Rattle.span_shard.specs.Shard.{row_now, with_writes, applied, IsFree, HasNoneOf}
-use Rattle.span_shard.specs.Writes.{AreWrites, IsFault}
-use Rattle.span_shard.proofs.Undo.{given_back}
+use Rattle.span_shard.specs.Shard.{with_writes, IsFree, HasNoneOf, IsNow}
 use Rattle.span_machine.specs.declared.step.Step.TheVariants as step
 use Rattle.span_machine.specs.declared.step.Reply.TheVariants as reply
 use Rattle.span_machine.specs.declared.slot.Book.{Book}
@@ -19,86 +16,104 @@ use Rattle.span_laws.proofs.Reached.{IsReached, answer_reached}
 use Rattle.span_kept.specs.Kept.{AreKept, ArePieced}
 use Rattle.span_kept.proofs.Claimers.{only_slot}
 use Rattle.span_kept.proofs.Covers.{pieced_by_step}
-use Rattle.span_kept.proofs.Preparing.{prepare_free, prepare_new, prepare_fault, prepare_well, kept_prepared}
+use Rattle.span_kept.proofs.Preparing.{its_typed, prepare_free, prepare_new, prepare_fault, prepare_well, kept_prepared}
 use Rattle.span_journal.specs.Judged.{MayPrepare, IsNoted, IsUnnoted, stamp_refusal}
 use Rattle.span_core.specs.Whole.{IsWhole}
+use Rattle.span_schema.specs.declared.table.Table.{Table}
+use Rattle.span_mutate.specs.declared.row.TableRow.{TableRow}
+use Rattle.span_mutate.specs.Database.{apply}
+use Rattle.span_mutate.specs.Directories.{IsDatabase}
+use Rattle.span_mutate.specs.Typed.{AreTyped, AreTypedMutations}
+use Rattle.span_shard.specs.Rows.{AreChanges}
 
 some_same : {A : Type 0} (x y : A) → Some x ≡ Some y → x ≡ y
 some_same x y e = cc
 
-module _ (j : Journaled) (cs : List KeyVersions) (w : IsWhole j cs) (owner txn slot : ℕ) (ms : List CheckedMutation) (may : MayPrepare (machine_of j) owner txn slot ms) where
+module _ (schema : List Table) (j : Journaled) (cs : List KeyVersions) (w : IsWhole schema j cs) (owner txn slot : ℕ) (ms : List CheckedMutation) (may : MayPrepare schema (machine_of j) owner txn slot ms) where
   zero_slot : slot ≡ 0
-  zero_slot = only_slot (machine_of j) w.reached slot may.book may.here
+  zero_slot = only_slot schema (machine_of j) w.reached slot may.book may.here
 
   here_zero : slice_get (machine_of j).books 0 ≡ Some may.book
   here_zero = subst (λ i. slice_get (machine_of j).books i ≡ Some may.book) zero_slot may.here
 
-  accepted_zero : prepare_refusal (machine_of j) 0 may.transaction may.book ≡ None
-  accepted_zero = subst (λ i. prepare_refusal (machine_of j) i may.transaction may.book ≡ None) zero_slot may.accepted
+  accepted_zero : prepare_refusal schema (machine_of j) 0 may.transaction may.book ≡ None
+  accepted_zero = subst (λ i. prepare_refusal schema (machine_of j) i may.transaction may.book ≡ None) zero_slot may.accepted
 
   -- nothing is prepared at the keys of the mutations, nor of the transaction
-  pub free : IsFree ms cs
-  free = subst (λ (l : List CheckedMutation). IsFree l cs) (sym may.mutations) (prepare_free (machine_of j) w.reached cs w.kept owner txn may.transaction may.book may.found here_zero accepted_zero)
+  pub free : IsFree schema ms cs
+  free = subst (λ (l : List CheckedMutation). IsFree schema l cs) (sym may.mutations) (prepare_free schema w.rules (machine_of j) w.reached cs w.kept owner txn may.transaction may.book may.found here_zero accepted_zero)
 
   pub new : HasNoneOf txn cs
-  new = prepare_new (machine_of j) w.reached cs w.kept owner txn may.transaction may.book may.found here_zero accepted_zero
+  new = prepare_new schema w.rules (machine_of j) w.reached cs w.kept owner txn may.transaction may.book may.found here_zero accepted_zero
 
   abbrev tail : Answer
   tail = unless_refused (machine_of j) (stamp_refusal may.book) (prepared (machine_of j) owner txn slot may.book)
 
-  prepare_is : prepare (machine_of j) owner txn slot ≡ unless_refused (machine_of j) (faults (machine_of j) (mutations_in may.book may.transaction.mutations)) tail
+  prepare_is : prepare schema (machine_of j) owner txn slot ≡ unless_refused (machine_of j) (faults schema (machine_of j) (mutations_in schema may.book may.transaction.mutations)) tail
   prepare_is =
-      ap (λ (o : Option OpenTransaction). if_some o (refused (machine_of j) refusal.UnknownTransaction) (λ t. for_slot (machine_of j) slot (prepare_found (machine_of j) owner txn slot t))) may.found
-      ∙ ap (λ (o : Option Book). if_some o (refused (machine_of j) refusal.NoSlot) (prepare_found (machine_of j) owner txn slot may.transaction)) may.here
-      ∙ ap (λ (o : Option Refusal). unless_refused (machine_of j) o (unless_refused (machine_of j) (faults (machine_of j) (mutations_in may.book may.transaction.mutations)) tail)) may.accepted
+      ap (λ (o : Option OpenTransaction). if_some o (refused (machine_of j) refusal.UnknownTransaction) (λ t. for_slot (machine_of j) slot (prepare_found schema (machine_of j) owner txn slot t))) may.found
+      ∙ ap (λ (o : Option Book). if_some o (refused (machine_of j) refusal.NoSlot) (prepare_found schema (machine_of j) owner txn slot may.transaction)) may.here
+      ∙ ap (λ (o : Option Refusal). unless_refused (machine_of j) o (unless_refused (machine_of j) (faults schema (machine_of j) (mutations_in schema may.book may.transaction.mutations)) tail)) may.accepted
+
+  pub typed : AreTypedMutations schema ms
+  typed = subst (AreTypedMutations schema) (sym may.mutations) (its_typed schema w.rules (machine_of j) w.reached cs w.kept owner txn may.transaction may.book may.found here_zero accepted_zero)
+
+  -- what the shard says of every database whose rows it has
+  abbrev pub OfEach : List CheckedMutation → (List TableRow → Type 0) → Type 0
+  OfEach l P = (db : List TableRow) → IsDatabase schema db → AreTyped schema db → IsNow schema l db cs → P db
 
   -- the fault of the mutations is the reply
-  pub fault_steps : (key : ℤ) (why : Refusal) → IsFault key (row_now cs key) ms why → Steps (machine_of j) (step.Prepare owner txn slot) (reply.Refused why) (machine_of j)
-  fault_steps key why (inl memory) = inr (refl, ap reply.Refused memory, refl)
-  fault_steps key why (inr fault) =
-      let is = prepare_fault (machine_of j) w.reached cs w.kept owner txn may.transaction may.book may.found here_zero accepted_zero key why
-      (subst (λ (l : List CheckedMutation). row_through (row_now cs key) (filter (is_at key) l) ≡ Err why) may.mutations fault) in
-      let e = prepare_is ∙ ap (λ (o : Option Refusal). unless_refused (machine_of j) o tail) is in
-      inl (sym (ap (λ (a : Answer). a.0) e), sym (ap (λ (a : Answer). a.1) e))
+  pub fault_steps : (why : Refusal) → OfEach ms (λ db. (why ≡ refusal.OutOfMemory) ⊎ (apply schema db ms ≡ Err why)) → Steps schema (machine_of j) (step.Prepare owner txn slot) (reply.Refused why) (machine_of j)
+  fault_steps why says = elim (prepare_fault schema w.rules (machine_of j) w.reached cs w.kept owner txn may.transaction may.book may.found here_zero accepted_zero why
+      (subst (λ (l : List CheckedMutation). OfEach l (λ db. (why ≡ refusal.OutOfMemory) ⊎ (apply schema db l ≡ Err why))) may.mutations says)) [
+        | inl memory ↦ inr (refl, ap reply.Refused memory, refl)
+        | inr is ↦
+            let e = prepare_is ∙ ap (λ (o : Option Refusal). unless_refused (machine_of j) o tail) is in
+            inl (sym (ap (λ (a : Answer). a.0) e), sym (ap (λ (a : Answer). a.1) e))
+      ]
 
-  module _ (ws : List Write) (are : AreWrites (row_now cs) ms ws) where
-    are_in : AreWrites (row_now cs) (mutations_in may.book may.transaction.mutations) ws
-    are_in = subst (λ (l : List CheckedMutation). AreWrites (row_now cs) l ws) may.mutations are
+  abbrev pub Changes : List CheckedMutation → List Write → Type 0
+  Changes l ws = OfEach l (λ db. (after : List TableRow) × (apply schema db l ≡ Ok after) × AreChanges schema db after ws)
 
-    well : faults (machine_of j) (mutations_in may.book may.transaction.mutations) ≡ None
-    well = prepare_well (machine_of j) w.reached cs w.kept owner txn may.transaction may.book may.found here_zero accepted_zero ws are_in
+  module _ (ws : List Write) (are : Changes ms ws) where
+    are_in : Changes (mutations_in schema may.book may.transaction.mutations) ws
+    are_in = subst (λ (l : List CheckedMutation). Changes l ws) may.mutations are
 
-    judged : prepare (machine_of j) owner txn slot ≡ tail
+    well : faults schema (machine_of j) (mutations_in schema may.book may.transaction.mutations) ≡ None
+    well = prepare_well schema w.rules (machine_of j) w.reached cs w.kept owner txn may.transaction may.book may.found here_zero accepted_zero ws are_in
+
+    judged : prepare schema (machine_of j) owner txn slot ≡ tail
     judged = prepare_is ∙ ap (λ (o : Option Refusal). unless_refused (machine_of j) o tail) well
 
     -- a transaction that is noted is prepared
-    prepared_is : (ts : ℕ) (n : Machine) → (d : IsNoted (machine_of j) owner txn slot ts n) → prepare (machine_of j) owner txn slot ≡ prepared (machine_of j) owner txn slot d.book
+    prepared_is : (ts : ℕ) (n : Machine) → (d : IsNoted (machine_of j) owner txn slot ts n) → prepare schema (machine_of j) owner txn slot ≡ prepared (machine_of j) owner txn slot d.book
     prepared_is ts n d =
         let same : d.book ≡ may.book = some_same d.book may.book (sym d.here ∙ may.here) in
         judged ∙ ap (λ (b : Book). unless_refused (machine_of j) (stamp_refusal b) (prepared (machine_of j) owner txn slot b)) (sym same)
         ∙ ap (λ (o : Option Refusal). unless_refused (machine_of j) o (prepared (machine_of j) owner txn slot d.book)) d.stamped
 
-    pub noted_steps : (ts : ℕ) (n : Machine) → IsNoted (machine_of j) owner txn slot ts n → Steps (machine_of j) (step.Prepare owner txn slot) (reply.Prepared ts) n
+    pub noted_steps : (ts : ℕ) (n : Machine) → IsNoted (machine_of j) owner txn slot ts n → Steps schema (machine_of j) (step.Prepare owner txn slot) (reply.Prepared ts) n
     noted_steps ts n d =
         let e = prepared_is ts n d in
         inl (ap reply.Prepared d.at ∙ sym (ap (λ (a : Answer). a.0) e), d.after ∙ sym (ap (λ (a : Answer). a.1) e))
 
-    pub noted_whole : (ts : ℕ) (k : Journaled) → IsNoted (machine_of j) owner txn slot ts (machine_of k) → k.queries ≡ j.queries → IsWhole k (with_writes txn ws cs)
+    pub noted_whole : (ts : ℕ) (k : Journaled) → IsNoted (machine_of j) owner txn slot ts (machine_of k) → k.queries ≡ j.queries → IsWhole schema k (with_writes txn ws cs)
     noted_whole ts k d queries =
         let m = machine_of j in
         let e = prepared_is ts (machine_of k) d in
-        let is : machine_of k ≡ (prepare m owner txn slot).1 = d.after ∙ sym (ap (λ (a : Answer). a.1) e) in
+        let is : machine_of k ≡ (prepare schema m owner txn slot).1 = d.after ∙ sym (ap (λ (a : Answer). a.1) e) in
         let same : may.book ≡ d.book = some_same may.book d.book (sym may.here ∙ d.here) in
-        let kept = kept_prepared m w.reached cs w.kept owner txn may.transaction may.book may.found here_zero accepted_zero ws are_in in
+        let kept = kept_prepared schema w.rules m w.reached cs w.kept owner txn may.transaction may.book may.found here_zero accepted_zero ws are_in in
         record {
-          reached = subst IsReached (sym is) (answer_reached m w.reached (step.Prepare owner txn slot));
-          kept = subst (λ (n : Machine). AreKept n (with_writes txn ws cs)) (sym d.after)
-              (subst (λ (b : Book). AreKept (prepared m owner txn slot b).1 (with_writes txn ws cs)) same (subst (λ i. AreKept (prepared m owner txn i may.book).1 (with_writes txn ws cs)) (sym zero_slot) kept));
-          pieced = subst (ArePieced (machine_of k)) (sym queries) (subst (λ (n : Machine). ArePieced n j.queries) (sym is) (pieced_by_step m w.reached j.queries refl w.pieced (step.Prepare owner txn slot)));
+          rules = w.rules;
+          reached = subst (IsReached schema) (sym is) (answer_reached schema w.rules m w.reached (step.Prepare owner txn slot) tt);
+          kept = subst (λ (n : Machine). AreKept schema n (with_writes txn ws cs)) (sym d.after)
+              (subst (λ (b : Book). AreKept schema (prepared m owner txn slot b).1 (with_writes txn ws cs)) same (subst (λ i. AreKept schema (prepared m owner txn i may.book).1 (with_writes txn ws cs)) (sym zero_slot) kept));
+          pieced = subst (ArePieced schema (machine_of k)) (sym queries) (subst (λ (n : Machine). ArePieced schema n j.queries) (sym is) (pieced_by_step schema w.rules m w.reached j.queries refl w.pieced (step.Prepare owner txn slot) tt));
         }
 
     -- why it is not noted is the reply
-    pub unnoted_steps : (why : Refusal) → IsUnnoted (machine_of j) owner txn slot why → Steps (machine_of j) (step.Prepare owner txn slot) (reply.Refused why) (machine_of j)
+    pub unnoted_steps : (why : Refusal) → IsUnnoted (machine_of j) owner txn slot why → Steps schema (machine_of j) (step.Prepare owner txn slot) (reply.Refused why) (machine_of j)
     unnoted_steps why (inl memory) = inr (refl, ap reply.Refused memory, refl)
     unnoted_steps why (inr (inl none)) = absurd (let f = may.found in cc)
     unnoted_steps why (inr (inr (inl none))) = absurd (let f = may.here in cc)
@@ -107,7 +122,3 @@ module _ (j : Journaled) (cs : List KeyVersions) (w : IsWhole j cs) (owner txn s
         let e = judged ∙ ap (λ (b : Book). unless_refused (machine_of j) (stamp_refusal b) (prepared (machine_of j) owner txn slot b)) same
         ∙ ap (λ (o : Option Refusal). unless_refused (machine_of j) o (prepared (machine_of j) owner txn slot g.0)) g.2 in
         inl (sym (ap (λ (a : Answer). a.0) e), sym (ap (λ (a : Answer). a.1) e))
-
-    -- what is given up leaves the shard as it was
-    pub given_up : applied txn None (with_writes txn ws cs) ≡ cs
-    given_up = given_back txn (row_now cs) ms ws cs (with_writes txn ws cs) w.kept.used new free are (record { front = []; rest = ws; whole = refl; put = refl })

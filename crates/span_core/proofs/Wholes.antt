@@ -18,56 +18,66 @@ use Rattle.span_machine.specs.declared.transaction.Outcome.TheVariants as outcom
 use Rattle.span_machine.specs.declared.transaction.OpenTransaction.{OpenTransaction}
 use Rattle.span_machine.specs.Machine.{Machine, Answer, Steps, answer, start, refused, unless_refused, if_some, for_slot, is_query, is_transaction, is_safe, risen, with_book, cover, changed_first, without_first, scan, scan_found, scan_at, scanned, applied_at, apply_step, apply_found, finish_found, answer_on, meaning}
 use Rattle.span_machine.specs.Pieces.{Pieced, Journaled, machine_of, queries_of}
-use Rattle.span_laws.proofs.Reached.{IsReached, start_reached, answer_reached}
-use Rattle.span_kept.specs.Kept.{AreKept, ArePieced}
+use Rattle.span_laws.proofs.Reached.{IsReached, start_reached, answer_reached, reached_tables, reached_meaning}
+use Rattle.span_kept.specs.Kept.{AreKept, ArePieced, IsReading, family}
 use Rattle.span_kept.proofs.Steps.{start_kept, kept_scan}
 use Rattle.span_kept.proofs.Applying.{kept_committed, kept_aborted}
 use Rattle.span_kept.proofs.Claimers.{only_slot}
 use Rattle.span_kept.proofs.Covers.{no_pieces, pieced_push, pieced_without, pieced_by_step, pieced_scanned, pieced_finish, covered-queries, find-queries, found_query}
-use Rattle.span_journal.specs.Judged.{IsApplied, MayScan, IsRegistered, IsUnregistered, IsPiece, covered_by, outcome_of}
-use Rattle.span_core.specs.Whole.{IsWhole}
+use Rattle.span_journal.specs.Judged.{IsApplied, MayScan, IsRegistered, IsUnregistered, IsPiece, IsUnasked, covered_by, outcome_of}
+use Rattle.span_core.specs.Whole.{IsWhole, IsRead, IsUnread}
+use Rattle.span_kept.proofs.Snapshots.{snapshot_when_safe}
+use Rattle.span_schema.specs.declared.table.Table.{Table}
+use Rattle.span_schema.specs.Lineages.{MeetsRules}
+use Rattle.span_schema.specs.Numbers.{root_of}
+use Rattle.span_machine.specs.Meaning.{table_asked}
+use Rattle.span_machine.specs.Run.{IsOfSchema}
 
 -- an empty database
-pub start_whole : (j : Journaled) → machine_of j ≡ start → j.queries ≡ [] → IsWhole j []
-start_whole j is none = record {
-  reached = subst IsReached (sym is) start_reached;
-  kept = subst (λ (m : Machine). AreKept m []) (sym is) start_kept;
-  pieced = subst (ArePieced (machine_of j)) (sym none) (no_pieces (machine_of j));
+pub start_whole : (schema : List Table) → MeetsRules schema → (j : Journaled) → machine_of j ≡ start → j.queries ≡ [] → IsWhole schema j []
+start_whole schema rules j is none = record {
+  rules = rules;
+  reached = subst (IsReached schema) (sym is) (start_reached schema);
+  kept = subst (λ (m : Machine). AreKept schema m []) (sym is) (start_kept schema);
+  pieced = subst (ArePieced schema (machine_of j)) (sym none) (no_pieces schema (machine_of j));
 }
 
 -- a step that leaves the versions
-pub whole_step : (j k : Journaled) (cs : List KeyVersions) (s : Step) (r : Reply) → IsWhole j cs → Steps (machine_of j) s r (machine_of k) → AreKept (answer (machine_of j) s).1 cs
-    → ((n : Machine) → ArePieced n j.queries → ArePieced n k.queries) → IsWhole k cs
-whole_step j k cs s r w (inl e) kept pieces = record {
-  reached = subst IsReached (sym e.1) (answer_reached (machine_of j) w.reached s);
-  kept = subst (λ (m : Machine). AreKept m cs) (sym e.1) kept;
-  pieced = pieces (machine_of k) (subst (λ (m : Machine). ArePieced m j.queries) (sym e.1) (pieced_by_step (machine_of j) w.reached j.queries refl w.pieced s));
+pub whole_step : (schema : List Table) (j k : Journaled) (cs : List KeyVersions) (s : Step) (r : Reply) → IsWhole schema j cs → Steps schema (machine_of j) s r (machine_of k) → IsOfSchema schema s → AreKept schema (answer schema (machine_of j) s).1 cs
+    → ((n : Machine) → ArePieced schema n j.queries → ArePieced schema n k.queries) → IsWhole schema k cs
+whole_step schema j k cs s r w (inl e) of kept pieces = record {
+  rules = w.rules;
+  reached = subst (IsReached schema) (sym e.1) (answer_reached schema w.rules (machine_of j) w.reached s of);
+  kept = subst (λ (m : Machine). AreKept schema m cs) (sym e.1) kept;
+  pieced = pieces (machine_of k) (subst (λ (m : Machine). ArePieced schema m j.queries) (sym e.1) (pieced_by_step schema w.rules (machine_of j) w.reached j.queries refl w.pieced s of));
 }
-whole_step j k cs s r w (inr e) kept pieces = record {
-  reached = subst IsReached (sym e.2) w.reached;
-  kept = subst (λ (m : Machine). AreKept m cs) (sym e.2) w.kept;
-  pieced = pieces (machine_of k) (subst (λ (m : Machine). ArePieced m j.queries) (sym e.2) w.pieced);
+whole_step schema j k cs s r w (inr e) of kept pieces = record {
+  rules = w.rules;
+  reached = subst (IsReached schema) (sym e.2) w.reached;
+  kept = subst (λ (m : Machine). AreKept schema m cs) (sym e.2) w.kept;
+  pieced = pieces (machine_of k) (subst (λ (m : Machine). ArePieced schema m j.queries) (sym e.2) w.pieced);
 }
 
 -- nothing has changed
-pub whole_same : (j k : Journaled) (cs ds : List KeyVersions) → IsWhole j cs → machine_of k ≡ machine_of j → k.queries ≡ j.queries → ds ≡ cs → IsWhole k ds
-whole_same j k cs ds w is queries same = record {
-  reached = subst IsReached (sym is) w.reached;
-  kept = subst (AreKept (machine_of k)) (sym same) (subst (λ (m : Machine). AreKept m cs) (sym is) w.kept);
-  pieced = subst (ArePieced (machine_of k)) (sym queries) (subst (λ (m : Machine). ArePieced m j.queries) (sym is) w.pieced);
+pub whole_same : (schema : List Table) (j k : Journaled) (cs ds : List KeyVersions) → IsWhole schema j cs → machine_of k ≡ machine_of j → k.queries ≡ j.queries → ds ≡ cs → IsWhole schema k ds
+whole_same schema j k cs ds w is queries same = record {
+  rules = w.rules;
+  reached = subst (IsReached schema) (sym is) w.reached;
+  kept = subst (AreKept schema (machine_of k)) (sym same) (subst (λ (m : Machine). AreKept schema m cs) (sym is) w.kept);
+  pieced = subst (ArePieced schema (machine_of k)) (sym queries) (subst (λ (m : Machine). ArePieced schema m j.queries) (sym is) w.pieced);
 }
 
 -- ---- pieces
 
-pub pieces_opened : {A : Type 0} (r : Result A Refusal) (ps qs : List Pieced) → OnOk r ((q : OpenQuery) × (q.covered ≡ false) × (qs ≡ ps ++ (record { query = q; rows = [] }) ∷ [])) → OnErr r (qs ≡ ps)
-    → (n : Machine) → ArePieced n ps → ArePieced n qs
-pieces_opened (Ok x) ps qs ok err n all = subst (ArePieced n) (sym ok.2) (pieced_push n ps (record { query = ok.0; rows = [] }) ok.1 all)
-pieces_opened (Err why) ps qs ok err n all = subst (ArePieced n) (sym err) all
+pub pieces_opened : (schema : List Table) → {A : Type 0} (r : Result A Refusal) (ps qs : List Pieced) → OnOk r ((q : OpenQuery) × (q.covered ≡ false) × (qs ≡ ps ++ (record { query = q; rows = [] }) ∷ [])) → OnErr r (qs ≡ ps)
+    → (n : Machine) → ArePieced schema n ps → ArePieced schema n qs
+pieces_opened schema (Ok x) ps qs ok err n all = subst (ArePieced schema n) (sym ok.2) (pieced_push schema n ps (record { query = ok.0; rows = [] }) ok.1 all)
+pieces_opened schema (Err why) ps qs ok err n all = subst (ArePieced schema n) (sym err) all
 
-pub pieces_closed : {A : Type 0} (r : Result A Refusal) (query : ℕ) (ps qs : List Pieced) → OnOk r (qs ≡ without_first (λ p. is_query query p.query) ps) → OnErr r (qs ≡ ps)
-    → (n : Machine) → ArePieced n ps → ArePieced n qs
-pieces_closed (Ok x) query ps qs ok err n all = subst (ArePieced n) (sym ok) (pieced_without n ps (λ (p : Pieced). is_query query p.query) all)
-pieces_closed (Err why) query ps qs ok err n all = subst (ArePieced n) (sym err) all
+pub pieces_closed : (schema : List Table) → {A : Type 0} (r : Result A Refusal) (query : ℕ) (ps qs : List Pieced) → OnOk r (qs ≡ without_first (λ p. is_query query p.query) ps) → OnErr r (qs ≡ ps)
+    → (n : Machine) → ArePieced schema n ps → ArePieced schema n qs
+pieces_closed schema (Ok x) query ps qs ok err n all = subst (ArePieced schema n) (sym ok) (pieced_without schema n ps (λ (p : Pieced). is_query query p.query) all)
+pieces_closed schema (Err why) query ps qs ok err n all = subst (ArePieced schema n) (sym err) all
 
 -- ---- apply
 
@@ -82,28 +92,29 @@ applied_reply : (committed : Option ℕ) (m : Machine) (owner txn slot : ℕ) (t
 applied_reply None m owner txn slot t = refl
 applied_reply (Some ts) m owner txn slot t = refl
 
-pub applied_steps : (m : Machine) (owner txn slot : ℕ) (interval : Interval) (committed : Option ℕ) (n : Machine) → IsApplied m owner txn slot interval committed n → Steps m (step.Apply owner txn slot interval) reply.Applied n
-applied_steps m owner txn slot interval committed n d =
+pub applied_steps : (schema : List Table) (m : Machine) (owner txn slot : ℕ) (interval : Interval) (committed : Option ℕ) (n : Machine) → IsApplied m owner txn slot interval committed n → Steps schema m (step.Apply owner txn slot interval) reply.Applied n
+applied_steps schema m owner txn slot interval committed n d =
     let e = apply_is m owner txn slot interval committed n d in
     inl (sym (ap (λ (a : Answer). a.0) e ∙ applied_reply committed m owner txn slot d.transaction), d.after ∙ sym (ap (λ (a : Answer). a.1) e))
 
-kept_applied : (m : Machine) (cs : List KeyVersions) (owner txn slot : ℕ) (committed : Option ℕ) (t : OpenTransaction) → IsReached m → AreKept m cs → find (is_transaction owner txn) m.transactions ≡ Some t → slot ≡ 0 → t.outcome ≡ outcome_of committed
-    → AreKept (applied_at (outcome_of committed) m owner txn slot t).1 (shard.applied txn committed cs)
-kept_applied m cs owner txn slot None t reached kept found zero is = subst (λ i. AreKept (applied_at outcome.Aborted m owner txn i t).1 (shard.applied txn None cs)) (sym zero) (kept_aborted m reached cs kept owner txn t found is)
-kept_applied m cs owner txn slot (Some ts) t reached kept found zero is = subst (λ i. AreKept (applied_at (outcome.Committed ts) m owner txn i t).1 (shard.applied txn (Some ts) cs)) (sym zero) (kept_committed m reached cs kept owner txn t found ts is)
+kept_applied : (schema : List Table) (m : Machine) (cs : List KeyVersions) (owner txn slot : ℕ) (committed : Option ℕ) (t : OpenTransaction) → IsReached schema m → AreKept schema m cs → find (is_transaction owner txn) m.transactions ≡ Some t → slot ≡ 0 → t.outcome ≡ outcome_of committed
+    → AreKept schema (applied_at (outcome_of committed) m owner txn slot t).1 (shard.applied txn committed cs)
+kept_applied schema m cs owner txn slot None t reached kept found zero is = subst (λ i. AreKept schema (applied_at outcome.Aborted m owner txn i t).1 (shard.applied txn None cs)) (sym zero) (kept_aborted schema m reached cs kept owner txn t found is)
+kept_applied schema m cs owner txn slot (Some ts) t reached kept found zero is = subst (λ i. AreKept schema (applied_at (outcome.Committed ts) m owner txn i t).1 (shard.applied txn (Some ts) cs)) (sym zero) (kept_committed schema m reached cs kept owner txn t found ts is)
 
-pub whole_applied : (j k : Journaled) (cs : List KeyVersions) (owner txn slot : ℕ) (interval : Interval) (committed : Option ℕ) → IsWhole j cs → IsApplied (machine_of j) owner txn slot interval committed (machine_of k) → k.queries ≡ j.queries
-    → IsWhole k (shard.applied txn committed cs)
-whole_applied j k cs owner txn slot interval committed w d queries =
+pub whole_applied : (schema : List Table) (j k : Journaled) (cs : List KeyVersions) (owner txn slot : ℕ) (interval : Interval) (committed : Option ℕ) → IsWhole schema j cs → IsApplied (machine_of j) owner txn slot interval committed (machine_of k) → k.queries ≡ j.queries
+    → IsWhole schema k (shard.applied txn committed cs)
+whole_applied schema j k cs owner txn slot interval committed w d queries =
     let m = machine_of j in
-    let zero = only_slot m w.reached slot d.book d.here in
-    let steps = applied_steps m owner txn slot interval committed (machine_of k) d in
+    let zero = only_slot schema m w.reached slot d.book d.here in
+    let steps = applied_steps schema m owner txn slot interval committed (machine_of k) d in
     let e = apply_is m owner txn slot interval committed (machine_of k) d in
     let is : machine_of k ≡ (apply_step m owner txn slot interval).1 = d.after ∙ sym (ap (λ (a : Answer). a.1) e) in
     record {
-      reached = subst IsReached (sym is) (answer_reached m w.reached (step.Apply owner txn slot interval));
-      kept = subst (λ (n : Machine). AreKept n (shard.applied txn committed cs)) (sym d.after) (kept_applied m cs owner txn slot committed d.transaction w.reached w.kept d.found zero d.outcome);
-      pieced = subst (ArePieced (machine_of k)) (sym queries) (subst (λ (n : Machine). ArePieced n j.queries) (sym is) (pieced_by_step m w.reached j.queries refl w.pieced (step.Apply owner txn slot interval)));
+      rules = w.rules;
+      reached = subst (IsReached schema) (sym is) (answer_reached schema w.rules m w.reached (step.Apply owner txn slot interval) tt);
+      kept = subst (λ (n : Machine). AreKept schema n (shard.applied txn committed cs)) (sym d.after) (kept_applied schema m cs owner txn slot committed d.transaction w.reached w.kept d.found zero d.outcome);
+      pieced = subst (ArePieced schema (machine_of k)) (sym queries) (subst (λ (n : Machine). ArePieced schema n j.queries) (sym is) (pieced_by_step schema w.rules m w.reached j.queries refl w.pieced (step.Apply owner txn slot interval) tt));
     }
 
 -- ---- scan
@@ -129,13 +140,13 @@ scan_is m query leaf slot interval s d =
 some_same : {A : Type 0} (x y : A) → Some x ≡ Some y → x ≡ y
 some_same x y e = cc
 
--- a piece that may be read and is registered is the scan
-pub scanned_whole : (j k : Journaled) (cs : List KeyVersions) (query leaf slot : ℕ) (interval : Interval) (s : ℕ) → IsWhole j cs → MayScan (machine_of j) query leaf slot interval s
-    → IsRegistered j query slot interval (snapshot (record { low = None; high = None }) s cs) k → IsWhole k cs × Steps (machine_of j) (step.Scan query leaf slot interval) reply.Scanned (machine_of k)
-scanned_whole j k cs query leaf slot interval s w d g =
+-- a piece that may be read and is registered is the scan: what was read of the family of the query's table covers it
+pub scanned_whole : (schema : List Table) (j k : Journaled) (cs : List KeyVersions) (query leaf slot : ℕ) (interval : Interval) (s n : ℕ) (shown : List (List Value)) → IsWhole schema j cs → (d : MayScan (machine_of j) query leaf slot interval s)
+    → table_asked schema d.question.text ≡ Ok n → IsReading schema n (snapshot (family (root_of schema n)) s cs) shown
+    → IsRegistered j query slot interval shown k → IsWhole schema k cs × Steps schema (machine_of j) (step.Scan query leaf slot interval) reply.Scanned (machine_of k)
+scanned_whole schema j k cs query leaf slot interval s n shown w d asked reading g =
     let m = machine_of j in
-    let rows = snapshot (record { low = None; high = None }) s cs in
-    let ps = changed_first (λ (p : Pieced). is_query query p.query) (covered_by rows) j.queries in
+    let ps = changed_first (λ (p : Pieced). is_query query p.query) (covered_by shown) j.queries in
     let same : g.question.query ≡ d.question = some_same _ _ (sym (found_query query j.queries g.question g.found) ∙ d.found) in
     let book_same : g.book ≡ d.book = some_same _ _ (sym g.here ∙ d.here) in
     let risen_same : risen g.book g.question.query.s interval ≡ risen d.book d.question.s interval =
@@ -144,17 +155,19 @@ scanned_whole j k cs query leaf slot interval s w d g =
     let is : machine_of k ≡ (scan m query leaf slot interval).1 =
     ap machine_of g.after
     ∙ ap (λ (b : Book). machine_of (record j { books = (with_book m slot b).books; queries = ps })) risen_same
-    ∙ ap (λ (qs : List OpenQuery). record (with_book m slot (risen d.book d.question.s interval)) { queries = qs }) (sym (covered-queries (is_query query) rows j.queries))
+    ∙ ap (λ (qs : List OpenQuery). record (with_book m slot (risen d.book d.question.s interval)) { queries = qs }) (sym (covered-queries (is_query query) shown j.queries))
     ∙ sym (ap (λ (a : Answer). a.1) (scan_is m query leaf slot interval s d)) in
-    let zero = only_slot m w.reached slot d.book d.here in
+    let zero = only_slot schema m w.reached slot d.book d.here in
     let safe : is_safe m 0 (risen d.book d.question.s interval) g.question.query.s ≡ true =
     ap (λ (q : OpenQuery). is_safe m 0 (risen d.book d.question.s interval) q.s) same ∙ subst (λ i. is_safe m i (risen d.book d.question.s interval) d.question.s ≡ true) zero d.safe in
-    let covered = pieced_scanned m cs j.queries w.reached w.kept w.pieced query g.question (risen d.book d.question.s interval) g.found safe in
-    let pieced : ArePieced m ps = subst (λ n. ArePieced m (changed_first (λ (p : Pieced). is_query query p.query) (covered_by (snapshot (record { low = None; high = None }) n cs)) j.queries)) (sym read_at) covered in (
+    let asked_there : table_asked schema g.question.query.text ≡ Ok n = ap (λ (q : OpenQuery). table_asked schema q.text) same ∙ asked in
+    let reading_there : IsReading schema n (snapshot (family (root_of schema n)) g.question.query.s cs) shown = subst (λ i. IsReading schema n (snapshot (family (root_of schema n)) i cs) shown) read_at reading in
+    let pieced = pieced_scanned schema w.rules m cs j.queries w.reached w.kept w.pieced query g.question (risen d.book d.question.s interval) g.found safe n asked_there shown reading_there in (
       record {
-        reached = subst IsReached (sym is) (answer_reached m w.reached (step.Scan query leaf slot interval));
-        kept = subst (λ (n : Machine). AreKept n cs) (sym is) (kept_scan m w.reached cs w.kept query leaf slot interval);
-        pieced = subst (λ (l : Journaled). ArePieced (machine_of l) l.queries) (sym g.after) pieced;
+        rules = w.rules;
+        reached = subst (IsReached schema) (sym is) (answer_reached schema w.rules m w.reached (step.Scan query leaf slot interval) tt);
+        kept = subst (λ (n : Machine). AreKept schema n cs) (sym is) (kept_scan schema m w.reached cs w.kept query leaf slot interval);
+        pieced = subst (λ (l : Journaled). ArePieced schema (machine_of l) l.queries) (sym g.after) pieced;
       },
       inl (sym (ap (λ (a : Answer). a.0) (scan_is m query leaf slot interval s d)), is),
     )
@@ -172,15 +185,42 @@ registers j query leaf slot interval s why d (inr (inr g)) =
 
 -- ---- finish
 
-abbrev answers : Machine → OpenQuery → Answer
-answers m q = (answer_on q.s (meaning m q), m)
+abbrev answers : List Table → Machine → OpenQuery → Answer
+answers schema m q = (answer_on q.s (meaning schema m q), m)
 
 -- the rows of the piece are the answer
-pub finished : (j : Journaled) (cs : List KeyVersions) (query s : ℕ) (rows : List (List Value)) → IsWhole j cs → IsPiece j query s rows → Steps (machine_of j) (step.Finish query) (reply.Rows s rows) (machine_of j)
-finished j cs query s rows w p =
+pub finished : (schema : List Table) (j : Journaled) (cs : List KeyVersions) (query s : ℕ) (rows : List (List Value)) → IsWhole schema j cs → IsPiece j query s rows → Steps schema (machine_of j) (step.Finish query) (reply.Rows s rows) (machine_of j)
+finished schema j cs query s rows w p =
     let m = machine_of j in
-    let right : (answer m (step.Finish query)).0 ≡ reply.Rows p.question.query.s p.question.rows = pieced_finish m w.reached j.queries refl w.pieced query p.question p.found p.covered in
-    let leaves : (answer m (step.Finish query)).1 ≡ m =
-    ap (λ (a : Answer). a.1) (ap (λ (o : Option OpenQuery). if_some o (refused m refusal.UnknownQuery) (finish_found m)) (found_query query j.queries p.question p.found))
-    ∙ ap (λ b. (cond b (answers m p.question.query) (refused m refusal.Incomplete)).1) p.covered in
+    let right : (answer schema m (step.Finish query)).0 ≡ reply.Rows p.question.query.s p.question.rows = pieced_finish schema w.rules m w.reached j.queries refl w.pieced query p.question p.found p.covered in
+    let leaves : (answer schema m (step.Finish query)).1 ≡ m =
+    ap (λ (a : Answer). a.1) (ap (λ (o : Option OpenQuery). if_some o (refused m refusal.UnknownQuery) (finish_found schema m)) (found_query query j.queries p.question p.found))
+    ∙ ap (λ b. (cond b (answers schema m p.question.query) (refused m refusal.Incomplete)).1) p.covered in
     inl (ap (λ n. reply.Rows n rows) p.at ∙ ap (reply.Rows p.question.query.s) p.rows_are ∙ sym right, sym leaves)
+
+-- what was read of the family of the query's table, and is registered, is the scan
+pub scanned_read : (schema : List Table) (j k : Journaled) (cs : List KeyVersions) (query leaf slot : ℕ) (interval : Interval) (s : ℕ) (shown : List (List Value)) → IsWhole schema j cs → (d : MayScan (machine_of j) query leaf slot interval s)
+    → (r : IsRead schema (machine_of j) cs query s shown) → IsRegistered j query slot interval shown k → IsWhole schema k cs × Steps schema (machine_of j) (step.Scan query leaf slot interval) reply.Scanned (machine_of k)
+scanned_read schema j k cs query leaf slot interval s shown w d r g =
+    let same : r.asked.question ≡ d.question = some_same _ _ (sym r.asked.found ∙ d.found) in
+    scanned_whole schema j k cs query leaf slot interval s r.table shown w d (ap (λ (q : OpenQuery). table_asked schema q.text) (sym same) ∙ r.asked.asked) r.reading g
+
+-- a query that may be scanned is open, and asks for a table
+asked_one : (schema : List Table) (m : Machine) (query leaf slot : ℕ) (interval : Interval) (s : ℕ) (why : Refusal) → MeetsRules schema → IsReached schema m → MayScan m query leaf slot interval s → IsUnasked schema m query why → ⊥
+asked_one schema m query leaf slot interval s why rules reached d (inl none) = let f = d.found in cc
+asked_one schema m query leaf slot interval s why rules reached d (inr (q, found, refused)) =
+    let meant = reached_meaning schema rules m query q reached found in
+    let asked = meant.2 in cc
+
+-- where a query may be scanned, only memory can lack
+pub reads : (schema : List Table) (j : Journaled) (cs : List KeyVersions) (query leaf slot : ℕ) (interval : Interval) (s : ℕ) (why : Refusal) → IsWhole schema j cs → (d : MayScan (machine_of j) query leaf slot interval s) → IsUnread schema (machine_of j) cs query s why
+    → why ≡ refusal.OutOfMemory
+reads schema j cs query leaf slot interval s why w d (inl memory) = memory
+reads schema j cs query leaf slot interval s why w d (inr (inl unasked)) = absurd (asked_one schema (machine_of j) query leaf slot interval s why w.rules w.reached d unasked)
+reads schema j cs query leaf slot interval s why w d (inr (inr (n, asked, none))) =
+    let m = machine_of j in
+    let zero = only_slot schema m w.reached slot d.book d.here in
+    let safe : is_safe m 0 (risen d.book d.question.s interval) d.question.s ≡ true = subst (λ i. is_safe m i (risen d.book d.question.s interval) d.question.s ≡ true) zero d.safe in
+    let made = reached_tables schema w.rules m d.question.s w.reached in
+    let seen = snapshot_when_safe schema w.rules m cs d.question.s (risen d.book d.question.s interval) w.reached w.kept safe made.0 made.1 n in
+    absurd (none seen.rows seen.typed (ap (λ i. snapshot (family (root_of schema n)) i cs) d.at ∙ seen.entries_are))

@@ -1,18 +1,20 @@
 //! The core and its steps.
 ghost use Rattle.std.specs.Prelude.{◌≡◌, IfOk, IfErr};
 ghost use Rattle.span_machine.specs.Machine.{Steps, start};
+ghost use Rattle.span_machine.specs.Run.{IsOfSchema};
+ghost use Rattle.span_mutate.specs.Typed.{AreTypedMutations};
 ghost use Rattle.span_machine.specs.declared.step.Step.TheVariants as step_of;
 ghost use Rattle.span_machine.specs.declared.step.Reply.TheVariants as reply_of;
 ghost use Rattle.span_journal.specs.Judged.{replied};
 
+use super::reading::read;
 use super::rows::copies_of;
 use span_journal::journal::Journal;
 use span_machine::query::Params;
 use span_machine::step::{Reply, Step, Verdict};
-use span_shard::range::KeyRange;
-use span_shard::schema::Schema;
+use span_mutate::transaction::Transaction;
+use span_schema::schema::Schema;
 use span_shard::shard::Shard;
-use span_shard::transaction::Transaction;
 use span_truetime::bound::Bound;
 use span_truetime::interval::Interval;
 use span_value::refusal::Refusal;
@@ -20,8 +22,8 @@ use span_value::text::Text;
 use std::alloc::Global;
 use std::marker::Model;
 
-/// A database in memory. Contracts see it as the machine; that the versions in its shard are those of the machine's commits is its
-/// invariant.
+/// A database in memory. Contracts see it as its schema and the machine; that the versions in its shard are those of the machine's
+/// commits is its invariant.
 #[derive(Debug, Drop)]
 pub struct Core {
     schema: Schema,
@@ -30,25 +32,26 @@ pub struct Core {
 }
 
 impl Model for Core {
-    ghost use Rattle.span_machine.specs.Machine.{Machine};
+    ghost use Rattle.span_core.specs.Whole.{State};
 
-    ghost Value = { Machine };
+    ghost Value = { State };
 
     ghost use Rattle.span_machine.specs.Pieces.{machine_of};
 
-    ghost view = { λ a. machine_of a.journal };
+    ghost view = { λ a. record { schema = a.schema; machine = machine_of a.journal } };
 
     ghost use Rattle.span_core.specs.Whole.{IsWhole};
 
-    ghost invariant = { λ a. IsWhole a.journal a.shard };
+    ghost invariant = { λ a. IsWhole a.schema a.journal a.shard };
 }
 
 impl Core {
     /// An empty database. `OutOfMemory` is the only refusal.
     pub fn new(alloc: Global, schema: Schema) -> Result<Core, Refusal>
-        ensures start { IfOk result (λ core. core ≡ start) }
+        ensures start { IfOk result (λ core. core ≡ record { schema = schema; machine = start }) }
         ensures memory { IfErr result (λ why. why ≡ Refusal.OutOfMemory) }
     {
+        let _tables = schema.tables();
         Ok(Core {
             schema,
             journal: Journal::new(alloc)?,
@@ -56,10 +59,19 @@ impl Core {
         })
     }
 
+    /// The schema of the database's tables.
+    pub fn schema(&self) -> &Schema
+        ensures { result.now ≡ self.now.schema }
+    {
+        &self.schema
+    }
+
     /// Takes one step, and answers the machine's reply. `Refused(OutOfMemory)` may stand in its place for a step that may take memory,
-    /// and then nothing has changed.
+    /// and then nothing has changed. A transaction that is begun was checked against the database's schema.
     pub fn step(&mut self, alloc: Global, step: Step) -> Reply
-        ensures { Steps self.old step result self.new }
+        requires { IsOfSchema self.old.schema step }
+        ensures steps { Steps self.old.schema self.old.machine step result self.new.machine }
+        ensures schema { self.new.schema ≡ self.old.schema }
     {
         match step {
             Step::Begin { owner, transaction } => self.begin(alloc, owner, transaction),
@@ -95,7 +107,9 @@ impl Core {
     }
 
     fn begin(&mut self, alloc: Global, owner: u64, transaction: Transaction) -> Reply
-        ensures { Steps self.old (step_of.Begin owner transaction) result self.new }
+        requires { AreTypedMutations self.old.schema transaction }
+        ensures steps { Steps self.old.schema self.old.machine (step_of.Begin owner transaction) result self.new.machine }
+        ensures schema { self.new.schema ≡ self.old.schema }
     {
         match self.journal.begin(alloc, owner, transaction) {
             Ok(number) => Reply::Began(number),
@@ -104,7 +118,8 @@ impl Core {
     }
 
     fn prepare(&mut self, alloc: Global, owner: u64, txn: u64, slot: usize) -> Reply
-        ensures { Steps self.old (step_of.Prepare owner txn slot) result self.new }
+        ensures steps { Steps self.old.schema self.old.machine (step_of.Prepare owner txn slot) result self.new.machine }
+        ensures schema { self.new.schema ≡ self.old.schema }
     {
         match self.try_prepare(alloc, owner, txn, slot) {
             Ok(timestamp) => Reply::Prepared(timestamp),
@@ -119,10 +134,11 @@ impl Core {
         txn: u64,
         slot: usize,
     ) -> Result<u64, Refusal>
-        ensures { Steps self.old (step_of.Prepare owner txn slot) (replied reply_of.Prepared result) self.new }
+        ensures steps { Steps self.old.schema self.old.machine (step_of.Prepare owner txn slot) (replied reply_of.Prepared result) self.new.machine }
+        ensures schema { self.new.schema ≡ self.old.schema }
     {
-        match self.journal.judge_prepare(owner, txn, slot) {
-            Ok(mutations) => match self.shard.prepare(alloc, txn, mutations) {
+        match self.journal.judge_prepare(&self.schema, owner, txn, slot) {
+            Ok(mutations) => match self.shard.prepare(alloc, &self.schema, txn, mutations) {
                 Ok(()) => match self.journal.note_prepared(owner, txn, slot) {
                     Ok(timestamp) => Ok(timestamp),
                     Err(why) => {
@@ -144,9 +160,13 @@ impl Core {
         verdict: Verdict,
         interval: Interval,
     ) -> Reply
-        ensures { Steps self.old (step_of.Decide owner txn verdict interval) result self.new }
+        ensures steps { Steps self.old.schema self.old.machine (step_of.Decide owner txn verdict interval) result self.new.machine }
+        ensures schema { self.new.schema ≡ self.old.schema }
     {
-        match self.journal.decide(alloc, owner, txn, verdict, interval) {
+        match self
+            .journal
+            .decide(alloc, &self.schema, owner, txn, verdict, interval)
+        {
             Ok(Some(timestamp)) => Reply::Decided(timestamp),
             Ok(None) => Reply::Aborted,
             Err(why) => Reply::Refused(why),
@@ -161,7 +181,8 @@ impl Core {
         slot: usize,
         interval: Interval,
     ) -> Reply
-        ensures { Steps self.old (step_of.Apply owner txn slot interval) result self.new }
+        ensures steps { Steps self.old.schema self.old.machine (step_of.Apply owner txn slot interval) result self.new.machine }
+        ensures schema { self.new.schema ≡ self.old.schema }
     {
         match self.journal.note_applied(alloc, owner, txn, slot, interval) {
             Ok(committed) => {
@@ -173,7 +194,8 @@ impl Core {
     }
 
     fn advance(&mut self, slot: usize, interval: Interval) -> Reply
-        ensures { Steps self.old (step_of.Advance slot interval) result self.new }
+        ensures steps { Steps self.old.schema self.old.machine (step_of.Advance slot interval) result self.new.machine }
+        ensures schema { self.new.schema ≡ self.old.schema }
     {
         match self.journal.advance(slot, interval) {
             Ok(floor) => Reply::Floor(floor),
@@ -189,9 +211,13 @@ impl Core {
         bound: Bound,
         interval: Interval,
     ) -> Reply
-        ensures { Steps self.old (step_of.Open text params bound interval) result self.new }
+        ensures steps { Steps self.old.schema self.old.machine (step_of.Open text params bound interval) result self.new.machine }
+        ensures schema { self.new.schema ≡ self.old.schema }
     {
-        match self.journal.open(alloc, text, params, bound, interval) {
+        match self
+            .journal
+            .open(alloc, &self.schema, text, params, bound, interval)
+        {
             Ok((query, s)) => Reply::Opened {
                 query,
                 s,
@@ -209,10 +235,11 @@ impl Core {
         slot: usize,
         interval: Interval,
     ) -> Reply
-        ensures { Steps self.old (step_of.Scan query leaf slot interval) result self.new }
+        ensures steps { Steps self.old.schema self.old.machine (step_of.Scan query leaf slot interval) result self.new.machine }
+        ensures schema { self.new.schema ≡ self.old.schema }
     {
         match self.journal.claim_gap(query, leaf, slot, interval) {
-            Ok(Some(s)) => match self.shard.snapshot(alloc, KeyRange::ALL, s) {
+            Ok(Some(s)) => match read(alloc, &self.schema, &self.journal, &self.shard, query, s) {
                 Ok(rows) => match self.journal.register(query, slot, interval, rows) {
                     Ok(()) => Reply::Scanned,
                     Err(why) => Reply::Refused(why),
@@ -225,7 +252,8 @@ impl Core {
     }
 
     fn finish(&mut self, alloc: Global, query: u64) -> Reply
-        ensures { Steps self.old (step_of.Finish query) result self.new }
+        ensures steps { Steps self.old.schema self.old.machine (step_of.Finish query) result self.new.machine }
+        ensures schema { self.new.schema ≡ self.old.schema }
     {
         match self.journal.piece(query) {
             Ok((s, rows)) => match copies_of(alloc, rows) {
@@ -237,7 +265,8 @@ impl Core {
     }
 
     fn close(&mut self, query: u64) -> Reply
-        ensures { Steps self.old (step_of.Close query) result self.new }
+        ensures steps { Steps self.old.schema self.old.machine (step_of.Close query) result self.new.machine }
+        ensures schema { self.new.schema ≡ self.old.schema }
     {
         match self.journal.close(query) {
             Ok(()) => Reply::Closed,

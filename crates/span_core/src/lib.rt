@@ -5,6 +5,7 @@
 #![tactic(auto)]
 
 pub mod database;
+mod reading;
 mod rows;
 pub mod run;
 #[cfg(test)]
@@ -12,12 +13,13 @@ mod tests;
 
 pub use span_machine::query::Params;
 pub use span_machine::step::{Reply, Step, Verdict};
-pub use span_shard::mutation::{Cell, CheckedMutation, Mutation, MutationKind};
-pub use span_shard::schema::{Schema, Table};
-pub use span_shard::transaction::Transaction;
+pub use span_mutate::mutation::{Cell, CheckedMutation, Mutation, MutationKind};
+pub use span_mutate::transaction::Transaction;
+pub use span_schema::schema::Schema;
+pub use span_schema::table::{Column, KeyColumn, Parent, Table};
 pub use span_truetime::bound::Bound;
 pub use span_truetime::interval::Interval;
 pub use span_value::refusal::Refusal;
 pub use span_value::seq::Seq;
 pub use span_value::text::Text;
-pub use span_value::value::{Row, Value};
+pub use span_value::value::{ColumnType, Kind, Row, Value};

@@ -1,21 +1,24 @@
 //! Whole runs.
 ghost use Rattle.std.specs.Prelude.{◌≡◌, IfOk, IfErr};
-ghost use Rattle.span_machine.specs.Run.{IsHistory};
+ghost use Rattle.span_machine.specs.Run.{AreOfSchema, IsHistory};
 
 use super::database::Core;
 use span_machine::step::{Reply, Step};
-use span_shard::schema::Schema;
+use span_schema::schema::Schema;
 use span_value::refusal::Refusal;
 use std::alloc::Global;
 
 /// The replies to the steps, in order, from an empty database. Whatever the steps are, in whatever order prepares, decisions, applies
 /// and scans fall: every reply is the machine's, and a query that is answered at timestamp s gets exactly the rows, in order, that
 /// its text means on the tables made by running, in the order of their timestamps, every transaction that the whole list commits at s
-/// or earlier. `OutOfMemory`, before the first step, is the only refusal.
+/// or earlier. The transactions that are begun were checked against the schema. `OutOfMemory`, before the first step, is the only
+/// refusal.
 pub fn run(alloc: Global, schema: Schema, steps: Vec<Step>) -> Result<Vec<Reply>, Refusal>
-    ensures history { IfOk result (λ replies. IsHistory steps.items replies.items) }
+    requires { AreOfSchema schema steps.items }
+    ensures history { IfOk result (λ replies. IsHistory schema steps.items replies.items) }
     ensures memory { IfErr result (λ why. why ≡ Refusal.OutOfMemory) }
 {
+    let _tables = schema.tables();
     let mut core = Core::new(alloc, schema)?;
     let mut replies = Vec::with_capacity(alloc, steps.len())?;
     for step in steps {

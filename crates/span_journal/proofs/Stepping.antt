@@ -1,15 +1,18 @@
-use Rattle.std.proofs.Common.{◌≡◌, ℕ, ◌<◌, ◌^◌, ◌==◌, cond, subst, length, true, false, List, Option, Some, None, refl, ap, sym, ◌∙◌}
-use Rattle.std.specs.Prelude.{find, option_map, slice_get, slice_set, remove}
+use Rattle.std.proofs.Common.{◌≡◌, ℕ, ◌<◌, ◌^◌, ◌==◌, cond, subst, length, true, false, List, Option, Some, None, Result, Ok, Err, refl, ap, sym, ◌∙◌, inr}
+use Rattle.std.specs.Prelude.{IfOk, IfErr, find, option_map, slice_get, slice_set, remove}
 use Rattle.span_truetime.specs.declared.interval.Interval.{Interval}
+use Rattle.span_schema.specs.declared.table.Table.{Table}
 use Rattle.span_machine.specs.declared.slot.Book.{Book}
 use Rattle.span_machine.specs.declared.transaction.OpenTransaction.{OpenTransaction}
+use Rattle.span_machine.specs.Meaning.{table_asked}
 use Rattle.span_machine.specs.Place.{IsPlace}
-use Rattle.span_journal.specs.Judged.{IsNoted, IsApplied, MayScan, outcome_of}
+use Rattle.span_journal.specs.Judged.{IsNoted, IsApplied, MayScan, IsAskedBy, IsUnasked, outcome_of}
 use Rattle.span_journal.proofs.Preparing.{a_stamp}
+use Rattle.span_value.specs.declared.refusal.Refusal.{Refusal}
 use Rattle.span_value.specs.declared.refusal.Refusal.TheVariants as refusal
 use Rattle.span_machine.specs.declared.query.OpenQuery.{OpenQuery}
 use Rattle.span_machine.specs.declared.step.Reply.TheVariants as reply
-use Rattle.span_machine.specs.Machine.{refused, if_some, is_query, is_transaction, without_first, closed, close, add_prepared, without_prepared, prepare_timestamp, with_last, apply_refusal, applied, applied_at, scan, scan_found, scan_at, scanned, is_safe, risen, with_book, changed_first, cover, finish, finish_found, for_slot}
+use Rattle.span_machine.specs.Machine.{Machine, refused, if_some, is_query, is_transaction, without_first, closed, close, add_prepared, without_prepared, prepare_timestamp, with_last, apply_refusal, applied, applied_at, scan, scan_found, scan_at, scanned, is_safe, risen, with_book, changed_first, cover, finish, finish_found, for_slot}
 use Rattle.span_machine.specs.Pieces.{Pieced, Journaled, machine_of, queries_of}
 use Rattle.span_machine.proofs.PiecedLists.{find-map, without_first-map}
 
@@ -123,8 +126,17 @@ module _ (j : Journaled) (query leaf slot : ℕ) (interval : Interval) (p : Piec
   }
 
 -- a query that is not there has no answer
-pub finish_none : (j : Journaled) (query : ℕ) → find (λ p. is_query query p.query) j.queries ≡ None → finish (machine_of j) query ≡ refused (machine_of j) refusal.UnknownQuery
-finish_none j query e = ap (λ (o : Option OpenQuery). if_some o (refused (machine_of j) refusal.UnknownQuery) (finish_found (machine_of j))) (found_query j.queries query None e)
+pub finish_none : (schema : List Table) (j : Journaled) (query : ℕ) → find (λ p. is_query query p.query) j.queries ≡ None → finish schema (machine_of j) query ≡ refused (machine_of j) refusal.UnknownQuery
+finish_none schema j query e = ap (λ (o : Option OpenQuery). if_some o (refused (machine_of j) refusal.UnknownQuery) (finish_found schema (machine_of j))) (found_query j.queries query None e)
 
-pub finish_some : (j : Journaled) (query : ℕ) (p : Pieced) → find (λ p. is_query query p.query) j.queries ≡ Some p → finish (machine_of j) query ≡ finish_found (machine_of j) p.query
-finish_some j query p e = ap (λ (o : Option OpenQuery). if_some o (refused (machine_of j) refusal.UnknownQuery) (finish_found (machine_of j))) (found_query j.queries query (Some p) e)
+pub finish_some : (schema : List Table) (j : Journaled) (query : ℕ) (p : Pieced) → find (λ p. is_query query p.query) j.queries ≡ Some p → finish schema (machine_of j) query ≡ finish_found schema (machine_of j) p.query
+finish_some schema j query p e = ap (λ (o : Option OpenQuery). if_some o (refused (machine_of j) refusal.UnknownQuery) (finish_found schema (machine_of j))) (found_query j.queries query (Some p) e)
+
+-- the table that an open query asks for
+pub asked_by : (schema : List Table) (m : Machine) (query : ℕ) (q : OpenQuery) (text : List ℕ) → find (is_query query) m.queries ≡ Some q → text ≡ q.text → (r : Result ℕ Refusal) → r ≡ table_asked schema text → IfOk r (λ n. IsAskedBy schema m query n)
+asked_by schema m query q text found same (Ok n) e = record { question = q; found = found; asked = ap (table_asked schema) (sym same) ∙ sym e }
+asked_by schema m query q text found same (Err why) e = tt
+
+pub unasked_by : (schema : List Table) (m : Machine) (query : ℕ) (q : OpenQuery) (text : List ℕ) → find (is_query query) m.queries ≡ Some q → text ≡ q.text → (r : Result ℕ Refusal) → r ≡ table_asked schema text → IfErr r (λ why. IsUnasked schema m query why)
+unasked_by schema m query q text found same (Ok n) e = tt
+unasked_by schema m query q text found same (Err why) e = inr (q, found, ap (table_asked schema) (sym same) ∙ sym e)

@@ -2,7 +2,8 @@ use Rattle.std.specs.Prelude.{◌≡◌, ◌≢◌, ℕ, false, true, nat_le, Li
 use Rattle.span_value.specs.declared.value.Value.{Value}
 use Rattle.span_value.specs.declared.refusal.Refusal.{Refusal}
 use Rattle.span_value.specs.declared.refusal.Refusal.TheVariants.{OutOfMemory, TimestampRange, UnknownQuery, NoSlot, Incomplete}
-use Rattle.span_shard.specs.declared.mutation.CheckedMutation.{CheckedMutation}
+use Rattle.span_schema.specs.declared.table.Table.{Table}
+use Rattle.span_mutate.specs.declared.mutation.CheckedMutation.{CheckedMutation}
 use Rattle.span_truetime.specs.declared.interval.Interval.{Interval}
 use Rattle.span_truetime.specs.Time.{timestamp_end}
 use Rattle.span_machine.specs.declared.step.Reply.{Reply}
@@ -13,6 +14,7 @@ use Rattle.span_machine.specs.declared.transaction.OpenTransaction.{OpenTransact
 use Rattle.span_machine.specs.declared.transaction.Outcome.{Outcome}
 use Rattle.span_machine.specs.declared.transaction.Outcome.TheVariants as outcome
 use Rattle.span_machine.specs.Machine.{Machine, first_cause, is_transaction, is_query, mutations_in, prepare_refusal, prepare_timestamp, prepared, apply_refusal, applied_at, changed_first, cover, is_safe, risen, scan, with_book}
+use Rattle.span_machine.specs.Meaning.{table_asked}
 use Rattle.span_machine.specs.Pieces.{Pieced, Journaled, machine_of}
 
 -- the reply that a call's result stands for
@@ -31,13 +33,13 @@ outcome_of None = outcome.Aborted
 outcome_of (Some ts) = outcome.Committed ts
 
 -- nothing but its mutations keeps the transaction from being prepared at the slot
-pub record MayPrepare (m : Machine) (owner txn slot : ℕ) (ms : List CheckedMutation) : Type 0 where
+pub record MayPrepare (schema : List Table) (m : Machine) (owner txn slot : ℕ) (ms : List CheckedMutation) : Type 0 where
   pub transaction : OpenTransaction
   pub book : Book
   pub found : find (is_transaction owner txn) m.transactions ≡ Some transaction
   pub here : slice_get m.books slot ≡ Some book
-  pub accepted : prepare_refusal m slot transaction book ≡ None
-  pub mutations : ms ≡ mutations_in book transaction.mutations
+  pub accepted : prepare_refusal schema m slot transaction book ≡ None
+  pub mutations : ms ≡ mutations_in schema book transaction.mutations
 
 -- the refusal for want of timestamps, if there is no prepare timestamp left
 abbrev pub stamp_refusal : Book → Option Refusal
@@ -110,3 +112,13 @@ IsUnregistered j query slot why =
     ((find (λ p. is_query query p.query) j.queries ≡ None) × (why ≡ UnknownQuery))
     ⊎ (((p : Pieced) × (find (λ p. is_query query p.query) j.queries ≡ Some p) × (slice_get j.books slot ≡ None) × (why ≡ NoSlot))
     ⊎ ((p : Pieced) × (find (λ p. is_query query p.query) j.queries ≡ Some p) × (slice_get j.books slot ≢ None) × (p.query.covered ≡ true) × (why ≡ Incomplete)))
+
+-- the open query asks for the table
+pub record IsAskedBy (schema : List Table) (m : Machine) (query n : ℕ) : Type 0 where
+  pub question : OpenQuery
+  pub found : find (is_query query) m.queries ≡ Some question
+  pub asked : table_asked schema question.text ≡ Ok n
+
+-- why there is no table: no such query, or a text that asks for none
+abbrev pub IsUnasked : List Table → Machine → ℕ → Refusal → Type 0
+IsUnasked schema m query why = (find (is_query query) m.queries ≡ None) ⊎ ((q : OpenQuery) × (find (is_query query) m.queries ≡ Some q) × (table_asked schema q.text ≡ Err why))

@@ -1,13 +1,14 @@
 //! The journal and its calls.
-ghost use Rattle.std.specs.Prelude.{◌≡◌, ℕ, ◌<◌, ◌+◌, ◌^◌, [], ◌∷◌, ◌++◌, length, count_by, IfOk, IfErr, OnOk, OnErr, Some, None, true, false};
+ghost use Rattle.std.specs.Prelude.{◌≡◌, ℕ, List, ◌<◌, ◌+◌, ◌^◌, [], ◌∷◌, ◌++◌, length, count_by, IfOk, IfErr, OnOk, OnErr, Some, None, true, false};
 ghost use Rattle.span_machine.specs.Machine.{Steps, start, is_undecided, is_query, commit_refusal, commit_timestamp, prepare, apply_step, scan, finish, open_refusal, begun, refused, without_first};
 ghost use Rattle.span_truetime.specs.Time.{timestamp_of};
-ghost use Rattle.span_machine.specs.Meaning.{is_understood};
+ghost use Rattle.span_schema.specs.declared.table.Table.{Table};
 ghost use Rattle.span_machine.specs.Pieces.{machine_of};
 ghost use Rattle.span_machine.specs.declared.step.Step.TheVariants as step_of;
 ghost use Rattle.span_machine.specs.declared.step.Reply.TheVariants as reply_of;
 ghost use Rattle.span_machine.specs.declared.query.OpenQuery.{OpenQuery};
-ghost use Rattle.span_journal.specs.Judged.{replied, decided, MayPrepare, IsNoted, IsUnnoted, IsApplied, IsGap, IsRegistered, IsUnregistered, IsPiece};
+ghost use Rattle.span_journal.specs.Judged.{replied, decided, MayPrepare, IsNoted, IsUnnoted, IsApplied, IsGap, IsRegistered, IsUnregistered, IsPiece, IsAskedBy, IsUnasked};
+ghost use Rattle.span_schema.specs.Numbers.{IsTable};
 
 use super::queries::{cover_at, find_query};
 use super::query::KeptQuery;
@@ -15,6 +16,7 @@ use super::slots::{
     book_at, coordinator_slot, decision, is_ready, is_safe_at, prepare_timestamp, raise_last,
     risen_floor, set_floor, set_last,
 };
+use super::text::table_asked;
 use super::transaction::KeptTransaction;
 use super::transactions::{
     abort_at, commit_at, copies_of, count_undecided, end_at, find_transaction, has_conflict,
@@ -24,8 +26,9 @@ use span_machine::query::{OpenQuery, Params};
 use span_machine::slot::Book;
 use span_machine::step::Verdict;
 use span_machine::transaction::{Commit, OpenTransaction, Outcome, Prepared};
-use span_shard::mutation::CheckedMutation;
-use span_shard::transaction::Transaction;
+use span_mutate::mutation::CheckedMutation;
+use span_mutate::transaction::Transaction;
+use span_schema::schema::Schema;
 use span_truetime::bound::{Bound, choose};
 use span_truetime::interval::{Interval, TIMESTAMP_END};
 use span_value::refusal::Refusal;
@@ -107,7 +110,7 @@ impl Journal {
         owner: u64,
         transaction: Transaction,
     ) -> Result<u64, Refusal>
-        ensures step { Steps (machine_of self.old) (step_of.Begin owner transaction) (replied reply_of.Began result) (machine_of self.new) }
+        ensures step { (schema : List Table) → Steps schema (machine_of self.old) (step_of.Begin owner transaction) (replied reply_of.Began result) (machine_of self.new) }
         ensures pieces { self.new.queries ≡ self.old.queries }
     {
         if self.transactions.len() >= MOST_TRANSACTIONS || self.next_transaction >= NUMBER_END {
@@ -156,18 +159,19 @@ impl Journal {
     pub fn decide(
         &mut self,
         alloc: Global,
+        schema: &Schema,
         owner: u64,
         txn: u64,
         verdict: Verdict,
         interval: Interval,
     ) -> Result<Option<u64>, Refusal>
-        ensures step { Steps (machine_of self.old) (step_of.Decide owner txn verdict interval) (replied decided result) (machine_of self.new) }
+        ensures step { Steps schema.now (machine_of self.old) (step_of.Decide owner txn verdict interval) (replied decided result) (machine_of self.new) }
         ensures pieces { self.new.queries ≡ self.old.queries }
     {
         match verdict {
-            Verdict::Commit => Ok(Some(self.commit(alloc, owner, txn, interval)?)),
+            Verdict::Commit => Ok(Some(self.commit(alloc, schema, owner, txn, interval)?)),
             Verdict::Abort => {
-                self.abort(owner, txn, interval)?;
+                self.abort(schema, owner, txn, interval)?;
                 Ok(None)
             }
         }
@@ -176,17 +180,18 @@ impl Journal {
     /// The commit timestamp, or why there is no commit.
     fn judge_commit(
         &self,
+        schema: &Schema,
         transaction: &KeptTransaction,
         interval: Interval,
     ) -> Result<u64, Refusal>
-        ensures refused { IfErr result (λ why. commit_refusal (machine_of self.now) transaction.now interval ≡ Some why) }
-        ensures accepted { IfOk result (λ ts. (commit_refusal (machine_of self.now) transaction.now interval ≡ None) × (ts ≡ commit_timestamp (machine_of self.now) transaction.now interval)) }
+        ensures refused { IfErr result (λ why. commit_refusal schema.now (machine_of self.now) transaction.now interval ≡ Some why) }
+        ensures accepted { IfOk result (λ ts. (commit_refusal schema.now (machine_of self.now) transaction.now interval ≡ None) × (ts ≡ commit_timestamp (machine_of self.now) transaction.now interval)) }
         ensures undecided { OnOk result (is_undecided transaction.now ≡ true) }
     {
         if !transaction.is_undecided() {
             return Err(Refusal::WrongState);
         }
-        if !is_ready(self.books.as_slice(), transaction) {
+        if !is_ready(self.books.as_slice(), schema, transaction) {
             return Err(Refusal::WrongState);
         }
         match decision(
@@ -202,18 +207,19 @@ impl Journal {
     fn commit(
         &mut self,
         alloc: Global,
+        schema: &Schema,
         owner: u64,
         txn: u64,
         interval: Interval,
     ) -> Result<u64, Refusal>
-        ensures step { Steps (machine_of self.old) (step_of.Decide owner txn Verdict.Commit interval) (replied reply_of.Decided result) (machine_of self.new) }
+        ensures step { Steps schema.now (machine_of self.old) (step_of.Decide owner txn Verdict.Commit interval) (replied reply_of.Decided result) (machine_of self.new) }
         ensures pieces { self.new.queries ≡ self.old.queries }
     {
         let Some((at, transaction)) = find_transaction(self.transactions.as_slice(), owner, txn)
         else {
             return Err(Refusal::UnknownTransaction);
         };
-        match self.judge_commit(transaction, interval) {
+        match self.judge_commit(schema, transaction, interval) {
             Ok(timestamp) => {
                 let coordinator = coordinator_slot(transaction.prepared());
                 raise_last(&mut self.books, coordinator, timestamp);
@@ -225,8 +231,14 @@ impl Journal {
         }
     }
 
-    fn abort(&mut self, owner: u64, txn: u64, interval: Interval) -> Result<(), Refusal>
-        ensures step { Steps (machine_of self.old) (step_of.Decide owner txn Verdict.Abort interval) (replied (λ _. reply_of.Aborted) result) (machine_of self.new) }
+    fn abort(
+        &mut self,
+        schema: &Schema,
+        owner: u64,
+        txn: u64,
+        interval: Interval,
+    ) -> Result<(), Refusal>
+        ensures step { Steps schema.now (machine_of self.old) (step_of.Decide owner txn Verdict.Abort interval) (replied (λ _. reply_of.Aborted) result) (machine_of self.new) }
         ensures pieces { self.new.queries ≡ self.old.queries }
     {
         let Some((at, transaction)) = find_transaction(self.transactions.as_slice(), owner, txn)
@@ -248,12 +260,13 @@ impl Journal {
     /// `UnknownTransaction`, then `NoSlot`, then `WrongState`, then `Conflict`.
     pub fn judge_prepare(
         &self,
+        schema: &Schema,
         owner: u64,
         txn: u64,
         slot: usize,
     ) -> Result<&[CheckedMutation], Refusal>
-        ensures accepted { IfOk result (λ ms. MayPrepare (machine_of self.now) owner txn slot ms.now) }
-        ensures refused { IfErr result (λ why. prepare (machine_of self.now) owner txn slot ≡ refused (machine_of self.now) why) }
+        ensures accepted { IfOk result (λ ms. MayPrepare schema.now (machine_of self.now) owner txn slot ms.now) }
+        ensures refused { IfErr result (λ why. prepare schema.now (machine_of self.now) owner txn slot ≡ refused (machine_of self.now) why) }
     {
         let Some((_, transaction)) = find_transaction(self.transactions.as_slice(), owner, txn)
         else {
@@ -266,7 +279,7 @@ impl Journal {
             return Err(Refusal::WrongState);
         }
         let mutations = transaction.mutations();
-        if has_conflict(self.transactions.as_slice(), slot, mutations) {
+        if has_conflict(schema, self.transactions.as_slice(), slot, mutations) {
             return Err(Refusal::Conflict);
         }
         Ok(mutations)
@@ -325,7 +338,7 @@ impl Journal {
 
     /// Raises the floor of the slot to the latest time that it may be now, and answers it. It takes no memory. `NoSlot`.
     pub fn advance(&mut self, slot: usize, interval: Interval) -> Result<u64, Refusal>
-        ensures step { Steps (machine_of self.old) (step_of.Advance slot interval) (replied reply_of.Floor result) (machine_of self.new) }
+        ensures step { (schema : List Table) → Steps schema (machine_of self.old) (step_of.Advance slot interval) (replied reply_of.Floor result) (machine_of self.new) }
         ensures pieces { self.new.queries ≡ self.old.queries }
     {
         let Some(book) = book_at(self.books.as_slice(), slot) else {
@@ -337,14 +350,18 @@ impl Journal {
     }
 
     /// The timestamp that a query is to read at, or why it is not opened.
-    fn judge_open(&self, text: &str, bound: Bound, interval: Interval) -> Result<u64, Refusal>
-        ensures accepted { IfOk result (λ s. (open_refusal (machine_of self.now) text.now s ≡ None) × (s ≡ timestamp_of bound interval)) }
-        ensures refused { IfErr result (λ why. open_refusal (machine_of self.now) text.now (timestamp_of bound interval) ≡ Some why) }
+    fn judge_open(
+        &self,
+        schema: &Schema,
+        text: &str,
+        bound: Bound,
+        interval: Interval,
+    ) -> Result<u64, Refusal>
+        ensures accepted { IfOk result (λ s. (open_refusal schema.now (machine_of self.now) text.now s ≡ None) × (s ≡ timestamp_of bound interval)) }
+        ensures refused { IfErr result (λ why. open_refusal schema.now (machine_of self.now) text.now (timestamp_of bound interval) ≡ Some why) }
         ensures few { OnOk result (self.now.next_query < 2 ^ 63) }
     {
-        if !is_understood(text) {
-            return Err(Refusal::Syntax);
-        }
+        let _table = table_asked(schema, text)?;
         match choose(bound, interval) {
             Ok(s) => {
                 if self.queries.len() >= MOST_QUERIES || self.next_query >= NUMBER_END {
@@ -356,21 +373,22 @@ impl Journal {
         }
     }
 
-    /// Opens a query, and answers its number and the timestamp that it reads at. `Syntax`, then `TimestampRange`, then
+    /// Opens a query, and answers its number and the timestamp that it reads at. `Syntax` or `NoTable`, then `TimestampRange`, then
     /// `QueryTableFull`, then `OutOfMemory`; a refusal leaves all as it was.
     pub fn open(
         &mut self,
         alloc: Global,
+        schema: &Schema,
         text: Text,
         params: Params,
         bound: Bound,
         interval: Interval,
     ) -> Result<(u64, u64), Refusal>
-        ensures step { Steps (machine_of self.old) (step_of.Open text params bound interval) (replied (λ r. reply_of.Opened r.0 r.1 1) result) (machine_of self.new) }
+        ensures step { Steps schema.now (machine_of self.old) (step_of.Open text params bound interval) (replied (λ r. reply_of.Opened r.0 r.1 1) result) (machine_of self.new) }
         ensures pieces { OnOk result ((q : OpenQuery) × (q.covered ≡ false) × (self.new.queries ≡ self.old.queries ++ (record { query = q; rows = [] }) ∷ [])) }
         ensures err { OnErr result (self.new.queries ≡ self.old.queries) }
     {
-        let s = self.judge_open(text.as_str(), bound, interval)?;
+        let s = self.judge_open(schema, text.as_str(), bound, interval)?;
         let number = self.next_query;
         let query = OpenQuery {
             number,
@@ -448,10 +466,23 @@ impl Journal {
         Ok(())
     }
 
+    /// The number of the table that an open query asks for. `UnknownQuery`; no other refusal for a query that was opened with this
+    /// schema.
+    pub fn table_of(&self, schema: &Schema, query: u64) -> Result<usize, Refusal>
+        ensures ok { IfOk result (λ n. IsAskedBy schema.now (machine_of self.now) query n) }
+        ensures table { IfOk result (λ n. IsTable schema.now n) }
+        ensures refused { IfErr result (λ why. IsUnasked schema.now (machine_of self.now) query why) }
+    {
+        let Some((_, question)) = find_query(self.queries.as_slice(), query) else {
+            return Err(Refusal::UnknownQuery);
+        };
+        table_asked(schema, question.text())
+    }
+
     /// The timestamp that the query reads at, and the rows of its piece. `UnknownQuery`, then `Incomplete` where no piece covers it.
     pub fn piece(&self, query: u64) -> Result<(u64, &[Row]), Refusal>
         ensures ok { IfOk result (λ r. IsPiece self.now query r.0 r.1.now) }
-        ensures refused { IfErr result (λ why. finish (machine_of self.now) query ≡ refused (machine_of self.now) why) }
+        ensures refused { IfErr result (λ why. (schema : List Table) → finish schema (machine_of self.now) query ≡ refused (machine_of self.now) why) }
     {
         let Some((_, question)) = find_query(self.queries.as_slice(), query) else {
             return Err(Refusal::UnknownQuery);
@@ -464,7 +495,7 @@ impl Journal {
 
     /// Closes a query. It takes no memory. `UnknownQuery`.
     pub fn close(&mut self, query: u64) -> Result<(), Refusal>
-        ensures step { Steps (machine_of self.old) (step_of.Close query) (replied (λ _. reply_of.Closed) result) (machine_of self.new) }
+        ensures step { (schema : List Table) → Steps schema (machine_of self.old) (step_of.Close query) (replied (λ _. reply_of.Closed) result) (machine_of self.new) }
         ensures pieces { OnOk result (self.new.queries ≡ without_first (λ p. is_query query p.query) self.old.queries) }
         ensures err { OnErr result (self.new.queries ≡ self.old.queries) }
     {
@@ -474,11 +505,4 @@ impl Journal {
         let _ = self.queries.remove(at);
         Ok(())
     }
-}
-
-/// Whether the text is the one that is understood.
-fn is_understood(text: &str) -> bool
-    ensures { result ≡ is_understood text.now }
-{
-    text == "SELECT * FROM T"
 }

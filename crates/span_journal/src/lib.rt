@@ -7,5 +7,6 @@ pub mod journal;
 mod queries;
 mod query;
 mod slots;
+mod text;
 mod transaction;
 mod transactions;

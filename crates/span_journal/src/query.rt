@@ -48,6 +48,13 @@ impl KeptQuery {
         self.open.s
     }
 
+    /// Its text.
+    pub(crate) fn text(&self) -> &str
+        ensures { result.now ≡ self.now.query.text }
+    {
+        self.open.text.as_str()
+    }
+
     /// Whether a piece covers it.
     pub(crate) fn is_covered(&self) -> bool
         ensures { result ≡ self.now.query.covered }

@@ -2,12 +2,13 @@
 ghost use Rattle.std.specs.Prelude.{◌≡◌, ◌<◌, ◌≤◌, ◌+◌, ◌^◌, ◌==◌, ◌&&◌, ◌||◌, not, false, max, length, nat_le, nat_lt, slice_get, slice_set, IfSome, IfNone};
 ghost use Rattle.std.specs.List.{list_any, list_all};
 ghost use Rattle.std.specs.Option.{option_copied};
-ghost use Rattle.span_machine.specs.Machine.{greatest, holds, if_some, coordinator, coordinator_of, with_last, prepare_timestamp, risen};
+ghost use Rattle.span_machine.specs.Machine.{greatest, holds, root_at, if_some, coordinator, coordinator_of, with_last, prepare_timestamp, risen};
 
 use super::transaction::KeptTransaction;
 use span_machine::slot::Book;
 use span_machine::transaction::Prepared;
-use span_shard::mutation::CheckedMutation;
+use span_mutate::mutation::CheckedMutation;
+use span_schema::schema::Schema;
 use span_truetime::interval::{Interval, TIMESTAMP_END};
 
 /// The greatest prepare timestamp.
@@ -21,46 +22,63 @@ pub(crate) fn greatest_timestamp(prepared: &[Prepared]) -> u64
     most
 }
 
-/// Whether the slot's range has the key.
-pub(crate) fn holds_key(book: &Book, _key: i64) -> bool
-    ensures { result ≡ holds book.now _key }
+/// Whether the slot's range has the directory of a mutation.
+fn holds_directory(_book: &Book, _schema: &Schema, _mutation: &CheckedMutation) -> bool
+    ensures { result ≡ holds _book.now (root_at _schema.now _mutation.now) }
 {
     true
 }
 
-/// Whether the slot is used and its range has the key.
-fn slot_holds(books: &[Book], slot: usize, key: i64) -> bool
-    ensures { result ≡ if_some (slice_get books.now slot) false (λ book. holds book key) }
+/// Whether the slot is used and its range has the directory of a mutation.
+fn slot_holds(books: &[Book], schema: &Schema, slot: usize, mutation: &CheckedMutation) -> bool
+    ensures { result ≡ if_some (slice_get books.now slot) false (λ book. holds book (root_at schema.now mutation.now)) }
 {
     match books.get(slot) {
-        Some(book) => holds_key(book, key),
+        Some(book) => holds_directory(book, schema, mutation),
         None => false,
     }
 }
 
-/// Whether the transaction is prepared where this key is.
-fn is_ready_for(books: &[Book], prepared: &[Prepared], key: i64) -> bool
-    ensures { result ≡ list_any (λ p. if_some (slice_get books.now p.slot) false (λ book. holds book key)) prepared.now }
+/// Whether the transaction is prepared where the directory of this mutation is.
+fn is_ready_for(
+    books: &[Book],
+    schema: &Schema,
+    prepared: &[Prepared],
+    mutation: &CheckedMutation,
+) -> bool
+    ensures { result ≡ list_any (λ p. if_some (slice_get books.now p.slot) false (λ book. holds book (root_at schema.now mutation.now))) prepared.now }
 {
-    prepared.iter().any(|p| slot_holds(books, p.slot, key))
+    prepared
+        .iter()
+        .any(|p| slot_holds(books, schema, p.slot, mutation))
 }
 
-fn are_all_ready(books: &[Book], prepared: &[Prepared], mutations: &[CheckedMutation]) -> bool
-    ensures { result ≡ list_all (λ m. list_any (λ p. if_some (slice_get books.now p.slot) false (λ book. holds book m.key)) prepared.now) mutations.now }
+fn are_all_ready(
+    books: &[Book],
+    schema: &Schema,
+    prepared: &[Prepared],
+    mutations: &[CheckedMutation],
+) -> bool
+    ensures { result ≡ list_all (λ m. list_any (λ p. if_some (slice_get books.now p.slot) false (λ book. holds book (root_at schema.now m))) prepared.now) mutations.now }
 {
     mutations
         .iter()
-        .all(|m| is_ready_for(books, prepared, m.key))
+        .all(|m| is_ready_for(books, schema, prepared, m))
 }
 
 /// Whether every mutation is of a slot where the transaction is prepared.
-pub(crate) fn is_ready(books: &[Book], transaction: &KeptTransaction) -> bool
-    ensures { result ≡ (not (length transaction.now.prepared == 0) && list_all (λ m. list_any (λ p. if_some (slice_get books.now p.slot) false (λ book. holds book m.key)) transaction.now.prepared) transaction.now.mutations) }
+pub(crate) fn is_ready(books: &[Book], schema: &Schema, transaction: &KeptTransaction) -> bool
+    ensures { result ≡ (not (length transaction.now.prepared == 0) && list_all (λ m. list_any (λ p. if_some (slice_get books.now p.slot) false (λ book. holds book (root_at schema.now m))) transaction.now.prepared) transaction.now.mutations) }
 {
     if transaction.prepared().len() == 0 {
         return false;
     }
-    are_all_ready(books, transaction.prepared(), transaction.mutations())
+    are_all_ready(
+        books,
+        schema,
+        transaction.prepared(),
+        transaction.mutations(),
+    )
 }
 
 /// The lowest of the slots.

@@ -3,7 +3,7 @@ ghost use Rattle.std.specs.Prelude.{◌≡◌, true, filter, not, ◌==◌, IfOk
 ghost use Rattle.span_machine.specs.Machine.{with_outcome, is_undecided, commit_of, add_prepared, without_prepared};
 
 use span_machine::transaction::{Commit, OpenTransaction, Outcome, Prepared};
-use span_shard::mutation::CheckedMutation;
+use span_mutate::mutation::CheckedMutation;
 use span_value::seq::Seq;
 use std::alloc::{AllocError, Global};
 use std::marker::Model;

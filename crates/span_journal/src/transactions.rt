@@ -1,24 +1,32 @@
 //! Finding open transactions, and what they share.
 ghost use Rattle.std.specs.Prelude.{◌≡◌, ◌<◌, ◌+◌, ◌≤◌, ◌&&◌, ◌||◌, ◌==◌, not, true, length, position, None, Some, IfOk, IfErr, remove, OnOk, OnErr, if◌then◌else◌, count_by, find, slice_get, slice_set, IfSome, IfNone, MatchResult};
 ghost use Rattle.std.specs.List.{list_any};
-ghost use Rattle.span_shard.specs.Database.{is_at};
-ghost use Rattle.span_machine.specs.Machine.{is_undecided, is_transaction, is_prepared_at, with_outcome, commit_of, add_prepared, without_prepared, have_common_key, apply_refusal};
+ghost use Rattle.span_machine.specs.Machine.{is_at, root_at, is_undecided, is_transaction, is_prepared_at, with_outcome, commit_of, add_prepared, without_prepared, have_common_root, apply_refusal};
 ghost use Rattle.span_machine.specs.Place.{IsPlace};
 ghost use Rattle.span_journal.specs.Judged.{outcome_of};
 
 use super::transaction::KeptTransaction;
 use span_machine::transaction::{Commit, Outcome, Prepared};
-use span_shard::mutation::CheckedMutation;
+use span_mutate::directory::is_in_directory_of;
+use span_mutate::mutation::CheckedMutation;
+use span_schema::schema::Schema;
 use span_truetime::interval::Interval;
 use span_value::refusal::Refusal;
 use span_value::seq::Seq;
 use std::alloc::{AllocError, Global};
 
 /// How many transactions are undecided.
+#[tactic(auto, using(std::proofs::lemmas::List::Sums::count_by_more_yes, std::proofs::lemmas::List::Sums::count_by_more_no))]
 pub(crate) fn count_undecided(transactions: &[KeptTransaction]) -> usize
     ensures { result ≡ count_by is_undecided transactions.now }
 {
-    transactions.iter().filter(|t| t.is_undecided()).count()
+    let mut undecided = 0;
+    for kept in transactions {
+        if kept.is_undecided() {
+            undecided += 1;
+        }
+    }
+    undecided
 }
 
 fn place_of_transaction(transactions: &[KeptTransaction], owner: u64, number: u64) -> Option<usize>
@@ -81,39 +89,56 @@ pub(crate) fn copies_of(
     Ok(copies)
 }
 
-/// Whether a transaction that is prepared at the slot has a key of these.
+/// Whether a transaction that is prepared at the slot has a mutation in a directory of these.
 pub(crate) fn has_conflict(
+    schema: &Schema,
     transactions: &[KeptTransaction],
     slot: usize,
     mutations: &[CheckedMutation],
 ) -> bool
-    ensures { result ≡ list_any (λ t. is_prepared_at slot t && have_common_key mutations.now t.mutations) transactions.now }
+    ensures { result ≡ list_any (λ t. is_prepared_at slot t && have_common_root schema.now mutations.now t.mutations) transactions.now }
 {
     transactions
         .iter()
-        .any(|t| is_in_conflict(t, slot, mutations))
+        .any(|t| is_in_conflict(schema, t, slot, mutations))
 }
 
-fn is_in_conflict(transaction: &KeptTransaction, slot: usize, mutations: &[CheckedMutation]) -> bool
-    ensures { result ≡ (is_prepared_at slot transaction.now && have_common_key mutations.now transaction.now.mutations) }
+fn is_in_conflict(
+    schema: &Schema,
+    transaction: &KeptTransaction,
+    slot: usize,
+    mutations: &[CheckedMutation],
+) -> bool
+    ensures { result ≡ (is_prepared_at slot transaction.now && have_common_root schema.now mutations.now transaction.now.mutations) }
 {
     if !is_prepared(transaction, slot) {
         return false;
     }
-    share_key(mutations, transaction.mutations())
+    share_directory(schema, mutations, transaction.mutations())
 }
 
-/// Whether a key is in both lists.
-pub(crate) fn share_key(left: &[CheckedMutation], right: &[CheckedMutation]) -> bool
-    ensures { result ≡ have_common_key left.now right.now }
+/// Whether a directory has mutations of both lists.
+pub(crate) fn share_directory(
+    schema: &Schema,
+    left: &[CheckedMutation],
+    right: &[CheckedMutation],
+) -> bool
+    ensures { result ≡ have_common_root schema.now left.now right.now }
 {
-    left.iter().any(|m| has_key(right, m.key))
+    left.iter()
+        .any(|m| is_any_in_directory_of(schema, m, right))
 }
 
-fn has_key(mutations: &[CheckedMutation], key: i64) -> bool
-    ensures { result ≡ list_any (is_at key) mutations.now }
+fn is_any_in_directory_of(
+    schema: &Schema,
+    mutation: &CheckedMutation,
+    others: &[CheckedMutation],
+) -> bool
+    ensures { result ≡ list_any (is_at schema.now (root_at schema.now mutation.now)) others.now }
 {
-    mutations.iter().any(|m| m.key == key)
+    others
+        .iter()
+        .any(|m| is_in_directory_of(schema, mutation, m))
 }
 
 /// Aborts the transaction at a place.
@@ -171,7 +196,7 @@ pub(crate) fn remove_at(transactions: &mut Vec<KeptTransaction>, at: usize)
     let _ = transactions.remove(at);
 }
 
-/// Whether the transaction is in a state to be prepared at the slot, where all of its keys lie.
+/// Whether the transaction is in a state to be prepared at the slot, where all of its directories lie.
 pub(crate) fn may_prepare(transaction: &KeptTransaction, slot: usize) -> bool
     ensures { result ≡ not (not (is_undecided transaction.now) || is_prepared_at slot transaction.now || (length transaction.now.mutations == 0)) }
 {

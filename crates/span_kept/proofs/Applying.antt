@@ -1,13 +1,11 @@
-use Rattle.std.proofs.Common.{◌≡◌, ◌≢◌, ℕ, ℤ, true, false, cond, ◌==◌, List, [], ◌∷◌, ◌++◌, length, Option, Some, None, Ok, refl, ap, sym, ◌∙◌, subst}
+use Rattle.std.proofs.Common.{◌≡◌, ◌≢◌, ℕ, true, false, cond, ◌==◌, List, [], ◌∷◌, ◌++◌, length, Option, Some, None, Ok, refl, ap, sym, ◌∙◌, subst}
 use Rattle.std.specs.Prelude.{find, filter, map}
-use Rattle.span_value.specs.declared.value.Value.{Value}
-use Rattle.span_truetime.specs.Time.{timestamp_end}
 use Rattle.span_shard.specs.declared.chain.PreparedWrite.{PreparedWrite}
 use Rattle.span_shard.specs.declared.chain.Version.{Version}
-use Rattle.span_shard.specs.Database.{is_at, row_through}
+use Rattle.span_machine.specs.Machine.{is_at}
 use Rattle.span_shard.specs.KeyVersions.{KeyVersions}
-use Rattle.span_shard.specs.Versions.{row_at, with_version, applied_to_key}
-use Rattle.span_shard.specs.Shard.{versions_at, prepared_at, end_of_time, IsNotOf}
+use Rattle.span_shard.specs.Versions.{is_used, with_version, applied_to_key}
+use Rattle.span_shard.specs.Shard.{versions_at, prepared_at, IsNotOf}
 use Rattle.span_shard.specs.Shard as shard
 use Rattle.span_shard.proofs.Undo.{IsOpenFor, used_filtered}
 use Rattle.span_machine.specs.declared.transaction.Commit.{Commit}
@@ -16,15 +14,23 @@ use Rattle.span_machine.specs.declared.transaction.Outcome.TheVariants as outcom
 use Rattle.span_machine.specs.Machine.{Machine, is_transaction, is_prepared_at, without_prepared, without_first, changed_first, applied, applied_at, commit_of}
 use Rattle.span_laws.proofs.Tests.{second_true, number_same, equal_number}
 use Rattle.span_laws.proofs.Lists.{found_passes}
-use Rattle.span_laws.proofs.Stability.{is_some_of, touches}
+use Rattle.span_laws.proofs.Stability.{is_some_of, changes_at}
 use Rattle.span_laws.proofs.InPlace.{IsUnder, IsRising, commits_at, claims}
-use Rattle.span_laws.proofs.Claims.{under_filter, left_slot}
+use Rattle.span_laws.proofs.Claims.{left_slot}
 use Rattle.span_laws.proofs.Reached.{IsReached}
-use Rattle.span_kept.specs.Kept.{HasRows, IsPut, IsPending, IsKeptBy, AreKept}
-use Rattle.span_kept.proofs.Keys.{rising_applied, applied_versions, applied_prepared, versions_at-applied, prepared_at-applied}
+use Rattle.span_kept.specs.Kept.{IsCodedRoot, IsCodedCoding, is_under, HasRows, IsPut, IsPending, IsKeptBy, AreKept}
+use Rattle.span_kept.proofs.Keys.{same_key, applied_versions, applied_prepared, versions_at-applied, prepared_at-applied}
 use Rattle.span_kept.proofs.Claimers.{false_and, claimers_of}
 use Rattle.span_kept.proofs.Steps.{open_of_put, kept_under}
-use Rattle.span_kept.proofs.Rows.{rising_front, under_front, rows_push, rows_still, not_of_others, others_apart}
+use Rattle.span_kept.proofs.Rows.{rising_front, rows_push, rows_still, not_of_others, others_apart}
+use Rattle.std.specs.List.{AllByRecursion}
+use Rattle.span_schema.specs.declared.table.Table.{Table}
+use Rattle.span_mutate.specs.declared.row.TableRow.{TableRow}
+use Rattle.span_mutate.specs.Database.{apply}
+use Rattle.span_mutate.specs.Directories.{Root}
+use Rattle.span_shard.specs.Rows.{row_coded}
+use Rattle.span_shard.proofs.InOrder.{in_order_applied}
+use Rattle.span_kept.proofs.Roots.{coded_root}
 
 -- ---- the write of one key
 
@@ -51,105 +57,115 @@ given_up_versions txn None vs = refl
 given_up_versions txn (Some w) vs = elim (w.txn == txn) as (λ b. cond b vs vs ≡ vs) [ true ↦ refl | false ↦ refl ]
 
 -- with the prepared write applied, the versions have the commit's rows
-rows_applied : (key : ℤ) (front : List Commit) (c : Commit) (vs : List Version) (after : Option Value) (txn : ℕ) (p : Option PreparedWrite) → HasRows key front vs → IsUnder c.timestamp front → IsUnder timestamp_end front
-    → row_through (row_at vs end_of_time) (filter (is_at key) c.mutations) ≡ Ok after → IsPut txn (row_at vs end_of_time) after p → HasRows key (front ++ c ∷ []) (applied_versions txn (Some c.timestamp) p vs)
-rows_applied key front c vs after txn None has under low through put = rows_still key front c vs after has under low through put
-rows_applied key front c vs after txn (Some w) has under low through put =
-    subst (λ b. HasRows key (front ++ c ∷ []) (cond b (with_version (Some c.timestamp) w.row vs) vs)) (sym (equal_number w.txn txn put.0))
-    (subst (λ (row : Option Value). HasRows key (front ++ c ∷ []) ((record { timestamp = c.timestamp; row = row }) ∷ vs)) (sym put.1) (rows_push key front c vs after has under low through))
+rows_applied : (schema : List Table) (root : Root) (k : List ℕ) (front : List Commit) (c : Commit) (vs : List Version) (before after : List TableRow) (txn : ℕ) (p : Option PreparedWrite) → HasRows schema root k front vs → IsUnder c.timestamp front
+    → apply schema [] (changes_at schema root front) ≡ Ok before → apply schema before (filter (is_at schema root) c.mutations) ≡ Ok after → IsPut txn (row_coded schema before k) (row_coded schema after k) p
+    → HasRows schema root k (front ++ c ∷ []) (applied_versions txn (Some c.timestamp) p vs)
+rows_applied schema root k front c vs before after txn None has under now through put = rows_still schema root k front c vs before after has under now through put
+rows_applied schema root k front c vs before after txn (Some w) has under now through put =
+    subst (λ b. HasRows schema root k (front ++ c ∷ []) (cond b (with_version (Some c.timestamp) w.row vs) vs)) (sym (equal_number w.txn txn put.0))
+    (subst (λ (row : Option (List ℕ)). HasRows schema root k (front ++ c ∷ []) ((record { timestamp = c.timestamp; row = row }) ∷ vs)) (sym put.1) (rows_push schema root k front c vs before after has under now through))
 
 -- its commit was pending and is applied
-applied_pending : (key : ℤ) (cs : List Commit) (vs : List Version) (p : Option PreparedWrite) (t : OpenTransaction) (ts : ℕ) → IsRising cs → IsUnder timestamp_end cs → IsPending key cs vs p t ts
-    → (applied_prepared t.number p ≡ None) × HasRows key cs (applied_versions t.number (Some ts) p vs)
-applied_pending key cs vs p t ts up under h = (
-  none_prepared t.number p (open_of_put t.number _ h.put.after p h.put.put),
-  subst (λ l. HasRows key l (applied_versions t.number (Some ts) p vs)) (sym h.whole)
-      (rows_applied key h.front (commit_of ts t) vs h.put.after t.number p h.rows (rising_front h.front (commit_of ts t) (subst IsRising h.whole up))
-      (under_front timestamp_end h.front (commit_of ts t) (subst (IsUnder timestamp_end) h.whole under)) h.put.through h.put.put),
+applied_pending : (schema : List Table) (root : Root) (k : List ℕ) (cs : List Commit) (vs : List Version) (p : Option PreparedWrite) (t : OpenTransaction) (ts : ℕ) → IsRising cs → IsPending schema root k cs vs p t ts
+    → (applied_prepared t.number p ≡ None) × HasRows schema root k cs (applied_versions t.number (Some ts) p vs)
+applied_pending schema root k cs vs p t ts up h = (
+  none_prepared t.number p (open_of_put t.number _ _ p h.put.put),
+  subst (λ l. HasRows schema root k l (applied_versions t.number (Some ts) p vs)) (sym h.whole)
+      (rows_applied schema root k h.front (commit_of ts t) vs h.put.before h.put.after t.number p h.rows (rising_front h.front (commit_of ts t) (subst IsRising h.whole up)) h.put.now h.put.through h.put.put),
 )
+
+-- every key stays the coding of a key
+coded_applied : (schema : List Table) (txn : ℕ) (committed : Option ℕ) (cs : List KeyVersions) → AllByRecursion (λ (c : KeyVersions). IsCodedCoding schema c.key) cs → AllByRecursion (λ (c : KeyVersions). IsCodedCoding schema c.key) (shard.applied txn committed cs)
+coded_applied schema txn committed [] all = tt
+coded_applied schema txn committed (c ∷ cs) all =
+    elim (is_used (applied_to_key txn committed c)) as (λ b. AllByRecursion (λ (d : KeyVersions). IsCodedCoding schema d.key) (cond b (applied_to_key txn committed c ∷ shard.applied txn committed cs) (shard.applied txn committed cs))) [
+      | true ↦ (subst (IsCodedCoding schema) (sym (same_key txn committed c)) all.0, coded_applied schema txn committed cs all.1)
+      | false ↦ coded_applied schema txn committed cs all.1
+    ]
 
 -- ---- Apply at slot 0
 
-module _ (m : Machine) (reached : IsReached m) (cs : List KeyVersions) (kept : AreKept m cs) (owner txn : ℕ) (t : OpenTransaction) (found : find (is_transaction owner txn) m.transactions ≡ Some t) where
+module _ (schema : List Table) (m : Machine) (reached : IsReached schema m) (cs : List KeyVersions) (kept : AreKept schema m cs) (owner txn : ℕ) (t : OpenTransaction) (found : find (is_transaction owner txn) m.transactions ≡ Some t) where
   txn_is : t.number ≡ txn
   txn_is = number_same t.number txn (second_true (t.owner == owner) (t.number == txn) (found_passes (is_transaction owner txn) m.transactions t found))
 
-  off_after : (key : ℤ) → claims key 0 (without_prepared 0 t) ≡ false
-  off_after key = false_and (is_prepared_at 0 (without_prepared 0 t)) (is_some_of (filter (is_at key) t.mutations)) (left_slot 0 t.prepared)
+  off_after : (root : Root) → claims schema root 0 (without_prepared 0 t) ≡ false
+  off_after root = false_and (is_prepared_at 0 (without_prepared 0 t)) (is_some_of (filter (is_at schema root) t.mutations)) (left_slot 0 t.prepared)
 
   -- the transaction claims no key more
-  left : (key : ℤ) → claims key 0 t ≡ true → filter (claims key 0) (applied m owner txn 0 t) ≡ []
-  left key is =
-      let them = claimers_of m reached key (is_transaction owner txn) t found in
-      elim (length (without_prepared 0 t).prepared == 0) as (λ v. filter (claims key 0) (cond v (without_first (is_transaction owner txn) m.transactions) (changed_first (is_transaction owner txn) (without_prepared 0) m.transactions)) ≡ []) [
+  left : (root : Root) → IsCodedRoot schema root → claims schema root 0 t ≡ true → filter (claims schema root 0) (applied m owner txn 0 t) ≡ []
+  left root is_root is =
+      let them = claimers_of schema m reached root (coded_root schema root is_root) (is_transaction owner txn) t found in
+      elim (length (without_prepared 0 t).prepared == 0) as (λ v. filter (claims schema root 0) (cond v (without_first (is_transaction owner txn) m.transactions) (changed_first (is_transaction owner txn) (without_prepared 0) m.transactions)) ≡ []) [
         | true ↦ them.gone is
-        | false ↦ them.changed (without_prepared 0) is ∙ ap (λ b. cond b (without_prepared 0 t ∷ []) []) (off_after key)
+        | false ↦ them.changed (without_prepared 0) is ∙ ap (λ b. cond b (without_prepared 0 t ∷ []) []) (off_after root)
       ]
 
-  others : (key : ℤ) → claims key 0 t ≡ false → filter (claims key 0) (applied m owner txn 0 t) ≡ filter (claims key 0) m.transactions
-  others key off =
-      let them = claimers_of m reached key (is_transaction owner txn) t found in
-      elim (length (without_prepared 0 t).prepared == 0) as (λ v. filter (claims key 0) (cond v (without_first (is_transaction owner txn) m.transactions) (changed_first (is_transaction owner txn) (without_prepared 0) m.transactions)) ≡ filter (claims key 0) m.transactions) [
+  others : (root : Root) → IsCodedRoot schema root → claims schema root 0 t ≡ false → filter (claims schema root 0) (applied m owner txn 0 t) ≡ filter (claims schema root 0) m.transactions
+  others root is_root off =
+      let them = claimers_of schema m reached root (coded_root schema root is_root) (is_transaction owner txn) t found in
+      elim (length (without_prepared 0 t).prepared == 0) as (λ v. filter (claims schema root 0) (cond v (without_first (is_transaction owner txn) m.transactions) (changed_first (is_transaction owner txn) (without_prepared 0) m.transactions)) ≡ filter (claims schema root 0) m.transactions) [
         | true ↦ them.away_gone off
-        | false ↦ them.away (without_prepared 0) off (off_after key)
+        | false ↦ them.away (without_prepared 0) off (off_after root)
       ]
 
   -- what is kept at a key that another transaction claims, or none
-  kept_of_others : (key : ℤ) (committed : Option ℕ) → claims key 0 t ≡ false
-      → IsKeptBy key (commits_at key m.log) (applied_versions t.number committed (prepared_at cs key) (versions_at cs key)) (applied_prepared t.number (prepared_at cs key)) (filter (claims key 0) (applied m owner txn 0 t))
-  kept_of_others key committed off =
-      let not_its : IsNotOf t.number (prepared_at cs key) =
-      not_of_others key (commits_at key m.log) (versions_at cs key) (prepared_at cs key) (filter (claims key 0) m.transactions) t.number (kept.kept key) (others_apart m reached key (is_transaction owner txn) t found off) in
-      subst (λ vs. IsKeptBy key (commits_at key m.log) vs (applied_prepared t.number (prepared_at cs key)) (filter (claims key 0) (applied m owner txn 0 t))) (sym (still_versions t.number committed (prepared_at cs key) (versions_at cs key) not_its))
-      (subst (λ p. IsKeptBy key (commits_at key m.log) (versions_at cs key) p (filter (claims key 0) (applied m owner txn 0 t))) (sym (still_prepared t.number (prepared_at cs key) not_its))
-      (subst (IsKeptBy key (commits_at key m.log) (versions_at cs key) (prepared_at cs key)) (sym (others key off)) (kept.kept key)))
+  kept_of_others : (root : Root) (is_root : IsCodedRoot schema root) (k : List ℕ) (under : is_under schema root k ≡ true) (committed : Option ℕ) → claims schema root 0 t ≡ false
+      → IsKeptBy schema root k (commits_at schema root m.log) (applied_versions t.number committed (prepared_at cs k) (versions_at cs k)) (applied_prepared t.number (prepared_at cs k)) (filter (claims schema root 0) (applied m owner txn 0 t))
+  kept_of_others root is_root k under committed off =
+      let not_its : IsNotOf t.number (prepared_at cs k) =
+      not_of_others schema root k (commits_at schema root m.log) (versions_at cs k) (prepared_at cs k) (filter (claims schema root 0) m.transactions) t.number (kept.kept root is_root k under) (others_apart schema m reached root (is_transaction owner txn) t found off) in
+      subst (λ vs. IsKeptBy schema root k (commits_at schema root m.log) vs (applied_prepared t.number (prepared_at cs k)) (filter (claims schema root 0) (applied m owner txn 0 t))) (sym (still_versions t.number committed (prepared_at cs k) (versions_at cs k) not_its))
+      (subst (λ p. IsKeptBy schema root k (commits_at schema root m.log) (versions_at cs k) p (filter (claims schema root 0) (applied m owner txn 0 t))) (sym (still_prepared t.number (prepared_at cs k) not_its))
+      (subst (IsKeptBy schema root k (commits_at schema root m.log) (versions_at cs k) (prepared_at cs k)) (sym (others root is_root off)) (kept.kept root is_root k under)))
 
   -- where it is so at every key, it is so of the shard
   kept_by_keys : (n : Machine) (committed : Option ℕ) → n.log ≡ m.log → n.transactions ≡ applied m owner txn 0 t
-      → ((key : ℤ) → IsKeptBy key (commits_at key m.log) (applied_versions t.number committed (prepared_at cs key) (versions_at cs key)) (applied_prepared t.number (prepared_at cs key)) (filter (claims key 0) (applied m owner txn 0 t)))
-      → AreKept n (shard.applied t.number committed cs)
+      → ((root : Root) (is_root : IsCodedRoot schema root) (k : List ℕ) (under : is_under schema root k ≡ true) → IsKeptBy schema root k (commits_at schema root m.log) (applied_versions t.number committed (prepared_at cs k) (versions_at cs k)) (applied_prepared t.number (prepared_at cs k)) (filter (claims schema root 0) (applied m owner txn 0 t)))
+      → AreKept schema n (shard.applied t.number committed cs)
   kept_by_keys n committed log ts each = record {
-    keys = rising_applied t.number committed cs kept.keys;
+    keys = in_order_applied t.number committed cs kept.keys;
     used = used_filtered (map (applied_to_key t.number committed) cs);
-    kept = λ key.
-        subst (λ l. IsKeptBy key (commits_at key l) (versions_at (shard.applied t.number committed cs) key) (prepared_at (shard.applied t.number committed cs) key) (filter (claims key 0) n.transactions)) (sym log)
-        (subst (λ us. IsKeptBy key (commits_at key m.log) (versions_at (shard.applied t.number committed cs) key) (prepared_at (shard.applied t.number committed cs) key) (filter (claims key 0) us)) (sym ts)
-        (subst (λ vs. IsKeptBy key (commits_at key m.log) vs (prepared_at (shard.applied t.number committed cs) key) (filter (claims key 0) (applied m owner txn 0 t))) (sym (versions_at-applied t.number committed cs key kept.keys))
-        (subst (λ p. IsKeptBy key (commits_at key m.log) (applied_versions t.number committed (prepared_at cs key) (versions_at cs key)) p (filter (claims key 0) (applied m owner txn 0 t))) (sym (prepared_at-applied t.number committed cs key kept.keys))
-        (each key))));
+    coded = coded_applied schema t.number committed cs kept.coded;
+    kept = λ root is_root k under.
+        subst (λ l. IsKeptBy schema root k (commits_at schema root l) (versions_at (shard.applied t.number committed cs) k) (prepared_at (shard.applied t.number committed cs) k) (filter (claims schema root 0) n.transactions)) (sym log)
+        (subst (λ us. IsKeptBy schema root k (commits_at schema root m.log) (versions_at (shard.applied t.number committed cs) k) (prepared_at (shard.applied t.number committed cs) k) (filter (claims schema root 0) us)) (sym ts)
+        (subst (λ vs. IsKeptBy schema root k (commits_at schema root m.log) vs (prepared_at (shard.applied t.number committed cs) k) (filter (claims schema root 0) (applied m owner txn 0 t))) (sym (versions_at-applied t.number committed cs k kept.keys))
+        (subst (λ p. IsKeptBy schema root k (commits_at schema root m.log) (applied_versions t.number committed (prepared_at cs k) (versions_at cs k)) p (filter (claims schema root 0) (applied m owner txn 0 t))) (sym (prepared_at-applied t.number committed cs k kept.keys))
+        (each root is_root k under))));
   }
 
-  committed_key : (ts : ℕ) → t.outcome ≡ outcome.Committed ts → (key : ℤ)
-      → IsKeptBy key (commits_at key m.log) (applied_versions t.number (Some ts) (prepared_at cs key) (versions_at cs key)) (applied_prepared t.number (prepared_at cs key)) (filter (claims key 0) (applied m owner txn 0 t))
-  committed_key ts e key = elim (claims key 0 t) as (λ v. claims key 0 t ≡ v
-      → IsKeptBy key (commits_at key m.log) (applied_versions t.number (Some ts) (prepared_at cs key) (versions_at cs key)) (applied_prepared t.number (prepared_at cs key)) (filter (claims key 0) (applied m owner txn 0 t))) [
-        | false ↦ λ off. kept_of_others key (Some ts) off
+  committed_key : (ts : ℕ) → t.outcome ≡ outcome.Committed ts → (root : Root) (is_root : IsCodedRoot schema root) (k : List ℕ) (under : is_under schema root k ≡ true)
+      → IsKeptBy schema root k (commits_at schema root m.log) (applied_versions t.number (Some ts) (prepared_at cs k) (versions_at cs k)) (applied_prepared t.number (prepared_at cs k)) (filter (claims schema root 0) (applied m owner txn 0 t))
+  committed_key ts e root is_root k under = elim (claims schema root 0 t) as (λ v. claims schema root 0 t ≡ v
+      → IsKeptBy schema root k (commits_at schema root m.log) (applied_versions t.number (Some ts) (prepared_at cs k) (versions_at cs k)) (applied_prepared t.number (prepared_at cs k)) (filter (claims schema root 0) (applied m owner txn 0 t))) [
+        | false ↦ λ off. kept_of_others root is_root k under (Some ts) off
         | true ↦ λ is.
-            let place = reached.placed key in
-            subst (IsKeptBy key (commits_at key m.log) (applied_versions t.number (Some ts) (prepared_at cs key) (versions_at cs key)) (applied_prepared t.number (prepared_at cs key))) (sym (left key is))
-            (applied_pending key (commits_at key m.log) (versions_at cs key) (prepared_at cs key) t ts place.rising (under_filter timestamp_end (touches key) m.log place.in_range)
-            (kept_under m reached cs kept key (is_transaction owner txn) t (outcome.Committed ts) found is e))
+            let place = reached.placed root (coded_root schema root is_root) in
+            subst (IsKeptBy schema root k (commits_at schema root m.log) (applied_versions t.number (Some ts) (prepared_at cs k) (versions_at cs k)) (applied_prepared t.number (prepared_at cs k))) (sym (left root is_root is))
+            (applied_pending schema root k (commits_at schema root m.log) (versions_at cs k) (prepared_at cs k) t ts place.rising
+            (kept_under schema m reached cs kept root is_root k under (is_transaction owner txn) t (outcome.Committed ts) found is e))
       ] refl
 
-  aborted_key : t.outcome ≡ outcome.Aborted → (key : ℤ)
-      → IsKeptBy key (commits_at key m.log) (applied_versions t.number None (prepared_at cs key) (versions_at cs key)) (applied_prepared t.number (prepared_at cs key)) (filter (claims key 0) (applied m owner txn 0 t))
-  aborted_key e key = elim (claims key 0 t) as (λ v. claims key 0 t ≡ v
-      → IsKeptBy key (commits_at key m.log) (applied_versions t.number None (prepared_at cs key) (versions_at cs key)) (applied_prepared t.number (prepared_at cs key)) (filter (claims key 0) (applied m owner txn 0 t))) [
-        | false ↦ λ off. kept_of_others key None off
+  aborted_key : t.outcome ≡ outcome.Aborted → (root : Root) (is_root : IsCodedRoot schema root) (k : List ℕ) (under : is_under schema root k ≡ true)
+      → IsKeptBy schema root k (commits_at schema root m.log) (applied_versions t.number None (prepared_at cs k) (versions_at cs k)) (applied_prepared t.number (prepared_at cs k)) (filter (claims schema root 0) (applied m owner txn 0 t))
+  aborted_key e root is_root k under = elim (claims schema root 0 t) as (λ v. claims schema root 0 t ≡ v
+      → IsKeptBy schema root k (commits_at schema root m.log) (applied_versions t.number None (prepared_at cs k) (versions_at cs k)) (applied_prepared t.number (prepared_at cs k)) (filter (claims schema root 0) (applied m owner txn 0 t))) [
+        | false ↦ λ off. kept_of_others root is_root k under None off
         | true ↦ λ is.
-            let old = kept_under m reached cs kept key (is_transaction owner txn) t outcome.Aborted found is e in
-            subst (IsKeptBy key (commits_at key m.log) (applied_versions t.number None (prepared_at cs key) (versions_at cs key)) (applied_prepared t.number (prepared_at cs key))) (sym (left key is)) (
-              none_prepared t.number (prepared_at cs key) old.0,
-              subst (HasRows key (commits_at key m.log)) (sym (given_up_versions t.number (prepared_at cs key) (versions_at cs key))) old.1,
+            let old = kept_under schema m reached cs kept root is_root k under (is_transaction owner txn) t outcome.Aborted found is e in
+            subst (IsKeptBy schema root k (commits_at schema root m.log) (applied_versions t.number None (prepared_at cs k) (versions_at cs k)) (applied_prepared t.number (prepared_at cs k))) (sym (left root is_root is)) (
+              none_prepared t.number (prepared_at cs k) old.0,
+              subst (HasRows schema root k (commits_at schema root m.log)) (sym (given_up_versions t.number (prepared_at cs k) (versions_at cs k))) old.1,
             )
       ] refl
 
   -- the commit's writes are versions
-  pub kept_committed : (ts : ℕ) → t.outcome ≡ outcome.Committed ts → AreKept (applied_at (outcome.Committed ts) m owner txn 0 t).1 (shard.applied txn (Some ts) cs)
-  kept_committed ts e = subst (λ n. AreKept (applied_at (outcome.Committed ts) m owner txn 0 t).1 (shard.applied n (Some ts) cs)) txn_is
+  pub kept_committed : (ts : ℕ) → t.outcome ≡ outcome.Committed ts → AreKept schema (applied_at (outcome.Committed ts) m owner txn 0 t).1 (shard.applied txn (Some ts) cs)
+  kept_committed ts e = subst (λ n. AreKept schema (applied_at (outcome.Committed ts) m owner txn 0 t).1 (shard.applied n (Some ts) cs)) txn_is
       (kept_by_keys (applied_at (outcome.Committed ts) m owner txn 0 t).1 (Some ts) refl refl (committed_key ts e))
 
   -- the writes are given up
-  pub kept_aborted : t.outcome ≡ outcome.Aborted → AreKept (applied_at outcome.Aborted m owner txn 0 t).1 (shard.applied txn None cs)
-  kept_aborted e = subst (λ n. AreKept (applied_at outcome.Aborted m owner txn 0 t).1 (shard.applied n None cs)) txn_is
+  pub kept_aborted : t.outcome ≡ outcome.Aborted → AreKept schema (applied_at outcome.Aborted m owner txn 0 t).1 (shard.applied txn None cs)
+  kept_aborted e = subst (λ n. AreKept schema (applied_at outcome.Aborted m owner txn 0 t).1 (shard.applied n None cs)) txn_is
       (kept_by_keys (applied_at outcome.Aborted m owner txn 0 t).1 None refl refl (aborted_key e))

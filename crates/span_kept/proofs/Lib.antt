@@ -1,8 +1,11 @@
 pub mod Keys
 pub mod Claimers
+pub mod Roots
 pub mod Steps
 pub mod Rows
-pub mod Preparing
 pub mod Applying
+pub mod Preparing
+pub mod Sorted
+pub mod KeyOrders
 pub mod Snapshots
 pub mod Covers

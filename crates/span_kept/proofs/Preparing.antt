@@ -1,197 +1,289 @@
-use Rattle.std.proofs.Common.{◌≡◌, ℕ, ℤ, ◌-◌, true, false, cond, ◌&&◌, ◌||◌, ◌==◌, List, [], ◌∷◌, ◌++◌, length, Option, Some, None, Ok, Err, refl, ap, sym, ◌∙◌, subst}
-use Rattle.std.specs.Prelude.{slice_get, find, filter}
-use Rattle.std.specs.List.{list_any}
-use Rattle.std.specs.FinMap as finmap
+-- A Prepare: the shard holds what the machine says, and the writes that it prepares are kept.
+use Rattle.std.proofs.Common.{◌≡◌, ◌≢◌, ℕ, ◌-◌, true, false, cond, ◌&&◌, ◌||◌, ◌==◌, Bool, List, [], ◌∷◌, ◌++◌, length, Option, Some, None, Ok, Err, refl, ap, sym, ◌∙◌, subst, inl, inr, ◌⊎◌}
+use Rattle.std.specs.Prelude.{slice_get, find, filter, is_some}
+use Rattle.std.specs.List.{list_any, AllByRecursion}
 use Rattle.span_value.specs.declared.refusal.Refusal.{Refusal}
-use Rattle.span_value.specs.declared.refusal.Refusal.TheVariants.{Exists}
-use Rattle.span_value.specs.declared.value.Value.{Value}
+use Rattle.span_value.specs.declared.refusal.Refusal.TheVariants.{OutOfMemory}
+use Rattle.span_schema.specs.declared.table.Table.{Table}
+use Rattle.span_schema.specs.Lineages.{MeetsRules}
 use Rattle.span_truetime.specs.Time.{timestamp_end}
+use Rattle.span_mutate.specs.declared.mutation.CheckedMutation.{CheckedMutation}
+use Rattle.span_mutate.specs.declared.row.TableRow.{TableRow}
+use Rattle.span_mutate.specs.Checking.{and_then}
+use Rattle.span_mutate.specs.Database.{apply}
+use Rattle.span_mutate.specs.Directories.{Root, directory, IsDatabase, AreKeyed}
+use Rattle.span_mutate.specs.Typed.{AreTyped, AreTypedMutations}
+use Rattle.span_mutate.proofs.TypedRows.{typed_stay}
 use Rattle.span_shard.specs.declared.chain.PreparedWrite.{PreparedWrite}
-use Rattle.span_shard.specs.declared.mutation.CheckedMutation.{CheckedMutation}
-use Rattle.span_shard.specs.declared.mutation.MutationKind.{MutationKind}
-use Rattle.span_shard.specs.declared.mutation.MutationKind.TheVariants.{Insert, Delete}
 use Rattle.span_shard.specs.declared.write.Write.{Write}
-use Rattle.span_shard.specs.Database.{Database, and_then, row_by, row_after, with_row, apply, is_at, row_through}
 use Rattle.span_shard.specs.KeyVersions.{KeyVersions}
-use Rattle.span_shard.specs.Writes.{IsWrite, IsWritten, is_of, AreWrites}
-use Rattle.span_shard.specs.Shard.{versions_at, prepared_at, prepared_of, row_now, with_writes, IsNotOf, HasNoneOf, IsFree}
+use Rattle.span_shard.specs.Rows.{begins_with, row_coded, root_code, is_touched, AreChanges}
+use Rattle.span_shard.specs.Writes.{IsWrite, is_of}
+use Rattle.std.specs.declared.cmp.Ordering.TheVariants.{Less, Equal, Greater}
+use Rattle.span_keycode.specs.Order.{byte_order}
+use Rattle.span_shard.specs.Versions.{with_prepared}
+use Rattle.span_shard.specs.Shard.{is_key, versions_at, prepared_at, prepared_of, by_order, fresh, prepared_write, with_write, with_writes, IsNotOf, HasNoneOf, IsFree, IsNow}
+use Rattle.span_shard.proofs.Bytes.{bytes_same}
+use Rattle.span_shard.proofs.InOrder.{in_order_with_writes}
 use Rattle.span_shard.proofs.Undo.{used_with_writes}
 use Rattle.span_machine.specs.declared.slot.Book.{Book}
 use Rattle.span_machine.specs.declared.transaction.OpenTransaction.{OpenTransaction}
 use Rattle.span_machine.specs.declared.transaction.Prepared.{Prepared}
-use Rattle.span_machine.specs.Tables.{tables}
-use Rattle.span_machine.specs.Machine.{Machine, is_transaction, is_undecided, is_prepared_at, mutations_in, conflicts, prepare_refusal, prepare_timestamp, prepared, add_prepared, changed_first, faults, fault_of}
+use Rattle.span_machine.specs.Tables.{upto, mutations_of, tables}
+use Rattle.span_machine.specs.Machine.{Machine, root_at, is_at, is_transaction, is_undecided, is_prepared_at, mutations_in, conflicts, prepare_refusal, prepare_timestamp, prepared, add_prepared, changed_first, faults, fault_of}
 use Rattle.span_laws.proofs.Causes.{may_prepare, is_undecided_outcome}
 use Rattle.span_laws.proofs.Tests.{second_true, second_or, number_same}
-use Rattle.span_laws.proofs.Lists.{found_passes}
-use Rattle.span_laws.proofs.Locality.{apply-row, apply-succeeds, EachSucceeds}
-use Rattle.span_laws.proofs.Stability.{is_some_of, none_of}
-use Rattle.span_laws.proofs.InPlace.{commits_at, claims}
-use Rattle.span_laws.proofs.Claims.{unclaimed, all_held}
+use Rattle.span_laws.proofs.Lists.{found_passes, all_found, all_weaker}
+use Rattle.span_laws.proofs.Locality.{is_at-itself, apply-directory, apply-database, empty_database, ok_same}
+use Rattle.span_laws.proofs.Stability.{changes_at, touches, is_some_of, none_of}
+use Rattle.span_laws.proofs.InPlace.{commits_at, claims, changes_at-upto}
+use Rattle.span_laws.proofs.Claims.{unclaimed, all_held, all_kept, under_filter}
+use Rattle.span_laws.proofs.Schemas.{IsBegunBy, keyed_upto, typed_upto, keyed_in, typed_in}
 use Rattle.span_laws.proofs.Reached.{IsReached, reached_tables}
-use Rattle.span_kept.specs.Kept.{HasRows, IsPut, IsKeptUnder, IsKeptBy, AreKept}
-use Rattle.span_kept.proofs.Keys.{all_by_key, prepared_by, rising_with_writes, versions_at-with_writes, prepared_at-with_writes}
+use Rattle.span_kept.specs.Kept.{IsCodedRoot, IsCodedCoding, is_under, HasRows, IsPut, IsKeptUnder, IsKeptBy, AreKept}
+use Rattle.span_kept.proofs.Keys.{all_by_key, prepared_by, versions_at-with_writes, prepared_at-with_writes}
 use Rattle.span_kept.proofs.Claimers.{and_false, false_and, claimers_of}
+use Rattle.span_kept.proofs.Roots.{coded_root, coded_root_at, root_of_coding, coding_of_row, coded_in_directory}
 use Rattle.span_kept.proofs.Rows.{row_now_of_tables, not_of_others, others_apart}
 
--- ---- the one fault that there is
-
-row_fault : (kind : MutationKind) (cell : Value) (row : Option Value) (why : Refusal) → row_by kind cell row ≡ Err why → why ≡ Exists
-row_fault Insert cell None why e = absurd (cc)
-row_fault Insert cell (Some old) why e = cc
-row_fault Delete cell row why e = absurd (cc)
-
--- mutations of a key fault only where a row is there that is inserted
-pub through_fault : (ms : List CheckedMutation) (row : Option Value) (why : Refusal) → row_through row ms ≡ Err why → why ≡ Exists
-through_fault [] row why = λ e. absurd (cc)
-through_fault (m ∷ ms) row why = elim (row_after m row) as (λ r. row_after m row ≡ r → and_then r (λ next. row_through next ms) ≡ Err why → why ≡ Exists) [
-  | Ok next ↦ λ is e. through_fault ms next why e
-  | Err bad ↦ λ is e. let b : bad ≡ Exists = row_fault m.kind m.cell row bad is in cc
-] refl
-
-pub apply_fault : (ms : List CheckedMutation) (db : Database) (why : Refusal) → apply db ms ≡ Err why → why ≡ Exists
-apply_fault [] db why = λ e. absurd (cc)
-apply_fault (m ∷ ms) db why = elim (row_after m (finmap.get db m.key)) as (λ r. row_after m (finmap.get db m.key) ≡ r → and_then (and_then r (λ row. Ok (with_row db m.key row))) (λ next. apply next ms) ≡ Err why → why ≡ Exists) [
-  | Ok row ↦ λ is e. apply_fault ms (with_row db m.key row) why e
-  | Err bad ↦ λ is e. let b : bad ≡ Exists = row_fault m.kind m.cell (finmap.get db m.key) bad is in cc
-] refl
-
 -- ---- tests
-
-any_some : (key : ℤ) (ms : List CheckedMutation) → list_any (is_at key) ms ≡ true → is_some_of (filter (is_at key) ms) ≡ true
-any_some key [] = λ e. e
-any_some key (m ∷ ms) = elim (is_at key m) as (λ v. (v || list_any (is_at key) ms) ≡ true → is_some_of (cond v (m ∷ filter (is_at key) ms) (filter (is_at key) ms)) ≡ true) [
-  | true ↦ λ e. refl
-  | false ↦ λ e. any_some key ms e
-]
 
 prepared_here : (ts : ℕ) (ps : List Prepared) → list_any (λ p. p.slot == 0) (ps ++ (record { slot = 0; timestamp = ts }) ∷ []) ≡ true
 prepared_here ts [] = refl
 prepared_here ts (p ∷ ps) = second_or (p.slot == 0) _ (prepared_here ts ps)
 
+-- a touched key is under the root row of one of the mutations
+pub touched_root : (schema : List Table) → MeetsRules schema → (k : List ℕ) (ms : List CheckedMutation) → AreTypedMutations schema ms → is_touched schema ms k ≡ true
+    → (root : Root) × IsCodedRoot schema root × (is_under schema root k ≡ true) × (is_some_of (filter (is_at schema root) ms) ≡ true)
+touched_root schema rules k [] typed e = absurd (let f : false ≡ true = e in cc)
+touched_root schema rules k (m ∷ ms) typed e = cases (begins_with k (root_code schema m)) refl (λ f. touched_root schema rules k ms typed.1 f)
+  where
+    here : is_some_of (filter (is_at schema (root_at schema m)) (m ∷ ms)) ≡ true
+    here = ap (λ b. is_some_of (cond b (m ∷ filter (is_at schema (root_at schema m)) ms) (filter (is_at schema (root_at schema m)) ms))) (is_at-itself schema m)
+
+    more : (root : Root) → is_some_of (filter (is_at schema root) ms) ≡ true → is_some_of (filter (is_at schema root) (m ∷ ms)) ≡ true
+    more root f = elim (is_at schema root m) as (λ b. is_some_of (cond b (m ∷ filter (is_at schema root) ms) (filter (is_at schema root) ms)) ≡ true) [ true ↦ refl | false ↦ f ]
+
+    cases : (b : Bool) → begins_with k (root_code schema m) ≡ b
+        → (is_touched schema ms k ≡ true → (root : Root) × IsCodedRoot schema root × (is_under schema root k ≡ true) × (is_some_of (filter (is_at schema root) ms) ≡ true))
+        → (root : Root) × IsCodedRoot schema root × (is_under schema root k ≡ true) × (is_some_of (filter (is_at schema root) (m ∷ ms)) ≡ true)
+    cases true f again = (root_at schema m, coded_root_at schema rules m typed.0, f, here)
+    cases false f again =
+        let rest = again (sym (ap (λ b. b || list_any (λ (n : CheckedMutation). begins_with k (root_code schema n)) ms) f) ∙ e) in
+        (rest.0, rest.1, rest.2, more rest.0 rest.3)
+
 -- ---- writes
 
-no_write : (key : ℤ) (before : Option Value) (ms : List CheckedMutation) (found : Option Write) → filter (is_at key) ms ≡ [] → IsWritten key before ms found → found ≡ None
-no_write key before ms None none one = refl
-no_write key before ms (Some w) none one =
-    let same : row_through before (filter (is_at key) ms) ≡ Ok before = ap (row_through before) none in
-    let back : one.after ≡ before = cc (same, one.through) in
-    absurd (one.write.2 back)
+put_of : (k : List ℕ) (n txn : ℕ) (before after : Option (List ℕ)) (found : Option Write) (p : Option PreparedWrite) → p ≡ None → txn ≡ n → IsWrite k before after found → IsPut n before after (prepared_by txn found p)
+put_of k n txn before after None p none same write = subst (IsPut n before after) (sym none) write
+put_of k n txn before after (Some w) p none same write = (same, write.1)
 
-put_of : (key : ℤ) (n txn : ℕ) (before after : Option Value) (found : Option Write) (p : Option PreparedWrite) → p ≡ None → txn ≡ n → IsWrite key before after found → IsPut n before after (prepared_by txn found p)
-put_of key n txn before after None p none same write = subst (IsPut n before after) (sym none) write
-put_of key n txn before after (Some w) p none same write = (same, write.1)
+-- where nothing changes nothing is written
+no_write : (k : List ℕ) (before after : Option (List ℕ)) (found : Option Write) → after ≡ before → IsWrite k before after found → found ≡ None
+no_write k before after None same write = refl
+no_write k before after (Some w) same write = absurd (write.2 same)
+
+-- where the row of a key changes, the key is the coding of one
+changed_coding : (schema : List Table) (k : List ℕ) (db after : List TableRow) → AreTyped schema db → AreTyped schema after → row_coded schema after k ≢ row_coded schema db k → IsCodedCoding schema k
+changed_coding schema k db after typed typed_after off = cases (row_coded schema db k) (row_coded schema after k) refl refl
+  where
+    cases : (a b : Option (List ℕ)) → row_coded schema db k ≡ a → row_coded schema after k ≡ b → IsCodedCoding schema k
+    cases (Some row) b e f = coding_of_row schema k db row typed e
+    cases None (Some row) e f = coding_of_row schema k after row typed_after f
+    cases None None e f = absurd (off (f ∙ sym e))
+
+written_coding : (schema : List Table) (k : List ℕ) (db after : List TableRow) (found : Option Write) → AreTyped schema db → AreTyped schema after → IsWrite k (row_coded schema db k) (row_coded schema after k) found → is_some found ≡ true → IsCodedCoding schema k
+written_coding schema k db after None typed typed_after write some = absurd (let f : false ≡ true = some in cc)
+written_coding schema k db after (Some w) typed typed_after write some = changed_coding schema k db after typed typed_after write.2
+
+some_more : (p : Write → Bool) (w : Write) (ws : List Write) → is_some (find p ws) ≡ true → is_some (find p (w ∷ ws)) ≡ true
+some_more p w ws e = elim (p w) as (λ b. is_some (cond b (Some w) (find p ws)) ≡ true) [ true ↦ refl | false ↦ e ]
+
+some_found : (ws : List Write) → AllByRecursion (λ w. is_some (find (is_of w.key) ws) ≡ true) ws
+some_found [] = tt
+some_found (w ∷ ws) = (
+  ap (λ b. is_some (cond b (Some w) (find (is_of w.key) ws))) (bytes_same w.key w.key refl),
+  all_weaker (λ v. is_some (find (is_of v.key) ws) ≡ true) (λ v. is_some (find (is_of v.key) (w ∷ ws)) ≡ true) (λ v e. some_more (is_of v.key) w ws e) ws (some_found ws),
+)
+
+-- every key stays the coding of a key
+coded_with_write : (schema : List Table) (txn : ℕ) (w : Write) (cs : List KeyVersions) → IsCodedCoding schema w.key → AllByRecursion (λ (c : KeyVersions). IsCodedCoding schema c.key) cs → AllByRecursion (λ (c : KeyVersions). IsCodedCoding schema c.key) (with_write txn w cs)
+coded_with_write schema txn w [] here all = (here, tt)
+coded_with_write schema txn w (c ∷ cs) here all =
+    elim (byte_order w.key c.key) as (λ o. AllByRecursion (λ (d : KeyVersions). IsCodedCoding schema d.key) (by_order o (fresh txn w ∷ c ∷ cs) (with_prepared (prepared_write txn w) c ∷ cs) (c ∷ with_write txn w cs))) [
+      | Less ↦ (here, all)
+      | Equal ↦ (all.0, all.1)
+      | Greater ↦ (all.0, coded_with_write schema txn w cs here all.1)
+    ]
+
+coded_with_writes : (schema : List Table) (txn : ℕ) (ws : List Write) (cs : List KeyVersions) → AllByRecursion (λ (w : Write). IsCodedCoding schema w.key) ws → AllByRecursion (λ (c : KeyVersions). IsCodedCoding schema c.key) cs
+    → AllByRecursion (λ (c : KeyVersions). IsCodedCoding schema c.key) (with_writes txn ws cs)
+coded_with_writes schema txn [] cs each all = all
+coded_with_writes schema txn (w ∷ ws) cs each all = coded_with_write schema txn w (with_writes txn ws cs) each.0 (coded_with_writes schema txn ws cs each.1 all)
 
 -- ---- Prepare at slot 0
 
-module _ (m : Machine) (reached : IsReached m) (cs : List KeyVersions) (kept : AreKept m cs) (owner txn : ℕ) (t : OpenTransaction) (book : Book) (found : find (is_transaction owner txn) m.transactions ≡ Some t)
-    (here : slice_get m.books 0 ≡ Some book) (accepted : prepare_refusal m 0 t book ≡ None) where
-  may : (is_undecided t ≡ true) × (is_prepared_at 0 t ≡ false) × (conflicts m 0 (mutations_in book t.mutations) ≡ false)
-  may = may_prepare (is_undecided t) (is_prepared_at 0 t) (length (mutations_in book t.mutations) == 0) (conflicts m 0 (mutations_in book t.mutations)) accepted
+module _ (schema : List Table) (rules : MeetsRules schema) (m : Machine) (reached : IsReached schema m) (cs : List KeyVersions) (kept : AreKept schema m cs) (owner txn : ℕ) (t : OpenTransaction) (book : Book)
+    (found : find (is_transaction owner txn) m.transactions ≡ Some t) (here : slice_get m.books 0 ≡ Some book) (accepted : prepare_refusal schema m 0 t book ≡ None) where
+  abbrev its : List CheckedMutation
+  its = mutations_in schema book t.mutations
+
+  may : (is_undecided t ≡ true) × (is_prepared_at 0 t ≡ false) × (conflicts schema m 0 (mutations_in schema book t.mutations) ≡ false)
+  may = may_prepare (is_undecided t) (is_prepared_at 0 t) (length (mutations_in schema book t.mutations) == 0) (conflicts schema m 0 (mutations_in schema book t.mutations)) accepted
 
   txn_is : t.number ≡ txn
   txn_is = number_same t.number txn (second_true (t.owner == owner) (t.number == txn) (found_passes (is_transaction owner txn) m.transactions t found))
 
-  -- no transaction claims a key of the mutations
-  none_claims : (key : ℤ) → is_some_of (filter (is_at key) (mutations_in book t.mutations)) ≡ true → filter (claims key 0) m.transactions ≡ []
-  none_claims key some = unclaimed key 0 (mutations_in book t.mutations) m.transactions some may.2
+  pub its_typed : AreTypedMutations schema (mutations_in schema book t.mutations)
+  its_typed = typed_in schema book t.mutations (all_found (IsBegunBy schema) (is_transaction owner txn) m.transactions t found reached.by_schema.transactions)
 
-  not_yet : (key : ℤ) → claims key 0 t ≡ false
-  not_yet key = false_and (is_prepared_at 0 t) (is_some_of (filter (is_at key) t.mutations)) may.1
+  its_keyed : AreKeyed schema (mutations_in schema book t.mutations)
+  its_keyed = keyed_in schema book t.mutations (all_found (IsBegunBy schema) (is_transaction owner txn) m.transactions t found reached.by_schema.transactions)
 
-  none_kept : (key : ℤ) → is_some_of (filter (is_at key) (mutations_in book t.mutations)) ≡ true → (prepared_at cs key ≡ None) × HasRows key (commits_at key m.log) (versions_at cs key)
-  none_kept key some = subst (IsKeptBy key (commits_at key m.log) (versions_at cs key) (prepared_at cs key)) (none_claims key some) (kept.kept key)
+  -- no transaction claims a directory of the mutations
+  none_claims : (root : Root) → IsCodedRoot schema root → is_some_of (filter (is_at schema root) (mutations_in schema book t.mutations)) ≡ true → filter (claims schema root 0) m.transactions ≡ []
+  none_claims root is some = unclaimed schema root (coded_root schema root is) 0 (mutations_in schema book t.mutations) m.transactions some may.2
 
-  -- nothing is prepared at the keys of the mutations
-  pub prepare_free : IsFree (mutations_in book t.mutations) cs
-  prepare_free = all_by_key (λ (c : KeyVersions). list_any (is_at c.key) (mutations_in book t.mutations) ≡ true → c.prepared ≡ None) cs kept.keys
-      (λ c at any. sym (ap prepared_of at) ∙ (none_kept c.key (any_some c.key (mutations_in book t.mutations) any)).0)
+  not_yet : (root : Root) → claims schema root 0 t ≡ false
+  not_yet root = false_and (is_prepared_at 0 t) (is_some_of (filter (is_at schema root) t.mutations)) may.1
 
-  -- nothing of the transaction is prepared
+  none_kept : (root : Root) (is : IsCodedRoot schema root) (k : List ℕ) (under : is_under schema root k ≡ true) → is_some_of (filter (is_at schema root) (mutations_in schema book t.mutations)) ≡ true
+      → (prepared_at cs k ≡ None) × HasRows schema root k (commits_at schema root m.log) (versions_at cs k)
+  none_kept root is k under some = subst (IsKeptBy schema root k (commits_at schema root m.log) (versions_at cs k) (prepared_at cs k)) (none_claims root is some) (kept.kept root is k under)
+
+  -- nothing is prepared at a key that the mutations touch
+  pub prepare_free : IsFree schema (mutations_in schema book t.mutations) cs
+  prepare_free = all_by_key (λ (c : KeyVersions). is_touched schema (mutations_in schema book t.mutations) c.key ≡ true → c.prepared ≡ None) cs kept.keys
+      (λ c at touched. let at_root = touched_root schema rules c.key (mutations_in schema book t.mutations) its_typed touched in
+      sym (ap prepared_of at) ∙ (none_kept at_root.0 at_root.1 c.key at_root.2 at_root.3).0)
+
+  -- nothing of the transaction is prepared: what is prepared at a coded key is of the transaction that claims its directory
   pub prepare_new : HasNoneOf txn cs
-  prepare_new = all_by_key (λ (c : KeyVersions). IsNotOf txn c.prepared) cs kept.keys
-      (λ c at. subst (IsNotOf txn) (ap prepared_of at) (subst (λ n. IsNotOf n (prepared_at cs c.key)) txn_is
-      (not_of_others c.key (commits_at c.key m.log) (versions_at cs c.key) (prepared_at cs c.key) (filter (claims c.key 0) m.transactions) t.number (kept.kept c.key)
-      (others_apart m reached c.key (is_transaction owner txn) t found (not_yet c.key)))))
+  prepare_new = all_by_key (λ (c : KeyVersions). IsNotOf txn c.prepared) cs kept.keys (λ c at.
+      let root = root_of_coding schema rules c.key (all_found (λ (d : KeyVersions). IsCodedCoding schema d.key) (is_key c.key) cs c at kept.coded) in
+      subst (IsNotOf txn) (ap prepared_of at) (subst (λ n. IsNotOf n (prepared_at cs c.key)) txn_is
+      (not_of_others schema root.0 c.key (commits_at schema root.0 m.log) (versions_at cs c.key) (prepared_at cs c.key) (filter (claims schema root.0 0) m.transactions) t.number (kept.kept root.0 root.1 c.key root.2)
+      (others_apart schema m reached root.0 (is_transaction owner txn) t found (not_yet root.0)))))
 
-  -- the newest row of a key of the mutations is that of the tables
-  row_is : (key : ℤ) (db : Database) → is_some_of (filter (is_at key) (mutations_in book t.mutations)) ≡ true → tables m.log (timestamp_end - 1) ≡ Ok db → row_now cs key ≡ finmap.get db key
-  row_is key db some made = row_now_of_tables m cs key db reached kept (none_claims key some) made
+  -- the tables as they are
+  made : (db : List TableRow) × (tables schema m.log (timestamp_end - 1) ≡ Ok db)
+  made = reached_tables schema rules m (timestamp_end - 1) reached
 
-  faults_on : (db : Database) → tables m.log (timestamp_end - 1) ≡ Ok db → faults m (mutations_in book t.mutations) ≡ fault_of (apply db (mutations_in book t.mutations))
-  faults_on db made = ap (λ r. fault_of (and_then r (λ d. apply d (mutations_in book t.mutations)))) made
+  made_database : IsDatabase schema made.0
+  made_database = apply-database schema rules (mutations_of (upto m.log (timestamp_end - 1))) [] made.0 (empty_database schema) (keyed_upto schema m.log (timestamp_end - 1) reached.by_schema.log) made.1
 
-  -- the fault that the mutations meet at a key is the one that the tables meet
-  pub prepare_fault : (key : ℤ) (why : Refusal) → row_through (row_now cs key) (filter (is_at key) (mutations_in book t.mutations)) ≡ Err why → faults m (mutations_in book t.mutations) ≡ Some why
-  prepare_fault key why bad =
-      elim (is_some_of (filter (is_at key) (mutations_in book t.mutations))) as (λ v. is_some_of (filter (is_at key) (mutations_in book t.mutations)) ≡ v → faults m (mutations_in book t.mutations) ≡ Some why) [
-        | false ↦ λ none.
-            let through : row_through (row_now cs key) (filter (is_at key) (mutations_in book t.mutations)) ≡ Ok (row_now cs key) = ap (row_through (row_now cs key)) (none_of (filter (is_at key) (mutations_in book t.mutations)) none) in
-            absurd (cc)
-        | true ↦ λ some.
-            let made = reached_tables m (timestamp_end - 1) reached in
-            let there : row_through (finmap.get made.0 key) (filter (is_at key) (mutations_in book t.mutations)) ≡ Err why =
-            subst (λ (r : Option Value). row_through r (filter (is_at key) (mutations_in book t.mutations)) ≡ Err why) (row_is key made.0 some made.1) bad in
-            faults_on made.0 made.1
-            ∙ elim (apply made.0 (mutations_in book t.mutations)) as (λ r. apply made.0 (mutations_in book t.mutations) ≡ r → fault_of r ≡ Some why) [
-              | Ok out ↦ λ e. let well : row_through (finmap.get made.0 key) (filter (is_at key) (mutations_in book t.mutations)) ≡ Ok (finmap.get out key) = apply-row (mutations_in book t.mutations) made.0 out key e in absurd (cc (well, there))
-              | Err found_why ↦ λ e. ap Some (apply_fault (mutations_in book t.mutations) made.0 found_why e ∙ sym (through_fault (filter (is_at key) (mutations_in book t.mutations)) (finmap.get made.0 key) why there))
-            ] refl
-      ] refl
+  made_typed : AreTyped schema made.0
+  made_typed = typed_stay schema [] (mutations_of (upto m.log (timestamp_end - 1))) made.0 tt (typed_upto schema m.log (timestamp_end - 1) reached.by_schema.log) made.1
 
-  each_well : (ws : List Write) (db : Database) → tables m.log (timestamp_end - 1) ≡ Ok db → AreWrites (row_now cs) (mutations_in book t.mutations) ws → EachSucceeds (mutations_in book t.mutations) db
-  each_well ws db made are key =
-      elim (is_some_of (filter (is_at key) (mutations_in book t.mutations))) as (λ v. is_some_of (filter (is_at key) (mutations_in book t.mutations)) ≡ v → (row : Option Value) × (row_through (finmap.get db key) (filter (is_at key) (mutations_in book t.mutations)) ≡ Ok row)) [
-        | false ↦ λ none. (finmap.get db key, ap (row_through (finmap.get db key)) (none_of (filter (is_at key) (mutations_in book t.mutations)) none))
-        | true ↦ λ some. ((are key).after, subst (λ (r : Option Value). row_through r (filter (is_at key) (mutations_in book t.mutations)) ≡ Ok (are key).after) (row_is key db some made) (are key).through)
-      ] refl
+  -- at the touched keys the shard's rows are those of the tables
+  made_now : IsNow schema (mutations_in schema book t.mutations) made.0 cs
+  made_now k touched =
+      let at_root = touched_root schema rules k (mutations_in schema book t.mutations) its_typed touched in
+      row_now_of_tables schema rules m cs at_root.0 at_root.1 k at_root.2 made.0 reached kept made_typed (none_claims at_root.0 at_root.1 at_root.3) made.1
+
+  faults_on : faults schema m (mutations_in schema book t.mutations) ≡ fault_of (apply schema made.0 (mutations_in schema book t.mutations))
+  faults_on = ap (λ r. fault_of (and_then r (λ d. apply schema d (mutations_in schema book t.mutations)))) made.1
+
+  -- what the mutations make of every database that the shard's rows are of
+  abbrev pub Outcome_of : (List TableRow → Type 0) → Type 0
+  Outcome_of P = (db : List TableRow) → IsDatabase schema db → AreTyped schema db → IsNow schema (mutations_in schema book t.mutations) db cs → P db
+
+  -- the fault that the shard answers is the machine's
+  pub prepare_fault : (why : Refusal) → Outcome_of (λ db. (why ≡ OutOfMemory) ⊎ (apply schema db (mutations_in schema book t.mutations) ≡ Err why)) → (why ≡ OutOfMemory) ⊎ (faults schema m (mutations_in schema book t.mutations) ≡ Some why)
+  prepare_fault why says = elim (says made.0 made_database made_typed made_now) [
+    | inl memory ↦ inl memory
+    | inr bad ↦ inr (faults_on ∙ ap fault_of bad)
+  ]
+
+  abbrev pub Changes : List Write → Type 0
+  Changes ws = Outcome_of (λ db. (after : List TableRow) × (apply schema db (mutations_in schema book t.mutations) ≡ Ok after) × AreChanges schema db after ws)
 
   -- mutations that make their writes meet no fault
-  pub prepare_well : (ws : List Write) → AreWrites (row_now cs) (mutations_in book t.mutations) ws → faults m (mutations_in book t.mutations) ≡ None
-  prepare_well ws are =
-      let made = reached_tables m (timestamp_end - 1) reached in
-      faults_on made.0 made.1 ∙ ap fault_of (apply-succeeds (mutations_in book t.mutations) made.0 (each_well ws made.0 made.1 are)).1
+  pub prepare_well : (ws : List Write) → Changes ws → faults schema m (mutations_in schema book t.mutations) ≡ None
+  prepare_well ws says = faults_on ∙ ap fault_of (says made.0 made_database made_typed made_now).1
 
-  whole : (key : ℤ) → filter (is_at key) (mutations_in book t.mutations) ≡ filter (is_at key) t.mutations
-  whole key = all_held key book t.mutations ((reached.placed key).held book here)
+  whole : (root : Root) → IsCodedRoot schema root → filter (is_at schema root) (mutations_in schema book t.mutations) ≡ filter (is_at schema root) t.mutations
+  whole root is = all_held schema root (coded_root schema root is) book t.mutations ((reached.placed root (coded_root schema root is)).held book here)
 
-  -- what is kept at a key with its write prepared
-  prepared_key : (key : ℤ) (ws : List Write) → AreWrites (row_now cs) (mutations_in book t.mutations) ws
-      → IsKeptBy key (commits_at key m.log) (versions_at cs key) (prepared_by txn (find (is_of key) ws) (prepared_at cs key)) (filter (claims key 0) (changed_first (is_transaction owner txn) (add_prepared 0 (prepare_timestamp book)) m.transactions))
-  prepared_key key ws are =
-      let them = claimers_of m reached key (is_transaction owner txn) t found in
-      let one : IsWritten key (row_now cs key) (mutations_in book t.mutations) (find (is_of key) ws) = are key in
-      elim (is_some_of (filter (is_at key) t.mutations)) as (λ v. is_some_of (filter (is_at key) t.mutations) ≡ v
-      → IsKeptBy key (commits_at key m.log) (versions_at cs key) (prepared_by txn (find (is_of key) ws) (prepared_at cs key)) (filter (claims key 0) (changed_first (is_transaction owner txn) (add_prepared 0 (prepare_timestamp book)) m.transactions))) [
-        | false ↦ λ e.
-            let nothing : find (is_of key) ws ≡ None = no_write key (row_now cs key) (mutations_in book t.mutations) (find (is_of key) ws) (whole key ∙ none_of (filter (is_at key) t.mutations) e) one in
-            let still : filter (claims key 0) (changed_first (is_transaction owner txn) (add_prepared 0 (prepare_timestamp book)) m.transactions) ≡ filter (claims key 0) m.transactions =
-            them.away (add_prepared 0 (prepare_timestamp book)) (not_yet key) (and_false (is_prepared_at 0 (add_prepared 0 (prepare_timestamp book) t)) (is_some_of (filter (is_at key) t.mutations)) e) in
-            subst (IsKeptBy key (commits_at key m.log) (versions_at cs key) (prepared_by txn (find (is_of key) ws) (prepared_at cs key))) (sym still)
-            (subst (λ f. IsKeptBy key (commits_at key m.log) (versions_at cs key) (prepared_by txn f (prepared_at cs key)) (filter (claims key 0) m.transactions)) (sym nothing) (kept.kept key))
-        | true ↦ λ e.
-            let some : is_some_of (filter (is_at key) (mutations_in book t.mutations)) ≡ true = ap is_some_of (whole key) ∙ e in
-            let old = none_kept key some in
-            let is : claims key 0 (add_prepared 0 (prepare_timestamp book) t) ≡ true = ap (λ b. b && is_some_of (filter (is_at key) t.mutations)) (prepared_here (prepare_timestamp book) t.prepared) ∙ e in
-            subst (IsKeptBy key (commits_at key m.log) (versions_at cs key) (prepared_by txn (find (is_of key) ws) (prepared_at cs key)))
-            (sym (them.comes (add_prepared 0 (prepare_timestamp book)) (not_yet key) is (none_claims key some)))
-            (subst (IsKeptUnder key (commits_at key m.log) (versions_at cs key) (prepared_by txn (find (is_of key) ws) (prepared_at cs key)) (add_prepared 0 (prepare_timestamp book) t)) (sym (is_undecided_outcome t.outcome may.0)) (
-              record {
-                after = one.after;
-                through = subst (λ l. row_through (row_now cs key) l ≡ Ok one.after) (whole key) one.through;
-                put = put_of key t.number txn (row_now cs key) one.after (find (is_of key) ws) (prepared_at cs key) old.0 (sym txn_is) one.write;
-              },
-              old.1,
-            ))
-      ] refl
+  module _ (ws : List Write) (says : Changes ws) where
+    abbrev after : List TableRow
+    after = (says made.0 made_database made_typed made_now).0
 
-  -- the writes of the transaction are prepared
-  pub kept_prepared : (ws : List Write) → AreWrites (row_now cs) (mutations_in book t.mutations) ws → AreKept (prepared m owner txn 0 book).1 (with_writes txn ws cs)
-  kept_prepared ws are = record {
-    keys = rising_with_writes txn ws cs kept.keys;
-    used = used_with_writes txn ws cs kept.used;
-    kept = λ key.
-        subst (λ vs. IsKeptBy key (commits_at key m.log) vs (prepared_at (with_writes txn ws cs) key) (filter (claims key 0) (changed_first (is_transaction owner txn) (add_prepared 0 (prepare_timestamp book)) m.transactions))) (sym (versions_at-with_writes txn ws cs key kept.keys))
-        (subst (λ p. IsKeptBy key (commits_at key m.log) (versions_at cs key) p (filter (claims key 0) (changed_first (is_transaction owner txn) (add_prepared 0 (prepare_timestamp book)) m.transactions))) (sym (prepared_at-with_writes txn ws cs key kept.keys))
-        (prepared_key key ws are));
-  }
+    applies : apply schema made.0 (mutations_in schema book t.mutations) ≡ Ok after
+    applies = (says made.0 made_database made_typed made_now).1
+
+    are : AreChanges schema made.0 after ws
+    are = (says made.0 made_database made_typed made_now).2
+
+    after_typed : AreTyped schema after
+    after_typed = typed_stay schema made.0 (mutations_in schema book t.mutations) after made_typed its_typed applies
+
+    -- what the mutations make of one directory
+    in_one : (root : Root) → IsCodedRoot schema root → apply schema (directory schema root made.0) (filter (is_at schema root) (mutations_in schema book t.mutations)) ≡ Ok (directory schema root after)
+    in_one root is = apply-directory schema rules (mutations_in schema book t.mutations) made.0 after root (coded_root schema root is) made_database its_keyed applies
+
+    -- a directory of no mutation stays
+    row_stays : (root : Root) (is : IsCodedRoot schema root) (k : List ℕ) (under : is_under schema root k ≡ true) → filter (is_at schema root) (mutations_in schema book t.mutations) ≡ [] → row_coded schema after k ≡ row_coded schema made.0 k
+    row_stays root is k under none =
+        let same : directory schema root made.0 ≡ directory schema root after = ok_same (sym (ap (apply schema (directory schema root made.0)) none) ∙ in_one root is) in
+        sym (coded_in_directory schema rules root is k under after after_typed) ∙ ap (λ (l : List TableRow). row_coded schema l k) (sym same) ∙ coded_in_directory schema rules root is k under made.0 made_typed
+
+    -- the directory behind its commits
+    now_is : (root : Root) → IsCodedRoot schema root → apply schema [] (changes_at schema root (commits_at schema root m.log)) ≡ Ok (directory schema root made.0)
+    now_is root is =
+        let place = reached.placed root (coded_root schema root is) in
+        sym (ap (apply schema []) (changes_at-upto schema root m.log (timestamp_end - 1) place.rising
+        ∙ ap (changes_at schema root) (all_kept (timestamp_end - 1) (commits_at schema root m.log) (under_filter timestamp_end (touches schema root) m.log place.in_range) refl)))
+        ∙ apply-directory schema rules (mutations_of (upto m.log (timestamp_end - 1))) [] made.0 root (coded_root schema root is) (empty_database schema) (keyed_upto schema m.log (timestamp_end - 1) reached.by_schema.log) made.1
+
+    -- what is kept at a key with its write prepared
+    prepared_key : (root : Root) (is_root : IsCodedRoot schema root) (k : List ℕ) (under : is_under schema root k ≡ true)
+        → IsKeptBy schema root k (commits_at schema root m.log) (versions_at cs k) (prepared_by txn (find (is_of k) ws) (prepared_at cs k)) (filter (claims schema root 0) (changed_first (is_transaction owner txn) (add_prepared 0 (prepare_timestamp book)) m.transactions))
+    prepared_key root is_root k under =
+        let them = claimers_of schema m reached root (coded_root schema root is_root) (is_transaction owner txn) t found in
+        elim (is_some_of (filter (is_at schema root) t.mutations)) as (λ v. is_some_of (filter (is_at schema root) t.mutations) ≡ v
+        → IsKeptBy schema root k (commits_at schema root m.log) (versions_at cs k) (prepared_by txn (find (is_of k) ws) (prepared_at cs k)) (filter (claims schema root 0) (changed_first (is_transaction owner txn) (add_prepared 0 (prepare_timestamp book)) m.transactions))) [
+          | false ↦ λ e.
+              let none : filter (is_at schema root) (mutations_in schema book t.mutations) ≡ [] = whole root is_root ∙ none_of (filter (is_at schema root) t.mutations) e in
+              let nothing : find (is_of k) ws ≡ None = no_write k (row_coded schema made.0 k) (row_coded schema after k) (find (is_of k) ws) (row_stays root is_root k under none) (are k) in
+              let still : filter (claims schema root 0) (changed_first (is_transaction owner txn) (add_prepared 0 (prepare_timestamp book)) m.transactions) ≡ filter (claims schema root 0) m.transactions =
+              them.away (add_prepared 0 (prepare_timestamp book)) (not_yet root) (and_false (is_prepared_at 0 (add_prepared 0 (prepare_timestamp book) t)) (is_some_of (filter (is_at schema root) t.mutations)) e) in
+              subst (IsKeptBy schema root k (commits_at schema root m.log) (versions_at cs k) (prepared_by txn (find (is_of k) ws) (prepared_at cs k))) (sym still)
+              (subst (λ f. IsKeptBy schema root k (commits_at schema root m.log) (versions_at cs k) (prepared_by txn f (prepared_at cs k)) (filter (claims schema root 0) m.transactions)) (sym nothing) (kept.kept root is_root k under))
+          | true ↦ λ e.
+              let some : is_some_of (filter (is_at schema root) (mutations_in schema book t.mutations)) ≡ true = ap is_some_of (whole root is_root) ∙ e in
+              let old = none_kept root is_root k under some in
+              let is : claims schema root 0 (add_prepared 0 (prepare_timestamp book) t) ≡ true = ap (λ b. b && is_some_of (filter (is_at schema root) t.mutations)) (prepared_here (prepare_timestamp book) t.prepared) ∙ e in
+              let write : IsWrite k (row_coded schema (directory schema root made.0) k) (row_coded schema (directory schema root after) k) (find (is_of k) ws) =
+              subst (λ (b : Option (List ℕ)). IsWrite k b (row_coded schema (directory schema root after) k) (find (is_of k) ws)) (sym (coded_in_directory schema rules root is_root k under made.0 made_typed))
+              (subst (λ (a : Option (List ℕ)). IsWrite k (row_coded schema made.0 k) a (find (is_of k) ws)) (sym (coded_in_directory schema rules root is_root k under after after_typed)) (are k)) in
+              subst (IsKeptBy schema root k (commits_at schema root m.log) (versions_at cs k) (prepared_by txn (find (is_of k) ws) (prepared_at cs k)))
+              (sym (them.comes (add_prepared 0 (prepare_timestamp book)) (not_yet root) is (none_claims root is_root some)))
+              (subst (IsKeptUnder schema root k (commits_at schema root m.log) (versions_at cs k) (prepared_by txn (find (is_of k) ws) (prepared_at cs k)) (add_prepared 0 (prepare_timestamp book) t)) (sym (is_undecided_outcome t.outcome may.0)) (
+                record {
+                  before = directory schema root made.0;
+                  after = directory schema root after;
+                  now = now_is root is_root;
+                  through = subst (λ l. apply schema (directory schema root made.0) l ≡ Ok (directory schema root after)) (whole root is_root) (in_one root is_root);
+                  put = put_of k t.number txn (row_coded schema (directory schema root made.0) k) (row_coded schema (directory schema root after) k) (find (is_of k) ws) (prepared_at cs k) old.0 (sym txn_is) write;
+                },
+                old.1,
+              ))
+        ] refl
+
+    -- the keys of the writes are codings
+    writes_coded : AllByRecursion (λ (w : Write). IsCodedCoding schema w.key) ws
+    writes_coded = all_weaker (λ (w : Write). is_some (find (is_of w.key) ws) ≡ true) (λ (w : Write). IsCodedCoding schema w.key)
+        (λ w some. written_coding schema w.key made.0 after (find (is_of w.key) ws) made_typed after_typed (are w.key) some) ws (some_found ws)
+
+    -- the writes of the transaction are prepared
+    pub kept_prepared : AreKept schema (prepared m owner txn 0 book).1 (with_writes txn ws cs)
+    kept_prepared = record {
+      keys = in_order_with_writes txn ws cs kept.keys;
+      used = used_with_writes txn ws cs kept.used;
+      coded = coded_with_writes schema txn ws cs writes_coded kept.coded;
+      kept = λ root is_root k under.
+          subst (λ vs. IsKeptBy schema root k (commits_at schema root m.log) vs (prepared_at (with_writes txn ws cs) k) (filter (claims schema root 0) (changed_first (is_transaction owner txn) (add_prepared 0 (prepare_timestamp book)) m.transactions))) (sym (versions_at-with_writes txn ws cs k kept.keys))
+          (subst (λ p. IsKeptBy schema root k (commits_at schema root m.log) (versions_at cs k) p (filter (claims schema root 0) (changed_first (is_transaction owner txn) (add_prepared 0 (prepare_timestamp book)) m.transactions))) (sym (prepared_at-with_writes txn ws cs k kept.keys))
+          (prepared_key root is_root k under));
+    }

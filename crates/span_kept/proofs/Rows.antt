@@ -1,36 +1,41 @@
-use Rattle.std.proofs.Common.{◌≡◌, ◌≢◌, ℕ, ℤ, ◌<◌, ◌≤◌, ◌-◌, suc, Bool, true, false, cond, nat_le, List, [], ◌∷◌, ◌++◌, Option, Some, None, Ok, refl, ap, sym, ◌∙◌, subst, arith}
+-- The rows that versions have, by the commits of a directory.
+use Rattle.std.proofs.Common.{◌≡◌, ◌≢◌, ℕ, ◌<◌, ◌≤◌, ◌-◌, suc, Bool, true, false, cond, nat_le, List, [], ◌∷◌, ◌++◌, Option, Some, None, Ok, refl, ap, sym, ◌∙◌, subst, inl, inr, ◌⊎◌, arith}
 use Rattle.std.specs.Prelude.{find, filter, option_and_then}
 use Rattle.std.specs.List.{AllByRecursion}
-use Rattle.std.specs.FinMap as finmap
-use Rattle.std.specs.FinMap.{get-empty}
-use Rattle.std.specs.Ordering.{int_cmp}
 use Rattle.std.proofs.lemmas.Bool.Decides.{nat_tests}
 use Rattle.std.proofs.lemmas.List.{append-nil}
 use Rattle.std.proofs.lemmas.List.Elements.{filter-append}
-use Rattle.span_value.specs.declared.value.Value.{Value}
+use Rattle.span_schema.specs.declared.table.Table.{Table}
+use Rattle.span_schema.specs.Lineages.{MeetsRules}
 use Rattle.span_truetime.specs.Time.{timestamp_end}
+use Rattle.span_mutate.specs.declared.row.TableRow.{TableRow}
+use Rattle.span_mutate.specs.Database.{apply}
+use Rattle.span_mutate.specs.Directories.{Root, directory}
+use Rattle.span_mutate.specs.Typed.{AreTyped}
 use Rattle.span_shard.specs.declared.chain.Version.{Version}
 use Rattle.span_shard.specs.declared.chain.PreparedWrite.{PreparedWrite}
-use Rattle.span_shard.specs.Database.{Database, is_at, row_through}
 use Rattle.span_shard.specs.KeyVersions.{KeyVersions}
+use Rattle.span_shard.specs.Rows.{row_coded}
 use Rattle.span_shard.specs.Versions.{row_at}
-use Rattle.span_shard.specs.Shard.{versions_at, row_now, end_of_time, IsNotOf}
+use Rattle.span_shard.specs.Shard.{versions_at, prepared_at, row_now, end_of_time, IsNotOf}
 use Rattle.span_shard.proofs.Undo.{IsOpenFor}
 use Rattle.span_machine.specs.declared.transaction.Commit.{Commit}
 use Rattle.span_machine.specs.declared.transaction.OpenTransaction.{OpenTransaction}
 use Rattle.span_machine.specs.declared.transaction.Outcome.{Outcome}
 use Rattle.span_machine.specs.declared.transaction.Outcome.TheVariants as outcome
 use Rattle.span_machine.specs.Tables.{upto, mutations_of, tables}
-use Rattle.span_machine.specs.Machine.{Machine}
+use Rattle.span_machine.specs.Machine.{Machine, is_at}
 use Rattle.span_laws.proofs.Tests.{not_both}
 use Rattle.span_laws.proofs.Lists.{IsIn, found_in, kept_in, all_in}
-use Rattle.span_laws.proofs.Locality.{apply-row, ok_same}
+use Rattle.span_laws.proofs.Locality.{apply-directory, empty_database, ok_same}
 use Rattle.span_laws.proofs.Stability.{changes_at, touches}
-use Rattle.span_laws.proofs.InPlace.{IsUnder, IsRising, commits_at, claims, row_through-append, changes_at-push, changes_at-upto}
+use Rattle.span_laws.proofs.InPlace.{IsUnder, IsRising, commits_at, claims, apply-append, changes_at-push, changes_at-upto}
 use Rattle.span_laws.proofs.Claims.{all_kept, under_filter}
 use Rattle.span_laws.proofs.Numbers.{same_number}
+use Rattle.span_laws.proofs.Schemas.{keyed_upto}
 use Rattle.span_laws.proofs.Reached.{IsReached}
-use Rattle.span_kept.specs.Kept.{HasRows, IsKeptUnder, IsKeptBy, AreKept}
+use Rattle.span_kept.specs.Kept.{IsCodedRoot, is_under, HasRows, IsKeptUnder, IsKeptBy, AreKept}
+use Rattle.span_kept.proofs.Roots.{coded_root, coded_in_directory}
 use Rattle.span_kept.proofs.Steps.{open_of_put}
 
 -- ---- what holds of each
@@ -76,88 +81,111 @@ end_is_past : timestamp_end ≤ end_of_time
 end_is_past = omega arith
 
 -- the newest row is what all commits make
-pub row_end : (key : ℤ) (cs : List Commit) (vs : List Version) → HasRows key cs vs → IsUnder timestamp_end cs → row_through None (changes_at key cs) ≡ Ok (row_at vs end_of_time)
-row_end key cs vs has under = ap (λ l. row_through None (changes_at key l)) (sym (all_upto end_of_time timestamp_end cs end_is_past under)) ∙ has.rows end_of_time
+pub row_end : (schema : List Table) (root : Root) (k : List ℕ) (cs : List Commit) (vs : List Version) → HasRows schema root k cs vs → IsUnder timestamp_end cs
+    → (db : List TableRow) × (apply schema [] (changes_at schema root cs) ≡ Ok db) × (row_coded schema db k ≡ row_at vs end_of_time)
+row_end schema root k cs vs has under =
+    let now = has.rows end_of_time in
+    (now.0, ap (λ l. apply schema [] (changes_at schema root l)) (sym (all_upto end_of_time timestamp_end cs end_is_past under)) ∙ now.1, now.2)
 
 -- ---- one commit more
 
--- the rows with a commit behind these
-rows_more : (key : ℤ) (front : List Commit) (c : Commit) (vs : List Version) (after : Option Value) → HasRows key front vs → IsUnder c.timestamp front → IsUnder timestamp_end front
-    → row_through (row_at vs end_of_time) (filter (is_at key) c.mutations) ≡ Ok after → (s : ℕ) (row : Option Value) (b : Bool) → nat_le c.timestamp s ≡ b → row ≡ cond b after (row_at vs s)
-    → row_through None (changes_at key (filter (λ d. nat_le d.timestamp s) front ++ cond b (c ∷ []) [])) ≡ Ok row
-rows_more key front c vs after has under low through s row true e is =
-    let high : c.timestamp ≤ s = grind (arith, nat_tests) in
-    ap (λ l. row_through None (changes_at key (l ++ c ∷ []))) (all_upto s c.timestamp front high under)
-    ∙ ap (row_through None) (changes_at-push key front c)
-    ∙ row_through-append (changes_at key front) (filter (is_at key) c.mutations) None (row_at vs end_of_time) (row_end key front vs has low)
-    ∙ through ∙ ap Ok (sym is)
-rows_more key front c vs after has under low through s row false e is =
-    ap (λ l. row_through None (changes_at key l)) (append-nil (filter (λ d. nat_le d.timestamp s) front)) ∙ has.rows s ∙ ap Ok (sym is)
+module _ (schema : List Table) (root : Root) (k : List ℕ) (front : List Commit) (c : Commit) (vs : List Version) (before after : List TableRow) (has : HasRows schema root k front vs) (under : IsUnder c.timestamp front)
+    (now : apply schema [] (changes_at schema root front) ≡ Ok before) (through : apply schema before (filter (is_at schema root) c.mutations) ≡ Ok after) where
+  -- the rows with a commit behind these
+  rows_more : (s : ℕ) (row : Option (List ℕ)) (b : Bool) → nat_le c.timestamp s ≡ b → row_coded schema after k ≡ row ⊎ (b ≡ false) → (b ≡ false → row_at vs s ≡ row)
+      → (db : List TableRow) × (apply schema [] (changes_at schema root (filter (λ d. nat_le d.timestamp s) front ++ cond b (c ∷ []) [])) ≡ Ok db) × (row_coded schema db k ≡ row)
+  rows_more s row true e (inl is) other =
+      let high : c.timestamp ≤ s = grind (arith, nat_tests) in (
+        after,
+        ap (λ l. apply schema [] (changes_at schema root (l ++ c ∷ []))) (all_upto s c.timestamp front high under)
+            ∙ ap (apply schema []) (changes_at-push schema root front c)
+            ∙ apply-append schema (changes_at schema root front) (filter (is_at schema root) c.mutations) [] before now
+            ∙ through,
+        is,
+      )
+  rows_more s row true e (inr bad) other = absurd (cc)
+  rows_more s row false e is other =
+      let old = has.rows s in
+      (old.0, ap (λ l. apply schema [] (changes_at schema root l)) (append-nil (filter (λ d. nat_le d.timestamp s) front)) ∙ old.1, old.2 ∙ other refl)
 
--- the commit's row as the newest version
-pub rows_push : (key : ℤ) (front : List Commit) (c : Commit) (vs : List Version) (after : Option Value) → HasRows key front vs → IsUnder c.timestamp front → IsUnder timestamp_end front
-    → row_through (row_at vs end_of_time) (filter (is_at key) c.mutations) ≡ Ok after → HasRows key (front ++ c ∷ []) ((record { timestamp = c.timestamp; row = after }) ∷ vs)
-rows_push key front c vs after has under low through = record {
-  rows = λ s.
-      ap (λ l. row_through None (changes_at key l)) (filter-append (λ d. nat_le d.timestamp s) front (c ∷ []))
-      ∙ rows_more key front c vs after has under low through s (row_at ((record { timestamp = c.timestamp; row = after }) ∷ vs) s) (nat_le c.timestamp s) refl
-      (elim (nat_le c.timestamp s) as (λ b. option_and_then (λ (v : Version). v.row) (cond b (Some (record { timestamp = c.timestamp; row = after })) (find (λ v. nat_le v.timestamp s) vs)) ≡ cond b after (row_at vs s)) [ true ↦ refl | false ↦ refl ]);
-}
+  -- the row of the key before the commit is the newest
+  row_before : (s : ℕ) → nat_le c.timestamp s ≡ true → row_at vs s ≡ row_coded schema before k
+  row_before s e =
+      let high : c.timestamp ≤ s = grind (arith, nat_tests) in
+      let old = has.rows s in
+      let same : old.0 ≡ before = ok_same (sym old.1 ∙ ap (λ l. apply schema [] (changes_at schema root l)) (all_upto s c.timestamp front high under) ∙ now) in
+      sym old.2 ∙ ap (λ (db : List TableRow). row_coded schema db k) same
 
--- the commit leaves the row as it was
-pub rows_still : (key : ℤ) (front : List Commit) (c : Commit) (vs : List Version) (after : Option Value) → HasRows key front vs → IsUnder c.timestamp front → IsUnder timestamp_end front
-    → row_through (row_at vs end_of_time) (filter (is_at key) c.mutations) ≡ Ok after → after ≡ row_at vs end_of_time → HasRows key (front ++ c ∷ []) vs
-rows_still key front c vs after has under low through same = record {
-  rows = λ s.
-      ap (λ l. row_through None (changes_at key l)) (filter-append (λ d. nat_le d.timestamp s) front (c ∷ []))
-      ∙ rows_more key front c vs after has under low through s (row_at vs s) (nat_le c.timestamp s) refl
-      (elim (nat_le c.timestamp s) as (λ b. nat_le c.timestamp s ≡ b → row_at vs s ≡ cond b after (row_at vs s)) [
-        | false ↦ λ e. refl
-        | true ↦ λ e.
-            let high : c.timestamp ≤ s = grind (arith, nat_tests) in
-            ok_same (sym (has.rows s) ∙ ap (λ l. row_through None (changes_at key l)) (all_upto s c.timestamp front high under) ∙ row_end key front vs has low) ∙ sym same
-      ] refl);
-}
+  -- the commit's row as the newest version
+  pub rows_push : HasRows schema root k (front ++ c ∷ []) ((record { timestamp = c.timestamp; row = row_coded schema after k }) ∷ vs)
+  rows_push = record {
+    rows = λ s.
+        let newest : List Version = (record { timestamp = c.timestamp; row = row_coded schema after k }) ∷ vs in
+        subst (λ l. (db : List TableRow) × (apply schema [] (changes_at schema root l) ≡ Ok db) × (row_coded schema db k ≡ row_at ((record { timestamp = c.timestamp; row = row_coded schema after k }) ∷ vs) s))
+        (sym (filter-append (λ d. nat_le d.timestamp s) front (c ∷ [])))
+        (elim (nat_le c.timestamp s) as (λ b. nat_le c.timestamp s ≡ b → (db : List TableRow) × (apply schema [] (changes_at schema root (filter (λ d. nat_le d.timestamp s) front ++ cond b (c ∷ []) [])) ≡ Ok db)
+        × (row_coded schema db k ≡ option_and_then (λ (v : Version). v.row) (cond b (Some (record { timestamp = c.timestamp; row = row_coded schema after k })) (find (λ v. nat_le v.timestamp s) vs)))) [
+          | true ↦ λ e. rows_more s (row_coded schema after k) true e (inl refl) (λ bad. absurd (cc))
+          | false ↦ λ e. rows_more s (row_at vs s) false e (inr refl) (λ _. refl)
+        ] refl);
+  }
+
+  -- the commit leaves the row as it was
+  pub rows_still : row_coded schema after k ≡ row_coded schema before k → HasRows schema root k (front ++ c ∷ []) vs
+  rows_still same = record {
+    rows = λ s.
+        subst (λ l. (db : List TableRow) × (apply schema [] (changes_at schema root l) ≡ Ok db) × (row_coded schema db k ≡ row_at vs s)) (sym (filter-append (λ d. nat_le d.timestamp s) front (c ∷ [])))
+        (elim (nat_le c.timestamp s) as (λ b. nat_le c.timestamp s ≡ b → (db : List TableRow) × (apply schema [] (changes_at schema root (filter (λ d. nat_le d.timestamp s) front ++ cond b (c ∷ []) [])) ≡ Ok db) × (row_coded schema db k ≡ row_at vs s)) [
+          | true ↦ λ e. rows_more s (row_at vs s) true e (inl (same ∙ sym (row_before s e))) (λ bad. absurd (cc))
+          | false ↦ λ e. rows_more s (row_at vs s) false e (inr refl) (λ _. refl)
+        ] refl);
+  }
 
 -- ---- the tables
 
--- the row that the key's commits up to s make is that of the tables at s
-pub row_of_tables : (key : ℤ) (log : List Commit) (s : ℕ) (row : Option Value) (db : Database) → IsRising (commits_at key log) → row_through None (changes_at key (filter (λ d. nat_le d.timestamp s) (commits_at key log))) ≡ Ok row
-    → tables log s ≡ Ok db → row ≡ finmap.get db key
-row_of_tables key log s row db up has made =
-    let tabled : row_through None (changes_at key (upto log s)) ≡ Ok (finmap.get db key) =
-    subst (λ (r : Option Value). row_through r (changes_at key (upto log s)) ≡ Ok (finmap.get db key)) (get-empty int_cmp key) (apply-row (mutations_of (upto log s)) finmap.empty db key made) in
-    ok_same (sym has ∙ ap (row_through None) (sym (changes_at-upto key log s up)) ∙ tabled)
+-- the row that the directory's commits up to s make is that of the tables at s
+pub row_of_tables : (schema : List Table) → MeetsRules schema → (m : Machine) → IsReached schema m → (root : Root) → IsCodedRoot schema root → (k : List ℕ) → is_under schema root k ≡ true → (s : ℕ) (row : Option (List ℕ)) (db : List TableRow)
+    → AreTyped schema db → ((made : List TableRow) × (apply schema [] (changes_at schema root (filter (λ d. nat_le d.timestamp s) (commits_at schema root m.log))) ≡ Ok made) × (row_coded schema made k ≡ row))
+    → tables schema m.log s ≡ Ok db → row ≡ row_coded schema db k
+row_of_tables schema rules m reached root is k under s row db typed has made =
+    let tabled : apply schema [] (changes_at schema root (upto m.log s)) ≡ Ok (directory schema root db) =
+    apply-directory schema rules (mutations_of (upto m.log s)) [] db root (coded_root schema root is) (empty_database schema) (keyed_upto schema m.log s reached.by_schema.log) made in
+    let same : has.0 ≡ directory schema root db =
+    ok_same (sym has.1 ∙ ap (apply schema []) (sym (changes_at-upto schema root m.log s (reached.placed root (coded_root schema root is)).rising)) ∙ tabled) in
+    sym has.2 ∙ ap (λ (l : List TableRow). row_coded schema l k) same ∙ coded_in_directory schema rules root is k under db typed
 
--- the newest row of a key that no transaction claims is that of the tables
-pub row_now_of_tables : (m : Machine) (cs : List KeyVersions) (key : ℤ) (db : Database) → IsReached m → AreKept m cs → filter (claims key 0) m.transactions ≡ [] → tables m.log (timestamp_end - 1) ≡ Ok db → row_now cs key ≡ finmap.get db key
-row_now_of_tables m cs key db reached kept empty made =
-    let place = reached.placed key in
-    let has : HasRows key (commits_at key m.log) (versions_at cs key) = (subst (IsKeptBy key (commits_at key m.log) (versions_at cs key) _) empty (kept.kept key)).1 in
-    let under : IsUnder timestamp_end (commits_at key m.log) = under_filter timestamp_end (touches key) m.log place.in_range in
-    row_of_tables key m.log (timestamp_end - 1) (row_now cs key) db place.rising
-    (ap (λ l. row_through None (changes_at key l)) (all_kept (timestamp_end - 1) (commits_at key m.log) under refl) ∙ row_end key (commits_at key m.log) (versions_at cs key) has under)
+-- the newest row of a key of a directory that no transaction claims is that of the tables
+pub row_now_of_tables : (schema : List Table) → MeetsRules schema → (m : Machine) (cs : List KeyVersions) (root : Root) (is : IsCodedRoot schema root) (k : List ℕ) (under : is_under schema root k ≡ true) (db : List TableRow) → IsReached schema m → AreKept schema m cs
+    → AreTyped schema db → filter (claims schema root 0) m.transactions ≡ [] → tables schema m.log (timestamp_end - 1) ≡ Ok db → row_now cs k ≡ row_coded schema db k
+row_now_of_tables schema rules m cs root is k under db reached kept typed empty made =
+    let place = reached.placed root (coded_root schema root is) in
+    let has : HasRows schema root k (commits_at schema root m.log) (versions_at cs k) =
+    (subst (IsKeptBy schema root k (commits_at schema root m.log) (versions_at cs k) (prepared_at cs k)) empty (kept.kept root is k under)).1 in
+    let below : IsUnder timestamp_end (commits_at schema root m.log) = under_filter timestamp_end (touches schema root) m.log place.in_range in
+    let end = row_end schema root k (commits_at schema root m.log) (versions_at cs k) has below in
+    row_of_tables schema rules m reached root is k under (timestamp_end - 1) (row_now cs k) db typed
+    (end.0, ap (λ l. apply schema [] (changes_at schema root l)) (all_kept (timestamp_end - 1) (commits_at schema root m.log) below refl) ∙ end.1, end.2)
     made
 
 -- ---- whose the prepared write of a key is
 
-open_under : (key : ℤ) (cs : List Commit) (vs : List Version) (p : Option PreparedWrite) (t : OpenTransaction) (o : Outcome) → IsKeptUnder key cs vs p t o → IsOpenFor t.number p
-open_under key cs vs p t outcome.Undecided h = open_of_put t.number _ h.0.after p h.0.put
-open_under key cs vs p t outcome.Aborted h = h.0
-open_under key cs vs p t (outcome.Committed ts) h = open_of_put t.number _ h.put.after p h.put.put
+open_under : (schema : List Table) (root : Root) (k : List ℕ) (cs : List Commit) (vs : List Version) (p : Option PreparedWrite) (t : OpenTransaction) (o : Outcome) → IsKeptUnder schema root k cs vs p t o → IsOpenFor t.number p
+open_under schema root k cs vs p t outcome.Undecided h = open_of_put t.number _ _ p h.0.put
+open_under schema root k cs vs p t outcome.Aborted h = h.0
+open_under schema root k cs vs p t (outcome.Committed ts) h = open_of_put t.number _ _ p h.put.put
 
 not_of : (n txn : ℕ) (p : Option PreparedWrite) → IsOpenFor n p → n ≢ txn → IsNotOf txn p
 not_of n txn None is off = tt
 not_of n txn (Some w) is off = λ same. off (sym is ∙ same)
 
 -- what is prepared at a key is of no other transaction than the one that claims it
-pub not_of_others : (key : ℤ) (cs : List Commit) (vs : List Version) (p : Option PreparedWrite) (us : List OpenTransaction) (txn : ℕ) → IsKeptBy key cs vs p us → AllByRecursion (λ u. u.number ≢ txn) us → IsNotOf txn p
-not_of_others key cs vs p [] txn h off = subst (IsNotOf txn) (sym h.0) tt
-not_of_others key cs vs p (u ∷ us) txn h off = not_of u.number txn p (open_under key cs vs p u u.outcome h) off.0
+pub not_of_others : (schema : List Table) (root : Root) (k : List ℕ) (cs : List Commit) (vs : List Version) (p : Option PreparedWrite) (us : List OpenTransaction) (txn : ℕ) → IsKeptBy schema root k cs vs p us → AllByRecursion (λ u. u.number ≢ txn) us → IsNotOf txn p
+not_of_others schema root k cs vs p [] txn h off = subst (IsNotOf txn) (sym h.0) tt
+not_of_others schema root k cs vs p (u ∷ us) txn h off = not_of u.number txn p (open_under schema root k cs vs p u u.outcome h) off.0
 
--- the transactions that claim a key have other numbers than one that does not
-pub others_apart : (m : Machine) → IsReached m → (key : ℤ) (test : OpenTransaction → Bool) (t : OpenTransaction) → find test m.transactions ≡ Some t → claims key 0 t ≡ false
-    → AllByRecursion (λ u. u.number ≢ t.number) (filter (claims key 0) m.transactions)
-others_apart m reached key test t found off = all_each (λ u. u.number ≢ t.number) (filter (claims key 0) m.transactions) (λ u is same.
-    let alike : u ≡ t = same_number m reached.numbered u t (kept_in (claims key 0) m.transactions u is) (found_in test m.transactions t found) same in
-    not_both (claims key 0 u) (all_in (λ x. claims key 0 x ≡ true) (filter (claims key 0) m.transactions) u is (all_pass (claims key 0) m.transactions)) (subst (λ x. claims key 0 x ≡ false) (sym alike) off))
+-- the transactions that claim a directory have other numbers than one that does not
+pub others_apart : (schema : List Table) (m : Machine) → IsReached schema m → (root : Root) (test : OpenTransaction → Bool) (t : OpenTransaction) → find test m.transactions ≡ Some t → claims schema root 0 t ≡ false
+    → AllByRecursion (λ u. u.number ≢ t.number) (filter (claims schema root 0) m.transactions)
+others_apart schema m reached root test t found off = all_each (λ u. u.number ≢ t.number) (filter (claims schema root 0) m.transactions) (λ u is same.
+    let alike : u ≡ t = same_number m reached.numbered u t (kept_in (claims schema root 0) m.transactions u is) (found_in test m.transactions t found) same in
+    not_both (claims schema root 0 u) (all_in (λ x. claims schema root 0 x ≡ true) (filter (claims schema root 0) m.transactions) u is (all_pass (claims schema root 0) m.transactions)) (subst (λ x. claims schema root 0 x ≡ false) (sym alike) off))

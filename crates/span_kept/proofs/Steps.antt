@@ -1,17 +1,16 @@
-use Rattle.std.proofs.Common.{◌≡◌, ℕ, ℤ, Bool, true, false, cond, not, ◌==◌, nat_le, List, [], ◌∷◌, ◌++◌, length, Option, Some, None, refl, ap, sym, ◌∙◌, subst}
+use Rattle.std.proofs.Common.{◌≡◌, ℕ, Bool, true, false, cond, not, ◌==◌, nat_le, List, [], ◌∷◌, ◌++◌, length, Option, Some, None, refl, ap, sym, ◌∙◌, subst}
 use Rattle.std.specs.Prelude.{find, filter}
 use Rattle.std.specs.List.{list_all}
 use Rattle.std.proofs.lemmas.List.{append-nil}
 use Rattle.std.proofs.lemmas.List.Elements.{filter-append}
 use Rattle.span_value.specs.declared.refusal.Refusal.{Refusal}
-use Rattle.span_value.specs.declared.value.Value.{Value}
 use Rattle.span_truetime.specs.declared.bound.Bound.{Bound}
 use Rattle.span_truetime.specs.declared.interval.Interval.{Interval}
 use Rattle.span_truetime.specs.Time.{timestamp_end}
 use Rattle.span_shard.specs.declared.chain.Version.{Version}
 use Rattle.span_shard.specs.declared.chain.PreparedWrite.{PreparedWrite}
-use Rattle.span_shard.specs.declared.mutation.CheckedMutation.{CheckedMutation}
-use Rattle.span_shard.specs.Database.{is_at}
+use Rattle.span_mutate.specs.declared.mutation.CheckedMutation.{CheckedMutation}
+use Rattle.span_machine.specs.Machine.{is_at}
 use Rattle.span_shard.specs.KeyVersions.{KeyVersions}
 use Rattle.span_shard.specs.Shard.{versions_at, prepared_at}
 use Rattle.span_shard.proofs.Undo.{IsOpenFor}
@@ -28,121 +27,126 @@ use Rattle.span_laws.proofs.Causes.{may_commit, is_undecided_outcome}
 use Rattle.span_laws.proofs.Tests.{second_true, both_of}
 use Rattle.span_laws.proofs.Stability.{is_some_of}
 use Rattle.span_laws.proofs.InPlace.{commits_at, claims}
-use Rattle.span_laws.proofs.Claims.{commits_at-push, prepared_key, none_left}
+use Rattle.span_laws.proofs.Claims.{commits_at-push, prepared_root, none_left}
 use Rattle.span_laws.proofs.Walks.{Ends, answer_by}
 use Rattle.span_laws.proofs.Reached.{IsReached}
-use Rattle.span_kept.specs.Kept.{IsPut, IsPending, IsKeptUnder, IsKeptBy, AreKept}
+use Rattle.span_kept.specs.Kept.{IsCodedRoot, is_under, IsPut, IsPending, IsKeptUnder, IsKeptBy, AreKept}
 use Rattle.span_kept.proofs.Claimers.{and_false, false_and, claimers_of}
+use Rattle.span_schema.specs.declared.table.Table.{Table}
+use Rattle.span_mutate.specs.Directories.{Root}
+use Rattle.span_kept.proofs.Roots.{coded_root}
 
 -- an empty shard is what the start makes it
-pub start_kept : AreKept start []
-start_kept = record { keys = tt; used = tt; kept = λ key. (refl, record { rows = λ s. refl }) }
+pub start_kept : (schema : List Table) → AreKept schema start []
+start_kept schema = record { keys = tt; used = tt; coded = tt; kept = λ root is k under. (refl, record { rows = λ s. ([], refl, refl) }) }
 
 -- what a transaction put is of that transaction
-pub open_of_put : (txn : ℕ) (before after : Option Value) (p : Option PreparedWrite) → IsPut txn before after p → IsOpenFor txn p
+pub open_of_put : (txn : ℕ) (before after : Option (List ℕ)) (p : Option PreparedWrite) → IsPut txn before after p → IsOpenFor txn p
 open_of_put txn before after None put = tt
 open_of_put txn before after (Some w) put = put.0
 
 -- its only claimer was undecided and is committed
-pending_of : (key : ℤ) (cs : List Commit) (vs : List Version) (p : Option PreparedWrite) (t : OpenTransaction) (ts : ℕ) → IsKeptUnder key cs vs p t outcome.Undecided
-    → IsPending key (cs ++ commit_of ts t ∷ []) vs p (with_outcome (outcome.Committed ts) t) ts
-pending_of key cs vs p t ts h = record { front = cs; whole = refl; put = h.0; rows = h.1 }
+pending_of : (schema : List Table) (root : Root) (k : List ℕ) (cs : List Commit) (vs : List Version) (p : Option PreparedWrite) (t : OpenTransaction) (ts : ℕ) → IsKeptUnder schema root k cs vs p t outcome.Undecided
+    → IsPending schema root k (cs ++ commit_of ts t ∷ []) vs p (with_outcome (outcome.Committed ts) t) ts
+pending_of schema root k cs vs p t ts h = record { front = cs; whole = refl; put = h.0; rows = h.1 }
 
 -- its only claimer was undecided and is aborted
-given_up_of : (key : ℤ) (cs : List Commit) (vs : List Version) (p : Option PreparedWrite) (t : OpenTransaction) → IsKeptUnder key cs vs p t outcome.Undecided → IsKeptUnder key cs vs p (with_outcome outcome.Aborted t) outcome.Aborted
-given_up_of key cs vs p t h = (open_of_put t.number _ h.0.after p h.0.put, h.1)
+given_up_of : (schema : List Table) (root : Root) (k : List ℕ) (cs : List Commit) (vs : List Version) (p : Option PreparedWrite) (t : OpenTransaction) → IsKeptUnder schema root k cs vs p t outcome.Undecided → IsKeptUnder schema root k cs vs p (with_outcome outcome.Aborted t) outcome.Aborted
+given_up_of schema root k cs vs p t h = (open_of_put t.number _ _ p h.0.put, h.1)
 
 -- the same log and the same transactions
-pub kept_same : (m n : Machine) (cs : List KeyVersions) → AreKept m cs → n.log ≡ m.log → n.transactions ≡ m.transactions → AreKept n cs
-kept_same m n cs kept log ts = record {
+pub kept_same : (schema : List Table) (m n : Machine) (cs : List KeyVersions) → AreKept schema m cs → n.log ≡ m.log → n.transactions ≡ m.transactions → AreKept schema n cs
+kept_same schema m n cs kept log ts = record {
   keys = kept.keys;
   used = kept.used;
-  kept = λ key. subst (λ l. IsKeptBy key (commits_at key l) (versions_at cs key) (prepared_at cs key) (filter (claims key 0) n.transactions)) (sym log)
-      (subst (λ us. IsKeptBy key (commits_at key m.log) (versions_at cs key) (prepared_at cs key) (filter (claims key 0) us)) (sym ts) (kept.kept key));
+  coded = kept.coded;
+  kept = λ root is k under. subst (λ l. IsKeptBy schema root k (commits_at schema root l) (versions_at cs k) (prepared_at cs k) (filter (claims schema root 0) n.transactions)) (sym log)
+      (subst (λ us. IsKeptBy schema root k (commits_at schema root m.log) (versions_at cs k) (prepared_at cs k) (filter (claims schema root 0) us)) (sym ts) (kept.kept root is k under));
 }
 
 -- after a step that leaves the versions, they are kept; of a Prepare and an Apply this says nothing
-abbrev pub KeepsVersions : List KeyVersions → Step → Answer → Type 0
-KeepsVersions cs (Prepare owner txn slot) a = Unit {0}
-KeepsVersions cs (Apply owner txn slot interval) a = Unit {0}
-KeepsVersions cs (Begin owner ms) a = AreKept a.1 cs
-KeepsVersions cs (Decide owner txn v interval) a = AreKept a.1 cs
-KeepsVersions cs (Advance slot interval) a = AreKept a.1 cs
-KeepsVersions cs (Open text params bound interval) a = AreKept a.1 cs
-KeepsVersions cs (Scan query leaf slot interval) a = AreKept a.1 cs
-KeepsVersions cs (Finish query) a = AreKept a.1 cs
-KeepsVersions cs (Close query) a = AreKept a.1 cs
+abbrev pub KeepsVersions : List Table → List KeyVersions → Step → Answer → Type 0
+KeepsVersions schema cs (Prepare owner txn slot) a = Unit {0}
+KeepsVersions schema cs (Apply owner txn slot interval) a = Unit {0}
+KeepsVersions schema cs (Begin owner ms) a = AreKept schema a.1 cs
+KeepsVersions schema cs (Decide owner txn v interval) a = AreKept schema a.1 cs
+KeepsVersions schema cs (Advance slot interval) a = AreKept schema a.1 cs
+KeepsVersions schema cs (Open text params bound interval) a = AreKept schema a.1 cs
+KeepsVersions schema cs (Scan query leaf slot interval) a = AreKept schema a.1 cs
+KeepsVersions schema cs (Finish query) a = AreKept schema a.1 cs
+KeepsVersions schema cs (Close query) a = AreKept schema a.1 cs
 
-module _ (m : Machine) (reached : IsReached m) (cs : List KeyVersions) (kept : AreKept m cs) where
+module _ (schema : List Table) (m : Machine) (reached : IsReached schema m) (cs : List KeyVersions) (kept : AreKept schema m cs) where
   -- what is kept at a key that the found transaction claims
-  pub kept_under : (key : ℤ) (test : OpenTransaction → Bool) (t : OpenTransaction) (o : Outcome) → find test m.transactions ≡ Some t → claims key 0 t ≡ true → t.outcome ≡ o
-      → IsKeptUnder key (commits_at key m.log) (versions_at cs key) (prepared_at cs key) t o
-  kept_under key test t o found is e =
-      subst (IsKeptUnder key (commits_at key m.log) (versions_at cs key) (prepared_at cs key) t) e
-      (subst (IsKeptBy key (commits_at key m.log) (versions_at cs key) (prepared_at cs key)) ((claimers_of m reached key test t found).here is) (kept.kept key))
+  pub kept_under : (root : Root) (is_root : IsCodedRoot schema root) (k : List ℕ) (under : is_under schema root k ≡ true) (test : OpenTransaction → Bool) (t : OpenTransaction) (o : Outcome) → find test m.transactions ≡ Some t → claims schema root 0 t ≡ true → t.outcome ≡ o
+      → IsKeptUnder schema root k (commits_at schema root m.log) (versions_at cs k) (prepared_at cs k) t o
+  kept_under root is_root k under test t o found is e =
+      subst (IsKeptUnder schema root k (commits_at schema root m.log) (versions_at cs k) (prepared_at cs k) t) e
+      (subst (IsKeptBy schema root k (commits_at schema root m.log) (versions_at cs k) (prepared_at cs k)) ((claimers_of schema m reached root (coded_root schema root is_root) test t found).here is) (kept.kept root is_root k under))
 
-  kept_begun : (owner : ℕ) (ms : List CheckedMutation) → AreKept (begun m owner ms).1 cs
+  kept_begun : (owner : ℕ) (ms : List CheckedMutation) → AreKept schema (begun m owner ms).1 cs
   kept_begun owner ms = record {
     keys = kept.keys;
     used = kept.used;
-    kept = λ key. subst (IsKeptBy key (commits_at key m.log) (versions_at cs key) (prepared_at cs key))
-        (sym (filter-append (claims key 0) m.transactions ((record { owner = owner; number = m.next_transaction; mutations = ms; outcome = outcome.Undecided; prepared = [] }) ∷ []) ∙ append-nil _)) (kept.kept key);
+    coded = kept.coded;
+    kept = λ root is_root k under. subst (IsKeptBy schema root k (commits_at schema root m.log) (versions_at cs k) (prepared_at cs k))
+        (sym (filter-append (claims schema root 0) m.transactions ((record { owner = owner; number = m.next_transaction; mutations = ms; outcome = outcome.Undecided; prepared = [] }) ∷ []) ∙ append-nil _)) (kept.kept root is_root k under);
   }
 
-  decided_at : (key : ℤ) (owner txn ts : ℕ) (t : OpenTransaction) → find (is_transaction owner txn) m.transactions ≡ Some t → is_undecided t ≡ true → is_all_prepared m t ≡ true
-      → IsKeptBy key (commits_at key (m.log ++ commit_of ts t ∷ [])) (versions_at cs key) (prepared_at cs key) (filter (claims key 0) (changed_first (is_transaction owner txn) (with_outcome (outcome.Committed ts)) m.transactions))
-  decided_at key owner txn ts t found open_still ready =
-      let them = claimers_of m reached key (is_transaction owner txn) t found in
-      elim (is_some_of (filter (is_at key) t.mutations)) as (λ v. is_some_of (filter (is_at key) t.mutations) ≡ v
-      → IsKeptBy key (commits_at key (m.log ++ commit_of ts t ∷ [])) (versions_at cs key) (prepared_at cs key) (filter (claims key 0) (changed_first (is_transaction owner txn) (with_outcome (outcome.Committed ts)) m.transactions))) [
+  decided_at : (root : Root) (is_root : IsCodedRoot schema root) (k : List ℕ) (under : is_under schema root k ≡ true) (owner txn ts : ℕ) (t : OpenTransaction) → find (is_transaction owner txn) m.transactions ≡ Some t → is_undecided t ≡ true → is_all_prepared schema m t ≡ true
+      → IsKeptBy schema root k (commits_at schema root (m.log ++ commit_of ts t ∷ [])) (versions_at cs k) (prepared_at cs k) (filter (claims schema root 0) (changed_first (is_transaction owner txn) (with_outcome (outcome.Committed ts)) m.transactions))
+  decided_at root is_root k under owner txn ts t found open_still ready =
+      let them = claimers_of schema m reached root (coded_root schema root is_root) (is_transaction owner txn) t found in
+      elim (is_some_of (filter (is_at schema root) t.mutations)) as (λ v. is_some_of (filter (is_at schema root) t.mutations) ≡ v
+      → IsKeptBy schema root k (commits_at schema root (m.log ++ commit_of ts t ∷ [])) (versions_at cs k) (prepared_at cs k) (filter (claims schema root 0) (changed_first (is_transaction owner txn) (with_outcome (outcome.Committed ts)) m.transactions))) [
         | false ↦ λ e.
-            let same : commits_at key (m.log ++ commit_of ts t ∷ []) ≡ commits_at key m.log =
-            commits_at-push key m.log (commit_of ts t) ∙ ap (λ b. commits_at key m.log ++ cond b (commit_of ts t ∷ []) []) e ∙ append-nil _ in
-            let off : claims key 0 t ≡ false = and_false (is_prepared_at 0 t) (is_some_of (filter (is_at key) t.mutations)) e in
-            subst (λ l. IsKeptBy key l (versions_at cs key) (prepared_at cs key) (filter (claims key 0) (changed_first (is_transaction owner txn) (with_outcome (outcome.Committed ts)) m.transactions))) (sym same)
-            (subst (IsKeptBy key (commits_at key m.log) (versions_at cs key) (prepared_at cs key)) (sym (them.away (with_outcome (outcome.Committed ts)) off off)) (kept.kept key))
+            let same : commits_at schema root (m.log ++ commit_of ts t ∷ []) ≡ commits_at schema root m.log =
+            commits_at-push schema root m.log (commit_of ts t) ∙ ap (λ b. commits_at schema root m.log ++ cond b (commit_of ts t ∷ []) []) e ∙ append-nil _ in
+            let off : claims schema root 0 t ≡ false = and_false (is_prepared_at 0 t) (is_some_of (filter (is_at schema root) t.mutations)) e in
+            subst (λ l. IsKeptBy schema root k l (versions_at cs k) (prepared_at cs k) (filter (claims schema root 0) (changed_first (is_transaction owner txn) (with_outcome (outcome.Committed ts)) m.transactions))) (sym same)
+            (subst (IsKeptBy schema root k (commits_at schema root m.log) (versions_at cs k) (prepared_at cs k)) (sym (them.away (with_outcome (outcome.Committed ts)) off off)) (kept.kept root is_root k under))
         | true ↦ λ e.
-            let all : list_all (is_prepared_for m t) t.mutations ≡ true = second_true (not (length t.prepared == 0)) (list_all (is_prepared_for m t) t.mutations) ready in
-            let ready_at = prepared_key m 0 key t (reached.placed key).only t.mutations e all in
-            let is : claims key 0 t ≡ true = both_of (is_prepared_at 0 t) (is_some_of (filter (is_at key) t.mutations)) ready_at.0 e in
-            let more : commits_at key (m.log ++ commit_of ts t ∷ []) ≡ commits_at key m.log ++ commit_of ts t ∷ [] =
-            commits_at-push key m.log (commit_of ts t) ∙ ap (λ b. commits_at key m.log ++ cond b (commit_of ts t ∷ []) []) e in
-            let now : filter (claims key 0) (changed_first (is_transaction owner txn) (with_outcome (outcome.Committed ts)) m.transactions) ≡ with_outcome (outcome.Committed ts) t ∷ [] =
+            let all : list_all (is_prepared_for schema m t) t.mutations ≡ true = second_true (not (length t.prepared == 0)) (list_all (is_prepared_for schema m t) t.mutations) ready in
+            let ready_at = prepared_root schema root (coded_root schema root is_root) m 0 t (reached.placed root (coded_root schema root is_root)).only t.mutations e all in
+            let is : claims schema root 0 t ≡ true = both_of (is_prepared_at 0 t) (is_some_of (filter (is_at schema root) t.mutations)) ready_at.0 e in
+            let more : commits_at schema root (m.log ++ commit_of ts t ∷ []) ≡ commits_at schema root m.log ++ commit_of ts t ∷ [] =
+            commits_at-push schema root m.log (commit_of ts t) ∙ ap (λ b. commits_at schema root m.log ++ cond b (commit_of ts t ∷ []) []) e in
+            let now : filter (claims schema root 0) (changed_first (is_transaction owner txn) (with_outcome (outcome.Committed ts)) m.transactions) ≡ with_outcome (outcome.Committed ts) t ∷ [] =
             them.changed (with_outcome (outcome.Committed ts)) is ∙ ap (λ b. cond b (with_outcome (outcome.Committed ts) t ∷ []) []) is in
-            subst (IsKeptBy key (commits_at key (m.log ++ commit_of ts t ∷ [])) (versions_at cs key) (prepared_at cs key)) (sym now)
-            (subst (λ l. IsPending key l (versions_at cs key) (prepared_at cs key) (with_outcome (outcome.Committed ts) t) ts) (sym more)
-            (pending_of key (commits_at key m.log) (versions_at cs key) (prepared_at cs key) t ts
-            (kept_under key (is_transaction owner txn) t outcome.Undecided found is (is_undecided_outcome t.outcome open_still))))
+            subst (IsKeptBy schema root k (commits_at schema root (m.log ++ commit_of ts t ∷ [])) (versions_at cs k) (prepared_at cs k)) (sym now)
+            (subst (λ l. IsPending schema root k l (versions_at cs k) (prepared_at cs k) (with_outcome (outcome.Committed ts) t) ts) (sym more)
+            (pending_of schema root k (commits_at schema root m.log) (versions_at cs k) (prepared_at cs k) t ts
+            (kept_under root is_root k under (is_transaction owner txn) t outcome.Undecided found is (is_undecided_outcome t.outcome open_still))))
       ] refl
 
   -- a commit is in the log before its versions are
-  pub kept_decided : (owner txn ts : ℕ) (t : OpenTransaction) → find (is_transaction owner txn) m.transactions ≡ Some t → is_undecided t ≡ true → is_all_prepared m t ≡ true → AreKept (committed m owner txn ts t).1 cs
-  kept_decided owner txn ts t found open_still ready = record { keys = kept.keys; used = kept.used; kept = λ key. decided_at key owner txn ts t found open_still ready }
+  pub kept_decided : (owner txn ts : ℕ) (t : OpenTransaction) → find (is_transaction owner txn) m.transactions ≡ Some t → is_undecided t ≡ true → is_all_prepared schema m t ≡ true → AreKept schema (committed m owner txn ts t).1 cs
+  kept_decided owner txn ts t found open_still ready = record { keys = kept.keys; used = kept.used; coded = kept.coded; kept = λ root is_root k under. decided_at root is_root k under owner txn ts t found open_still ready }
 
-  abort_at : (key : ℤ) (owner txn : ℕ) (t : OpenTransaction) → find (is_transaction owner txn) m.transactions ≡ Some t → is_undecided t ≡ true
-      → IsKeptBy key (commits_at key m.log) (versions_at cs key) (prepared_at cs key) (filter (claims key 0) (aborted m owner txn t).1.transactions)
-  abort_at key owner txn t found open_still =
-      let them = claimers_of m reached key (is_transaction owner txn) t found in
+  abort_at : (root : Root) (is_root : IsCodedRoot schema root) (k : List ℕ) (under : is_under schema root k ≡ true) (owner txn : ℕ) (t : OpenTransaction) → find (is_transaction owner txn) m.transactions ≡ Some t → is_undecided t ≡ true
+      → IsKeptBy schema root k (commits_at schema root m.log) (versions_at cs k) (prepared_at cs k) (filter (claims schema root 0) (aborted m owner txn t).1.transactions)
+  abort_at root is_root k under owner txn t found open_still =
+      let them = claimers_of schema m reached root (coded_root schema root is_root) (is_transaction owner txn) t found in
       elim (length t.prepared == 0) as (λ v. (length t.prepared == 0) ≡ v
-      → IsKeptBy key (commits_at key m.log) (versions_at cs key) (prepared_at cs key) (filter (claims key 0) (cond v (without_first (is_transaction owner txn) m.transactions) (changed_first (is_transaction owner txn) (with_outcome outcome.Aborted) m.transactions)))) [
+      → IsKeptBy schema root k (commits_at schema root m.log) (versions_at cs k) (prepared_at cs k) (filter (claims schema root 0) (cond v (without_first (is_transaction owner txn) m.transactions) (changed_first (is_transaction owner txn) (with_outcome outcome.Aborted) m.transactions)))) [
         | true ↦ λ e.
-            let off : claims key 0 t ≡ false = false_and (is_prepared_at 0 t) (is_some_of (filter (is_at key) t.mutations)) (none_left 0 t.prepared e) in
-            subst (IsKeptBy key (commits_at key m.log) (versions_at cs key) (prepared_at cs key)) (sym (them.away_gone off)) (kept.kept key)
-        | false ↦ λ e. elim (claims key 0 t) as (λ v. claims key 0 t ≡ v
-            → IsKeptBy key (commits_at key m.log) (versions_at cs key) (prepared_at cs key) (filter (claims key 0) (changed_first (is_transaction owner txn) (with_outcome outcome.Aborted) m.transactions))) [
-              | false ↦ λ off. subst (IsKeptBy key (commits_at key m.log) (versions_at cs key) (prepared_at cs key)) (sym (them.away (with_outcome outcome.Aborted) off off)) (kept.kept key)
+            let off : claims schema root 0 t ≡ false = false_and (is_prepared_at 0 t) (is_some_of (filter (is_at schema root) t.mutations)) (none_left 0 t.prepared e) in
+            subst (IsKeptBy schema root k (commits_at schema root m.log) (versions_at cs k) (prepared_at cs k)) (sym (them.away_gone off)) (kept.kept root is_root k under)
+        | false ↦ λ e. elim (claims schema root 0 t) as (λ v. claims schema root 0 t ≡ v
+            → IsKeptBy schema root k (commits_at schema root m.log) (versions_at cs k) (prepared_at cs k) (filter (claims schema root 0) (changed_first (is_transaction owner txn) (with_outcome outcome.Aborted) m.transactions))) [
+              | false ↦ λ off. subst (IsKeptBy schema root k (commits_at schema root m.log) (versions_at cs k) (prepared_at cs k)) (sym (them.away (with_outcome outcome.Aborted) off off)) (kept.kept root is_root k under)
               | true ↦ λ is.
-                  let now : filter (claims key 0) (changed_first (is_transaction owner txn) (with_outcome outcome.Aborted) m.transactions) ≡ with_outcome outcome.Aborted t ∷ [] =
+                  let now : filter (claims schema root 0) (changed_first (is_transaction owner txn) (with_outcome outcome.Aborted) m.transactions) ≡ with_outcome outcome.Aborted t ∷ [] =
                   them.changed (with_outcome outcome.Aborted) is ∙ ap (λ b. cond b (with_outcome outcome.Aborted t ∷ []) []) is in
-                  subst (IsKeptBy key (commits_at key m.log) (versions_at cs key) (prepared_at cs key)) (sym now)
-                  (given_up_of key (commits_at key m.log) (versions_at cs key) (prepared_at cs key) t (kept_under key (is_transaction owner txn) t outcome.Undecided found is (is_undecided_outcome t.outcome open_still)))
+                  subst (IsKeptBy schema root k (commits_at schema root m.log) (versions_at cs k) (prepared_at cs k)) (sym now)
+                  (given_up_of schema root k (commits_at schema root m.log) (versions_at cs k) (prepared_at cs k) t (kept_under root is_root k under (is_transaction owner txn) t outcome.Undecided found is (is_undecided_outcome t.outcome open_still)))
             ] refl
       ] refl
 
-  kept_abandoned : (owner txn : ℕ) (t : OpenTransaction) → find (is_transaction owner txn) m.transactions ≡ Some t → is_undecided t ≡ true → AreKept (aborted m owner txn t).1 cs
-  kept_abandoned owner txn t found open_still = record { keys = kept.keys; used = kept.used; kept = λ key. abort_at key owner txn t found open_still }
+  kept_abandoned : (owner txn : ℕ) (t : OpenTransaction) → find (is_transaction owner txn) m.transactions ≡ Some t → is_undecided t ≡ true → AreKept schema (aborted m owner txn t).1 cs
+  kept_abandoned owner txn t found open_still = record { keys = kept.keys; used = kept.used; coded = kept.coded; kept = λ root is_root k under. abort_at root is_root k under owner txn t found open_still }
 
-  kept_refused : (step : Step) (why : Refusal) → KeepsVersions cs step (refused m why)
+  kept_refused : (step : Step) (why : Refusal) → KeepsVersions schema cs step (refused m why)
   kept_refused (Prepare owner txn slot) why = tt
   kept_refused (Apply owner txn slot interval) why = tt
   kept_refused (Begin owner ms) why = kept
@@ -153,47 +157,47 @@ module _ (m : Machine) (reached : IsReached m) (cs : List KeyVersions) (kept : A
   kept_refused (Finish query) why = kept
   kept_refused (Close query) why = kept
 
-  kept_ends : Ends m (KeepsVersions cs)
+  kept_ends : Ends schema m (KeepsVersions schema cs)
   kept_ends = record {
     refuses = kept_refused;
     begins = λ owner ms accepted. kept_begun owner ms;
     prepares = λ owner txn slot t book found here accepted well low. tt;
     commits = λ owner txn interval t found accepted.
-        let may = may_commit (is_undecided t) (is_all_prepared m t) (nat_le timestamp_end (commit_timestamp m t interval)) accepted in
+        let may = may_commit (is_undecided t) (is_all_prepared schema m t) (nat_le timestamp_end (commit_timestamp m t interval)) accepted in
         kept_decided owner txn (commit_timestamp m t interval) t found may.0 may.1;
     aborts = λ owner txn interval t found open_still. kept_abandoned owner txn t found open_still;
     applies = λ owner txn slot interval t book found here accepted. tt;
-    advances = λ slot interval book here. kept_same m _ cs kept refl refl;
-    opens = λ text params bound interval accepted. kept_same m _ cs kept refl refl;
+    advances = λ slot interval book here. kept_same schema m _ cs kept refl refl;
+    opens = λ text params bound interval accepted. kept_same schema m _ cs kept refl refl;
     finds_nothing = λ query leaf slot interval. kept;
-    scans = λ query leaf slot interval q book found here safe. kept_same m _ cs kept refl refl;
-    waits = λ query leaf slot interval q book found here. kept_same m _ cs kept refl refl;
+    scans = λ query leaf slot interval q book found here safe. kept_same schema m _ cs kept refl refl;
+    waits = λ query leaf slot interval q book found here. kept_same schema m _ cs kept refl refl;
     finishes = λ query q found covered. kept;
-    closes = λ query q found. kept_same m _ cs kept refl refl;
+    closes = λ query q found. kept_same schema m _ cs kept refl refl;
   }
 
   -- every step but a Prepare and an Apply keeps what is kept, its refusals included
-  pub kept_by_step : (step : Step) → KeepsVersions cs step (answer m step)
-  kept_by_step step = answer_by m (KeepsVersions cs) kept_ends step
+  pub kept_by_step : (step : Step) → KeepsVersions schema cs step (answer schema m step)
+  kept_by_step step = answer_by schema m (KeepsVersions schema cs) kept_ends step
 
   -- step by step
-  pub kept_begin : (owner : ℕ) (ms : List CheckedMutation) → AreKept (begin m owner ms).1 cs
+  pub kept_begin : (owner : ℕ) (ms : List CheckedMutation) → AreKept schema (begin m owner ms).1 cs
   kept_begin owner ms = kept_by_step (Begin owner ms)
 
-  pub kept_decide : (owner txn : ℕ) (v : Verdict) (interval : Interval) → AreKept (decide m owner txn v interval).1 cs
+  pub kept_decide : (owner txn : ℕ) (v : Verdict) (interval : Interval) → AreKept schema (decide schema m owner txn v interval).1 cs
   kept_decide owner txn v interval = kept_by_step (Decide owner txn v interval)
 
-  pub kept_advance : (slot : ℕ) (interval : Interval) → AreKept (advance m slot interval).1 cs
+  pub kept_advance : (slot : ℕ) (interval : Interval) → AreKept schema (advance m slot interval).1 cs
   kept_advance slot interval = kept_by_step (Advance slot interval)
 
-  pub kept_open : (text : List ℕ) (params : Params) (bound : Bound) (interval : Interval) → AreKept (open_query m text params bound interval).1 cs
+  pub kept_open : (text : List ℕ) (params : Params) (bound : Bound) (interval : Interval) → AreKept schema (open_query schema m text params bound interval).1 cs
   kept_open text params bound interval = kept_by_step (Open text params bound interval)
 
-  pub kept_scan : (query leaf slot : ℕ) (interval : Interval) → AreKept (scan m query leaf slot interval).1 cs
+  pub kept_scan : (query leaf slot : ℕ) (interval : Interval) → AreKept schema (scan m query leaf slot interval).1 cs
   kept_scan query leaf slot interval = kept_by_step (Scan query leaf slot interval)
 
-  pub kept_finish : (query : ℕ) → AreKept (finish m query).1 cs
+  pub kept_finish : (query : ℕ) → AreKept schema (finish schema m query).1 cs
   kept_finish query = kept_by_step (Finish query)
 
-  pub kept_close : (query : ℕ) → AreKept (close m query).1 cs
+  pub kept_close : (query : ℕ) → AreKept schema (close m query).1 cs
   kept_close query = kept_by_step (Close query)

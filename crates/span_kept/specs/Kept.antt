@@ -1,77 +1,127 @@
-use Rattle.std.proofs.Common.{◌≡◌, ℕ, ℤ, true, nat_le, List, [], ◌∷◌, ◌++◌, Option, Some, None, Ok}
-use Rattle.std.specs.Prelude.{filter}
+-- A shard has of each key the versions that the log's commits made there, one that is not applied yet left out, and the write that
+-- the transaction prepared there is to leave.
+use Rattle.std.proofs.Common.{◌≡◌, ℕ, Bool, true, nat_le, List, [], ◌∷◌, ◌++◌, length, ◌≤◌, ◌+◌, Option, Some, None, Ok}
+use Rattle.std.specs.Prelude.{filter, map}
 use Rattle.std.specs.List.{AllByRecursion}
-use Rattle.std.specs.Ordering.{int_cmp}
-use Rattle.std.specs.declared.cmp.Ordering.TheVariants.{Less}
 use Rattle.span_value.specs.declared.value.Value.{Value}
+use Rattle.span_schema.specs.declared.table.Table.{Table}
+use Rattle.span_schema.specs.Numbers.{root_of}
+use Rattle.span_keycode.specs.Keys.{IsCodedKey, key_code}
+use Rattle.span_keycode.specs.Roots.{IsCoding}
+use Rattle.span_keycode.specs.declared.key.TheConstants.{MOST_BYTES}
+use Rattle.span_mutate.specs.declared.mutation.CheckedMutation.{CheckedMutation}
+use Rattle.span_mutate.specs.declared.row.TableRow.{TableRow}
+use Rattle.span_keycode.specs.declared.range.KeyRange.{KeyRange}
+use Rattle.span_rowcode.specs.Rows.{row_code}
+use Rattle.span_mutate.specs.Database.{apply, rows_of}
+use Rattle.span_mutate.specs.Typed.{AreTyped}
+use Rattle.span_mutate.specs.Directories.{Root}
 use Rattle.span_shard.specs.declared.chain.Version.{Version}
 use Rattle.span_shard.specs.declared.chain.PreparedWrite.{PreparedWrite}
-use Rattle.span_shard.specs.declared.mutation.CheckedMutation.{CheckedMutation}
-use Rattle.span_shard.specs.Database.{Database, is_at, row_through, rows_of}
 use Rattle.span_shard.specs.KeyVersions.{KeyVersions}
+use Rattle.span_shard.specs.Rows.{begins_with, code_of, row_coded}
 use Rattle.span_shard.specs.Versions.{row_at}
-use Rattle.span_shard.specs.Shard.{versions_at, prepared_at, end_of_time, IsInUse}
+use Rattle.span_shard.specs.Shard.{KeyRow, versions_at, prepared_at, AreInOrder, IsInUse}
 use Rattle.span_shard.proofs.Undo.{IsOpenFor}
 use Rattle.span_machine.specs.declared.transaction.Commit.{Commit}
 use Rattle.span_machine.specs.declared.transaction.OpenTransaction.{OpenTransaction}
 use Rattle.span_machine.specs.declared.transaction.Outcome.{Outcome}
 use Rattle.span_machine.specs.declared.transaction.Outcome.TheVariants as outcome
+use Rattle.span_machine.specs.Meaning.{table_asked, declared_row, whole_table}
 use Rattle.span_machine.specs.Tables.{tables}
-use Rattle.span_machine.specs.Machine.{Machine, commit_of}
+use Rattle.span_machine.specs.Machine.{Machine, is_at, commit_of}
 use Rattle.span_machine.specs.Pieces.{Pieced}
 use Rattle.span_laws.proofs.Stability.{changes_at}
 use Rattle.span_laws.proofs.InPlace.{commits_at, claims}
 
--- A shard has of each key the versions that the log's commits made there, one that is not applied yet left out, and the write that
--- the transaction prepared there is to leave.
+-- a root row: of a root table, with a key that has a coding
+abbrev pub IsCodedRoot : List Table → Root → Type 0
+IsCodedRoot schema root = (root_of schema root.table ≡ root.table) × IsCodedKey schema root.table root.key
 
--- at every s the versions have the row that the commits up to s make
-pub record HasRows (key : ℤ) (commits : List Commit) (vs : List Version) : Type 0 where
-  pub rows : (s : ℕ) → row_through None (changes_at key (filter (λ c. nat_le c.timestamp s) commits)) ≡ Ok (row_at vs s)
+-- the coding of a key, that is not too long
+pub record IsCodedCoding (schema : List Table) (k : List ℕ) : Type 0 where
+  pub is : IsCoding schema k
+  pub short : length (key_code schema is.table is.values) ≤ MOST_BYTES
+
+-- a coded key in its directory
+abbrev pub is_under : List Table → Root → List ℕ → Bool
+is_under schema root k = begins_with k (key_code schema root.table root.key)
+
+-- at every s the versions have the row that the directory's commits up to s make
+pub record HasRows (schema : List Table) (root : Root) (k : List ℕ) (commits : List Commit) (vs : List Version) : Type 0 where
+  pub rows : (s : ℕ) → (db : List TableRow) × (apply schema [] (changes_at schema root (filter (λ c. nat_le c.timestamp s) commits)) ≡ Ok db) × (row_coded schema db k ≡ row_at vs s)
 
 -- what is prepared is the row after, where that is another one
-abbrev pub IsPut : ℕ → Option Value → Option Value → Option PreparedWrite → Type 0
+abbrev pub IsPut : ℕ → Option (List ℕ) → Option (List ℕ) → Option PreparedWrite → Type 0
 IsPut txn before after None = after ≡ before
 IsPut txn before after (Some w) = (w.txn ≡ txn) × (w.row ≡ after)
 
--- what is prepared is what the transaction's mutations make of the newest row
-pub record IsPreparedBy (key : ℤ) (vs : List Version) (txn : ℕ) (ms : List CheckedMutation) (prepared : Option PreparedWrite) : Type 0 where
-  pub after : Option Value
-  pub through : row_through (row_at vs end_of_time) (filter (is_at key) ms) ≡ Ok after
-  pub put : IsPut txn (row_at vs end_of_time) after prepared
+-- what is prepared is what the transaction's mutations make of the directory behind its commits
+pub record IsPreparedBy (schema : List Table) (root : Root) (k : List ℕ) (commits : List Commit) (txn : ℕ) (ms : List CheckedMutation) (prepared : Option PreparedWrite) : Type 0 where
+  pub before : List TableRow
+  pub after : List TableRow
+  pub now : apply schema [] (changes_at schema root commits) ≡ Ok before
+  pub through : apply schema before (filter (is_at schema root) ms) ≡ Ok after
+  pub put : IsPut txn (row_coded schema before k) (row_coded schema after k) prepared
 
 -- the last commit is not applied yet
-pub record IsPending (key : ℤ) (commits : List Commit) (vs : List Version) (prepared : Option PreparedWrite) (t : OpenTransaction) (ts : ℕ) : Type 0 where
+pub record IsPending (schema : List Table) (root : Root) (k : List ℕ) (commits : List Commit) (vs : List Version) (prepared : Option PreparedWrite) (t : OpenTransaction) (ts : ℕ) : Type 0 where
   pub front : List Commit
   pub whole : commits ≡ front ++ commit_of ts t ∷ []
-  pub put : IsPreparedBy key vs t.number t.mutations prepared
-  pub rows : HasRows key front vs
+  pub put : IsPreparedBy schema root k front t.number t.mutations prepared
+  pub rows : HasRows schema root k front vs
 
--- what is kept at a key that a transaction claims, by what was decided of it
-abbrev pub IsKeptUnder : ℤ → List Commit → List Version → Option PreparedWrite → OpenTransaction → Outcome → Type 0
-IsKeptUnder key commits vs prepared t outcome.Undecided = IsPreparedBy key vs t.number t.mutations prepared × HasRows key commits vs
-IsKeptUnder key commits vs prepared t outcome.Aborted = IsOpenFor t.number prepared × HasRows key commits vs
-IsKeptUnder key commits vs prepared t (outcome.Committed ts) = IsPending key commits vs prepared t ts
+-- what is kept at a key of a directory that a transaction claims, by what was decided of it
+abbrev pub IsKeptUnder : List Table → Root → List ℕ → List Commit → List Version → Option PreparedWrite → OpenTransaction → Outcome → Type 0
+IsKeptUnder schema root k commits vs prepared t outcome.Undecided = IsPreparedBy schema root k commits t.number t.mutations prepared × HasRows schema root k commits vs
+IsKeptUnder schema root k commits vs prepared t outcome.Aborted = IsOpenFor t.number prepared × HasRows schema root k commits vs
+IsKeptUnder schema root k commits vs prepared t (outcome.Committed ts) = IsPending schema root k commits vs prepared t ts
 
--- what is kept at a key, by its commits and the transactions that claim it
-abbrev pub IsKeptBy : ℤ → List Commit → List Version → Option PreparedWrite → List OpenTransaction → Type 0
-IsKeptBy key commits vs prepared [] = (prepared ≡ None) × HasRows key commits vs
-IsKeptBy key commits vs prepared (t ∷ ts) = IsKeptUnder key commits vs prepared t t.outcome
+-- what is kept at a key, by the commits of its directory and the transactions that claim it
+abbrev pub IsKeptBy : List Table → Root → List ℕ → List Commit → List Version → Option PreparedWrite → List OpenTransaction → Type 0
+IsKeptBy schema root k commits vs prepared [] = (prepared ≡ None) × HasRows schema root k commits vs
+IsKeptBy schema root k commits vs prepared (t ∷ ts) = IsKeptUnder schema root k commits vs prepared t t.outcome
 
--- every key comes before those behind it
-abbrev pub HaveRisingKeys : List KeyVersions → Type 0
-HaveRisingKeys [] = Unit {0}
-HaveRisingKeys (c ∷ cs) = AllByRecursion (λ d. int_cmp c.key d.key ≡ Less) cs × HaveRisingKeys cs
+-- what is kept at a key by a machine
+abbrev pub IsKeptAt : List Table → Machine → List KeyVersions → Root → List ℕ → Type 0
+IsKeptAt schema m cs root k = IsKeptBy schema root k (commits_at schema root m.log) (versions_at cs k) (prepared_at cs k) (filter (claims schema root 0) m.transactions)
 
 -- the shard of slot 0 is what the log and the open transactions make it
-pub record AreKept (m : Machine) (cs : List KeyVersions) : Type 0 where
-  pub keys : HaveRisingKeys cs
+pub record AreKept (schema : List Table) (m : Machine) (cs : List KeyVersions) : Type 0 where
+  pub keys : AreInOrder cs
   pub used : AllByRecursion IsInUse cs
-  pub kept : (key : ℤ) → IsKeptBy key (commits_at key m.log) (versions_at cs key) (prepared_at cs key) (filter (claims key 0) m.transactions)
+  pub coded : AllByRecursion (λ c. IsCodedCoding schema c.key) cs
+  pub kept : (root : Root) → IsCodedRoot schema root → (k : List ℕ) → is_under schema root k ≡ true → IsKeptAt schema m cs root k
 
--- a piece that covers its query has the rows of the tables
-abbrev pub IsPieced : List Commit → Pieced → Type 0
-IsPieced log p = p.query.covered ≡ true → (db : Database) × (tables log p.query.s ≡ Ok db) × (p.rows ≡ rows_of db)
+-- a piece that covers its query has the rows of the table that it asks for
+pub record HasTable (schema : List Table) (log : List Commit) (p : Pieced) : Type 0 where
+  pub table : ℕ
+  pub asked : table_asked schema p.query.text ≡ Ok table
+  pub db : List TableRow
+  pub made : tables schema log p.query.s ≡ Ok db
+  pub rows : p.rows ≡ whole_table schema db table
 
-abbrev pub ArePieced : Machine → List Pieced → Type 0
-ArePieced m ps = AllByRecursion (IsPieced m.log) ps
+abbrev pub IsPieced : List Table → List Commit → Pieced → Type 0
+IsPieced schema log p = p.query.covered ≡ true → HasTable schema log p
+
+abbrev pub ArePieced : List Table → Machine → List Pieced → Type 0
+ArePieced schema m ps = AllByRecursion (IsPieced schema m.log) ps
+
+-- a row as a shard has it
+abbrev pub key_row : List Table → TableRow → KeyRow
+key_row schema r = record { key = code_of schema r; row = row_code r.cells }
+
+-- the keys of a family: all that begin with the number of its root table
+abbrev pub family : ℕ → KeyRange
+family root = record { low = root ∷ []; high = (root + 1) ∷ [] }
+
+-- entries that are the rows of a family, those of table n being all that the database has
+pub record HasRowsOf (schema : List Table) (n : ℕ) (db : List TableRow) (entries : List KeyRow) : Type 0 where
+  pub rows : List TableRow
+  pub typed : AreTyped schema rows
+  pub entries_are : entries ≡ map (key_row schema) rows
+  pub of_table : rows_of n rows ≡ rows_of n db
+
+-- the rows that are read of entries: those of table n, in the order in which its columns are declared
+abbrev pub IsReading : List Table → ℕ → List KeyRow → List (List Value) → Type 0
+IsReading schema n entries shown = (rows : List TableRow) → AreTyped schema rows → entries ≡ map (key_row schema) rows → shown ≡ map (declared_row schema) (rows_of n rows)

@@ -2,23 +2,26 @@
 //!
 //! `specs/Kept.antt` says what a shard keeps of each key (`AreKept`) and what the pieces of open queries are (`ArePieced`). `proofs/`
 //! shows that every step of the machine goes with a change of the shard that keeps it so: Steps (the steps that leave the versions),
-//! Preparing, Applying; that a snapshot at a sealed timestamp then has the rows of the tables (Snapshots); and that the pieces stay
+//! Preparing, Applying; that a snapshot at a safe timestamp then has the rows of the tables (Snapshots); and that the pieces stay
 //! right (Covers). The crates with code cite these laws.
 #![tactic(auto)]
 
-ghost use Rattle.std.specs.Prelude.{◌≡◌, ℕ, ℤ, List, Ok, None};
-ghost use Rattle.span_shard.specs.Database.{Database, rows_of};
+ghost use Rattle.std.specs.Prelude.{◌≡◌, ℕ, List, Ok, true};
+ghost use Rattle.span_schema.specs.Lineages.{MeetsRules};
+ghost use Rattle.span_schema.specs.Numbers.{root_of};
+ghost use Rattle.span_schema.specs.declared.table.Table.{Table};
+ghost use Rattle.span_mutate.specs.declared.row.TableRow.{TableRow};
 ghost use Rattle.span_shard.specs.KeyVersions.{KeyVersions};
 ghost use Rattle.span_shard.specs.Shard.{snapshot};
-ghost use Rattle.span_machine.specs.Machine.{Machine};
+ghost use Rattle.span_machine.specs.Machine.{Machine, is_safe};
 ghost use Rattle.span_machine.specs.Tables.{tables};
+ghost use Rattle.span_machine.specs.declared.slot.Book.{Book};
 ghost use Rattle.span_laws.proofs.Reached.{IsReached};
-ghost use Rattle.span_laws.proofs.Sealed.{IsSealed};
-ghost use Rattle.span_kept.specs.Kept.{AreKept};
+ghost use Rattle.span_kept.specs.Kept.{AreKept, HasRowsOf, family};
 
-/// In every machine that a run reaches, a snapshot of the shard that is kept for it, at a timestamp where every key is sealed, has just
-/// the rows of the tables at that timestamp, in order.
+/// In every machine that a run reaches, a snapshot that the shard kept for it gives of a table's family, at a timestamp that is safe,
+/// has of that table just the rows of the tables at that timestamp, in order.
 pub fn snapshots_are_tables()
-    ensures { (m : Machine) (cs : List KeyVersions) (s : ℕ) → IsReached m → AreKept m cs → ((key : ℤ) → IsSealed key s m) → (db : Database) → tables m.log s ≡ Ok db
-        → snapshot (record { low = None; high = None }) s cs ≡ rows_of db }
+    ensures { (schema : List Table) → MeetsRules schema → (m : Machine) (cs : List KeyVersions) (s : ℕ) (book : Book) → IsReached schema m → AreKept schema m cs → is_safe m 0 book s ≡ true
+        → (db : List TableRow) → tables schema m.log s ≡ Ok db → (n : ℕ) → HasRowsOf schema n db (snapshot (family (root_of schema n)) s cs) }
 {}

@@ -15,6 +15,7 @@ use Rattle.span_laws.proofs.Causes.{may_prepare, is_undecided_outcome}
 use Rattle.span_laws.proofs.Tests.{first_none, second_none}
 use Rattle.span_laws.proofs.Lists.{IsIn, all_push, all_changed, all_without, all_found, all_in, all_weaker, all_changed_found, all_filtered}
 use Rattle.span_laws.proofs.Walks.{Ends, answer_by}
+use Rattle.span_schema.specs.declared.table.Table.{Table}
 
 -- ---- how many slots there are
 
@@ -29,8 +30,8 @@ slots_applied m outcome.Undecided owner txn slot t = refl
 slots_applied m outcome.Aborted owner txn slot t = refl
 slots_applied m (outcome.Committed ts) owner txn slot t = last_length m.books slot ts
 
-slots_ends : (m : Machine) → Ends m (λ step a. length a.1.books ≡ length m.books)
-slots_ends m = record {
+slots_ends : (schema : List Table) (m : Machine) → Ends schema m (λ step a. length a.1.books ≡ length m.books)
+slots_ends schema m = record {
   refuses = λ step why. refl;
   begins = λ owner ms accepted. refl;
   prepares = λ owner txn slot t book found here accepted well low. length-set m.books slot _;
@@ -47,8 +48,8 @@ slots_ends m = record {
 }
 
 -- no step makes or removes a slot
-pub answer_slots : (m : Machine) (step : Step) → length (answer m step).1.books ≡ length m.books
-answer_slots m step = answer_by m (λ s a. length a.1.books ≡ length m.books) (slots_ends m) step
+pub answer_slots : (schema : List Table) (m : Machine) (step : Step) → length (answer schema m step).1.books ≡ length m.books
+answer_slots schema m step = answer_by schema m (λ s a. length a.1.books ≡ length m.books) (slots_ends schema m) step
 
 -- ---- where a transaction is prepared
 
@@ -112,7 +113,7 @@ once_prepared m t one holding is = let h = all_in (IsHolding (length m.books)) m
 
 -- ---- the steps
 
-module _ (m : Machine) (holding : AreHolding m) where
+module _ (schema : List Table) (m : Machine) (holding : AreHolding m) where
   abbrev Holds : Step → Answer → Type 0
   Holds step a = AllByRecursion (IsHolding (length m.books)) a.1.transactions
 
@@ -133,12 +134,12 @@ module _ (m : Machine) (holding : AreHolding m) where
   holding_applied outcome.Aborted owner txn slot t = one_of (length (without_prepared slot t).prepared == 0) (is_transaction owner txn) (without_prepared slot) (left_holding slot)
   holding_applied (outcome.Committed ts) owner txn slot t = one_of (length (without_prepared slot t).prepared == 0) (is_transaction owner txn) (without_prepared slot) (left_holding slot)
 
-  holding_ends : Ends m Holds
+  holding_ends : Ends schema m Holds
   holding_ends = record {
     refuses = λ step why. holding;
     begins = λ owner ms accepted. all_push (IsHolding (length m.books)) m.transactions (record { owner = owner; number = m.next_transaction; mutations = ms; outcome = outcome.Undecided; prepared = [] }) holding (record { timely = tt; apart = tt; within = tt });
     prepares = λ owner txn slot t book found here accepted well low.
-        let may = may_prepare (is_undecided t) (is_prepared_at slot t) (length (mutations_in book t.mutations) == 0) (conflicts m slot (mutations_in book t.mutations)) accepted in
+        let may = may_prepare (is_undecided t) (is_prepared_at slot t) (length (mutations_in schema book t.mutations) == 0) (conflicts schema m slot (mutations_in schema book t.mutations)) accepted in
         let old = all_found (IsHolding (length m.books)) (is_transaction owner txn) m.transactions t found holding in
         let p : Prepared = record { slot = slot; timestamp = prepare_timestamp book } in
         all_changed_found (IsHolding (length m.books)) (is_transaction owner txn) (add_prepared slot (prepare_timestamp book)) m.transactions t found (record {
@@ -165,9 +166,9 @@ module _ (m : Machine) (holding : AreHolding m) where
   }
 
 -- every step keeps where transactions are prepared
-pub answer_holding : (m : Machine) → AreHolding m → (step : Step) → AreHolding (answer m step).1
-answer_holding m holding step =
-    subst (λ n. AllByRecursion (IsHolding n) (answer m step).1.transactions) (sym (answer_slots m step)) (answer_by m (λ s a. AllByRecursion (IsHolding (length m.books)) a.1.transactions) (holding_ends m holding) step)
+pub answer_holding : (schema : List Table) (m : Machine) → AreHolding m → (step : Step) → AreHolding (answer schema m step).1
+answer_holding schema m holding step =
+    subst (λ n. AllByRecursion (IsHolding n) (answer schema m step).1.transactions) (sym (answer_slots schema m step)) (answer_by schema m (λ s a. AllByRecursion (IsHolding (length m.books)) a.1.transactions) (holding_ends schema m holding) step)
 
 pub start_holding : AreHolding start
 start_holding = tt

@@ -1,29 +1,31 @@
-use Rattle.std.proofs.Common.{◌≡◌, ℕ, ℤ, ◌<◌, ◌≤◌, max, Bool, true, false, cond, ◌&&◌, ◌||◌, ◌==◌, nat_lt, nat_le, List, [], ◌∷◌, ◌++◌, Option, Some, None, Ok, Err, refl, ap, sym, ◌∙◌, subst, arith}
+use Rattle.std.proofs.Common.{◌≡◌, ℕ, ◌<◌, ◌≤◌, max, Bool, true, false, cond, ◌&&◌, ◌||◌, ◌==◌, nat_lt, nat_le, List, [], ◌∷◌, ◌++◌, Some, Ok, Err, refl, ap, sym, ◌∙◌, subst, arith}
 use Rattle.std.specs.Prelude.{slice_get, filter}
 use Rattle.std.proofs.lemmas.Bool.Decides.{nat_tests}
 use Rattle.std.proofs.lemmas.List.{append-nil}
 use Rattle.std.specs.List.{AllByRecursion}
-use Rattle.std.specs.FinMap as finmap
 use Rattle.span_machine.specs.declared.slot.Book.{Book}
-use Rattle.span_value.specs.declared.value.Value.{Value}
 use Rattle.span_machine.specs.declared.transaction.Commit.{Commit}
-use Rattle.span_shard.specs.declared.mutation.CheckedMutation.{CheckedMutation}
+use Rattle.span_schema.specs.declared.table.Table.{Table}
+use Rattle.span_mutate.specs.declared.mutation.CheckedMutation.{CheckedMutation}
 use Rattle.span_machine.specs.declared.transaction.Prepared.{Prepared}
 use Rattle.span_machine.specs.declared.transaction.OpenTransaction.{OpenTransaction}
 use Rattle.span_machine.specs.declared.transaction.Outcome.{Outcome}
 use Rattle.span_machine.specs.declared.transaction.Outcome.TheVariants as outcome
-use Rattle.span_shard.specs.Database.{Database, and_then, row_after, is_at, row_through}
+use Rattle.span_mutate.specs.Checking.{and_then}
+use Rattle.span_mutate.specs.Database.{apply_one, apply}
+use Rattle.span_mutate.specs.declared.row.TableRow.{TableRow}
+use Rattle.span_mutate.specs.Directories.{Root, AreKeyed}
+use Rattle.span_machine.specs.Machine.{is_at}
 use Rattle.span_machine.specs.Sorting.{placed, in_order}
 use Rattle.span_machine.specs.Tables.{is_before, upto, mutations_of, tables}
 use Rattle.span_machine.specs.Machine.{Machine, holds, is_prepared_at, greatest}
 use Rattle.span_truetime.specs.Time.{timestamp_end}
 use Rattle.std.proofs.Common.{append_assoc}
-use Rattle.std.specs.FinMap.{get-empty}
-use Rattle.std.specs.Ordering.{int_cmp}
 use Rattle.span_laws.proofs.Lists.{all_push, filter_swap, all_filtered}
 use Rattle.span_laws.proofs.Ordered.{filter-in_order}
-use Rattle.span_laws.proofs.Locality.{apply-succeeds}
+use Rattle.span_laws.proofs.Locality.{IsRoot, apply-succeeds, empty_database}
 use Rattle.span_laws.proofs.Stability.{changes_at, touches, is_some_of, changes_at-filter, is_before-order, changes_at-cons}
+use Rattle.span_schema.specs.Lineages.{MeetsRules}
 
 -- ---- the invariant
 
@@ -40,44 +42,44 @@ abbrev pub IsRising : List Commit → Type 0
 IsRising [] = Unit {0}
 IsRising (c ∷ cs) = AllByRecursion (λ d. c.timestamp < d.timestamp) cs × IsRising cs
 
--- mutations of the key go through, from no row
-pub record Succeeds (ms : List CheckedMutation) : Type 0 where
-  pub row : Option Value
-  pub made : row_through None ms ≡ Ok row
+-- mutations of the directory go through, from no row
+pub record Succeeds (schema : List Table) (ms : List CheckedMutation) : Type 0 where
+  pub rows : List TableRow
+  pub made : apply schema [] ms ≡ Ok rows
 
--- the log's commits that change the key
-abbrev pub commits_at : ℤ → List Commit → List Commit
-commits_at key log = filter (touches key) log
+-- the log's commits that change the directory
+abbrev pub commits_at : List Table → Root → List Commit → List Commit
+commits_at schema root log = filter (touches schema root) log
 
--- the transaction is prepared at the slot and changes the key
-abbrev pub claims : ℤ → ℕ → OpenTransaction → Bool
-claims key slot t = is_prepared_at slot t && is_some_of (filter (is_at key) t.mutations)
+-- the transaction is prepared at the slot and changes the directory
+abbrev pub claims : List Table → Root → ℕ → OpenTransaction → Bool
+claims schema root slot t = is_prepared_at slot t && is_some_of (filter (is_at schema root) t.mutations)
 
--- an undecided transaction may commit: above the key's commits, and its changes go through behind theirs
-pub record IsPromised (key : ℤ) (last : ℕ) (cs : List Commit) (t : OpenTransaction) : Type 0 where
+-- an undecided transaction may commit: above the directory's commits, and its changes go through behind theirs
+pub record IsPromised (schema : List Table) (root : Root) (last : ℕ) (cs : List Commit) (t : OpenTransaction) : Type 0 where
   pub below : IsBelow last cs
   pub under : IsUnder (greatest t.prepared) cs
-  pub through : Succeeds (changes_at key cs ++ filter (is_at key) t.mutations)
+  pub through : Succeeds schema (changes_at schema root cs ++ filter (is_at schema root) t.mutations)
 
--- what the one transaction that claims the key says of its commits, by its outcome
-abbrev pub IsClaimed : ℤ → ℕ → List Commit → OpenTransaction → Outcome → Type 0
-IsClaimed key last cs t outcome.Undecided = IsPromised key last cs t
-IsClaimed key last cs t (outcome.Committed ts) = IsBelow (max last ts) cs
-IsClaimed key last cs t outcome.Aborted = IsBelow last cs
+-- what the one transaction that claims the directory says of its commits, by its outcome
+abbrev pub IsClaimed : List Table → Root → ℕ → List Commit → OpenTransaction → Outcome → Type 0
+IsClaimed schema root last cs t outcome.Undecided = IsPromised schema root last cs t
+IsClaimed schema root last cs t (outcome.Committed ts) = IsBelow (max last ts) cs
+IsClaimed schema root last cs t outcome.Aborted = IsBelow last cs
 
--- at most one transaction claims the key
-abbrev pub IsClaim : ℤ → ℕ → List Commit → List OpenTransaction → Type 0
-IsClaim key last cs [] = IsBelow last cs
-IsClaim key last cs (t ∷ ts) = (ts ≡ []) × IsClaimed key last cs t t.outcome
+-- at most one transaction claims the directory
+abbrev pub IsClaim : List Table → Root → ℕ → List Commit → List OpenTransaction → Type 0
+IsClaim schema root last cs [] = IsBelow last cs
+IsClaim schema root last cs (t ∷ ts) = (ts ≡ []) × IsClaimed schema root last cs t t.outcome
 
--- the key's commits stand in the log in the order of their timestamps, and go through
-pub record IsInPlace (key : ℤ) (slot : ℕ) (m : Machine) : Type 0 where
-  pub only : (i : ℕ) (b : Book) → slice_get m.books i ≡ Some b → holds b key ≡ true → i ≡ slot
-  pub held : (b : Book) → slice_get m.books slot ≡ Some b → holds b key ≡ true
+-- the directory's commits stand in the log in the order of their timestamps, and go through
+pub record IsInPlace (schema : List Table) (root : Root) (slot : ℕ) (m : Machine) : Type 0 where
+  pub only : (i : ℕ) (b : Book) → slice_get m.books i ≡ Some b → holds b root ≡ true → i ≡ slot
+  pub held : (b : Book) → slice_get m.books slot ≡ Some b → holds b root ≡ true
   pub in_range : IsUnder timestamp_end m.log
-  pub rising : IsRising (commits_at key m.log)
-  pub through : Succeeds (changes_at key (commits_at key m.log))
-  pub claim : (b : Book) → slice_get m.books slot ≡ Some b → IsClaim key b.last (commits_at key m.log) (filter (claims key slot) m.transactions)
+  pub rising : IsRising (commits_at schema root m.log)
+  pub through : Succeeds schema (changes_at schema root (commits_at schema root m.log))
+  pub claim : (b : Book) → slice_get m.books slot ≡ Some b → IsClaim schema root b.last (commits_at schema root m.log) (filter (claims schema root slot) m.transactions)
 
 -- ---- lists
 
@@ -115,27 +117,27 @@ pub rising_push : (cs : List Commit) (c : Commit) → IsRising cs → IsUnder c.
 rising_push [] c up under = (tt, tt)
 rising_push (d ∷ ds) c up under = (all_push (λ e. d.timestamp < e.timestamp) ds c up.0 under.0, rising_push ds c up.1 under.1)
 
--- ---- commits of one key
+-- ---- commits of one directory
 
-pub row_through-append : (ms ns : List CheckedMutation) (row mid : Option Value) → row_through row ms ≡ Ok mid → row_through row (ms ++ ns) ≡ row_through mid ns
-row_through-append [] ns row mid = λ e. let same : row ≡ mid = cc in ap (λ r. row_through r ns) same
-row_through-append (m ∷ ms) ns row mid = elim (row_after m row) as (λ r. and_then r (λ next. row_through next ms) ≡ Ok mid → and_then r (λ next. row_through next (ms ++ ns)) ≡ row_through mid ns) [
-  | Ok next ↦ λ e. row_through-append ms ns next mid e
+pub apply-append : (schema : List Table) (ms ns : List CheckedMutation) (rows mid : List TableRow) → apply schema rows ms ≡ Ok mid → apply schema rows (ms ++ ns) ≡ apply schema mid ns
+apply-append schema [] ns rows mid = λ e. let same : rows ≡ mid = cc in ap (λ l. apply schema l ns) same
+apply-append schema (m ∷ ms) ns rows mid = elim (apply_one schema rows m) as (λ r. and_then r (λ next. apply schema next ms) ≡ Ok mid → and_then r (λ next. apply schema next (ms ++ ns)) ≡ apply schema mid ns) [
+  | Ok next ↦ λ e. apply-append schema ms ns next mid e
   | Err why ↦ λ e. cc
 ]
 
 -- where all goes through, the front does
-pub front_through : (ms ns : List CheckedMutation) (row out : Option Value) → row_through row (ms ++ ns) ≡ Ok out → (mid : Option Value) × (row_through row ms ≡ Ok mid) × (row_through mid ns ≡ Ok out)
-front_through [] ns row out = λ e. (row, refl, e)
-front_through (m ∷ ms) ns row out = elim (row_after m row) as (λ r. and_then r (λ next. row_through next (ms ++ ns)) ≡ Ok out → (mid : Option Value) × (and_then r (λ next. row_through next ms) ≡ Ok mid) × (row_through mid ns ≡ Ok out)) [
-  | Ok next ↦ λ e. front_through ms ns next out e
+pub front_through : (schema : List Table) (ms ns : List CheckedMutation) (rows out : List TableRow) → apply schema rows (ms ++ ns) ≡ Ok out → (mid : List TableRow) × (apply schema rows ms ≡ Ok mid) × (apply schema mid ns ≡ Ok out)
+front_through schema [] ns rows out = λ e. (rows, refl, e)
+front_through schema (m ∷ ms) ns rows out = elim (apply_one schema rows m) as (λ r. and_then r (λ next. apply schema next (ms ++ ns)) ≡ Ok out → (mid : List TableRow) × (and_then r (λ next. apply schema next ms) ≡ Ok mid) × (apply schema mid ns ≡ Ok out)) [
+  | Ok next ↦ λ e. front_through schema ms ns next out e
   | Err why ↦ λ e. absurd (cc)
 ]
 
-pub changes_at-push : (key : ℤ) (cs : List Commit) (c : Commit) → changes_at key (cs ++ c ∷ []) ≡ changes_at key cs ++ filter (is_at key) c.mutations
-changes_at-push key [] c = changes_at-cons key c [] ∙ append-nil _
-changes_at-push key (d ∷ ds) c = changes_at-cons key d (ds ++ c ∷ []) ∙ ap (λ l. filter (is_at key) d.mutations ++ l) (changes_at-push key ds c)
-    ∙ sym (append_assoc {A = CheckedMutation} (filter (is_at key) d.mutations) (changes_at key ds) (filter (is_at key) c.mutations)) ∙ ap (λ l. l ++ filter (is_at key) c.mutations) (sym (changes_at-cons key d ds))
+pub changes_at-push : (schema : List Table) (root : Root) (cs : List Commit) (c : Commit) → changes_at schema root (cs ++ c ∷ []) ≡ changes_at schema root cs ++ filter (is_at schema root) c.mutations
+changes_at-push schema root [] c = changes_at-cons schema root c [] ∙ append-nil _
+changes_at-push schema root (d ∷ ds) c = changes_at-cons schema root d (ds ++ c ∷ []) ∙ ap (λ l. filter (is_at schema root) d.mutations ++ l) (changes_at-push schema root ds c)
+    ∙ sym (append_assoc {A = CheckedMutation} (filter (is_at schema root) d.mutations) (changes_at schema root ds) (filter (is_at schema root) c.mutations)) ∙ ap (λ l. l ++ filter (is_at schema root) c.mutations) (sym (changes_at-cons schema root d ds))
 
 pub none_later : (s n : ℕ) (cs : List Commit) → nat_le n s ≡ false → AllByRecursion (λ d. n < d.timestamp) cs → filter (λ d. nat_le d.timestamp s) cs ≡ []
 none_later s n [] late all = refl
@@ -145,14 +147,20 @@ none_later s n (d ∷ ds) late all =
     rw e (none_later s n ds late all.1)
 
 -- of commits that rise and go through, those up to s go through
-pub upto_through : (key : ℤ) (s : ℕ) (cs : List Commit) (row out : Option Value) → IsRising cs → row_through row (changes_at key cs) ≡ Ok out → (r : Option Value) × (row_through row (changes_at key (filter (λ d. nat_le d.timestamp s) cs)) ≡ Ok r)
-upto_through key s [] row out up h = (row, refl)
-upto_through key s (c ∷ cs) row out up h =
-    let parts = front_through (filter (is_at key) c.mutations) (changes_at key cs) row out (subst (λ l. row_through row l ≡ Ok out) (changes_at-cons key c cs) h) in
-    elim (nat_le c.timestamp s) as (λ b. nat_le c.timestamp s ≡ b → (r : Option Value) × (row_through row (changes_at key (cond b (c ∷ filter (λ d. nat_le d.timestamp s) cs) (filter (λ d. nat_le d.timestamp s) cs))) ≡ Ok r)) [
-      | true ↦ λ e. let rest = upto_through key s cs parts.0 out up.1 parts.2 in
-          (rest.0, ap (row_through row) (changes_at-cons key c (filter (λ d. nat_le d.timestamp s) cs)) ∙ row_through-append (filter (is_at key) c.mutations) (changes_at key (filter (λ d. nat_le d.timestamp s) cs)) row parts.0 parts.1 ∙ rest.1)
-      | false ↦ λ e. (row, ap (λ l. row_through row (changes_at key l)) (none_later s c.timestamp cs e up.0))
+pub upto_through : (schema : List Table) (root : Root) (s : ℕ) (cs : List Commit) (rows out : List TableRow) → IsRising cs → apply schema rows (changes_at schema root cs) ≡ Ok out
+    → (some : List TableRow) × (apply schema rows (changes_at schema root (filter (λ d. nat_le d.timestamp s) cs)) ≡ Ok some)
+upto_through schema root s [] rows out up h = (rows, refl)
+upto_through schema root s (c ∷ cs) rows out up h =
+    let own : List CheckedMutation = filter (is_at schema root) c.mutations in
+    let parts = front_through schema own (changes_at schema root cs) rows out (subst (λ l. apply schema rows l ≡ Ok out) (changes_at-cons schema root c cs) h) in
+    elim (nat_le c.timestamp s) as (λ b. nat_le c.timestamp s ≡ b
+    → (some : List TableRow) × (apply schema rows (changes_at schema root (cond b (c ∷ filter (λ d. nat_le d.timestamp s) cs) (filter (λ d. nat_le d.timestamp s) cs))) ≡ Ok some)) [
+      | true ↦ λ e. let rest = upto_through schema root s cs parts.0 out up.1 parts.2 in (
+        rest.0,
+        ap (apply schema rows) (changes_at-cons schema root c (filter (λ d. nat_le d.timestamp s) cs))
+            ∙ apply-append schema own (changes_at schema root (filter (λ d. nat_le d.timestamp s) cs)) rows parts.0 parts.1 ∙ rest.1,
+      )
+      | false ↦ λ e. (rows, ap (λ l. apply schema rows (changes_at schema root l)) (none_later s c.timestamp cs e up.0))
     ] refl
 
 -- commits that rise are in order
@@ -171,22 +179,20 @@ rising_filter s (c ∷ cs) up = elim (nat_le c.timestamp s) as (λ b. IsRising (
   | false ↦ rising_filter s cs up.1
 ]
 
--- what the tables at s do with the key is what the key's commits up to s do, in the order of the log
-pub changes_at-upto : (key : ℤ) (log : List Commit) (s : ℕ) → IsRising (commits_at key log) → changes_at key (upto log s) ≡ changes_at key (filter (λ d. nat_le d.timestamp s) (commits_at key log))
-changes_at-upto key log s up =
-    sym (changes_at-filter key (upto log s))
-    ∙ ap (changes_at key) (filter-in_order is_before is_before-order (touches key) (filter (λ d. nat_le d.timestamp s) log)
-    ∙ ap (in_order is_before) (filter_swap (touches key) (λ d. nat_le d.timestamp s) log)
-    ∙ in_order_rising (filter (λ d. nat_le d.timestamp s) (commits_at key log)) (rising_filter s (commits_at key log) up))
+-- what the tables at s do with the directory is what the directory's commits up to s do, in the order of the log
+pub changes_at-upto : (schema : List Table) (root : Root) (log : List Commit) (s : ℕ) → IsRising (commits_at schema root log) → changes_at schema root (upto log s) ≡ changes_at schema root (filter (λ d. nat_le d.timestamp s) (commits_at schema root log))
+changes_at-upto schema root log s up =
+    sym (changes_at-filter schema root (upto log s))
+    ∙ ap (changes_at schema root) (filter-in_order is_before is_before-order (touches schema root) (filter (λ d. nat_le d.timestamp s) log)
+    ∙ ap (in_order is_before) (filter_swap (touches schema root) (λ d. nat_le d.timestamp s) log)
+    ∙ in_order_rising (filter (λ d. nat_le d.timestamp s) (commits_at schema root log)) (rising_filter s (commits_at schema root log) up))
 
 -- ---- the tables
 
--- where each key is in place, the tables at any s are made
-pub tables_made : (m : Machine) (slot : ℤ → ℕ) (s : ℕ) → ((key : ℤ) → IsInPlace key (slot key) m) → (db : Database) × (tables m.log s ≡ Ok db)
-tables_made m slot s place = apply-succeeds (mutations_of (upto m.log s)) finmap.empty (λ key.
-    let o = place key in
-    let made = upto_through key s (commits_at key m.log) None o.through.row o.rising o.through.made in (
-      made.0,
-      subst (λ (r : Option Value). row_through r (changes_at key (upto m.log s)) ≡ Ok made.0) (sym (get-empty int_cmp key))
-          (ap (row_through None) (changes_at-upto key m.log s o.rising) ∙ made.1),
-    ))
+-- where each directory is in place, the tables at any s are made
+pub tables_made : (schema : List Table) → MeetsRules schema → (m : Machine) (slot : Root → ℕ) (s : ℕ) → AreKeyed schema (mutations_of (upto m.log s)) → ((root : Root) → IsRoot schema root → IsInPlace schema root (slot root) m)
+    → (db : List TableRow) × (tables schema m.log s ≡ Ok db)
+tables_made schema rules m slot s keyed place = apply-succeeds schema rules (mutations_of (upto m.log s)) [] (empty_database schema) keyed (λ root is.
+    let o = place root is in
+    let made = upto_through schema root s (commits_at schema root m.log) [] o.through.rows o.rising o.through.made in
+    (made.0, ap (apply schema []) (changes_at-upto schema root m.log s o.rising) ∙ made.1))

@@ -8,11 +8,12 @@ pub mod Walks
 pub mod Sealed
 pub mod InPlace
 pub mod Claims
+pub mod Schemas
 pub mod Placed
 pub mod Numbers
 pub mod Holdings
 pub mod Sound
-pub mod Known
 pub mod Queries
+pub mod Known
 pub mod Reached
 pub mod History

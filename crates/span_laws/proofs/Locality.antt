@@ -1,83 +1,138 @@
-use Rattle.std.proofs.Common.{◌≡◌, ℤ, true, false, cond, List, [], ◌∷◌, Option, Some, None, Result, Ok, Err, refl, ap, sym, ◌∙◌, subst}
+-- What mutations make of a directory, they make of it alone.
+use Rattle.std.proofs.Common.{◌≡◌, ℕ, true, false, Bool, List, [], ◌∷◌, ◌==◌, ◌≤◌, Result, Ok, Err, length, take, refl, ap, sym, ◌∙◌, subst, arith}
+use Rattle.std.proofs.lemmas.List.{length-take-le}
 use Rattle.std.specs.List.{filter}
-use Rattle.std.specs.Ordering.{int_cmp, eq_by_cmp}
-use Rattle.std.specs.FinMap as finmap
-use Rattle.std.specs.FinMap.{get-insert, get-remove, same_map, int_cmp-IsAntisymmetric}
-use Rattle.std.specs.Cmp.{int_cmp_total, eq_by_cmp_equiv}
-use Rattle.std.proofs.lemmas.Map.Views.{tells_apart}
-use Rattle.std.proofs.lemmas.Map.Lookups.{exact_signed}
 use Rattle.span_value.specs.declared.value.Value.{Value}
-use Rattle.span_shard.specs.declared.mutation.CheckedMutation.{CheckedMutation}
 use Rattle.span_value.specs.declared.refusal.Refusal.{Refusal}
-use Rattle.span_shard.specs.Database.{Database, and_then, row_after, with_row, apply, is_at, row_through}
+use Rattle.span_schema.specs.declared.table.Table.{Table}
+use Rattle.span_schema.specs.Lineages.{MeetsRules}
+use Rattle.span_schema.specs.Numbers.{root_of}
+use Rattle.span_mutate.specs.declared.mutation.CheckedMutation.{CheckedMutation}
+use Rattle.span_mutate.specs.declared.row.TableRow.{TableRow}
+use Rattle.span_mutate.specs.Checking.{and_then}
+use Rattle.span_mutate.specs.Database.{apply_one, apply}
+use Rattle.span_mutate.specs.Rows.{begins}
+use Rattle.span_mutate.specs.Directories.{Root, directory, key_len, IsKeyed, AreKeyed, IsDatabase, RunsTo, IsPutTogether}
+use Rattle.span_mutate.proofs.Apart.{one_database}
+use Rattle.span_mutate.proofs.Begins.{both_hold, both_make, front_of_taken, front_within, number_itself, same_key, same_number}
+use Rattle.span_mutate.proofs.ByRoots.{root_by_root, root_keyed, in_own}
+use Rattle.span_mutate.proofs.Families.{root_is_table}
+use Rattle.span_mutate.proofs.Filters.{filter_yes, filter_no}
+use Rattle.span_mutate.proofs.Local.{with_rows, step_same, step_apart, step_database}
+use Rattle.span_mutate.proofs.Runs.{run_on}
+use Rattle.span_machine.specs.Machine.{root_at, is_at}
 
-pub get-with_row : (db : Database) (key : ℤ) (row : Option Value) (q : ℤ) → finmap.get (with_row db key row) q ≡ cond (eq_by_cmp int_cmp q key) row (finmap.get db q)
-get-with_row db key None q = get-remove int_cmp_total db key q
-get-with_row db key (Some cell) q = get-insert int_cmp_total db key cell q
+-- a root row, with a value for each key column of its table
+abbrev pub IsRoot : List Table → Root → Type 0
+IsRoot schema root = IsKeyed schema root.table root.key
 
-pub same_key : (db : Database) (q key : ℤ) → eq_by_cmp int_cmp q key ≡ true → finmap.get db q ≡ finmap.get db key
-same_key db q key e = ap (finmap.get db) (tells_apart exact_signed q key e)
-
-pub is_at-itself : (m : CheckedMutation) → is_at m.key m ≡ true
-is_at-itself m = (eq_by_cmp_equiv int_cmp_total).refl m.key
+pub is_at-itself : (schema : List Table) (m : CheckedMutation) → is_at schema (root_at schema m) m ≡ true
+is_at-itself schema m = in_own schema m.table m.key
 
 pub ok_same : {A : Type 0} {x y : A} → ◌≡◌ {A = Result A Refusal} (Ok x) (Ok y) → x ≡ y
 ok_same e = cc
 
--- the mutations of one key make its row, whatever the others do
-pub apply-row : (ms : List CheckedMutation) (db out : Database) (key : ℤ) → apply db ms ≡ Ok out → row_through (finmap.get db key) (filter (is_at key) ms) ≡ Ok (finmap.get out key)
-apply-row [] db out key h = let e : db ≡ out = cc in ap (λ d. Ok (finmap.get d key)) e
-apply-row (m ∷ ms) db out key h =
-    elim (row_after m (finmap.get db m.key)) as (λ r. row_after m (finmap.get db m.key) ≡ r → and_then (and_then r (λ row. Ok (with_row db m.key row))) (λ next. apply next ms) ≡ Ok out → row_through (finmap.get db key) (filter (is_at key) (m ∷ ms)) ≡ Ok (finmap.get out key)) [
-      | Err why ↦ λ e bad. cc
-      | Ok row ↦ λ e rest.
-          let ih = apply-row ms (with_row db m.key row) out key rest in
-          let ih2 : row_through (cond (is_at key m) row (finmap.get db key)) (filter (is_at key) ms) ≡ Ok (finmap.get out key) = subst (λ r. row_through r (filter (is_at key) ms) ≡ Ok (finmap.get out key)) (get-with_row db m.key row key) ih in
-          elim (is_at key m) as (λ b. is_at key m ≡ b → row_through (cond b row (finmap.get db key)) (filter (is_at key) ms) ≡ Ok (finmap.get out key) → row_through (finmap.get db key) (cond b (m ∷ filter (is_at key) ms) (filter (is_at key) ms)) ≡ Ok (finmap.get out key)) [
-            | true ↦ λ at g. rw (same_key db key m.key at, e) g
-            | false ↦ λ at g. g
-          ] refl ih2
-    ] refl h
+-- the outcome of the whole database, put together of the directories
+put_together : (schema : List Table) → MeetsRules schema → (db out : List TableRow) (ms : List CheckedMutation) → IsDatabase schema db → AreKeyed schema ms → apply schema db ms ≡ Ok out
+    → IsDatabase schema out × RunsTo schema db ms out
+put_together schema rules db out ms is keyed e = subst (IsPutTogether schema db ms) e (root_by_root schema rules db ms is keyed)
+
+-- the mutations of one directory make its rows, whatever the others do
+pub apply-directory : (schema : List Table) → MeetsRules schema → (ms : List CheckedMutation) (db out : List TableRow) (root : Root) → IsRoot schema root → IsDatabase schema db → AreKeyed schema ms
+    → apply schema db ms ≡ Ok out → apply schema (directory schema root db) (filter (is_at schema root) ms) ≡ Ok (directory schema root out)
+apply-directory schema rules ms db out root is is_db keyed e = (put_together schema rules db out ms is_db keyed e).1 root is
+
+-- what is left is a database again
+pub apply-database : (schema : List Table) → MeetsRules schema → (ms : List CheckedMutation) (db out : List TableRow) → IsDatabase schema db → AreKeyed schema ms
+    → apply schema db ms ≡ Ok out → IsDatabase schema out
+apply-database schema rules ms db out is_db keyed e = (put_together schema rules db out ms is_db keyed e).0
+
+-- ---- the root row of a mutation
+
+pub root_is : (schema : List Table) → MeetsRules schema → (m : CheckedMutation) → IsKeyed schema m.table m.key → IsRoot schema (root_at schema m)
+root_is schema rules m keyed = (root_is_table schema m.table keyed.0, root_keyed schema rules m.table m.key keyed)
+
+front_is : (us ws : List Value) (k : ℕ) → begins us ws ≡ true → length us ≡ k → us ≡ take k ws
+front_is us ws k e len =
+    let within : length us ≤ length ws = front_within us ws e in
+    let taken : length (take k ws) ≡ k = length-take-le k ws (omega (arith, len, within)) in
+    same_key us (take k ws) (both_make (length us == length (take k ws)) (begins us (take k ws)) (number_itself (length us) (length (take k ws)) (len ∙ sym taken)) (front_of_taken us ws k e (omega (arith, len))))
+
+-- a directory that has a mutation is the directory of its root row
+pub own_root : (schema : List Table) (root : Root) (m : CheckedMutation) → IsRoot schema root → is_at schema root m ≡ true → root ≡ root_at schema m
+own_root schema root m is at =
+    let parts = both_hold (root_of schema m.table == root.table) (begins root.key m.key) at in
+    let table : root_of schema m.table ≡ root.table = same_number (root_of schema m.table) root.table parts.0 in
+    let key : root.key ≡ take (key_len schema (root_of schema m.table)) m.key =
+    front_is root.key m.key (key_len schema (root_of schema m.table)) parts.1 (is.1 ∙ ap (key_len schema) (sym table)) in
+    let whole : record { table = root.table; key = root.key } ≡ root_at schema m = cc in
+    whole
+
+-- ---- mutations that succeed in each directory
 
 pub is_ok_of : {A B : Type 0} (r : Result A Refusal) (next : A → Result B Refusal) (b : B) → and_then r next ≡ Ok b → (a : A) × (r ≡ Ok a) × (next a ≡ Ok b)
 is_ok_of (Ok a) next b e = (a, refl, e)
 is_ok_of (Err why) next b e = cc
 
--- the mutations of each key succeed
-abbrev pub EachSucceeds : List CheckedMutation → Database → Type 0
-EachSucceeds ms db = (key : ℤ) → (row : Option Value) × (row_through (finmap.get db key) (filter (is_at key) ms) ≡ Ok row)
+-- the mutations of each directory succeed
+abbrev pub EachSucceeds : List Table → List CheckedMutation → List TableRow → Type 0
+EachSucceeds schema ms db = (root : Root) → IsRoot schema root → (rows : List TableRow) × (apply schema (directory schema root db) (filter (is_at schema root) ms) ≡ Ok rows)
 
-pub at_own : (m : CheckedMutation) (ms : List CheckedMutation) (db : Database) (r : Option Value) → row_through (finmap.get db m.key) (filter (is_at m.key) (m ∷ ms)) ≡ Ok r → and_then (row_after m (finmap.get db m.key)) (λ next. row_through next (filter (is_at m.key) ms)) ≡ Ok r
-at_own m ms db r h = subst (λ b. row_through (finmap.get db m.key) (cond b (m ∷ filter (is_at m.key) ms) (filter (is_at m.key) ms)) ≡ Ok r) (is_at-itself m) h
+ok_with : (f : List TableRow → List TableRow) (r : Result (List TableRow) Refusal) (rows : List TableRow) → with_rows f r ≡ Ok rows → (next : List TableRow) × (r ≡ Ok next)
+ok_with f (Ok next) rows e = (next, refl)
+ok_with f (Err why) rows e = absurd cc
 
-pub then_own : (m : CheckedMutation) (ms : List CheckedMutation) (db : Database) (row r : Option Value) → row_through row (filter (is_at m.key) ms) ≡ Ok r → row_through (finmap.get (with_row db m.key row) m.key) (filter (is_at m.key) ms) ≡ Ok r
-then_own m ms db row r h =
-    let e : finmap.get (with_row db m.key row) m.key ≡ row = get-with_row db m.key row m.key ∙ ap (λ b. cond b row (finmap.get db m.key)) (is_at-itself m) in
-    subst (λ (o : Option Value). row_through o (filter (is_at m.key) ms) ≡ Ok r) (sym e) h
+module _ (schema : List Table) (rules : MeetsRules schema) where
+  -- where the first mutation of its own directory succeeds there, it succeeds
+  first_succeeds : (m : CheckedMutation) (ms : List CheckedMutation) (db rows : List TableRow) → IsKeyed schema m.table m.key
+      → apply schema (directory schema (root_at schema m) db) (filter (is_at schema (root_at schema m)) (m ∷ ms)) ≡ Ok rows → (next : List TableRow) × (apply_one schema db m ≡ Ok next)
+  first_succeeds m ms db rows keyed e =
+      let root = root_at schema m in
+      let own : apply schema (directory schema root db) (m ∷ filter (is_at schema root) ms) ≡ Ok rows =
+      ap (apply schema (directory schema root db)) (sym (filter_yes (is_at schema root) m ms (is_at-itself schema m))) ∙ e in
+      let one = is_ok_of (apply_one schema (directory schema root db) m) (λ next. apply schema next (filter (is_at schema root) ms)) rows own in
+      ok_with (directory schema root) (apply_one schema db m) one.0 (sym (step_same schema rules root (root_is schema rules m keyed).1 m keyed.0 (is_at-itself schema m) db) ∙ one.1)
 
-pub then_each : (m : CheckedMutation) (ms : List CheckedMutation) (db : Database) (row : Option Value) → row_after m (finmap.get db m.key) ≡ Ok row → EachSucceeds (m ∷ ms) db → EachSucceeds ms (with_row db m.key row)
-then_each m ms db row first each key = elim (is_at key m) as (λ b. is_at key m ≡ b → (r : Option Value) × (row_through (finmap.get (with_row db m.key row) key) (filter (is_at key) ms) ≡ Ok r)) [
-  | true ↦ λ at.
-      let own : and_then (Ok row) (λ next. row_through next (filter (is_at m.key) ms)) ≡ Ok (each m.key).0 = subst (λ (v : Result (Option Value) Refusal). and_then v (λ next. row_through next (filter (is_at m.key) ms)) ≡ Ok (each m.key).0) first (at_own m ms db (each m.key).0 (each m.key).1) in
-      ((each m.key).0, subst (λ (q : ℤ). row_through (finmap.get (with_row db m.key row) q) (filter (is_at q) ms) ≡ Ok (each m.key).0) (sym (tells_apart exact_signed key m.key at)) (then_own m ms db row (each m.key).0 own))
-  | false ↦ λ at.
-      let e : finmap.get (with_row db m.key row) key ≡ finmap.get db key = get-with_row db m.key row key ∙ ap (λ b. cond b row (finmap.get db key)) at in
-      let old : row_through (finmap.get db key) (filter (is_at key) ms) ≡ Ok (each key).0 = subst (λ b. row_through (finmap.get db key) (cond b (m ∷ filter (is_at key) ms) (filter (is_at key) ms)) ≡ Ok (each key).0) at (each key).1 in
-      ((each key).0, subst (λ (o : Option Value). row_through o (filter (is_at key) ms) ≡ Ok (each key).0) (sym e) old)
-] refl
+  -- the mutations behind it then succeed in each directory of what it leaves
+  then_each : (m : CheckedMutation) (ms : List CheckedMutation) (db next : List TableRow) → IsKeyed schema m.table m.key → IsDatabase schema db → apply_one schema db m ≡ Ok next
+      → EachSucceeds schema (m ∷ ms) db → EachSucceeds schema ms next
+  then_each m ms db next keyed is_db first each root is = cases (is_at schema root m) refl
+    where
+      cases : (b : Bool) → is_at schema root m ≡ b → (rows : List TableRow) × (apply schema (directory schema root next) (filter (is_at schema root) ms) ≡ Ok rows)
+      cases true at = (
+        (each root is).0,
+        sym (run_on schema (directory schema root db) m (filter (is_at schema root) ms) (directory schema root next)
+            (step_same schema rules root is.1 m keyed.0 at db ∙ ap (with_rows (directory schema root)) first))
+            ∙ sym (ap (apply schema (directory schema root db)) (filter_yes (is_at schema root) m ms at))
+            ∙ (each root is).1,
+      )
+      cases false at = (
+        (each root is).0,
+        ap (λ (rows : List TableRow). apply schema rows (filter (is_at schema root) ms)) (sym (step_apart schema rules root is.1 m keyed at db is_db.0 next first))
+            ∙ sym (ap (apply schema (directory schema root db)) (filter_no (is_at schema root) m ms at))
+            ∙ (each root is).1,
+      )
 
--- where each key's mutations succeed, all do
-pub apply-succeeds : (ms : List CheckedMutation) (db : Database) → EachSucceeds ms db → (out : Database) × (apply db ms ≡ Ok out)
-apply-succeeds [] db each = (db, refl)
-apply-succeeds (m ∷ ms) db each =
-    let first = is_ok_of (row_after m (finmap.get db m.key)) (λ next. row_through next (filter (is_at m.key) ms)) (each m.key).0 (at_own m ms db (each m.key).0 (each m.key).1) in
-    let rest = apply-succeeds ms (with_row db m.key first.0) (then_each m ms db first.0 first.1 each) in
-    (rest.0, ap (λ (v : Result (Option Value) Refusal). and_then (and_then v (λ row. Ok (with_row db m.key row))) (λ next. apply next ms)) first.1 ∙ rest.1)
+  -- where each directory's mutations succeed, all do
+  pub apply-succeeds : (ms : List CheckedMutation) (db : List TableRow) → IsDatabase schema db → AreKeyed schema ms → EachSucceeds schema ms db → (out : List TableRow) × (apply schema db ms ≡ Ok out)
+  apply-succeeds [] db is_db keyed each = (db, refl)
+  apply-succeeds (m ∷ ms) db is_db keyed each =
+      let own = each (root_at schema m) (root_is schema rules m keyed.0) in
+      let first = first_succeeds m ms db own.0 keyed.0 own.1 in
+      let rest = apply-succeeds ms first.0 (step_database schema m keyed.0 db is_db first.0 first.1) keyed.1 (then_each m ms db first.0 keyed.0 is_db first.1 each) in
+      (rest.0, run_on schema db m ms first.0 first.1 ∙ rest.1)
 
--- what is made depends on each key's mutations alone
-pub apply_alike : (ms ns : List CheckedMutation) (db out : Database) → apply db ms ≡ Ok out → ((key : ℤ) → filter (is_at key) ns ≡ filter (is_at key) ms) → apply db ns ≡ Ok out
-apply_alike ms ns db out h alike =
-    let row : (key : ℤ) → row_through (finmap.get db key) (filter (is_at key) ns) ≡ Ok (finmap.get out key) = λ key. rw (alike key) (apply-row ms db out key h) in
-    let made = apply-succeeds ns db (λ key. (finmap.get out key, row key)) in
-    let same : made.0 ≡ out = same_map int_cmp_total int_cmp-IsAntisymmetric made.0 out (λ key. ok_same (sym (apply-row ns db made.0 key made.1) ∙ row key)) in
-    made.1 ∙ ap Ok same
+  -- what is made depends on each directory's mutations alone
+  pub apply_alike : (ms ns : List CheckedMutation) (db out : List TableRow) → IsDatabase schema db → AreKeyed schema ms → AreKeyed schema ns → apply schema db ms ≡ Ok out
+      → ((root : Root) → IsRoot schema root → filter (is_at schema root) ns ≡ filter (is_at schema root) ms) → apply schema db ns ≡ Ok out
+  apply_alike ms ns db out is_db keyed_ms keyed_ns h alike =
+      let row : (root : Root) → IsRoot schema root → apply schema (directory schema root db) (filter (is_at schema root) ns) ≡ Ok (directory schema root out) =
+      λ root is. ap (apply schema (directory schema root db)) (alike root is) ∙ apply-directory schema rules ms db out root is is_db keyed_ms h in
+      let made = apply-succeeds ns db is_db keyed_ns (λ root is. (directory schema root out, row root is)) in
+      let same : made.0 ≡ out = one_database schema rules made.0 out (apply-database schema rules ns db made.0 is_db keyed_ns made.1) (apply-database schema rules ms db out is_db keyed_ms h)
+      (λ root is. ok_same (sym (apply-directory schema rules ns db made.0 root is is_db keyed_ns made.1) ∙ row root is)) in
+      made.1 ∙ ap Ok same
+
+-- the empty database
+pub empty_database : (schema : List Table) → IsDatabase schema []
+empty_database schema = (tt, tt)

@@ -8,6 +8,7 @@ use Rattle.span_machine.specs.declared.transaction.Outcome.TheVariants as outcom
 use Rattle.span_machine.specs.Machine.{Machine, answer, start, changed_first, without_first, is_transaction, with_outcome, add_prepared, prepare_timestamp, commit_timestamp, without_prepared, applied_at}
 use Rattle.span_laws.proofs.Lists.{IsIn, all_push, all_changed, all_without, all_at, all_weaker}
 use Rattle.span_laws.proofs.Walks.{Ends, answer_by}
+use Rattle.span_schema.specs.declared.table.Table.{Table}
 
 -- ---- numbers that rise
 
@@ -68,7 +69,7 @@ same_number m numbered t u at there e =
     let again : slice_get m.transactions there.0 ≡ Some t = subst (λ i. slice_get m.transactions i ≡ Some t) same at.1 in
     cc (again, there.1)
 
-module _ (m : Machine) (numbered : IsNumbered m) where
+module _ (schema : List Table) (m : Machine) (numbered : IsNumbered m) where
   -- the same transactions and next number
   numbered_same : (n : Machine) → n.transactions ≡ m.transactions → n.next_transaction ≡ m.next_transaction → IsNumbered n
   numbered_same n e f = record {
@@ -102,7 +103,7 @@ module _ (m : Machine) (numbered : IsNumbered m) where
   numbered_applied outcome.Aborted owner txn slot t = numbered_either (length (without_prepared slot t).prepared == 0) (applied_at outcome.Aborted m owner txn slot t).1 (is_transaction owner txn) (without_prepared slot) (λ _. refl) refl refl
   numbered_applied (outcome.Committed ts) owner txn slot t = numbered_either (length (without_prepared slot t).prepared == 0) (applied_at (outcome.Committed ts) m owner txn slot t).1 (is_transaction owner txn) (without_prepared slot) (λ _. refl) refl refl
 
-  numbered_ends : Ends m (λ step a. IsNumbered a.1)
+  numbered_ends : Ends schema m (λ step a. IsNumbered a.1)
   numbered_ends = record {
     refuses = λ step why. numbered;
     begins = λ owner ms accepted. record {
@@ -124,8 +125,8 @@ module _ (m : Machine) (numbered : IsNumbered m) where
   }
 
 -- every step keeps the numbers
-pub answer_numbered : (m : Machine) → IsNumbered m → (step : Step) → IsNumbered (answer m step).1
-answer_numbered m numbered step = answer_by m (λ s a. IsNumbered a.1) (numbered_ends m numbered) step
+pub answer_numbered : (schema : List Table) (m : Machine) → IsNumbered m → (step : Step) → IsNumbered (answer schema m step).1
+answer_numbered schema m numbered step = answer_by schema m (λ s a. IsNumbered a.1) (numbered_ends schema m numbered) step
 
 pub start_numbered : IsNumbered start
 start_numbered = record { rising = tt; below = tt }

@@ -1,22 +1,22 @@
-use Rattle.std.proofs.Common.{◌≡◌, ℕ, ℤ, ◌<◌, ◌≤◌, max, Bool, true, false, cond, not, ◌&&◌, ◌||◌, ◌==◌, nat_lt, nat_le, List, [], ◌∷◌, length, Some, None, refl, ap, sym, ◌∙◌, subst, inl, inr, ◌⊎◌, arith}
+use Rattle.std.proofs.Common.{◌≡◌, ℕ, ◌<◌, ◌≤◌, max, Bool, true, false, cond, not, ◌&&◌, ◌||◌, ◌==◌, nat_lt, nat_le, List, [], ◌∷◌, length, Some, None, refl, ap, sym, ◌∙◌, subst, inl, inr, ◌⊎◌, arith}
 use Rattle.std.specs.Prelude.{slice_get, slice_set, find, filter}
 use Rattle.std.proofs.lemmas.Bool.Decides.{nat_tests}
 use Rattle.std.specs.List.{AllByRecursion, list_any, list_all}
 use Rattle.span_machine.specs.declared.slot.Book.{Book}
-use Rattle.span_shard.specs.declared.mutation.CheckedMutation.{CheckedMutation}
+use Rattle.span_schema.specs.declared.table.Table.{Table}
+use Rattle.span_mutate.specs.declared.mutation.CheckedMutation.{CheckedMutation}
 use Rattle.span_machine.specs.declared.transaction.OpenTransaction.{OpenTransaction}
 use Rattle.span_machine.specs.declared.transaction.Outcome.{Outcome}
 use Rattle.span_machine.specs.declared.transaction.Outcome.TheVariants as outcome
 use Rattle.span_machine.specs.declared.transaction.Prepared.{Prepared}
 use Rattle.span_machine.specs.declared.step.Step.{Step}
 use Rattle.span_truetime.specs.declared.interval.Interval.{Interval}
-use Rattle.span_shard.specs.Database.{is_at}
+use Rattle.span_mutate.specs.Directories.{Root}
+use Rattle.span_machine.specs.Machine.{is_at, root_at}
 use Rattle.span_machine.specs.Tables.{upto}
 use Rattle.span_value.specs.declared.refusal.Refusal.TheVariants as refusal
 use Rattle.span_machine.specs.Machine.{begun, prepare_timestamp, prepared, is_query, Machine, Answer, answer, refused, holds, if_some, changed_first, is_transaction, is_all_prepared, is_prepared_for, greatest, commit_timestamp, commit_refusal, commit_of, committed, aborted, is_undecided, coordinator_of, applied, applied_at, advanced, opened, risen, with_book, cover, answer_on, meaning, closed, with_last, add_prepared, with_outcome, without_prepared}
 use Rattle.span_truetime.specs.Time.{timestamp_end, timestamp_of}
-use Rattle.std.proofs.lemmas.Map.Views.{tells_apart}
-use Rattle.std.proofs.lemmas.Map.Lookups.{exact_signed}
 use Rattle.span_machine.specs.declared.step.Reply.TheVariants as reply
 use Rattle.span_machine.specs.declared.step.Reply.TheVariants.{Refused}
 use Rattle.span_laws.proofs.Causes.{may_commit}
@@ -24,11 +24,12 @@ use Rattle.span_laws.proofs.Tests.{first_true, second_true}
 use Rattle.span_laws.proofs.Lists.{slice_get-set, all_push, all_changed, all_without, all_found, one_or_other, all_filtered}
 use Rattle.span_laws.proofs.Walks.{Ends, answer_by}
 use Rattle.span_laws.proofs.Stability.{changes_at, touches, is_some_of, changes_at-more}
+use Rattle.span_laws.proofs.Locality.{IsRoot, own_root}
 
 -- ---- lists
 
-abbrev pub touches_any : ℤ → List CheckedMutation → Bool
-touches_any key ms = is_some_of (filter (is_at key) ms)
+abbrev pub touches_any : List Table → Root → List CheckedMutation → Bool
+touches_any schema root ms = is_some_of (filter (is_at schema root) ms)
 
 -- ---- what may still be committed
 
@@ -36,54 +37,54 @@ touches_any key ms = is_some_of (filter (is_at key) ms)
 abbrev pub IsAbove : ℕ → ℕ → OpenTransaction → Type 0
 IsAbove s slot t = AllByRecursion (λ p. p.slot ≡ slot → s < p.timestamp) t.prepared
 
--- no later commit changes the key at s or earlier
-pub record IsSealed (key : ℤ) (s : ℕ) (m : Machine) : Type 0 where
-  pub floors : (i : ℕ) (b : Book) → slice_get m.books i ≡ Some b → holds b key ≡ true → s ≤ b.floor
-  pub prepared : (i : ℕ) (b : Book) → slice_get m.books i ≡ Some b → holds b key ≡ true → AllByRecursion (IsAbove s i) m.transactions
+-- no later commit changes the directory at s or earlier
+pub record IsSealed (root : Root) (s : ℕ) (m : Machine) : Type 0 where
+  pub floors : (i : ℕ) (b : Book) → slice_get m.books i ≡ Some b → holds b root ≡ true → s ≤ b.floor
+  pub prepared : (i : ℕ) (b : Book) → slice_get m.books i ≡ Some b → holds b root ≡ true → AllByRecursion (IsAbove s i) m.transactions
 
 -- a book in the place of another, of the same range and with no lower floor
 pub record Rises (old new : List Book) : Type 0 where
-  pub from : (i : ℕ) (b : Book) → slice_get new i ≡ Some b → (a : Book) × (slice_get old i ≡ Some a) × (a.floor ≤ b.floor) × ((key : ℤ) → holds b key ≡ true → holds a key ≡ true)
+  pub from : (i : ℕ) (b : Book) → slice_get new i ≡ Some b → (a : Book) × (slice_get old i ≡ Some a) × (a.floor ≤ b.floor) × ((root : Root) → holds b root ≡ true → holds a root ≡ true)
 
 pub rises_same : (books : List Book) → Rises books books
-rises_same books = record { from = λ i b h. (b, h, omega arith, λ key k. k) }
+rises_same books = record { from = λ i b h. (b, h, omega arith, λ root k. k) }
 
-pub rises_set : (books : List Book) (slot : ℕ) (a b : Book) → slice_get books slot ≡ Some a → a.floor ≤ b.floor → ((key : ℤ) → holds b key ≡ true → holds a key ≡ true) → Rises books (slice_set books slot b)
+pub rises_set : (books : List Book) (slot : ℕ) (a b : Book) → slice_get books slot ≡ Some a → a.floor ≤ b.floor → ((root : Root) → holds b root ≡ true → holds a root ≡ true) → Rises books (slice_set books slot b)
 rises_set books slot a b here low range = record {
   from = λ i c h. elim (slice_get-set books slot i b c h) [
-    | inl e ↦ (a, ap (slice_get books) e.0 ∙ here, subst (λ (d : Book). a.floor ≤ d.floor) (sym e.1) low, λ key k. range key (subst (λ (d : Book). holds d key ≡ true) e.1 k))
-    | inr g ↦ (c, g, omega arith, λ key k. k)
+    | inl e ↦ (a, ap (slice_get books) e.0 ∙ here, subst (λ (d : Book). a.floor ≤ d.floor) (sym e.1) low, λ root k. range root (subst (λ (d : Book). holds d root ≡ true) e.1 k))
+    | inr g ↦ (c, g, omega arith, λ root k. k)
   ];
 }
 
--- a step keeps what is sealed, and the log's changes of the key at s
-pub record Keeps (key : ℤ) (s : ℕ) (m : Machine) (a : Answer) : Type 0 where
-  pub seal : IsSealed key s a.1
+-- a step keeps what is sealed, and the log's changes of the directory at s
+pub record Keeps (schema : List Table) (root : Root) (s : ℕ) (m : Machine) (a : Answer) : Type 0 where
+  pub seal : IsSealed root s a.1
   pub rises : Rises m.books a.1.books
-  pub same : changes_at key (upto a.1.log s) ≡ changes_at key (upto m.log s)
+  pub same : changes_at schema root (upto a.1.log s) ≡ changes_at schema root (upto m.log s)
 
-module _ (key : ℤ) (s : ℕ) (m : Machine) (sealed : IsSealed key s m) where
-  pub kept_as_is : (a : Answer) → a.1 ≡ m → Keeps key s m a
+module _ (schema : List Table) (root : Root) (is : IsRoot schema root) (s : ℕ) (m : Machine) (sealed : IsSealed root s m) where
+  pub kept_as_is : (a : Answer) → a.1 ≡ m → Keeps schema root s m a
   kept_as_is a e = record {
-    seal = subst (IsSealed key s) (sym e) sealed;
+    seal = subst (IsSealed root s) (sym e) sealed;
     rises = subst (λ (n : Machine). Rises m.books n.books) (sym e) (rises_same m.books);
-    same = ap (λ (n : Machine). changes_at key (upto n.log s)) e;
+    same = ap (λ (n : Machine). changes_at schema root (upto n.log s)) e;
   }
 
-  -- books rise, transactions stay above, and the log is the same for the key
+  -- books rise, transactions stay above, and the log is the same for the directory
   pub kept_by : (a : Answer) → Rises m.books a.1.books
-      → ((i : ℕ) (b : Book) → slice_get m.books i ≡ Some b → holds b key ≡ true → AllByRecursion (IsAbove s i) m.transactions → AllByRecursion (IsAbove s i) a.1.transactions)
-      → changes_at key (upto a.1.log s) ≡ changes_at key (upto m.log s) → Keeps key s m a
+      → ((i : ℕ) (b : Book) → slice_get m.books i ≡ Some b → holds b root ≡ true → AllByRecursion (IsAbove s i) m.transactions → AllByRecursion (IsAbove s i) a.1.transactions)
+      → changes_at schema root (upto a.1.log s) ≡ changes_at schema root (upto m.log s) → Keeps schema root s m a
   kept_by a rises above same = record {
     seal = record {
-      floors = λ i b h k. let old = rises.from i b h in let low = sealed.floors i old.0 old.1 (old.3 key k) in omega arith;
-      prepared = λ i b h k. let old = rises.from i b h in above i old.0 old.1 (old.3 key k) (sealed.prepared i old.0 old.1 (old.3 key k));
+      floors = λ i b h k. let old = rises.from i b h in let low = sealed.floors i old.0 old.1 (old.3 root k) in omega arith;
+      prepared = λ i b h k. let old = rises.from i b h in above i old.0 old.1 (old.3 root k) (sealed.prepared i old.0 old.1 (old.3 root k));
     };
     rises = rises;
     same = same;
   }
 
-  pub new_above : (slot i : ℕ) (book b : Book) → slice_get m.books slot ≡ Some book → slice_get m.books i ≡ Some b → holds b key ≡ true → slot ≡ i → s < prepare_timestamp book
+  pub new_above : (slot i : ℕ) (book b : Book) → slice_get m.books slot ≡ Some book → slice_get m.books i ≡ Some b → holds b root ≡ true → slot ≡ i → s < prepare_timestamp book
   new_above slot i book b here h k e =
       let same : book ≡ b = cc in
       let low = sealed.floors i b h k in
@@ -96,7 +97,7 @@ module _ (key : ℤ) (s : ℕ) (m : Machine) (sealed : IsSealed key s m) where
     | Some book ↦ λ e. rises_set m.books slot book (record book { last = max book.last ts }) e (omega arith) (λ _ k. k)
   ] refl
 
-  pub above_here : (p : Prepared) (ps : List Prepared) (k : ℤ) → if_some (slice_get m.books p.slot) false (λ book. holds book k) ≡ true
+  pub above_here : (p : Prepared) (ps : List Prepared) (k : Root) → if_some (slice_get m.books p.slot) false (λ book. holds book k) ≡ true
       → ((i : ℕ) (b : Book) → slice_get m.books i ≡ Some b → holds b k ≡ true → AllByRecursion (λ p. p.slot ≡ i → s < p.timestamp) (p ∷ ps)) → s < p.timestamp
   above_here p ps k = elim (slice_get m.books p.slot) as (λ o. slice_get m.books p.slot ≡ o → if_some o false (λ book. holds book k) ≡ true
       → ((i : ℕ) (b : Book) → slice_get m.books i ≡ Some b → holds b k ≡ true → AllByRecursion (λ p. p.slot ≡ i → s < p.timestamp) (p ∷ ps)) → s < p.timestamp) [
@@ -104,8 +105,8 @@ module _ (key : ℤ) (s : ℕ) (m : Machine) (sealed : IsSealed key s m) where
         | Some b ↦ λ e holds_it above. (above p.slot b e holds_it).0 refl
       ] refl
 
-  -- a transaction that is prepared for each of its mutations has, if one is of the key, a prepare timestamp above s
-  pub prepared_above : (k : ℤ) → (ps : List Prepared) → list_any (λ p. if_some (slice_get m.books p.slot) false (λ book. holds book k)) ps ≡ true
+  -- a transaction that is prepared for each of its mutations has, if one is of the directory, a prepare timestamp above s
+  pub prepared_above : (k : Root) → (ps : List Prepared) → list_any (λ p. if_some (slice_get m.books p.slot) false (λ book. holds book k)) ps ≡ true
       → ((i : ℕ) (b : Book) → slice_get m.books i ≡ Some b → holds b k ≡ true → AllByRecursion (λ p. p.slot ≡ i → s < p.timestamp) ps) → s < greatest ps
   prepared_above k [] = λ e above. cc
   prepared_above k (p ∷ ps) = elim (if_some (slice_get m.books p.slot) false (λ book. holds book k)) as (λ v. if_some (slice_get m.books p.slot) false (λ book. holds book k) ≡ v → (v || list_any (λ p. if_some (slice_get m.books p.slot) false (λ book. holds book k)) ps) ≡ true
@@ -114,24 +115,24 @@ module _ (key : ℤ) (s : ℕ) (m : Machine) (sealed : IsSealed key s m) where
         | false ↦ λ is e above. let low = prepared_above k ps e (λ i b h g. (above i b h g).1) in omega arith
       ] refl
 
-  -- the key of a mutation at the key is the key
-  pub some_prepared : (t : OpenTransaction) (ms : List CheckedMutation) → touches_any key ms ≡ true → list_all (is_prepared_for m t) ms ≡ true
-      → ((i : ℕ) (b : Book) → slice_get m.books i ≡ Some b → holds b key ≡ true → IsAbove s i t) → s < greatest t.prepared
+  -- the directory of a mutation at the directory is the directory
+  pub some_prepared : (t : OpenTransaction) (ms : List CheckedMutation) → touches_any schema root ms ≡ true → list_all (is_prepared_for schema m t) ms ≡ true
+      → ((i : ℕ) (b : Book) → slice_get m.books i ≡ Some b → holds b root ≡ true → IsAbove s i t) → s < greatest t.prepared
   some_prepared t [] = λ e all above. cc
-  some_prepared t (mu ∷ ms) = elim (is_at key mu) as (λ v. is_at key mu ≡ v → is_some_of (cond v (mu ∷ filter (is_at key) ms) (filter (is_at key) ms)) ≡ true → (is_prepared_for m t mu && list_all (is_prepared_for m t) ms) ≡ true
-      → ((i : ℕ) (b : Book) → slice_get m.books i ≡ Some b → holds b key ≡ true → IsAbove s i t) → s < greatest t.prepared) [
-        | true ↦ λ at e all above. prepared_above mu.key t.prepared (first_true _ _ all) (λ i b h k. above i b h (subst (λ (q : ℤ). holds b q ≡ true) (sym (tells_apart exact_signed key mu.key at)) k))
+  some_prepared t (mu ∷ ms) = elim (is_at schema root mu) as (λ v. is_at schema root mu ≡ v → is_some_of (cond v (mu ∷ filter (is_at schema root) ms) (filter (is_at schema root) ms)) ≡ true → (is_prepared_for schema m t mu && list_all (is_prepared_for schema m t) ms) ≡ true
+      → ((i : ℕ) (b : Book) → slice_get m.books i ≡ Some b → holds b root ≡ true → IsAbove s i t) → s < greatest t.prepared) [
+        | true ↦ λ at e all above. prepared_above (root_at schema mu) t.prepared (first_true _ _ all) (λ i b h k. above i b h (subst (λ (q : Root). holds b q ≡ true) (sym (own_root schema root mu is at)) k))
         | false ↦ λ at e all above. some_prepared t ms e (second_true _ _ all) above
       ] refl
 
-  -- a commit that touches the key is above s
-  pub commit_apart : (owner txn : ℕ) (interval : Interval) (t : OpenTransaction) → find (is_transaction owner txn) m.transactions ≡ Some t → commit_refusal m t interval ≡ None
-      → (touches key (commit_of (commit_timestamp m t interval) t) ≡ false) ⊎ (s < commit_timestamp m t interval)
-  commit_apart owner txn interval t found accepted = elim (touches_any key t.mutations) as (λ v. touches_any key t.mutations ≡ v → (v ≡ false) ⊎ (s < commit_timestamp m t interval)) [
+  -- a commit that touches the directory is above s
+  pub commit_apart : (owner txn : ℕ) (interval : Interval) (t : OpenTransaction) → find (is_transaction owner txn) m.transactions ≡ Some t → commit_refusal schema m t interval ≡ None
+      → (touches schema root (commit_of (commit_timestamp m t interval) t) ≡ false) ⊎ (s < commit_timestamp m t interval)
+  commit_apart owner txn interval t found accepted = elim (touches_any schema root t.mutations) as (λ v. touches_any schema root t.mutations ≡ v → (v ≡ false) ⊎ (s < commit_timestamp m t interval)) [
     | false ↦ λ e. inl refl
     | true ↦ λ e.
-        let ready : is_all_prepared m t ≡ true = (may_commit (is_undecided t) (is_all_prepared m t) (nat_le timestamp_end (commit_timestamp m t interval)) accepted).1 in
-        let above : s < greatest t.prepared = some_prepared t t.mutations e (second_true (not (length t.prepared == 0)) (list_all (is_prepared_for m t) t.mutations) ready) (λ i b h k. all_found (IsAbove s i) (is_transaction owner txn) m.transactions t found (sealed.prepared i b h k)) in
+        let ready : is_all_prepared schema m t ≡ true = (may_commit (is_undecided t) (is_all_prepared schema m t) (nat_le timestamp_end (commit_timestamp m t interval)) accepted).1 in
+        let above : s < greatest t.prepared = some_prepared t t.mutations e (second_true (not (length t.prepared == 0)) (list_all (is_prepared_for schema m t) t.mutations) ready) (λ i b h k. all_found (IsAbove s i) (is_transaction owner txn) m.transactions t found (sealed.prepared i b h k)) in
         inr (omega arith)
   ] refl
 
@@ -139,7 +140,7 @@ module _ (key : ℤ) (s : ℕ) (m : Machine) (sealed : IsSealed key s m) where
   applied_above owner txn slot t i all = one_or_other (AllByRecursion (IsAbove s i)) (length (without_prepared slot t).prepared == 0) _ _ (all_without (IsAbove s i) (is_transaction owner txn) m.transactions all)
       (all_changed (IsAbove s i) (is_transaction owner txn) (without_prepared slot) (λ u above. all_filtered (λ p. p.slot ≡ i → s < p.timestamp) (λ p. not (p.slot == slot)) u.prepared above) m.transactions all)
 
-  applied_keeps : (o : Outcome) (owner txn slot : ℕ) (t : OpenTransaction) → Keeps key s m (applied_at o m owner txn slot t)
+  applied_keeps : (o : Outcome) (owner txn slot : ℕ) (t : OpenTransaction) → Keeps schema root s m (applied_at o m owner txn slot t)
   applied_keeps outcome.Undecided owner txn slot t = kept_as_is (refused m refusal.WrongState) refl
   applied_keeps outcome.Aborted owner txn slot t = kept_by (applied_at outcome.Aborted m owner txn slot t) (rises_same m.books) (λ i b h k all. applied_above owner txn slot t i all) refl
   applied_keeps (outcome.Committed ts) owner txn slot t = kept_by (applied_at (outcome.Committed ts) m owner txn slot t) (rises_last slot ts) (λ i b h k all. applied_above owner txn slot t i all) refl
@@ -150,7 +151,7 @@ module _ (key : ℤ) (s : ℕ) (m : Machine) (sealed : IsSealed key s m) where
     | false ↦ λ e. rises_set m.books slot book book here (omega arith) (λ _ k. k)
   ] refl
 
-  keeps_ends : Ends m (λ step a. Keeps key s m a)
+  keeps_ends : Ends schema m (λ step a. Keeps schema root s m a)
   keeps_ends = record {
     refuses = λ step why. kept_as_is (refused m why) refl;
     begins = λ owner ms accepted. kept_by (begun m owner ms) (rises_same m.books)
@@ -161,7 +162,7 @@ module _ (key : ℤ) (s : ℕ) (m : Machine) (sealed : IsSealed key s m) where
         refl;
     commits = λ owner txn interval t found accepted. kept_by (committed m owner txn (commit_timestamp m t interval) t) (rises_last (coordinator_of t.prepared) (commit_timestamp m t interval))
         (λ i b h k all. all_changed (IsAbove s i) (is_transaction owner txn) (with_outcome (outcome.Committed (commit_timestamp m t interval))) (λ u above. above) m.transactions all)
-        (changes_at-more key m.log (commit_of (commit_timestamp m t interval) t) s (commit_apart owner txn interval t found accepted));
+        (changes_at-more schema root m.log (commit_of (commit_timestamp m t interval) t) s (commit_apart owner txn interval t found accepted));
     aborts = λ owner txn interval t found open_still. kept_by (aborted m owner txn t) (rises_same m.books)
         (λ i b h k all. one_or_other (AllByRecursion (IsAbove s i)) (length t.prepared == 0) _ _ (all_without (IsAbove s i) (is_transaction owner txn) m.transactions all)
         (all_changed (IsAbove s i) (is_transaction owner txn) (with_outcome outcome.Aborted) (λ u above. above) m.transactions all))
@@ -173,10 +174,10 @@ module _ (key : ℤ) (s : ℕ) (m : Machine) (sealed : IsSealed key s m) where
     scans = λ query leaf slot interval q book found here safe.
         kept_by (reply.Scanned, record (with_book m slot (risen book q.s interval)) { queries = changed_first (is_query query) cover m.queries }) (rises_risen slot q.s interval book here) (λ i b h k all. all) refl;
     waits = λ query leaf slot interval q book found here. kept_by (Refused refusal.NotYet, with_book m slot (risen book q.s interval)) (rises_risen slot q.s interval book here) (λ i b h k all. all) refl;
-    finishes = λ query q found covered. kept_as_is (answer_on q.s (meaning m q), m) refl;
+    finishes = λ query q found covered. kept_as_is (answer_on q.s (meaning schema m q), m) refl;
     closes = λ query q found. kept_by (closed m query q) (rises_same m.books) (λ i b h k all. all) refl;
   }
 
   -- no step changes what is sealed
-  pub answer_keeps : (step : Step) → Keeps key s m (answer m step)
-  answer_keeps step = answer_by m (λ x a. Keeps key s m a) keeps_ends step
+  pub answer_keeps : (step : Step) → Keeps schema root s m (answer schema m step)
+  answer_keeps step = answer_by schema m (λ x a. Keeps schema root s m a) keeps_ends step

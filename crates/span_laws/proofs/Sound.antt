@@ -1,4 +1,4 @@
-use Rattle.std.proofs.Common.{◌≡◌, ℕ, ℤ, ◌<◌, ◌≤◌, true, false, not, ◌||◌, ◌==◌, nat_lt, nat_le, List, [], ◌∷◌, length, Some, refl, ap, sym, ◌∙◌, subst, inl, inr, arith}
+use Rattle.std.proofs.Common.{◌≡◌, ℕ, ◌<◌, ◌≤◌, true, false, not, ◌||◌, ◌==◌, nat_lt, nat_le, List, [], ◌∷◌, length, Some, refl, ap, sym, ◌∙◌, subst, inl, inr, arith}
 use Rattle.std.specs.Prelude.{slice_get, slice_set}
 use Rattle.std.proofs.lemmas.Bool.Decides.{nat_tests}
 use Rattle.std.proofs.lemmas.Option.{slice_get_within}
@@ -21,32 +21,35 @@ use Rattle.span_laws.proofs.Stability.{changes_at}
 use Rattle.span_laws.proofs.Sealed.{IsSealed, IsAbove, answer_keeps}
 use Rattle.span_laws.proofs.Walks.{Ends, answer_by}
 use Rattle.span_laws.proofs.Holdings.{answer_slots}
+use Rattle.span_schema.specs.declared.table.Table.{Table}
+use Rattle.span_mutate.specs.Directories.{Root}
+use Rattle.span_laws.proofs.Locality.{IsRoot}
 
 -- ---- the invariant
 
 -- what a covered query is to see is sealed
-abbrev pub IsCoveredSealed : Machine → OpenQuery → Type 0
-IsCoveredSealed m q = q.covered ≡ true → (key : ℤ) → IsSealed key q.s m
+abbrev pub IsCoveredSealed : List Table → Machine → OpenQuery → Type 0
+IsCoveredSealed schema m q = q.covered ≡ true → (root : Root) → IsRoot schema root → IsSealed root q.s m
 
-pub record IsSound (m : Machine) : Type 0 where
+pub record IsSound (schema : List Table) (m : Machine) : Type 0 where
   pub one_slot : length m.books ≡ 1
-  pub queries : AllByRecursion (IsCoveredSealed m) m.queries
+  pub queries : AllByRecursion (IsCoveredSealed schema m) m.queries
 
 -- what the step leaves sealed for each query, where it keeps what was sealed
-abbrev pub GoesSound : Machine → Machine → Type 0
-GoesSound m n = ((q : OpenQuery) → IsCoveredSealed m q → IsCoveredSealed n q) → AllByRecursion (IsCoveredSealed n) n.queries
+abbrev pub GoesSound : List Table → Machine → Machine → Type 0
+GoesSound schema m n = ((q : OpenQuery) → IsCoveredSealed schema m q → IsCoveredSealed schema n q) → AllByRecursion (IsCoveredSealed schema n) n.queries
 
 above_by : (p slot s ts : ℕ) → (not (p == slot) || nat_lt s ts) ≡ true → p ≡ slot → s < ts
 above_by p slot s ts e same = grind (arith, nat_tests)
 
-module _ (m : Machine) (sound : IsSound m) where
+module _ (schema : List Table) (m : Machine) (sound : IsSound schema m) where
   -- the same queries
-  goes_same : (n : Machine) → n.queries ≡ m.queries → GoesSound m n
-  goes_same n e w = subst (AllByRecursion (IsCoveredSealed n)) (sym e) (all_weaker (IsCoveredSealed m) (IsCoveredSealed n) w m.queries sound.queries)
+  goes_same : (n : Machine) → n.queries ≡ m.queries → GoesSound schema m n
+  goes_same n e w = subst (AllByRecursion (IsCoveredSealed schema n)) (sym e) (all_weaker (IsCoveredSealed schema m) (IsCoveredSealed schema n) w m.queries sound.queries)
 
   -- a slot that is safe is sealed
-  pub sealed_by_scan : (slot s : ℕ) (before book : Book) (queries : List OpenQuery) (key : ℤ) → slice_get m.books slot ≡ Some before → is_safe m slot book s ≡ true → IsSealed key s (record (with_book m slot book) { queries = queries })
-  sealed_by_scan slot s before book queries key here safe =
+  pub sealed_by_scan : (slot s : ℕ) (before book : Book) (queries : List OpenQuery) (root : Root) → slice_get m.books slot ≡ Some before → is_safe m slot book s ≡ true → IsSealed root s (record (with_book m slot book) { queries = queries })
+  sealed_by_scan slot s before book queries root here safe =
       let low : nat_le s book.floor ≡ true = first_true (nat_le s book.floor) _ safe in
       let same_slot : (i : ℕ) (b : Book) → slice_get (slice_set m.books slot book) i ≡ Some b → i ≡ slot =
       λ i b h. let within = slice_get_within (slice_set m.books slot book) i b h in let slot_within = slice_get_within m.books slot before here in let len = length-set m.books slot book in let one = sound.one_slot in omega arith in
@@ -60,12 +63,12 @@ module _ (m : Machine) (sound : IsSound m) where
         prepared = λ i b h k. subst (λ j. AllByRecursion (IsAbove s j) m.transactions) (sym (same_slot i b h)) above;
       }
 
-  goes_applied : (o : Outcome) (owner txn slot : ℕ) (t : OpenTransaction) → GoesSound m (applied_at o m owner txn slot t).1
+  goes_applied : (o : Outcome) (owner txn slot : ℕ) (t : OpenTransaction) → GoesSound schema m (applied_at o m owner txn slot t).1
   goes_applied outcome.Undecided owner txn slot t = goes_same (applied_at outcome.Undecided m owner txn slot t).1 refl
   goes_applied outcome.Aborted owner txn slot t = goes_same (applied_at outcome.Aborted m owner txn slot t).1 refl
   goes_applied (outcome.Committed ts) owner txn slot t = goes_same (applied_at (outcome.Committed ts) m owner txn slot t).1 refl
 
-  sound_ends : Ends m (λ step a. GoesSound m a.1)
+  sound_ends : Ends schema m (λ step a. GoesSound schema m a.1)
   sound_ends = record {
     refuses = λ step why. goes_same m refl;
     begins = λ owner ms accepted. goes_same _ refl;
@@ -74,46 +77,48 @@ module _ (m : Machine) (sound : IsSound m) where
     aborts = λ owner txn interval t found open_still. goes_same _ refl;
     applies = λ owner txn slot interval t book found here accepted. goes_applied t.outcome owner txn slot t;
     advances = λ slot interval book here. goes_same _ refl;
-    opens = λ text params bound interval accepted w. all_push (IsCoveredSealed _) m.queries (record { number = m.next_query; text = text; params = params; s = timestamp_of bound interval; covered = false })
-        (all_weaker (IsCoveredSealed m) (IsCoveredSealed _) w m.queries sound.queries) (λ bad. cc);
+    opens = λ text params bound interval accepted w. all_push (IsCoveredSealed schema _) m.queries (record { number = m.next_query; text = text; params = params; s = timestamp_of bound interval; covered = false })
+        (all_weaker (IsCoveredSealed schema m) (IsCoveredSealed schema _) w m.queries sound.queries) (λ bad. cc);
     finds_nothing = λ query leaf slot interval. goes_same m refl;
     scans = λ query leaf slot interval q book found here safe w.
         let after : Machine = record (with_book m slot (risen book q.s interval)) { queries = changed_first (is_query query) cover m.queries } in
-        all_changed_found (IsCoveredSealed after) (is_query query) cover m.queries q found (λ _ key. sealed_by_scan slot q.s book (risen book q.s interval) (changed_first (is_query query) cover m.queries) key here safe)
-        (all_weaker (IsCoveredSealed m) (IsCoveredSealed after) w m.queries sound.queries);
+        all_changed_found (IsCoveredSealed schema after) (is_query query) cover m.queries q found (λ _ root is. sealed_by_scan slot q.s book (risen book q.s interval) (changed_first (is_query query) cover m.queries) root here safe)
+        (all_weaker (IsCoveredSealed schema m) (IsCoveredSealed schema after) w m.queries sound.queries);
     waits = λ query leaf slot interval q book found here. goes_same _ refl;
     finishes = λ query q found covered. goes_same m refl;
-    closes = λ query q found w. all_without (IsCoveredSealed _) (is_query query) m.queries (all_weaker (IsCoveredSealed m) (IsCoveredSealed _) w m.queries sound.queries);
+    closes = λ query q found w. all_without (IsCoveredSealed schema _) (is_query query) m.queries (all_weaker (IsCoveredSealed schema m) (IsCoveredSealed schema _) w m.queries sound.queries);
   }
 
 -- every step leaves the machine sound
-pub answer_sound : (m : Machine) → IsSound m → (step : Step) → IsSound (answer m step).1
-answer_sound m sound step = record {
-  one_slot = answer_slots m step ∙ sound.one_slot;
-  queries = answer_by m (λ s a. GoesSound m a.1) (sound_ends m sound) step (λ q seals covered key. (answer_keeps key q.s m (seals covered key) step).seal);
+pub answer_sound : (schema : List Table) (m : Machine) → IsSound schema m → (step : Step) → IsSound schema (answer schema m step).1
+answer_sound schema m sound step = record {
+  one_slot = answer_slots schema m step ∙ sound.one_slot;
+  queries = answer_by schema m (λ s a. GoesSound schema m a.1) (sound_ends schema m sound) step (λ q seals covered root is. (answer_keeps schema root is q.s m (seals covered root is) step).seal);
 }
 
-pub start_sound : IsSound start
-start_sound = record { one_slot = refl; queries = tt }
+pub start_sound : (schema : List Table) → IsSound schema start
+start_sound schema = record { one_slot = refl; queries = tt }
 
 -- ---- whole runs
 
 -- one step, want of memory included
-pub step_sound : (m : Machine) (step : Step) (r : Reply) (next : Machine) → Steps m step r next → IsSound m → IsSound next
-step_sound m step r next (inl e) sound = subst IsSound (sym e.1) (answer_sound m sound step)
-step_sound m step r next (inr e) sound = subst IsSound (sym e.2) sound
+pub step_sound : (schema : List Table) (m : Machine) (step : Step) (r : Reply) (next : Machine) → Steps schema m step r next → IsSound schema m → IsSound schema next
+step_sound schema m step r next (inl e) sound = subst (IsSound schema) (sym e.1) (answer_sound schema m sound step)
+step_sound schema m step r next (inr e) sound = subst (IsSound schema) (sym e.2) sound
 
-pub step_keeps : (key : ℤ) (s : ℕ) (m : Machine) (step : Step) (r : Reply) (next : Machine) → Steps m step r next → IsSealed key s m → IsSealed key s next × (changes_at key (upto next.log s) ≡ changes_at key (upto m.log s))
-step_keeps key s m step r next (inl e) sealed =
-    let k = answer_keeps key s m sealed step in
-    (subst (IsSealed key s) (sym e.1) k.seal, ap (λ (n : Machine). changes_at key (upto n.log s)) e.1 ∙ k.same)
-step_keeps key s m step r next (inr e) sealed = (subst (IsSealed key s) (sym e.2) sealed, ap (λ (n : Machine). changes_at key (upto n.log s)) e.2)
+pub step_keeps : (schema : List Table) (root : Root) → IsRoot schema root → (s : ℕ) (m : Machine) (step : Step) (r : Reply) (next : Machine) → Steps schema m step r next → IsSealed root s m
+    → IsSealed root s next × (changes_at schema root (upto next.log s) ≡ changes_at schema root (upto m.log s))
+step_keeps schema root is s m step r next (inl e) sealed =
+    let k = answer_keeps schema root is s m sealed step in
+    (subst (IsSealed root s) (sym e.1) k.seal, ap (λ (n : Machine). changes_at schema root (upto n.log s)) e.1 ∙ k.same)
+step_keeps schema root is s m step r next (inr e) sealed = (subst (IsSealed root s) (sym e.2) sealed, ap (λ (n : Machine). changes_at schema root (upto n.log s)) e.2)
 
--- a run leaves the changes of a sealed key
-pub run_keeps : (key : ℤ) (s : ℕ) (m : Machine) (steps : List Step) (replies : List Reply) (last : Machine) → Run m steps replies last → IsSealed key s m → changes_at key (upto last.log s) ≡ changes_at key (upto m.log s)
-run_keeps key s m [] [] last run sealed = ap (λ (n : Machine). changes_at key (upto n.log s)) run
-run_keeps key s m [] (r ∷ rs) last run sealed = absurd run
-run_keeps key s m (x ∷ xs) [] last run sealed = absurd run
-run_keeps key s m (x ∷ xs) (r ∷ rs) last run sealed =
-    let one = step_keeps key s m x r run.0 run.1 sealed in
-    run_keeps key s run.0 xs rs last run.2 one.0 ∙ one.1
+-- a run leaves the changes of a sealed directory
+pub run_keeps : (schema : List Table) (root : Root) → IsRoot schema root → (s : ℕ) (m : Machine) (steps : List Step) (replies : List Reply) (last : Machine) → Run schema m steps replies last → IsSealed root s m
+    → changes_at schema root (upto last.log s) ≡ changes_at schema root (upto m.log s)
+run_keeps schema root is s m [] [] last run sealed = ap (λ (n : Machine). changes_at schema root (upto n.log s)) run
+run_keeps schema root is s m [] (r ∷ rs) last run sealed = absurd run
+run_keeps schema root is s m (x ∷ xs) [] last run sealed = absurd run
+run_keeps schema root is s m (x ∷ xs) (r ∷ rs) last run sealed =
+    let one = step_keeps schema root is s m x r run.0 run.1 sealed in
+    run_keeps schema root is s run.0 xs rs last run.2 one.0 ∙ one.1

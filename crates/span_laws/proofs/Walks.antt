@@ -1,6 +1,7 @@
 use Rattle.std.proofs.Common.{◌≡◌, ℕ, Bool, true, false, cond, not, ◌==◌, nat_le, List, [], ◌∷◌, Option, Some, None, refl}
 use Rattle.std.specs.Prelude.{slice_get, find}
-use Rattle.span_shard.specs.declared.mutation.CheckedMutation.{CheckedMutation}
+use Rattle.span_schema.specs.declared.table.Table.{Table}
+use Rattle.span_mutate.specs.declared.mutation.CheckedMutation.{CheckedMutation}
 use Rattle.span_value.specs.declared.refusal.Refusal.{Refusal}
 use Rattle.span_value.specs.declared.refusal.Refusal.TheVariants as refusal
 use Rattle.span_truetime.specs.declared.bound.Bound.{Bound}
@@ -20,30 +21,30 @@ use Rattle.span_machine.specs.Machine.{Machine, Answer, answer, refused, if_some
 use Rattle.span_laws.proofs.Causes.{may_abort}
 
 -- what a fact about a step and its answer owes at each way that a step can end
-pub record Ends (m : Machine) (P : Step → Answer → Type 0) : Type 0 where
+pub record Ends (schema : List Table) (m : Machine) (P : Step → Answer → Type 0) : Type 0 where
   pub refuses : (step : Step) (why : Refusal) → P step (refused m why)
   pub begins : (owner : ℕ) (ms : List CheckedMutation) → begin_refusal m ≡ None → P (Begin owner ms) (begun m owner ms)
   pub prepares : (owner txn slot : ℕ) (t : OpenTransaction) (book : Book) → find (is_transaction owner txn) m.transactions ≡ Some t → slice_get m.books slot ≡ Some book
-      → prepare_refusal m slot t book ≡ None → faults m (mutations_in book t.mutations) ≡ None → first_cause ((nat_le timestamp_end (prepare_timestamp book), refusal.TimestampRange) ∷ []) ≡ None
+      → prepare_refusal schema m slot t book ≡ None → faults schema m (mutations_in schema book t.mutations) ≡ None → first_cause ((nat_le timestamp_end (prepare_timestamp book), refusal.TimestampRange) ∷ []) ≡ None
       → P (Prepare owner txn slot) (prepared m owner txn slot book)
-  pub commits : (owner txn : ℕ) (interval : Interval) (t : OpenTransaction) → find (is_transaction owner txn) m.transactions ≡ Some t → commit_refusal m t interval ≡ None
+  pub commits : (owner txn : ℕ) (interval : Interval) (t : OpenTransaction) → find (is_transaction owner txn) m.transactions ≡ Some t → commit_refusal schema m t interval ≡ None
       → P (Decide owner txn verdict.Commit interval) (committed m owner txn (commit_timestamp m t interval) t)
   pub aborts : (owner txn : ℕ) (interval : Interval) (t : OpenTransaction) → find (is_transaction owner txn) m.transactions ≡ Some t → is_undecided t ≡ true
       → P (Decide owner txn verdict.Abort interval) (aborted m owner txn t)
   pub applies : (owner txn slot : ℕ) (interval : Interval) (t : OpenTransaction) (book : Book) → find (is_transaction owner txn) m.transactions ≡ Some t → slice_get m.books slot ≡ Some book
       → apply_refusal slot t interval ≡ None → P (Apply owner txn slot interval) (applied_at t.outcome m owner txn slot t)
   pub advances : (slot : ℕ) (interval : Interval) (book : Book) → slice_get m.books slot ≡ Some book → P (Advance slot interval) (advanced m slot interval book)
-  pub opens : (text : List ℕ) (params : Params) (bound : Bound) (interval : Interval) → open_refusal m text (timestamp_of bound interval) ≡ None
+  pub opens : (text : List ℕ) (params : Params) (bound : Bound) (interval : Interval) → open_refusal schema m text (timestamp_of bound interval) ≡ None
       → P (Open text params bound interval) (opened m text params (timestamp_of bound interval))
   pub finds_nothing : (query leaf slot : ℕ) (interval : Interval) → P (Scan query leaf slot interval) (reply.Nothing, m)
   pub scans : (query leaf slot : ℕ) (interval : Interval) (q : OpenQuery) (book : Book) → find (is_query query) m.queries ≡ Some q → slice_get m.books slot ≡ Some book → is_safe m slot (risen book q.s interval) q.s ≡ true
       → P (Scan query leaf slot interval) (reply.Scanned, record (with_book m slot (risen book q.s interval)) { queries = changed_first (is_query query) cover m.queries })
   pub waits : (query leaf slot : ℕ) (interval : Interval) (q : OpenQuery) (book : Book) → find (is_query query) m.queries ≡ Some q → slice_get m.books slot ≡ Some book
       → P (Scan query leaf slot interval) (Refused refusal.NotYet, with_book m slot (risen book q.s interval))
-  pub finishes : (query : ℕ) (q : OpenQuery) → find (is_query query) m.queries ≡ Some q → q.covered ≡ true → P (Finish query) (answer_on q.s (meaning m q), m)
+  pub finishes : (query : ℕ) (q : OpenQuery) → find (is_query query) m.queries ≡ Some q → q.covered ≡ true → P (Finish query) (answer_on q.s (meaning schema m q), m)
   pub closes : (query : ℕ) (q : OpenQuery) → find (is_query query) m.queries ≡ Some q → P (Close query) (closed m query q)
 
-module _ (m : Machine) (P : Step → Answer → Type 0) (ends : Ends m P) where
+module _ (schema : List Table) (m : Machine) (P : Step → Answer → Type 0) (ends : Ends schema m P) where
   by_cond : (step : Step) (b : Bool) (x y : Answer) → (b ≡ true → P step x) → (b ≡ false → P step y) → P step (cond b x y)
   by_cond step b x y p q = elim b as (λ v. b ≡ v → P step (cond v x y)) [ true ↦ p | false ↦ q ] refl
 
@@ -62,19 +63,19 @@ module _ (m : Machine) (P : Step → Answer → Type 0) (ends : Ends m P) where
   by_query : (step : Step) (number : ℕ) (make : OpenQuery → Answer) → ((q : OpenQuery) → find (is_query number) m.queries ≡ Some q → P step (make q)) → P step (for_query m number make)
   by_query step number make p = by_some step (find (is_query number) m.queries) refusal.UnknownQuery make p
 
-  prepare_by : (owner txn slot : ℕ) → P (Prepare owner txn slot) (prepare m owner txn slot)
+  prepare_by : (owner txn slot : ℕ) → P (Prepare owner txn slot) (prepare schema m owner txn slot)
   prepare_by owner txn slot =
-      by_transaction (Prepare owner txn slot) owner txn (λ t. for_slot m slot (prepare_found m owner txn slot t)) (λ t found.
-      by_slot (Prepare owner txn slot) slot (prepare_found m owner txn slot t) (λ book here.
-      by_refusal (Prepare owner txn slot) (prepare_refusal m slot t book) (unless_refused m (faults m (mutations_in book t.mutations)) (unless_refused m (first_cause ((nat_le timestamp_end (prepare_timestamp book), refusal.TimestampRange) ∷ [])) (prepared m owner txn slot book))) (λ accepted.
-      by_refusal (Prepare owner txn slot) (faults m (mutations_in book t.mutations)) (unless_refused m (first_cause ((nat_le timestamp_end (prepare_timestamp book), refusal.TimestampRange) ∷ [])) (prepared m owner txn slot book)) (λ well.
+      by_transaction (Prepare owner txn slot) owner txn (λ t. for_slot m slot (prepare_found schema m owner txn slot t)) (λ t found.
+      by_slot (Prepare owner txn slot) slot (prepare_found schema m owner txn slot t) (λ book here.
+      by_refusal (Prepare owner txn slot) (prepare_refusal schema m slot t book) (unless_refused m (faults schema m (mutations_in schema book t.mutations)) (unless_refused m (first_cause ((nat_le timestamp_end (prepare_timestamp book), refusal.TimestampRange) ∷ [])) (prepared m owner txn slot book))) (λ accepted.
+      by_refusal (Prepare owner txn slot) (faults schema m (mutations_in schema book t.mutations)) (unless_refused m (first_cause ((nat_le timestamp_end (prepare_timestamp book), refusal.TimestampRange) ∷ [])) (prepared m owner txn slot book)) (λ well.
       by_refusal (Prepare owner txn slot) (first_cause ((nat_le timestamp_end (prepare_timestamp book), refusal.TimestampRange) ∷ [])) (prepared m owner txn slot book) (λ low.
       ends.prepares owner txn slot t book found here accepted well low)))))
 
-  decide_by : (owner txn : ℕ) (v : Verdict) (interval : Interval) → P (Decide owner txn v interval) (decide m owner txn v interval)
-  decide_by owner txn verdict.Commit interval = by_transaction (Decide owner txn verdict.Commit interval) owner txn (decide_found m owner txn verdict.Commit interval) (λ t found.
-      by_refusal (Decide owner txn verdict.Commit interval) (commit_refusal m t interval) (committed m owner txn (commit_timestamp m t interval) t) (λ accepted. ends.commits owner txn interval t found accepted))
-  decide_by owner txn verdict.Abort interval = by_transaction (Decide owner txn verdict.Abort interval) owner txn (decide_found m owner txn verdict.Abort interval) (λ t found.
+  decide_by : (owner txn : ℕ) (v : Verdict) (interval : Interval) → P (Decide owner txn v interval) (decide schema m owner txn v interval)
+  decide_by owner txn verdict.Commit interval = by_transaction (Decide owner txn verdict.Commit interval) owner txn (decide_found schema m owner txn verdict.Commit interval) (λ t found.
+      by_refusal (Decide owner txn verdict.Commit interval) (commit_refusal schema m t interval) (committed m owner txn (commit_timestamp m t interval) t) (λ accepted. ends.commits owner txn interval t found accepted))
+  decide_by owner txn verdict.Abort interval = by_transaction (Decide owner txn verdict.Abort interval) owner txn (decide_found schema m owner txn verdict.Abort interval) (λ t found.
       by_refusal (Decide owner txn verdict.Abort interval) (first_cause ((not (is_undecided t), refusal.WrongState) ∷ [])) (aborted m owner txn t) (λ accepted. ends.aborts owner txn interval t found (may_abort (is_undecided t) accepted)))
 
   apply_by : (owner txn slot : ℕ) (interval : Interval) → P (Apply owner txn slot interval) (apply_step m owner txn slot interval)
@@ -93,18 +94,18 @@ module _ (m : Machine) (P : Step → Answer → Type 0) (ends : Ends m P) where
       (λ _. ends.waits query leaf slot interval q book found here))))
       (λ _. ends.refuses (Scan query leaf slot interval) refusal.UnknownQuery))
 
-  finish_by : (query : ℕ) → P (Finish query) (finish m query)
-  finish_by query = by_query (Finish query) query (finish_found m) (λ q found.
-      by_cond (Finish query) q.covered (answer_on q.s (meaning m q), m) (refused m refusal.Incomplete) (λ covered. ends.finishes query q found covered) (λ _. ends.refuses (Finish query) refusal.Incomplete))
+  finish_by : (query : ℕ) → P (Finish query) (finish schema m query)
+  finish_by query = by_query (Finish query) query (finish_found schema m) (λ q found.
+      by_cond (Finish query) q.covered (answer_on q.s (meaning schema m q), m) (refused m refusal.Incomplete) (λ covered. ends.finishes query q found covered) (λ _. ends.refuses (Finish query) refusal.Incomplete))
 
   -- what holds at each end of a step holds of the step
-  pub answer_by : (step : Step) → P step (answer m step)
+  pub answer_by : (step : Step) → P step (answer schema m step)
   answer_by (Begin owner ms) = by_refusal (Begin owner ms) (begin_refusal m) (begun m owner ms) (λ accepted. ends.begins owner ms accepted)
   answer_by (Prepare owner txn slot) = prepare_by owner txn slot
   answer_by (Decide owner txn v interval) = decide_by owner txn v interval
   answer_by (Apply owner txn slot interval) = apply_by owner txn slot interval
   answer_by (Advance slot interval) = by_slot (Advance slot interval) slot (advanced m slot interval) (λ book here. ends.advances slot interval book here)
-  answer_by (Open text params bound interval) = by_refusal (Open text params bound interval) (open_refusal m text (timestamp_of bound interval)) (opened m text params (timestamp_of bound interval)) (λ accepted. ends.opens text params bound interval accepted)
+  answer_by (Open text params bound interval) = by_refusal (Open text params bound interval) (open_refusal schema m text (timestamp_of bound interval)) (opened m text params (timestamp_of bound interval)) (λ accepted. ends.opens text params bound interval accepted)
   answer_by (Scan query leaf slot interval) = scan_by query leaf slot interval
   answer_by (Finish query) = finish_by query
   answer_by (Close query) = by_query (Close query) query (closed m query) (λ q found. ends.closes query q found)

@@ -1,19 +1,21 @@
 //! The laws of the machine, on lists alone: no code runs here.
 //!
-//! `proofs/` shows, step by step, that a commit touches only the keys of its mutations (Locality), that what is at or below a slot's
-//! safe time is final (Sealed), that the commits of a key rise along the log (InPlace, Claims, Placed), that the log is just what the
-//! replies commit (Known), and so that every run of the machine is a history. The crates with code cite these laws.
+//! `proofs/` shows, step by step, that a commit touches only the directories of its mutations (Locality), that what is at or below a
+//! slot's safe time is final (Sealed), that the commits of a directory rise along the log (InPlace, Claims, Placed), that the log is
+//! just what the replies commit (Known), and so that every run of the machine is a history. The crates with code cite these laws.
 #![tactic(auto)]
 
 ghost use Rattle.std.specs.Prelude.{List};
 ghost use Rattle.span_machine.specs.declared.step.Reply.{Reply};
 ghost use Rattle.span_machine.specs.declared.step.Step.{Step};
 ghost use Rattle.span_machine.specs.Machine.{Machine, start};
-ghost use Rattle.span_machine.specs.Run.{IsHistory, Run};
+ghost use Rattle.span_machine.specs.Run.{AreOfSchema, IsHistory, Run};
+ghost use Rattle.span_schema.specs.Lineages.{MeetsRules};
+ghost use Rattle.span_schema.specs.declared.table.Table.{Table};
 
 /// The theorem behind the headline: whatever the machine may reply to steps from its start is a history. Its log holds just the
 /// commits that were answered, each applies at its place, and every answer has exactly the rows that its text means on the tables
-/// of all of them.
+/// of all of them. The schema meets its rules, and the transactions that are begun were checked against it.
 pub fn runs_are_histories()
-    ensures { (steps : List Step) (replies : List Reply) (last : Machine) → Run start steps replies last → IsHistory steps replies }
+    ensures { (schema : List Table) → MeetsRules schema → (steps : List Step) (replies : List Reply) (last : Machine) → AreOfSchema schema steps → Run schema start steps replies last → IsHistory schema steps replies }
 {}

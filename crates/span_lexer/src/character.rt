@@ -12,7 +12,7 @@ pub(crate) fn is_blank(byte: u8) -> bool
 
 /// Whether the byte is an ASCII letter or `_`.
 #[tactic(auto, unfolding(crate::specs::Characters::is_letter))]
-pub(crate) fn is_letter(byte: u8) -> bool
+pub fn is_letter(byte: u8) -> bool
     ensures { result ≡ character.is_letter byte }
 {
     matches!(byte, b'A'..=b'Z' | b'a'..=b'z' | b'_')
@@ -27,7 +27,7 @@ pub(crate) fn is_digit(byte: u8) -> bool
 
 /// Whether the byte is a letter, a digit or `_`.
 #[tactic(auto, unfolding(crate::specs::Characters::is_word))]
-pub(crate) fn is_word(byte: u8) -> bool
+pub fn is_word(byte: u8) -> bool
     ensures { result ≡ character.is_word byte }
 {
     is_letter(byte) || is_digit(byte)

@@ -1,7 +1,7 @@
 //! Tokens of SQL texts and schema texts, with their places.
 #![tactic(auto)]
 
-mod character;
+pub mod character;
 pub mod lexer;
 pub mod literal;
 #[cfg(test)]

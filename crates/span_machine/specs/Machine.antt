@@ -1,6 +1,8 @@
-use Rattle.std.specs.Prelude.{◌≡◌, ℕ, ℤ, ◌+◌, ◌^◌, ◌-◌, max, Bool, true, false, ◌==◌, ◌&&◌, ◌||◌, not, nat_lt, nat_le, List, [], ◌∷◌, ◌++◌, length, filter, find, count_by, slice_get, slice_set, Option, Some, None, Result, Ok, Err, if◌then◌else◌, ◌⊎◌}
+use Rattle.std.specs.Prelude.{◌≡◌, ℕ, ◌+◌, ◌^◌, ◌-◌, max, Bool, true, false, ◌==◌, ◌&&◌, ◌||◌, not, nat_lt, nat_le, List, [], ◌∷◌, ◌++◌, length, filter, find, count_by, slice_get, slice_set, Option, Some, None, Result, Ok, Err, if◌then◌else◌, ◌⊎◌}
 use Rattle.std.specs.List.{list_any, list_all}
-use Rattle.span_shard.specs.declared.mutation.CheckedMutation.{CheckedMutation}
+use Rattle.std.specs.Option.{option_or}
+use Rattle.span_schema.specs.declared.table.Table.{Table}
+use Rattle.span_mutate.specs.declared.mutation.CheckedMutation.{CheckedMutation}
 use Rattle.span_machine.specs.declared.transaction.Commit.{Commit}
 use Rattle.span_value.specs.declared.refusal.Refusal.{Refusal}
 use Rattle.span_value.specs.declared.refusal.Refusal.TheVariants as refusal
@@ -22,9 +24,11 @@ use Rattle.span_machine.specs.declared.transaction.Outcome.TheVariants.{Undecide
 use Rattle.span_machine.specs.declared.transaction.OpenTransaction.{OpenTransaction}
 use Rattle.span_machine.specs.declared.slot.Book.{Book}
 use Rattle.span_machine.specs.declared.query.OpenQuery.{OpenQuery}
-use Rattle.span_shard.specs.Database.{Database, and_then, apply, is_at}
+use Rattle.span_mutate.specs.Checking.{and_then}
+use Rattle.span_mutate.specs.Database.{apply}
+use Rattle.span_mutate.specs.Directories.{Root, is_of, root_row}
 use Rattle.span_machine.specs.Tables.{tables}
-use Rattle.span_machine.specs.Meaning.{is_understood, means}
+use Rattle.span_machine.specs.Meaning.{table_asked, means}
 use Rattle.span_value.specs.declared.value.Value.{Value}
 
 -- what the journal knows: no versions and no rows
@@ -54,6 +58,11 @@ if_some (Some x) miss make = make x
 abbrev pub first_cause : List (Bool × Refusal) → Option Refusal
 first_cause [] = None
 first_cause (c ∷ cs) = if c.0 then Some c.1 else first_cause cs
+
+-- why there is nothing, if so
+abbrev pub fault_of : {A : Type 0} → Result A Refusal → Option Refusal
+fault_of (Ok x) = None
+fault_of (Err why) = Some why
 
 -- the answer, unless there is a refusal, which leaves the machine
 abbrev pub unless_refused : Machine → Option Refusal → Answer → Answer
@@ -88,19 +97,27 @@ without_first test (x ∷ xs) = if test x then xs else x ∷ without_first test 
 
 -- ---- slots
 
--- the slot's range has the root key
-abbrev pub holds : Book → ℤ → Bool
-holds book key = true
+-- the root row of a mutation's directory
+abbrev pub root_at : List Table → CheckedMutation → Root
+root_at schema m = root_row schema m.table m.key
 
-abbrev pub mutations_in : Book → List CheckedMutation → List CheckedMutation
-mutations_in book ms = filter (λ m. holds book m.key) ms
+-- the mutation is in the directory of this root row
+abbrev pub is_at : List Table → Root → CheckedMutation → Bool
+is_at schema root m = is_of schema root m.table m.key
+
+-- the slot's range has the root row
+abbrev pub holds : Book → Root → Bool
+holds book root = true
+
+abbrev pub mutations_in : List Table → Book → List CheckedMutation → List CheckedMutation
+mutations_in schema book ms = filter (λ m. holds book (root_at schema m)) ms
 
 abbrev pub is_prepared_at : ℕ → OpenTransaction → Bool
 is_prepared_at slot t = list_any (λ p. p.slot == slot) t.prepared
 
--- no key is in both lists
-abbrev pub have_common_key : List CheckedMutation → List CheckedMutation → Bool
-have_common_key ms ns = list_any (λ m. list_any (is_at m.key) ns) ms
+-- a directory has mutations of both lists
+abbrev pub have_common_root : List Table → List CheckedMutation → List CheckedMutation → Bool
+have_common_root schema ms ns = list_any (λ m. list_any (is_at schema (root_at schema m)) ns) ms
 
 -- s is at most the safe time of the slot
 abbrev pub is_safe : Machine → ℕ → Book → ℕ → Bool
@@ -134,15 +151,11 @@ abbrev pub begin : Machine → ℕ → List CheckedMutation → Answer
 begin m owner ms = unless_refused m (begin_refusal m) (begun m owner ms)
 
 -- the fault that the mutations meet on the tables as they are, if any
-abbrev pub fault_of : Result Database Refusal → Option Refusal
-fault_of (Ok db) = None
-fault_of (Err why) = Some why
+abbrev pub faults : List Table → Machine → List CheckedMutation → Option Refusal
+faults schema m ms = fault_of (and_then (tables schema m.log (timestamp_end - 1)) (λ db. apply schema db ms))
 
-abbrev pub faults : Machine → List CheckedMutation → Option Refusal
-faults m ms = fault_of (and_then (tables m.log (timestamp_end - 1)) (λ db. apply db ms))
-
-abbrev pub conflicts : Machine → ℕ → List CheckedMutation → Bool
-conflicts m slot ms = list_any (λ t. is_prepared_at slot t && have_common_key ms t.mutations) m.transactions
+abbrev pub conflicts : List Table → Machine → ℕ → List CheckedMutation → Bool
+conflicts schema m slot ms = list_any (λ t. is_prepared_at slot t && have_common_root schema ms t.mutations) m.transactions
 
 abbrev pub add_prepared : ℕ → ℕ → OpenTransaction → OpenTransaction
 add_prepared slot ts t = record t { prepared = t.prepared ++ (record { slot = slot; timestamp = ts }) ∷ [] }
@@ -151,10 +164,10 @@ abbrev pub prepare_timestamp : Book → ℕ
 prepare_timestamp book = max book.last book.floor + 1
 
 -- before its mutations are judged
-abbrev pub prepare_refusal : Machine → ℕ → OpenTransaction → Book → Option Refusal
-prepare_refusal m slot t book = first_cause (
-    (not (is_undecided t) || is_prepared_at slot t || (length (mutations_in book t.mutations) == 0), refusal.WrongState)
-    ∷ (conflicts m slot (mutations_in book t.mutations), refusal.Conflict) ∷ [])
+abbrev pub prepare_refusal : List Table → Machine → ℕ → OpenTransaction → Book → Option Refusal
+prepare_refusal schema m slot t book = first_cause (
+    (not (is_undecided t) || is_prepared_at slot t || (length (mutations_in schema book t.mutations) == 0), refusal.WrongState)
+    ∷ (conflicts schema m slot (mutations_in schema book t.mutations), refusal.Conflict) ∷ [])
 
 abbrev pub prepared : Machine → ℕ → ℕ → ℕ → Book → Answer
 prepared m owner txn slot book = (
@@ -165,22 +178,22 @@ prepared m owner txn slot book = (
   },
 )
 
-abbrev pub prepare_found : Machine → ℕ → ℕ → ℕ → OpenTransaction → Book → Answer
-prepare_found m owner txn slot t book =
-    unless_refused m (prepare_refusal m slot t book)
-    (unless_refused m (faults m (mutations_in book t.mutations))
+abbrev pub prepare_found : List Table → Machine → ℕ → ℕ → ℕ → OpenTransaction → Book → Answer
+prepare_found schema m owner txn slot t book =
+    unless_refused m (prepare_refusal schema m slot t book)
+    (unless_refused m (faults schema m (mutations_in schema book t.mutations))
     (unless_refused m (first_cause ((nat_le timestamp_end (prepare_timestamp book), refusal.TimestampRange) ∷ []))
     (prepared m owner txn slot book)))
 
-abbrev pub prepare : Machine → ℕ → ℕ → ℕ → Answer
-prepare m owner txn slot = for_transaction m owner txn (λ t. for_slot m slot (prepare_found m owner txn slot t))
+abbrev pub prepare : List Table → Machine → ℕ → ℕ → ℕ → Answer
+prepare schema m owner txn slot = for_transaction m owner txn (λ t. for_slot m slot (prepare_found schema m owner txn slot t))
 
 -- every mutation is of a slot where the transaction is prepared
-abbrev pub is_prepared_for : Machine → OpenTransaction → CheckedMutation → Bool
-is_prepared_for m t mutation = list_any (λ p. if_some (slice_get m.books p.slot) false (λ book. holds book mutation.key)) t.prepared
+abbrev pub is_prepared_for : List Table → Machine → OpenTransaction → CheckedMutation → Bool
+is_prepared_for schema m t mutation = list_any (λ p. if_some (slice_get m.books p.slot) false (λ book. holds book (root_at schema mutation))) t.prepared
 
-abbrev pub is_all_prepared : Machine → OpenTransaction → Bool
-is_all_prepared m t = not (length t.prepared == 0) && list_all (is_prepared_for m t) t.mutations
+abbrev pub is_all_prepared : List Table → Machine → OpenTransaction → Bool
+is_all_prepared schema m t = not (length t.prepared == 0) && list_all (is_prepared_for schema m t) t.mutations
 
 -- the greatest prepare timestamp
 abbrev pub greatest : List Prepared → ℕ
@@ -206,9 +219,9 @@ commit_timestamp m t interval =
 abbrev pub with_outcome : Outcome → OpenTransaction → OpenTransaction
 with_outcome o t = record t { outcome = o }
 
-abbrev pub commit_refusal : Machine → OpenTransaction → Interval → Option Refusal
-commit_refusal m t interval = first_cause (
-    (not (is_undecided t) || not (is_all_prepared m t), refusal.WrongState)
+abbrev pub commit_refusal : List Table → Machine → OpenTransaction → Interval → Option Refusal
+commit_refusal schema m t interval = first_cause (
+    (not (is_undecided t) || not (is_all_prepared schema m t), refusal.WrongState)
     ∷ (nat_le timestamp_end (commit_timestamp m t interval), refusal.TimestampRange) ∷ [])
 
 abbrev pub commit_of : ℕ → OpenTransaction → Commit
@@ -233,12 +246,14 @@ aborted m owner txn t = (
   },
 )
 
-abbrev pub decide_found : Machine → ℕ → ℕ → Verdict → Interval → OpenTransaction → Answer
-decide_found m owner txn verdict.Commit interval t = unless_refused m (commit_refusal m t interval) (committed m owner txn (commit_timestamp m t interval) t)
-decide_found m owner txn verdict.Abort interval t = unless_refused m (first_cause ((not (is_undecided t), refusal.WrongState) ∷ [])) (aborted m owner txn t)
+abbrev pub decide_found : List Table → Machine → ℕ → ℕ → Verdict → Interval → OpenTransaction → Answer
+decide_found schema m owner txn verdict.Commit interval t =
+    unless_refused m (commit_refusal schema m t interval) (committed m owner txn (commit_timestamp m t interval) t)
+decide_found schema m owner txn verdict.Abort interval t =
+    unless_refused m (first_cause ((not (is_undecided t), refusal.WrongState) ∷ [])) (aborted m owner txn t)
 
-abbrev pub decide : Machine → ℕ → ℕ → Verdict → Interval → Answer
-decide m owner txn v interval = for_transaction m owner txn (decide_found m owner txn v interval)
+abbrev pub decide : List Table → Machine → ℕ → ℕ → Verdict → Interval → Answer
+decide schema m owner txn v interval = for_transaction m owner txn (decide_found schema m owner txn v interval)
 
 abbrev pub without_prepared : ℕ → OpenTransaction → OpenTransaction
 without_prepared slot t = record t { prepared = filter (λ p. not (p.slot == slot)) t.prepared }
@@ -289,11 +304,10 @@ advanced m slot interval book = (
 abbrev pub advance : Machine → ℕ → Interval → Answer
 advance m slot interval = for_slot m slot (advanced m slot interval)
 
-abbrev pub open_refusal : Machine → List ℕ → ℕ → Option Refusal
-open_refusal m text s = first_cause (
-    (not (is_understood text), refusal.Syntax)
-    ∷ (nat_le timestamp_end s, refusal.TimestampRange)
-    ∷ (nat_le 64 (length m.queries) || nat_le (2 ^ 63) m.next_query, refusal.QueryTableFull) ∷ [])
+abbrev pub open_refusal : List Table → Machine → List ℕ → ℕ → Option Refusal
+open_refusal schema m text s = option_or (fault_of (table_asked schema text)) (first_cause (
+    (nat_le timestamp_end s, refusal.TimestampRange)
+    ∷ (nat_le 64 (length m.queries) || nat_le (2 ^ 63) m.next_query, refusal.QueryTableFull) ∷ []))
 
 abbrev pub opened : Machine → List ℕ → Params → ℕ → Answer
 opened m text params s = (
@@ -304,8 +318,9 @@ opened m text params s = (
   },
 )
 
-abbrev pub open_query : Machine → List ℕ → Params → Bound → Interval → Answer
-open_query m text params bound interval = unless_refused m (open_refusal m text (timestamp_of bound interval)) (opened m text params (timestamp_of bound interval))
+abbrev pub open_query : List Table → Machine → List ℕ → Params → Bound → Interval → Answer
+open_query schema m text params bound interval =
+    unless_refused m (open_refusal schema m text (timestamp_of bound interval)) (opened m text params (timestamp_of bound interval))
 
 -- the floor rises to s where the clock has passed it
 abbrev pub risen : Book → ℕ → Interval → Book
@@ -341,14 +356,14 @@ answer_on s (Ok rows) = reply.Rows s rows
 answer_on s (Err why) = Refused why
 
 -- what the query means on the tables at its timestamp, by the log so far
-abbrev pub meaning : Machine → OpenQuery → Result (List (List Value)) Refusal
-meaning m q = and_then (tables m.log q.s) (means q.text q.params)
+abbrev pub meaning : List Table → Machine → OpenQuery → Result (List (List Value)) Refusal
+meaning schema m q = and_then (tables schema m.log q.s) (means schema q.text q.params)
 
-abbrev pub finish_found : Machine → OpenQuery → Answer
-finish_found m q = if q.covered then (answer_on q.s (meaning m q), m) else refused m refusal.Incomplete
+abbrev pub finish_found : List Table → Machine → OpenQuery → Answer
+finish_found schema m q = if q.covered then (answer_on q.s (meaning schema m q), m) else refused m refusal.Incomplete
 
-abbrev pub finish : Machine → ℕ → Answer
-finish m query = for_query m query (finish_found m)
+abbrev pub finish : List Table → Machine → ℕ → Answer
+finish schema m query = for_query m query (finish_found schema m)
 
 abbrev pub closed : Machine → ℕ → OpenQuery → Answer
 closed m query q = (reply.Closed, record m { queries = without_first (is_query query) m.queries })
@@ -357,16 +372,16 @@ abbrev pub close : Machine → ℕ → Answer
 close m query = for_query m query (closed m query)
 
 -- the reply where memory suffices, and the machine after it
-abbrev pub answer : Machine → Step → Answer
-answer m (Begin owner transaction) = begin m owner transaction
-answer m (Prepare owner txn slot) = prepare m owner txn slot
-answer m (Decide owner txn v interval) = decide m owner txn v interval
-answer m (Apply owner txn slot interval) = apply_step m owner txn slot interval
-answer m (Advance slot interval) = advance m slot interval
-answer m (Open text params bound interval) = open_query m text params bound interval
-answer m (Scan query leaf slot interval) = scan m query leaf slot interval
-answer m (Finish query) = finish m query
-answer m (Close query) = close m query
+abbrev pub answer : List Table → Machine → Step → Answer
+answer schema m (Begin owner transaction) = begin m owner transaction
+answer schema m (Prepare owner txn slot) = prepare schema m owner txn slot
+answer schema m (Decide owner txn v interval) = decide schema m owner txn v interval
+answer schema m (Apply owner txn slot interval) = apply_step m owner txn slot interval
+answer schema m (Advance slot interval) = advance m slot interval
+answer schema m (Open text params bound interval) = open_query schema m text params bound interval
+answer schema m (Scan query leaf slot interval) = scan m query leaf slot interval
+answer schema m (Finish query) = finish schema m query
+answer schema m (Close query) = close m query
 
 -- the step may want memory
 abbrev pub may_grow : Step → Bool
@@ -381,9 +396,9 @@ may_grow (Finish query) = true
 may_grow (Close query) = false
 
 -- From m, the reply to the step and the machine after it. Want of memory may stand in place of the reply, and changes nothing
-abbrev pub Steps : Machine → Step → Reply → Machine → Type 0
-Steps m s r next =
-    ((r ≡ (answer m s).0) × (next ≡ (answer m s).1))
+abbrev pub Steps : List Table → Machine → Step → Reply → Machine → Type 0
+Steps schema m s r next =
+    ((r ≡ (answer schema m s).0) × (next ≡ (answer schema m s).1))
     ⊎ ((may_grow s ≡ true) × (r ≡ Refused refusal.OutOfMemory) × (next ≡ m))
 
 abbrev pub start : Machine

@@ -1,10 +1,11 @@
 use Rattle.std.specs.Prelude.{ℕ, Bool, ◌==◌, ◌&&◌, ◌||◌, nat_lt, nat_le, List, [], ◌∷◌, ◌++◌, filter, Result}
-use Rattle.std.specs.FinMap as finmap
-use Rattle.span_shard.specs.declared.mutation.CheckedMutation.{CheckedMutation}
-use Rattle.span_machine.specs.declared.transaction.Commit.{Commit}
 use Rattle.span_value.specs.declared.refusal.Refusal.{Refusal}
+use Rattle.span_schema.specs.declared.table.Table.{Table}
+use Rattle.span_mutate.specs.declared.mutation.CheckedMutation.{CheckedMutation}
+use Rattle.span_mutate.specs.declared.row.TableRow.{TableRow}
+use Rattle.span_mutate.specs.Database.{apply}
+use Rattle.span_machine.specs.declared.transaction.Commit.{Commit}
 use Rattle.span_machine.specs.Sorting.{in_order}
-use Rattle.span_shard.specs.Database.{Database, apply}
 
 -- by timestamp, and then by number
 abbrev pub is_before : Commit → Commit → Bool
@@ -19,5 +20,5 @@ mutations_of [] = []
 mutations_of (c ∷ cs) = c.mutations ++ mutations_of cs
 
 -- the tables at s: every commit at s or earlier, in order of timestamps, from empty tables
-abbrev pub tables : List Commit → ℕ → Result Database Refusal
-tables log s = apply finmap.empty (mutations_of (upto log s))
+abbrev pub tables : List Table → List Commit → ℕ → Result (List TableRow) Refusal
+tables schema log s = apply schema [] (mutations_of (upto log s))

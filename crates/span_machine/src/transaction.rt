@@ -1,5 +1,5 @@
 //! Open transactions, and the commits of the log.
-use span_shard::mutation::CheckedMutation;
+use span_mutate::mutation::CheckedMutation;
 use span_value::seq::Seq;
 
 /// Where and at which timestamp a transaction is prepared.

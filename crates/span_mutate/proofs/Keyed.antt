@@ -21,15 +21,15 @@ use Rattle.span_mutate.specs.Checking.{unless, and_then, key_causes, cells_cause
 use Rattle.span_mutate.specs.Directories.{IsKeyed, AreKeyed}
 use Rattle.span_mutate.proofs.Families.{number_here}
 
-first_none : (b : Bool) (w : Refusal) (rest : List (Bool × Refusal)) → first_cause ((b, w) ∷ rest) ≡ None → b ≡ false
+pub first_none : (b : Bool) (w : Refusal) (rest : List (Bool × Refusal)) → first_cause ((b, w) ∷ rest) ≡ None → b ≡ false
 first_none true w rest e = absurd cc
 first_none false w rest e = refl
 
-or_none : (a b : Option Refusal) → option_or a b ≡ None → a ≡ None
+pub or_none : (a b : Option Refusal) → option_or a b ≡ None → a ≡ None
 or_none None b e = refl
 or_none (Some w) b e = absurd cc
 
-not_not : (b : Bool) → not b ≡ false → b ≡ true
+pub not_not : (b : Bool) → not b ≡ false → b ≡ true
 not_not true e = refl
 not_not false e = absurd cc
 

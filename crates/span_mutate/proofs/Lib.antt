@@ -9,9 +9,12 @@ pub mod Fronts
 pub mod Keyed
 pub mod Keys
 pub mod Local
+pub mod NamedKinds
 pub mod Orders
 pub mod Parents
 pub mod Placing
 pub mod Runs
 pub mod TableLists
+pub mod TouchedRows
+pub mod TypedRows
 pub mod Worked

@@ -41,7 +41,7 @@ at_is_of tables root n key h q at =
     let table : n ≡ q.table = sym (same_number q.table n parts.0) in
     ap (λ (m : ℕ). is_of tables root m q.key) (sym table) ∙ ap (is_of tables root n) (sym (same_key key q.key parts.1)) ∙ h
 
-row_same : (tables : List Table) (root : Root) (n : ℕ) (key : List Value) → is_of tables root n key ≡ true → (db : List TableRow) → row_at n key (directory tables root db) ≡ row_at n key db
+pub row_same : (tables : List Table) (root : Root) (n : ℕ) (key : List Value) → is_of tables root n key ≡ true → (db : List TableRow) → row_at n key (directory tables root db) ≡ row_at n key db
 row_same tables root n key h db = find_kept (is_at n key) (λ (q : TableRow). is_of tables root q.table q.key) (at_is_of tables root n key h) db
 
 parent_same : (tables : List Table) → MeetsRules tables → (root : Root) → length root.key ≡ key_len tables root.table → (n : ℕ) (key : List Value) → IsTable tables n → is_of tables root n key ≡ true
@@ -57,7 +57,7 @@ parent_same tables rules root len n key is h (Some q) e db =
     (moved tables root n q key (take (key_len tables q) key) h above.1 (front_of_taken root.key key (key_len tables q) parts.1 short)) db)
 
 -- a row of a table below, whose key begins with one of the directory, is of it
-under_is_of : (tables : List Table) (root : Root) (n : ℕ) (key : List Value) → is_of tables root n key ≡ true → (q : TableRow) → root_of tables q.table ≡ root_of tables n → begins key q.key ≡ true → is_of tables root q.table q.key ≡ true
+pub under_is_of : (tables : List Table) (root : Root) (n : ℕ) (key : List Value) → is_of tables root n key ≡ true → (q : TableRow) → root_of tables q.table ≡ root_of tables n → begins key q.key ≡ true → is_of tables root q.table q.key ≡ true
 under_is_of tables root n key h q same front =
     moved tables root n q.table key q.key h same (front_on root.key key q.key (both_hold (root_of tables n == root.table) (begins root.key key) h).1 front)
 
@@ -166,7 +166,7 @@ step_same tables rules root len m is h db =
         ∙ ap (unless (first_cause (causes tables db m before))) (changed_same tables root m h db before)
         ∙ through (first_cause (causes tables db m before)) (changed tables db m before)
 
-unless_ok : {A : Type 0} (w : Option Refusal) (x y : A) → unless w x ≡ Ok y → x ≡ y
+pub unless_ok : {A : Type 0} (w : Option Refusal) (x y : A) → unless w x ≡ Ok y → x ≡ y
 unless_ok None x y e = cc
 unless_ok (Some why) x y e = absurd cc
 

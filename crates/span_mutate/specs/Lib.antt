@@ -3,3 +3,5 @@ pub mod Checking
 pub mod Rows
 pub mod Database
 pub mod Directories
+pub mod Typed
+pub mod Touched

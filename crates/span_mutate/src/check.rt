@@ -2,11 +2,13 @@
 ghost use Rattle.std.specs.Prelude.{◌≡◌, ◌⊎◌, [], IfOk, MatchResult, None, Some, Ok, Err, take};
 ghost use Rattle.span_schema.specs.Rules.{first_cause};
 ghost use Rattle.span_schema.specs.Numbers.{IsTable, table_at};
+ghost use Rattle.span_keycode.specs.Keys.{IsCodedKey};
+ghost use Rattle.span_mutate.specs.Typed.{IsTypedMutation};
 ghost use Rattle.span_mutate.specs.Checking.{key_causes, cell_causes, cells_cause, lack_causes, mutation_cause, checked, checked_at};
 
 use super::column::{
-    cell_column, has_long, has_null, has_wrong_type, is_named, is_null_refused, is_too_long,
-    lacks_cell, values_named,
+    cell_column, has_long, has_null, has_wrong_type, have_named_kinds, is_named, is_null_refused,
+    is_too_long, lacks_cell, values_named,
 };
 use super::mutation::{Cell, CheckedMutation, Mutation, MutationKind, is_delete, may_insert};
 use span_keycode::column::have_kinds;
@@ -27,7 +29,8 @@ fn judge_key(
     key: &[Value],
 ) -> Result<(), Refusal>
     requires { IsTable schema.now number }
-    ensures { MatchResult result (λ _. first_cause (key_causes schema.now number table.now key.now) ≡ None) (λ why. (first_cause (key_causes schema.now number table.now key.now) ≡ Some why) ⊎ (why ≡ Refusal.OutOfMemory)) }
+    ensures cause { MatchResult result (λ _. first_cause (key_causes schema.now number table.now key.now) ≡ None) (λ why. (first_cause (key_causes schema.now number table.now key.now) ≡ Some why) ⊎ (why ≡ Refusal.OutOfMemory)) }
+    ensures coded { IfOk result (λ _. IsCodedKey schema.now number key.now) }
 {
     if !have_kinds(schema.key_columns(number), key) {
         return Err(Refusal::WrongType);
@@ -100,11 +103,13 @@ fn judge(
     mutation: &Mutation,
 ) -> Result<(), Refusal>
     requires { IsTable schema.now number }
-    ensures { MatchResult result (λ _. mutation_cause schema.now number table.now mutation.now ≡ None) (λ why. (mutation_cause schema.now number table.now mutation.now ≡ Some why) ⊎ (why ≡ Refusal.OutOfMemory)) }
+    ensures cause { MatchResult result (λ _. mutation_cause schema.now number table.now mutation.now ≡ None) (λ why. (mutation_cause schema.now number table.now mutation.now ≡ Some why) ⊎ (why ≡ Refusal.OutOfMemory)) }
+    ensures coded { IfOk result (λ _. IsCodedKey schema.now number mutation.now.key) }
 {
     judge_key(alloc, schema, number, table, mutation.key.as_slice())?;
     judge_cells(table, mutation.kind, mutation.cells.as_slice())?;
-    judge_lack(table, mutation)
+    judge_lack(table, mutation)?;
+    Ok(())
 }
 
 fn check_at(
@@ -116,7 +121,9 @@ fn check_at(
     requires { IsTable schema.now number }
     ensures checked { MatchResult result (λ c. checked_at schema.now number (table_at schema.now number) mutation ≡ Ok c) (λ why. (checked_at schema.now number (table_at schema.now number) mutation ≡ Err why) ⊎ (why ≡ Refusal.OutOfMemory)) }
     ensures table { IfOk result (λ c. c.table ≡ number) }
+    ensures typed { IfOk result (λ c. IsTypedMutation schema.now c) }
 {
+    let _tables = schema.tables();
     let table = schema.table(number);
     judge(alloc, schema, number, table, &mutation)?;
     let cells = values_named(
@@ -125,6 +132,7 @@ fn check_at(
         mutation.cells.as_slice(),
         table.columns.as_slice(),
     )?;
+    prove!(have_named_kinds(schema.other_kinds(number), cells.as_slice()));
     Ok(CheckedMutation {
         kind: mutation.kind,
         table: number,
@@ -142,6 +150,7 @@ pub(crate) fn check(
 ) -> Result<CheckedMutation, Refusal>
     ensures checked { MatchResult result (λ c. checked schema.now mutation ≡ Ok c) (λ why. (checked schema.now mutation ≡ Err why) ⊎ (why ≡ Refusal.OutOfMemory)) }
     ensures table { IfOk result (λ c. IsTable schema.now c.table) }
+    ensures typed { IfOk result (λ c. IsTypedMutation schema.now c) }
 {
     match schema.find(mutation.table.as_str()) {
         None => Err(Refusal::NoTable),

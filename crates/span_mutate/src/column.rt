@@ -1,14 +1,16 @@
 //! What a column takes, and which columns cells name.
-ghost use Rattle.std.specs.Prelude.{◌≡◌, MatchResult, length};
+ghost use Rattle.std.specs.Prelude.{◌≡◌, IfSome, IsTrue, MatchResult, length};
 ghost use Rattle.std.specs.Option.{option_copied};
 ghost use Rattle.std.specs.Str.{chars};
+ghost use Rattle.span_schema.specs.Fitting.{Fits};
+ghost use Rattle.span_mutate.specs.Typed.{AreNamed, is_named_kind, are_named_kinds};
 ghost use Rattle.span_mutate.specs.Columns.{column_named, cell_column, has_wrong_type, is_null, is_null_refused, is_over, is_over_type, is_too_long, key_breaks, is_named, is_lacking, lacks_cell, value_named, values_named};
 
 use super::mutation::Cell;
 use span_schema::fitting::is_of_kind;
 use span_schema::table::{Column, KeyColumn, Table, are_same, is_in_key, kind_of_type};
 use span_value::refusal::Refusal;
-use span_value::value::{ColumnType, Value};
+use span_value::value::{ColumnType, Kind, Value};
 use std::alloc::Global;
 
 fn column_of<'a>(columns: &'a [Column], name: &str) -> Option<&'a Column>
@@ -164,4 +166,31 @@ pub(crate) fn values_named(
         }
     }
     Ok(values)
+}
+
+// Whether the value that is named, if one is, is NULL or of the kind. Then it fits a column of the kind.
+fn is_named_kind(kind: Kind, named: &Option<Value>) -> bool
+    ensures kind { result ≡ is_named_kind kind named.now }
+    ensures fits { IsTrue result → IfSome named.now (Fits kind) }
+{
+    match named {
+        None => true,
+        Some(value) => is_of_kind(kind, value),
+    }
+}
+
+/// Whether there is for each kind a value that is NULL or of the kind, or none. Then they fit columns of the kinds.
+pub(crate) fn have_named_kinds(kinds: &[Kind], named: &[Option<Value>]) -> bool
+    ensures kinds { result ≡ are_named_kinds kinds.now named.now }
+    ensures fits { IsTrue result → AreNamed kinds.now named.now }
+{
+    if kinds.len() != named.len() {
+        return false;
+    }
+    for i in 0..kinds.len() {
+        if !is_named_kind(kinds[i], &named[i]) {
+            return false;
+        }
+    }
+    true
 }

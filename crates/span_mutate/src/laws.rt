@@ -1,5 +1,7 @@
 //! The laws of mutations, each as the contract of a function that does nothing.
 ghost use Rattle.span_mutate.specs.Directories.{RootByRoot, OneDatabase, RowsInOrder, ParentsStay};
+ghost use Rattle.span_mutate.specs.Touched.{TouchedAlone};
+ghost use Rattle.span_mutate.specs.Typed.{TypedStay};
 
 /// Apply works root by root: its outcome on a database is the outcomes of its directories put together, the first fault included.
 pub fn root_by_root()
@@ -19,4 +21,14 @@ pub fn rows_in_order()
 /// Apply leaves no row without its parent row, where none was before.
 pub fn parents_stay()
     ensures { ParentsStay }
+{}
+
+/// Apply of typed mutations on a typed database leaves a typed database.
+pub fn typed_stay()
+    ensures { TypedStay }
+{}
+
+/// Apply looks at the touched directories alone, and leaves all other rows: databases with the same rows there have the same outcome.
+pub fn touched_alone()
+    ensures { TouchedAlone }
 {}

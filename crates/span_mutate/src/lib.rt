@@ -4,8 +4,10 @@
 mod check;
 mod column;
 mod copy;
+pub mod directory;
 pub mod laws;
 pub mod mutation;
+pub mod order;
 pub mod root;
 pub mod row;
 #[cfg(test)]

@@ -84,7 +84,7 @@ pub(crate) fn key_order(columns: &[KeyPart], left: &[Value], right: &[Value]) ->
     left.len().cmp(&right.len())
 }
 
-fn row_order(columns: &[KeyPart], left: &TableRow, right: &TableRow) -> Ordering
+pub(crate) fn row_order(columns: &[KeyPart], left: &TableRow, right: &TableRow) -> Ordering
     ensures { result ≡ row_order columns.now left.now right.now }
 {
     left.table.cmp(&right.table).then(key_order(columns, left.key.as_slice(), right.key.as_slice()))

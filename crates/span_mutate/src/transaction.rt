@@ -3,6 +3,7 @@ ghost use Rattle.std.specs.Prelude.{◌≡◌, ◌⊎◌, Ok, Err, IfOk, IfErr, 
 ghost use Rattle.span_schema.specs.Numbers.{IsTable};
 ghost use Rattle.span_mutate.specs.Checking.{checked_all, checked_transaction};
 ghost use Rattle.span_mutate.specs.Directories.{AreKeyed};
+ghost use Rattle.span_mutate.specs.Typed.{AreTypedMutations};
 
 use super::check::check;
 use super::copy::copy_of_mutations;
@@ -46,6 +47,7 @@ impl Transaction {
         ensures ok { IfOk result (λ t. checked_transaction schema.now mutations.items ≡ Ok t) }
         ensures tables { IfOk result (λ t. All (λ m. IsTable schema.now m.table) t) }
         ensures keyed { IfOk result (λ t. AreKeyed schema.now t) }
+        ensures typed { IfOk result (λ t. AreTypedMutations schema.now t) }
         ensures refused { IfErr result (λ why. (why ≡ Refusal.OutOfMemory) ⊎ (checked_transaction schema.now mutations.items ≡ Err why)) }
     {
         if mutations.is_empty() {
@@ -91,6 +93,7 @@ fn check_all(
         (λ why. (why ≡ Refusal.OutOfMemory) ⊎ (checked_all schema.now mutations.items ≡ Err why)) }
     ensures tables { IfOk result (λ cs. All (λ m. IsTable schema.now m.table) cs.items) }
     ensures keyed { IfOk result (λ cs. AreKeyed schema.now cs.items) }
+    ensures typed { IfOk result (λ cs. AreTypedMutations schema.now cs.items) }
 {
     let mut checked = Vec::with_capacity(alloc, mutations.len())?;
     for mutation in mutations {

@@ -1,21 +1,18 @@
-use Rattle.std.proofs.Common.{◌≡◌, ◌≢◌, ℕ, ℤ, Bool, true, false, cond, ◌==◌, ◌||◌, List, [], ◌∷◌, ◌++◌, Option, Some, None, Ok, refl, ap, sym, ◌∙◌, subst, arith}
-use Rattle.std.specs.Prelude.{filter, find, is_some, not}
-use Rattle.std.specs.List.{list_any, AllByRecursion}
-use Rattle.std.specs.Ordering.{int_cmp}
+use Rattle.std.proofs.Common.{◌≡◌, ◌≢◌, ℕ, Bool, true, false, cond, ◌==◌, ◌||◌, List, [], ◌∷◌, ◌++◌, Option, Some, None, refl, ap, sym, ◌∙◌, subst, arith}
+use Rattle.std.specs.Prelude.{filter, not}
+use Rattle.std.specs.List.{AllByRecursion}
+use Rattle.span_keycode.specs.Order.{byte_order}
 use Rattle.std.specs.declared.cmp.Ordering.TheVariants.{Less, Equal, Greater}
-use Rattle.std.specs.Cmp.{int_cmp_total, eq_by_cmp_equiv}
 use Rattle.std.proofs.lemmas.Bool.Decides.{nat_tests}
-use Rattle.std.proofs.lemmas.Map.Lookups.{exact_signed}
-use Rattle.span_value.specs.declared.value.Value.{Value}
+use Rattle.std.proofs.lemmas.Map.Lookups.{exact_bytes}
+use Rattle.span_schema.specs.declared.table.Table.{Table}
 use Rattle.span_shard.specs.declared.chain.PreparedWrite.{PreparedWrite}
-use Rattle.span_shard.specs.declared.mutation.CheckedMutation.{CheckedMutation}
+use Rattle.span_mutate.specs.declared.mutation.CheckedMutation.{CheckedMutation}
 use Rattle.span_shard.specs.declared.write.Write.{Write}
-use Rattle.span_shard.specs.Database.{row_through, is_at}
+use Rattle.span_shard.specs.Rows.{is_touched}
 use Rattle.span_shard.specs.KeyVersions.{KeyVersions}
 use Rattle.span_shard.specs.Versions.{is_empty, is_used, with_prepared, applied_write, applied_to_key}
-use Rattle.span_shard.specs.Writes.{IsWritten, is_of, AreWrites}
 use Rattle.span_shard.specs.Shard.{by_order, with_write, with_writes, fresh, prepared_write, applied, IsInUse, IsNotOf, HasNoneOf, HasSomeOf, IsFree}
-use Rattle.span_shard.proofs.Writing.{none_at}
 
 same_number : (n : ℕ) → (n == n) ≡ true
 same_number n = grind (arith, nat_tests)
@@ -48,8 +45,8 @@ abbrev pub IsOpenFor : ℕ → Option PreparedWrite → Type 0
 IsOpenFor txn None = Unit {0}
 IsOpenFor txn (Some w) = w.txn ≡ txn
 
-abbrev pub IsOpenAt : ℕ → ℤ → List KeyVersions → Type 0
-IsOpenAt txn key cs = AllByRecursion (λ c. int_cmp key c.key ≡ Equal → IsOpenFor txn c.prepared) cs
+abbrev pub IsOpenAt : ℕ → List ℕ → List KeyVersions → Type 0
+IsOpenAt txn key cs = AllByRecursion (λ c. byte_order key c.key ≡ Equal → IsOpenFor txn c.prepared) cs
 
 given_up : (txn : ℕ) (w : Write) (p : Option PreparedWrite) (c : KeyVersions) → c.prepared ≡ p → IsOpenFor txn p → applied_to_key txn None (with_prepared (prepared_write txn w) c) ≡ applied_write p txn None c
 given_up txn w None c is vacant =
@@ -66,22 +63,22 @@ fresh_gone txn w ds =
 pub applied-with_write : (txn : ℕ) (w : Write) (cs : List KeyVersions) → IsOpenAt txn w.key cs → applied txn None (with_write txn w cs) ≡ applied txn None cs
 applied-with_write txn w [] vacant = fresh_gone txn w []
 applied-with_write txn w (c ∷ cs) vacant =
-    elim (int_cmp w.key c.key) as (λ o. int_cmp w.key c.key ≡ o → applied txn None (by_order o (fresh txn w ∷ c ∷ cs) (with_prepared (prepared_write txn w) c ∷ cs) (c ∷ with_write txn w cs)) ≡ applied txn None (c ∷ cs)) [
+    elim (byte_order w.key c.key) as (λ o. byte_order w.key c.key ≡ o → applied txn None (by_order o (fresh txn w ∷ c ∷ cs) (with_prepared (prepared_write txn w) c ∷ cs) (c ∷ with_write txn w cs)) ≡ applied txn None (c ∷ cs)) [
       | Less ↦ λ e. fresh_gone txn w (c ∷ cs)
       | Equal ↦ λ e. ap (λ (d : KeyVersions). cond (is_used d) (d ∷ applied txn None cs) (applied txn None cs)) (given_up txn w c.prepared c refl (vacant.0 e))
       | Greater ↦ λ e. ap (λ l. cond (is_used (applied_to_key txn None c)) (applied_to_key txn None c ∷ l) l) (applied-with_write txn w cs vacant.1)
     ] refl
 
-open_with_write : (txn : ℕ) (w : Write) (key : ℤ) (cs : List KeyVersions) → IsOpenAt txn key cs → IsOpenAt txn key (with_write txn w cs)
+open_with_write : (txn : ℕ) (w : Write) (key : List ℕ) (cs : List KeyVersions) → IsOpenAt txn key cs → IsOpenAt txn key (with_write txn w cs)
 open_with_write txn w key [] vacant = (λ _. refl, tt)
 open_with_write txn w key (c ∷ cs) vacant =
-    elim (int_cmp w.key c.key) as (λ o. IsOpenAt txn key (by_order o (fresh txn w ∷ c ∷ cs) (with_prepared (prepared_write txn w) c ∷ cs) (c ∷ with_write txn w cs))) [
+    elim (byte_order w.key c.key) as (λ o. IsOpenAt txn key (by_order o (fresh txn w ∷ c ∷ cs) (with_prepared (prepared_write txn w) c ∷ cs) (c ∷ with_write txn w cs))) [
       | Less ↦ (λ _. refl, vacant)
       | Equal ↦ (λ _. refl, vacant.1)
       | Greater ↦ (vacant.0, open_with_write txn w key cs vacant.1)
     ]
 
-open_with_writes : (txn : ℕ) (ws : List Write) (key : ℤ) (cs : List KeyVersions) → IsOpenAt txn key cs → IsOpenAt txn key (with_writes txn ws cs)
+open_with_writes : (txn : ℕ) (ws : List Write) (key : List ℕ) (cs : List KeyVersions) → IsOpenAt txn key cs → IsOpenAt txn key (with_writes txn ws cs)
 open_with_writes txn [] key cs vacant = vacant
 open_with_writes txn (w ∷ ws) key cs vacant = open_with_write txn w key (with_writes txn ws cs) (open_with_writes txn ws key cs vacant)
 
@@ -92,46 +89,25 @@ applied-with_writes txn (w ∷ ws) cs vacant =
 
 -- ---- the writes of mutations at keys where nothing is prepared
 
-some_more : (p : Write → Bool) (w : Write) (ws : List Write) → is_some (find p ws) ≡ true → is_some (find p (w ∷ ws)) ≡ true
-some_more p w ws e = elim (p w) as (λ b. is_some (cond b (Some w) (find p ws)) ≡ true) [ true ↦ refl | false ↦ e ]
+equal_key : (key k : List ℕ) → byte_order key k ≡ Equal → key ≡ k
+equal_key key k e = exact_bytes key k e
 
-some_found : (ws : List Write) → AllByRecursion (λ w. is_some (find (is_of w.key) ws) ≡ true) ws
-some_found [] = tt
-some_found (w ∷ ws) = (
-  ap (λ b. is_some (cond b (Some w) (find (is_of w.key) ws))) ((eq_by_cmp_equiv int_cmp_total).refl w.key),
-  all_weaker (λ v. is_some (find (is_of v.key) ws) ≡ true) (λ v. is_some (find (is_of v.key) (w ∷ ws)) ≡ true) (λ v e. some_more (is_of v.key) w ws e) ws (some_found ws),
-)
+free_open : (txn : ℕ) (tables : List Table) (ms : List CheckedMutation) (cs : List KeyVersions) (key : List ℕ) → is_touched tables ms key ≡ true → IsFree tables ms cs → IsOpenAt txn key cs
+free_open txn tables ms cs key any free = all_weaker (λ (c : KeyVersions). is_touched tables ms c.key ≡ true → c.prepared ≡ None) (λ (c : KeyVersions). byte_order key c.key ≡ Equal → IsOpenFor txn c.prepared)
+    (λ c nothing e. subst (IsOpenFor txn) (sym (nothing (subst (λ (k : List ℕ). is_touched tables ms k ≡ true) (equal_key key c.key e) any))) tt) cs free
 
-written_any : (key : ℤ) (before : Option Value) (ms : List CheckedMutation) (found : Option Write) → is_some found ≡ true → IsWritten key before ms found → list_any (is_at key) ms ≡ true
-written_any key before ms None some one = absurd (cc)
-written_any key before ms (Some w) some one = elim (list_any (is_at key) ms) as (λ b. list_any (is_at key) ms ≡ b → b ≡ true) [
-  | true ↦ λ e. refl
-  | false ↦ λ e.
-      let same : row_through before (filter (is_at key) ms) ≡ Ok before = ap (row_through before) (none_at key ms e) in
-      let back : one.after ≡ before = cc in
-      absurd (one.write.2 back)
-] refl
-
-equal_key : (key k : ℤ) → int_cmp key k ≡ Equal → key ≡ k
-equal_key key k e = exact_signed key k e
-
-free_open : (txn : ℕ) (key : ℤ) (ms : List CheckedMutation) (cs : List KeyVersions) → list_any (is_at key) ms ≡ true → IsFree ms cs → IsOpenAt txn key cs
-free_open txn key ms cs any free = all_weaker (λ (c : KeyVersions). list_any (is_at c.key) ms ≡ true → c.prepared ≡ None) (λ (c : KeyVersions). int_cmp key c.key ≡ Equal → IsOpenFor txn c.prepared)
-    (λ c nothing e. subst (IsOpenFor txn) (sym (nothing (subst (λ (k : ℤ). list_any (is_at k) ms ≡ true) (equal_key key c.key e) any))) tt) cs free
-
-pub writes_open : (txn : ℕ) (before : ℤ → Option Value) (ms : List CheckedMutation) (ws : List Write) (cs : List KeyVersions) → AreWrites before ms ws → IsFree ms cs → AllByRecursion (λ w. IsOpenAt txn w.key cs) ws
-writes_open txn before ms ws cs are free = all_weaker (λ w. is_some (find (is_of w.key) ws) ≡ true) (λ w. IsOpenAt txn w.key cs)
-    (λ w some. free_open txn w.key ms cs (written_any w.key (before w.key) ms (find (is_of w.key) ws) some (are w.key)) free) ws (some_found ws)
+pub writes_open : (txn : ℕ) (tables : List Table) (ms : List CheckedMutation) (ws : List Write) (cs : List KeyVersions) → AllByRecursion (λ (w : Write). is_touched tables ms w.key ≡ true) ws → IsFree tables ms cs → AllByRecursion (λ w. IsOpenAt txn w.key cs) ws
+writes_open txn tables ms ws cs touched free = all_weaker (λ (w : Write). is_touched tables ms w.key ≡ true) (λ (w : Write). IsOpenAt txn w.key cs) (λ w any. free_open txn tables ms cs w.key any free) ws touched
 
 all_behind : {A : Type 0} (P : A → Type 0) (front rest : List A) → AllByRecursion P (front ++ rest) → AllByRecursion P rest
 all_behind P [] rest all = all
 all_behind P (x ∷ xs) rest all = all_behind P xs rest all.1
 
 -- giving up some of the writes leaves what was
-pub given_back : (txn : ℕ) (before : ℤ → Option Value) (ms : List CheckedMutation) (ws : List Write) (cs ds : List KeyVersions) → AllByRecursion IsInUse cs → HasNoneOf txn cs → IsFree ms cs → AreWrites before ms ws
-    → HasSomeOf txn ws cs ds → applied txn None ds ≡ cs
-given_back txn before ms ws cs ds used none free are some =
-    let vacant : AllByRecursion (λ w. IsOpenAt txn w.key cs) (some.front ++ some.rest) = subst (AllByRecursion (λ w. IsOpenAt txn w.key cs)) (sym some.whole) (writes_open txn before ms ws cs are free) in
+pub given_back : (txn : ℕ) (tables : List Table) (ms : List CheckedMutation) (ws : List Write) (cs ds : List KeyVersions) → AllByRecursion IsInUse cs → HasNoneOf txn cs → IsFree tables ms cs
+    → AllByRecursion (λ (w : Write). is_touched tables ms w.key ≡ true) ws → HasSomeOf txn ws cs ds → applied txn None ds ≡ cs
+given_back txn tables ms ws cs ds used none free touched some =
+    let vacant : AllByRecursion (λ w. IsOpenAt txn w.key cs) (some.front ++ some.rest) = subst (AllByRecursion (λ w. IsOpenAt txn w.key cs)) (sym some.whole) (writes_open txn tables ms ws cs touched free) in
     ap (applied txn None) some.put ∙ applied-with_writes txn some.rest cs (all_behind (λ w. IsOpenAt txn w.key cs) some.front some.rest vacant) ∙ applied-none txn cs used none
 
 -- ---- every key stays in use
@@ -145,7 +121,7 @@ used_prepared w c = or_true (not (is_empty c.versions))
 
 pub used_with_write : (txn : ℕ) (w : Write) (cs : List KeyVersions) → AllByRecursion IsInUse cs → AllByRecursion IsInUse (with_write txn w cs)
 used_with_write txn w [] used = (refl, tt)
-used_with_write txn w (c ∷ cs) used = elim (int_cmp w.key c.key) as (λ o. AllByRecursion IsInUse (by_order o (fresh txn w ∷ c ∷ cs) (with_prepared (prepared_write txn w) c ∷ cs) (c ∷ with_write txn w cs))) [
+used_with_write txn w (c ∷ cs) used = elim (byte_order w.key c.key) as (λ o. AllByRecursion IsInUse (by_order o (fresh txn w ∷ c ∷ cs) (with_prepared (prepared_write txn w) c ∷ cs) (c ∷ with_write txn w cs))) [
   | Less ↦ (refl, used)
   | Equal ↦ (used_prepared (prepared_write txn w) c, used.1)
   | Greater ↦ (used.0, used_with_write txn w cs used.1)

@@ -1,7 +1,7 @@
-pub mod Database
 pub mod KeyVersions
-pub mod Ranges
 pub mod Versions
 pub mod Writes
+pub mod Rows
 pub mod Shard
-pub mod Checking
+pub mod Reading
+pub mod Tested

@@ -1,23 +1,41 @@
-use Rattle.std.specs.Prelude.{◌≡◌, ℕ, ℤ, ◌+◌, Bool, true, List, [], ◌∷◌, ◌++◌, length, map, filter, find, sum_by, is_some, Option, Some, None, option_map, Result, Ok, Err, IfSome, slice_get, take, ◌≤◌, ◌≢◌, if◌then◌else◌}
-use Rattle.std.specs.List.{filter_map, list_any, AllByRecursion}
-use Rattle.std.specs.Ordering.{int_cmp, eq_by_cmp}
+use Rattle.std.specs.Prelude.{◌≡◌, ℕ, ◌+◌, Bool, true, false, not, ◌&&◌, List, [], ◌∷◌, ◌++◌, length, map, filter, find, sum_by, is_some, Option, Some, None, option_map, Result, Ok, Err, IfSome, slice_get, take, drop, ◌≤◌, ◌≢◌, if◌then◌else◌}
+use Rattle.std.specs.List.{filter_map, AllByRecursion}
+use Rattle.std.specs.Ordering.{eq_by_cmp, is_lt}
 use Rattle.std.specs.declared.cmp.Ordering.{Ordering}
 use Rattle.std.specs.declared.cmp.Ordering.TheVariants.{Less, Equal, Greater}
-use Rattle.span_value.specs.declared.value.Value.{Value}
+use Rattle.span_schema.specs.declared.table.Table.{Table}
+use Rattle.span_keycode.specs.Order.{byte_order}
+use Rattle.span_keycode.specs.declared.range.KeyRange.{KeyRange}
+use Rattle.span_mutate.specs.declared.mutation.CheckedMutation.{CheckedMutation}
+use Rattle.span_mutate.specs.declared.row.TableRow.{TableRow}
+use Rattle.span_mutate.specs.Directories.{IsRising}
 use Rattle.span_shard.specs.declared.chain.Version.{Version}
 use Rattle.span_shard.specs.declared.chain.PreparedWrite.{PreparedWrite}
-use Rattle.span_shard.specs.declared.mutation.CheckedMutation.{CheckedMutation}
-use Rattle.span_shard.specs.declared.range.KeyRange.{KeyRange}
 use Rattle.span_shard.specs.declared.write.Write.{Write}
-use Rattle.span_shard.specs.Database.{row_of, is_at}
 use Rattle.span_shard.specs.KeyVersions.{KeyVersions}
-use Rattle.span_shard.specs.Ranges.{contains}
+use Rattle.span_shard.specs.Rows.{row_coded, is_touched}
 use Rattle.span_shard.specs.Versions.{row_at, is_used, with_prepared, applied_to_key}
 
 -- A shard is what it has of each key, in order of the keys.
 
-abbrev pub is_key : ℤ → KeyVersions → Bool
-is_key key c = eq_by_cmp int_cmp key c.key
+-- the order of keys
+abbrev pub keys_cmp : KeyVersions → KeyVersions → Ordering
+keys_cmp c d = byte_order c.key d.key
+
+-- each key is before those behind it
+abbrev pub AreInOrder : List KeyVersions → Type 0
+AreInOrder cs = IsRising keys_cmp cs
+
+-- a key before these bytes
+abbrev pub is_before : List ℕ → KeyVersions → Bool
+is_before bytes c = is_lt (byte_order c.key bytes)
+
+-- the place of the first key that is not before these bytes
+abbrev pub IsFirstFrom : List ℕ → List KeyVersions → ℕ → Type 0
+IsFirstFrom bytes cs i = (i ≤ length cs) × AllByRecursion (λ c. is_before bytes c ≡ true) (take i cs) × AllByRecursion (λ c. is_before bytes c ≡ false) (drop i cs)
+
+abbrev pub is_key : List ℕ → KeyVersions → Bool
+is_key key c = eq_by_cmp byte_order key c.key
 
 abbrev pub versions_of : Option KeyVersions → List Version
 versions_of None = []
@@ -28,11 +46,11 @@ prepared_of None = None
 prepared_of (Some c) = c.prepared
 
 -- the versions at a key, from the newest to the oldest
-abbrev pub versions_at : List KeyVersions → ℤ → List Version
+abbrev pub versions_at : List KeyVersions → List ℕ → List Version
 versions_at cs key = versions_of (find (is_key key) cs)
 
 -- the write that is prepared at a key
-abbrev pub prepared_at : List KeyVersions → ℤ → Option PreparedWrite
+abbrev pub prepared_at : List KeyVersions → List ℕ → Option PreparedWrite
 prepared_at cs key = prepared_of (find (is_key key) cs)
 
 -- past every timestamp
@@ -40,7 +58,7 @@ abbrev pub end_of_time : ℕ
 end_of_time = 18446744073709551615
 
 -- the row at a key by all that was applied
-abbrev pub row_now : List KeyVersions → ℤ → Option Value
+abbrev pub row_now : List KeyVersions → List ℕ → Option (List ℕ)
 row_now cs key = row_at (versions_at cs key) end_of_time
 
 -- ---- prepare
@@ -61,7 +79,7 @@ fresh txn w = record { key = w.key; versions = []; prepared = Some (prepared_wri
 -- with the write prepared at its key, which takes its place in order if it was not there
 abbrev pub with_write : ℕ → Write → List KeyVersions → List KeyVersions
 with_write txn w [] = fresh txn w ∷ []
-with_write txn w (c ∷ cs) = by_order (int_cmp w.key c.key) (fresh txn w ∷ c ∷ cs) (with_prepared (prepared_write txn w) c ∷ cs) (c ∷ with_write txn w cs)
+with_write txn w (c ∷ cs) = by_order (byte_order w.key c.key) (fresh txn w ∷ c ∷ cs) (with_prepared (prepared_write txn w) c ∷ cs) (c ∷ with_write txn w cs)
 
 -- with all the writes prepared
 abbrev pub with_writes : ℕ → List Write → List KeyVersions → List KeyVersions
@@ -84,14 +102,18 @@ IsNotOf txn (Some w) = w.txn ≢ txn
 abbrev pub HasNoneOf : ℕ → List KeyVersions → Type 0
 HasNoneOf txn cs = AllByRecursion (λ c. IsNotOf txn c.prepared) cs
 
--- nothing is prepared at any key of the mutations
-abbrev pub IsFree : List CheckedMutation → List KeyVersions → Type 0
-IsFree ms cs = AllByRecursion (λ c. list_any (is_at c.key) ms ≡ true → c.prepared ≡ None) cs
+-- nothing is prepared at any key that the mutations touch
+abbrev pub IsFree : List Table → List CheckedMutation → List KeyVersions → Type 0
+IsFree tables ms cs = AllByRecursion (λ c. is_touched tables ms c.key ≡ true → c.prepared ≡ None) cs
+
+-- the rows at the touched keys are now those of the database
+abbrev pub IsNow : List Table → List CheckedMutation → List TableRow → List KeyVersions → Type 0
+IsNow tables ms db cs = (k : List ℕ) → is_touched tables ms k ≡ true → row_now cs k ≡ row_coded tables db k
 
 -- the key comes after all in front of the place, and stands there, or does not come after what stands there
-abbrev pub IsPlaceOf : ℤ → List KeyVersions → Result ℕ ℕ → Type 0
-IsPlaceOf key cs (Ok i) = AllByRecursion (λ c. int_cmp key c.key ≡ Greater) (take i cs) × (c : KeyVersions) × (slice_get cs i ≡ Some c) × (int_cmp key c.key ≡ Equal)
-IsPlaceOf key cs (Err i) = AllByRecursion (λ c. int_cmp key c.key ≡ Greater) (take i cs) × (i ≤ length cs) × IfSome (slice_get cs i) (λ c. int_cmp key c.key ≡ Less)
+abbrev pub IsPlaceOf : List ℕ → List KeyVersions → Result ℕ ℕ → Type 0
+IsPlaceOf key cs (Ok i) = AllByRecursion (λ c. byte_order key c.key ≡ Greater) (take i cs) × (c : KeyVersions) × (slice_get cs i ≡ Some c) × (byte_order key c.key ≡ Equal)
+IsPlaceOf key cs (Err i) = AllByRecursion (λ c. byte_order key c.key ≡ Greater) (take i cs) × (i ≤ length cs) × IfSome (slice_get cs i) (λ c. byte_order key c.key ≡ Less)
 
 abbrev pub IsInUse : KeyVersions → Type 0
 IsInUse c = is_used c ≡ true
@@ -104,13 +126,22 @@ applied txn committed cs = filter is_used (map (applied_to_key txn committed) cs
 
 -- ---- what is read
 
+-- a row by its coded key, packed
+pub record KeyRow : Type 0 where
+  pub key : List ℕ
+  pub row : List ℕ
+
 -- the row that is seen of a key at s, if there is one
-abbrev pub seen_at : ℕ → KeyVersions → Option (List Value)
-seen_at s c = option_map (row_of c.key) (row_at c.versions s)
+abbrev pub seen_at : ℕ → KeyVersions → Option KeyRow
+seen_at s c = option_map (λ (row : List ℕ). record { key = c.key; row = row }) (row_at c.versions s)
+
+-- the key is from the first bytes of the range on, and before the first behind it
+abbrev pub is_within : KeyRange → List ℕ → Bool
+is_within range key = not (is_lt (byte_order key range.low)) && is_lt (byte_order key range.high)
 
 -- the rows in the range at s: of every key there the newest version at or below s, without deletions, in order of the keys
-abbrev pub snapshot : KeyRange → ℕ → List KeyVersions → List (List Value)
-snapshot range s cs = filter_map (seen_at s) (filter (λ c. contains range c.key) cs)
+abbrev pub snapshot : KeyRange → ℕ → List KeyVersions → List KeyRow
+snapshot range s cs = filter_map (seen_at s) (filter (λ c. is_within range c.key) cs)
 
 abbrev pub kept_of : KeyVersions → ℕ
 kept_of c = length c.versions + (if is_some c.prepared then 1 else 0)

@@ -1,5 +1,4 @@
 use Rattle.std.specs.Prelude.{ℕ, Bool, true, false, ◌==◌, ◌||◌, not, nat_le, List, [], ◌∷◌, find, is_some, Option, Some, None, option_and_then, if◌then◌else◌}
-use Rattle.span_value.specs.declared.value.Value.{Value}
 use Rattle.span_shard.specs.declared.chain.Version.{Version}
 use Rattle.span_shard.specs.declared.chain.PreparedWrite.{PreparedWrite}
 use Rattle.span_shard.specs.KeyVersions.{KeyVersions}
@@ -11,7 +10,7 @@ abbrev pub newest_at : List Version → ℕ → Option Version
 newest_at versions s = find (λ v. nat_le v.timestamp s) versions
 
 -- the row at s: that of the newest version at or below s, where there is one and it is no deletion
-abbrev pub row_at : List Version → ℕ → Option Value
+abbrev pub row_at : List Version → ℕ → Option (List ℕ)
 row_at versions s = option_and_then (λ v. v.row) (newest_at versions s)
 
 abbrev pub is_empty : List Version → Bool
@@ -26,7 +25,7 @@ abbrev pub with_prepared : PreparedWrite → KeyVersions → KeyVersions
 with_prepared write c = record c { prepared = Some write }
 
 -- with the row as the newest version at the commit timestamp, where there is one
-abbrev pub with_version : Option ℕ → Option Value → List Version → List Version
+abbrev pub with_version : Option ℕ → Option (List ℕ) → List Version → List Version
 with_version None row versions = versions
 with_version (Some ts) row versions = (record { timestamp = ts; row = row }) ∷ versions
 

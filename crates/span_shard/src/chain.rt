@@ -1,11 +1,12 @@
 //! The versions of one key.
 ghost use Rattle.std.specs.Prelude.{◌≡◌, [], Some, IfOk, OnOk, OnErr, is_some, length, reverse};
 ghost use Rattle.std.specs.Option.{option_copied};
-ghost use Rattle.std.specs.Ordering.{int_cmp};
-ghost use Rattle.span_shard.specs.Shard.{kept_of};
+ghost use Rattle.span_keycode.specs.Order.{byte_order};
+ghost use Rattle.span_shard.specs.Shard.{kept_of, is_before};
 ghost use Rattle.span_shard.specs.Versions.{newest_at, row_at, applied_to_key, is_used, with_prepared};
 
-use span_value::value::Value;
+use span_keycode::key::Key;
+use span_value::seq::Seq;
 use std::alloc::{AllocError, Global};
 use std::cmp::Ordering;
 use std::marker::Model;
@@ -15,8 +16,8 @@ use std::marker::Model;
 pub struct Version {
     /// The commit timestamp.
     pub timestamp: u64,
-    /// None is a deletion.
-    pub row: Option<Value>,
+    /// The packed row; None is a deletion.
+    pub row: Option<Seq<u8>>,
 }
 
 /// What a prepared transaction is to leave at a key.
@@ -24,14 +25,14 @@ pub struct Version {
 pub struct PreparedWrite {
     /// The transaction's number.
     pub txn: u64,
-    /// None is a deletion.
-    pub row: Option<Value>,
+    /// The packed row; None is a deletion.
+    pub row: Option<Seq<u8>>,
 }
 
 /// The versions of a key, and the write that is prepared there. Contracts see the versions from the newest to the oldest.
 #[derive(Debug, Drop)]
 pub struct Chain {
-    key: i64,
+    key: Key,
     /// From the oldest to the newest. Where a write is prepared there is room for its version.
     versions: Vec<Version>,
     prepared: Option<PreparedWrite>,
@@ -50,7 +51,7 @@ impl Model for Chain {
 
 impl Chain {
     /// A key with no version, where a write is prepared.
-    pub(crate) fn new(alloc: Global, key: i64, write: PreparedWrite) -> Result<Chain, AllocError>
+    pub(crate) fn new(alloc: Global, key: Key, write: PreparedWrite) -> Result<Chain, AllocError>
         ensures { IfOk result (λ chain. chain ≡ record { key = key; versions = []; prepared = Some write }) }
     {
         let versions = Vec::with_capacity(alloc, 1)?;
@@ -62,17 +63,24 @@ impl Chain {
     }
 
     /// The key.
-    pub(crate) fn key(&self) -> i64
-        ensures { result ≡ self.now.key }
+    pub(crate) fn key(&self) -> &[u8]
+        ensures { result.now ≡ self.now.key }
     {
-        self.key
+        self.key.as_slice()
     }
 
     /// How a key stands to this one.
-    pub(crate) fn order_of(&self, key: i64) -> Ordering
-        ensures { result ≡ int_cmp key self.now.key }
+    pub(crate) fn order_of(&self, key: &[u8]) -> Ordering
+        ensures { result ≡ byte_order key.now self.now.key }
     {
-        key.cmp(&self.key)
+        key.cmp(self.key.as_slice())
+    }
+
+    /// Whether the key comes before these bytes.
+    pub(crate) fn is_before(&self, bytes: &[u8]) -> bool
+        ensures { result ≡ is_before bytes.now self.now }
+    {
+        self.key.as_slice().cmp(bytes).is_lt()
     }
 
     /// How many versions there are.
@@ -97,7 +105,7 @@ impl Chain {
     }
 
     /// The row at s, if there is one.
-    pub(crate) fn row_at(&self, s: u64) -> Option<&Value>
+    pub(crate) fn row_at(&self, s: u64) -> Option<&Seq<u8>>
         ensures { option_copied result ≡ row_at self.now.versions s }
     {
         match self.newest_at(s) {

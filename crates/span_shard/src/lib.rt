@@ -1,12 +1,14 @@
-//! A shard: the versions of the rows in its key range, and the writes that are prepared there.
+//! A shard: the versions of the rows of a part of the keys, and the writes that are prepared there.
+//!
+//! Keys are coded and rows are packed, so a shard is a list of keys in byte order.
 #![tactic(auto)]
 
 mod chain;
-pub mod mutation;
-pub mod range;
-pub mod schema;
+mod change;
+mod place;
+pub mod read;
+mod root;
 pub mod shard;
 #[cfg(test)]
 mod tests;
-pub mod transaction;
 mod write;

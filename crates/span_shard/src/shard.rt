@@ -1,22 +1,31 @@
 //! The versions of every key in a shard's range, and the writes that are prepared there.
-ghost use Rattle.std.specs.Prelude.{◌≡◌, ℤ, [], List, find, filter, map, min, IfOk, IfErr, OnOk, OnErr};
-ghost use Rattle.std.specs.Option.{option_copied};
-ghost use Rattle.span_shard.specs.Database.{row_of};
+ghost use Rattle.std.specs.Prelude.{◌≡◌, [], List, filter, map, min, IfOk, IfErr, OnOk, OnErr};
+ghost use Rattle.span_mutate.specs.Typed.{AreTypedMutations};
 ghost use Rattle.span_shard.specs.Versions.{applied_to_key, is_used};
-ghost use Rattle.span_shard.specs.Shard.{is_key, row_now, with_write, with_writes, applied, snapshot, live, IsFree, HasNoneOf, HasSomeOf, IsPlaceOf};
-ghost use Rattle.span_shard.specs.Writes.{AreWrites, IsFault, IsOut};
+ghost use Rattle.span_shard.specs.Reading.{shown, AreWrites, IsFault};
+ghost use Rattle.std.specs.List.{filter_map};
+ghost use Rattle.span_shard.specs.Shard.{seen_at, with_write, with_writes, applied, snapshot, live, IsFree, IsNow, HasNoneOf, HasSomeOf, AreInOrder};
 ghost use Rattle.span_shard.specs.declared.write.Write.{Write};
 
 use super::chain::{Chain, PreparedWrite};
-use super::mutation::CheckedMutation;
-use super::range::KeyRange;
-use super::write::{Write, has_key_of, write_at};
+use super::change::writes_of;
+use super::place::{place_of, within};
+use super::write::Write;
+use span_keycode::range::KeyRange;
+use span_mutate::mutation::CheckedMutation;
+use span_schema::schema::Schema;
 use span_value::refusal::Refusal;
-use span_value::seq::Seq;
-use span_value::value::{Row, Value};
 use std::alloc::{AllocError, Global};
-use std::cmp::Ordering;
 use std::marker::Model;
+
+/// A row, lent by the shard.
+#[derive(Clone, Copy, Debug)]
+pub struct Entry<'a> {
+    /// The coded key.
+    pub key: &'a [u8],
+    /// The packed cells.
+    pub row: &'a [u8],
+}
 
 /// A shard. Contracts see what it has of each key, in order of the keys.
 #[derive(Debug, Drop)]
@@ -33,9 +42,9 @@ impl Model for Shard {
     ghost view = { λ a. a.chains.items };
 
     ghost use Rattle.std.specs.List.{AllByRecursion};
-    ghost use Rattle.span_shard.specs.Shard.{IsInUse};
+    ghost use Rattle.span_shard.specs.Shard.{IsInUse, AreInOrder};
 
-    ghost invariant = { λ a. AllByRecursion IsInUse a.chains.items };
+    ghost invariant = { λ a. AllByRecursion IsInUse a.chains.items × AreInOrder a.chains.items };
 }
 
 impl Shard {
@@ -48,12 +57,24 @@ impl Shard {
         }
     }
 
-    /// The rows in the range at s, in order of their keys.
-    pub fn snapshot(&self, alloc: Global, range: KeyRange, s: u64) -> Result<Seq<Row>, Refusal>
-        ensures rows { IfOk result (λ rows. rows ≡ snapshot range s self.now) }
+    /// The rows in the range at s, in order of their keys. The refusal is that for want of memory.
+    pub fn snapshot<'a>(
+        &'a self,
+        alloc: Global,
+        range: &KeyRange,
+        s: u64,
+    ) -> Result<Vec<Entry<'a>>, Refusal>
+        ensures rows { IfOk result (λ es. map shown es.items ≡ snapshot range.now s self.now) }
         ensures memory { IfErr result (λ why. why ≡ Refusal.OutOfMemory) }
     {
-        rows_in(alloc, self.chains.as_slice(), range, s)
+        Ok(entries_at(alloc, within(self.chains.as_slice(), range), s)?)
+    }
+
+    /// A law, which takes no time: the keys stand in order, each once.
+    pub fn keys_stand_in_order(&self)
+        ensures { AreInOrder self.now }
+    {
+        let _ = &self.chains;
     }
 
     /// How many versions are kept, prepared ones included; `usize::MAX` where there are more.
@@ -63,22 +84,28 @@ impl Shard {
         kept_in(self.chains.as_slice())
     }
 
-    /// Prepares what the mutations of a transaction write: at each of their keys the row that they leave there, if it is another one
-    /// than the newest, and the room for its version. The refusal is the fault that the mutations meet, or want of memory; it leaves
-    /// all as it was.
+    /// Prepares what the mutations of a transaction write: at each key of their directories whose presence or row they change, the row
+    /// that they leave there or a deletion, and the room for its version. The fault is that of the first mutation that has one, over
+    /// all directories, or want of memory; it leaves all as it was.
+    ///
+    /// The directories are found by binary search, and no others are read. `db` is any database whose rows in those directories are
+    /// the ones that stand here now: it may be the whole one. Bytes that are no key or row of the schema would be refused with
+    /// `BadKey` or `BadRow`; then there is no such database.
     pub fn prepare(
         &mut self,
         alloc: Global,
+        schema: &Schema,
         txn: u64,
         mutations: &[CheckedMutation],
     ) -> Result<(), Refusal>
-        requires free { IsFree mutations.now self.old }
+        requires free { IsFree schema.now mutations.now self.old }
         requires new { HasNoneOf txn self.old }
-        ensures ok { OnOk result ((ws : List Write) × AreWrites (row_now self.old) mutations.now ws × (self.new ≡ with_writes txn ws self.old)) }
-        ensures fault { IfErr result (λ why. (key : ℤ) × IsFault key (row_now self.old key) mutations.now why) }
+        requires typed { AreTypedMutations schema.now mutations.now }
+        ensures ok { OnOk result ((ws : List Write) × (self.new ≡ with_writes txn ws self.old) × AreWrites schema.now mutations.now self.old ws) }
+        ensures fault { IfErr result (IsFault schema.now mutations.now self.old) }
         ensures err { OnErr result (self.new ≡ self.old) }
     {
-        let writes = writes_in(alloc, self.chains.as_slice(), mutations)?;
+        let writes = writes_of(alloc, schema, self.chains.as_slice(), mutations)?;
         match put_all(alloc, &mut self.chains, txn, writes) {
             Ok(()) => Ok(()),
             Err(_) => {
@@ -98,77 +125,15 @@ impl Shard {
     }
 }
 
-fn chain_at(chains: &[Chain], key: i64) -> Option<&Chain>
-    ensures { option_copied result ≡ find (is_key key) chains.now }
-{
-    chains.iter().find(|chain| chain.key() == key)
-}
-
-/// The row at a key by all that was applied.
-fn row_in(chains: &[Chain], key: i64) -> Option<&Value>
-    ensures { option_copied result ≡ row_now chains.now key }
-{
-    match chain_at(chains, key) {
-        Some(chain) => chain.row_at(u64::MAX),
-        None => None,
-    }
-}
-
-/// What the mutations write at the key of one of them.
-fn write_of(
-    alloc: Global,
-    chains: &[Chain],
-    mutations: &[CheckedMutation],
-    mutation: &CheckedMutation,
-) -> Result<Option<Write>, Refusal>
-    ensures { IsOut mutation.now.key (row_now chains.now mutation.now.key) mutations.now result }
-{
-    let before = row_in(chains, mutation.key);
-    write_at(alloc, before, mutations, mutation.key)
-}
-
-/// What the mutations write, each key once.
-fn writes_in(
-    alloc: Global,
-    chains: &[Chain],
-    mutations: &[CheckedMutation],
-) -> Result<Vec<Write>, Refusal>
-    ensures ok { IfOk result (λ ws. AreWrites (row_now chains.now) mutations.now ws.items) }
-    ensures fault { IfErr result (λ why. (key : ℤ) × IsFault key (row_now chains.now key) mutations.now why) }
-{
-    let mut writes = Vec::new(alloc);
-    for (at, mutation) in mutations.iter().enumerate() {
-        if !has_key_of(&mutations[..at], mutation) {
-            if let Some(write) = write_of(alloc, chains, mutations, mutation)? {
-                writes.push(write)?;
-            }
-        }
-    }
-    Ok(writes)
-}
-
-/// Where the key stands, or where it would.
-fn place_of(chains: &[Chain], key: i64) -> Result<usize, usize>
-    ensures { IsPlaceOf key chains.now result }
-{
-    for (at, chain) in chains.iter().enumerate() {
-        match chain.order_of(key) {
-            Ordering::Less => return Err(at),
-            Ordering::Equal => return Ok(at),
-            Ordering::Greater => {}
-        }
-    }
-    Err(chains.len())
-}
-
 /// Prepares a write at its key.
 fn put(alloc: Global, chains: &mut Vec<Chain>, txn: u64, write: Write) -> Result<(), AllocError>
+    requires { AreInOrder chains.old.items }
     ensures ok { OnOk result (chains.new.items ≡ with_write txn write chains.old.items) }
     ensures err { OnErr result (chains.new.items ≡ chains.old.items) }
 {
     let Write { key, row } = write;
     let prepared = PreparedWrite { txn, row };
-    match place_of(chains.as_slice(), key) {
+    match place_of(chains.as_slice(), key.as_slice()) {
         Ok(at) => chains[at].prepare(prepared),
         Err(at) => {
             let chain = Chain::new(alloc, key, prepared)?;
@@ -185,6 +150,7 @@ fn put_all(
     txn: u64,
     writes: Vec<Write>,
 ) -> Result<(), AllocError>
+    requires { AreInOrder chains.old.items }
     ensures ok { OnOk result (chains.new.items ≡ with_writes txn writes.items chains.old.items) }
     ensures err { OnErr result (HasSomeOf txn writes.items chains.old.items chains.new.items) }
 {
@@ -222,27 +188,18 @@ fn kept_in(chains: &[Chain]) -> usize
     kept
 }
 
-fn row(alloc: Global, key: i64, cell: &Value) -> Result<Row, Refusal>
-    ensures rows { IfOk result (λ row. row ≡ row_of key cell.now) }
-    ensures memory { IfErr result (λ why. why ≡ Refusal.OutOfMemory) }
+/// The rows at s of these keys.
+fn entries_at<'a>(alloc: Global, chains: &'a [Chain], s: u64) -> Result<Vec<Entry<'a>>, AllocError>
+    ensures { IfOk result (λ es. map shown es.items ≡ filter_map (seen_at s) chains.now) }
 {
-    let mut row = Vec::with_capacity(alloc, 2)?;
-    row.push(Value::Int(key))?;
-    row.push(cell.copy(alloc)?)?;
-    Ok(Seq::from_vec(row))
-}
-
-fn rows_in(alloc: Global, chains: &[Chain], range: KeyRange, s: u64) -> Result<Seq<Row>, Refusal>
-    ensures rows { IfOk result (λ rows. rows ≡ snapshot range s chains.now) }
-    ensures memory { IfErr result (λ why. why ≡ Refusal.OutOfMemory) }
-{
-    let mut rows = Vec::new(alloc);
+    let mut entries = Vec::new(alloc);
     for chain in chains {
-        if range.contains(chain.key()) {
-            if let Some(cell) = chain.row_at(s) {
-                rows.push(row(alloc, chain.key(), cell)?)?;
-            }
+        if let Some(row) = chain.row_at(s) {
+            entries.push(Entry {
+                key: chain.key(),
+                row: row.as_slice(),
+            })?;
         }
     }
-    Ok(Seq::from_vec(rows))
+    Ok(entries)
 }

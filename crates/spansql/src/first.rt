@@ -1,17 +1,28 @@
 //! One transaction and one query, from the text to the rows.
+ghost use Rattle.std.specs.Prelude.{IfOk, List};
+ghost use Rattle.span_schema.specs.declared.table.Table.{Table};
+ghost use Rattle.span_machine.specs.Run.{AreOfSchema};
+ghost use Rattle.span_mutate.specs.Typed.{AreTypedMutations};
+
 use super::fault::Fault;
 use span_core::run::run as run_steps;
-use span_core::{
-    Bound, Cell, Interval, Mutation, MutationKind, Params, Refusal, Reply, Row, Schema, Seq, Step,
-    Text, Transaction, Value, Verdict,
-};
+use span_core::{Bound, Interval, Params, Refusal, Row, Seq, Text, Value};
+use span_machine::step::{Reply, Step, Verdict};
+use span_mutate::mutation::{Cell, Mutation, MutationKind};
+use span_mutate::transaction::Transaction;
+use span_schema::schema::Schema;
+use span_schema::table::{Column, KeyColumn, Table};
 use span_value::cell::cell_text;
+use span_value::value::ColumnType;
 use std::alloc::Global;
 
 /// Commits the rows (2, b) and (1, a) in one transaction, asks the text at its commit timestamp, and writes what was answered.
 pub(super) fn run(rt: &(impl AllocGlobal + Print), text: &str) -> Result<(), Fault> {
     let alloc = rt.alloc();
-    let replies = run_steps(alloc, Schema::ONE_TABLE, steps(alloc, text)?)?;
+    let schema = one_table(alloc)?;
+    let transaction = transaction(alloc, &schema)?;
+    let steps = steps(alloc, transaction, text)?;
+    let replies = run_steps(alloc, schema, steps)?;
     for reply in &replies {
         match reply {
             Reply::Decided(timestamp) => println!(rt; "committed {timestamp}")?,
@@ -27,17 +38,54 @@ pub(super) fn run(rt: &(impl AllocGlobal + Print), text: &str) -> Result<(), Fau
     Ok(())
 }
 
-/// The steps, in order. The first transaction and the first query have the number 1.
-fn steps(alloc: Global, text: &str) -> Result<Vec<Step>, Fault> {
-    let decided = Interval::new(100, 110)?;
-    let applied = Interval::new(200, 210)?;
+/// The schema of one table, `T (k INT64 NOT NULL, v STRING(MAX)) PRIMARY KEY (k)`.
+fn one_table(alloc: Global) -> Result<Schema, Fault> {
+    let mut columns = Seq::new(alloc);
+    columns.push(Column {
+        name: Text::from_str(alloc, "k")?,
+        kind: ColumnType::Int,
+        not_null: true,
+    })?;
+    columns.push(Column {
+        name: Text::from_str(alloc, "v")?,
+        kind: ColumnType::Str(None),
+        not_null: false,
+    })?;
+    let mut key = Seq::new(alloc);
+    key.push(KeyColumn {
+        name: Text::from_str(alloc, "k")?,
+        desc: false,
+    })?;
+    let mut tables = Vec::new(alloc);
+    tables.push(Table {
+        name: Text::from_str(alloc, "T")?,
+        columns,
+        key,
+        parent: None,
+    })?;
+    Ok(Schema::new(alloc, tables)?)
+}
+
+/// The two rows, as one transaction.
+fn transaction(alloc: Global, schema: &Schema) -> Result<Transaction, Fault>
+    ensures { IfOk result (λ t. AreTypedMutations schema.now t) }
+{
     let mut mutations = Vec::new(alloc);
     mutations.push(insert(alloc, 2, "b")?)?;
     mutations.push(insert(alloc, 1, "a")?)?;
+    Ok(Transaction::new(alloc, schema, mutations)?)
+}
+
+/// The steps, in order. The first transaction and the first query have the number 1.
+fn steps(alloc: Global, transaction: Transaction, text: &str) -> Result<Vec<Step>, Fault>
+    ensures { IfOk result (λ steps. (schema : List Table) → AreTypedMutations schema transaction → AreOfSchema schema steps.items) }
+{
+    let decided = Interval::new(100, 110)?;
+    let applied = Interval::new(200, 210)?;
     let mut steps = Vec::new(alloc);
     steps.push(Step::Begin {
         owner: 0,
-        transaction: Transaction::new(alloc, &Schema::ONE_TABLE, mutations)?,
+        transaction,
     })?;
     steps.push(Step::Prepare {
         owner: 0,

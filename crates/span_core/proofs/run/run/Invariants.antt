@@ -2,13 +2,15 @@ use Rattle.std.proofs.Common.{◌≡◌, ◌++◌, ◌+◌, ◌≤◌, length, v
 use Rattle.std.specs.Prelude.{vec_capacity}
 use Rattle.std.specs.Vec.Iter.{into_iter_items, into_iter_len}
 use Rattle.span_machine.specs.Machine.{start}
-use Rattle.span_machine.specs.Run.{Run}
+use Rattle.span_machine.specs.Run.{AreOfSchema, Run}
 use Rattle.span_core.proofs.run.run.Given as goal
 
 -- the replies so far are the machine's, and there is room for one to each step that is left
 abbrev pub invariant-loop-step : goal.invariant-loop-step
 invariant-loop-step l = record {
-  ran : Run start l.yielded l.replies.items l.core;
+  schema : l.core.schema ≡ l.fn.schema;
+  ran : Run l.fn.schema start l.yielded l.replies.items l.core.machine;
+  checked : AreOfSchema l.fn.schema (into_iter_items l.step-iterator);
   rest : l.yielded ++ into_iter_items l.step-iterator ≡ l.fn.steps.items;
   count : into_iter_len l.step-iterator ≡ length (into_iter_items l.step-iterator);
   room : vec_len l.replies + into_iter_len l.step-iterator ≤ vec_capacity l.replies;

@@ -7,6 +7,8 @@ use Rattle.std.proofs.lemmas.List.{append-nil, nil_from_length}
 use Rattle.std.proofs.lemmas.Result.{err_from_is_err_and}
 use Rattle.span_mutate.specs.declared.mutation.Mutation.{Mutation}
 use Rattle.span_mutate.specs.declared.mutation.CheckedMutation.{CheckedMutation}
+use Rattle.span_mutate.specs.Typed.{IsTypedMutation, AreTypedMutations}
+use Rattle.span_mutate.proofs.NamedKinds.{all_push}
 use Rattle.span_mutate.specs.Checking.{checked_all, with_front}
 use Rattle.span_mutate.proofs.Keyed.{keyed_all}
 use Rattle.span_mutate.proofs.Fronts.{front_more, front_refused}
@@ -35,6 +37,7 @@ loop-mutation-preserved c =
       tables = let P : CheckedMutation → Type 0 = λ m. IsTable c.args.schema.now m.table in
           let Q : List CheckedMutation → Type 0 = All P in
           subst Q (sym c.in_ok-push.ensures.items) (All-push P front c.in_ok-check.field-0 c.loop-mutation.invariant.tables c.in_ok-check.ensures.table);
+      typed = subst (AreTypedMutations c.args.schema.now) (sym c.in_ok-push.ensures.items) (all_push (IsTypedMutation c.args.schema.now) front c.in_ok-check.field-0 c.loop-mutation.invariant.typed c.in_ok-check.ensures.typed);
       count = omega (arith, ap length next.0, next.1, c.loop-mutation.invariant.count);
     }
 

@@ -1,5 +1,5 @@
 use Rattle.std.proofs.Common.{◌≡◌, vec_len}
-use Rattle.span_shard.specs.Shard.{HasSomeOf}
+use Rattle.span_shard.specs.Shard.{HasSomeOf, AreInOrder}
 use Rattle.span_shard.proofs.shard.put_all.Given as goal
 
 -- those behind what is left are prepared
@@ -7,6 +7,7 @@ abbrev pub invariant-loop-write : goal.invariant-loop-write
 invariant-loop-write l = record {
   some : HasSomeOf l.txn l.fn.writes.items l.fn.chains.items l.chains.items;
   front : some.front ≡ l.left.items;
+  order : AreInOrder l.chains.items;
 }
 
 abbrev pub decreases-loop-write : goal.decreases-loop-write

@@ -12,4 +12,4 @@ invariant_of-self c =
     let j = c.self.inside.journal in
     let m = machine_of j in
     let cs = c.self.inside.shard in
-    whole_step j c.decide.new.self cs (step.Decide c.args.owner c.args.txn c.args.verdict c.args.interval) _ w c.decide.ensures.step (kept_decide m w.reached cs w.kept c.args.owner c.args.txn c.args.verdict c.args.interval) (λ n all. subst (ArePieced n) (sym c.decide.ensures.pieces) all)
+    whole_step c.self.inside.schema j c.decide.new.self cs (step.Decide c.args.owner c.args.txn c.args.verdict c.args.interval) _ w c.decide.ensures.step tt (kept_decide c.self.inside.schema m w.reached cs w.kept c.args.owner c.args.txn c.args.verdict c.args.interval) (λ n all. subst (ArePieced c.self.inside.schema n) (sym c.decide.ensures.pieces) all)

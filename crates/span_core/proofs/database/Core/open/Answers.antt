@@ -10,4 +10,4 @@ invariant_of-self c =
     let j = c.self.inside.journal in
     let m = machine_of j in
     let cs = c.self.inside.shard in
-    whole_step j c.open.new.self cs (step.Open c.args.text c.args.params c.args.bound c.args.interval) _ w c.open.ensures.step (kept_open m w.reached cs w.kept c.args.text c.args.params c.args.bound c.args.interval) (pieces_opened c.open.result j.queries c.open.new.self.queries c.open.ensures.pieces c.open.ensures.err)
+    whole_step c.self.inside.schema j c.open.new.self cs (step.Open c.args.text c.args.params c.args.bound c.args.interval) _ w c.open.ensures.step tt (kept_open c.self.inside.schema m w.reached cs w.kept c.args.text c.args.params c.args.bound c.args.interval) (pieces_opened c.self.inside.schema c.open.result j.queries c.open.new.self.queries c.open.ensures.pieces c.open.ensures.err)

@@ -12,7 +12,7 @@ pub returns-in_default-clause-refused : goal.returns-in_default-clause-refused
 returns-in_default-clause-refused c =
     let none : find (λ (p : Pieced). is_query c.args.query p.query) c.args.self.now.queries ≡ None =
     subst (λ (l : List Pieced). find (λ (p : Pieced). is_query c.args.query p.query) l ≡ None) (c.as_slice.ensures.value ∙ ap (λ (j : Journaled). j.queries) c.self.view_is) c.in_default.ensures.none in
-    finish_none c.args.self.now c.args.query none
+    λ schema. finish_none schema c.args.self.now c.args.query none
 
 pub returns-then-not-is_covered-clause-refused : goal.returns-then-not-is_covered-clause-refused
 returns-then-not-is_covered-clause-refused c =
@@ -21,5 +21,5 @@ returns-then-not-is_covered-clause-refused c =
     let place : IsPlace (λ (p : Pieced). is_query c.args.query p.query) j.queries c.in-Some.field-0-0 p =
     subst (λ (l : List Pieced). IsPlace (λ (p : Pieced). is_query c.args.query p.query) l c.in-Some.field-0-0 p) c.as_slice.ensures.value c.in-Some.ensures.some in
     let covered : p.query.covered ≡ false = sym c.is_covered.ensures ∙ c.if-not-is_covered.true in
-    subst (λ (k : Journaled). finish (machine_of k) c.args.query ≡ refused (machine_of k) refusal.Incomplete) c.self.view_is
-    (finish_some j c.args.query p place.found ∙ ap (λ b. cond b (answer_on p.query.s (meaning (machine_of j) p.query), machine_of j) (refused (machine_of j) refusal.Incomplete)) covered)
+    λ schema. subst (λ (k : Journaled). finish schema (machine_of k) c.args.query ≡ refused (machine_of k) refusal.Incomplete) c.self.view_is
+    (finish_some schema j c.args.query p place.found ∙ ap (λ b. cond b (answer_on p.query.s (meaning schema (machine_of j) p.query), machine_of j) (refused (machine_of j) refusal.Incomplete)) covered)

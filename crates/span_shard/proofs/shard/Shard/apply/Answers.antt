@@ -1,8 +1,14 @@
-use Rattle.std.proofs.Common.{sym, subst}
+use Rattle.std.proofs.Common.{sym, ap, subst, ◌∙◌}
+use Rattle.std.specs.Prelude.{filter}
 use Rattle.std.specs.List.{AllByRecursion}
-use Rattle.span_shard.specs.Shard.{IsInUse}
+use Rattle.span_shard.specs.Versions.{is_used}
+use Rattle.span_shard.specs.Shard.{IsInUse, AreInOrder}
 use Rattle.span_shard.proofs.Undo.{used_filtered}
+use Rattle.span_shard.proofs.InOrder.{in_order_applied}
 use Rattle.span_shard.proofs.shard.Shard.apply.Goals as goal
 
 pub invariant_of-self : goal.invariant_of-self
-invariant_of-self c = subst (AllByRecursion IsInUse) (sym c.keep_used.ensures) (used_filtered c.apply_all.new.chains.items)
+invariant_of-self c = (
+  subst (AllByRecursion IsInUse) (sym c.keep_used.ensures) (used_filtered c.apply_all.new.chains.items),
+  subst AreInOrder (sym (c.keep_used.ensures ∙ ap (filter is_used) c.apply_all.ensures)) (in_order_applied c.args.txn c.args.committed c.self.inside.chains.items c.self.invariant.1),
+)

@@ -1,0 +1,121 @@
+//! Reading the rows of a table from what a shard lends.
+ghost use Rattle.std.specs.Prelude.{◌≡◌, ℕ, List, map, IfOk, IfErr, MatchResult, Some, None, ◌==◌, ◌⊎◌, ◌<◌, if◌then◌else◌};
+ghost use Rattle.std.specs.Option.{option_copied};
+ghost use Rattle.span_schema.specs.Numbers.{IsTable, root_of};
+ghost use Rattle.span_machine.specs.Meaning.{value_for, value_at, declared_row};
+ghost use Rattle.span_shard.specs.Reading.{shown};
+ghost use Rattle.span_kept.specs.Kept.{IsReading, family};
+ghost use Rattle.span_core.specs.Whole.{AreNoRows, IsRead, IsUnread};
+ghost use Rattle.span_machine.specs.Pieces.{machine_of};
+
+use span_journal::journal::Journal;
+use span_keycode::key::Key;
+use span_keycode::range::KeyRange;
+use span_mutate::row::TableRow;
+use span_schema::schema::Schema;
+use span_shard::read::table_row;
+use span_shard::shard::{Entry, Shard};
+use span_value::refusal::Refusal;
+use span_value::seq::Seq;
+use span_value::value::{Row, Value};
+use std::alloc::{AllocError, Global};
+
+/// The rows at s of the table that an open query asks for. `OutOfMemory`, where the shard has the rows of the schema's tables and the
+/// query was opened with the schema.
+pub(crate) fn read(
+    alloc: Global,
+    schema: &Schema,
+    journal: &Journal,
+    shard: &Shard,
+    query: u64,
+    s: u64,
+) -> Result<Seq<Row>, Refusal>
+    ensures { MatchResult result (IsRead schema.now (machine_of journal.now) shard.now query s) (IsUnread schema.now (machine_of journal.now) shard.now query s) }
+{
+    let table = journal.table_of(schema, query)?;
+    let range = family_of(alloc, schema, table)?;
+    let entries = shard.snapshot(alloc, &range, s)?;
+    rows_of(alloc, schema, table, entries.as_slice())
+}
+
+/// The keys of the family of a table: all that begin with the number of its root table.
+fn family_of(alloc: Global, schema: &Schema, table: usize) -> Result<KeyRange, AllocError>
+    requires { IsTable schema.now table }
+    ensures { IfOk result (λ range. range ≡ family (root_of schema.now table)) }
+{
+    let _tables = schema.tables();
+    let root = number(schema, schema.root_of(table));
+    Ok(KeyRange {
+        low: Key::from_slice(alloc, &[root])?,
+        high: Key::from_slice(alloc, &[root + 1])?,
+    })
+}
+
+// The number of a table as the byte that begins the keys of its family.
+fn number(schema: &Schema, table: usize) -> u8
+    requires { IsTable schema.now table }
+    ensures number { result ≡ table }
+    ensures few { result < 255 }
+{
+    let _tables = schema.tables();
+    table as u8
+}
+
+/// The rows of a table among the entries, each with its values in the order in which the columns are declared.
+fn rows_of(
+    alloc: Global,
+    schema: &Schema,
+    table: usize,
+    entries: &[Entry],
+) -> Result<Seq<Row>, Refusal>
+    ensures ok { IfOk result (λ rows. IsReading schema.now table (map shown entries.now) rows) }
+    ensures refused { IfErr result (λ why. (why ≡ Refusal.OutOfMemory) ⊎ AreNoRows schema.now (map shown entries.now)) }
+{
+    let _tables = schema.tables();
+    let mut rows = Vec::new(alloc);
+    for entry in entries {
+        let row = table_row(alloc, schema, entry.key, entry.row)?;
+        if row.table == table {
+            rows.push(declared(alloc, schema, &row)?)?;
+        }
+    }
+    Ok(Seq::from_vec(rows))
+}
+
+/// The values of a row in the order in which its table declares the columns.
+fn declared(alloc: Global, schema: &Schema, row: &TableRow) -> Result<Row, Refusal>
+    requires { IsTable schema.now row.now.table }
+    ensures { MatchResult result (λ values. values ≡ declared_row schema.now row.now) (λ why. why ≡ Refusal.OutOfMemory) }
+{
+    let len = schema.table(row.table).columns.len();
+    let mut values = Vec::with_capacity(alloc, len)?;
+    for place in 0..len {
+        values.push(value_at(alloc, schema, row, place)?)?;
+    }
+    Ok(Seq::from_vec(values))
+}
+
+fn value_at(alloc: Global, schema: &Schema, row: &TableRow, place: usize) -> Result<Value, Refusal>
+    requires { IsTable schema.now row.now.table }
+    ensures { MatchResult result (λ value. value ≡ value_at schema.now row.now place) (λ why. why ≡ Refusal.OutOfMemory) }
+{
+    if let Some(value) = value_for(schema.key_places(row.table), row.key.as_slice(), place) {
+        return value.copy(alloc);
+    }
+    match value_for(schema.other_places(row.table), row.cells.as_slice(), place) {
+        Some(value) => value.copy(alloc),
+        None => Ok(Value::Null),
+    }
+}
+
+/// The value that stands for a place.
+fn value_for<'a>(places: &[usize], values: &'a [Value], place: usize) -> Option<&'a Value>
+    ensures { option_copied result ≡ value_for places.now values.now place }
+{
+    for i in 0..places.len().min(values.len()) {
+        if places[i] == place {
+            return Some(&values[i]);
+        }
+    }
+    None
+}

@@ -1,0 +1,53 @@
+//! Which mutations are of one directory.
+ghost use Rattle.std.specs.Prelude.{◌≡◌, take};
+ghost use Rattle.span_schema.specs.Numbers.{root_of};
+ghost use Rattle.span_mutate.specs.Directories.{is_of, key_len, root_row};
+
+use super::mutation::CheckedMutation;
+use super::row::begins;
+use span_schema::schema::Schema;
+use span_value::value::Value;
+
+/// Whether a mutation is in the directory of another one's root row: their tables have one root table, and their keys begin with the
+/// same key of it.
+pub fn is_in_directory_of(
+    schema: &Schema,
+    other: &CheckedMutation,
+    mutation: &CheckedMutation,
+) -> bool
+    ensures { result ≡ is_of schema.now (root_row schema.now other.now.table other.now.key) mutation.now.table mutation.now.key }
+{
+    let root = root_table(schema, other.table);
+    let len = key_length(schema, root);
+    root_table(schema, mutation.table) == root
+        && begins(front(other.key.as_slice(), len), mutation.key.as_slice())
+}
+
+// The root table of a table; a number that is no table's stands for itself, and 0 for the first table.
+fn root_table(schema: &Schema, table: usize) -> usize
+    ensures { result ≡ root_of schema.now table }
+{
+    let place = table.saturating_sub(1);
+    if place < schema.len() {
+        return schema.root_of(place + 1);
+    }
+    place + 1
+}
+
+// How many columns the key of a table has; none where there is no such table.
+fn key_length(schema: &Schema, table: usize) -> usize
+    ensures { result ≡ key_len schema.now table }
+{
+    let place = table.saturating_sub(1);
+    if place < schema.len() {
+        return schema.key_columns(place + 1).len();
+    }
+    0
+}
+
+// The first values, as many as there are of so many.
+fn front(values: &[Value], len: usize) -> &[Value]
+    ensures { result.now ≡ take len values.now }
+{
+    &values[..len.min(values.len())]
+}

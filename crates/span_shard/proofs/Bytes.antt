@@ -1,0 +1,75 @@
+-- Bytes that begin with others, in byte order.
+use Rattle.std.proofs.Common.{◌≡◌, ◌≢◌, ℕ, Bool, true, false, ◌&&◌, List, [], ◌∷◌, ◌++◌, length, take, drop, refl, sym, ap, ◌∙◌, arith}
+use Rattle.std.specs.Prelude.{nat_eq}
+use Rattle.std.specs.declared.cmp.Ordering.{Ordering}
+use Rattle.std.specs.declared.cmp.Ordering.TheVariants.{Less, Equal, Greater}
+use Rattle.std.specs.Ordering.{nat_cmp, ordering_then, is_lt, is_eq, eq_by_cmp}
+use Rattle.std.specs.Cmp.{IsTotalOrder, tied_itself}
+use Rattle.std.specs.Cmp.Lexicographic.{pointwise}
+use Rattle.std.proofs.lemmas.Bool.Decides.{nat_tests}
+use Rattle.std.proofs.lemmas.Cmp.{nat_list_cmp_total}
+use Rattle.std.proofs.lemmas.List.{take-append-drop}
+use Rattle.std.proofs.lemmas.Map.Lookups.{exact_bytes}
+use Rattle.std.proofs.lemmas.Slice.Eq.{bytes_eq-Decides}
+use Rattle.std.proofs.Math.Seq.{take-append_seam}
+use Rattle.span_keycode.specs.Order.{byte_order}
+use Rattle.span_shard.specs.Rows.{begins_with}
+
+pub bytes_total : IsTotalOrder byte_order
+bytes_total = nat_list_cmp_total
+
+pub equal_is : (o : Ordering) → is_eq o ≡ true → o ≡ Equal
+equal_is Less e = absurd cc
+equal_is Equal e = refl
+equal_is Greater e = absurd cc
+
+-- keys that are alike are the same
+pub same_bytes : (a b : List ℕ) → eq_by_cmp byte_order a b ≡ true → a ≡ b
+same_bytes a b e = exact_bytes a b (equal_is (byte_order a b) e)
+
+pub bytes_same : (a b : List ℕ) → a ≡ b → eq_by_cmp byte_order a b ≡ true
+bytes_same a b e = ap (λ (c : List ℕ). eq_by_cmp byte_order a c) (sym e) ∙ ap is_eq (tied_itself bytes_total a)
+
+-- what begins with these bytes
+pub begins_front : (b p : List ℕ) → begins_with b p ≡ true → p ++ drop (length p) b ≡ b
+begins_front b p e =
+    let same : p ≡ take (length p) b = (bytes_eq-Decides p (take (length p) b)).0 e in
+    ap (λ (l : List ℕ). l ++ drop (length p) b) same ∙ take-append-drop (length p) b
+
+pub front_begins : (p rest : List ℕ) → begins_with (p ++ rest) p ≡ true
+front_begins p rest = (bytes_eq-Decides p (take (length p) (p ++ rest))).1 (sym (take-append_seam p rest))
+
+-- bytes are not before their front
+front_not_after : (p rest : List ℕ) → is_lt (byte_order (p ++ rest) p) ≡ false
+front_not_after [] [] = refl
+front_not_after [] (b ∷ rest) = refl
+front_not_after (a ∷ p) rest = ap (λ (o : Ordering). is_lt (ordering_then o (byte_order (p ++ rest) p))) (same a) ∙ front_not_after p rest
+  where
+    same : (n : ℕ) → nat_cmp n n ≡ Equal
+    same n = grind (arith, nat_tests)
+
+pub before_begins_not : (b p : List ℕ) → is_lt (byte_order b p) ≡ true → begins_with b p ≡ false
+before_begins_not b p less = cases (begins_with b p) refl
+  where
+    cases : (c : Bool) → begins_with b p ≡ c → c ≡ false
+    cases false e = refl
+    cases true e = absurd (let f : true ≡ false = sym less ∙ ap (λ (l : List ℕ). is_lt (byte_order l p)) (sym (begins_front b p e)) ∙ front_not_after p (drop (length p) b) in cc)
+
+number_same : (m n : ℕ) → nat_cmp m n ≡ Equal → m ≡ n
+number_same m n e = grind (arith, nat_tests)
+
+nat_eq_same : (n : ℕ) → nat_eq n n ≡ true
+nat_eq_same n = grind (arith, nat_tests)
+
+-- what stands between bytes and others that begin with them begins with them too
+pub between : (p a rest : List ℕ) → is_lt (byte_order a p) ≡ false → byte_order a (p ++ rest) ≢ Greater → begins_with a p ≡ true
+between [] a rest h g = refl
+between (x ∷ p) [] rest h g = absurd (let f : true ≡ false = h in cc)
+between (x ∷ p) (y ∷ a) rest h g = cases (nat_cmp y x) refl h g (between p a rest)
+  where
+    cases : (o : Ordering) → nat_cmp y x ≡ o → is_lt (ordering_then o (byte_order a p)) ≡ false → ordering_then o (byte_order a (p ++ rest)) ≢ Greater
+        → (is_lt (byte_order a p) ≡ false → byte_order a (p ++ rest) ≢ Greater → begins_with a p ≡ true) → begins_with (y ∷ a) (x ∷ p) ≡ true
+    cases Less e f k again = absurd (let i : true ≡ false = f in cc)
+    cases Equal e f k again =
+        ap (λ (n : ℕ). nat_eq x n && pointwise nat_eq p (take (length p) a)) (number_same y x e) ∙ ap (λ (c : Bool). c && pointwise nat_eq p (take (length p) a)) (nat_eq_same x) ∙ again f k
+    cases Greater e f k again = absurd (k refl)

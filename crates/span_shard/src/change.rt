@@ -1,0 +1,172 @@
+//! What mutations change of the rows that stand in a shard now.
+ghost use Rattle.std.specs.Prelude.{◌≡◌, ◌&&◌, ◌++◌, None, filter, map, not, is_some, IfOk, IfErr, OnOk, MatchResult};
+ghost use Rattle.std.specs.List.{list_any};
+ghost use Rattle.std.specs.List.Sorted.{IsPermutation, IsSortedBy};
+ghost use Rattle.std.specs.Ordering.{is_lt};
+ghost use Rattle.std.specs.Option.{option_copied};
+ghost use Rattle.span_keycode.specs.Order.{byte_order};
+ghost use Rattle.span_mutate.specs.Typed.{IsTyped, AreTyped, AreTypedMutations};
+ghost use Rattle.span_shard.specs.Writes.{is_of};
+ghost use Rattle.span_shard.specs.Shard.{AreInOrder, row_now};
+ghost use Rattle.span_shard.specs.Reading.{pointed, coded, is_same_row, row_of, AreDeletions, AreDiffs, AreWrites, IsFault};
+
+use super::chain::Chain;
+use super::place::row_now;
+use super::read::{in_order, read_rows};
+use super::root::{keys_under, roots_of};
+use super::write::Write;
+use span_keycode::encode::encode_key;
+use span_keycode::key::Key;
+use span_mutate::mutation::CheckedMutation;
+use span_mutate::root::check_root;
+use span_mutate::row::TableRow;
+use span_rowcode::pack::pack;
+use span_schema::schema::Schema;
+use span_value::refusal::Refusal;
+use span_value::seq::Seq;
+use std::alloc::{AllocError, Global};
+
+/// A row, its key coded and its cells packed.
+fn coded(alloc: Global, schema: &Schema, row: &TableRow) -> Result<Write, Refusal>
+    requires { IsTyped schema.now row.now }
+    ensures { MatchResult result (λ w. w ≡ coded schema.now row.now) (λ why. why ≡ Refusal.OutOfMemory) }
+{
+    let key = encode_key(alloc, schema, row.table, row.key.as_slice())?;
+    let bytes = pack(alloc, row.cells.as_slice())?;
+    Ok(Write {
+        key,
+        row: Some(Seq::from_vec(bytes)),
+    })
+}
+
+fn all_coded(alloc: Global, schema: &Schema, rows: &[TableRow]) -> Result<Vec<Write>, Refusal>
+    requires { AreTyped schema.now rows.now }
+    ensures { MatchResult result (λ ws. ws.items ≡ map (coded schema.now) rows.now) (λ why. why ≡ Refusal.OutOfMemory) }
+{
+    let mut writes = Vec::with_capacity(alloc, rows.len())?;
+    for row in rows {
+        writes.push(coded(alloc, schema, row)?)?;
+    }
+    Ok(writes)
+}
+
+/// By their keys.
+fn sorted(writes: Vec<Write>) -> Result<Vec<Write>, AllocError>
+    ensures { IfOk result (λ all. IsPermutation writes.items all.items × IsSortedBy (λ v w. is_lt (byte_order v.key w.key)) all.items) }
+{
+    let mut writes = writes;
+    writes.sort_by(|v, w| v.key.as_slice().cmp(w.key.as_slice()))?;
+    Ok(writes)
+}
+
+/// Whether one of the writes, which stand by their keys, is of this key.
+fn has_key(writes: &[Write], key: &[u8]) -> bool
+    requires { IsSortedBy (λ v w. is_lt (byte_order v.key w.key)) writes.now }
+    ensures { result ≡ list_any (is_of key.now) writes.now }
+{
+    writes
+        .binary_search_by(|w| w.key.as_slice().cmp(key))
+        .is_ok()
+}
+
+/// Whether the key has a row now and none is left.
+fn is_gone(chain: &Chain, left: &[Write]) -> bool
+    requires { IsSortedBy (λ v w. is_lt (byte_order v.key w.key)) left.now }
+    ensures { result ≡ (is_some (row_of chain.now) && not (list_any (is_of chain.now.key) left.now)) }
+{
+    chain.row_at(u64::MAX).is_some() && !has_key(left, chain.key())
+}
+
+fn deletion(alloc: Global, chain: &Chain) -> Result<Write, AllocError>
+    ensures { IfOk result (λ w. w ≡ record { key = chain.now.key; row = None }) }
+{
+    Ok(Write {
+        key: Key::from_slice(alloc, chain.key())?,
+        row: None,
+    })
+}
+
+/// Deletions of the keys that have a row now and of which none is left.
+fn deletions(alloc: Global, found: &[&Chain], left: &[Write]) -> Result<Vec<Write>, AllocError>
+    requires { IsSortedBy (λ v w. is_lt (byte_order v.key w.key)) left.now }
+    ensures { IfOk result (λ ws. AreDeletions (pointed found.now) left.now ws.items) }
+{
+    let mut writes = Vec::new(alloc);
+    for chain in found {
+        if is_gone(chain, left) {
+            writes.push(deletion(alloc, chain)?)?;
+        }
+    }
+    Ok(writes)
+}
+
+/// Whether both are no row, or equal rows.
+fn is_same_row(left: Option<&Seq<u8>>, right: Option<&Seq<u8>>) -> bool
+    ensures { result ≡ is_same_row (option_copied left.entry) (option_copied right.entry) }
+{
+    match (left, right) {
+        (None, None) => true,
+        (Some(a), Some(b)) => a.as_slice() == b.as_slice(),
+        _ => false,
+    }
+}
+
+/// Whether what is to be written is another row than the one that stands there now.
+fn is_change(chains: &[Chain], write: &Write) -> bool
+    requires { AreInOrder chains.now }
+    ensures { result ≡ not (is_same_row (row_now chains.now write.now.key) write.now.row) }
+{
+    !is_same_row(row_now(chains, write.key.as_slice()), write.row.as_ref())
+}
+
+/// The writes that change the row of their key.
+fn changing(chains: &[Chain], writes: Vec<Write>) -> Vec<Write>
+    requires { AreInOrder chains.now }
+    ensures { result.items ≡ filter (λ w. not (is_same_row (row_now chains.now w.key) w.row)) writes.items }
+{
+    let mut writes = writes;
+    writes.retain(|write| is_change(chains, write));
+    writes
+}
+
+/// What differs of the rows after from those that stand under the keys now.
+fn changes(
+    alloc: Global,
+    schema: &Schema,
+    chains: &[Chain],
+    found: &[&Chain],
+    after: &[TableRow],
+) -> Result<Vec<Write>, Refusal>
+    requires order { AreInOrder chains.now }
+    requires typed { AreTyped schema.now after.now }
+    ensures { MatchResult result (λ ws. AreDiffs schema.now chains.now (pointed found.now) after.now ws.items) (λ why. why ≡ Refusal.OutOfMemory) }
+{
+    let all = all_coded(alloc, schema, after)?;
+    let left = sorted(all)?;
+    let mut gone = deletions(alloc, found, left.as_slice())?;
+    let mut writes = changing(chains, left);
+    writes.append(&mut gone)?;
+    Ok(writes)
+}
+
+/// What the mutations write: of the rows in their directories those that change.
+pub(crate) fn writes_of(
+    alloc: Global,
+    schema: &Schema,
+    chains: &[Chain],
+    mutations: &[CheckedMutation],
+) -> Result<Vec<Write>, Refusal>
+    requires order { AreInOrder chains.now }
+    requires typed { AreTypedMutations schema.now mutations.now }
+    ensures ok { IfOk result (λ ws. AreWrites schema.now mutations.now chains.now ws.items) }
+    ensures fault { IfErr result (λ why. IsFault schema.now mutations.now chains.now why) }
+{
+    let _tables = schema.tables();
+    let roots = roots_of(alloc, schema, mutations)?;
+    let found = keys_under(alloc, chains, roots.as_slice())?;
+    let rows = read_rows(alloc, schema, found.as_slice())?;
+    let before = in_order(alloc, schema, rows)?;
+    let after = check_root(alloc, schema, before, mutations)?;
+    let writes = changes(alloc, schema, chains, found.as_slice(), after.as_slice())?;
+    Ok(writes)
+}

@@ -1,0 +1,119 @@
+//! The rows that stand under keys now.
+ghost use Rattle.std.specs.Prelude.{◌≡◌, ◌⊎◌, None, Some, IfOk, MatchOption, MatchResult};
+ghost use Rattle.std.specs.List.Sorted.{IsPermutation, IsSortedBy};
+ghost use Rattle.std.specs.Ordering.{is_lt};
+ghost use Rattle.std.specs.Option.{option_copied};
+ghost use Rattle.span_rowcode.specs.Rows.{row_code};
+ghost use Rattle.span_mutate.specs.Directories.{rows_cmp};
+ghost use Rattle.span_mutate.specs.Typed.{IsTyped};
+ghost use Rattle.span_shard.specs.Rows.{code_of};
+ghost use Rattle.span_shard.specs.Reading.{pointed, row_of, AreRead, IsNoTableRow, IsUnread, HasUnread, is_behind, each_once, AreInOrderOnce};
+
+use super::chain::Chain;
+use span_keycode::decode::decode_key;
+use span_mutate::order::order_of_rows;
+use span_mutate::row::TableRow;
+use span_rowcode::unpack::unpack;
+use span_schema::schema::Schema;
+use span_value::refusal::Refusal;
+use span_value::seq::Seq;
+use std::alloc::{AllocError, Global};
+use std::cmp::Ordering;
+
+/// The row of a table by its coded key and its packed cells.
+///
+/// `BadKey`, `BadRow`: the bytes are no coded key with a packed row of its table. `OutOfMemory` is the refusal for want of memory.
+pub fn table_row(
+    alloc: Global,
+    schema: &Schema,
+    key: &[u8],
+    row: &[u8],
+) -> Result<TableRow, Refusal>
+    ensures { MatchResult result (λ r. IsTyped schema.now r × (key.now ≡ code_of schema.now r) × (row.now ≡ row_code r.cells)) (λ why. (why ≡ Refusal.OutOfMemory) ⊎ IsNoTableRow schema.now key.now row.now) }
+{
+    let _tables = schema.tables();
+    let key = decode_key(alloc, schema, key)?;
+    let cells = unpack(alloc, schema, key.table, row)?;
+    Ok(TableRow {
+        table: key.table,
+        key: key.values,
+        cells: Seq::from_vec(cells),
+    })
+}
+
+/// The row that stands under a key now, if there is one.
+fn read_row(alloc: Global, schema: &Schema, chain: &Chain) -> Result<Option<TableRow>, Refusal>
+    ensures { MatchResult result
+        (λ found. MatchOption found (row_of chain.now ≡ None) (λ r. IsTyped schema.now r × (chain.now.key ≡ code_of schema.now r) × (row_of chain.now ≡ Some (row_code r.cells))))
+        (λ why. (why ≡ Refusal.OutOfMemory) ⊎ IsUnread schema.now chain.now (row_of chain.now)) }
+{
+    match chain.row_at(u64::MAX) {
+        None => Ok(None),
+        Some(row) => Ok(Some(table_row(alloc, schema, chain.key(), row.as_slice())?)),
+    }
+}
+
+/// The rows that stand under the keys now.
+pub(crate) fn read_rows(
+    alloc: Global,
+    schema: &Schema,
+    found: &[&Chain],
+) -> Result<Vec<TableRow>, Refusal>
+    ensures { MatchResult result (λ rows. AreRead schema.now (pointed found.now) rows.items) (λ why. (why ≡ Refusal.OutOfMemory) ⊎ HasUnread schema.now (pointed found.now)) }
+{
+    let mut rows = Vec::new(alloc);
+    for chain in found {
+        if let Some(row) = read_row(alloc, schema, chain)? {
+            rows.push(row)?;
+        }
+    }
+    Ok(rows)
+}
+
+/// The rows in the order of a database.
+fn sorted(schema: &Schema, rows: Vec<TableRow>) -> Result<Vec<TableRow>, AllocError>
+    ensures { IfOk result (λ all. IsPermutation rows.items all.items × IsSortedBy (λ q r. is_lt (rows_cmp schema.now q r)) all.items) }
+{
+    let mut rows = rows;
+    rows.sort_by(|q, r| order_of_rows(schema, q, r))?;
+    Ok(rows)
+}
+
+fn is_behind(schema: &Schema, last: Option<&TableRow>, row: &TableRow) -> bool
+    ensures { result ≡ is_behind schema.now (option_copied last.entry) row.now }
+{
+    match last {
+        None => true,
+        Some(last) => order_of_rows(schema, last, row).is_lt(),
+    }
+}
+
+/// Sorted rows, each key once.
+fn each_once(
+    alloc: Global,
+    schema: &Schema,
+    rows: Vec<TableRow>,
+) -> Result<Vec<TableRow>, AllocError>
+    ensures { IfOk result (λ once. once.items ≡ each_once schema.now None rows.items) }
+{
+    let mut once = Vec::with_capacity(alloc, rows.len())?;
+    for row in rows {
+        if is_behind(schema, once.last(), &row) {
+            once.push(row)?;
+        }
+    }
+    Ok(once)
+}
+
+/// The rows in the order of a database, each key once.
+pub(crate) fn in_order(
+    alloc: Global,
+    schema: &Schema,
+    rows: Vec<TableRow>,
+) -> Result<Vec<TableRow>, AllocError>
+    ensures { IfOk result (λ once. AreInOrderOnce schema.now rows.items once.items) }
+{
+    let all = sorted(schema, rows)?;
+    let once = each_once(alloc, schema, all)?;
+    Ok(once)
+}

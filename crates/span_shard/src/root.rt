@@ -1,0 +1,100 @@
+//! The root rows of mutations, and what stands under them.
+ghost use Rattle.std.specs.Prelude.{◌≡◌, ◌<◌, ◌-◌, ◌++◌, IsTrue, IfOk, OnOk, MatchResult, map, slice_get};
+ghost use Rattle.std.specs.List.Sorted.{IsPermutation};
+ghost use Rattle.span_mutate.specs.Typed.{IsTypedMutation, AreTypedMutations};
+ghost use Rattle.span_shard.specs.Rows.{root_code};
+ghost use Rattle.span_shard.specs.Reading.{IsFound, pointed};
+ghost use Rattle.span_shard.specs.Shard.{AreInOrder};
+
+use super::chain::Chain;
+use super::place::beginning;
+use span_keycode::encode::encode_key;
+use span_keycode::key::Key;
+use span_keycode::root::root_prefix;
+use span_mutate::mutation::CheckedMutation;
+use span_schema::schema::Schema;
+use span_value::refusal::Refusal;
+use std::alloc::{AllocError, Global};
+
+/// The coded key of the root row of a mutation.
+fn root_of(alloc: Global, schema: &Schema, mutation: &CheckedMutation) -> Result<Key, Refusal>
+    requires { IsTypedMutation schema.now mutation.now }
+    ensures { MatchResult result (λ key. key ≡ root_code schema.now mutation.now) (λ why. why ≡ Refusal.OutOfMemory) }
+{
+    let _tables = schema.tables();
+    let key = encode_key(alloc, schema, mutation.table, mutation.key.as_slice())?;
+    Ok(Key::from_slice(alloc, root_prefix(schema, &key))?)
+}
+
+fn all_roots(
+    alloc: Global,
+    schema: &Schema,
+    mutations: &[CheckedMutation],
+) -> Result<Vec<Key>, Refusal>
+    requires { AreTypedMutations schema.now mutations.now }
+    ensures { MatchResult result (λ roots. roots.items ≡ map (root_code schema.now) mutations.now) (λ why. why ≡ Refusal.OutOfMemory) }
+{
+    let mut roots = Vec::with_capacity(alloc, mutations.len())?;
+    for mutation in mutations {
+        roots.push(root_of(alloc, schema, mutation)?)?;
+    }
+    Ok(roots)
+}
+
+fn sorted(roots: Vec<Key>) -> Result<Vec<Key>, AllocError>
+    ensures { IfOk result (λ all. IsPermutation roots.items all.items) }
+{
+    let mut roots = roots;
+    roots.sort_by(|a, b| a.as_slice().cmp(b.as_slice()))?;
+    Ok(roots)
+}
+
+/// The coded keys of the root rows of the mutations. Equal ones stand beside one another.
+pub(crate) fn roots_of(
+    alloc: Global,
+    schema: &Schema,
+    mutations: &[CheckedMutation],
+) -> Result<Vec<Key>, Refusal>
+    requires { AreTypedMutations schema.now mutations.now }
+    ensures { MatchResult result (λ roots. IsPermutation (map (root_code schema.now) mutations.now) roots.items) (λ why. why ≡ Refusal.OutOfMemory) }
+{
+    let roots = all_roots(alloc, schema, mutations)?;
+    Ok(sorted(roots)?)
+}
+
+fn push_all<'a>(found: &mut Vec<&'a Chain>, part: &'a [Chain]) -> Result<(), AllocError>
+    ensures { OnOk result (pointed found.new.items ≡ pointed found.old.items ++ part.now) }
+{
+    for chain in part {
+        found.push(chain)?;
+    }
+    Ok(())
+}
+
+// Whether the root before is the same.
+fn is_repeated(roots: &[Key], at: usize) -> bool
+    ensures { IsTrue result → (0 < at) × (slice_get roots.now (at - 1) ≡ slice_get roots.now at) }
+{
+    if at == 0 || at >= roots.len() {
+        return false;
+    }
+    roots[at - 1] == roots[at]
+}
+
+/// The keys under the roots, root by root.
+pub(crate) fn keys_under<'a>(
+    alloc: Global,
+    chains: &'a [Chain],
+    roots: &[Key],
+) -> Result<Vec<&'a Chain>, AllocError>
+    requires { AreInOrder chains.now }
+    ensures { IfOk result (λ found. IsFound roots.now chains.now (pointed found.items)) }
+{
+    let mut found = Vec::new(alloc);
+    for i in 0..roots.len() {
+        if !is_repeated(roots, i) {
+            push_all(&mut found, beginning(chains, roots[i].as_slice()))?;
+        }
+    }
+    Ok(found)
+}
