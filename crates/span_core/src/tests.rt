@@ -1,85 +1,203 @@
 //! Runs of steps whose replies were worked out by hand.
+ghost use Rattle.std.specs.Prelude.{IfOk, List};
+ghost use Rattle.span_schema.specs.declared.table.Table.{Table};
+ghost use Rattle.span_machine.specs.Run.{AreOfSchema};
+ghost use Rattle.span_mutate.specs.Typed.{AreTypedMutations};
+
+use super::database::Core;
 use super::*;
 use std::alloc::Global;
 use std::test::Fail;
 
-const TEXT: &str = "SELECT * FROM T";
+/// What the clock answers: the earliest and the latest timestamp.
+type Clock = (u64, u64);
 
-fn mutation(alloc: Global, kind: MutationKind, key: i64, text: &str) -> Result<Mutation, Fail> {
-    let mut keys = Seq::new(alloc);
-    keys.push(Value::Int(key))?;
+/// A mutation: its kind, its table, its key, and the text that it gives, with the column.
+type Asked<'a> = (MutationKind, &'a str, &'a [i64], Option<(&'a str, &'a str)>);
+
+/// A step, as data.
+enum Call<'a> {
+    Begin(&'a [Asked<'a>]),
+    Prepare(u64),
+    Decide(u64, Verdict, Clock),
+    Apply(u64, Clock),
+    Advance(usize, Clock),
+    Open(&'a str, Bound, Clock),
+    Scan(u64, Clock),
+    Finish(u64),
+    Close(u64),
+}
+
+const TEXT: &str = "SELECT * FROM Users";
+
+const COMMIT: Verdict = Verdict::Commit;
+
+/// Users with their albums, which are deleted with their user.
+fn database(alloc: Global) -> Result<Core, Fail> {
+    let mut tables = Vec::new(alloc);
+    tables.push(table(alloc, "Users", &["uid"], "email", None)?)?;
+    let users = Parent {
+        name: Text::from_str(alloc, "Users")?,
+        cascade: true,
+    };
+    tables.push(table(alloc, "Albums", &["uid", "aid"], "name", Some(users))?)?;
+    Ok(Core::new(alloc, Schema::new(alloc, tables)?)?)
+}
+
+/// A table of INT64 columns, which are its key, and a column of texts.
+fn table(
+    alloc: Global,
+    name: &str,
+    keys: &[&str],
+    text: &str,
+    parent: Option<Parent>,
+) -> Result<Table, Fail> {
+    let mut columns = Seq::new(alloc);
+    let mut key = Seq::new(alloc);
+    for name in keys {
+        columns.push(Column {
+            name: Text::from_str(alloc, *name)?,
+            kind: ColumnType::Int,
+            not_null: true,
+        })?;
+        key.push(KeyColumn {
+            name: Text::from_str(alloc, *name)?,
+            desc: false,
+        })?;
+    }
+    columns.push(Column {
+        name: Text::from_str(alloc, text)?,
+        kind: ColumnType::Str(None),
+        not_null: false,
+    })?;
+    Ok(Table {
+        name: Text::from_str(alloc, name)?,
+        columns,
+        key,
+        parent,
+    })
+}
+
+fn mutations(alloc: Global, asked: &[Asked<'_>]) -> Result<Vec<Mutation>, Fail> {
+    let mut mutations = Vec::new(alloc);
+    for (kind, table, numbers, text) in asked {
+        let mut key = Seq::new(alloc);
+        for number in *numbers {
+            key.push(Value::Int(*number))?;
+        }
+        mutations.push(Mutation {
+            kind: *kind,
+            table: Text::from_str(alloc, *table)?,
+            key,
+            cells: cells(alloc, *text)?,
+        })?;
+    }
+    Ok(mutations)
+}
+
+fn cells(alloc: Global, text: Option<(&str, &str)>) -> Result<Seq<Cell>, Fail> {
     let mut cells = Seq::new(alloc);
-    if !text.is_empty() {
+    if let Some((column, text)) = text {
         cells.push(Cell {
-            column: Text::from_str(alloc, "V")?,
+            column: Text::from_str(alloc, column)?,
             value: Value::Str(Text::from_str(alloc, text)?),
         })?;
     }
-    Ok(Mutation {
-        kind,
-        table: Text::from_str(alloc, "t")?,
-        key: keys,
-        cells,
+    Ok(cells)
+}
+
+fn interval(clock: Clock) -> Result<Interval, Fail> {
+    Ok(Interval::new(clock.0, clock.1)?)
+}
+
+/// Takes the step.
+fn reply_to(alloc: Global, core: &mut Core, call: &Call<'_>) -> Result<Reply, Fail> {
+    let (owner, slot, leaf) = (0, 0, 0);
+    Ok(match *call {
+        Call::Begin(asked) => begin(alloc, core, asked)?,
+        Call::Prepare(txn) => core.step(alloc, Step::Prepare { owner, txn, slot }),
+        Call::Decide(txn, verdict, clock) => {
+            let interval = interval(clock)?;
+            core.step(
+                alloc,
+                Step::Decide {
+                    owner,
+                    txn,
+                    verdict,
+                    interval,
+                },
+            )
+        }
+        Call::Apply(txn, clock) => {
+            let interval = interval(clock)?;
+            core.step(
+                alloc,
+                Step::Apply {
+                    owner,
+                    txn,
+                    slot,
+                    interval,
+                },
+            )
+        }
+        Call::Advance(slot, clock) => {
+            let interval = interval(clock)?;
+            core.step(alloc, Step::Advance { slot, interval })
+        }
+        Call::Open(text, bound, clock) => open(alloc, core, text, bound, clock)?,
+        Call::Scan(query, clock) => {
+            let interval = interval(clock)?;
+            core.step(
+                alloc,
+                Step::Scan {
+                    query,
+                    leaf,
+                    slot,
+                    interval,
+                },
+            )
+        }
+        Call::Finish(query) => core.step(alloc, Step::Finish { query }),
+        Call::Close(query) => core.step(alloc, Step::Close { query }),
     })
 }
 
-fn begin(alloc: Global, kind: MutationKind, key: i64, text: &str) -> Result<Step, Fail> {
-    let mut mutations = Vec::new(alloc);
-    mutations.push(mutation(alloc, kind, key, text)?)?;
-    Ok(Step::Begin {
+fn begin(alloc: Global, core: &mut Core, asked: &[Asked<'_>]) -> Result<Reply, Fail> {
+    let transaction = Transaction::new(alloc, core.schema(), mutations(alloc, asked)?)?;
+    let step = Step::Begin {
         owner: 0,
-        transaction: Transaction::new(alloc, &Schema::ONE_TABLE, mutations)?,
-    })
+        transaction,
+    };
+    Ok(core.step(alloc, step))
 }
 
-fn interval(earliest: u64, latest: u64) -> Result<Interval, Fail> {
-    Ok(Interval::new(earliest, latest)?)
-}
-
-fn prepare(txn: u64) -> Step {
-    Step::Prepare {
-        owner: 0,
-        txn,
-        slot: 0,
-    }
-}
-
-fn decide(txn: u64, verdict: Verdict, clock: Interval) -> Step {
-    Step::Decide {
-        owner: 0,
-        txn,
-        verdict,
-        interval: clock,
-    }
-}
-
-fn apply(txn: u64, clock: Interval) -> Step {
-    Step::Apply {
-        owner: 0,
-        txn,
-        slot: 0,
-        interval: clock,
-    }
-}
-
-fn open(alloc: Global, text: &str, bound: Bound, clock: Interval) -> Result<Step, Fail> {
-    Ok(Step::Open {
+fn open(
+    alloc: Global,
+    core: &mut Core,
+    text: &str,
+    bound: Bound,
+    clock: Clock,
+) -> Result<Reply, Fail> {
+    let step = Step::Open {
         text: Text::from_str(alloc, text)?,
         params: Params {},
         bound,
-        interval: clock,
-    })
+        interval: interval(clock)?,
+    };
+    Ok(core.step(alloc, step))
 }
 
-fn scan(query: u64, clock: Interval) -> Step {
-    Step::Scan {
-        query,
-        leaf: 0,
-        slot: 0,
-        interval: clock,
+/// The replies to the calls, in order, from an empty database.
+fn replies_to(alloc: Global, calls: &[Call<'_>]) -> Result<Vec<Reply>, Fail> {
+    let mut core = database(alloc)?;
+    let mut replies = Vec::new(alloc);
+    for call in calls {
+        replies.push(reply_to(alloc, &mut core, call)?)?;
     }
+    Ok(replies)
 }
 
+/// A row of a number and a text.
 fn row(alloc: Global, key: i64, text: &str) -> Result<Row, Fail> {
     let mut row = Seq::new(alloc);
     row.push(Value::Int(key))?;
@@ -87,34 +205,51 @@ fn row(alloc: Global, key: i64, text: &str) -> Result<Row, Fail> {
     Ok(row)
 }
 
+fn opened(query: u64, s: u64) -> Reply {
+    Reply::Opened {
+        query,
+        s,
+        leaves: 1,
+    }
+}
+
+/// No row at s.
+fn none_at(alloc: Global, s: u64) -> Reply {
+    Reply::Rows {
+        s,
+        rows: Seq::new(alloc),
+    }
+}
+
+const INSERT_A: Asked<'static> = (MutationKind::Insert, "Users", &[1], Some(("email", "a")));
+
+const DELETE_A: Asked<'static> = (MutationKind::Delete, "Users", &[1], None);
+
+const NOW: Clock = (200, 210);
+
+const BOUNDARY: [Call<'static>; 16] = [
+    Call::Begin(&[INSERT_A]),
+    Call::Prepare(1),
+    Call::Decide(1, COMMIT, (100, 110)),
+    Call::Apply(1, NOW),
+    Call::Open(TEXT, Bound::At(110), NOW),
+    Call::Scan(1, NOW),
+    Call::Finish(1),
+    Call::Open(TEXT, Bound::At(111), NOW),
+    Call::Finish(2),
+    Call::Scan(2, NOW),
+    Call::Scan(2, NOW),
+    Call::Finish(2),
+    Call::Close(2),
+    Call::Close(2),
+    Call::Advance(0, (300, 310)),
+    Call::Advance(1, (300, 310)),
+];
+
 /// A timestamp below the commit sees nothing, and the commit's own sees it: the boundary.
 #[test]
 fn boundary(rt: HostRuntime) -> Result<(), Fail> {
     let alloc = rt.alloc();
-    let now = interval(200, 210)?;
-    let mut steps = Vec::new(alloc);
-    steps.push(begin(alloc, MutationKind::Insert, 1, "a")?)?;
-    steps.push(prepare(1))?;
-    steps.push(decide(1, Verdict::Commit, interval(100, 110)?))?;
-    steps.push(apply(1, now))?;
-    steps.push(open(alloc, TEXT, Bound::At(110), now)?)?;
-    steps.push(scan(1, now))?;
-    steps.push(Step::Finish { query: 1 })?;
-    steps.push(open(alloc, TEXT, Bound::At(111), now)?)?;
-    steps.push(Step::Finish { query: 2 })?;
-    steps.push(scan(2, now))?;
-    steps.push(scan(2, now))?;
-    steps.push(Step::Finish { query: 2 })?;
-    steps.push(Step::Close { query: 2 })?;
-    steps.push(Step::Close { query: 2 })?;
-    steps.push(Step::Advance {
-        slot: 0,
-        interval: interval(300, 310)?,
-    })?;
-    steps.push(Step::Advance {
-        slot: 1,
-        interval: interval(300, 310)?,
-    })?;
     let mut rows = Seq::new(alloc);
     rows.push(row(alloc, 1, "a")?)?;
     let expected = vec![in alloc;
@@ -122,21 +257,10 @@ fn boundary(rt: HostRuntime) -> Result<(), Fail> {
         Reply::Prepared(1),
         Reply::Decided(111),
         Reply::Applied,
-        Reply::Opened {
-            query: 1,
-            s: 110,
-            leaves: 1
-        },
+        opened(1, 110),
         Reply::Scanned,
-        Reply::Rows {
-            s: 110,
-            rows: Seq::new(alloc)
-        },
-        Reply::Opened {
-            query: 2,
-            s: 111,
-            leaves: 1
-        },
+        none_at(alloc, 110),
+        opened(2, 111),
         Reply::Refused(Refusal::Incomplete),
         Reply::Scanned,
         Reply::Nothing,
@@ -146,88 +270,84 @@ fn boundary(rt: HostRuntime) -> Result<(), Fail> {
         Reply::Floor(310),
         Reply::Refused(Refusal::NoSlot),
     ]?;
-    let replies = run::run(alloc, Schema::ONE_TABLE, steps)?;
-    assert_eq!(rt; replies.as_slice(), expected.as_slice());
+    assert_eq!(rt;
+        replies_to(alloc, &BOUNDARY)?.as_slice(),
+        expected.as_slice()
+    );
     Ok(())
 }
 
-/// A prepared transaction holds safe time back until it is aborted and applied; it leaves nothing.
+const EARLY: Clock = (100, 110);
+
+const ABORTED: [Call<'static>; 13] = [
+    Call::Begin(&[INSERT_A]),
+    Call::Prepare(1),
+    Call::Open(TEXT, Bound::At(50), EARLY),
+    Call::Scan(1, EARLY),
+    Call::Decide(1, Verdict::Abort, EARLY),
+    Call::Scan(1, EARLY),
+    Call::Apply(1, EARLY),
+    Call::Scan(1, EARLY),
+    Call::Finish(1),
+    Call::Apply(1, EARLY),
+    Call::Open("SELECT * FROM users", Bound::Strong, EARLY),
+    Call::Open("SELECT *, FROM Users", Bound::Strong, EARLY),
+    Call::Open(TEXT, Bound::At(4611686018427387904), EARLY),
+];
+
+/// A prepared transaction holds safe time back until it is aborted and applied; it leaves nothing. Texts and bounds that are refused.
 #[test]
 fn aborted(rt: HostRuntime) -> Result<(), Fail> {
     let alloc = rt.alloc();
-    let now = interval(100, 110)?;
-    let mut steps = Vec::new(alloc);
-    steps.push(begin(alloc, MutationKind::Insert, 1, "a")?)?;
-    steps.push(prepare(1))?;
-    steps.push(open(alloc, TEXT, Bound::At(50), now)?)?;
-    steps.push(scan(1, now))?;
-    steps.push(decide(1, Verdict::Abort, now))?;
-    steps.push(scan(1, now))?;
-    steps.push(apply(1, now))?;
-    steps.push(scan(1, now))?;
-    steps.push(Step::Finish { query: 1 })?;
-    steps.push(apply(1, now))?;
-    steps.push(open(alloc, "SELECT * FROM U", Bound::Strong, now)?)?;
-    steps.push(open(alloc, TEXT, Bound::At(4611686018427387904), now)?)?;
     let expected = vec![in alloc;
         Reply::Began(1),
         Reply::Prepared(1),
-        Reply::Opened {
-            query: 1,
-            s: 50,
-            leaves: 1
-        },
+        opened(1, 50),
         Reply::Refused(Refusal::NotYet),
         Reply::Aborted,
         Reply::Refused(Refusal::NotYet),
         Reply::Applied,
         Reply::Scanned,
-        Reply::Rows {
-            s: 50,
-            rows: Seq::new(alloc)
-        },
+        none_at(alloc, 50),
         Reply::Refused(Refusal::UnknownTransaction),
+        Reply::Refused(Refusal::NoTable),
         Reply::Refused(Refusal::Syntax),
         Reply::Refused(Refusal::TimestampRange),
     ]?;
-    let replies = run::run(alloc, Schema::ONE_TABLE, steps)?;
-    assert_eq!(rt; replies.as_slice(), expected.as_slice());
+    assert_eq!(rt;
+        replies_to(alloc, &ABORTED)?.as_slice(),
+        expected.as_slice()
+    );
     Ok(())
 }
+
+const COMMIT_WAIT: [Call<'static>; 13] = [
+    Call::Begin(&[INSERT_A]),
+    Call::Prepare(1),
+    Call::Prepare(1),
+    Call::Decide(2, COMMIT, (111, 130)),
+    Call::Decide(1, COMMIT, EARLY),
+    Call::Open(TEXT, Bound::At(111), NOW),
+    Call::Scan(1, NOW),
+    Call::Apply(1, (111, 130)),
+    Call::Apply(1, (112, 130)),
+    Call::Begin(&[INSERT_A]),
+    Call::Prepare(2),
+    Call::Begin(&[DELETE_A]),
+    Call::Prepare(3),
+];
 
 /// A commit is applied only once its timestamp has surely passed, and until then it still counts as prepared.
 #[test]
 fn commit_wait(rt: HostRuntime) -> Result<(), Fail> {
     let alloc = rt.alloc();
-    let early = interval(111, 130)?;
-    let later = interval(112, 130)?;
-    let mut steps = Vec::new(alloc);
-    steps.push(begin(alloc, MutationKind::Insert, 1, "a")?)?;
-    steps.push(prepare(1))?;
-    steps.push(prepare(1))?;
-    steps.push(decide(2, Verdict::Commit, early))?;
-    steps.push(decide(1, Verdict::Commit, interval(100, 110)?))?;
-    steps.push(open(alloc, TEXT, Bound::At(111), interval(200, 210)?)?)?;
-    steps.push(scan(1, interval(200, 210)?))?;
-    steps.push(apply(1, early))?;
-    steps.push(apply(1, later))?;
-    steps.push(begin(alloc, MutationKind::Insert, 1, "b")?)?;
-    steps.push(prepare(2))?;
-    steps.push(begin(alloc, MutationKind::Delete, 1, "")?)?;
-    steps.push(prepare(3))?;
-    steps.push(begin(alloc, MutationKind::Delete, 1, "")?)?;
-    steps.push(prepare(4))?;
     let expected = vec![in alloc;
         Reply::Began(1),
         Reply::Prepared(1),
         Reply::Refused(Refusal::WrongState),
         Reply::Refused(Refusal::UnknownTransaction),
         Reply::Decided(111),
-        Reply::Opened {
-            query: 1,
-            s: 111,
-            leaves: 1
-        },
+        opened(1, 111),
         Reply::Refused(Refusal::NotYet),
         Reply::Refused(Refusal::TooEarly),
         Reply::Applied,
@@ -235,29 +355,99 @@ fn commit_wait(rt: HostRuntime) -> Result<(), Fail> {
         Reply::Refused(Refusal::Exists),
         Reply::Began(3),
         Reply::Prepared(112),
-        Reply::Began(4),
-        Reply::Refused(Refusal::Conflict),
     ]?;
-    let replies = run::run(alloc, Schema::ONE_TABLE, steps)?;
+    assert_eq!(rt;
+        replies_to(alloc, &COMMIT_WAIT)?.as_slice(),
+        expected.as_slice()
+    );
+    Ok(())
+}
+
+const CONFLICT: [Call<'static>; 8] = [
+    Call::Begin(&[INSERT_A]),
+    Call::Begin(&[(MutationKind::Update, "Users", &[1], Some(("email", "b")))]),
+    Call::Prepare(1),
+    Call::Prepare(2),
+    Call::Decide(1, COMMIT, EARLY),
+    Call::Apply(1, NOW),
+    Call::Prepare(2),
+    Call::Decide(2, COMMIT, NOW),
+];
+
+/// A transaction of a directory where another is prepared waits until that one is applied.
+#[test]
+fn conflict(rt: HostRuntime) -> Result<(), Fail> {
+    let alloc = rt.alloc();
+    let expected = vec![in alloc;
+        Reply::Began(1),
+        Reply::Began(2),
+        Reply::Prepared(1),
+        Reply::Refused(Refusal::Conflict),
+        Reply::Decided(111),
+        Reply::Applied,
+        Reply::Prepared(112),
+        Reply::Decided(211),
+    ]?;
+    assert_eq!(rt;
+        replies_to(alloc, &CONFLICT)?.as_slice(),
+        expected.as_slice()
+    );
+    Ok(())
+}
+
+const PARENT_MISSING: [Call<'static>; 5] = [
+    Call::Begin(&[(MutationKind::Insert, "Albums", &[9, 1], Some(("name", "x")))]),
+    Call::Prepare(1),
+    Call::Decide(1, COMMIT, EARLY),
+    Call::Decide(1, Verdict::Abort, EARLY),
+    Call::Apply(1, EARLY),
+];
+
+/// A child row has no place without its parent row.
+#[test]
+fn parent_missing(rt: HostRuntime) -> Result<(), Fail> {
+    let alloc = rt.alloc();
+    let expected = vec![in alloc;
+        Reply::Began(1),
+        Reply::Refused(Refusal::ParentMissing),
+        Reply::Refused(Refusal::WrongState),
+        Reply::Aborted,
+        Reply::Refused(Refusal::UnknownTransaction),
+    ]?;
+    assert_eq!(rt;
+        replies_to(alloc, &PARENT_MISSING)?.as_slice(),
+        expected.as_slice()
+    );
+    Ok(())
+}
+
+/// A whole run: a transaction is begun, prepared and committed.
+#[test]
+fn whole_run(rt: HostRuntime) -> Result<(), Fail> {
+    let alloc = rt.alloc();
+    let mut tables = Vec::new(alloc);
+    tables.push(table(alloc, "Users", &["uid"], "email", None)?)?;
+    let schema = Schema::new(alloc, tables)?;
+    let transaction = Transaction::new(alloc, &schema, mutations(alloc, &[INSERT_A])?)?;
+    let replies = run::run(alloc, schema, committing(alloc, transaction)?)?;
+    let expected = [Reply::Began(1), Reply::Prepared(1), Reply::Decided(111)];
     assert_eq!(rt; replies.as_slice(), expected.as_slice());
     Ok(())
 }
 
-/// A transaction is refused by the first thing that is wrong with it.
-#[test]
-fn checks(rt: HostRuntime) -> Result<(), Fail> {
-    let alloc = rt.alloc();
-    let empty = Transaction::new(alloc, &Schema::ONE_TABLE, Vec::new(alloc));
-    assert_eq!(rt; empty, Err(Refusal::EmptyTransaction));
-    let mut mutations = Vec::new(alloc);
-    mutations.push(mutation(alloc, MutationKind::Delete, 1, "a")?)?;
-    let named = Transaction::new(alloc, &Schema::ONE_TABLE, mutations);
-    assert_eq!(rt; named, Err(Refusal::NoColumn));
-    let mut other = mutation(alloc, MutationKind::Insert, 1, "a")?;
-    other.table = Text::from_str(alloc, "U")?;
-    let mut mutations = Vec::new(alloc);
-    mutations.push(other)?;
-    let absent = Transaction::new(alloc, &Schema::ONE_TABLE, mutations);
-    assert_eq!(rt; absent, Err(Refusal::NoTable));
-    Ok(())
+fn committing(alloc: Global, transaction: Transaction) -> Result<Vec<Step>, Fail>
+    ensures { IfOk result (λ steps. (schema : List Table) → AreTypedMutations schema transaction → AreOfSchema schema steps.items) }
+{
+    let interval = interval(EARLY)?;
+    let mut steps = Vec::new(alloc);
+    let (owner, txn, slot) = (0, 1, 0);
+    steps.push(Step::Begin { owner, transaction })?;
+    steps.push(Step::Prepare { owner, txn, slot })?;
+    steps.push(Step::Decide {
+        owner,
+        txn,
+        verdict: COMMIT,
+        interval,
+    })?;
+    Ok(steps)
 }

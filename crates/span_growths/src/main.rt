@@ -2,14 +2,16 @@
 //! growth that is refused inside a step changes nothing of what is written.
 #![tactic(auto)]
 
+mod schema;
 mod steps;
 
+use schema::users_and_albums;
 use span_core::database::Core;
-use span_core::{Refusal, Reply, Row, Schema, Value};
+use span_core::{Refusal, Reply, Row, Value};
 use std::alloc::{AllocError, AllocFailed, Global};
 use std::io;
 use std::process::ExitCode;
-use steps::step_at;
+use steps::reply_at;
 use thiserror::Error;
 
 /// Why the program ends early.
@@ -62,7 +64,7 @@ fn main(rt: HostRuntime) -> ExitCode {
 
 fn run(rt: &(impl AllocGlobal + Print + Eprint)) -> Result<(), Fault> {
     let alloc = rt.alloc();
-    let mut core = Core::new(alloc, Schema::ONE_TABLE)?;
+    let mut core = Core::new(alloc, users_and_albums(alloc)?)?;
     for number in 0..steps::COUNT {
         let reply = take(rt, alloc, &mut core, number)?;
         write_reply(rt, &reply)?;
@@ -72,11 +74,11 @@ fn run(rt: &(impl AllocGlobal + Print + Eprint)) -> Result<(), Fault> {
 
 /// Takes a step, and once more where it answers want of memory.
 fn take(rt: &impl Eprint, alloc: Global, core: &mut Core, number: usize) -> Result<Reply, Fault> {
-    let reply = core.step(alloc, step_at(alloc, number)?);
+    let reply = reply_at(alloc, core, number)?;
     match reply {
         Reply::Refused(Refusal::OutOfMemory) => {
             eprintln!(rt; "again {number}")?;
-            Ok(core.step(alloc, step_at(alloc, number)?))
+            Ok(reply_at(alloc, core, number)?)
         }
         reply => Ok(reply),
     }

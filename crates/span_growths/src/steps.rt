@@ -1,7 +1,8 @@
 //! The steps, by their number.
 use super::Fault;
+use span_core::database::Core;
 use span_core::{
-    Bound, Cell, Interval, Mutation, MutationKind, Params, Schema, Seq, Step, Text, Transaction,
+    Bound, Cell, Interval, Mutation, MutationKind, Params, Reply, Seq, Step, Text, Transaction,
     Value, Verdict,
 };
 use std::alloc::Global;
@@ -9,106 +10,181 @@ use std::alloc::Global;
 /// How many steps there are.
 pub const COUNT: usize = 16;
 
-/// Two rows are inserted, and one of them is deleted; a query reads between, and one after.
-pub fn step_at(alloc: Global, number: usize) -> Result<Step, Fault> {
+/// A row: its table, its key, and its text with the column that has it.
+struct Asked<'a> {
+    kind: MutationKind,
+    table: &'a str,
+    key: &'a [i64],
+    text: Option<(&'a str, &'a str)>,
+}
+
+/// Two users with their albums.
+const ROWS: [Asked<'static>; 4] = [
+    Asked {
+        kind: MutationKind::Insert,
+        table: "Users",
+        key: &[2],
+        text: Some(("email", "b")),
+    },
+    Asked {
+        kind: MutationKind::InsertOrUpdate,
+        table: "Users",
+        key: &[1],
+        text: Some(("email", "a")),
+    },
+    Asked {
+        kind: MutationKind::Insert,
+        table: "Albums",
+        key: &[1, 7],
+        text: Some(("name", "x")),
+    },
+    Asked {
+        kind: MutationKind::Insert,
+        table: "Albums",
+        key: &[2, 8],
+        text: None,
+    },
+];
+
+/// The first user goes, and the album with it; the other album gets a name.
+const CHANGES: [Asked<'static>; 2] = [
+    Asked {
+        kind: MutationKind::Delete,
+        table: "Users",
+        key: &[1],
+        text: None,
+    },
+    Asked {
+        kind: MutationKind::Update,
+        table: "Albums",
+        key: &[2, 8],
+        text: Some(("name", "y")),
+    },
+];
+
+/// Takes the step of this number. A query reads the users between the two transactions, and one the albums after both.
+pub fn reply_at(alloc: Global, core: &mut Core, number: usize) -> Result<Reply, Fault> {
     match number {
-        0 => begin(
-            alloc,
-            &[
-                (MutationKind::Insert, 2, "b"),
-                (MutationKind::Insert, 1, "a"),
-            ],
-        ),
-        1 => Ok(prepare(1)),
-        2 => decide(1, 100),
-        3 => apply(1, 200),
-        4 => begin(alloc, &[(MutationKind::Delete, 1, "")]),
-        5 => Ok(prepare(2)),
-        6 => decide(2, 200),
-        7 => apply(2, 300),
-        8 => open(alloc, Bound::At(150)),
-        9 => scan(1),
-        10 => Ok(Step::Finish { query: 1 }),
-        11 => Ok(Step::Close { query: 1 }),
-        12 => open(alloc, Bound::Strong),
-        13 => scan(2),
-        14 => Ok(Step::Finish { query: 2 }),
-        _ => Ok(Step::Advance {
-            slot: 0,
-            interval: Interval::new(400, 410)?,
-        }),
+        0 => begin(alloc, core, &ROWS),
+        1 => Ok(prepare(alloc, core, 1)),
+        2 => decide(alloc, core, 1, 100),
+        3 => apply(alloc, core, 1, 200),
+        4 => begin(alloc, core, &CHANGES),
+        5 => Ok(prepare(alloc, core, 2)),
+        6 => decide(alloc, core, 2, 200),
+        7 => apply(alloc, core, 2, 300),
+        8 => open(alloc, core, "SELECT * FROM Users", Bound::At(150)),
+        9 => scan(alloc, core, 1),
+        10 => Ok(core.step(alloc, Step::Finish { query: 1 })),
+        11 => Ok(core.step(alloc, Step::Close { query: 1 })),
+        12 => open(alloc, core, "SELECT * FROM Albums", Bound::Strong),
+        13 => scan(alloc, core, 2),
+        14 => Ok(core.step(alloc, Step::Finish { query: 2 })),
+        _ => advance(alloc, core),
     }
 }
 
-fn begin(alloc: Global, rows: &[(MutationKind, i64, &str)]) -> Result<Step, Fault> {
+fn begin(alloc: Global, core: &mut Core, rows: &[Asked<'_>]) -> Result<Reply, Fault> {
     let mut mutations = Vec::new(alloc);
-    for (kind, key, text) in rows {
-        mutations.push(mutation(alloc, *kind, *key, text)?)?;
+    for row in rows {
+        mutations.push(mutation(alloc, row)?)?;
     }
-    Ok(Step::Begin {
-        owner: 0,
-        transaction: Transaction::new(alloc, &Schema::ONE_TABLE, mutations)?,
-    })
+    let transaction = Transaction::new(alloc, core.schema(), mutations)?;
+    Ok(core.step(
+        alloc,
+        Step::Begin {
+            owner: 0,
+            transaction,
+        },
+    ))
 }
 
-fn mutation(alloc: Global, kind: MutationKind, key: i64, text: &str) -> Result<Mutation, Fault> {
-    let mut keys = Seq::new(alloc);
-    keys.push(Value::Int(key))?;
+fn mutation(alloc: Global, row: &Asked<'_>) -> Result<Mutation, Fault> {
+    let mut key = Seq::new(alloc);
+    for number in row.key {
+        key.push(Value::Int(*number))?;
+    }
     let mut cells = Seq::new(alloc);
-    if !text.is_empty() {
+    if let Some((column, text)) = row.text {
         cells.push(Cell {
-            column: Text::from_str(alloc, "v")?,
+            column: Text::from_str(alloc, column)?,
             value: Value::Str(Text::from_str(alloc, text)?),
         })?;
     }
     Ok(Mutation {
-        kind,
-        table: Text::from_str(alloc, "T")?,
-        key: keys,
+        kind: row.kind,
+        table: Text::from_str(alloc, row.table)?,
+        key,
         cells,
     })
 }
 
-fn prepare(txn: u64) -> Step {
-    Step::Prepare {
-        owner: 0,
-        txn,
-        slot: 0,
-    }
+fn prepare(alloc: Global, core: &mut Core, txn: u64) -> Reply {
+    core.step(
+        alloc,
+        Step::Prepare {
+            owner: 0,
+            txn,
+            slot: 0,
+        },
+    )
 }
 
-fn decide(txn: u64, earliest: u64) -> Result<Step, Fault> {
-    Ok(Step::Decide {
-        owner: 0,
-        txn,
-        verdict: Verdict::Commit,
-        interval: Interval::new(earliest, earliest.saturating_add(10))?,
-    })
+fn decide(alloc: Global, core: &mut Core, txn: u64, earliest: u64) -> Result<Reply, Fault> {
+    let interval = interval_from(earliest)?;
+    Ok(core.step(
+        alloc,
+        Step::Decide {
+            owner: 0,
+            txn,
+            verdict: Verdict::Commit,
+            interval,
+        },
+    ))
 }
 
-fn apply(txn: u64, earliest: u64) -> Result<Step, Fault> {
-    Ok(Step::Apply {
-        owner: 0,
-        txn,
-        slot: 0,
-        interval: Interval::new(earliest, earliest.saturating_add(10))?,
-    })
+fn apply(alloc: Global, core: &mut Core, txn: u64, earliest: u64) -> Result<Reply, Fault> {
+    let interval = interval_from(earliest)?;
+    Ok(core.step(
+        alloc,
+        Step::Apply {
+            owner: 0,
+            txn,
+            slot: 0,
+            interval,
+        },
+    ))
 }
 
-fn open(alloc: Global, bound: Bound) -> Result<Step, Fault> {
-    Ok(Step::Open {
-        text: Text::from_str(alloc, "SELECT * FROM T")?,
+fn open(alloc: Global, core: &mut Core, text: &str, bound: Bound) -> Result<Reply, Fault> {
+    let step = Step::Open {
+        text: Text::from_str(alloc, text)?,
         params: Params {},
         bound,
-        interval: Interval::new(300, 310)?,
-    })
+        interval: interval_from(300)?,
+    };
+    Ok(core.step(alloc, step))
 }
 
-fn scan(query: u64) -> Result<Step, Fault> {
-    Ok(Step::Scan {
-        query,
-        leaf: 0,
-        slot: 0,
-        interval: Interval::new(300, 310)?,
-    })
+fn scan(alloc: Global, core: &mut Core, query: u64) -> Result<Reply, Fault> {
+    let interval = interval_from(300)?;
+    Ok(core.step(
+        alloc,
+        Step::Scan {
+            query,
+            leaf: 0,
+            slot: 0,
+            interval,
+        },
+    ))
+}
+
+fn advance(alloc: Global, core: &mut Core) -> Result<Reply, Fault> {
+    let interval = interval_from(400)?;
+    Ok(core.step(alloc, Step::Advance { slot: 0, interval }))
+}
+
+/// What the clock answers: ten timestamps.
+fn interval_from(earliest: u64) -> Result<Interval, Fault> {
+    Ok(Interval::new(earliest, earliest.saturating_add(10))?)
 }

@@ -322,6 +322,24 @@ fn refused_by_schema(rt: HostRuntime) -> Result<(), Fail> {
         ),
         Some(Refusal::NullNotAllowed)
     );
+    assert_eq!(rt;
+        refusal_of(
+            alloc,
+            &schema,
+            &THREE,
+            &[(MutationKind::Delete, "D", &[1], &[])]
+        ),
+        Some(Refusal::NoTable)
+    );
+    assert_eq!(rt;
+        refusal_of(
+            alloc,
+            &schema,
+            &THREE,
+            &[(MutationKind::Delete, "A", &[1], &[("u", None)])]
+        ),
+        Some(Refusal::NoColumn)
+    );
     Ok(())
 }
 
