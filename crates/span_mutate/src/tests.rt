@@ -322,22 +322,23 @@ fn refused_by_schema(rt: HostRuntime) -> Result<(), Fail> {
         ),
         Some(Refusal::NullNotAllowed)
     );
+    Ok(())
+}
+
+const DELETE_D: Asked<'static> = (MutationKind::Delete, "D", &[1], &[]);
+
+const DELETE_CELL: Asked<'static> = (MutationKind::Delete, "A", &[1], &[("u", None)]);
+
+#[test]
+fn refused_by_name(rt: HostRuntime) -> Result<(), Fail> {
+    let alloc = rt.alloc();
+    let schema = family(alloc, true, true)?;
     assert_eq!(rt;
-        refusal_of(
-            alloc,
-            &schema,
-            &THREE,
-            &[(MutationKind::Delete, "D", &[1], &[])]
-        ),
+        refusal_of(alloc, &schema, &THREE, &[DELETE_D]),
         Some(Refusal::NoTable)
     );
     assert_eq!(rt;
-        refusal_of(
-            alloc,
-            &schema,
-            &THREE,
-            &[(MutationKind::Delete, "A", &[1], &[("u", None)])]
-        ),
+        refusal_of(alloc, &schema, &THREE, &[DELETE_CELL]),
         Some(Refusal::NoColumn)
     );
     Ok(())
