@@ -1,5 +1,5 @@
 -- Chains and their records.
-use Rattle.std.proofs.Common.{◌≡◌, ◌≢◌, ℕ, zero, suc, ◌+◌, ◌<◌, ◌^◌, List, [], ◌∷◌, refl, sym, ◌∙◌, ap, arith, length, map, Option, Some, None, get_or, set, inl, inr}
+use Rattle.std.proofs.Common.{◌≡◌, ◌≢◌, ℕ, zero, suc, ◌+◌, ◌<◌, List, [], ◌∷◌, refl, sym, ◌∙◌, ap, arith, length, map, Option, Some, None, get_or, set, inl, inr}
 use Rattle.std.proofs.lemmas.List.{get_or-set_other, get_or-set_same, get_or_default}
 use Rattle.std.proofs.Math.Seq.{map-set_same}
 use Rattle.std.proofs.lemmas.Bool.{cases_eq}
@@ -105,11 +105,11 @@ module _ (rs : List ChainRecord) (c : ℕ) (l m : Links) (used : record_at rs c 
   ]
 
   -- each chain's run, where the links stay but for what is prepared
-  pub runs_step : (g : ℕ → NodeRecord) → m.newest ≡ l.newest → m.count ≡ l.count → ((d : ℕ) → IsRun g d (2 ^ 64) (links_at rs d).count (links_at rs d).newest)
-      → (d : ℕ) → IsRun g d (2 ^ 64) (links_at (set rs c (chain.Used m)) d).count (links_at (set rs c (chain.Used m)) d).newest
-  runs_step g newest count runs d = elim (cases_eq d c) [
-    | inl same ↦ (let r : IsRun g c (2 ^ 64) (links_at rs c).count (links_at rs c).newest = runs c in
-        let r2 : IsRun g c (2 ^ 64) l.count l.newest = rw links_were at r in
+  pub runs_step : (g : ℕ → NodeRecord) (rank : ℕ → ℕ) (top : ℕ) → m.newest ≡ l.newest → m.count ≡ l.count → ((d : ℕ) → IsRun g rank d top (links_at rs d).count (links_at rs d).newest)
+      → (d : ℕ) → IsRun g rank d top (links_at (set rs c (chain.Used m)) d).count (links_at (set rs c (chain.Used m)) d).newest
+  runs_step g rank top newest count runs d = elim (cases_eq d c) [
+    | inl same ↦ (let r : IsRun g rank c top (links_at rs c).count (links_at rs c).newest = runs c in
+        let r2 : IsRun g rank c top l.count l.newest = rw links_were at r in
         rw (same, links_here, newest, count) r2)
     | inr differs ↦ rw (links_elsewhere d differs) (runs d)
   ]

@@ -1,5 +1,5 @@
 -- What each call does to the content.
-use Rattle.std.proofs.Common.{◌≡◌, ◌≢◌, ℕ, zero, suc, ◌+◌, ◌-◌, ◌<◌, ◌≤◌, ◌^◌, List, [], ◌∷◌, ◌++◌, refl, sym, ◌∙◌, ap, arith, length, map, Option, Some, None, get_or, set, inl, inr, add-one, true, false}
+use Rattle.std.proofs.Common.{◌≡◌, ◌≢◌, ℕ, suc, ◌+◌, ◌-◌, ◌<◌, ◌≤◌, List, [], ◌∷◌, ◌++◌, refl, sym, ◌∙◌, ap, arith, length, map, Option, Some, None, get_or, set, inl, inr, add-one, true, false}
 use Rattle.std.specs.Prelude.{nat_lt, nat_eq, ◌&&◌}
 use Rattle.std.proofs.Math.ListN.{get_or-eq_default}
 use Rattle.std.proofs.lemmas.List.{get_or-set_same, length-map, map-set, map-append, get_or-map, get_or_default}
@@ -11,8 +11,8 @@ use Rattle.span_arena.specs.declared.record.ChainRecord.{ChainRecord}
 use Rattle.span_arena.specs.declared.record.ChainRecord.TheVariants as chain
 use Rattle.span_arena.specs.declared.record.Links.{Links}
 use Rattle.span_arena.specs.declared.record.Place.TheVariants.{Free, Reserved, Linked}
-use Rattle.span_arena.specs.Content.{Content, Prepared, versions, versions_in, IsInOrder, IsFalling, is_unused, live, linked, linked_as, given_back, IsSomePrepared, IsReserved, with_at, one_for, prepared_for}
-use Rattle.span_arena.specs.Runs.{walk, IsRun, IsFreeList, IsSound, node_at, blank, chain_of, record_at, links_at, links_of, prepared_of, content}
+use Rattle.span_arena.specs.Content.{Content, Prepared, versions, versions_in, IsInOrder, is_unused, live, linked, linked_as, given_back, IsSomePrepared, IsReserved, with_at, one_for, prepared_for}
+use Rattle.span_arena.specs.Runs.{walk, IsFreeList, IsSound, node_at, blank, chain_of, record_at, links_at, links_of, prepared_of, content}
 use Rattle.span_arena.proofs.Frames.{changed-set, changed-push, reserved_apart, free_apart}
 use Rattle.span_arena.proofs.Counts.{length-walk, versions_counted, one_for-at, one_for-same}
 use Rattle.span_arena.proofs.Chains.{with_prepared, versions_are, chain_at, used_prepared, read_used, links_were, chains_step}
@@ -79,13 +79,11 @@ module _ (nodes : List NodeRecord) (rs : List ChainRecord) (free count most : �
   pub unused_is : (c : ℕ) (l : Links) → record_at rs c ≡ chain.Used l → is_unused (content nodes rs count most) c ≡ (nat_eq l.count 0 && nat_eq l.prepared 0)
   unused_is c l used = rw (versions_are (node_at nodes) rs c, length-walk, sound.prepared c, links_were rs c l l used) refl
 
-  falling : (c bound k h : ℕ) → IsRun (node_at nodes) c bound k h → IsFalling bound (walk (node_at nodes) k h)
-  falling c bound zero h run = tt
-  falling c bound (suc k) h run = (run.1, falling c (node_at nodes h).version.timestamp k (node_at nodes h).next run.2)
+  pub prepared_is : (c : ℕ) (l : Links) → record_at rs c ≡ chain.Used l → prepared_for c (map prepared_of nodes) ≡ l.prepared
+  prepared_is c l used = sound.prepared c ∙ ap (λ (r : ChainRecord). (links_of r).prepared) used
 
   pub in_order : IsInOrder (content nodes rs count most)
   in_order = record {
-    falling = λ c. rw (versions_are (node_at nodes) rs c) (falling c (2 ^ 64) (links_at rs c).count (links_at rs c).newest (sound.runs c));
     placed = rw length-map (omega (arith, live_is));
     bounded = rw length-map sound.bounded;
     for_chains = λ node p e. (let found = used_prepared rs p.chain (some_prepared p.chain node p.image e) in

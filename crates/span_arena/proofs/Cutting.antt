@@ -1,5 +1,5 @@
 -- A chain that is cut in two.
-use Rattle.std.proofs.Common.{◌≡◌, ℕ, zero, suc, ◌+◌, ◌-◌, ◌<◌, ◌≤◌, ◌^◌, List, [], ◌∷◌, ◌++◌, refl, sym, ◌∙◌, ap, arith, length, map, Option, Some, None, set, add-one, sub-one, subst, inl, inr, append_assoc}
+use Rattle.std.proofs.Common.{◌≡◌, ℕ, zero, suc, ◌+◌, ◌-◌, ◌<◌, ◌≤◌, List, [], ◌∷◌, ◌++◌, refl, sym, ◌∙◌, ap, arith, length, map, Option, Some, None, set, add-one, sub-one, subst, inl, inr, append_assoc}
 use Rattle.std.specs.Prelude.{nat_le, true, false, is_some}
 use Rattle.std.proofs.lemmas.List.{get_or-set_same, length-set, map-set, append-nil}
 use Rattle.std.proofs.lemmas.Bool.{cases_eq}
@@ -12,7 +12,7 @@ use Rattle.span_arena.specs.declared.record.ChainRecord.TheVariants as chain
 use Rattle.span_arena.specs.declared.record.Links.{Links}
 use Rattle.span_arena.specs.declared.record.Place.TheVariants.{Free, Linked}
 use Rattle.span_arena.specs.Content.{versions, versions_in, kept_upto, kept_by, kept_at, with_kept, sum_for, one_if, one_for, prepared_for}
-use Rattle.span_arena.specs.Runs.{walk, hop, IsRun, IsAbove, IsSound, IsCut, IsTrimming, node_at, blank, chain_of, record_at, links_at, links_of, prepared_of, content, total}
+use Rattle.span_arena.specs.Runs.{walk, hop, IsRun, IsSomeRun, IsAbove, IsSound, IsCut, IsTrimming, node_at, blank, chain_of, record_at, links_at, links_of, prepared_of, content, total}
 use Rattle.span_arena.proofs.Frames.{IsChanged, run_stays, walk_stays, free_stays, changed-set, linked_apart}
 use Rattle.span_arena.proofs.Counts.{length-walk, total-set}
 use Rattle.span_arena.proofs.Chains.{used_in_range, links_were, links_here, links_elsewhere, chain_at, chains_stay}
@@ -20,19 +20,19 @@ use Rattle.span_arena.proofs.Steps.{is_none-free, is_none-linked}
 use Rattle.span_arena.proofs.Contents.{of_parts, parts_equal}
 use Rattle.span_arena.proofs.Walking.{in_range-linked}
 
--- the front of a run, and what is left, whose timestamps lie below the front's
-pub record IsSplit (f : ℕ → NodeRecord) (c bound k r h : ℕ) : Type 0 where
-  pub front : IsRun f c bound k h
+-- the front of a run, and what is left, whose ranks lie below the front's
+pub record IsSplit (f : ℕ → NodeRecord) (rank : ℕ → ℕ) (c bound k r h : ℕ) : Type 0 where
+  pub front : IsRun f rank c bound k h
   pub low : ℕ
   pub lower : low ≤ bound
-  pub above : IsAbove f low k h
-  pub rest : IsRun f c low r (hop f k h)
+  pub above : IsAbove f rank low k h
+  pub rest : IsRun f rank c low r (hop f k h)
 
-pub split : (f : ℕ → NodeRecord) (c bound k r h : ℕ) → IsRun f c bound (k + r) h → IsSplit f c bound k r h
-split f c bound zero r h run = record { front = tt; low = bound; lower = omega arith; above = tt; rest = subst (λ n. IsRun f c bound n h) {x = zero + r} {y = r} (omega arith) run }
-split f c bound (suc k) r h run =
-    let run2 : IsRun f c bound (suc (k + r)) h = subst (λ n. IsRun f c bound n h) {x = suc k + r} {y = suc (k + r)} (omega arith) run in
-    let again : IsSplit f c (f h).version.timestamp k r (f h).next = split f c (f h).version.timestamp k r (f h).next run2.2 in
+pub split : (f : ℕ → NodeRecord) (rank : ℕ → ℕ) (c bound k r h : ℕ) → IsRun f rank c bound (k + r) h → IsSplit f rank c bound k r h
+split f rank c bound zero r h run = record { front = tt; low = bound; lower = omega arith; above = tt; rest = subst (λ n. IsRun f rank c bound n h) {x = zero + r} {y = r} (omega arith) run }
+split f rank c bound (suc k) r h run =
+    let run2 : IsRun f rank c bound (suc (k + r)) h = subst (λ n. IsRun f rank c bound n h) {x = suc k + r} {y = suc (k + r)} (omega arith) run in
+    let again : IsSplit f rank c (rank h) k r (f h).next = split f rank c (rank h) k r (f h).next run2.2 in
     record { front = (run2.0, run2.1, again.front); low = again.low; lower = omega (arith, again.lower, run2.1); above = (again.lower, again.above); rest = again.rest }
 
 walk-snoc : (f : ℕ → NodeRecord) (k h : ℕ) → walk f (suc k) h ≡ walk f k h ++ (f (hop f k h)).version ∷ []
@@ -52,12 +52,12 @@ kept_none : (v : Version) (image : Option (List ℕ)) → is_some image ≡ fals
 kept_none v None h = refl
 kept_none v (Some image) h = absurd (let q : true ≡ false = h in cc)
 
-module _ (nodes : List NodeRecord) (c bound h count s : ℕ) (run : IsRun (node_at nodes) c bound count h) (kept at : ℕ) (lt : kept < count) (here : at ≡ hop (node_at nodes) kept h) where
-  parts : IsSplit (node_at nodes) c bound kept (suc (count - (kept + 1))) h
-  parts = split (node_at nodes) c bound kept (suc (count - (kept + 1))) h (let e : count ≡ kept + suc (count - (kept + 1)) = omega arith in subst (λ n. IsRun (node_at nodes) c bound n h) {x = count} {y = kept + suc (count - (kept + 1))} e run)
+module _ (nodes : List NodeRecord) (h count s : ℕ) (on : IsSomeRun (node_at nodes) count h) (kept at : ℕ) (lt : kept < count) (here : at ≡ hop (node_at nodes) kept h) where
+  parts : IsSplit (node_at nodes) on.rank on.chain on.bound kept (suc (count - (kept + 1))) h
+  parts = split (node_at nodes) on.rank on.chain on.bound kept (suc (count - (kept + 1))) h (let e : count ≡ kept + suc (count - (kept + 1)) = omega arith in subst (λ n. IsRun (node_at nodes) on.rank on.chain on.bound n h) {x = count} {y = kept + suc (count - (kept + 1))} e on.run)
 
   pub cut_in_range : at < length nodes
-  cut_in_range = in_range-linked nodes at c (rw here (parts.rest.0))
+  cut_in_range = in_range-linked nodes at on.chain (rw here (parts.rest.0))
 
   left_is : count - kept ≡ suc (count - (kept + 1))
   left_is = omega arith
@@ -92,28 +92,28 @@ module _ (nodes : List NodeRecord) (c bound h count s : ℕ) (run : IsRun (node_
         let e : kept_upto s (walk (node_at nodes) (suc (count - (kept + 1))) at) ≡ [] = rw t (kept_none (node_at nodes at).version (node_at nodes at).version.image none) in
         sym (same_next ∙ ap (λ (vs : List Version). walk (node_at nodes) kept h ++ vs) e ∙ append-nil (walk (node_at nodes) kept h))
 
--- a run whose timestamps are below that of j stays
-module _ (f g : ℕ → NodeRecord) (j : ℕ) (changed : IsChanged f g j) where
-  pub below_stays : (c bound k h : ℕ) → bound ≤ (f j).version.timestamp → IsRun f c bound k h → IsRun g c bound k h
+-- a run whose ranks are below that of j stays
+module _ (f g : ℕ → NodeRecord) (rank : ℕ → ℕ) (j : ℕ) (changed : IsChanged f g j) where
+  pub below_stays : (c bound k h : ℕ) → bound ≤ rank j → IsRun f rank c bound k h → IsRun g rank c bound k h
   below_stays c bound zero h le run = tt
   below_stays c bound (suc k) h le run =
-      let e : g h ≡ f h = changed.others h (λ same. let s : (f h).version.timestamp ≡ (f j).version.timestamp = ap (λ (i : ℕ). (f i).version.timestamp) same in let lt : (f h).version.timestamp < bound = run.1 in omega arith) in
-      rw e (run.0, run.1, below_stays c (f h).version.timestamp k (f h).next (let lt : (f h).version.timestamp < bound = run.1 in omega arith) run.2)
+      let e : g h ≡ f h = changed.others h (λ same. let s : rank h ≡ rank j = ap rank same in let lt : rank h < bound = run.1 in omega arith) in
+      rw e (run.0, run.1, below_stays c (rank h) k (f h).next (let lt : rank h < bound = run.1 in omega arith) run.2)
 
-  -- so does one whose timestamps are above
-  pub above_stays : (c bound low k h : ℕ) → (f j).version.timestamp < low → IsAbove f low k h → IsRun f c bound k h → IsRun g c bound k h × IsAbove g low k h × (walk g k h ≡ walk f k h)
+  -- so does one whose ranks are above
+  pub above_stays : (c bound low k h : ℕ) → rank j < low → IsAbove f rank low k h → IsRun f rank c bound k h → IsRun g rank c bound k h × IsAbove g rank low k h × (walk g k h ≡ walk f k h)
   above_stays c bound low zero h lt above run = (tt, tt, refl)
   above_stays c bound low (suc k) h lt above run =
-      let e : g h ≡ f h = changed.others h (λ same. let s : (f h).version.timestamp ≡ (f j).version.timestamp = ap (λ (i : ℕ). (f i).version.timestamp) same in let le : low ≤ (f h).version.timestamp = above.0 in omega arith) in
-      let again = above_stays c (f h).version.timestamp low k (f h).next lt above.1 run.2 in
+      let e : g h ≡ f h = changed.others h (λ same. let s : rank h ≡ rank j = ap rank same in let le : low ≤ rank h = above.0 in omega arith) in
+      let again = above_stays c (rank h) low k (f h).next lt above.1 run.2 in
       (rw e (run.0, run.1, again.0), rw e (above.0, again.1), rw e (ap (λ vs. (f h).version ∷ vs) again.2))
 
-above_kept : (f g : ℕ → NodeRecord) (j : ℕ) → IsChanged f g j → (low lower k h : ℕ) → (f j).version.timestamp < low → lower ≤ low → IsAbove f low k h → IsAbove g lower k h
-above_kept f g j changed low lower zero h lt le above = tt
-above_kept f g j changed low lower (suc k) h lt le above =
-    let e : g h ≡ f h = changed.others h (λ same. let s : (f h).version.timestamp ≡ (f j).version.timestamp = ap (λ (i : ℕ). (f i).version.timestamp) same in let m : low ≤ (f h).version.timestamp = above.0 in omega arith) in
-    let m : low ≤ (f h).version.timestamp = above.0 in
-    rw e (omega arith, above_kept f g j changed low lower k (f h).next lt le above.1)
+above_kept : (f g : ℕ → NodeRecord) (rank : ℕ → ℕ) (j : ℕ) → IsChanged f g j → (low lower k h : ℕ) → rank j < low → lower ≤ low → IsAbove f rank low k h → IsAbove g rank lower k h
+above_kept f g rank j changed low lower zero h lt le above = tt
+above_kept f g rank j changed low lower (suc k) h lt le above =
+    let e : g h ≡ f h = changed.others h (λ same. let s : rank h ≡ rank j = ap rank same in let m : low ≤ rank h = above.0 in omega arith) in
+    let m : low ≤ rank h = above.0 in
+    rw e (omega arith, above_kept f g rank j changed low lower k (f h).next lt le above.1)
 
 -- the start: the front stays, and what is left is loose
 pub trimming_starts : (nodes : List NodeRecord) (rs : List ChainRecord) (free count most c : ℕ) (l : Links) (s : Option ℕ) (kept at : ℕ) → IsSound nodes rs free count most → record_at rs c ≡ chain.Used l
@@ -126,10 +126,10 @@ trimming_starts nodes rs free count most c l s kept at sound used is_cut =
     let f = node_at nodes in
     let m : Links = record { newest = l.newest; count = kept; prepared = l.prepared } in
     let lt : c < length rs = used_in_range rs c l used in
-    let run : IsRun f c (2 ^ 64) l.count l.newest = rw (links_were rs c l m used) at (sound.runs c) in
+    let run : IsRun f sound.rank c sound.top l.count l.newest = rw (links_were rs c l m used) at (sound.runs c) in
     let within : kept ≤ l.count = is_cut.within in
     let whole : l.count ≡ kept + (l.count - kept) = omega arith in
-    let parts : IsSplit f c (2 ^ 64) kept (l.count - kept) l.newest = split f c (2 ^ 64) kept (l.count - kept) l.newest (subst (λ n. IsRun f c (2 ^ 64) n l.newest) {x = l.count} {y = kept + (l.count - kept)} whole run) in
+    let parts : IsSplit f sound.rank c sound.top kept (l.count - kept) l.newest = split f sound.rank c sound.top kept (l.count - kept) l.newest (subst (λ n. IsRun f sound.rank c sound.top n l.newest) {x = l.count} {y = kept + (l.count - kept)} whole run) in
     let n : (links_at rs c).count ≡ l.count = ap (λ (r : ChainRecord). (links_of r).count) used in
     let t : total (set rs c (chain.Used m)) + (links_at rs c).count ≡ total rs + kept = total-set rs c (chain.Used m) lt in
     let v : versions (content nodes rs count most) c ≡ walk f l.count l.newest = ap versions_in (chain_at f rs c l used) in
@@ -141,6 +141,8 @@ trimming_starts nodes rs free count most c l s kept at sound used is_cut =
     let chains : map (chain_of f) (set rs c (chain.Used m)) ≡ set (map (chain_of f) rs) c (Some vs) = map-set (chain_of f) rs c (chain.Used m) ∙ ap (set (map (chain_of f) rs) c) (ap Some w) in
     record {
       sound = record {
+        rank = sound.rank;
+        top = sound.top;
         runs = λ d. elim (cases_eq d c) [
           | inl same ↦ rw (same, links_here rs c l m used) parts.front
           | inr differs ↦ rw (links_elsewhere rs c l m used d differs) (sound.runs d)
@@ -164,6 +166,8 @@ trimming_starts nodes rs free count most c l s kept at sound used is_cut =
 -- the end: nothing is loose
 pub trimming_ends : (nodes : List NodeRecord) (rs : List ChainRecord) (free count most c left at : ℕ) → IsTrimming nodes rs free count most c left at → left ≡ 0 → IsSound nodes rs free count most
 trimming_ends nodes rs free count most c left at trimming none = record {
+  rank = trimming.rank;
+  top = trimming.top;
   runs = trimming.runs;
   free_list = trimming.free_list;
   prepared = trimming.prepared;
@@ -172,14 +176,14 @@ trimming_ends nodes rs free count most c left at trimming none = record {
 }
 
 -- the first of a run, and the others
-first_of : (f : ℕ → NodeRecord) (c bound k h : ℕ) → 0 < k → IsRun f c bound k h → ((f h).place ≡ Linked c) × ((f h).version.timestamp < bound) × IsRun f c (f h).version.timestamp (k - 1) (f h).next
-first_of f c bound zero h some run = absurd (omega arith)
-first_of f c bound (suc k) h some run = (run.0, run.1, rw sub-one run.2)
+first_of : (f : ℕ → NodeRecord) (rank : ℕ → ℕ) (c bound k h : ℕ) → 0 < k → IsRun f rank c bound k h → ((f h).place ≡ Linked c) × (rank h < bound) × IsRun f rank c (rank h) (k - 1) (f h).next
+first_of f rank c bound zero h some run = absurd (omega arith)
+first_of f rank c bound (suc k) h some run = (run.0, run.1, rw sub-one run.2)
 
 -- one more node is freed
 module _ (nodes : List NodeRecord) (rs : List ChainRecord) (free count most c left at : ℕ) (trimming : IsTrimming nodes rs free count most c left at) (some : 0 < left) where
-  front : ((node_at nodes at).place ≡ Linked c) × ((node_at nodes at).version.timestamp < trimming.low) × IsRun (node_at nodes) c (node_at nodes at).version.timestamp (left - 1) (node_at nodes at).next
-  front = first_of (node_at nodes) c trimming.low left at some trimming.loose
+  front : ((node_at nodes at).place ≡ Linked c) × (trimming.rank at < trimming.low) × IsRun (node_at nodes) trimming.rank c (trimming.rank at) (left - 1) (node_at nodes at).next
+  front = first_of (node_at nodes) trimming.rank c trimming.low left at some trimming.loose
 
   pub trim_in_range : at < length nodes
   trim_in_range = in_range-linked nodes at c front.0
@@ -188,14 +192,14 @@ module _ (nodes : List NodeRecord) (rs : List ChainRecord) (free count most c le
     changed : IsChanged (node_at nodes) (node_at (set nodes at x)) at
     changed = changed-set nodes at x
 
-    chain_stays : (d : ℕ) → IsRun (node_at (set nodes at x)) d (2 ^ 64) (links_at rs d).count (links_at rs d).newest × (walk (node_at (set nodes at x)) (links_at rs d).count (links_at rs d).newest ≡ walk (node_at nodes) (links_at rs d).count (links_at rs d).newest)
+    chain_stays : (d : ℕ) → IsRun (node_at (set nodes at x)) trimming.rank d trimming.top (links_at rs d).count (links_at rs d).newest × (walk (node_at (set nodes at x)) (links_at rs d).count (links_at rs d).newest ≡ walk (node_at nodes) (links_at rs d).count (links_at rs d).newest)
     chain_stays d = elim (cases_eq c d) [
-      | inl same ↦ (let run : IsRun (node_at nodes) c (2 ^ 64) (links_at rs c).count (links_at rs c).newest = trimming.runs c in
-          let r = above_stays (node_at nodes) (node_at (set nodes at x)) at changed c (2 ^ 64) trimming.low (links_at rs c).count (links_at rs c).newest front.1 trimming.above run in
+      | inl same ↦ (let run : IsRun (node_at nodes) trimming.rank c trimming.top (links_at rs c).count (links_at rs c).newest = trimming.runs c in
+          let r = above_stays (node_at nodes) (node_at (set nodes at x)) trimming.rank at changed c trimming.top trimming.low (links_at rs c).count (links_at rs c).newest front.1 trimming.above run in
           rw (← same) (r.0, r.2))
       | inr differs ↦ (
-        run_stays (node_at nodes) (node_at (set nodes at x)) at changed d (2 ^ 64) (links_at rs d).count (links_at rs d).newest (linked_apart (node_at nodes at).place c d front.0 differs) (trimming.runs d),
-        walk_stays (node_at nodes) (node_at (set nodes at x)) at changed d (2 ^ 64) (links_at rs d).count (links_at rs d).newest (linked_apart (node_at nodes at).place c d front.0 differs) (trimming.runs d),
+        run_stays (node_at nodes) (node_at (set nodes at x)) at changed trimming.rank d trimming.top (links_at rs d).count (links_at rs d).newest (linked_apart (node_at nodes at).place c d front.0 differs) (trimming.runs d),
+        walk_stays (node_at nodes) (node_at (set nodes at x)) at changed trimming.rank d trimming.top (links_at rs d).count (links_at rs d).newest (linked_apart (node_at nodes at).place c d front.0 differs) (trimming.runs d),
       )
     ]
 
@@ -218,10 +222,12 @@ module _ (nodes : List NodeRecord) (rs : List ChainRecord) (free count most c le
         let stay : map prepared_of (set nodes at x) ≡ map prepared_of nodes = prepared_same (is_none-free x (count + 1) is_free) in
         let sums : sum_for one_if (map prepared_of (set nodes at x)) ≡ sum_for one_if (map prepared_of nodes) = ap (sum_for one_if) stay in
         record {
+          rank = trimming.rank;
+          top = trimming.top;
           runs = λ d. (chain_stays d).0;
-          low = (node_at nodes at).version.timestamp;
-          above = above_kept (node_at nodes) (node_at (set nodes at x)) at changed trimming.low (node_at nodes at).version.timestamp (links_at rs c).count (links_at rs c).newest front.1 (let lt : (node_at nodes at).version.timestamp < trimming.low = front.1 in omega arith) trimming.above;
-          loose = below_stays (node_at nodes) (node_at (set nodes at x)) at changed c (node_at nodes at).version.timestamp (left - 1) (node_at nodes at).next (omega arith) front.2;
+          low = trimming.rank at;
+          above = above_kept (node_at nodes) (node_at (set nodes at x)) trimming.rank at changed trimming.low (trimming.rank at) (links_at rs c).count (links_at rs c).newest front.1 (let lt : trimming.rank at < trimming.low = front.1 in omega arith) trimming.above;
+          loose = below_stays (node_at nodes) (node_at (set nodes at x)) trimming.rank at changed c (trimming.rank at) (left - 1) (node_at nodes at).next (omega arith) front.2;
           free_list = rw (add-one, at_is) (is_free ∙ ap Free (add-one count), rw next (free_stays (node_at nodes) (node_at (set nodes at x)) at changed count free (λ m p. absurd (let q : Linked c ≡ Free m = sym front.0 ∙ p in cc)) trimming.free_list));
           prepared = λ d. ap (sum_for (one_for d)) stay ∙ trimming.prepared d;
           counted = rw length-set (omega (arith, trimming.counted));

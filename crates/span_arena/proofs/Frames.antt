@@ -14,17 +14,17 @@ pub record IsChanged (f g : ℕ → NodeRecord) (j : ℕ) : Type 0 where
 
 module _ (f g : ℕ → NodeRecord) (j : ℕ) (changed : IsChanged f g j) where
   -- a run in which j does not lie stays
-  pub run_stays : (c bound k h : ℕ) → (f j).place ≢ Linked c → IsRun f c bound k h → IsRun g c bound k h
-  run_stays c bound zero h apart run = tt
-  run_stays c bound (suc k) h apart run =
+  pub run_stays : (rank : ℕ → ℕ) (c bound k h : ℕ) → (f j).place ≢ Linked c → IsRun f rank c bound k h → IsRun g rank c bound k h
+  run_stays rank c bound zero h apart run = tt
+  run_stays rank c bound (suc k) h apart run =
       let e : g h ≡ f h = changed.others h (λ same. apart (rw same at run.0)) in
-      rw e (run.0, run.1, run_stays c (f h).version.timestamp k (f h).next apart run.2)
+      rw e (run.0, run.1, run_stays rank c (rank h) k (f h).next apart run.2)
 
-  pub walk_stays : (c bound k h : ℕ) → (f j).place ≢ Linked c → IsRun f c bound k h → walk g k h ≡ walk f k h
-  walk_stays c bound zero h apart run = refl
-  walk_stays c bound (suc k) h apart run =
+  pub walk_stays : (rank : ℕ → ℕ) (c bound k h : ℕ) → (f j).place ≢ Linked c → IsRun f rank c bound k h → walk g k h ≡ walk f k h
+  walk_stays rank c bound zero h apart run = refl
+  walk_stays rank c bound (suc k) h apart run =
       let e : g h ≡ f h = changed.others h (λ same. apart (rw same at run.0)) in
-      rw e (ap (λ vs. (f h).version ∷ vs) (walk_stays c (f h).version.timestamp k (f h).next apart run.2))
+      rw e (ap (λ vs. (f h).version ∷ vs) (walk_stays rank c (rank h) k (f h).next apart run.2))
 
   -- a free list in which j does not lie stays
   pub free_stays : (k h : ℕ) → ((m : ℕ) → (f j).place ≡ Free m → k < m) → IsFreeList f k h → IsFreeList g k h
@@ -34,6 +34,18 @@ module _ (f g : ℕ → NodeRecord) (j : ℕ) (changed : IsChanged f g j) where
       let p : (f j).place ≡ Free (suc k) = rw same at free.0 in
       let lt : suc k < suc k = apart (suc k) p in omega arith) in
       rw e (free.0, free_stays k (f h).next (λ m p. let lt : suc k < m = apart m p in omega arith) free.1)
+
+-- a run in which j does not lie does not depend on its rank
+pub ranks_stay : (f : ℕ → NodeRecord) (j : ℕ) (rank other : ℕ → ℕ) → ((i : ℕ) → i ≢ j → other i ≡ rank i) → (c bound k h : ℕ) → (f j).place ≢ Linked c → IsRun f rank c bound k h → IsRun f other c bound k h
+ranks_stay f j rank other same c bound zero h apart run = tt
+ranks_stay f j rank other same c bound (suc k) h apart run =
+    let e : other h ≡ rank h = same h (λ here. apart (rw here at run.0)) in
+    rw e (run.0, run.1, ranks_stay f j rank other same c (rank h) k (f h).next apart run.2)
+
+-- a run below a bound is one below a higher bound
+pub run_wider : (f : ℕ → NodeRecord) (rank : ℕ → ℕ) (c low high k h : ℕ) → low ≤ high → IsRun f rank c low k h → IsRun f rank c high k h
+run_wider f rank c low high zero h le run = tt
+run_wider f rank c low high (suc k) h le run = (run.0, (let lt : rank h < low = run.1 in omega arith), run.2)
 
 pub changed-set : (nodes : List NodeRecord) (j : ℕ) (x : NodeRecord) → IsChanged (node_at nodes) (node_at (set nodes j x)) j
 changed-set nodes j x = record { others = λ i differs. get_or-set_other nodes j i x blank differs }

@@ -4,10 +4,10 @@ use Rattle.std.specs.Prelude.{nat_lt}
 use Rattle.std.proofs.Math.ListN.{get_or-eq_default}
 use Rattle.std.proofs.Math.Seq.{get_or-append_seam}
 use Rattle.std.proofs.lemmas.List.{get_or-set_same, get_or-set_other, get_or_append_left}
-use Rattle.std.proofs.lemmas.Bool.{cases_lt}
+use Rattle.std.proofs.lemmas.Bool.{cases_lt, cases_eq}
 use Rattle.std.proofs.lemmas.Bool.Decides.{nat_tests}
 use Rattle.span_arena.specs.declared.version.Version.{Version}
-use Rattle.span_arena.specs.Content.{Content, versions, prepared_at, IsChain, with_at, IsNewChain, IsReserved, linked, linked_as, with_kept}
+use Rattle.span_arena.specs.Content.{Content, Prepared, versions, prepared_at, IsChain, with_at, IsNewChain, IsReserved, linked, linked_as, with_kept}
 
 pub with_at-same : {A : Type 0} → (xs : List A) (i : ℕ) (x d : A) → i ≤ length xs → get_or (with_at xs i x) i d ≡ x
 with_at-same xs i x d le = elim (cases_lt i (length xs)) [
@@ -55,3 +55,14 @@ linked_newest a b d c n timestamp image reserved chain is =
 -- a chain that is trimmed or cleared is one
 pub kept_chain : (a b : Content) (c : ℕ) (vs : List Version) → IsChain a c → b ≡ with_kept a c vs → IsChain b c
 kept_chain a b c vs chain is = rw is (vs, get_or-set_same a.chains c (Some vs) None (chain_in_range a c chain))
+
+-- a chain is one whatever is linked
+pub linked_chain : (a b : Content) (n timestamp c : ℕ) → b ≡ linked a n timestamp → IsChain a c → IsChain b c
+linked_chain a b n timestamp c is chain = rw is (of (prepared_at a n))
+  where
+    of : (p : Option Prepared) → IsChain (linked_as a n timestamp p) c
+    of None = chain
+    of (Some p) = elim (cases_eq c p.chain) [
+      | inl same ↦ rw same (_, get_or-set_same a.chains p.chain _ None (let lt : c < length a.chains = chain_in_range a c chain in omega arith))
+      | inr differs ↦ rw (get_or-set_other a.chains p.chain c _ None differs) chain
+    ]

@@ -1,5 +1,5 @@
 -- The free chains.
-use Rattle.std.proofs.Common.{◌≡◌, ◌≢◌, ℕ, zero, suc, ◌+◌, ◌-◌, ◌<◌, ◌≤◌, ◌^◌, List, [], ◌∷◌, ◌++◌, refl, sym, ◌∙◌, ap, arith, length, map, None, get_or, set, inl, inr, true, false, add-one, length-append}
+use Rattle.std.proofs.Common.{◌≡◌, ◌≢◌, ℕ, zero, suc, ◌+◌, ◌-◌, ◌<◌, ◌≤◌, List, [], ◌∷◌, ◌++◌, refl, sym, ◌∙◌, ap, arith, length, map, None, get_or, set, inl, inr, true, false, add-one, length-append}
 use Rattle.std.specs.Prelude.{nat_lt, nat_eq, ◌&&◌}
 use Rattle.std.proofs.Math.ListN.{get_or-eq_default}
 use Rattle.std.proofs.Math.Seq.{get_or-append_seam}
@@ -148,9 +148,11 @@ are_spare-push rs m h k none spare = record {
 
 module _ (nodes : List NodeRecord) (rs : List ChainRecord) (free count most : ℕ) (sound : IsSound nodes rs free count most) where
   -- chains' records that have the same versions and the same prepared nodes
-  pub sound_chains : (ss : List ChainRecord) → ((d : ℕ) → IsRun (node_at nodes) d (2 ^ 64) (links_at ss d).count (links_at ss d).newest) → ((d : ℕ) → (links_at ss d).prepared ≡ (links_at rs d).prepared)
+  pub sound_chains : (ss : List ChainRecord) → ((d : ℕ) → IsRun (node_at nodes) sound.rank d sound.top (links_at ss d).count (links_at ss d).newest) → ((d : ℕ) → (links_at ss d).prepared ≡ (links_at rs d).prepared)
       → total ss ≡ total rs → IsSound nodes ss free count most
   sound_chains ss runs same total_same = record {
+    rank = sound.rank;
+    top = sound.top;
     runs = runs;
     free_list = sound.free_list;
     prepared = λ d. sound.prepared d ∙ sym (same d);
@@ -159,7 +161,7 @@ module _ (nodes : List NodeRecord) (rs : List ChainRecord) (free count most : �
   }
 
   module _ (ss : List ChainRecord) (c : ℕ) (others : (d : ℕ) → d ≢ c → record_at ss d ≡ record_at rs d) (none : links_at ss c ≡ no_links) where
-    runs_none : (d : ℕ) → IsRun (node_at nodes) d (2 ^ 64) (links_at ss d).count (links_at ss d).newest
+    runs_none : (d : ℕ) → IsRun (node_at nodes) sound.rank d sound.top (links_at ss d).count (links_at ss d).newest
     runs_none d = elim (cases_eq d c) [
       | inl same ↦ rw (same, none) tt
       | inr differs ↦ rw (others d differs) (sound.runs d)

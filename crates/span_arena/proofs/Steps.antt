@@ -1,7 +1,8 @@
 -- What each call leaves of the layout: every node in one place, every chain with its versions.
-use Rattle.std.proofs.Common.{◌≡◌, ◌≢◌, ℕ, zero, suc, ◌+◌, ◌-◌, ◌<◌, ◌≤◌, ◌^◌, List, [], ◌∷◌, ◌++◌, refl, sym, ◌∙◌, ap, arith, length, map, Option, Some, None, set, inl, inr, add-one, length-append}
+use Rattle.std.proofs.Common.{◌≡◌, ◌≢◌, ℕ, suc, ◌+◌, ◌-◌, ◌<◌, ◌≤◌, List, [], ◌∷◌, ◌++◌, refl, sym, ◌∙◌, ap, arith, length, map, Option, Some, None, set, inl, inr, add-one, length-append, cond, nat_eq, true, false}
 use Rattle.std.proofs.lemmas.List.{get_or-set_same, length-set}
 use Rattle.std.proofs.lemmas.Bool.{cases_eq}
+use Rattle.std.proofs.lemmas.Bool.Decides.{nat_tests}
 use Rattle.std.proofs.Math.ListN.{get_or-eq_default}
 use Rattle.span_arena.specs.declared.record.NodeRecord.{NodeRecord}
 use Rattle.span_arena.specs.declared.record.ChainRecord.{ChainRecord}
@@ -9,16 +10,11 @@ use Rattle.span_arena.specs.declared.record.ChainRecord.TheVariants as chain
 use Rattle.span_arena.specs.declared.record.Links.{Links}
 use Rattle.span_arena.specs.declared.record.Place.{Place}
 use Rattle.span_arena.specs.declared.record.Place.TheVariants.{Free, Reserved, Linked}
-use Rattle.span_arena.specs.Content.{Prepared, sum_for, one_if, one_for, prepared_for, IsAboveNewest}
-use Rattle.span_arena.specs.Runs.{walk, IsRun, IsFreeList, IsSound, node_at, blank, total, chain_of, record_at, links_at, links_of, prepared_of, prepared_of_place}
-use Rattle.span_arena.proofs.Frames.{IsChanged, run_stays, walk_stays, free_stays, changed-set, changed-push, reserved_apart, free_apart}
+use Rattle.span_arena.specs.Content.{Prepared, sum_for, one_if, one_for, prepared_for}
+use Rattle.span_arena.specs.Runs.{IsRun, IsFreeList, IsSound, node_at, blank, total, chain_of, record_at, links_at, links_of, prepared_of, prepared_of_place}
+use Rattle.span_arena.proofs.Frames.{IsChanged, run_stays, walk_stays, ranks_stay, run_wider, free_stays, changed-set, changed-push, reserved_apart, free_apart}
 use Rattle.span_arena.proofs.Counts.{total-set, sum-node, sum-one_more, one_for-same, one_for-other}
 use Rattle.span_arena.proofs.Chains.{with_prepared, used_in_range, links_were, links_here, links_elsewhere, prepared_step, runs_step, chains_stay}
-
--- a run that begins below s falls from below s
-pub tighter : (f : ℕ → NodeRecord) (c bound s k h : ℕ) → IsRun f c bound k h → IsAboveNewest s (walk f k h) → IsRun f c s k h
-tighter f c bound s zero h run above = tt
-tighter f c bound s (suc k) h run above = (run.0, above, run.2)
 
 -- what is prepared in a node, by its place
 pub is_for : (n : NodeRecord) (c : ℕ) → n.place ≡ Reserved c → prepared_of n ≡ Some (record { chain = c; image = n.version.image })
@@ -39,11 +35,11 @@ for_this p c image e = rw e (one_for-same c image)
 
 module _ (nodes : List NodeRecord) (rs : List ChainRecord) (free count most : ℕ) (sound : IsSound nodes rs free count most) where
   -- where j was linked nowhere, each chain stays
-  pub runs_stay : (g : ℕ → NodeRecord) (j : ℕ) → IsChanged (node_at nodes) g j → ((d : ℕ) → (node_at nodes j).place ≢ Linked d) → (d : ℕ) → IsRun g d (2 ^ 64) (links_at rs d).count (links_at rs d).newest
-  runs_stay g j changed apart d = run_stays (node_at nodes) g j changed d (2 ^ 64) (links_at rs d).count (links_at rs d).newest (apart d) (sound.runs d)
+  pub runs_stay : (g : ℕ → NodeRecord) (j : ℕ) → IsChanged (node_at nodes) g j → ((d : ℕ) → (node_at nodes j).place ≢ Linked d) → (d : ℕ) → IsRun g sound.rank d sound.top (links_at rs d).count (links_at rs d).newest
+  runs_stay g j changed apart d = run_stays (node_at nodes) g j changed sound.rank d sound.top (links_at rs d).count (links_at rs d).newest (apart d) (sound.runs d)
 
   pub maps_stay : (g : ℕ → NodeRecord) (j : ℕ) → IsChanged (node_at nodes) g j → ((d : ℕ) → (node_at nodes j).place ≢ Linked d) → map (chain_of g) rs ≡ map (chain_of (node_at nodes)) rs
-  maps_stay g j changed apart = chains_stay (node_at nodes) g rs (λ d. walk_stays (node_at nodes) g j changed d (2 ^ 64) (links_at rs d).count (links_at rs d).newest (apart d) (sound.runs d))
+  maps_stay g j changed apart = chains_stay (node_at nodes) g rs (λ d. walk_stays (node_at nodes) g j changed sound.rank d sound.top (links_at rs d).count (links_at rs d).newest (apart d) (sound.runs d))
 
   module _ (c : ℕ) (l : Links) (used : record_at rs c ≡ chain.Used l) where
     total_same : (n : ℕ) → total (set rs c (chain.Used (with_prepared l n))) ≡ total rs
@@ -87,30 +83,48 @@ module _ (nodes : List NodeRecord) (rs : List ChainRecord) (free count most : �
           let none : prepared_of x ≡ None = is_none-free x (count + 1) is_free in
           let rest : IsFreeList (node_at (set nodes j x)) count free = free_stays (node_at nodes) (node_at (set nodes j x)) j changed count free (λ m p. not_free count m p) sound.free_list in
           record {
-            runs = runs_step rs c l (with_prepared l (l.prepared - 1)) used (node_at (set nodes j x)) refl refl (runs_stay (node_at (set nodes j x)) j changed apart);
+            rank = sound.rank;
+            top = sound.top;
+            runs = runs_step rs c l (with_prepared l (l.prepared - 1)) used (node_at (set nodes j x)) sound.rank sound.top refl refl (runs_stay (node_at (set nodes j x)) j changed apart);
             free_list = rw (add-one, at_j) (is_free ∙ ap Free (add-one count), rw next rest);
             prepared = prepared_less (with_prepared l (l.prepared - 1)) refl none;
             counted = rw length-set (omega (arith, counted_less none, sound.counted, total_same (l.prepared - 1)));
             bounded = rw length-set sound.bounded;
           }
 
+      -- above every rank that there was
+      ranked : ℕ → ℕ
+      ranked i = cond (nat_eq i j) sound.top (sound.rank i)
+
+      ranked_here : ranked j ≡ sound.top
+      unfolding ranked
+      ranked_here = let t : nat_eq j j ≡ true = grind (arith, nat_tests) in rw t refl
+
+      ranked_elsewhere : (i : ℕ) → i ≢ j → ranked i ≡ sound.rank i
+      unfolding ranked
+      ranked_elsewhere i differs = let t : nat_eq i j ≡ false = grind (arith, nat_tests) in rw t refl
+
+      reranked : (d : ℕ) → IsRun (node_at (set nodes j x)) ranked d sound.top (links_at rs d).count (links_at rs d).newest
+      reranked d = run_stays (node_at nodes) (node_at (set nodes j x)) j changed ranked d sound.top (links_at rs d).count (links_at rs d).newest (apart d)
+          (ranks_stay (node_at nodes) j sound.rank ranked ranked_elsewhere d sound.top (links_at rs d).count (links_at rs d).newest (apart d) (sound.runs d))
+
       -- is the newest of its chain now
-      pub sound-link : (s : ℕ) → x.place ≡ Linked c → x.version.timestamp ≡ s → s < 2 ^ 64 → x.next ≡ l.newest → IsAboveNewest s (walk (node_at nodes) l.count l.newest)
+      pub sound-link : x.place ≡ Linked c → x.next ≡ l.newest
           → IsSound (set nodes j x) (set rs c (chain.Used (record { newest = j; count = l.count + 1; prepared = l.prepared - 1 }))) free count most
-      sound-link s is_linked stamp small next above =
+      sound-link is_linked next =
           let g = node_at (set nodes j x) in
           let m : Links = record { newest = j; count = l.count + 1; prepared = l.prepared - 1 } in
           let none : prepared_of x ≡ None = is_none-linked x c is_linked in
-          let old : IsRun (node_at nodes) c (2 ^ 64) l.count l.newest = rw (links_were rs c l m used) at (sound.runs c) in
-          let below : IsRun (node_at nodes) c s l.count l.newest = tighter (node_at nodes) c (2 ^ 64) s l.count l.newest old above in
-          let rest : IsRun g c s l.count l.newest = run_stays (node_at nodes) g j changed c s l.count l.newest (apart c) below in
-          let lifted : IsRun g c (2 ^ 64) (l.count + 1) j = rw (add-one, at_j) (is_linked, rw stamp small, rw (stamp, next) rest) in
+          let rest : IsRun g ranked c sound.top l.count l.newest = rw (links_were rs c l m used) at (reranked c) in
+          let lifted : IsRun g ranked c (sound.top + 1) (l.count + 1) j = rw (add-one l.count, at_j, ranked_here) (is_linked, omega arith, rw next rest) in
           let t : total (set rs c (chain.Used m)) + (links_at rs c).count ≡ total rs + (l.count + 1) = total-set rs c (chain.Used m) (used_in_range rs c l used) in
           let n : (links_at rs c).count ≡ l.count = ap (λ (r : ChainRecord). (links_of r).count) used in
           record {
+            rank = ranked;
+            top = sound.top + 1;
             runs = λ d. elim (cases_eq d c) [
               | inl same ↦ rw (same, links_here rs c l m used) lifted
-              | inr differs ↦ rw (links_elsewhere rs c l m used d differs) (runs_stay g j changed apart d)
+              | inr differs ↦ rw (links_elsewhere rs c l m used d differs) (run_wider g ranked d sound.top (sound.top + 1) (links_at rs d).count (links_at rs d).newest (omega arith) (reranked d))
             ];
             free_list = free_stays (node_at nodes) g j changed count free (λ k p. not_free count k p) sound.free_list;
             prepared = prepared_less m refl none;
@@ -141,7 +155,9 @@ module _ (nodes : List NodeRecord) (rs : List ChainRecord) (free count most : �
         let a : one_if (prepared_of x) ≡ 1 = rw (is_for x c is_reserved) refl in
         let b : one_if (prepared_of (node_at nodes free)) ≡ 0 = rw none refl in
         record {
-          runs = runs_step rs c l (with_prepared l (l.prepared + 1)) used g refl refl (runs_stay g free changed apart);
+          rank = sound.rank;
+          top = sound.top;
+          runs = runs_step rs c l (with_prepared l (l.prepared + 1)) used g sound.rank sound.top refl refl (runs_stay g free changed apart);
           free_list = free_stays (node_at nodes) g free changed k (node_at nodes free).next (λ m p. let q : Free (suc k) ≡ Free m = sym list.0 ∙ p in let e : suc k ≡ m = cc in omega arith) list.1;
           prepared = prepared_more x (prepared_of (node_at nodes free)) (map prepared_of (set nodes free x)) none is_reserved (λ d. sum-node (one_for d) nodes free x in_range);
           counted = rw length-set (omega (arith, sound.counted, total_same (l.prepared + 1)));
@@ -159,7 +175,9 @@ module _ (nodes : List NodeRecord) (rs : List ChainRecord) (free count most : �
         let s : sum_for one_if (map prepared_of (nodes ++ x ∷ [])) ≡ sum_for one_if (map prepared_of nodes) + one_if (prepared_of x) = sum-one_more one_if nodes x in
         let a : one_if (prepared_of x) ≡ 1 = rw (is_for x c is_reserved) refl in
         record {
-          runs = runs_step rs c l (with_prepared l (l.prepared + 1)) used g refl refl (runs_stay g (length nodes) changed apart);
+          rank = sound.rank;
+          top = sound.top;
+          runs = runs_step rs c l (with_prepared l (l.prepared + 1)) used g sound.rank sound.top refl refl (runs_stay g (length nodes) changed apart);
           free_list = rw none tt;
           prepared = prepared_more x None (map prepared_of (nodes ++ x ∷ [])) refl is_reserved (λ d. let e : prepared_for d (map prepared_of (nodes ++ x ∷ [])) ≡ prepared_for d (map prepared_of nodes) + one_for d (prepared_of x) = sum-one_more (one_for d) nodes x in omega arith);
           counted = omega (arith, sound.counted, total_same (l.prepared + 1), length-append nodes (x ∷ []));

@@ -1,5 +1,5 @@
 -- What a caller sees of an arena: a map from chains to versions, what is prepared, and how many nodes are free.
-use Rattle.std.specs.Prelude.{◌≡◌, ◌⊎◌, ℕ, ◌+◌, ◌-◌, ◌<◌, ◌≤◌, List, [], ◌∷◌, ◌++◌, ◌&&◌, length, Option, Some, None, slice_index_or, slice_set, Bool, nat_le, nat_lt, nat_eq, ◌^◌, find, if◌then◌else◌}
+use Rattle.std.specs.Prelude.{◌≡◌, ◌⊎◌, ℕ, ◌+◌, ◌-◌, ◌<◌, ◌≤◌, List, [], ◌∷◌, ◌++◌, ◌&&◌, length, Option, Some, None, slice_index_or, slice_set, Bool, nat_le, nat_lt, nat_eq, find, if◌then◌else◌}
 use Rattle.span_arena.specs.declared.version.Version.{Version}
 use Rattle.span_value.specs.declared.refusal.Refusal.{Refusal}
 use Rattle.span_value.specs.declared.refusal.Refusal.TheVariants.{ShardFull, OutOfMemory}
@@ -75,14 +75,8 @@ is_unused c chain = nat_eq (length (versions c chain)) 0 && nat_eq (prepared_for
 
 -- ---- what holds of every arena
 
--- the timestamps fall from below the bound on
-abbrev pub IsFalling : ℕ → List Version → Type 0
-IsFalling bound [] = Unit {0}
-IsFalling bound (v ∷ vs) = (v.timestamp < bound) × IsFalling v.timestamp vs
-
--- Versions are in order of their timestamps. Every node is in one place: in use or free. What is prepared is for a chain.
+-- Every node is in one place: in use or free. What is prepared is for a chain.
 pub record IsInOrder (c : Content) : Type 0 where
-  pub falling : (chain : ℕ) → IsFalling (2 ^ 64) (versions c chain)
   pub placed : c.free + live c ≡ length c.prepared
   pub bounded : length c.prepared ≤ c.most
   pub for_chains : (node : ℕ) → (p : Prepared) → prepared_at c node ≡ Some p → IsChain c p.chain
@@ -126,15 +120,6 @@ pub record IsReserved (old new : Content) (chain : ℕ) (image : Option (List �
 -- as many nodes are in use as may be; or there is room, no node is free, and memory was wanted
 abbrev pub IsRefusedNode : Content → Refusal → Type 0
 IsRefusedNode c why = ((why ≡ ShardFull) × (live c ≡ c.most)) ⊎ ((why ≡ OutOfMemory) × (live c < c.most) × (c.free ≡ 0))
-
--- above the newest
-abbrev pub IsAboveNewest : ℕ → List Version → Type 0
-IsAboveNewest timestamp [] = Unit {0}
-IsAboveNewest timestamp (v ∷ vs) = v.timestamp < timestamp
-
--- something is prepared in the node, for a chain whose versions are all older
-abbrev pub CanLink : Content → ℕ → ℕ → Type 0
-CanLink c node timestamp = IsSomePrepared (prepared_at c node) (λ p. IsAboveNewest timestamp (versions c p.chain))
 
 abbrev pub linked_as : Content → ℕ → ℕ → Option Prepared → Content
 linked_as c node timestamp None = c

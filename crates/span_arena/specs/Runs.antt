@@ -1,5 +1,5 @@
 -- How an arena lays out its nodes and chains. No public clause cites this module.
-use Rattle.std.specs.Prelude.{◌≡◌, ℕ, zero, suc, ◌+◌, ◌<◌, ◌≤◌, ◌^◌, List, [], ◌∷◌, length, map, Option, Some, None, slice_index_or}
+use Rattle.std.specs.Prelude.{◌≡◌, ℕ, zero, suc, ◌+◌, ◌<◌, ◌≤◌, List, [], ◌∷◌, length, map, Option, Some, None, slice_index_or}
 use Rattle.span_arena.specs.declared.version.Version.{Version}
 use Rattle.span_arena.specs.declared.record.NodeRecord.{NodeRecord}
 use Rattle.span_arena.specs.declared.record.ChainRecord.{ChainRecord}
@@ -29,10 +29,17 @@ abbrev pub walk : (ℕ → NodeRecord) → ℕ → ℕ → List Version
 walk f zero h = []
 walk f (suc k) h = (f h).version ∷ walk f k (f h).next
 
--- so many nodes from h on are linked into chain c, and their timestamps fall
-abbrev pub IsRun : (ℕ → NodeRecord) → ℕ → ℕ → ℕ → ℕ → Type 0
-IsRun f c bound zero h = Unit {0}
-IsRun f c bound (suc k) h = ((f h).place ≡ Linked c) × ((f h).version.timestamp < bound) × IsRun f c (f h).version.timestamp k (f h).next
+-- so many nodes from h on are linked into chain c, and their ranks fall: so no node stands in it twice
+abbrev pub IsRun : (ℕ → NodeRecord) → (ℕ → ℕ) → ℕ → ℕ → ℕ → ℕ → Type 0
+IsRun f rank c bound zero h = Unit {0}
+IsRun f rank c bound (suc k) h = ((f h).place ≡ Linked c) × (rank h < bound) × IsRun f rank c (rank h) k (f h).next
+
+-- so many nodes from h on are those of a chain
+pub record IsSomeRun (f : ℕ → NodeRecord) (k h : ℕ) : Type 0 where
+  pub rank : ℕ → ℕ
+  pub chain : ℕ
+  pub bound : ℕ
+  pub run : IsRun f rank chain bound k h
 
 -- so many nodes from h on are free, and each keeps how many there are from it on
 abbrev pub IsFreeList : (ℕ → NodeRecord) → ℕ → ℕ → Type 0
@@ -72,9 +79,12 @@ content nodes rs free_count most = record {
   most = most;
 }
 
--- each chain has its versions, as many are prepared for it as it says, and each node is in a chain, prepared or in the free list
+-- Each chain has its versions, as many are prepared for it as it says, and each node is in a chain, prepared or in the free list. A
+-- node that is linked later has the higher rank; it is kept nowhere.
 pub record IsSound (nodes : List NodeRecord) (rs : List ChainRecord) (free free_count most : ℕ) : Type 0 where
-  pub runs : (c : ℕ) → IsRun (node_at nodes) c (2 ^ 64) (links_at rs c).count (links_at rs c).newest
+  pub rank : ℕ → ℕ
+  pub top : ℕ
+  pub runs : (c : ℕ) → IsRun (node_at nodes) rank c top (links_at rs c).count (links_at rs c).newest
   pub free_list : IsFreeList (node_at nodes) free_count free
   pub prepared : (c : ℕ) → prepared_for c (map prepared_of nodes) ≡ (links_at rs c).prepared
   pub counted : free_count + (total rs + sum_for one_if (map prepared_of nodes)) ≡ length nodes
@@ -103,10 +113,10 @@ abbrev pub hop : (ℕ → NodeRecord) → ℕ → ℕ → ℕ
 hop f zero h = h
 hop f (suc k) h = hop f k (f h).next
 
--- so many nodes from h on have a timestamp of at least low
-abbrev pub IsAbove : (ℕ → NodeRecord) → ℕ → ℕ → ℕ → Type 0
-IsAbove f low zero h = Unit {0}
-IsAbove f low (suc k) h = (low ≤ (f h).version.timestamp) × IsAbove f low k (f h).next
+-- so many nodes from h on have a rank of at least low
+abbrev pub IsAbove : (ℕ → NodeRecord) → (ℕ → ℕ) → ℕ → ℕ → ℕ → Type 0
+IsAbove f rank low zero h = Unit {0}
+IsAbove f rank low (suc k) h = (low ≤ rank h) × IsAbove f rank low k (f h).next
 
 -- where a chain is cut
 pub record IsCut (f : ℕ → NodeRecord) (h count : ℕ) (horizon : Option ℕ) (kept at : ℕ) : Type 0 where
@@ -116,10 +126,12 @@ pub record IsCut (f : ℕ → NodeRecord) (h count : ℕ) (horizon : Option ℕ)
 
 -- the state while nodes of a chain are freed: so many from at on are in no chain any more
 pub record IsTrimming (nodes : List NodeRecord) (rs : List ChainRecord) (free free_count most c left at : ℕ) : Type 0 where
-  pub runs : (d : ℕ) → IsRun (node_at nodes) d (2 ^ 64) (links_at rs d).count (links_at rs d).newest
+  pub rank : ℕ → ℕ
+  pub top : ℕ
+  pub runs : (d : ℕ) → IsRun (node_at nodes) rank d top (links_at rs d).count (links_at rs d).newest
   pub low : ℕ
-  pub above : IsAbove (node_at nodes) low (links_at rs c).count (links_at rs c).newest
-  pub loose : IsRun (node_at nodes) c low left at
+  pub above : IsAbove (node_at nodes) rank low (links_at rs c).count (links_at rs c).newest
+  pub loose : IsRun (node_at nodes) rank c low left at
   pub free_list : IsFreeList (node_at nodes) free_count free
   pub prepared : (d : ℕ) → prepared_for d (map prepared_of nodes) ≡ (links_at rs d).prepared
   pub counted : free_count + (left + (total rs + sum_for one_if (map prepared_of nodes))) ≡ length nodes

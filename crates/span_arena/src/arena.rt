@@ -1,7 +1,7 @@
 //! The arena: its nodes, its chains and its free ones.
-ghost use Rattle.std.specs.Prelude.{◌≡◌, true, [], None, Some, IfOk, IfErr, OnErr};
+ghost use Rattle.std.specs.Prelude.{◌≡◌, true, [], None, Some, IfOk, IfErr, OnErr, nat_lt};
 ghost use Rattle.std.specs.Option.{option_copied};
-ghost use Rattle.span_arena.specs.Content.{Content, versions, prepared_at, IsChain, AreAllChains, IsInOrder, is_unused, live, newest_upto, CanLink, IsPrepared, linked, given_back, trimmed, cleared, kept_by, with_kept, without_chain, IsNewChain, IsReserved, IsRefusedNode};
+ghost use Rattle.span_arena.specs.Content.{Content, versions, prepared_at, IsChain, AreAllChains, IsInOrder, is_unused, prepared_for, live, newest_upto, IsPrepared, linked, given_back, trimmed, cleared, kept_by, with_kept, without_chain, IsNewChain, IsReserved, IsRefusedNode};
 
 use crate::cut::cut;
 use crate::record::{ChainRecord, Links, NodeRecord, Place};
@@ -83,6 +83,17 @@ impl Arena {
             unreachable!()
         };
         links.count == 0 && links.prepared == 0
+    }
+
+    /// Whether something is prepared for a chain.
+    pub fn is_prepared(&self, chain: Chain) -> bool
+        requires { IsChain self.now chain.number }
+        ensures { result ≡ nat_lt 0 (prepared_for chain.number self.now.prepared) }
+    {
+        let ChainRecord::Used(links) = self.chains[chain.number] else {
+            unreachable!()
+        };
+        links.prepared > 0
     }
 
     /// The newest version of a chain at or below `s`.
@@ -190,9 +201,9 @@ impl Arena {
         Ok(Node { number })
     }
 
-    /// Makes what is prepared in a node the newest version of its chain, at a timestamp above the others. It takes no memory.
+    /// Makes what is prepared in a node the newest version of its chain. It takes no memory.
     pub fn link(&mut self, node: Node, timestamp: u64)
-        requires { CanLink self.old node.number timestamp }
+        requires { IsPrepared self.old node.number }
         ensures { self.new ≡ linked self.old node.number timestamp }
     {
         let cell = &mut self.nodes[node.number];

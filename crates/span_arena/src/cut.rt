@@ -1,6 +1,5 @@
 //! Where a chain is cut when it is trimmed.
-ghost use Rattle.std.specs.Prelude.{ℕ};
-ghost use Rattle.span_arena.specs.Runs.{IsRun, IsCut, node_at};
+ghost use Rattle.span_arena.specs.Runs.{IsSomeRun, IsCut, node_at};
 
 use crate::record::NodeRecord;
 
@@ -11,7 +10,7 @@ pub(crate) fn cut(
     count: usize,
     horizon: Option<u64>,
 ) -> (usize, usize)
-    requires { (c : ℕ) × (bound : ℕ) × IsRun (node_at nodes.now.items) c bound count newest }
+    requires { IsSomeRun (node_at nodes.now.items) count newest }
     ensures { IsCut (node_at nodes.now.items) newest count horizon result.0 result.1 }
 {
     match horizon {
@@ -21,7 +20,7 @@ pub(crate) fn cut(
 }
 
 fn cut_at(nodes: &Vec<NodeRecord>, newest: usize, count: usize, horizon: u64) -> (usize, usize)
-    requires { (c : ℕ) × (bound : ℕ) × IsRun (node_at nodes.now.items) c bound count newest }
+    requires { IsSomeRun (node_at nodes.now.items) count newest }
     ensures { IsCut (node_at nodes.now.items) newest count (Some horizon) result.0 result.1 }
 {
     let mut at = newest;

@@ -5,7 +5,7 @@ use Rattle.span_arena.specs.Runs.{node_at, blank}
 use Rattle.span_arena.proofs.Chains.{used_of, read_used}
 use Rattle.span_arena.proofs.Spares.{are_spare-used}
 use Rattle.span_arena.proofs.Walking.{init_run}
-use Rattle.span_arena.proofs.Cutting.{trimming_starts, trim_in_range, trim_content, trim_sound}
+use Rattle.span_arena.proofs.Cutting.{trimming_starts, trimming_ends, trim_in_range, trim_content, trim_sound}
 use Rattle.span_arena.proofs.arena.Arena.keep.Goals as goal
 
 pub cut-kept-requires : goal.cut-kept-requires
@@ -15,7 +15,7 @@ cut-kept-requires c =
     let u = used_of (node_at i.nodes.items) i.chains.items c.args.chain.number h.0 h.1 in
     let used = read_used i.chains.items c.args.chain.number c.index.result.now c.in-Used.links u.0 u.1 c.index.ensures c.in-Used.is in
     let r = init_run i.nodes.items i.chains.items i.free i.free_count i.most c.self.invariant.sound c.args.chain.number c.in-Used.links used in
-    (c.args.chain.number, r.0.0, r.0.1)
+    r.0
 
 pub loop-left-init : goal.loop-left-init
 loop-left-init c =
@@ -46,4 +46,12 @@ loop-left-preserved c =
       trimming = rw e (trim_sound i.nodes.items i.chains.items i.free i.free_count i.most c.args.chain.number c.loop-left.left c.loop-left.at c.loop-left.invariant.trimming c.loop-left-test.true _ refl refl);
       spare = c.loop-left.invariant.spare;
       same = rw n (trim_content i.nodes.items i.chains.items i.free i.free_count i.most c.args.chain.number c.loop-left.left c.loop-left.at c.loop-left.invariant.trimming c.loop-left-test.true _ (i.free_count + 1) refl (i.free_count + c.loop-left.left) ∙ c.loop-left.invariant.same);
+    }
+
+pub invariant_of-self : goal.invariant_of-self
+invariant_of-self c =
+    let i = c.loop-left.self-inside in
+    record {
+      sound = trimming_ends i.nodes.items i.chains.items i.free i.free_count i.most c.args.chain.number c.loop-left.left c.loop-left.at c.loop-left.invariant.trimming (omega (arith, c.loop-left-test.false));
+      spare = c.loop-left.invariant.spare;
     }

@@ -1,10 +1,9 @@
 use Rattle.std.proofs.Common.{ap, ◌∙◌, refl, arith}
-use Rattle.span_arena.specs.Content.{linked, IsAboveNewest}
-use Rattle.span_arena.specs.Runs.{node_at, walk}
+use Rattle.span_arena.specs.Content.{linked}
 use Rattle.span_arena.proofs.Counts.{count-total}
 use Rattle.span_arena.proofs.Chains.{used_in_range, read_not_free, links_were}
 use Rattle.span_arena.proofs.Steps.{sound-link}
-use Rattle.span_arena.proofs.Contents.{held, links_held, chain_versions, content-link}
+use Rattle.span_arena.proofs.Contents.{held, links_held, content-link}
 use Rattle.span_arena.proofs.Spares.{are_spare-used}
 use Rattle.span_arena.proofs.arena.Arena.link.Goals as goal
 
@@ -46,11 +45,8 @@ invariant_of-self c =
     let i = c.self.inside in
     let r = held i.nodes.items i.chains.items i.free i.free_count i.most c.self.invariant.sound c.args.node.number c.index_mut-cell.result.now _ c.in-Reserved.chain c.in-Reserved.is c.index_mut-cell.ensures.value (rw (← c.self.view_is) at c.requires) in
     let l = links_held i.nodes.items i.chains.items c.args.node.number c.index_mut-cell.result.now c.in-Reserved.chain r.0 c.index.result.now c.in-Used.links c.index.ensures c.in-Used.is in
-    let above : IsAboveNewest c.args.timestamp (walk (node_at i.nodes.items) c.in-Used.links.count c.in-Used.links.newest)
-    = rw (chain_versions i.nodes.items i.chains.items i.free i.free_count i.most c.self.invariant.sound c.args.node.number _ _ r.0 c.in-Used.links l.0) at r.1 in
     record {
-      sound = sound-link i.nodes.items i.chains.items i.free i.free_count i.most c.self.invariant.sound c.in-Reserved.chain c.in-Used.links l.0 c.args.node.number _ r.0.in_range r.0.was l.1
-          c.args.timestamp refl refl c.ranges.timestamp.fits refl above;
+      sound = sound-link i.nodes.items i.chains.items i.free i.free_count i.most c.self.invariant.sound c.in-Reserved.chain c.in-Used.links l.0 c.args.node.number _ r.0.in_range r.0.was l.1 refl refl;
       spare = are_spare-used i.chains.items i.spare i.spare_count c.in-Reserved.chain c.in-Used.links _ l.0 c.self.invariant.spare;
     }
 

@@ -15,15 +15,15 @@ loop-left-init c =
     record { run = r.0; same = rw (← c.self.view_is) (ap (newest_upto c.args.s) r.1) }
 
 pub index-node-requires : goal.index-node-requires
-index-node-requires c = let lt : c.loop-left.at < length c.self.inside.nodes.items = here_in_range _ _ _ _ _ c.loop-left.invariant.run.1 c.loop-left-test.true in omega (arith, c.self.inside.nodes.ok)
+index-node-requires c = let lt : c.loop-left.at < length c.self.inside.nodes.items = here_in_range _ _ _ c.loop-left.invariant.run c.loop-left-test.true in omega (arith, c.self.inside.nodes.ok)
 
 pub returns-then-node-s : goal.returns-then-node-s
-returns-then-node-s c = sym (sym c.loop-left.invariant.same ∙ found_here _ _ _ _ _ c.loop-left.invariant.run.1 c.loop-left-test.true _ c.index-node.ensures c.args.s c.if-node-s.true)
+returns-then-node-s c = sym (sym c.loop-left.invariant.same ∙ found_here _ _ _ c.loop-left.invariant.run c.loop-left-test.true _ c.index-node.ensures c.args.s c.if-node-s.true)
 
 pub loop-left-preserved : goal.loop-left-preserved
 loop-left-preserved c = record {
-  run = next_run _ _ _ _ _ c.loop-left.invariant.run.1 c.loop-left-test.true _ c.index-node.ensures;
-  same = next_same _ _ _ _ _ c.loop-left.invariant.run.1 c.loop-left-test.true _ c.index-node.ensures c.args.s c.if-node-s.false ∙ c.loop-left.invariant.same;
+  run = next_run _ _ _ c.loop-left.invariant.run c.loop-left-test.true _ c.index-node.ensures;
+  same = next_same _ _ _ c.loop-left.invariant.run c.loop-left-test.true _ c.index-node.ensures c.args.s c.if-node-s.false ∙ c.loop-left.invariant.same;
 }
 
 pub returns : goal.returns

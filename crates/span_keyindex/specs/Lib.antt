@@ -1,0 +1,3 @@
+pub mod Entries
+pub mod Arenas
+pub mod Places
