@@ -1,11 +1,10 @@
 -- The keys under roots.
-use Rattle.std.proofs.Common.{◌≡◌, ℕ, zero, suc, ◌<◌, Bool, true, false, ◌||◌, cond, List, [], ◌∷◌, ◌++◌, Option, Some, None, is_some, take, refl, sym, ap, ◌∙◌, arith, Bor}
+use Rattle.std.proofs.Common.{◌≡◌, ℕ, zero, suc, ◌<◌, Bool, true, false, ◌||◌, cond, List, [], ◌∷◌, ◌++◌, Option, Some, None, is_some, map, take, refl, sym, ap, ◌∙◌, arith}
 use Rattle.std.specs.Prelude.{slice_get}
 use Rattle.std.specs.List.{filter, find, list_any, AllByRecursion}
 use Rattle.std.specs.declared.cmp.Ordering.TheVariants.{Less}
 use Rattle.std.specs.Ordering.{is_eq, ordering_reverse}
 use Rattle.std.specs.Cmp.{tied_itself}
-use Rattle.std.proofs.lemmas.List.{map-append}
 use Rattle.std.proofs.lemmas.List.Folds.{list_any-append}
 use Rattle.span_mutate.proofs.Filters.{find_kept}
 use Rattle.span_mutate.proofs.Placing.{all_filter}
@@ -13,7 +12,7 @@ use Rattle.span_shard.specs.KeyVersions.{KeyVersions}
 use Rattle.span_shard.specs.Versions.{row_at}
 use Rattle.span_shard.specs.Rows.{begins_with}
 use Rattle.span_shard.specs.Shard.{AreInOrder, keys_cmp, is_key, row_now, versions_of, end_of_time}
-use Rattle.span_shard.specs.Reading.{pointed, is_under, row_of, IsFound}
+use Rattle.span_shard.specs.Reading.{bare, is_under, row_of, IsFound}
 use Rattle.span_shard.proofs.Lists.{all_map, all_both, all_append, all_filter_itself, any_found}
 use Rattle.span_shard.proofs.Bytes.{bytes_total, same_bytes}
 
@@ -59,17 +58,26 @@ has_key cs k some = cases (find (is_key k) cs) refl some
 abbrev IsOwn : List KeyVersions → List (List ℕ) → KeyVersions → Type 0
 IsOwn cs roots c = (is_under roots c.key ≡ true) × (row_now cs c.key ≡ row_of c)
 
+all_bare : (P : KeyVersions → Type 0) (xs : List KeyVersions) → AllByRecursion (λ c. P (bare c)) xs → AllByRecursion P (map bare xs)
+all_bare P [] h = tt
+all_bare P (x ∷ xs) h = (h.0, all_bare P xs h.1)
+
+any_bare : (k : List ℕ) (xs : List KeyVersions) → list_any (is_key k) (map bare xs) ≡ list_any (is_key k) xs
+any_bare k [] = refl
+any_bare k (x ∷ xs) = ap (λ (b : Bool). is_key k x || b) (any_bare k xs)
+
 -- the keys under one root more
-pub found_more : (cs : List KeyVersions) → AreInOrder cs → (done : List (List ℕ)) (p : List ℕ) (found : List KeyVersions) → IsFound done cs found → IsFound (done ++ p ∷ []) cs (found ++ filter (λ (c : KeyVersions). begins_with c.key p) cs)
+pub found_more : (cs : List KeyVersions) → AreInOrder cs → (done : List (List ℕ)) (p : List ℕ) (found : List KeyVersions) → IsFound done cs found → IsFound (done ++ p ∷ []) cs (found ++ map bare (filter (λ (c : KeyVersions). begins_with c.key p) cs))
 found_more cs sorted done p found h = record {
-  sound = all_append (IsOwn cs (done ++ p ∷ [])) found (filter (λ (c : KeyVersions). begins_with c.key p) cs)
+  sound = all_append (IsOwn cs (done ++ p ∷ [])) found (map bare (filter (λ (c : KeyVersions). begins_with c.key p) cs))
       (all_map (IsOwn cs done) (IsOwn cs (done ++ p ∷ [])) (λ c g. (under_more done p c.key ∙ or_left (is_under done c.key) (begins_with c.key p || false) g.0, g.1)) found h.sound)
-      (all_map (λ (c : KeyVersions). (begins_with c.key p ≡ true) × (row_now cs c.key ≡ row_of c)) (IsOwn cs (done ++ p ∷ []))
+      (all_bare (IsOwn cs (done ++ p ∷ [])) (filter (λ (c : KeyVersions). begins_with c.key p) cs) (all_map (λ (c : KeyVersions). (begins_with c.key p ≡ true) × (row_now cs c.key ≡ row_of c)) (IsOwn cs (done ++ p ∷ []))
       (λ c g. (under_more done p c.key ∙ or_right (is_under done c.key) (begins_with c.key p || false) (or_left (begins_with c.key p) false g.0), g.1)) (filter (λ (c : KeyVersions). begins_with c.key p) cs)
       (all_both (λ (c : KeyVersions). begins_with c.key p ≡ true) (λ (c : KeyVersions). row_now cs c.key ≡ row_of c) (filter (λ (c : KeyVersions). begins_with c.key p) cs)
-      (all_filter_itself (λ (c : KeyVersions). begins_with c.key p) cs) (all_filter (λ (c : KeyVersions). row_now cs c.key ≡ row_of c) (λ (c : KeyVersions). begins_with c.key p) cs (own_rows cs sorted))));
+      (all_filter_itself (λ (c : KeyVersions). begins_with c.key p) cs) (all_filter (λ (c : KeyVersions). row_now cs c.key ≡ row_of c) (λ (c : KeyVersions). begins_with c.key p) cs (own_rows cs sorted)))));
   complete = λ k under some.
-      list_any-append (is_key k) found (filter (λ (c : KeyVersions). begins_with c.key p) cs)
+      list_any-append (is_key k) found (map bare (filter (λ (c : KeyVersions). begins_with c.key p) cs))
+      ∙ ap (λ (b : Bool). list_any (is_key k) found || b) (any_bare k (filter (λ (c : KeyVersions). begins_with c.key p) cs))
       ∙ or_either ((list_any (is_key k) found || list_any (is_key k) (filter (λ (c : KeyVersions). begins_with c.key p) cs)) ≡ true) (is_under done k) (begins_with k p || false)
       (λ e. or_left (list_any (is_key k) found) (list_any (is_key k) (filter (λ (c : KeyVersions). begins_with c.key p) cs)) (h.complete k e some))
       (λ e. or_right (list_any (is_key k) found) (list_any (is_key k) (filter (λ (c : KeyVersions). begins_with c.key p) cs)) (new k (or_false (begins_with k p) e) some))
@@ -98,7 +106,3 @@ any_taken p xs zero j x less e f = absurd (omega arith)
 any_taken p [] (suc i) j x less e f = absurd (cc)
 any_taken p (y ∷ ys) (suc i) zero x less e f = let same : y ≡ x = cc in or_left (p y) (list_any p (take i ys)) (ap p same ∙ f)
 any_taken p (y ∷ ys) (suc i) (suc j) x less e f = or_right (p y) (list_any p (take i ys)) (any_taken p ys i j x (omega arith) e f)
-
--- one reference more
-pub pointed_more : (found : List (Bor KeyVersions)) (c : Bor KeyVersions) → pointed (found ++ c ∷ []) ≡ pointed found ++ c.now ∷ []
-pointed_more found c = map-append (λ (d : Bor KeyVersions). d.now) found (c ∷ [])

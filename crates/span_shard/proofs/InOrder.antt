@@ -10,7 +10,7 @@ use Rattle.span_shard.specs.declared.chain.PreparedWrite.{PreparedWrite}
 use Rattle.span_shard.specs.declared.write.Write.{Write}
 use Rattle.span_shard.specs.KeyVersions.{KeyVersions}
 use Rattle.span_shard.specs.Versions.{is_used, with_prepared, with_version, applied_write, applied_to_key}
-use Rattle.span_shard.specs.Shard.{keys_cmp, AreInOrder, by_order, fresh, prepared_write, with_write, with_writes, applied}
+use Rattle.span_shard.specs.Shard.{keys_cmp, AreInOrder, by_order, fresh, prepared_write, with_write, with_writes, applied, trimmed_key, trimmed}
 use Rattle.span_shard.proofs.Bytes.{bytes_total}
 
 -- ---- prepare
@@ -61,3 +61,16 @@ in_order_mapped txn committed (c ∷ cs) h = (all_mapped c txn committed cs h.0,
 
 pub in_order_applied : (txn : ℕ) (committed : Option ℕ) (cs : List KeyVersions) → AreInOrder cs → AreInOrder (applied txn committed cs)
 in_order_applied txn committed cs h = rising_filter keys_cmp is_used (map (applied_to_key txn committed) cs) (in_order_mapped txn committed cs h)
+
+-- ---- trim
+
+all_trimmed : (d : KeyVersions) (h : ℕ) (cs : List KeyVersions) → AllByRecursion (λ c. keys_cmp d c ≡ Less) cs → AllByRecursion (λ c. keys_cmp (trimmed_key h d) c ≡ Less) (map (trimmed_key h) cs)
+all_trimmed d h [] all = tt
+all_trimmed d h (c ∷ cs) all = (all.0, all_trimmed d h cs all.1)
+
+in_order_each_trimmed : (h : ℕ) (cs : List KeyVersions) → AreInOrder cs → AreInOrder (map (trimmed_key h) cs)
+in_order_each_trimmed h [] up = tt
+in_order_each_trimmed h (c ∷ cs) up = (all_trimmed c h cs up.0, in_order_each_trimmed h cs up.1)
+
+pub in_order_trimmed : (h : ℕ) (cs : List KeyVersions) → AreInOrder cs → AreInOrder (trimmed h cs)
+in_order_trimmed h cs up = rising_filter keys_cmp is_used (map (trimmed_key h) cs) (in_order_each_trimmed h cs up)

@@ -1,5 +1,4 @@
 pub mod Bytes
-pub mod Chains
 pub mod Changing
 pub mod Codes
 pub mod Databases
@@ -9,9 +8,17 @@ pub mod InOrder
 pub mod Lists
 pub mod Loops
 pub mod Parts
-pub mod Places
 pub mod Searching
 pub mod Sorting
 pub mod Steps
 pub mod Touching
 pub mod Undo
+pub mod Owned
+pub mod Ending
+pub mod Preparing
+pub mod Unused
+pub mod Slots
+pub mod Counting
+pub mod Seeing
+pub mod Cutting
+pub mod Horizons

@@ -1,5 +1,5 @@
 -- Steps of the loops over keys and rows.
-use Rattle.std.proofs.Common.{◌≡◌, inl, inr, ℕ, zero, suc, ◌+◌, ◌-◌, ◌<◌, Bool, true, false, not, ◌&&◌, ◌||◌, cond, List, [], ◌∷◌, ◌++◌, Option, Some, None, is_some, length, take, get_or, refl, sym, ap, subst, ◌∙◌, arith, append_assoc, length-append, Bor}
+use Rattle.std.proofs.Common.{◌≡◌, inl, inr, ℕ, zero, suc, ◌+◌, ◌-◌, ◌<◌, Bool, true, false, not, ◌&&◌, ◌||◌, cond, List, [], ◌∷◌, ◌++◌, Option, Some, None, is_some, length, take, get_or, refl, sym, ap, subst, ◌∙◌, arith, append_assoc, length-append}
 use Rattle.std.specs.Prelude.{slice_get}
 use Rattle.std.specs.List.{list_any}
 use Rattle.std.specs.Ordering.{eq_by_cmp}
@@ -16,10 +16,9 @@ use Rattle.span_shard.specs.KeyVersions.{KeyVersions}
 use Rattle.span_shard.specs.Writes.{is_of}
 use Rattle.span_shard.specs.Rows.{code_of, is_coded}
 use Rattle.span_shard.specs.Shard.{is_key}
-use Rattle.span_shard.specs.Reading.{pointed, row_of, is_same_row, is_row_of, AreRead, IsUnread, HasUnread, AreDeletions, is_behind, each_once}
+use Rattle.span_shard.specs.Reading.{row_of, is_same_row, is_row_of, AreRead, IsUnread, HasUnread, AreDeletions, is_behind, each_once}
 use Rattle.span_shard.proofs.Lists.{all_map, all_append}
 use Rattle.span_shard.proofs.Bytes.{bytes_same}
-use Rattle.span_shard.proofs.Finding.{pointed_more}
 
 or_left : (a b : Bool) → a ≡ true → (a || b) ≡ true
 or_left a b e = ap (λ (x : Bool). x || b) e
@@ -35,9 +34,8 @@ any_last : {X : Type 0} (p : X → Bool) (xs : List X) (x : X) → p x ≡ true 
 any_last p xs x e = list_any-append p xs (x ∷ []) ∙ or_right (list_any p xs) (list_any p (x ∷ [])) (or_left (p x) false e)
 
 -- the keys so far, and one more
-pub pointed_step : (found : List (Bor KeyVersions)) (i : ℕ) (c : Bor KeyVersions) → i < length found → c ≡ get_or found i c → pointed (take (i + 1) found) ≡ pointed (take i found) ++ c.now ∷ []
-pointed_step found i c less at =
-    ap pointed (take_more found i c less ∙ ap (λ (d : Bor KeyVersions). take i found ++ d ∷ []) (sym at)) ∙ pointed_more (take i found) c
+pub found_step : (found : List KeyVersions) (i : ℕ) (c : KeyVersions) → i < length found → c ≡ get_or found i c → take (i + 1) found ≡ take i found ++ c ∷ []
+found_step found i c less at = take_more found i c less ∙ ap (λ (d : KeyVersions). take i found ++ d ∷ []) (sym at)
 
 -- ---- reading
 
@@ -69,9 +67,9 @@ read_more tables found rows c r typed key row h = record {
       ((λ _. any_last (is_coded tables c.key) rows r (bytes_same c.key (code_of tables r) key)), tt);
 }
 
-pub unread_at : (tables : List Table) (found : List (Bor KeyVersions)) (i : ℕ) (c : Bor KeyVersions) → i < length found → c ≡ get_or found i c → IsUnread tables c.now (row_of c.now) → HasUnread tables (pointed found)
+pub unread_at : (tables : List Table) (found : List KeyVersions) (i : ℕ) (c : KeyVersions) → i < length found → c ≡ get_or found i c → IsUnread tables c (row_of c) → HasUnread tables found
 unread_at tables [] i c less at u = absurd (let l : i < 0 = less in omega arith)
-unread_at tables (d ∷ found) zero c less at u = inl (subst (λ (e : Bor KeyVersions). IsUnread tables e.now (row_of e.now)) at u)
+unread_at tables (d ∷ found) zero c less at u = inl (subst (λ (e : KeyVersions). IsUnread tables e (row_of e)) at u)
 unread_at tables (d ∷ found) (suc i) c less at u = inr (unread_at tables found i c (omega arith) at u)
 
 -- ---- deletions

@@ -1,5 +1,6 @@
 pub mod KeyVersions
 pub mod Versions
+pub mod Stored
 pub mod Writes
 pub mod Rows
 pub mod Shard

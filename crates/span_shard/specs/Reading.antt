@@ -4,9 +4,10 @@ use Rattle.std.specs.List.{list_any, AllByRecursion}
 use Rattle.std.specs.List.Sorted.{IsPermutation, IsSortedBy}
 use Rattle.std.specs.Ordering.{eq_by_cmp, is_lt}
 use Rattle.std.specs.Str.{bytes_eq}
-use Rattle.std.proofs.Common.{Bor}
 use Rattle.span_value.specs.declared.refusal.Refusal.{Refusal}
 use Rattle.span_value.specs.declared.refusal.Refusal.TheVariants.{OutOfMemory}
+use Rattle.span_arena.specs.Content.{Content}
+use Rattle.span_keyindex.specs.declared.entry.Entry.{Entry as IndexEntry}
 use Rattle.span_schema.specs.declared.table.Table.{Table}
 use Rattle.span_keycode.specs.Order.{byte_order}
 use Rattle.span_rowcode.specs.Rows.{row_code}
@@ -21,15 +22,23 @@ use Rattle.span_shard.specs.KeyVersions.{KeyVersions}
 use Rattle.span_shard.specs.Versions.{row_at}
 use Rattle.span_shard.specs.Writes.{is_of}
 use Rattle.span_shard.specs.Rows.{begins_with, code_of, is_coded, is_touched, AreChanges}
-use Rattle.span_shard.specs.Shard.{KeyRow, is_key, end_of_time, row_now, IsNow}
+use Rattle.span_shard.specs.Stored.{chain_versions}
+use Rattle.span_shard.specs.Shard.{KeyRow, is_key, end_of_time, row_now, seen_at, IsNow}
 
 -- an entry, by what it lends
 abbrev pub shown : Entry → KeyRow
 shown e = record { key = e.key.now; row = e.row.now }
 
--- what references point to
-abbrev pub pointed : List (Bor KeyVersions) → List KeyVersions
-pointed cs = map (λ (c : Bor KeyVersions). c.now) cs
+-- a key with its versions alone
+abbrev pub bare : KeyVersions → KeyVersions
+bare c = record { key = c.key; versions = c.versions; prepared = None }
+
+abbrev pub bare_entry : Content → IndexEntry → KeyVersions
+bare_entry a e = record { key = e.key; versions = chain_versions a e.chain.number; prepared = None }
+
+-- the row that is seen of a key at s, if there is one
+abbrev pub seen_entry : Content → ℕ → IndexEntry → Option KeyRow
+seen_entry a s e = seen_at s (bare_entry a e)
 
 -- the key begins with one of these
 abbrev pub is_under : List (List ℕ) → List ℕ → Bool

@@ -1,4 +1,4 @@
-use Rattle.std.specs.Prelude.{◌≡◌, ℕ, ◌+◌, Bool, true, false, not, ◌&&◌, List, [], ◌∷◌, ◌++◌, length, map, filter, find, sum_by, is_some, Option, Some, None, option_map, Result, Ok, Err, IfSome, slice_get, take, drop, ◌≤◌, ◌≢◌, if◌then◌else◌}
+use Rattle.std.specs.Prelude.{◌≡◌, ℕ, ◌+◌, Bool, true, not, ◌&&◌, List, [], ◌∷◌, ◌++◌, length, map, filter, find, sum_by, is_some, Option, Some, None, option_map, ◌≢◌, if◌then◌else◌}
 use Rattle.std.specs.List.{filter_map, AllByRecursion}
 use Rattle.std.specs.Ordering.{eq_by_cmp, is_lt}
 use Rattle.std.specs.declared.cmp.Ordering.{Ordering}
@@ -14,7 +14,7 @@ use Rattle.span_shard.specs.declared.chain.PreparedWrite.{PreparedWrite}
 use Rattle.span_shard.specs.declared.write.Write.{Write}
 use Rattle.span_shard.specs.KeyVersions.{KeyVersions}
 use Rattle.span_shard.specs.Rows.{row_coded, is_touched}
-use Rattle.span_shard.specs.Versions.{row_at, is_used, with_prepared, applied_to_key}
+use Rattle.span_shard.specs.Versions.{row_at, is_used, with_prepared, applied_to_key, kept_upto}
 
 -- A shard is what it has of each key, in order of the keys.
 
@@ -25,14 +25,6 @@ keys_cmp c d = byte_order c.key d.key
 -- each key is before those behind it
 abbrev pub AreInOrder : List KeyVersions → Type 0
 AreInOrder cs = IsRising keys_cmp cs
-
--- a key before these bytes
-abbrev pub is_before : List ℕ → KeyVersions → Bool
-is_before bytes c = is_lt (byte_order c.key bytes)
-
--- the place of the first key that is not before these bytes
-abbrev pub IsFirstFrom : List ℕ → List KeyVersions → ℕ → Type 0
-IsFirstFrom bytes cs i = (i ≤ length cs) × AllByRecursion (λ c. is_before bytes c ≡ true) (take i cs) × AllByRecursion (λ c. is_before bytes c ≡ false) (drop i cs)
 
 abbrev pub is_key : List ℕ → KeyVersions → Bool
 is_key key c = eq_by_cmp byte_order key c.key
@@ -110,11 +102,6 @@ IsFree tables ms cs = AllByRecursion (λ c. is_touched tables ms c.key ≡ true 
 abbrev pub IsNow : List Table → List CheckedMutation → List TableRow → List KeyVersions → Type 0
 IsNow tables ms db cs = (k : List ℕ) → is_touched tables ms k ≡ true → row_now cs k ≡ row_coded tables db k
 
--- the key comes after all in front of the place, and stands there, or does not come after what stands there
-abbrev pub IsPlaceOf : List ℕ → List KeyVersions → Result ℕ ℕ → Type 0
-IsPlaceOf key cs (Ok i) = AllByRecursion (λ c. byte_order key c.key ≡ Greater) (take i cs) × (c : KeyVersions) × (slice_get cs i ≡ Some c) × (byte_order key c.key ≡ Equal)
-IsPlaceOf key cs (Err i) = AllByRecursion (λ c. byte_order key c.key ≡ Greater) (take i cs) × (i ≤ length cs) × IfSome (slice_get cs i) (λ c. byte_order key c.key ≡ Less)
-
 abbrev pub IsInUse : KeyVersions → Type 0
 IsInUse c = is_used c ≡ true
 
@@ -123,6 +110,16 @@ IsInUse c = is_used c ≡ true
 -- with the transaction's writes applied at its commit timestamp, or given up where there is none
 abbrev pub applied : ℕ → Option ℕ → List KeyVersions → List KeyVersions
 applied txn committed cs = filter is_used (map (applied_to_key txn committed) cs)
+
+-- ---- trim
+
+-- the key with its versions trimmed at the horizon h
+abbrev pub trimmed_key : ℕ → KeyVersions → KeyVersions
+trimmed_key h c = record c { versions = kept_upto h c.versions }
+
+-- trimmed at the horizon h, without the keys that have nothing any more
+abbrev pub trimmed : ℕ → List KeyVersions → List KeyVersions
+trimmed h cs = filter is_used (map (trimmed_key h) cs)
 
 -- ---- what is read
 

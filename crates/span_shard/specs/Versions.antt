@@ -37,3 +37,15 @@ applied_write (Some w) txn committed c = if w.txn == txn then record c { version
 -- the key once the transaction's write there is applied, at its commit timestamp, or given up where there is none
 abbrev pub applied_to_key : ℕ → Option ℕ → KeyVersions → KeyVersions
 applied_to_key txn committed c = applied_write c.prepared txn committed c
+
+-- ---- trimming
+
+-- a version of a row is kept, and a deletion is not
+abbrev pub kept_version : Version → Option (List ℕ) → List Version
+kept_version v None = []
+kept_version v (Some row) = v ∷ []
+
+-- what is kept at a horizon: the newest version at or below it, unless it is a deletion, and all later ones
+abbrev pub kept_upto : ℕ → List Version → List Version
+kept_upto h [] = []
+kept_upto h (v ∷ vs) = if nat_le v.timestamp h then kept_version v v.row else v ∷ kept_upto h vs

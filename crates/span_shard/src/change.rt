@@ -8,12 +8,12 @@ ghost use Rattle.span_keycode.specs.Order.{byte_order};
 ghost use Rattle.span_mutate.specs.Typed.{IsTyped, AreTyped, AreTypedMutations};
 ghost use Rattle.span_shard.specs.Writes.{is_of};
 ghost use Rattle.span_shard.specs.Shard.{AreInOrder, row_now};
-ghost use Rattle.span_shard.specs.Reading.{pointed, coded, is_same_row, row_of, AreDeletions, AreDiffs, AreWrites, IsFault};
+ghost use Rattle.span_shard.specs.Reading.{coded, is_same_row, row_of, AreDeletions, AreDiffs, AreWrites, IsFault};
 
-use super::chain::Chain;
-use super::place::row_now;
+use super::place::{StoredKey, row_now};
 use super::read::{in_order, read_rows};
 use super::root::{keys_under, roots_of};
+use super::store::Store;
 use super::write::Write;
 use span_keycode::encode::encode_key;
 use span_keycode::key::Key;
@@ -70,31 +70,35 @@ fn has_key(writes: &[Write], key: &[u8]) -> bool
 }
 
 /// Whether the key has a row now and none is left.
-fn is_gone(chain: &Chain, left: &[Write]) -> bool
+fn is_gone(found: &StoredKey<'_>, left: &[Write]) -> bool
     requires { IsSortedBy (λ v w. is_lt (byte_order v.key w.key)) left.now }
-    ensures { result ≡ (is_some (row_of chain.now) && not (list_any (is_of chain.now.key) left.now)) }
+    ensures { result ≡ (is_some (row_of found.now) && not (list_any (is_of found.now.key) left.now)) }
 {
-    chain.row_at(u64::MAX).is_some() && !has_key(left, chain.key())
+    found.row_at(u64::MAX).is_some() && !has_key(left, found.key())
 }
 
-fn deletion(alloc: Global, chain: &Chain) -> Result<Write, AllocError>
-    ensures { IfOk result (λ w. w ≡ record { key = chain.now.key; row = None }) }
+fn deletion(alloc: Global, found: &StoredKey<'_>) -> Result<Write, AllocError>
+    ensures { IfOk result (λ w. w ≡ record { key = found.now.key; row = None }) }
 {
     Ok(Write {
-        key: Key::from_slice(alloc, chain.key())?,
+        key: Key::from_slice(alloc, found.key())?,
         row: None,
     })
 }
 
 /// Deletions of the keys that have a row now and of which none is left.
-fn deletions(alloc: Global, found: &[&Chain], left: &[Write]) -> Result<Vec<Write>, AllocError>
+fn deletions(
+    alloc: Global,
+    found: &[StoredKey<'_>],
+    left: &[Write],
+) -> Result<Vec<Write>, AllocError>
     requires { IsSortedBy (λ v w. is_lt (byte_order v.key w.key)) left.now }
-    ensures { IfOk result (λ ws. AreDeletions (pointed found.now) left.now ws.items) }
+    ensures { IfOk result (λ ws. AreDeletions found.now left.now ws.items) }
 {
     let mut writes = Vec::new(alloc);
-    for chain in found {
-        if is_gone(chain, left) {
-            writes.push(deletion(alloc, chain)?)?;
+    for key in found {
+        if is_gone(key, left) {
+            writes.push(deletion(alloc, key)?)?;
         }
     }
     Ok(writes)
@@ -112,20 +116,20 @@ fn is_same_row(left: Option<&Seq<u8>>, right: Option<&Seq<u8>>) -> bool
 }
 
 /// Whether what is to be written is another row than the one that stands there now.
-fn is_change(chains: &[Chain], write: &Write) -> bool
-    requires { AreInOrder chains.now }
-    ensures { result ≡ not (is_same_row (row_now chains.now write.now.key) write.now.row) }
+fn is_change(store: &Store, write: &Write) -> bool
+    requires { AreInOrder store.now }
+    ensures { result ≡ not (is_same_row (row_now store.now write.now.key) write.now.row) }
 {
-    !is_same_row(row_now(chains, write.key.as_slice()), write.row.as_ref())
+    !is_same_row(row_now(store, write.key.as_slice()), write.row.as_ref())
 }
 
 /// The writes that change the row of their key.
-fn changing(chains: &[Chain], writes: Vec<Write>) -> Vec<Write>
-    requires { AreInOrder chains.now }
-    ensures { result.items ≡ filter (λ w. not (is_same_row (row_now chains.now w.key) w.row)) writes.items }
+fn changing(store: &Store, writes: Vec<Write>) -> Vec<Write>
+    requires { AreInOrder store.now }
+    ensures { result.items ≡ filter (λ w. not (is_same_row (row_now store.now w.key) w.row)) writes.items }
 {
     let mut writes = writes;
-    writes.retain(|write| is_change(chains, write));
+    writes.retain(|write| is_change(store, write));
     writes
 }
 
@@ -133,18 +137,18 @@ fn changing(chains: &[Chain], writes: Vec<Write>) -> Vec<Write>
 fn changes(
     alloc: Global,
     schema: &Schema,
-    chains: &[Chain],
-    found: &[&Chain],
+    store: &Store,
+    found: &[StoredKey<'_>],
     after: &[TableRow],
 ) -> Result<Vec<Write>, Refusal>
-    requires order { AreInOrder chains.now }
+    requires order { AreInOrder store.now }
     requires typed { AreTyped schema.now after.now }
-    ensures { MatchResult result (λ ws. AreDiffs schema.now chains.now (pointed found.now) after.now ws.items) (λ why. why ≡ Refusal.OutOfMemory) }
+    ensures { MatchResult result (λ ws. AreDiffs schema.now store.now found.now after.now ws.items) (λ why. why ≡ Refusal.OutOfMemory) }
 {
     let all = all_coded(alloc, schema, after)?;
     let left = sorted(all)?;
     let mut gone = deletions(alloc, found, left.as_slice())?;
-    let mut writes = changing(chains, left);
+    let mut writes = changing(store, left);
     writes.append(&mut gone)?;
     Ok(writes)
 }
@@ -153,20 +157,20 @@ fn changes(
 pub(crate) fn writes_of(
     alloc: Global,
     schema: &Schema,
-    chains: &[Chain],
+    store: &Store,
     mutations: &[CheckedMutation],
 ) -> Result<Vec<Write>, Refusal>
-    requires order { AreInOrder chains.now }
+    requires order { AreInOrder store.now }
     requires typed { AreTypedMutations schema.now mutations.now }
-    ensures ok { IfOk result (λ ws. AreWrites schema.now mutations.now chains.now ws.items) }
-    ensures fault { IfErr result (λ why. IsFault schema.now mutations.now chains.now why) }
+    ensures ok { IfOk result (λ ws. AreWrites schema.now mutations.now store.now ws.items) }
+    ensures fault { IfErr result (λ why. IsFault schema.now mutations.now store.now why) }
 {
     let _tables = schema.tables();
     let roots = roots_of(alloc, schema, mutations)?;
-    let found = keys_under(alloc, chains, roots.as_slice())?;
+    let found = keys_under(alloc, store, roots.as_slice())?;
     let rows = read_rows(alloc, schema, found.as_slice())?;
     let before = in_order(alloc, schema, rows)?;
     let after = check_root(alloc, schema, before, mutations)?;
-    let writes = changes(alloc, schema, chains, found.as_slice(), after.as_slice())?;
+    let writes = changes(alloc, schema, store, found.as_slice(), after.as_slice())?;
     Ok(writes)
 }

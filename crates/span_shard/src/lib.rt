@@ -5,10 +5,13 @@
 
 mod chain;
 mod change;
+mod node;
 mod place;
 pub mod read;
 mod root;
 pub mod shard;
+mod store;
 #[cfg(test)]
 mod tests;
+mod trim;
 mod write;

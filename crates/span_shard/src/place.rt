@@ -1,74 +1,149 @@
-//! Where keys stand among those of a shard. All is found by binary search.
-ghost use Rattle.std.specs.Prelude.{◌≡◌, ◌≤◌, true, false, filter, length, take, drop};
-ghost use Rattle.std.specs.List.{AllByRecursion};
+//! What stands under keys.
+ghost use Rattle.std.specs.Prelude.{◌≡◌, ◌++◌, All, IfOk, OnOk, map, filter};
+ghost use Rattle.std.specs.List.{filter_map};
 ghost use Rattle.std.specs.Option.{option_copied};
+ghost use Rattle.span_arena.specs.Content.{IsChain};
 ghost use Rattle.span_shard.specs.Rows.{begins_with};
-ghost use Rattle.span_shard.specs.Shard.{AreInOrder, is_before, IsFirstFrom, IsPlaceOf, row_now, is_within};
+ghost use Rattle.span_shard.specs.Shard.{AreInOrder, row_now, snapshot};
+ghost use Rattle.span_shard.specs.Versions.{row_at};
+ghost use Rattle.span_shard.specs.Stored.{chain_versions};
+ghost use Rattle.span_shard.specs.Reading.{shown, bare, bare_entry, seen_entry};
 
-use super::chain::Chain;
+use super::shard::Entry;
+use super::store::Store;
+use span_arena::arena::Arena;
+use span_arena::token::Chain;
 use span_keycode::range::KeyRange;
+use span_keyindex::walk::Walk;
 use span_value::seq::Seq;
-use std::cmp::Ordering;
+use std::alloc::{AllocError, Global};
+use std::marker::Model;
 
-/// The place of the first key that is not before these bytes.
-fn first_from(chains: &[Chain], bytes: &[u8]) -> usize
-    requires { AreInOrder chains.now }
-    ensures { IsFirstFrom bytes.now chains.now result }
-{
-    chains.partition_point(|chain| chain.is_before(bytes))
+/// A key of a store, lent with its versions. Contracts see the key and its versions, and not what is prepared there.
+#[derive(Drop)]
+pub(crate) struct StoredKey<'a> {
+    key: &'a [u8],
+    chain: Chain,
+    arena: &'a Arena,
 }
 
-/// Where the key stands, or where it would.
-pub(crate) fn place_of(chains: &[Chain], key: &[u8]) -> Result<usize, usize>
-    requires { AreInOrder chains.now }
-    ensures { IsPlaceOf key.now chains.now result }
-{
-    let at = first_from(chains, key);
-    if at == chains.len() {
-        return Err(at);
+impl<'a> Model for StoredKey<'a> {
+    ghost use Rattle.std.specs.Prelude.{None};
+    ghost use Rattle.span_arena.specs.Content.{IsChain};
+    ghost use Rattle.span_shard.specs.KeyVersions.{KeyVersions};
+    ghost use Rattle.span_shard.specs.Stored.{chain_versions};
+
+    ghost Value = { KeyVersions };
+
+    ghost view = { λ k. record { key = k.key.now; versions = chain_versions k.arena.now k.chain.number; prepared = None } };
+
+    ghost invariant = { λ k. IsChain k.arena.now k.chain.number };
+}
+
+impl<'a> StoredKey<'a> {
+    /// The key.
+    pub(crate) fn key(&self) -> &'a [u8]
+        ensures { result.now ≡ self.now.key }
+    {
+        self.key
     }
-    match chains[at].order_of(key) {
-        Ordering::Equal => Ok(at),
-        _ => Err(at),
+
+    /// The row at s, if there is one.
+    pub(crate) fn row_at(&self, s: u64) -> Option<&'a Seq<u8>>
+        ensures { option_copied result ≡ row_at self.now.versions s }
+    {
+        row_in(self.arena, self.chain, s)
+    }
+}
+
+/// The row at s of a chain, if there is one.
+fn row_in<'a>(arena: &'a Arena, chain: Chain, s: u64) -> Option<&'a Seq<u8>>
+    requires { IsChain arena.now chain.number }
+    ensures { option_copied result ≡ row_at (chain_versions arena.now chain.number) s }
+{
+    match arena.newest_at(chain, s) {
+        Some(version) => version.image.as_ref(),
+        None => None,
     }
 }
 
 /// The row at a key by all that was applied.
-pub(crate) fn row_now<'a>(chains: &'a [Chain], key: &[u8]) -> Option<&'a Seq<u8>>
-    requires { AreInOrder chains.now }
-    ensures { option_copied result ≡ row_now chains.now key.now }
+pub(crate) fn row_now<'a>(store: &'a Store, key: &[u8]) -> Option<&'a Seq<u8>>
+    requires { AreInOrder store.now }
+    ensures { option_copied result ≡ row_now store.now key.now }
 {
-    match place_of(chains, key) {
-        Ok(at) => chains[at].row_at(u64::MAX),
-        Err(_) => None,
+    match store.index.find(&store.arena, key) {
+        Some(chain) => row_in(&store.arena, chain, u64::MAX),
+        None => None,
     }
 }
 
-// How many of the keys, none of which is before these bytes, begin with them.
-fn beginning_len(chains: &[Chain], front: &[u8]) -> usize
-    requires order { AreInOrder chains.now }
-    requires from { AllByRecursion (λ c. is_before front.now c ≡ false) chains.now }
-    ensures within { result ≤ length chains.now }
-    ensures front { AllByRecursion (λ c. begins_with c.key front.now ≡ true) (take result chains.now) }
-    ensures rest { AllByRecursion (λ c. begins_with c.key front.now ≡ false) (drop result chains.now) }
+fn push_keys<'a>(
+    found: &mut Vec<StoredKey<'a>>,
+    arena: &'a Arena,
+    walk: Walk<'a>,
+) -> Result<(), AllocError>
+    requires { All (λ e. IsChain arena.now e.chain.number) walk }
+    ensures { OnOk result (found.new.items ≡ found.old.items ++ map (bare_entry arena.now) walk.entry) }
 {
-    chains.partition_point(|chain| chain.key().starts_with(front))
+    let mut walk = walk;
+    while let Some((key, chain)) = walk.next() {
+        found.push(StoredKey { key, chain, arena })?;
+    }
+    Ok(())
 }
 
-/// The keys that begin with these bytes. They stand beside one another.
-pub(crate) fn beginning<'a>(chains: &'a [Chain], front: &[u8]) -> &'a [Chain]
-    requires { AreInOrder chains.now }
-    ensures { result.now ≡ filter (λ c. begins_with c.key front.now) chains.now }
+/// Adds the keys that begin with these bytes.
+pub(crate) fn push_beginning<'a>(
+    found: &mut Vec<StoredKey<'a>>,
+    store: &'a Store,
+    front: &[u8],
+) -> Result<(), AllocError>
+    ensures { OnOk result (found.new.items ≡ found.old.items ++ map bare (filter (λ c. begins_with c.key front.now) store.now)) }
 {
-    let behind = chains.split_at(first_from(chains, front)).1;
-    behind.split_at(beginning_len(behind, front)).0
+    push_keys(
+        found,
+        &store.arena,
+        store.index.walk_under(&store.arena, front),
+    )
 }
 
-/// The keys in a range.
-pub(crate) fn within<'a>(chains: &'a [Chain], range: &KeyRange) -> &'a [Chain]
-    requires { AreInOrder chains.now }
-    ensures { result.now ≡ filter (λ c. is_within range.now c.key) chains.now }
+/// The rows at s of these keys.
+fn entries_at<'a>(
+    alloc: Global,
+    arena: &'a Arena,
+    walk: Walk<'a>,
+    s: u64,
+) -> Result<Vec<Entry<'a>>, AllocError>
+    requires { All (λ e. IsChain arena.now e.chain.number) walk }
+    ensures { IfOk result (λ es. map shown es.items ≡ filter_map (seen_entry arena.now s) walk.entry) }
 {
-    let behind = chains.split_at(first_from(chains, range.low.as_slice())).1;
-    behind.split_at(first_from(behind, range.high.as_slice())).0
+    let mut entries = Vec::new(alloc);
+    let mut walk = walk;
+    while let Some((key, chain)) = walk.next() {
+        if let Some(row) = row_in(arena, chain, s) {
+            entries.push(Entry {
+                key,
+                row: row.as_slice(),
+            })?;
+        }
+    }
+    Ok(entries)
+}
+
+/// The rows at s in a range.
+pub(crate) fn rows_in<'a>(
+    alloc: Global,
+    store: &'a Store,
+    range: &KeyRange,
+    s: u64,
+) -> Result<Vec<Entry<'a>>, AllocError>
+    ensures { IfOk result (λ es. map shown es.items ≡ snapshot range.now s store.now) }
+{
+    entries_at(
+        alloc,
+        &store.arena,
+        store.index.walk(&store.arena, range),
+        s,
+    )
 }

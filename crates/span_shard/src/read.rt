@@ -7,9 +7,9 @@ ghost use Rattle.span_rowcode.specs.Rows.{row_code};
 ghost use Rattle.span_mutate.specs.Directories.{rows_cmp};
 ghost use Rattle.span_mutate.specs.Typed.{IsTyped};
 ghost use Rattle.span_shard.specs.Rows.{code_of};
-ghost use Rattle.span_shard.specs.Reading.{pointed, row_of, AreRead, IsNoTableRow, IsUnread, HasUnread, is_behind, each_once, AreInOrderOnce};
+ghost use Rattle.span_shard.specs.Reading.{row_of, AreRead, IsNoTableRow, IsUnread, HasUnread, is_behind, each_once, AreInOrderOnce};
 
-use super::chain::Chain;
+use super::place::StoredKey;
 use span_keycode::decode::decode_key;
 use span_mutate::order::order_of_rows;
 use span_mutate::row::TableRow;
@@ -42,14 +42,18 @@ pub fn table_row(
 }
 
 /// The row that stands under a key now, if there is one.
-fn read_row(alloc: Global, schema: &Schema, chain: &Chain) -> Result<Option<TableRow>, Refusal>
+fn read_row(
+    alloc: Global,
+    schema: &Schema,
+    found: &StoredKey<'_>,
+) -> Result<Option<TableRow>, Refusal>
     ensures { MatchResult result
-        (λ found. MatchOption found (row_of chain.now ≡ None) (λ r. IsTyped schema.now r × (chain.now.key ≡ code_of schema.now r) × (row_of chain.now ≡ Some (row_code r.cells))))
-        (λ why. (why ≡ Refusal.OutOfMemory) ⊎ IsUnread schema.now chain.now (row_of chain.now)) }
+        (λ read. MatchOption read (row_of found.now ≡ None) (λ r. IsTyped schema.now r × (found.now.key ≡ code_of schema.now r) × (row_of found.now ≡ Some (row_code r.cells))))
+        (λ why. (why ≡ Refusal.OutOfMemory) ⊎ IsUnread schema.now found.now (row_of found.now)) }
 {
-    match chain.row_at(u64::MAX) {
+    match found.row_at(u64::MAX) {
         None => Ok(None),
-        Some(row) => Ok(Some(table_row(alloc, schema, chain.key(), row.as_slice())?)),
+        Some(row) => Ok(Some(table_row(alloc, schema, found.key(), row.as_slice())?)),
     }
 }
 
@@ -57,13 +61,13 @@ fn read_row(alloc: Global, schema: &Schema, chain: &Chain) -> Result<Option<Tabl
 pub(crate) fn read_rows(
     alloc: Global,
     schema: &Schema,
-    found: &[&Chain],
+    found: &[StoredKey<'_>],
 ) -> Result<Vec<TableRow>, Refusal>
-    ensures { MatchResult result (λ rows. AreRead schema.now (pointed found.now) rows.items) (λ why. (why ≡ Refusal.OutOfMemory) ⊎ HasUnread schema.now (pointed found.now)) }
+    ensures { MatchResult result (λ rows. AreRead schema.now found.now rows.items) (λ why. (why ≡ Refusal.OutOfMemory) ⊎ HasUnread schema.now found.now) }
 {
     let mut rows = Vec::new(alloc);
-    for chain in found {
-        if let Some(row) = read_row(alloc, schema, chain)? {
+    for key in found {
+        if let Some(row) = read_row(alloc, schema, key)? {
             rows.push(row)?;
         }
     }

@@ -1,13 +1,13 @@
 //! The root rows of mutations, and what stands under them.
-ghost use Rattle.std.specs.Prelude.{◌≡◌, ◌<◌, ◌-◌, ◌++◌, IsTrue, IfOk, OnOk, MatchResult, map, slice_get};
+ghost use Rattle.std.specs.Prelude.{◌≡◌, ◌<◌, ◌-◌, IsTrue, IfOk, MatchResult, map, slice_get};
 ghost use Rattle.std.specs.List.Sorted.{IsPermutation};
 ghost use Rattle.span_mutate.specs.Typed.{IsTypedMutation, AreTypedMutations};
 ghost use Rattle.span_shard.specs.Rows.{root_code};
-ghost use Rattle.span_shard.specs.Reading.{IsFound, pointed};
+ghost use Rattle.span_shard.specs.Reading.{IsFound};
 ghost use Rattle.span_shard.specs.Shard.{AreInOrder};
 
-use super::chain::Chain;
-use super::place::beginning;
+use super::place::{StoredKey, push_beginning};
+use super::store::Store;
 use span_keycode::encode::encode_key;
 use span_keycode::key::Key;
 use span_keycode::root::root_prefix;
@@ -62,15 +62,6 @@ pub(crate) fn roots_of(
     Ok(sorted(roots)?)
 }
 
-fn push_all<'a>(found: &mut Vec<&'a Chain>, part: &'a [Chain]) -> Result<(), AllocError>
-    ensures { OnOk result (pointed found.new.items ≡ pointed found.old.items ++ part.now) }
-{
-    for chain in part {
-        found.push(chain)?;
-    }
-    Ok(())
-}
-
 // Whether the root before is the same.
 fn is_repeated(roots: &[Key], at: usize) -> bool
     ensures { IsTrue result → (0 < at) × (slice_get roots.now (at - 1) ≡ slice_get roots.now at) }
@@ -84,16 +75,16 @@ fn is_repeated(roots: &[Key], at: usize) -> bool
 /// The keys under the roots, root by root.
 pub(crate) fn keys_under<'a>(
     alloc: Global,
-    chains: &'a [Chain],
+    store: &'a Store,
     roots: &[Key],
-) -> Result<Vec<&'a Chain>, AllocError>
-    requires { AreInOrder chains.now }
-    ensures { IfOk result (λ found. IsFound roots.now chains.now (pointed found.items)) }
+) -> Result<Vec<StoredKey<'a>>, AllocError>
+    requires { AreInOrder store.now }
+    ensures { IfOk result (λ found. IsFound roots.now store.now found.items) }
 {
     let mut found = Vec::new(alloc);
     for i in 0..roots.len() {
         if !is_repeated(roots, i) {
-            push_all(&mut found, beginning(chains, roots[i].as_slice()))?;
+            push_beginning(&mut found, store, roots[i].as_slice())?;
         }
     }
     Ok(found)

@@ -1,21 +1,21 @@
 //! The versions of every key in a shard's range, and the writes that are prepared there.
-ghost use Rattle.std.specs.Prelude.{◌≡◌, [], List, filter, map, min, IfOk, IfErr, OnOk, OnErr};
+ghost use Rattle.std.specs.Prelude.{◌≡◌, ◌≤◌, ℕ, [], List, map, min, IfOk, IfErr, OnOk, OnErr};
+ghost use Rattle.span_keycode.specs.declared.range.KeyRange.{KeyRange};
 ghost use Rattle.span_mutate.specs.Typed.{AreTypedMutations};
-ghost use Rattle.span_shard.specs.Versions.{applied_to_key, is_used};
 ghost use Rattle.span_shard.specs.Reading.{shown, AreWrites, IsFault};
-ghost use Rattle.std.specs.List.{filter_map};
-ghost use Rattle.span_shard.specs.Shard.{seen_at, with_write, with_writes, applied, snapshot, live, IsFree, IsNow, HasNoneOf, HasSomeOf, AreInOrder};
+ghost use Rattle.std.specs.List.{AllByRecursion};
+ghost use Rattle.span_shard.specs.Shard.{with_writes, applied, trimmed, trimmed_key, snapshot, live, IsFree, HasNoneOf, HasSomeOf, AreInOrder, IsInUse};
 ghost use Rattle.span_shard.specs.declared.write.Write.{Write};
 
-use super::chain::{Chain, PreparedWrite};
 use super::change::writes_of;
-use super::place::{place_of, within};
+use super::place::rows_in;
+use super::store::Store;
 use super::write::Write;
 use span_keycode::range::KeyRange;
 use span_mutate::mutation::CheckedMutation;
 use span_schema::schema::Schema;
 use span_value::refusal::Refusal;
-use std::alloc::{AllocError, Global};
+use std::alloc::Global;
 use std::marker::Model;
 
 /// A row, lent by the shard.
@@ -30,7 +30,7 @@ pub struct Entry<'a> {
 /// A shard. Contracts see what it has of each key, in order of the keys.
 #[derive(Debug, Drop)]
 pub struct Shard {
-    chains: Vec<Chain>,
+    store: Store,
 }
 
 impl Model for Shard {
@@ -39,12 +39,12 @@ impl Model for Shard {
 
     ghost Value = { List KeyVersions };
 
-    ghost view = { λ a. a.chains.items };
+    ghost view = { λ a. a.store };
 
     ghost use Rattle.std.specs.List.{AllByRecursion};
     ghost use Rattle.span_shard.specs.Shard.{IsInUse, AreInOrder};
 
-    ghost invariant = { λ a. AllByRecursion IsInUse a.chains.items × AreInOrder a.chains.items };
+    ghost invariant = { λ a. AllByRecursion IsInUse a.store × AreInOrder a.store };
 }
 
 impl Shard {
@@ -53,7 +53,7 @@ impl Shard {
         ensures { result ≡ [] }
     {
         Shard {
-            chains: Vec::new(alloc),
+            store: Store::new(alloc),
         }
     }
 
@@ -67,21 +67,21 @@ impl Shard {
         ensures rows { IfOk result (λ es. map shown es.items ≡ snapshot range.now s self.now) }
         ensures memory { IfErr result (λ why. why ≡ Refusal.OutOfMemory) }
     {
-        Ok(entries_at(alloc, within(self.chains.as_slice(), range), s)?)
+        Ok(rows_in(alloc, &self.store, range, s)?)
     }
 
     /// A law, which takes no time: the keys stand in order, each once.
     pub fn keys_stand_in_order(&self)
         ensures { AreInOrder self.now }
     {
-        let _ = &self.chains;
+        let _ = &self.store;
     }
 
-    /// How many versions are kept, prepared ones included; `usize::MAX` where there are more.
+    /// How many versions are kept, prepared ones included.
     pub fn live(&self) -> usize
         ensures { result ≡ min (live self.now) usize.MAX }
     {
-        kept_in(self.chains.as_slice())
+        self.store.live()
     }
 
     /// Prepares what the mutations of a transaction write: at each key of their directories whose presence or row they change, the row
@@ -105,8 +105,8 @@ impl Shard {
         ensures fault { IfErr result (IsFault schema.now mutations.now self.old) }
         ensures err { OnErr result (self.new ≡ self.old) }
     {
-        let writes = writes_of(alloc, schema, self.chains.as_slice(), mutations)?;
-        match put_all(alloc, &mut self.chains, txn, writes) {
+        let writes = writes_of(alloc, schema, &self.store, mutations)?;
+        match put_all(&mut self.store, txn, writes) {
             Ok(()) => Ok(()),
             Err(_) => {
                 self.apply(txn, None);
@@ -120,86 +120,39 @@ impl Shard {
     pub fn apply(&mut self, txn: u64, committed: Option<u64>)
         ensures { self.new ≡ applied txn committed self.old }
     {
-        apply_all(&mut self.chains, txn, committed);
-        keep_used(&mut self.chains);
+        self.store.end(txn, committed);
+        self.store.remove_unused();
     }
-}
 
-/// Prepares a write at its key.
-fn put(alloc: Global, chains: &mut Vec<Chain>, txn: u64, write: Write) -> Result<(), AllocError>
-    requires { AreInOrder chains.old.items }
-    ensures ok { OnOk result (chains.new.items ≡ with_write txn write chains.old.items) }
-    ensures err { OnErr result (chains.new.items ≡ chains.old.items) }
-{
-    let Write { key, row } = write;
-    let prepared = PreparedWrite { txn, row };
-    match place_of(chains.as_slice(), key.as_slice()) {
-        Ok(at) => chains[at].prepare(prepared),
-        Err(at) => {
-            let chain = Chain::new(alloc, key, prepared)?;
-            chains.insert(at, chain)?;
-            Ok(())
-        }
+    /// Leaves of each key the newest version at or below the horizon h, a timestamp, unless it is a deletion, and all later ones. At
+    /// and above h every snapshot is as before (`trim_shows_all`). It takes no memory.
+    pub fn trim(&mut self, h: u64)
+        ensures { self.new ≡ trimmed h self.old }
+    {
+        self.store.trim(h);
+        self.store.remove_unused();
+    }
+
+    /// A law, which takes no time: what a trim at h leaves shows at and above h what was there before, and the keys that go had nothing.
+    pub fn trim_shows_all(&self, h: u64)
+        ensures seen { (range : KeyRange) (s : ℕ) → h ≤ s → snapshot range s (trimmed h self.now) ≡ snapshot range s self.now }
+        ensures live { live (trimmed h self.now) ≡ live (map (trimmed_key h) self.now) }
+    {
+        let _ = &self.store;
+        let _ = h;
     }
 }
 
 /// Prepares writes, from the last to the first. After an error some are prepared.
-fn put_all(
-    alloc: Global,
-    chains: &mut Vec<Chain>,
-    txn: u64,
-    writes: Vec<Write>,
-) -> Result<(), AllocError>
-    requires { AreInOrder chains.old.items }
-    ensures ok { OnOk result (chains.new.items ≡ with_writes txn writes.items chains.old.items) }
-    ensures err { OnErr result (HasSomeOf txn writes.items chains.old.items chains.new.items) }
+fn put_all(store: &mut Store, txn: u64, writes: Vec<Write>) -> Result<(), Refusal>
+    requires order { AreInOrder store.old }
+    requires used { AllByRecursion IsInUse store.old }
+    ensures ok { OnOk result (store.new ≡ with_writes txn writes.items store.old) }
+    ensures err { OnErr result (HasSomeOf txn writes.items store.old store.new) }
 {
     let mut left = writes;
     while let Some(write) = left.pop() {
-        put(alloc, chains, txn, write)?;
+        store.put(txn, write)?;
     }
     Ok(())
-}
-
-/// Applies the transaction's write at each key.
-#[tactic(auto, using(std::proofs::lemmas::List::Edits::map_over_more))]
-fn apply_all(chains: &mut Vec<Chain>, txn: u64, committed: Option<u64>)
-    ensures { chains.new.items ≡ map (applied_to_key txn committed) chains.old.items }
-{
-    for chain in chains.iter_mut() {
-        chain.apply(txn, committed);
-    }
-}
-
-/// Leaves out the keys that have nothing any more.
-fn keep_used(chains: &mut Vec<Chain>)
-    ensures { chains.new.items ≡ filter is_used chains.old.items }
-{
-    chains.retain(|chain| chain.is_used());
-}
-
-fn kept_in(chains: &[Chain]) -> usize
-    ensures { result ≡ min (live chains.now) usize.MAX }
-{
-    let mut kept = 0usize;
-    for chain in chains {
-        kept = kept.saturating_add(chain.kept());
-    }
-    kept
-}
-
-/// The rows at s of these keys.
-fn entries_at<'a>(alloc: Global, chains: &'a [Chain], s: u64) -> Result<Vec<Entry<'a>>, AllocError>
-    ensures { IfOk result (λ es. map shown es.items ≡ filter_map (seen_at s) chains.now) }
-{
-    let mut entries = Vec::new(alloc);
-    for chain in chains {
-        if let Some(row) = chain.row_at(s) {
-            entries.push(Entry {
-                key: chain.key(),
-                row: row.as_slice(),
-            })?;
-        }
-    }
-    Ok(entries)
 }

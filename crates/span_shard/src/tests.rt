@@ -303,3 +303,53 @@ fn faults(rt: HostRuntime) -> Result<(), Fail> {
     assert_eq!(rt; shard.live(), 3);
     Ok(())
 }
+
+/// A trim below a deletion keeps what it deleted; at the deletion both go, and what is seen there stays.
+#[test]
+fn trimmed(rt: HostRuntime) -> Result<(), Fail> {
+    let alloc = rt.alloc();
+    let schema = family(alloc)?;
+    let mut shard = filled(alloc, &schema)?;
+    change(
+        alloc,
+        &schema,
+        &mut shard,
+        (MutationKind::Delete, "A", &[1], None),
+    )?;
+    assert_eq!(rt; shard.live(), 5);
+    shard.trim(221);
+    assert_eq!(rt; shard.live(), 5);
+    assert_eq!(rt; count_at(alloc, &shard, 221)?, 3);
+    shard.trim(222);
+    assert_eq!(rt; shard.live(), 1);
+    let entries = shard.snapshot(alloc, &whole(alloc)?, 222)?;
+    assert_eq!(rt; entries.len(), 1);
+    assert!(rt; is_entry(entries.as_slice(), 0, &A2, &NULL));
+    Ok(())
+}
+
+/// A trim past everything keeps what is prepared, and each row's newest version.
+#[test]
+fn trimmed_while_prepared(rt: HostRuntime) -> Result<(), Fail> {
+    let alloc = rt.alloc();
+    let schema = family(alloc)?;
+    let mut shard = filled(alloc, &schema)?;
+    let second = transaction(
+        alloc,
+        &schema,
+        &[
+            (MutationKind::Update, "A", &[1], Some(8)),
+            (MutationKind::Insert, "A", &[3], Some(9)),
+        ],
+    )?;
+    shard.prepare(alloc, &schema, 2, second.mutations())?;
+    shard.trim(1000);
+    assert_eq!(rt; shard.live(), 5);
+    shard.apply(2, Some(2000));
+    assert_eq!(rt; shard.live(), 5);
+    assert_eq!(rt; count_at(alloc, &shard, 1999)?, 3);
+    assert_eq!(rt; count_at(alloc, &shard, 2000)?, 4);
+    shard.trim(2000);
+    assert_eq!(rt; shard.live(), 4);
+    Ok(())
+}

@@ -7,4 +7,4 @@ use Rattle.span_shard.specs.Reading.{is_same_row}
 use Rattle.span_shard.proofs.change.changing.Goals as goal
 
 pub returns : goal.returns
-returns c = filter_same _ (λ (w : Write). not (is_same_row (row_now c.args.chains.now w.key) w.row)) _ (λ x b f' k. search rules) _ _ c.retain.ensures.filtered
+returns c = filter_same _ (λ (w : Write). not (is_same_row (row_now c.args.store.now w.key) w.row)) _ (λ x b f' k. search rules) _ _ c.retain.ensures.filtered

@@ -1,23 +1,21 @@
-use Rattle.std.proofs.Common.{◌≡◌, Ok, Err, Option, sym, ap, ◌∙◌, subst}
-use Rattle.std.proofs.lemmas.Option.{get_or_from_slice_get}
+use Rattle.std.proofs.Common.{◌∙◌, Option, sym, ap, subst, List}
 use Rattle.span_shard.specs.KeyVersions.{KeyVersions}
 use Rattle.span_shard.specs.Versions.{row_at}
-use Rattle.span_shard.specs.Shard.{IsPlaceOf, versions_of, end_of_time}
-use Rattle.span_shard.proofs.Places.{found_at, none_at}
+use Rattle.span_shard.specs.Shard.{AreInOrder, row_now, versions_of, end_of_time}
+use Rattle.span_shard.proofs.Slots.{found_there, found_none}
 use Rattle.span_shard.proofs.place.row_now.Goals as goal
 
-pub returns-in-Ok : goal.returns-in-Ok
-returns-in-Ok c =
-    let cs = c.args.chains.now in
+pub returns-in-Some : goal.returns-in-Some
+returns-in-Some c =
+    let i = c.store.inside in
     let key = c.args.key.now in
-    let place : IsPlaceOf key cs (Ok c.in-Ok.at) = subst (IsPlaceOf key cs) c.in-Ok.is c.place_of.ensures in
-    let was : c.index-chains-at.result ≡ place.1 = c.index-chains-at.is ∙ get_or_from_slice_get cs c.in-Ok.at place.1 c.index-chains-at.result place.2 in
-    c.row_at.ensures ∙ ap (λ (d : KeyVersions). row_at d.versions end_of_time) was
-    ∙ ap (λ (o : Option KeyVersions). row_at (versions_of o) end_of_time) (sym (found_at key cs c.in-Ok.at place.1 place.0 place.2 place.3))
+    c.row_in.ensures
+    ∙ sym (ap (λ (o : Option KeyVersions). row_at (versions_of o) end_of_time) (found_there i.index i.arena i.prepared.items key c.in-Some.chain c.store.invariant.owned (subst AreInOrder (sym c.store.view_is) c.requires) c.in-Some.ensures.cases))
+    ∙ ap (λ (cs : List KeyVersions). row_now cs key) c.store.view_is
 
-pub returns-in-Err : goal.returns-in-Err
-returns-in-Err c =
-    let cs = c.args.chains.now in
+pub returns-in-None : goal.returns-in-None
+returns-in-None c =
+    let i = c.store.inside in
     let key = c.args.key.now in
-    let place : IsPlaceOf key cs (Err c.in-Err.field-0) = subst (IsPlaceOf key cs) c.in-Err.is c.place_of.ensures in
-    ap (λ (o : Option KeyVersions). row_at (versions_of o) end_of_time) (sym (none_at key cs c.in-Err.field-0 c.requires place.0 place.2))
+    sym (ap (λ (o : Option KeyVersions). row_at (versions_of o) end_of_time) (found_none i.index i.arena i.prepared.items key c.in-None.ensures.cases))
+    ∙ ap (λ (cs : List KeyVersions). row_now cs key) c.store.view_is

@@ -6,8 +6,8 @@ use Rattle.std.specs.Prelude.{MatchOption}
 use Rattle.span_rowcode.specs.Rows.{row_code}
 use Rattle.span_mutate.specs.Typed.{IsTyped}
 use Rattle.span_shard.specs.Rows.{code_of}
-use Rattle.span_shard.specs.Reading.{pointed, row_of, AreRead}
-use Rattle.span_shard.proofs.Loops.{pointed_step, read_none, read_more, unread_at}
+use Rattle.span_shard.specs.Reading.{row_of, AreRead}
+use Rattle.span_shard.proofs.Loops.{found_step, read_none, read_more, unread_at}
 use Rattle.span_shard.proofs.read.read_rows.Goals as goal
 use Rattle.span_shard.proofs.read.read_rows.Goals.{in-Some+in_ok-push, in_default}
 
@@ -16,25 +16,25 @@ returns-in_err-row c =
     let p = err_from_is_err_and c.from_residual.result c.from_residual.ensures.1 in
     rw (p.1, p.2) (elim c.in_err-row.ensures [
       | inl e ↦ inl e
-      | inr u ↦ inr (unread_at c.args.schema.now c.args.found.now c.loop-chain.chain-index c.chain-item.result c.loop-chain-test.true c.chain-item.is u)
+      | inr u ↦ inr (unread_at c.args.schema.now c.args.found.now c.loop-key.key-index c.key-item.result c.loop-key-test.true c.key-item.is u)
     ])
 
-pub loop-chain-preserved : goal.loop-chain-preserved
-loop-chain-preserved c =
+pub loop-key-preserved : goal.loop-key-preserved
+loop-key-preserved c =
     let tables = c.args.schema.now in
     let found = c.args.found.now in
-    let i = c.loop-chain.chain-index in
-    let d = c.chain-item.result in
-    let rows = c.loop-chain.rows.items in
-    let step = pointed_step found i d c.loop-chain-test.true c.chain-item.is in
-    let Q : Option TableRow → Type 0 = λ o. MatchOption o (row_of d.now ≡ None) (λ (r : TableRow). IsTyped tables r × (d.now.key ≡ code_of tables r) × (row_of d.now ≡ Some (row_code r.cells))) in
+    let i = c.loop-key.key-index in
+    let d = c.key-item.result in
+    let rows = c.loop-key.rows.items in
+    let step = found_step found i d c.loop-key-test.true c.key-item.is in
+    let Q : Option TableRow → Type 0 = λ o. MatchOption o (row_of d ≡ None) (λ (r : TableRow). IsTyped tables r × (d.key ≡ code_of tables r) × (row_of d ≡ Some (row_code r.cells))) in
     let P : List KeyVersions → Type 0 = λ cs. AreRead tables cs c.match-branch-2.rows.items in
     elim c.match-branch-2.branch [
       | in-Some+in_ok-push w ↦
           let one = subst Q w.in-Some.is c.in_ok-row.ensures in
-          let whole = read_more tables (pointed (take i found)) rows d.now w.in-Some.row one.0 one.1 one.2 c.loop-chain.invariant in
-          subst P (sym step) (subst (AreRead tables (pointed (take i found) ++ d.now ∷ [])) (sym (ap (λ v. v.items) w.rows-is ∙ w.in_ok-push.ensures.items)) whole)
+          let whole = read_more tables (take i found) rows d w.in-Some.row one.0 one.1 one.2 c.loop-key.invariant in
+          subst P (sym step) (subst (AreRead tables (take i found ++ d ∷ [])) (sym (ap (λ v. v.items) w.rows-is ∙ w.in_ok-push.ensures.items)) whole)
       | in_default w ↦
-          let whole = read_none tables (pointed (take i found)) rows d.now (subst Q w.in_default.is c.in_ok-row.ensures) c.loop-chain.invariant in
-          subst P (sym step) (subst (AreRead tables (pointed (take i found) ++ d.now ∷ [])) (sym (ap (λ v. v.items) w.rows-is)) whole)
+          let whole = read_none tables (take i found) rows d (subst Q w.in_default.is c.in_ok-row.ensures) c.loop-key.invariant in
+          subst P (sym step) (subst (AreRead tables (take i found ++ d ∷ [])) (sym (ap (λ v. v.items) w.rows-is)) whole)
     ]

@@ -1,11 +1,13 @@
 use Rattle.std.proofs.Common.{◌≡◌, ◌∷◌, [], ◌++◌, refl, sym, ap, ◌∙◌, append_assoc, subst}
+use Rattle.std.specs.List.{AllByRecursion}
 use Rattle.std.proofs.lemmas.List.{append-nil}
-use Rattle.span_shard.specs.Shard.{with_write, AreInOrder}
+use Rattle.span_shard.specs.Shard.{with_write, AreInOrder, IsInUse}
 use Rattle.span_shard.proofs.InOrder.{in_order_with_write}
+use Rattle.span_shard.proofs.Undo.{used_with_write}
 use Rattle.span_shard.proofs.shard.put_all.Goals as goal
 
 pub loop-write-init : goal.loop-write-init
-loop-write-init c = record { some = record { front = c.args.writes.items; rest = []; whole = append-nil c.args.writes.items; put = refl }; front = refl; order = c.requires }
+loop-write-init c = record { some = record { front = c.args.writes.items; rest = []; whole = append-nil c.args.writes.items; put = refl }; front = refl; order = c.requires.order; used = c.requires.used }
 
 pub loop-write-preserved : goal.loop-write-preserved
 loop-write-preserved c =
@@ -19,5 +21,6 @@ loop-write-preserved c =
         put = c.in_ok-put.ensures.ok ∙ ap (with_write c.args.txn c.in-Some.write) old.some.put;
       };
       front = refl;
-      order = subst AreInOrder (sym c.in_ok-put.ensures.ok) (in_order_with_write c.args.txn c.in-Some.write c.loop-write.chains.items old.order);
+      order = subst AreInOrder (sym c.in_ok-put.ensures.ok) (in_order_with_write c.args.txn c.in-Some.write c.loop-write.store old.order);
+      used = subst (AllByRecursion IsInUse) (sym c.in_ok-put.ensures.ok) (used_with_write c.args.txn c.in-Some.write c.loop-write.store old.used);
     }

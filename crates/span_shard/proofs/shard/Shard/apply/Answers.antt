@@ -9,6 +9,6 @@ use Rattle.span_shard.proofs.shard.Shard.apply.Goals as goal
 
 pub invariant_of-self : goal.invariant_of-self
 invariant_of-self c = (
-  subst (AllByRecursion IsInUse) (sym c.keep_used.ensures) (used_filtered c.apply_all.new.chains.items),
-  subst AreInOrder (sym (c.keep_used.ensures ∙ ap (filter is_used) c.apply_all.ensures)) (in_order_applied c.args.txn c.args.committed c.self.inside.chains.items c.self.invariant.1),
+  subst (AllByRecursion IsInUse) (sym c.remove_unused.ensures) (used_filtered c.end.new.self),
+  subst AreInOrder (sym (c.remove_unused.ensures ∙ ap (filter is_used) c.end.ensures)) (in_order_applied c.args.txn c.args.committed c.self.inside.store c.self.invariant.1),
 )

@@ -1,0 +1,75 @@
+-- What is read of an arena is what is seen of the keys.
+use Rattle.std.proofs.Common.{◌≡◌, ℕ, zero, suc, arith, Bool, true, false, cond, List, [], ◌∷◌, ◌++◌, Option, Some, None, map, refl, sym, ap, subst, ◌∙◌, append_assoc}
+use Rattle.std.specs.Prelude.{filter, nat_le, option_and_then, All}
+use Rattle.std.specs.List.{filter_map, cons_option}
+use Rattle.span_keycode.specs.declared.range.KeyRange.{KeyRange}
+use Rattle.span_arena.specs.declared.version.Version as arena
+use Rattle.span_arena.specs.Content.{Content, newest_upto, IsChain}
+use Rattle.span_keyindex.specs.Entries.{entries_in, entries_under}
+use Rattle.span_keyindex.specs.declared.entry.Entry.{Entry}
+use Rattle.span_shard.specs.declared.chain.Version.{Version}
+use Rattle.span_shard.specs.declared.node.PreparedNode.{PreparedNode}
+use Rattle.span_shard.specs.KeyVersions.{KeyVersions}
+use Rattle.span_shard.specs.Versions.{newest_at, row_at}
+use Rattle.span_shard.specs.Rows.{begins_with}
+use Rattle.span_shard.specs.Shard.{is_within, seen_at, snapshot}
+use Rattle.span_shard.specs.Stored.{version_of, kept_entry, all_kept}
+use Rattle.span_shard.specs.Reading.{bare, bare_entry, seen_entry}
+use Rattle.span_shard.proofs.Unused.{filter-map}
+
+pub row_found : (vs : List arena.Version) (s : ℕ) (v : arena.Version) → newest_upto s vs ≡ Some v → row_at (map version_of vs) s ≡ v.image
+row_found [] s v e = absurd (let f : None ≡ Some v = e in cc)
+row_found (x ∷ xs) s v e = cases (nat_le x.timestamp s) (row_found xs s v) e
+  where
+    cases : (b : Bool) → (newest_upto s xs ≡ Some v → row_at (map version_of xs) s ≡ v.image) → cond b (Some x) (newest_upto s xs) ≡ Some v → option_and_then (λ (y : Version). y.row) (cond b (Some (version_of x)) (newest_at (map version_of xs) s)) ≡ v.image
+    cases true again f = let same : x ≡ v = cc in ap (λ (y : arena.Version). y.image) same
+    cases false again f = again f
+
+pub row_missing : (vs : List arena.Version) (s : ℕ) → newest_upto s vs ≡ None → row_at (map version_of vs) s ≡ None
+row_missing [] s e = refl
+row_missing (x ∷ xs) s e = cases (nat_le x.timestamp s) (row_missing xs s) e
+  where
+    cases : (b : Bool) → (newest_upto s xs ≡ None → row_at (map version_of xs) s ≡ None) → cond b (Some x) (newest_upto s xs) ≡ None → option_and_then (λ (y : Version). y.row) (cond b (Some (version_of x)) (newest_at (map version_of xs) s)) ≡ None
+    cases true again f = absurd (let g : Some x ≡ None = f in cc)
+    cases false again f = again f
+
+bare_map : (a : Content) (ps : List PreparedNode) (es : List Entry) → map bare (all_kept a ps es) ≡ map (bare_entry a) es
+bare_map a ps [] = refl
+bare_map a ps (e ∷ es) = ap (λ (l : List KeyVersions). bare_entry a e ∷ l) (bare_map a ps es)
+
+pub under_is : (a : Content) (ps : List PreparedNode) (es fs : List Entry) (front : List ℕ) → fs ≡ entries_under front es → map (bare_entry a) fs ≡ map bare (filter (λ (c : KeyVersions). begins_with c.key front) (all_kept a ps es))
+under_is a ps es fs front is =
+    ap (map (bare_entry a)) is ∙ sym (ap (map bare) (filter-map (λ (c : KeyVersions). begins_with c.key front) (kept_entry a ps) es) ∙ bare_map a ps (entries_under front es))
+
+seen_map : (a : Content) (ps : List PreparedNode) (s : ℕ) (es : List Entry) → filter_map (seen_at s) (all_kept a ps es) ≡ filter_map (seen_entry a s) es
+seen_map a ps s [] = refl
+seen_map a ps s (e ∷ es) = ap (cons_option (seen_entry a s e)) (seen_map a ps s es)
+
+pub within_is : (a : Content) (ps : List PreparedNode) (es fs : List Entry) (range : KeyRange) (s : ℕ) → fs ≡ entries_in range es → filter_map (seen_entry a s) fs ≡ snapshot range s (all_kept a ps es)
+within_is a ps es fs range s is =
+    ap (filter_map (seen_entry a s)) is ∙ sym (ap (filter_map (seen_at s)) (filter-map (λ (c : KeyVersions). is_within range c.key) (kept_entry a ps) es) ∙ seen_map a ps s (entries_in range es))
+
+-- ---- a walk, step by step
+
+pub chains_left : (a : Content) (es fs : List Entry) (e : Entry) → es ≡ e ∷ fs → All (λ (x : Entry). IsChain a x.chain.number) es → All (λ (x : Entry). IsChain a x.chain.number) fs
+chains_left a es fs e is all k d lt =
+    let whole : All (λ (x : Entry). IsChain a x.chain.number) (e ∷ fs) = subst (λ (l : List Entry). All (λ (x : Entry). IsChain a x.chain.number) l) is all in
+    whole (suc k) d (omega arith)
+
+pub first_chain : (a : Content) (es fs : List Entry) (e : Entry) → es ≡ e ∷ fs → All (λ (x : Entry). IsChain a x.chain.number) es → IsChain a e.chain.number
+first_chain a es fs e is all =
+    let whole : All (λ (x : Entry). IsChain a x.chain.number) (e ∷ fs) = subst (λ (l : List Entry). All (λ (x : Entry). IsChain a x.chain.number) l) is all in
+    whole zero e (omega arith)
+
+pub pushed_step : {X Y : Type 0} (f : X → Y) (found more : List Y) (es fs : List X) (e : X) (all : List Y) → es ≡ e ∷ fs → more ≡ found ++ f e ∷ [] → found ++ map f es ≡ all → more ++ map f fs ≡ all
+pushed_step {X} {Y} f found more es fs e all is pushed so_far =
+    ap (λ (l : List Y). l ++ map f fs) pushed ∙ append_assoc found (f e ∷ []) (map f fs) ∙ ap (λ (l : List X). found ++ map f l) (sym is) ∙ so_far
+
+pub seen_none : {X Y : Type 0} (f : X → Option Y) (found : List Y) (es fs : List X) (e : X) (all : List Y) → es ≡ e ∷ fs → f e ≡ None → found ++ filter_map f es ≡ all → found ++ filter_map f fs ≡ all
+seen_none {X} {Y} f found es fs e all is none so_far =
+    ap (λ (o : Option Y). found ++ cons_option o (filter_map f fs)) (sym none) ∙ ap (λ (l : List X). found ++ filter_map f l) (sym is) ∙ so_far
+
+pub seen_some : {X Y : Type 0} (f : X → Option Y) (found more : List Y) (es fs : List X) (e : X) (y : Y) (all : List Y) → es ≡ e ∷ fs → f e ≡ Some y → more ≡ found ++ y ∷ [] → found ++ filter_map f es ≡ all → more ++ filter_map f fs ≡ all
+seen_some {X} {Y} f found more es fs e y all is some pushed so_far =
+    ap (λ (l : List Y). l ++ filter_map f fs) pushed ∙ append_assoc found (y ∷ []) (filter_map f fs)
+    ∙ ap (λ (o : Option Y). found ++ cons_option o (filter_map f fs)) (sym some) ∙ ap (λ (l : List X). found ++ filter_map f l) (sym is) ∙ so_far

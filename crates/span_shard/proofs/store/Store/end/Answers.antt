@@ -1,0 +1,25 @@
+use Rattle.std.proofs.Common.{◌∙◌, List, map, ap, sym, subst, rules}
+use Rattle.std.proofs.lemmas.Fn.{filter_same}
+use Rattle.span_keyindex.proofs.Keeping.{own_stays}
+use Rattle.span_shard.specs.declared.node.PreparedNode.{PreparedNode}
+use Rattle.span_shard.specs.Versions.{applied_to_key}
+use Rattle.span_shard.specs.Stored.{AreOwned, all_kept, is_other}
+use Rattle.span_shard.proofs.Ending.{ended_list}
+use Rattle.span_shard.proofs.store.Store.end.Goals as goal
+
+pub invariant_of-self : goal.invariant_of-self
+invariant_of-self c =
+    let i = c.self.inside in
+    let left = filter_same _ (is_other c.args.txn) _ (λ x b f' k. search rules) _ _ c.retain.ensures.filtered in
+    record {
+      own = own_stays i.index i.arena c.end_nodes.new.arena c.self.invariant.own c.end_nodes.ensures.same;
+      owned = subst (AreOwned c.end_nodes.new.arena) (sym left) c.end_nodes.ensures.owned;
+    }
+
+pub returns : goal.returns
+returns c =
+    let i = c.self.inside in
+    let left = filter_same _ (is_other c.args.txn) _ (λ x b f' k. search rules) _ _ c.retain.ensures.filtered in
+    ap (λ (ps : List PreparedNode). all_kept c.end_nodes.new.arena ps i.index) left
+    ∙ ended_list c.args.txn c.args.committed i.arena c.end_nodes.new.arena i.prepared.items i.index c.end_nodes.ensures
+    ∙ ap (map (applied_to_key c.args.txn c.args.committed)) c.self.view_is

@@ -1,0 +1,17 @@
+use Rattle.std.proofs.Common.{◌∙◌, ap}
+use Rattle.std.specs.Prelude.{filter}
+use Rattle.span_shard.specs.Versions.{is_used}
+use Rattle.span_shard.specs.Stored.{all_kept}
+use Rattle.span_shard.proofs.Unused.{keys_used, owned_used}
+use Rattle.span_shard.proofs.store.Store.remove_unused.Goals as goal
+
+pub invariant_of-self : goal.invariant_of-self
+invariant_of-self c =
+    let i = c.self.inside in
+    record { own = c.remove_empty.ensures.own; owned = owned_used i.index i.arena c.remove_empty.new.arena i.prepared.items c.self.invariant.owned c.remove_empty.ensures.arena }
+
+pub returns : goal.returns
+returns c =
+    let i = c.self.inside in
+    ap (all_kept c.remove_empty.new.arena i.prepared.items) c.remove_empty.ensures.index
+    ∙ keys_used i.index i.arena c.remove_empty.new.arena i.prepared.items c.self.invariant.owned c.remove_empty.ensures.arena ∙ ap (filter is_used) c.self.view_is

@@ -1,0 +1,123 @@
+-- How a shard keeps its keys: in an index with their chains, whose versions are in an arena, beside the nodes in which something is
+-- prepared. No public clause cites this module.
+use Rattle.std.specs.Prelude.{◌≡◌, ℕ, ◌+◌, ◌<◌, ◌≤◌, ◌==◌, nat_eq, Bool, not, List, [], ◌∷◌, ◌++◌, length, take, drop, map, filter, Option, Some, None, slice_index_or, if◌then◌else◌}
+use Rattle.std.specs.List.{AllByRecursion}
+use Rattle.span_arena.specs.Content.{Content, Prepared, versions, prepared_at, prepared_for, IsChain, linked, given_back, kept_upto}
+use Rattle.span_arena.specs.declared.version.Version as arena
+use Rattle.span_keyindex.specs.Arenas.{IsArenaOf, HasSameChains}
+use Rattle.span_keyindex.specs.declared.entry.Entry.{Entry}
+use Rattle.span_shard.specs.declared.chain.Version.{Version}
+use Rattle.span_shard.specs.declared.chain.PreparedWrite.{PreparedWrite}
+use Rattle.span_shard.specs.declared.node.PreparedNode.{PreparedNode}
+use Rattle.span_shard.specs.KeyVersions.{KeyVersions}
+use Rattle.span_shard.specs.Versions.{applied_to_key}
+
+-- a version of the arena
+abbrev pub version_of : arena.Version → Version
+version_of v = record { timestamp = v.timestamp; row = v.image }
+
+-- the versions of a chain
+abbrev pub chain_versions : Content → ℕ → List Version
+chain_versions a c = map version_of (versions a c)
+
+-- the node is for this chain
+abbrev pub is_for : ℕ → PreparedNode → Bool
+is_for c p = nat_eq p.chain.number c
+
+abbrev pub image_of : Option Prepared → Option (List ℕ)
+image_of None = None
+image_of (Some p) = p.image
+
+abbrev pub write_of : Content → PreparedNode → PreparedWrite
+write_of a p = record { txn = p.txn; row = image_of (prepared_at a p.node.number) }
+
+-- what is prepared for a chain
+abbrev pub write_for : Content → List PreparedNode → ℕ → Option PreparedWrite
+write_for a [] c = None
+write_for a (p ∷ ps) c = (if is_for c p then Some (write_of a p) else write_for a ps c)
+
+-- a key with a chain
+abbrev pub kept : Content → List PreparedNode → List ℕ → ℕ → KeyVersions
+kept a ps key c = record { key = key; versions = chain_versions a c; prepared = write_for a ps c }
+
+abbrev pub kept_entry : Content → List PreparedNode → Entry → KeyVersions
+kept_entry a ps e = kept a ps e.key e.chain.number
+
+-- all keys
+abbrev pub all_kept : Content → List PreparedNode → List Entry → List KeyVersions
+all_kept a ps es = map (kept_entry a ps) es
+
+-- how many nodes are prepared for a chain
+abbrev pub count_for : ℕ → List PreparedNode → ℕ
+count_for c [] = 0
+count_for c (p ∷ ps) = (if is_for c p then 1 else 0) + count_for c ps
+
+-- something is prepared in the node, for this chain
+pub record IsNodeOf (a : Content) (p : PreparedNode) : Type 0 where
+  pub image : Option (List ℕ)
+  pub prepared : prepared_at a p.node.number ≡ Some (record { chain = p.chain.number; image = image })
+  pub is_chain : IsChain a p.chain.number
+
+-- these are the arena's prepared nodes, at most one for a chain
+pub record AreOwned (a : Content) (ps : List PreparedNode) : Type 0 where
+  pub nodes : AllByRecursion (IsNodeOf a) ps
+  pub counted : (c : ℕ) → prepared_for c a.prepared ≡ count_for c ps
+  pub once : (c : ℕ) → count_for c ps ≤ 1
+
+-- the chains are those of the keys, and the prepared nodes these
+pub record IsStored (es : List Entry) (a : Content) (ps : List PreparedNode) : Type 0 where
+  pub own : IsArenaOf es a
+  pub owned : AreOwned a ps
+
+-- ---- prepare
+
+-- the node there is for this chain
+pub record IsPlaceFor (c : ℕ) (ps : List PreparedNode) (i : ℕ) : Type 0 where
+  pub in_range : i < length ps
+  pub is_for : (d : PreparedNode) → (slice_index_or ps i d).chain.number ≡ c
+
+-- a write is prepared for a chain, and all else is as it was
+pub record HasPrepared (a b : Content) (ps qs : List PreparedNode) (c : ℕ) (write : PreparedWrite) : Type 0 where
+  pub owned : AreOwned b qs
+  pub chains : b.chains ≡ a.chains
+  pub writes : (d : ℕ) → write_for b qs d ≡ (if nat_eq c d then Some write else write_for a ps d)
+
+-- ---- apply
+
+-- what is prepared in the node is a version, or given back
+abbrev pub ended : Content → ℕ → Option ℕ → Content
+ended a node None = given_back a node
+ended a node (Some timestamp) = linked a node timestamp
+
+-- the node is of another transaction
+abbrev pub is_other : ℕ → PreparedNode → Bool
+is_other txn p = not (p.txn == txn)
+
+-- after the first so many nodes were ended, where they are of the transaction
+abbrev pub left_of : ℕ → ℕ → List PreparedNode → List PreparedNode
+left_of txn i ps = filter (is_other txn) (take i ps) ++ drop i ps
+
+-- some of the transaction's nodes were ended: with the others ended too each key is what it is to be
+pub record HasEnded (txn : ℕ) (committed : Option ℕ) (a b : Content) (ps qs : List PreparedNode) : Type 0 where
+  pub owned : AreOwned b qs
+  pub same : HasSameChains a b
+  pub keys : (key : List ℕ) (c : ℕ) → applied_to_key txn committed (kept b qs key c) ≡ applied_to_key txn committed (kept a ps key c)
+
+-- ---- trim
+
+-- Some of the chains were trimmed; those that were not are as they were. With the others trimmed too each chain is what it is to be.
+pub record HasTrimmed (h : ℕ) (a b : Content) : Type 0 where
+  pub same : HasSameChains a b
+  pub prepared : b.prepared ≡ a.prepared
+  pub chains : (c : ℕ) → kept_upto h (versions b c) ≡ kept_upto h (versions a c)
+
+-- the chain is trimmed
+abbrev pub IsTrimmed : ℕ → Content → Content → Entry → Type 0
+IsTrimmed h a b e = versions b e.chain.number ≡ kept_upto h (versions a e.chain.number)
+
+-- some keys' chains are trimmed, and so many are left
+pub record AreTrimmed (h : ℕ) (es left : List Entry) (a b : Content) : Type 0 where
+  pub done : List Entry
+  pub whole : done ++ left ≡ es
+  pub each : AllByRecursion (IsTrimmed h a b) done
+  pub so_far : HasTrimmed h a b

@@ -1,0 +1,98 @@
+//! The keys of a shard, in an index with their chains; their versions and prepared writes, in an arena.
+ghost use Rattle.std.specs.Prelude.{◌≡◌, [], map, filter, OnOk, OnErr};
+ghost use Rattle.std.specs.List.{AllByRecursion};
+ghost use Rattle.span_shard.specs.Versions.{applied_to_key, is_used};
+ghost use Rattle.span_shard.specs.Shard.{AreInOrder, IsInUse, with_write, trimmed_key, live};
+
+use super::node::{PreparedNode, end_nodes, prepare_node};
+use super::trim::trim_chains;
+use super::write::Write;
+use span_arena::arena::Arena;
+use span_keyindex::index::KeyIndex;
+use span_value::refusal::Refusal;
+use std::alloc::Global;
+use std::marker::Model;
+
+/// The keys of a shard. Contracts see what it has of each key.
+#[derive(Debug, Drop)]
+pub(crate) struct Store {
+    pub(crate) arena: Arena,
+    pub(crate) index: KeyIndex,
+    /// The nodes in which something is prepared.
+    prepared: Vec<PreparedNode>,
+}
+
+impl Model for Store {
+    ghost use Rattle.std.specs.Prelude.{List};
+    ghost use Rattle.span_shard.specs.KeyVersions.{KeyVersions};
+
+    ghost Value = { List KeyVersions };
+
+    ghost use Rattle.span_shard.specs.Stored.{all_kept, IsStored};
+
+    ghost view = { λ s. all_kept s.arena s.prepared.items s.index };
+
+    ghost invariant = { λ s. IsStored s.index s.arena s.prepared.items };
+}
+
+impl Store {
+    /// A store of no key. It takes no memory.
+    pub(crate) fn new(alloc: Global) -> Store
+        ensures { result ≡ [] }
+    {
+        // A node takes many bytes, so memory ends before the arena's limit is met.
+        Store {
+            arena: Arena::with_most(alloc, usize::MAX),
+            index: KeyIndex::new(alloc),
+            prepared: Vec::new(alloc),
+        }
+    }
+
+    /// How many versions are kept, prepared ones included.
+    pub(crate) fn live(&self) -> usize
+        ensures { result ≡ live self.now }
+    {
+        self.arena.live()
+    }
+
+    /// Prepares a write at its key. A refusal leaves all as it was.
+    pub(crate) fn put(&mut self, txn: u64, write: Write) -> Result<(), Refusal>
+        requires order { AreInOrder self.old }
+        requires used { AllByRecursion IsInUse self.old }
+        ensures ok { OnOk result (self.new ≡ with_write txn write self.old) }
+        ensures err { OnErr result (self.new ≡ self.old) }
+    {
+        let Write { key, row } = write;
+        let chain = self.index.slot_for(&mut self.arena, key)?;
+        match prepare_node(&mut self.arena, &mut self.prepared, chain, txn, row) {
+            Ok(()) => Ok(()),
+            Err(why) => {
+                // The key may have come with this write alone.
+                self.index.remove_empty(&mut self.arena);
+                Err(why)
+            }
+        }
+    }
+
+    /// Applies the transaction's write at each key. It takes no memory, and moves links alone.
+    pub(crate) fn end(&mut self, txn: u64, committed: Option<u64>)
+        ensures { self.new ≡ map (applied_to_key txn committed) self.old }
+    {
+        end_nodes(&mut self.arena, &self.prepared, txn, committed);
+        self.prepared.retain(|node| node.txn != txn);
+    }
+
+    /// Frees the versions that no read at or above the horizon h sees. It takes no memory.
+    pub(crate) fn trim(&mut self, h: u64)
+        ensures { self.new ≡ map (trimmed_key h) self.old }
+    {
+        trim_chains(&self.index, &mut self.arena, h);
+    }
+
+    /// Leaves out the keys that have nothing any more. It takes no memory.
+    pub(crate) fn remove_unused(&mut self)
+        ensures { self.new ≡ filter is_used self.old }
+    {
+        self.index.remove_empty(&mut self.arena);
+    }
+}
