@@ -1,5 +1,6 @@
-use Rattle.std.proofs.Common.{◌≡◌, ℕ, cond, true, false, List, [], ◌∷◌, ◌++◌, Option, Some, None, Result, Ok, Err, refl, ap, sym, ◌∙◌, subst, inl, inr}
-use Rattle.std.specs.Prelude.{find, OnOk, OnErr, option_map}
+use Rattle.std.proofs.Common.{◌≡◌, ℕ, ◌≤◌, ◌-◌, ◌^◌, arith, nat_lt, cond, true, false, List, [], ◌∷◌, ◌++◌, Option, Some, None, Result, Ok, Err, refl, ap, sym, ◌∙◌, subst, inl, inr}
+use Rattle.std.specs.Prelude.{find, min, slice_get, slice_set, OnOk, OnErr, option_map}
+use Rattle.std.proofs.lemmas.Bool.Decides.{nat_tests}
 use Rattle.span_value.specs.declared.refusal.Refusal.{Refusal}
 use Rattle.span_value.specs.declared.refusal.Refusal.TheVariants as refusal
 use Rattle.span_value.specs.declared.value.Value.{Value}
@@ -16,15 +17,20 @@ use Rattle.span_machine.specs.declared.query.OpenQuery.{OpenQuery}
 use Rattle.span_machine.specs.declared.transaction.Outcome.{Outcome}
 use Rattle.span_machine.specs.declared.transaction.Outcome.TheVariants as outcome
 use Rattle.span_machine.specs.declared.transaction.OpenTransaction.{OpenTransaction}
-use Rattle.span_machine.specs.Machine.{Machine, Answer, Steps, answer, start, refused, unless_refused, if_some, for_slot, is_query, is_transaction, is_safe, risen, with_book, cover, changed_first, without_first, scan, scan_found, scan_at, scanned, applied_at, apply_step, apply_found, finish_found, answer_on, meaning}
+use Rattle.span_machine.specs.Machine.{Machine, Answer, Steps, answer, start, refused, unless_refused, if_some, for_slot, is_query, is_transaction, is_safe, risen, with_book, cover, changed_first, without_first, scan, scan_found, scan_at, scan_gap, scanned, trim, trim_found, trimmed, applied_at, apply_step, apply_found, finish_found, answer_on, meaning}
 use Rattle.span_machine.specs.Pieces.{Pieced, Journaled, machine_of, queries_of}
 use Rattle.span_laws.proofs.Reached.{IsReached, start_reached, answer_reached, reached_tables, reached_meaning}
-use Rattle.span_kept.specs.Kept.{AreKept, ArePieced, IsReading, family}
+use Rattle.span_kept.specs.Kept.{AreKept, ArePieced, IsReading, family, horizon_in, horizon_of}
+use Rattle.span_kept.proofs.Trims.{kept_trimmed, horizon_here, horizon_put}
+use Rattle.span_kept.proofs.Live.{live_is_kept}
+use Rattle.span_machine.specs.Kept as kept
+use Rattle.span_machine.specs.declared.transaction.Commit.{Commit}
+use Rattle.span_laws.proofs.Causes.{may_trim}
 use Rattle.span_kept.proofs.Steps.{start_kept, kept_scan}
 use Rattle.span_kept.proofs.Applying.{kept_committed, kept_aborted}
 use Rattle.span_kept.proofs.Claimers.{only_slot}
 use Rattle.span_kept.proofs.Covers.{no_pieces, pieced_push, pieced_without, pieced_by_step, pieced_scanned, pieced_finish, covered-queries, find-queries, found_query}
-use Rattle.span_journal.specs.Judged.{IsApplied, MayScan, IsRegistered, IsUnregistered, IsPiece, IsUnasked, covered_by, outcome_of}
+use Rattle.span_journal.specs.Judged.{IsApplied, IsRaised, MayScan, IsRegistered, IsUnregistered, IsPiece, IsUnasked, covered_by, outcome_of}
 use Rattle.span_core.specs.Whole.{IsWhole, IsRead, IsUnread}
 use Rattle.span_kept.proofs.Snapshots.{snapshot_when_safe}
 use Rattle.span_schema.specs.declared.table.Table.{Table}
@@ -117,6 +123,62 @@ whole_applied schema j k cs owner txn slot interval committed w d queries =
       pieced = subst (ArePieced schema (machine_of k)) (sym queries) (subst (λ (n : Machine). ArePieced schema n j.queries) (sym is) (pieced_by_step schema w.rules m w.reached j.queries refl w.pieced (step.Apply owner txn slot interval) tt));
     }
 
+some_same : {A : Type 0} (x y : A) → Some x ≡ Some y → x ≡ y
+some_same x y e = cc
+
+not_below : (s h : ℕ) → nat_lt s h ≡ false → h ≤ s
+not_below s h e = grind (arith, nat_tests)
+
+-- what may be scanned is not below the horizon
+above_horizon : (schema : List Table) (m : Machine) → IsReached schema m → (query leaf slot : ℕ) (interval : Interval) (s : ℕ) (d : MayScan m query leaf slot interval s) → horizon_of m ≤ d.question.s
+above_horizon schema m reached query leaf slot interval s d =
+    let here : slice_get m.books 0 ≡ Some d.book = subst (λ (i : ℕ). slice_get m.books i ≡ Some d.book) (only_slot schema m reached slot d.book d.here) d.here in
+    subst (λ (h : ℕ). h ≤ d.question.s) (sym (horizon_here m.books d.book here)) (not_below d.question.s d.book.horizon d.above)
+
+-- ---- trim
+
+trim_is : (schema : List Table) (m : Machine) (slot h : ℕ) (n : Machine) (d : IsRaised m slot h n) → trim schema m slot h ≡ trimmed schema m slot h d.book
+trim_is schema m slot h n d =
+    ap (λ (o : Option Book). if_some o (refused m refusal.NoSlot) (trim_found schema m slot h)) d.here
+    ∙ ap (λ (o : Option Refusal). unless_refused m o (trimmed schema m slot h d.book)) d.accepted
+
+-- the shard trimmed at the horizon belongs to the journal whose horizon has risen
+pub whole_trimmed : (schema : List Table) (j k : Journaled) (cs : List KeyVersions) (slot h : ℕ) → IsWhole schema j cs → IsRaised (machine_of j) slot h (machine_of k) → k.queries ≡ j.queries → IsWhole schema k (shard.trimmed h cs)
+whole_trimmed schema j k cs slot h w d queries =
+    let m = machine_of j in
+    let zero = only_slot schema m w.reached slot d.book d.here in
+    let is : machine_of k ≡ (trim schema m slot h).1 = d.after ∙ sym (ap (λ (a : Answer). a.1) (trim_is schema m slot h (machine_of k) d)) in
+    let here : slice_get m.books 0 ≡ Some d.book = subst (λ (i : ℕ). slice_get m.books i ≡ Some d.book) zero d.here in
+    let high : d.book.horizon ≤ h = not_below h d.book.horizon (may_trim (nat_lt h d.book.horizon) (is_safe m slot d.book h) d.accepted).0 in
+    record {
+      rules = w.rules;
+      reached = subst (IsReached schema) (sym is) (answer_reached schema w.rules m w.reached (step.Trim slot h) tt);
+      kept = subst (λ (n : Machine). AreKept schema n (shard.trimmed h cs)) (sym d.after)
+          (subst (λ (i : ℕ). AreKept schema (trimmed schema m i h d.book).1 (shard.trimmed h cs)) (sym zero) (kept_trimmed schema m cs w.kept h d.book here high));
+      pieced = subst (ArePieced schema (machine_of k)) (sym queries) (subst (λ (n : Machine). ArePieced schema n j.queries) (sym is) (pieced_by_step schema w.rules m w.reached j.queries refl w.pieced (step.Trim slot h) tt));
+    }
+
+-- what is left in the shard is what the machine answers
+pub trimmed_steps : (schema : List Table) (j k : Journaled) (cs : List KeyVersions) (slot h : ℕ) → IsWhole schema j cs → IsRaised (machine_of j) slot h (machine_of k) → k.queries ≡ j.queries
+    → Steps schema (machine_of j) (step.Trim slot h) (reply.Trimmed (min (shard.live (shard.trimmed h cs)) (2 ^ 64 - 1))) (machine_of k)
+trimmed_steps schema j k cs slot h w d queries =
+    let m = machine_of j in
+    let zero = only_slot schema m w.reached slot d.book d.here in
+    let here : slice_get m.books 0 ≡ Some d.book = subst (λ (i : ℕ). slice_get m.books i ≡ Some d.book) zero d.here in
+    let after = whole_trimmed schema j k cs slot h w d queries in
+    let e = trim_is schema m slot h (machine_of k) d in
+    let log : (machine_of k).log ≡ m.log = ap (λ (n : Machine). n.log) d.after in
+    let open_still : (machine_of k).transactions ≡ m.transactions = ap (λ (n : Machine). n.transactions) d.after in
+    let horizon : horizon_of (machine_of k) ≡ h =
+    ap horizon_of d.after ∙ ap (λ (i : ℕ). horizon_in (slice_set m.books i (record d.book { horizon = h }))) zero ∙ horizon_put m.books d.book (record d.book { horizon = h }) here in
+    let number : shard.live (shard.trimmed h cs) ≡ kept.live schema m.log m.transactions slot h =
+    live_is_kept schema w.rules (machine_of k) (shard.trimmed h cs) after.reached after.kept
+    ∙ ap (λ (l : List Commit). kept.live schema l (machine_of k).transactions 0 (horizon_of (machine_of k))) log
+    ∙ ap (λ (ts : List OpenTransaction). kept.live schema m.log ts 0 (horizon_of (machine_of k))) open_still
+    ∙ ap (kept.live schema m.log m.transactions 0) horizon
+    ∙ ap (λ (i : ℕ). kept.live schema m.log m.transactions i h) (sym zero) in
+    inl (ap (λ (n : ℕ). reply.Trimmed (min n (2 ^ 64 - 1))) number ∙ sym (ap (λ (a : Answer). a.0) e), d.after ∙ sym (ap (λ (a : Answer). a.1) e))
+
 -- ---- scan
 
 -- the answer of a scan that covers its query
@@ -134,11 +196,9 @@ scan_is m query leaf slot interval s d =
     ap (λ (o : Option OpenQuery). if_some o (refused m refusal.UnknownQuery) (scan_found m query leaf slot interval)) d.found
     ∙ ap (λ i. scan_found m query i slot interval d.question) d.first_leaf
     ∙ ap (λ (o : Option Book). if_some o (refused m refusal.NoSlot) (scan_at m query slot interval d.question)) d.here
-    ∙ ap (λ b. cond b (nothing m) (scanned m query slot (risen d.book d.question.s interval) d.question.s)) d.uncovered
+    ∙ ap (λ b. cond b (nothing m) (scan_gap m query slot interval d.question d.book)) d.uncovered
+    ∙ ap (λ b. cond b (refused m refusal.Trimmed) (scanned m query slot (risen d.book d.question.s interval) d.question.s)) d.above
     ∙ ap (λ b. cond b (covers m query slot (risen d.book d.question.s interval)) (waits m slot (risen d.book d.question.s interval))) d.safe
-
-some_same : {A : Type 0} (x y : A) → Some x ≡ Some y → x ≡ y
-some_same x y e = cc
 
 -- a piece that may be read and is registered is the scan: what was read of the family of the query's table covers it
 pub scanned_whole : (schema : List Table) (j k : Journaled) (cs : List KeyVersions) (query leaf slot : ℕ) (interval : Interval) (s n : ℕ) (shown : List (List Value)) → IsWhole schema j cs → (d : MayScan (machine_of j) query leaf slot interval s)
@@ -160,9 +220,10 @@ scanned_whole schema j k cs query leaf slot interval s n shown w d asked reading
     let zero = only_slot schema m w.reached slot d.book d.here in
     let safe : is_safe m 0 (risen d.book d.question.s interval) g.question.query.s ≡ true =
     ap (λ (q : OpenQuery). is_safe m 0 (risen d.book d.question.s interval) q.s) same ∙ subst (λ i. is_safe m i (risen d.book d.question.s interval) d.question.s ≡ true) zero d.safe in
+    let high : horizon_of m ≤ g.question.query.s = subst (λ (q : OpenQuery). horizon_of m ≤ q.s) (sym same) (above_horizon schema m w.reached query leaf slot interval s d) in
     let asked_there : table_asked schema g.question.query.text ≡ Ok n = ap (λ (q : OpenQuery). table_asked schema q.text) same ∙ asked in
     let reading_there : IsReading schema n (snapshot (family (root_of schema n)) g.question.query.s cs) shown = subst (λ i. IsReading schema n (snapshot (family (root_of schema n)) i cs) shown) read_at reading in
-    let pieced = pieced_scanned schema w.rules m cs j.queries w.reached w.kept w.pieced query g.question (risen d.book d.question.s interval) g.found safe n asked_there shown reading_there in (
+    let pieced = pieced_scanned schema w.rules m cs j.queries w.reached w.kept w.pieced query g.question (risen d.book d.question.s interval) g.found safe high n asked_there shown reading_there in (
       record {
         rules = w.rules;
         reached = subst (IsReached schema) (sym is) (answer_reached schema w.rules m w.reached (step.Scan query leaf slot interval) tt);
@@ -222,5 +283,5 @@ reads schema j cs query leaf slot interval s why w d (inr (inr (n, asked, none))
     let zero = only_slot schema m w.reached slot d.book d.here in
     let safe : is_safe m 0 (risen d.book d.question.s interval) d.question.s ≡ true = subst (λ i. is_safe m i (risen d.book d.question.s interval) d.question.s ≡ true) zero d.safe in
     let made = reached_tables schema w.rules m d.question.s w.reached in
-    let seen = snapshot_when_safe schema w.rules m cs d.question.s (risen d.book d.question.s interval) w.reached w.kept safe made.0 made.1 n in
+    let seen = snapshot_when_safe schema w.rules m cs d.question.s (risen d.book d.question.s interval) w.reached w.kept safe (above_horizon schema m w.reached query leaf slot interval s d) made.0 made.1 n in
     absurd (none seen.rows seen.typed (ap (λ i. snapshot (family (root_of schema n)) i cs) d.at ∙ seen.entries_are))

@@ -89,6 +89,7 @@ impl Core {
                 interval,
             } => self.apply(alloc, owner, txn, slot, interval),
             Step::Advance { slot, interval } => self.advance(slot, interval),
+            Step::Trim { slot, h } => self.trim(slot, h),
             Step::Open {
                 text,
                 params,
@@ -199,6 +200,19 @@ impl Core {
     {
         match self.journal.advance(slot, interval) {
             Ok(floor) => Reply::Floor(floor),
+            Err(why) => Reply::Refused(why),
+        }
+    }
+
+    fn trim(&mut self, slot: usize, h: u64) -> Reply
+        ensures steps { Steps self.old.schema self.old.machine (step_of.Trim slot h) result self.new.machine }
+        ensures schema { self.new.schema ≡ self.old.schema }
+    {
+        match self.journal.raise_horizon(slot, h) {
+            Ok(()) => {
+                self.shard.trim(h);
+                Reply::Trimmed(self.shard.live())
+            }
             Err(why) => Reply::Refused(why),
         }
     }

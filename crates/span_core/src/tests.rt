@@ -22,6 +22,7 @@ enum Call<'a> {
     Decide(u64, Verdict, Clock),
     Apply(u64, Clock),
     Advance(usize, Clock),
+    Trim(usize, u64),
     Open(&'a str, Bound, Clock),
     Scan(u64, Clock),
     Finish(u64),
@@ -144,6 +145,7 @@ fn reply_to(alloc: Global, core: &mut Core, call: &Call<'_>) -> Result<Reply, Fa
             let interval = interval(clock)?;
             core.step(alloc, Step::Advance { slot, interval })
         }
+        Call::Trim(slot, h) => core.step(alloc, Step::Trim { slot, h }),
         Call::Open(text, bound, clock) => open(alloc, core, text, bound, clock)?,
         Call::Scan(query, clock) => {
             let interval = interval(clock)?;
@@ -416,6 +418,94 @@ fn parent_missing(rt: HostRuntime) -> Result<(), Fail> {
     ]?;
     assert_eq!(rt;
         replies_to(alloc, &PARENT_MISSING)?.as_slice(),
+        expected.as_slice()
+    );
+    Ok(())
+}
+
+const INSERT_B: Asked<'static> = (MutationKind::Insert, "Users", &[2], Some(("email", "b")));
+
+const TRIM: [Call<'static>; 14] = [
+    Call::Begin(&[INSERT_A, INSERT_B]),
+    Call::Prepare(1),
+    Call::Decide(1, COMMIT, EARLY),
+    Call::Apply(1, NOW),
+    Call::Open(TEXT, Bound::At(150), NOW),
+    Call::Scan(1, NOW),
+    Call::Trim(0, 160),
+    Call::Advance(0, NOW),
+    Call::Trim(0, 160),
+    Call::Finish(1),
+    Call::Open(TEXT, Bound::At(150), NOW),
+    Call::Scan(2, NOW),
+    Call::Trim(0, 159),
+    Call::Trim(1, 160),
+];
+
+/// A trim waits for safe time; then what was read stays answered, and nothing below the horizon is read any more.
+#[test]
+fn trim(rt: HostRuntime) -> Result<(), Fail> {
+    let alloc = rt.alloc();
+    let mut rows = Seq::new(alloc);
+    rows.push(row(alloc, 1, "a")?)?;
+    rows.push(row(alloc, 2, "b")?)?;
+    let expected = vec![in alloc;
+        Reply::Began(1),
+        Reply::Prepared(1),
+        Reply::Decided(111),
+        Reply::Applied,
+        opened(1, 150),
+        Reply::Scanned,
+        Reply::Refused(Refusal::TrimTooNew),
+        Reply::Floor(210),
+        Reply::Trimmed(2),
+        Reply::Rows { s: 150, rows },
+        opened(2, 150),
+        Reply::Refused(Refusal::Trimmed),
+        Reply::Refused(Refusal::TrimBackward),
+        Reply::Refused(Refusal::NoSlot),
+    ]?;
+    assert_eq!(rt; replies_to(alloc, &TRIM)?.as_slice(), expected.as_slice());
+    Ok(())
+}
+
+const CASCADE_TRIM: [Call<'static>; 11] = [
+    Call::Begin(&[
+        (MutationKind::Insert, "Users", &[5], Some(("email", "e"))),
+        (MutationKind::Insert, "Albums", &[5, 1], Some(("name", "x"))),
+        (MutationKind::Insert, "Albums", &[5, 2], Some(("name", "y"))),
+    ]),
+    Call::Prepare(1),
+    Call::Decide(1, COMMIT, EARLY),
+    Call::Apply(1, NOW),
+    Call::Begin(&[(MutationKind::Delete, "Users", &[5], None)]),
+    Call::Prepare(2),
+    Call::Decide(2, COMMIT, NOW),
+    Call::Apply(2, (300, 310)),
+    Call::Advance(0, (300, 310)),
+    Call::Trim(0, 210),
+    Call::Trim(0, 211),
+];
+
+/// A deletion leaves a version at each key that it takes a row from, and a trim at its timestamp leaves nothing.
+#[test]
+fn cascade_trim(rt: HostRuntime) -> Result<(), Fail> {
+    let alloc = rt.alloc();
+    let expected = vec![in alloc;
+        Reply::Began(1),
+        Reply::Prepared(1),
+        Reply::Decided(111),
+        Reply::Applied,
+        Reply::Began(2),
+        Reply::Prepared(112),
+        Reply::Decided(211),
+        Reply::Applied,
+        Reply::Floor(310),
+        Reply::Trimmed(6),
+        Reply::Trimmed(0),
+    ]?;
+    assert_eq!(rt;
+        replies_to(alloc, &CASCADE_TRIM)?.as_slice(),
         expected.as_slice()
     );
     Ok(())

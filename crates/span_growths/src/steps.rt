@@ -8,7 +8,7 @@ use span_core::{
 use std::alloc::Global;
 
 /// How many steps there are.
-pub const COUNT: usize = 16;
+pub const COUNT: usize = 17;
 
 /// A row: its table, its key, and its text with the column that has it.
 struct Asked<'a> {
@@ -62,7 +62,8 @@ const CHANGES: [Asked<'static>; 2] = [
     },
 ];
 
-/// Takes the step of this number. A query reads the users between the two transactions, and one the albums after both.
+/// Takes the step of this number. A query reads the users between the two transactions, and one the albums
+/// after both; a trim leaves what is read from then on.
 pub fn reply_at(alloc: Global, core: &mut Core, number: usize) -> Result<Reply, Fault> {
     match number {
         0 => begin(alloc, core, &ROWS),
@@ -80,7 +81,8 @@ pub fn reply_at(alloc: Global, core: &mut Core, number: usize) -> Result<Reply, 
         12 => open(alloc, core, "SELECT * FROM Albums", Bound::Strong),
         13 => scan(alloc, core, 2),
         14 => Ok(core.step(alloc, Step::Finish { query: 2 })),
-        _ => advance(alloc, core),
+        15 => advance(alloc, core),
+        _ => Ok(core.step(alloc, Step::Trim { slot: 0, h: 350 })),
     }
 }
 

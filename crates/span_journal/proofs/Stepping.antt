@@ -1,4 +1,5 @@
-use Rattle.std.proofs.Common.{◌≡◌, ℕ, ◌<◌, ◌^◌, ◌==◌, cond, subst, length, true, false, List, Option, Some, None, Result, Ok, Err, refl, ap, sym, ◌∙◌, inr}
+use Rattle.std.proofs.Common.{◌≡◌, nat_lt, ℕ, ◌≤◌, ◌<◌, ◌^◌, ◌==◌, cond, subst, length, true, false, List, Option, Some, None, Result, Ok, Err, refl, ap, sym, ◌∙◌, inr, arith}
+use Rattle.std.proofs.lemmas.Bool.Decides.{nat_tests}
 use Rattle.std.specs.Prelude.{IfOk, IfErr, find, option_map, slice_get, slice_set, remove}
 use Rattle.span_truetime.specs.declared.interval.Interval.{Interval}
 use Rattle.span_schema.specs.declared.table.Table.{Table}
@@ -12,7 +13,7 @@ use Rattle.span_value.specs.declared.refusal.Refusal.{Refusal}
 use Rattle.span_value.specs.declared.refusal.Refusal.TheVariants as refusal
 use Rattle.span_machine.specs.declared.query.OpenQuery.{OpenQuery}
 use Rattle.span_machine.specs.declared.step.Reply.TheVariants as reply
-use Rattle.span_machine.specs.Machine.{Machine, refused, if_some, is_query, is_transaction, without_first, closed, close, add_prepared, without_prepared, prepare_timestamp, with_last, apply_refusal, applied, applied_at, scan, scan_found, scan_at, scanned, is_safe, risen, with_book, changed_first, cover, finish, finish_found, for_slot}
+use Rattle.span_machine.specs.Machine.{Machine, refused, if_some, is_query, is_transaction, without_first, closed, close, add_prepared, without_prepared, prepare_timestamp, with_last, apply_refusal, applied, applied_at, scan, scan_found, scan_at, scan_gap, scanned, is_safe, risen, with_book, changed_first, cover, finish, finish_found, for_slot}
 use Rattle.span_machine.specs.Pieces.{Pieced, Journaled, machine_of, queries_of}
 use Rattle.span_machine.proofs.PiecedLists.{find-map, without_first-map}
 
@@ -80,6 +81,12 @@ applied_noted j owner txn slot at interval t book committed bs txs place here ac
 
 -- ---- scan and finish
 
+pub is_below : (s q h : ℕ) → s ≡ q → s < h → nat_lt q h ≡ true
+is_below s q h same low = grind (arith, nat_tests)
+
+pub is_not_below : (s q h : ℕ) → s ≡ q → h ≤ s → nat_lt q h ≡ false
+is_not_below s q h same high = grind (arith, nat_tests)
+
 -- a query that is not there is not scanned
 pub scan_none : (j : Journaled) (query leaf slot : ℕ) (interval : Interval) → find (λ p. is_query query p.query) j.queries ≡ None → scan (machine_of j) query leaf slot interval ≡ refused (machine_of j) refusal.UnknownQuery
 scan_none j query leaf slot interval e = ap (λ (o : Option OpenQuery). if_some o (refused (machine_of j) refusal.UnknownQuery) (scan_found (machine_of j) query leaf slot interval)) (found_query j.queries query None e)
@@ -103,18 +110,25 @@ module _ (j : Journaled) (query leaf slot : ℕ) (interval : Interval) (p : Piec
 
   pub scan_nothing : (book : Book) → (leaf == 0) ≡ true → slice_get j.books slot ≡ Some book → p.query.covered ≡ true → scan (machine_of j) query leaf slot interval ≡ (reply.Nothing, machine_of j)
   scan_nothing book e here covered = scan_in book e here
-      ∙ ap (λ b. cond b (reply.Nothing, machine_of j) (scanned (machine_of j) query slot (risen book p.query.s interval) p.query.s)) covered
+      ∙ ap (λ b. cond b (reply.Nothing, machine_of j) (scan_gap (machine_of j) query slot interval p.query book)) covered
 
-  pub scan_waits : (book : Book) → (leaf == 0) ≡ true → slice_get j.books slot ≡ Some book → p.query.covered ≡ false → is_safe (machine_of j) slot (risen book p.query.s interval) p.query.s ≡ false
+  -- below the horizon nothing is read
+  pub scan_trimmed : (book : Book) → (leaf == 0) ≡ true → slice_get j.books slot ≡ Some book → p.query.covered ≡ false → nat_lt p.query.s book.horizon ≡ true → scan (machine_of j) query leaf slot interval ≡ refused (machine_of j) refusal.Trimmed
+  scan_trimmed book e here uncovered below = scan_in book e here
+      ∙ ap (λ b. cond b (reply.Nothing, machine_of j) (scan_gap (machine_of j) query slot interval p.query book)) uncovered
+      ∙ ap (λ b. cond b (refused (machine_of j) refusal.Trimmed) (scanned (machine_of j) query slot (risen book p.query.s interval) p.query.s)) below
+
+  pub scan_waits : (book : Book) → (leaf == 0) ≡ true → slice_get j.books slot ≡ Some book → p.query.covered ≡ false → nat_lt p.query.s book.horizon ≡ false → is_safe (machine_of j) slot (risen book p.query.s interval) p.query.s ≡ false
       → (bs : List Book) → bs ≡ slice_set j.books slot (risen book p.query.s interval) → scan (machine_of j) query leaf slot interval ≡ (reply.Refused refusal.NotYet, machine_of (record j { books = bs }))
-  scan_waits book e here uncovered unsafe bs books_are = scan_in book e here
-      ∙ ap (λ b. cond b (reply.Nothing, machine_of j) (scanned (machine_of j) query slot (risen book p.query.s interval) p.query.s)) uncovered
+  scan_waits book e here uncovered above unsafe bs books_are = scan_in book e here
+      ∙ ap (λ b. cond b (reply.Nothing, machine_of j) (scan_gap (machine_of j) query slot interval p.query book)) uncovered
+      ∙ ap (λ b. cond b (refused (machine_of j) refusal.Trimmed) (scanned (machine_of j) query slot (risen book p.query.s interval) p.query.s)) above
       ∙ ap (λ b. cond b (reply.Scanned, record (with_book (machine_of j) slot (risen book p.query.s interval)) { queries = changed_first (is_query query) cover (machine_of j).queries })
       (reply.Refused refusal.NotYet, with_book (machine_of j) slot (risen book p.query.s interval))) unsafe
       ∙ ap (λ (l : List Book). (reply.Refused refusal.NotYet, machine_of (record j { books = l }))) (sym books_are)
 
-  pub may_scan : (book : Book) → leaf ≡ 0 → slice_get j.books slot ≡ Some book → p.query.covered ≡ false → is_safe (machine_of j) slot (risen book p.query.s interval) p.query.s ≡ true → MayScan (machine_of j) query leaf slot interval p.query.s
-  may_scan book first here uncovered safe = record {
+  pub may_scan : (book : Book) → leaf ≡ 0 → slice_get j.books slot ≡ Some book → p.query.covered ≡ false → nat_lt p.query.s book.horizon ≡ false → is_safe (machine_of j) slot (risen book p.query.s interval) p.query.s ≡ true → MayScan (machine_of j) query leaf slot interval p.query.s
+  may_scan book first here uncovered above safe = record {
     question = p.query;
     book = book;
     found = found_query j.queries query (Some p) found;
@@ -122,6 +136,7 @@ module _ (j : Journaled) (query leaf slot : ℕ) (interval : Interval) (p : Piec
     first_leaf = first;
     uncovered = uncovered;
     at = refl;
+    above = above;
     safe = safe;
   }
 

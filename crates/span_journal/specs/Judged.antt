@@ -1,4 +1,4 @@
-use Rattle.std.specs.Prelude.{◌≡◌, ◌≢◌, ℕ, false, true, nat_le, List, [], ◌∷◌, find, slice_get, Option, Some, None, Result, Ok, Err, ◌⊎◌}
+use Rattle.std.specs.Prelude.{◌≡◌, ◌≢◌, ℕ, false, true, nat_le, nat_lt, List, [], ◌∷◌, find, slice_get, slice_set, Option, Some, None, Result, Ok, Err, ◌⊎◌}
 use Rattle.span_value.specs.declared.value.Value.{Value}
 use Rattle.span_value.specs.declared.refusal.Refusal.{Refusal}
 use Rattle.span_value.specs.declared.refusal.Refusal.TheVariants.{OutOfMemory, TimestampRange, UnknownQuery, NoSlot, Incomplete}
@@ -13,7 +13,7 @@ use Rattle.span_machine.specs.declared.query.OpenQuery.{OpenQuery}
 use Rattle.span_machine.specs.declared.transaction.OpenTransaction.{OpenTransaction}
 use Rattle.span_machine.specs.declared.transaction.Outcome.{Outcome}
 use Rattle.span_machine.specs.declared.transaction.Outcome.TheVariants as outcome
-use Rattle.span_machine.specs.Machine.{Machine, first_cause, is_transaction, is_query, mutations_in, prepare_refusal, prepare_timestamp, prepared, apply_refusal, applied_at, changed_first, cover, is_safe, risen, scan, with_book}
+use Rattle.span_machine.specs.Machine.{trim_refusal, Machine, first_cause, is_transaction, is_query, mutations_in, prepare_refusal, prepare_timestamp, prepared, apply_refusal, applied_at, changed_first, cover, is_safe, risen, scan, with_book}
 use Rattle.span_machine.specs.Meaning.{table_asked}
 use Rattle.span_machine.specs.Pieces.{Pieced, Journaled, machine_of}
 
@@ -67,7 +67,7 @@ pub record IsApplied (old : Machine) (owner txn slot : ℕ) (interval : Interval
   pub outcome : transaction.outcome ≡ outcome_of committed
   pub after : new ≡ (applied_at (outcome_of committed) old owner txn slot transaction).1
 
--- the query's one leaf is uncovered, and the slot's safe time reaches its timestamp s once the floor has risen
+-- the query's one leaf is uncovered, its timestamp s is not below the slot's horizon, and safe time reaches it once the floor has risen
 pub record MayScan (m : Machine) (query leaf slot : ℕ) (interval : Interval) (s : ℕ) : Type 0 where
   pub question : OpenQuery
   pub book : Book
@@ -76,7 +76,15 @@ pub record MayScan (m : Machine) (query leaf slot : ℕ) (interval : Interval) (
   pub first_leaf : leaf ≡ 0
   pub uncovered : question.covered ≡ false
   pub at : s ≡ question.s
+  pub above : nat_lt question.s book.horizon ≡ false
   pub safe : is_safe m slot (risen book question.s interval) question.s ≡ true
+
+-- the slot's horizon has risen to h
+pub record IsRaised (old : Machine) (slot h : ℕ) (new : Machine) : Type 0 where
+  pub book : Book
+  pub here : slice_get old.books slot ≡ Some book
+  pub accepted : trim_refusal old slot h book ≡ None
+  pub after : new ≡ record old { books = slice_set old.books slot (record book { horizon = h }) }
 
 -- what a scan finds: nothing uncovered, or the timestamp at which the leaf may be read
 abbrev pub IsGap : Machine → ℕ → ℕ → ℕ → Interval → Option ℕ → Type 0

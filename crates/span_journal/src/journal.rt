@@ -1,20 +1,20 @@
 //! The journal and its calls.
 ghost use Rattle.std.specs.Prelude.{◌≡◌, ℕ, List, ◌<◌, ◌+◌, ◌^◌, [], ◌∷◌, ◌++◌, length, count_by, IfOk, IfErr, OnOk, OnErr, Some, None, true, false};
-ghost use Rattle.span_machine.specs.Machine.{Steps, start, is_undecided, is_query, commit_refusal, commit_timestamp, prepare, apply_step, scan, finish, open_refusal, begun, refused, without_first};
+ghost use Rattle.span_machine.specs.Machine.{Steps, start, is_undecided, is_query, commit_refusal, commit_timestamp, prepare, apply_step, scan, finish, open_refusal, begun, refused, trim, trim_refusal, without_first};
 ghost use Rattle.span_truetime.specs.Time.{timestamp_of};
 ghost use Rattle.span_schema.specs.declared.table.Table.{Table};
 ghost use Rattle.span_machine.specs.Pieces.{machine_of};
 ghost use Rattle.span_machine.specs.declared.step.Step.TheVariants as step_of;
 ghost use Rattle.span_machine.specs.declared.step.Reply.TheVariants as reply_of;
 ghost use Rattle.span_machine.specs.declared.query.OpenQuery.{OpenQuery};
-ghost use Rattle.span_journal.specs.Judged.{replied, decided, MayPrepare, IsNoted, IsUnnoted, IsApplied, IsGap, IsRegistered, IsUnregistered, IsPiece, IsAskedBy, IsUnasked};
+ghost use Rattle.span_journal.specs.Judged.{replied, decided, MayPrepare, IsNoted, IsUnnoted, IsApplied, IsGap, IsRaised, IsRegistered, IsUnregistered, IsPiece, IsAskedBy, IsUnasked};
 ghost use Rattle.span_schema.specs.Numbers.{IsTable};
 
 use super::queries::{cover_at, find_query};
 use super::query::KeptQuery;
 use super::slots::{
     book_at, coordinator_slot, decision, is_ready, is_safe_at, prepare_timestamp, raise_last,
-    risen_floor, set_floor, set_last,
+    risen_floor, set_floor, set_horizon, set_last,
 };
 use super::text::table_asked;
 use super::transaction::KeptTransaction;
@@ -91,7 +91,11 @@ impl Journal {
         ensures pieces { IfOk result (λ journal. journal.queries ≡ []) }
     {
         let mut books = Vec::new(alloc);
-        books.push(Book { last: 0, floor: 0 })?;
+        books.push(Book {
+            last: 0,
+            floor: 0,
+            horizon: 0,
+        })?;
         Ok(Journal {
             books,
             transactions: Vec::new(alloc),
@@ -349,6 +353,36 @@ impl Journal {
         Ok(floor)
     }
 
+    /// Why the horizon of a slot may not rise to h, if so.
+    fn judge_trim(&self, book: &Book, slot: usize, h: u64) -> Result<(), Refusal>
+        ensures accepted { OnOk result (trim_refusal (machine_of self.now) slot h book.now ≡ None) }
+        ensures refused { IfErr result (λ why. trim_refusal (machine_of self.now) slot h book.now ≡ Some why) }
+    {
+        if h < book.horizon {
+            return Err(Refusal::TrimBackward);
+        }
+        if !is_safe_at(self.transactions.as_slice(), book.floor, slot, h) {
+            return Err(Refusal::TrimTooNew);
+        }
+        Ok(())
+    }
+
+    /// Raises the horizon of the slot to h, a timestamp: no scan reads below it there from now on. It takes no memory. `NoSlot`, then
+    /// `TrimBackward`, then `TrimTooNew` where h is above safe time; a refusal leaves all as it was.
+    pub fn raise_horizon(&mut self, slot: usize, h: u64) -> Result<(), Refusal>
+        ensures ok { OnOk result (IsRaised (machine_of self.old) slot h (machine_of self.new)) }
+        ensures why { IfErr result (λ why. (schema : List Table) → trim schema (machine_of self.old) slot h ≡ refused (machine_of self.old) why) }
+        ensures err { OnErr result (machine_of self.new ≡ machine_of self.old) }
+        ensures pieces { self.new.queries ≡ self.old.queries }
+    {
+        let Some(book) = book_at(self.books.as_slice(), slot) else {
+            return Err(Refusal::NoSlot);
+        };
+        self.judge_trim(book, slot, h)?;
+        set_horizon(&mut self.books, slot, h);
+        Ok(())
+    }
+
     /// The timestamp that a query is to read at, or why it is not opened.
     fn judge_open(
         &self,
@@ -403,8 +437,8 @@ impl Journal {
     }
 
     /// Judges a scan of the query's leaf in the slot: the timestamp to read at where a part of the leaf's range is uncovered there and
-    /// safe time has reached it, or None where nothing is uncovered. `UnknownQuery`, then `NoSlot`, then `NotYet`, after which alone
-    /// the slot's floor may have risen.
+    /// safe time has reached it, or None where nothing is uncovered. `UnknownQuery`, then `NoSlot`, then `Trimmed` below the horizon,
+    /// then `NotYet`, after which alone the slot's floor may have risen.
     pub fn claim_gap(
         &mut self,
         query: u64,
@@ -430,6 +464,9 @@ impl Journal {
             return Ok(None);
         }
         let s = question.timestamp();
+        if s < book.horizon {
+            return Err(Refusal::Trimmed);
+        }
         let floor = risen_floor(book, s, interval);
         if is_safe_at(self.transactions.as_slice(), floor, slot, s) {
             return Ok(Some(s));

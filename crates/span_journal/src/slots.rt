@@ -189,6 +189,14 @@ pub(crate) fn set_floor(books: &mut Vec<Book>, slot: usize, floor: u64)
     books[slot].floor = floor;
 }
 
+/// Sets the horizon of the slot.
+pub(crate) fn set_horizon(books: &mut Vec<Book>, slot: usize, h: u64)
+    requires { slot < length books.old.items }
+    ensures { IfSome (slice_get books.old.items slot) (λ book. books.new.items ≡ slice_set books.old.items slot (record book { horizon = h })) }
+{
+    books[slot].horizon = h;
+}
+
 /// What is known of the slot, if it is in use.
 pub(crate) fn book_at(books: &[Book], slot: usize) -> Option<&Book>
     ensures { option_copied result ≡ slice_get books.now slot }

@@ -1,10 +1,10 @@
-use Rattle.std.proofs.Common.{◌≡◌, ◌≢◌, ℕ, true, false, cond, ◌==◌, List, [], ◌∷◌, ◌++◌, length, Option, Some, None, Ok, refl, ap, sym, ◌∙◌, subst}
+use Rattle.std.proofs.Common.{◌≡◌, ◌≢◌, ℕ, ◌<◌, Bool, true, false, cond, ◌==◌, List, [], ◌∷◌, ◌++◌, length, Option, Some, None, Ok, refl, ap, sym, ◌∙◌, subst}
 use Rattle.std.specs.Prelude.{find, filter, map}
 use Rattle.span_shard.specs.declared.chain.PreparedWrite.{PreparedWrite}
 use Rattle.span_shard.specs.declared.chain.Version.{Version}
 use Rattle.span_machine.specs.Machine.{is_at}
 use Rattle.span_shard.specs.KeyVersions.{KeyVersions}
-use Rattle.span_shard.specs.Versions.{is_used, with_version, applied_to_key}
+use Rattle.span_shard.specs.Versions.{is_used, with_version, applied_to_key, kept_upto}
 use Rattle.span_shard.specs.Shard.{versions_at, prepared_at, IsNotOf}
 use Rattle.span_shard.specs.Shard as shard
 use Rattle.span_shard.proofs.Undo.{IsOpenFor, used_filtered}
@@ -12,16 +12,18 @@ use Rattle.span_machine.specs.declared.transaction.Commit.{Commit}
 use Rattle.span_machine.specs.declared.transaction.OpenTransaction.{OpenTransaction}
 use Rattle.span_machine.specs.declared.transaction.Outcome.TheVariants as outcome
 use Rattle.span_machine.specs.Machine.{Machine, is_transaction, is_prepared_at, without_prepared, without_first, changed_first, applied, applied_at, commit_of}
-use Rattle.span_laws.proofs.Tests.{second_true, number_same, equal_number}
-use Rattle.span_laws.proofs.Lists.{found_passes}
+use Rattle.span_machine.specs.Kept.{ok_or}
+use Rattle.span_laws.proofs.Tests.{first_true, second_true, number_same, equal_number}
+use Rattle.span_laws.proofs.Lists.{found_passes, found_in}
 use Rattle.span_laws.proofs.Stability.{is_some_of, changes_at}
 use Rattle.span_laws.proofs.InPlace.{IsUnder, IsRising, commits_at, claims}
 use Rattle.span_laws.proofs.Claims.{left_slot}
 use Rattle.span_laws.proofs.Reached.{IsReached}
-use Rattle.span_kept.specs.Kept.{IsCodedRoot, IsCodedCoding, is_under, HasRows, IsPut, IsPending, IsKeptBy, AreKept}
+use Rattle.span_kept.specs.Kept.{IsCodedRoot, IsCodedCoding, is_under, MakeRows, HasRows, IsPut, IsPending, IsKeptBy, AreKept, with_change, directory_after, made, horizon_of}
+use Rattle.span_kept.proofs.Trimming.{kept_newest, is_same_of, not_same_of, made_push}
 use Rattle.span_kept.proofs.Keys.{same_key, applied_versions, applied_prepared, versions_at-applied, prepared_at-applied}
-use Rattle.span_kept.proofs.Claimers.{false_and, claimers_of}
-use Rattle.span_kept.proofs.Steps.{open_of_put, kept_under}
+use Rattle.span_kept.proofs.Claimers.{false_and, claimers_of, above_horizon}
+use Rattle.span_kept.proofs.Steps.{open_of_put, kept_under, horizon_last}
 use Rattle.span_kept.proofs.Rows.{rising_front, rows_push, rows_still, not_of_others, others_apart}
 use Rattle.std.specs.List.{AllByRecursion}
 use Rattle.span_schema.specs.declared.table.Table.{Table}
@@ -56,22 +58,48 @@ given_up_versions : (txn : ℕ) (p : Option PreparedWrite) (vs : List Version) �
 given_up_versions txn None vs = refl
 given_up_versions txn (Some w) vs = elim (w.txn == txn) as (λ b. cond b vs vs ≡ vs) [ true ↦ refl | false ↦ refl ]
 
--- with the prepared write applied, the versions have the commit's rows
-rows_applied : (schema : List Table) (root : Root) (k : List ℕ) (front : List Commit) (c : Commit) (vs : List Version) (before after : List TableRow) (txn : ℕ) (p : Option PreparedWrite) → HasRows schema root k front vs → IsUnder c.timestamp front
+-- with the prepared write applied, the versions are those of one commit more, which is above the horizon
+rows_applied : (schema : List Table) (root : Root) (k : List ℕ) (h : ℕ) (front : List Commit) (c : Commit) (vs : List Version) (before after : List TableRow) (txn : ℕ) (p : Option PreparedWrite) → HasRows schema root k h front vs → IsUnder c.timestamp front → h < c.timestamp
     → apply schema [] (changes_at schema root front) ≡ Ok before → apply schema before (filter (is_at schema root) c.mutations) ≡ Ok after → IsPut txn (row_coded schema before k) (row_coded schema after k) p
-    → HasRows schema root k (front ++ c ∷ []) (applied_versions txn (Some c.timestamp) p vs)
-rows_applied schema root k front c vs before after txn None has under now through put = rows_still schema root k front c vs before after has under now through put
-rows_applied schema root k front c vs before after txn (Some w) has under now through put =
-    subst (λ b. HasRows schema root k (front ++ c ∷ []) (cond b (with_version (Some c.timestamp) w.row vs) vs)) (sym (equal_number w.txn txn put.0))
-    (subst (λ (row : Option (List ℕ)). HasRows schema root k (front ++ c ∷ []) ((record { timestamp = c.timestamp; row = row }) ∷ vs)) (sym put.1) (rows_push schema root k front c vs before after has under now through))
+    → HasRows schema root k h (front ++ c ∷ []) (applied_versions txn (Some c.timestamp) p vs)
+rows_applied schema root k h front c vs before after txn p has under high now through put = by_put p put
+  where
+    next : directory_after schema root before c ≡ after
+    next = ap (λ r. ok_or r before) through
+
+    push : made schema root k (front ++ c ∷ []) ≡ with_change c.timestamp (row_coded schema before k) (row_coded schema after k) (made schema root k front)
+    push = made_push schema root k before front c now ∙ ap (λ (d : List TableRow). with_change c.timestamp (row_coded schema before k) (row_coded schema d k) (made schema root k front)) next
+
+    newest : Version
+    newest = record { timestamp = c.timestamp; row = row_coded schema after k }
+
+    still : row_coded schema after k ≡ row_coded schema before k → made schema root k (front ++ c ∷ []) ≡ made schema root k front
+    still same = push ∙ ap (λ (b : Bool). cond b (made schema root k front) (newest ∷ made schema root k front)) (is_same_of (row_coded schema before k) (row_coded schema after k) (sym same))
+
+    pushed : row_coded schema after k ≢ row_coded schema before k → made schema root k (front ++ c ∷ []) ≡ newest ∷ made schema root k front
+    pushed off = push ∙ ap (λ (b : Bool). cond b (made schema root k front) (newest ∷ made schema root k front)) (not_same_of (row_coded schema before k) (row_coded schema after k) off)
+
+    by_put : (p : Option PreparedWrite) → IsPut txn (row_coded schema before k) (row_coded schema after k) p → HasRows schema root k h (front ++ c ∷ []) (applied_versions txn (Some c.timestamp) p vs)
+    by_put None same = record {
+      versions = has.versions ∙ ap (kept_upto h) (sym (still same));
+      makes = subst (MakeRows schema root k (front ++ c ∷ [])) (sym (still same)) (rows_still schema root k front c (made schema root k front) before after has.makes under now through same);
+    }
+    by_put (Some w) put = record {
+      versions = ap (λ b. cond b (with_version (Some c.timestamp) w.row vs) vs) (equal_number w.txn txn put.0)
+          ∙ ap (λ (row : Option (List ℕ)). (record { timestamp = c.timestamp; row = row }) ∷ vs) put.1
+          ∙ ap (λ (l : List Version). newest ∷ l) has.versions
+          ∙ sym (kept_newest h newest (made schema root k front) high)
+          ∙ ap (kept_upto h) (sym (pushed put.2));
+      makes = subst (MakeRows schema root k (front ++ c ∷ [])) (sym (pushed put.2)) (rows_push schema root k front c (made schema root k front) before after has.makes under now through);
+    }
 
 -- its commit was pending and is applied
-applied_pending : (schema : List Table) (root : Root) (k : List ℕ) (cs : List Commit) (vs : List Version) (p : Option PreparedWrite) (t : OpenTransaction) (ts : ℕ) → IsRising cs → IsPending schema root k cs vs p t ts
-    → (applied_prepared t.number p ≡ None) × HasRows schema root k cs (applied_versions t.number (Some ts) p vs)
-applied_pending schema root k cs vs p t ts up h = (
-  none_prepared t.number p (open_of_put t.number _ _ p h.put.put),
-  subst (λ l. HasRows schema root k l (applied_versions t.number (Some ts) p vs)) (sym h.whole)
-      (rows_applied schema root k h.front (commit_of ts t) vs h.put.before h.put.after t.number p h.rows (rising_front h.front (commit_of ts t) (subst IsRising h.whole up)) h.put.now h.put.through h.put.put),
+applied_pending : (schema : List Table) (root : Root) (k : List ℕ) (h : ℕ) (cs : List Commit) (vs : List Version) (p : Option PreparedWrite) (t : OpenTransaction) (ts : ℕ) → IsRising cs → h < ts → IsPending schema root k h cs vs p t ts
+    → (applied_prepared t.number p ≡ None) × HasRows schema root k h cs (applied_versions t.number (Some ts) p vs)
+applied_pending schema root k h cs vs p t ts up high is = (
+  none_prepared t.number p (open_of_put t.number _ _ p is.put.put),
+  subst (λ l. HasRows schema root k h l (applied_versions t.number (Some ts) p vs)) (sym is.whole)
+      (rows_applied schema root k h is.front (commit_of ts t) vs is.put.before is.put.after t.number p is.rows (rising_front is.front (commit_of ts t) (subst IsRising is.whole up)) high is.put.now is.put.through is.put.put),
 )
 
 -- every key stays the coding of a key
@@ -111,61 +139,63 @@ module _ (schema : List Table) (m : Machine) (reached : IsReached schema m) (cs 
 
   -- what is kept at a key that another transaction claims, or none
   kept_of_others : (root : Root) (is_root : IsCodedRoot schema root) (k : List ℕ) (under : is_under schema root k ≡ true) (committed : Option ℕ) → claims schema root 0 t ≡ false
-      → IsKeptBy schema root k (commits_at schema root m.log) (applied_versions t.number committed (prepared_at cs k) (versions_at cs k)) (applied_prepared t.number (prepared_at cs k)) (filter (claims schema root 0) (applied m owner txn 0 t))
+      → IsKeptBy schema root k (horizon_of m) (commits_at schema root m.log) (applied_versions t.number committed (prepared_at cs k) (versions_at cs k)) (applied_prepared t.number (prepared_at cs k)) (filter (claims schema root 0) (applied m owner txn 0 t))
   kept_of_others root is_root k under committed off =
       let not_its : IsNotOf t.number (prepared_at cs k) =
-      not_of_others schema root k (commits_at schema root m.log) (versions_at cs k) (prepared_at cs k) (filter (claims schema root 0) m.transactions) t.number (kept.kept root is_root k under) (others_apart schema m reached root (is_transaction owner txn) t found off) in
-      subst (λ vs. IsKeptBy schema root k (commits_at schema root m.log) vs (applied_prepared t.number (prepared_at cs k)) (filter (claims schema root 0) (applied m owner txn 0 t))) (sym (still_versions t.number committed (prepared_at cs k) (versions_at cs k) not_its))
-      (subst (λ p. IsKeptBy schema root k (commits_at schema root m.log) (versions_at cs k) p (filter (claims schema root 0) (applied m owner txn 0 t))) (sym (still_prepared t.number (prepared_at cs k) not_its))
-      (subst (IsKeptBy schema root k (commits_at schema root m.log) (versions_at cs k) (prepared_at cs k)) (sym (others root is_root off)) (kept.kept root is_root k under)))
+      not_of_others schema root k (horizon_of m) (commits_at schema root m.log) (versions_at cs k) (prepared_at cs k) (filter (claims schema root 0) m.transactions) t.number (kept.kept root is_root k under) (others_apart schema m reached root (is_transaction owner txn) t found off) in
+      subst (λ vs. IsKeptBy schema root k (horizon_of m) (commits_at schema root m.log) vs (applied_prepared t.number (prepared_at cs k)) (filter (claims schema root 0) (applied m owner txn 0 t))) (sym (still_versions t.number committed (prepared_at cs k) (versions_at cs k) not_its))
+      (subst (λ p. IsKeptBy schema root k (horizon_of m) (commits_at schema root m.log) (versions_at cs k) p (filter (claims schema root 0) (applied m owner txn 0 t))) (sym (still_prepared t.number (prepared_at cs k) not_its))
+      (subst (IsKeptBy schema root k (horizon_of m) (commits_at schema root m.log) (versions_at cs k) (prepared_at cs k)) (sym (others root is_root off)) (kept.kept root is_root k under)))
 
   -- where it is so at every key, it is so of the shard
-  kept_by_keys : (n : Machine) (committed : Option ℕ) → n.log ≡ m.log → n.transactions ≡ applied m owner txn 0 t
-      → ((root : Root) (is_root : IsCodedRoot schema root) (k : List ℕ) (under : is_under schema root k ≡ true) → IsKeptBy schema root k (commits_at schema root m.log) (applied_versions t.number committed (prepared_at cs k) (versions_at cs k)) (applied_prepared t.number (prepared_at cs k)) (filter (claims schema root 0) (applied m owner txn 0 t)))
+  kept_by_keys : (n : Machine) (committed : Option ℕ) → n.log ≡ m.log → n.transactions ≡ applied m owner txn 0 t → horizon_of n ≡ horizon_of m
+      → ((root : Root) (is_root : IsCodedRoot schema root) (k : List ℕ) (under : is_under schema root k ≡ true) → IsKeptBy schema root k (horizon_of m) (commits_at schema root m.log) (applied_versions t.number committed (prepared_at cs k) (versions_at cs k)) (applied_prepared t.number (prepared_at cs k)) (filter (claims schema root 0) (applied m owner txn 0 t)))
       → AreKept schema n (shard.applied t.number committed cs)
-  kept_by_keys n committed log ts each = record {
+  kept_by_keys n committed log ts horizon each = record {
     keys = in_order_applied t.number committed cs kept.keys;
     used = used_filtered (map (applied_to_key t.number committed) cs);
     coded = coded_applied schema t.number committed cs kept.coded;
     kept = λ root is_root k under.
-        subst (λ l. IsKeptBy schema root k (commits_at schema root l) (versions_at (shard.applied t.number committed cs) k) (prepared_at (shard.applied t.number committed cs) k) (filter (claims schema root 0) n.transactions)) (sym log)
-        (subst (λ us. IsKeptBy schema root k (commits_at schema root m.log) (versions_at (shard.applied t.number committed cs) k) (prepared_at (shard.applied t.number committed cs) k) (filter (claims schema root 0) us)) (sym ts)
-        (subst (λ vs. IsKeptBy schema root k (commits_at schema root m.log) vs (prepared_at (shard.applied t.number committed cs) k) (filter (claims schema root 0) (applied m owner txn 0 t))) (sym (versions_at-applied t.number committed cs k kept.keys))
-        (subst (λ p. IsKeptBy schema root k (commits_at schema root m.log) (applied_versions t.number committed (prepared_at cs k) (versions_at cs k)) p (filter (claims schema root 0) (applied m owner txn 0 t))) (sym (prepared_at-applied t.number committed cs k kept.keys))
-        (each root is_root k under))));
+        subst (λ h. IsKeptBy schema root k h (commits_at schema root n.log) (versions_at (shard.applied t.number committed cs) k) (prepared_at (shard.applied t.number committed cs) k) (filter (claims schema root 0) n.transactions)) (sym horizon)
+        (subst (λ l. IsKeptBy schema root k (horizon_of m) (commits_at schema root l) (versions_at (shard.applied t.number committed cs) k) (prepared_at (shard.applied t.number committed cs) k) (filter (claims schema root 0) n.transactions)) (sym log)
+        (subst (λ us. IsKeptBy schema root k (horizon_of m) (commits_at schema root m.log) (versions_at (shard.applied t.number committed cs) k) (prepared_at (shard.applied t.number committed cs) k) (filter (claims schema root 0) us)) (sym ts)
+        (subst (λ vs. IsKeptBy schema root k (horizon_of m) (commits_at schema root m.log) vs (prepared_at (shard.applied t.number committed cs) k) (filter (claims schema root 0) (applied m owner txn 0 t))) (sym (versions_at-applied t.number committed cs k kept.keys))
+        (subst (λ p. IsKeptBy schema root k (horizon_of m) (commits_at schema root m.log) (applied_versions t.number committed (prepared_at cs k) (versions_at cs k)) p (filter (claims schema root 0) (applied m owner txn 0 t))) (sym (prepared_at-applied t.number committed cs k kept.keys))
+        (each root is_root k under)))));
   }
 
   committed_key : (ts : ℕ) → t.outcome ≡ outcome.Committed ts → (root : Root) (is_root : IsCodedRoot schema root) (k : List ℕ) (under : is_under schema root k ≡ true)
-      → IsKeptBy schema root k (commits_at schema root m.log) (applied_versions t.number (Some ts) (prepared_at cs k) (versions_at cs k)) (applied_prepared t.number (prepared_at cs k)) (filter (claims schema root 0) (applied m owner txn 0 t))
+      → IsKeptBy schema root k (horizon_of m) (commits_at schema root m.log) (applied_versions t.number (Some ts) (prepared_at cs k) (versions_at cs k)) (applied_prepared t.number (prepared_at cs k)) (filter (claims schema root 0) (applied m owner txn 0 t))
   committed_key ts e root is_root k under = elim (claims schema root 0 t) as (λ v. claims schema root 0 t ≡ v
-      → IsKeptBy schema root k (commits_at schema root m.log) (applied_versions t.number (Some ts) (prepared_at cs k) (versions_at cs k)) (applied_prepared t.number (prepared_at cs k)) (filter (claims schema root 0) (applied m owner txn 0 t))) [
+      → IsKeptBy schema root k (horizon_of m) (commits_at schema root m.log) (applied_versions t.number (Some ts) (prepared_at cs k) (versions_at cs k)) (applied_prepared t.number (prepared_at cs k)) (filter (claims schema root 0) (applied m owner txn 0 t))) [
         | false ↦ λ off. kept_of_others root is_root k under (Some ts) off
         | true ↦ λ is.
             let place = reached.placed root (coded_root schema root is_root) in
-            subst (IsKeptBy schema root k (commits_at schema root m.log) (applied_versions t.number (Some ts) (prepared_at cs k) (versions_at cs k)) (applied_prepared t.number (prepared_at cs k))) (sym (left root is_root is))
-            (applied_pending schema root k (commits_at schema root m.log) (versions_at cs k) (prepared_at cs k) t ts place.rising
+            let high : horizon_of m < ts = above_horizon schema m reached root (coded_root schema root is_root) t ts (found_in (is_transaction owner txn) m.transactions t found) (first_true (is_prepared_at 0 t) (is_some_of (filter (is_at schema root) t.mutations)) is) e in
+            subst (IsKeptBy schema root k (horizon_of m) (commits_at schema root m.log) (applied_versions t.number (Some ts) (prepared_at cs k) (versions_at cs k)) (applied_prepared t.number (prepared_at cs k))) (sym (left root is_root is))
+            (applied_pending schema root k (horizon_of m) (commits_at schema root m.log) (versions_at cs k) (prepared_at cs k) t ts place.rising high
             (kept_under schema m reached cs kept root is_root k under (is_transaction owner txn) t (outcome.Committed ts) found is e))
       ] refl
 
   aborted_key : t.outcome ≡ outcome.Aborted → (root : Root) (is_root : IsCodedRoot schema root) (k : List ℕ) (under : is_under schema root k ≡ true)
-      → IsKeptBy schema root k (commits_at schema root m.log) (applied_versions t.number None (prepared_at cs k) (versions_at cs k)) (applied_prepared t.number (prepared_at cs k)) (filter (claims schema root 0) (applied m owner txn 0 t))
+      → IsKeptBy schema root k (horizon_of m) (commits_at schema root m.log) (applied_versions t.number None (prepared_at cs k) (versions_at cs k)) (applied_prepared t.number (prepared_at cs k)) (filter (claims schema root 0) (applied m owner txn 0 t))
   aborted_key e root is_root k under = elim (claims schema root 0 t) as (λ v. claims schema root 0 t ≡ v
-      → IsKeptBy schema root k (commits_at schema root m.log) (applied_versions t.number None (prepared_at cs k) (versions_at cs k)) (applied_prepared t.number (prepared_at cs k)) (filter (claims schema root 0) (applied m owner txn 0 t))) [
+      → IsKeptBy schema root k (horizon_of m) (commits_at schema root m.log) (applied_versions t.number None (prepared_at cs k) (versions_at cs k)) (applied_prepared t.number (prepared_at cs k)) (filter (claims schema root 0) (applied m owner txn 0 t))) [
         | false ↦ λ off. kept_of_others root is_root k under None off
         | true ↦ λ is.
             let old = kept_under schema m reached cs kept root is_root k under (is_transaction owner txn) t outcome.Aborted found is e in
-            subst (IsKeptBy schema root k (commits_at schema root m.log) (applied_versions t.number None (prepared_at cs k) (versions_at cs k)) (applied_prepared t.number (prepared_at cs k))) (sym (left root is_root is)) (
-              none_prepared t.number (prepared_at cs k) old.0,
-              subst (HasRows schema root k (commits_at schema root m.log)) (sym (given_up_versions t.number (prepared_at cs k) (versions_at cs k))) old.1,
+            subst (IsKeptBy schema root k (horizon_of m) (commits_at schema root m.log) (applied_versions t.number None (prepared_at cs k) (versions_at cs k)) (applied_prepared t.number (prepared_at cs k))) (sym (left root is_root is)) (
+              none_prepared t.number (prepared_at cs k) (open_of_put t.number _ _ (prepared_at cs k) old.0.put),
+              subst (HasRows schema root k (horizon_of m) (commits_at schema root m.log)) (sym (given_up_versions t.number (prepared_at cs k) (versions_at cs k))) old.1,
             )
       ] refl
 
   -- the commit's writes are versions
   pub kept_committed : (ts : ℕ) → t.outcome ≡ outcome.Committed ts → AreKept schema (applied_at (outcome.Committed ts) m owner txn 0 t).1 (shard.applied txn (Some ts) cs)
   kept_committed ts e = subst (λ n. AreKept schema (applied_at (outcome.Committed ts) m owner txn 0 t).1 (shard.applied n (Some ts) cs)) txn_is
-      (kept_by_keys (applied_at (outcome.Committed ts) m owner txn 0 t).1 (Some ts) refl refl (committed_key ts e))
+      (kept_by_keys (applied_at (outcome.Committed ts) m owner txn 0 t).1 (Some ts) refl refl (horizon_last m.books 0 ts) (committed_key ts e))
 
   -- the writes are given up
   pub kept_aborted : t.outcome ≡ outcome.Aborted → AreKept schema (applied_at outcome.Aborted m owner txn 0 t).1 (shard.applied txn None cs)
   kept_aborted e = subst (λ n. AreKept schema (applied_at outcome.Aborted m owner txn 0 t).1 (shard.applied n None cs)) txn_is
-      (kept_by_keys (applied_at outcome.Aborted m owner txn 0 t).1 None refl refl (aborted_key e))
+      (kept_by_keys (applied_at outcome.Aborted m owner txn 0 t).1 None refl refl refl (aborted_key e))

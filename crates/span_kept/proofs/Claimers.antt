@@ -1,10 +1,18 @@
-use Rattle.std.proofs.Common.{◌≡◌, ℕ, Bool, true, false, cond, ◌&&◌, List, [], ◌∷◌, ◌++◌, length, Some, refl, ap, sym, ◌∙◌, subst, arith}
+use Rattle.std.proofs.Common.{◌≡◌, ℕ, ◌<◌, ◌≤◌, Bool, true, false, cond, ◌&&◌, ◌||◌, ◌==◌, Option, List, [], ◌∷◌, ◌++◌, length, Some, refl, ap, sym, ◌∙◌, subst, arith}
 use Rattle.std.specs.Prelude.{slice_get, find, filter}
 use Rattle.std.proofs.lemmas.List.Elements.{filter-append}
 use Rattle.span_machine.specs.declared.slot.Book.{Book}
 use Rattle.span_machine.specs.declared.transaction.OpenTransaction.{OpenTransaction}
 use Rattle.span_machine.specs.Machine.{Machine, changed_first, without_first}
-use Rattle.span_laws.proofs.Lists.{split_found, both_nil}
+use Rattle.std.specs.List.{AllByRecursion, list_any}
+use Rattle.span_machine.specs.declared.transaction.Prepared.{Prepared}
+use Rattle.span_machine.specs.declared.transaction.Outcome.TheVariants as outcome
+use Rattle.span_machine.specs.Machine.{if_some, is_prepared_at}
+use Rattle.span_kept.specs.Kept.{horizon_of}
+use Rattle.span_laws.proofs.Tests.{number_same}
+use Rattle.span_laws.proofs.Holdings.{IsUpto, IsHolding}
+use Rattle.span_laws.proofs.Sealed.{IsAbove}
+use Rattle.span_laws.proofs.Lists.{IsIn, all_in, split_found, both_nil}
 use Rattle.span_laws.proofs.InPlace.{commits_at, claims, IsClaim}
 use Rattle.span_laws.proofs.Claims.{alone}
 use Rattle.span_laws.proofs.Reached.{IsReached}
@@ -73,3 +81,22 @@ claimers_of schema m reached root is_root test t found =
     (ap (filter (claims schema root 0)) sp.without ∙ filter-append (claims schema root 0) sp.front sp.back)
     (λ is. let a = alone schema root claim.0 (commits_at schema root m.log) (filter (claims schema root 0) sp.front) (filter (claims schema root 0) sp.back) t
     (subst (IsClaim schema root claim.0 (commits_at schema root m.log)) (old ∙ ap (λ b. filter (claims schema root 0) sp.front ++ cond b (t ∷ filter (claims schema root 0) sp.back) (filter (claims schema root 0) sp.back)) is) claim.1) in (a.0, a.1))
+
+-- ---- above the horizon
+
+-- a commit of a transaction that is prepared at slot 0 is above what the prepare timestamps there are above
+pub late : (s ts : ℕ) (ps : List Prepared) → list_any (λ p. p.slot == 0) ps ≡ true → AllByRecursion (λ p. p.slot ≡ 0 → s < p.timestamp) ps → AllByRecursion (λ p. p.timestamp ≤ ts) ps → s < ts
+late s ts [] = λ e above low. absurd (cc)
+late s ts (p ∷ ps) = elim (p.slot == 0) as (λ v. (p.slot == 0) ≡ v → (v || list_any (λ p. p.slot == 0) ps) ≡ true → AllByRecursion (λ p. p.slot ≡ 0 → s < p.timestamp) (p ∷ ps) → AllByRecursion (λ p. p.timestamp ≤ ts) (p ∷ ps) → s < ts) [
+  | true ↦ λ is e above low. let up : s < p.timestamp = above.0 (number_same p.slot 0 is) in let down : p.timestamp ≤ ts = low.0 in omega arith
+  | false ↦ λ is e above low. late s ts ps e above.1 low.1
+] refl
+
+-- so a commit that is prepared yet is above the horizon
+pub above_horizon : (schema : List Table) (m : Machine) → IsReached schema m → (root : Root) → IsRoot schema root → (t : OpenTransaction) (ts : ℕ) → IsIn t m.transactions → is_prepared_at 0 t ≡ true → t.outcome ≡ outcome.Committed ts → horizon_of m < ts
+above_horizon schema m reached root is_root t ts at prepared committed =
+    let book = first_book schema m reached in
+    let seal = reached.horizons.sealed 0 book.0 book.1 root is_root in
+    let above = all_in (IsAbove book.0.horizon 0) m.transactions t at (seal.prepared 0 book.0 book.1 refl) in
+    let upto : AllByRecursion (λ (p : Prepared). p.timestamp ≤ ts) t.prepared = subst (λ o. IsUpto o t.prepared) committed (all_in (IsHolding (length m.books)) m.transactions t at reached.holding).timely in
+    subst (λ (h : ℕ). h < ts) (sym (ap (λ (o : Option Book). if_some o 0 (λ (b : Book). b.horizon)) book.1)) (late book.0.horizon ts t.prepared prepared above upto)

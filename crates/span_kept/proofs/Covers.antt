@@ -1,4 +1,4 @@
-use Rattle.std.proofs.Common.{◌≡◌, ℕ, suc, Bool, true, false, cond, List, [], ◌∷◌, ◌++◌, length, Some, Ok, refl, ap, sym, ◌∙◌, subst}
+use Rattle.std.proofs.Common.{◌≡◌, ◌≤◌, ℕ, suc, Bool, true, false, cond, List, [], ◌∷◌, ◌++◌, length, Some, Ok, refl, ap, sym, ◌∙◌, subst}
 use Rattle.std.specs.Prelude.{find, map, option_map}
 use Rattle.std.specs.List.{AllByRecursion}
 use Rattle.span_value.specs.declared.value.Value.{Value}
@@ -17,7 +17,7 @@ use Rattle.span_laws.proofs.Locality.{apply_alike, empty_database, ok_same}
 use Rattle.span_laws.proofs.Sealed.{answer_keeps}
 use Rattle.span_laws.proofs.Sound.{IsCoveredSealed}
 use Rattle.span_laws.proofs.Reached.{IsReached, reached_tables, reached_finish}
-use Rattle.span_kept.specs.Kept.{AreKept, IsReading, IsPieced, ArePieced, family}
+use Rattle.span_kept.specs.Kept.{AreKept, IsReading, IsPieced, ArePieced, family, horizon_of}
 use Rattle.span_kept.proofs.Snapshots.{snapshot_when_safe}
 use Rattle.span_schema.specs.declared.table.Table.{Table}
 use Rattle.span_schema.specs.Lineages.{MeetsRules}
@@ -89,11 +89,11 @@ pieced_without schema m ps test pieced = all_without (IsPieced schema m.log) tes
 
 -- a scan that finds the slot safe covers the found query with what it reads of the family of its table
 pub pieced_scanned : (schema : List Table) → MeetsRules schema → (m : Machine) (cs : List KeyVersions) (ps : List Pieced) → IsReached schema m → AreKept schema m cs → ArePieced schema m ps → (query : ℕ) (p : Pieced) (book : Book)
-    → find (λ x. is_query query x.query) ps ≡ Some p → is_safe m 0 book p.query.s ≡ true → (n : ℕ) → table_asked schema p.query.text ≡ Ok n → (shown : List (List Value)) → IsReading schema n (snapshot (family (root_of schema n)) p.query.s cs) shown
+    → find (λ x. is_query query x.query) ps ≡ Some p → is_safe m 0 book p.query.s ≡ true → horizon_of m ≤ p.query.s → (n : ℕ) → table_asked schema p.query.text ≡ Ok n → (shown : List (List Value)) → IsReading schema n (snapshot (family (root_of schema n)) p.query.s cs) shown
     → ArePieced schema m (changed_first (λ x. is_query query x.query) (covered_with shown) ps)
-pieced_scanned schema rules m cs ps reached kept pieced query p book found safe n asked shown reading =
+pieced_scanned schema rules m cs ps reached kept pieced query p book found safe high n asked shown reading =
     let made = reached_tables schema rules m p.query.s reached in
-    let seen = snapshot_when_safe schema rules m cs p.query.s book reached kept safe made.0 made.1 n in
+    let seen = snapshot_when_safe schema rules m cs p.query.s book reached kept safe high made.0 made.1 n in
     all_changed_found (IsPieced schema m.log) (λ x. is_query query x.query) (covered_with shown) ps p found (λ covered. record {
       table = n;
       asked = asked;

@@ -1,5 +1,5 @@
 use Rattle.std.proofs.Common.{◌≡◌, ℕ, true, false, cond, ◌==◌, List, [], ◌∷◌, Option, Some, None, refl, ap, sym, ◌∙◌, subst}
-use Rattle.std.specs.Prelude.{find, option_map}
+use Rattle.std.specs.Prelude.{find, filter, map, option_map}
 use Rattle.std.specs.List.{AllByRecursion}
 use Rattle.std.specs.Ordering.{eq_by_cmp, is_eq, ordering_reverse}
 use Rattle.std.specs.declared.cmp.Ordering.{Ordering}
@@ -8,9 +8,9 @@ use Rattle.span_shard.specs.declared.chain.Version.{Version}
 use Rattle.span_shard.specs.declared.chain.PreparedWrite.{PreparedWrite}
 use Rattle.span_shard.specs.declared.write.Write.{Write}
 use Rattle.span_shard.specs.KeyVersions.{KeyVersions}
-use Rattle.span_shard.specs.Versions.{is_used, with_prepared, with_version, applied_write, applied_to_key}
+use Rattle.span_shard.specs.Versions.{is_used, with_prepared, with_version, applied_write, applied_to_key, kept_upto}
 use Rattle.span_shard.specs.Writes.{is_of}
-use Rattle.span_shard.specs.Shard.{AreInOrder, is_key, versions_of, prepared_of, versions_at, prepared_at, by_order, with_write, with_writes, fresh, prepared_write, applied}
+use Rattle.span_shard.specs.Shard.{AreInOrder, is_key, versions_of, prepared_of, versions_at, prepared_at, by_order, with_write, with_writes, fresh, prepared_write, applied, trimmed_key, trimmed}
 use Rattle.span_laws.proofs.Lists.{all_found, all_weaker}
 use Rattle.std.specs.Cmp.{eq_by_cmp_equiv}
 use Rattle.std.proofs.lemmas.Map.Lookups.{exact_bytes}
@@ -136,33 +136,41 @@ applied_key (Some w) txn committed c = elim (w.txn == txn) as (λ b. (cond b (re
 pub same_key : (txn : ℕ) (committed : Option ℕ) (c : KeyVersions) → (applied_to_key txn committed c).key ≡ c.key
 same_key txn committed c = applied_key c.prepared txn committed c
 
-under_applied : (txn : ℕ) (committed : Option ℕ) (key : List ℕ) (cs : List KeyVersions) → IsUnderAll key cs → IsUnderAll key (applied txn committed cs)
-under_applied txn committed key [] all = tt
-under_applied txn committed key (c ∷ cs) all = elim (is_used (applied_to_key txn committed c)) as (λ b. IsUnderAll key (cond b (applied_to_key txn committed c ∷ applied txn committed cs) (applied txn committed cs))) [
-  | true ↦ (ap (λ (k : List ℕ). byte_order key k) (same_key txn committed c) ∙ all.0, under_applied txn committed key cs all.1)
-  | false ↦ under_applied txn committed key cs all.1
+-- a change of each key that leaves the key itself
+abbrev LeavesKey : (KeyVersions → KeyVersions) → Type 0
+LeavesKey change = (c : KeyVersions) → (change c).key ≡ c.key
+
+-- the keys changed, without those that have nothing any more
+abbrev changed_keys : (KeyVersions → KeyVersions) → List KeyVersions → List KeyVersions
+changed_keys change cs = filter is_used (map change cs)
+
+under_changed : (change : KeyVersions → KeyVersions) → LeavesKey change → (key : List ℕ) (cs : List KeyVersions) → IsUnderAll key cs → IsUnderAll key (changed_keys change cs)
+under_changed change same key [] all = tt
+under_changed change same key (c ∷ cs) all = elim (is_used (change c)) as (λ b. IsUnderAll key (cond b (change c ∷ changed_keys change cs) (changed_keys change cs))) [
+  | true ↦ (ap (λ (k : List ℕ). byte_order key k) (same c) ∙ all.0, under_changed change same key cs all.1)
+  | false ↦ under_changed change same key cs all.1
 ]
 
 -- a view of a key that sees no difference between one that is in no use and none
 abbrev IsView : {A : Type 0} → (Option KeyVersions → A) → Type 0
 IsView g = (c : KeyVersions) → is_used c ≡ false → g (Some c) ≡ g None
 
-find_applied : {A : Type 0} (g : Option KeyVersions → A) → IsView g → (txn : ℕ) (committed : Option ℕ) (cs : List KeyVersions) (key : List ℕ) → AreInOrder cs
-    → g (find (is_key key) (applied txn committed cs)) ≡ g (option_map (applied_to_key txn committed) (find (is_key key) cs))
-find_applied g view txn committed [] key up = refl
-find_applied g view txn committed (c ∷ cs) key up =
-    let at : is_key key (applied_to_key txn committed c) ≡ is_key key c = ap (λ (k : List ℕ). eq_by_cmp byte_order key k) (same_key txn committed c) in
-    elim (is_used (applied_to_key txn committed c)) as (λ b. is_used (applied_to_key txn committed c) ≡ b → g (find (is_key key) (cond b (applied_to_key txn committed c ∷ applied txn committed cs) (applied txn committed cs))) ≡ g (option_map (applied_to_key txn committed) (find (is_key key) (c ∷ cs)))) [
-      | true ↦ λ used. ap (λ b. g (cond b (Some (applied_to_key txn committed c)) (find (is_key key) (applied txn committed cs)))) at
-          ∙ elim (is_key key c) as (λ b. g (cond b (Some (applied_to_key txn committed c)) (find (is_key key) (applied txn committed cs))) ≡ g (option_map (applied_to_key txn committed) (cond b (Some c) (find (is_key key) cs)))) [
+find_changed : {A : Type 0} (g : Option KeyVersions → A) → IsView g → (change : KeyVersions → KeyVersions) → LeavesKey change → (cs : List KeyVersions) (key : List ℕ) → AreInOrder cs
+    → g (find (is_key key) (changed_keys change cs)) ≡ g (option_map change (find (is_key key) cs))
+find_changed g view change same [] key up = refl
+find_changed g view change same (c ∷ cs) key up =
+    let at : is_key key (change c) ≡ is_key key c = ap (λ (k : List ℕ). eq_by_cmp byte_order key k) (same c) in
+    elim (is_used (change c)) as (λ b. is_used (change c) ≡ b → g (find (is_key key) (cond b (change c ∷ changed_keys change cs) (changed_keys change cs))) ≡ g (option_map change (find (is_key key) (c ∷ cs)))) [
+      | true ↦ λ used. ap (λ b. g (cond b (Some (change c)) (find (is_key key) (changed_keys change cs)))) at
+          ∙ elim (is_key key c) as (λ b. g (cond b (Some (change c)) (find (is_key key) (changed_keys change cs))) ≡ g (option_map change (cond b (Some c) (find (is_key key) cs)))) [
             | true ↦ refl
-            | false ↦ find_applied g view txn committed cs key up.1
+            | false ↦ find_changed g view change same cs key up.1
           ]
-      | false ↦ λ unused. elim (is_key key c) as (λ b. is_key key c ≡ b → g (find (is_key key) (applied txn committed cs)) ≡ g (option_map (applied_to_key txn committed) (cond b (Some c) (find (is_key key) cs)))) [
+      | false ↦ λ unused. elim (is_key key c) as (λ b. is_key key c ≡ b → g (find (is_key key) (changed_keys change cs)) ≡ g (option_map change (cond b (Some c) (find (is_key key) cs)))) [
         | true ↦ λ here.
-            let same : key ≡ c.key = same_bytes key c.key here in
-            ap g (find_under key (applied txn committed cs) (under_applied txn committed key cs (subst (λ (k : List ℕ). IsUnderAll k cs) (sym same) up.0))) ∙ sym (view (applied_to_key txn committed c) unused)
-        | false ↦ λ away. find_applied g view txn committed cs key up.1
+            let alike : key ≡ c.key = same_bytes key c.key here in
+            ap g (find_under key (changed_keys change cs) (under_changed change same key cs (subst (λ (k : List ℕ). IsUnderAll k cs) (sym alike) up.0))) ∙ sym (view (change c) unused)
+        | false ↦ λ away. find_changed g view change same cs key up.1
       ] refl
     ] refl
 
@@ -181,6 +189,12 @@ unused_versions [] None k e = (refl, refl)
 unused_versions [] (Some w) k e = absurd (cc)
 unused_versions (v ∷ vs) p k e = absurd (cc)
 
+unused_has_none : IsView versions_of
+unused_has_none c unused = (unused_versions c.versions c.prepared c.key unused).0
+
+unused_is_free : IsView prepared_of
+unused_is_free c unused = (unused_versions c.versions c.prepared c.key unused).1
+
 versions_write : (p : Option PreparedWrite) (txn : ℕ) (committed : Option ℕ) (c : KeyVersions) → (applied_write p txn committed c).versions ≡ applied_versions txn committed p c.versions
 versions_write None txn committed c = refl
 versions_write (Some w) txn committed c = elim (w.txn == txn) as (λ b. (cond b (record c { versions = with_version committed w.row c.versions; prepared = None }) c).versions ≡ cond b (with_version committed w.row c.versions) c.versions) [ true ↦ refl | false ↦ refl ]
@@ -192,7 +206,7 @@ prepared_write_left (Some w) txn committed c e =
 
 pub versions_at-applied : (txn : ℕ) (committed : Option ℕ) (cs : List KeyVersions) (key : List ℕ) → AreInOrder cs → versions_at (applied txn committed cs) key ≡ applied_versions txn committed (prepared_at cs key) (versions_at cs key)
 versions_at-applied txn committed cs key up =
-    find_applied versions_of (λ c unused. (unused_versions c.versions c.prepared c.key unused).0) txn committed cs key up
+    find_changed versions_of unused_has_none (applied_to_key txn committed) (same_key txn committed) cs key up
     ∙ elim (find (is_key key) cs) as (λ o. versions_of (option_map (applied_to_key txn committed) o) ≡ applied_versions txn committed (prepared_of o) (versions_of o)) [
       | None ↦ refl
       | Some c ↦ versions_write c.prepared txn committed c
@@ -200,8 +214,20 @@ versions_at-applied txn committed cs key up =
 
 pub prepared_at-applied : (txn : ℕ) (committed : Option ℕ) (cs : List KeyVersions) (key : List ℕ) → AreInOrder cs → prepared_at (applied txn committed cs) key ≡ applied_prepared txn (prepared_at cs key)
 prepared_at-applied txn committed cs key up =
-    find_applied prepared_of (λ c unused. (unused_versions c.versions c.prepared c.key unused).1) txn committed cs key up
+    find_changed prepared_of unused_is_free (applied_to_key txn committed) (same_key txn committed) cs key up
     ∙ elim (find (is_key key) cs) as (λ o. prepared_of (option_map (applied_to_key txn committed) o) ≡ applied_prepared txn (prepared_of o)) [
       | None ↦ refl
       | Some c ↦ prepared_write_left c.prepared txn committed c refl
     ]
+
+-- ---- versions trimmed
+
+pub versions_at-trimmed : (h : ℕ) (cs : List KeyVersions) (key : List ℕ) → AreInOrder cs → versions_at (trimmed h cs) key ≡ kept_upto h (versions_at cs key)
+versions_at-trimmed h cs key up =
+    find_changed versions_of unused_has_none (trimmed_key h) (λ c. refl) cs key up
+    ∙ elim (find (is_key key) cs) as (λ o. versions_of (option_map (trimmed_key h) o) ≡ kept_upto h (versions_of o)) [ None ↦ refl | Some c ↦ refl ]
+
+pub prepared_at-trimmed : (h : ℕ) (cs : List KeyVersions) (key : List ℕ) → AreInOrder cs → prepared_at (trimmed h cs) key ≡ prepared_at cs key
+prepared_at-trimmed h cs key up =
+    find_changed prepared_of unused_is_free (trimmed_key h) (λ c. refl) cs key up
+    ∙ elim (find (is_key key) cs) as (λ o. prepared_of (option_map (trimmed_key h) o) ≡ prepared_of o) [ None ↦ refl | Some c ↦ refl ]

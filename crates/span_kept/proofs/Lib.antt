@@ -2,10 +2,15 @@ pub mod Keys
 pub mod Claimers
 pub mod Roots
 pub mod Steps
+pub mod Trimming
 pub mod Rows
 pub mod Applying
 pub mod Preparing
+pub mod Trims
 pub mod Sorted
 pub mod KeyOrders
 pub mod Snapshots
 pub mod Covers
+pub mod Counting
+pub mod Changes
+pub mod Live

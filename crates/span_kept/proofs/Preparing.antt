@@ -40,10 +40,11 @@ use Rattle.span_laws.proofs.InPlace.{commits_at, claims, changes_at-upto}
 use Rattle.span_laws.proofs.Claims.{unclaimed, all_held, all_kept, under_filter}
 use Rattle.span_laws.proofs.Schemas.{IsBegunBy, keyed_upto, typed_upto, keyed_in, typed_in}
 use Rattle.span_laws.proofs.Reached.{IsReached, reached_tables}
-use Rattle.span_kept.specs.Kept.{IsCodedRoot, IsCodedCoding, is_under, HasRows, IsPut, IsKeptUnder, IsKeptBy, AreKept}
+use Rattle.span_kept.specs.Kept.{IsCodedRoot, IsCodedCoding, is_under, HasRows, IsPut, IsKeptUnder, IsKeptBy, AreKept, horizon_of}
 use Rattle.span_kept.proofs.Keys.{all_by_key, prepared_by, versions_at-with_writes, prepared_at-with_writes}
 use Rattle.span_kept.proofs.Claimers.{and_false, false_and, claimers_of}
 use Rattle.span_kept.proofs.Roots.{coded_root, coded_root_at, root_of_coding, coding_of_row, coded_in_directory}
+use Rattle.span_kept.proofs.Steps.{horizon_set}
 use Rattle.span_kept.proofs.Rows.{row_now_of_tables, not_of_others, others_apart}
 
 -- ---- tests
@@ -76,7 +77,7 @@ touched_root schema rules k (m ∷ ms) typed e = cases (begins_with k (root_code
 
 put_of : (k : List ℕ) (n txn : ℕ) (before after : Option (List ℕ)) (found : Option Write) (p : Option PreparedWrite) → p ≡ None → txn ≡ n → IsWrite k before after found → IsPut n before after (prepared_by txn found p)
 put_of k n txn before after None p none same write = subst (IsPut n before after) (sym none) write
-put_of k n txn before after (Some w) p none same write = (same, write.1)
+put_of k n txn before after (Some w) p none same write = (same, write.1, write.2)
 
 -- where nothing changes nothing is written
 no_write : (k : List ℕ) (before after : Option (List ℕ)) (found : Option Write) → after ≡ before → IsWrite k before after found → found ≡ None
@@ -148,8 +149,8 @@ module _ (schema : List Table) (rules : MeetsRules schema) (m : Machine) (reache
   not_yet root = false_and (is_prepared_at 0 t) (is_some_of (filter (is_at schema root) t.mutations)) may.1
 
   none_kept : (root : Root) (is : IsCodedRoot schema root) (k : List ℕ) (under : is_under schema root k ≡ true) → is_some_of (filter (is_at schema root) (mutations_in schema book t.mutations)) ≡ true
-      → (prepared_at cs k ≡ None) × HasRows schema root k (commits_at schema root m.log) (versions_at cs k)
-  none_kept root is k under some = subst (IsKeptBy schema root k (commits_at schema root m.log) (versions_at cs k) (prepared_at cs k)) (none_claims root is some) (kept.kept root is k under)
+      → (prepared_at cs k ≡ None) × HasRows schema root k (horizon_of m) (commits_at schema root m.log) (versions_at cs k)
+  none_kept root is k under some = subst (IsKeptBy schema root k (horizon_of m) (commits_at schema root m.log) (versions_at cs k) (prepared_at cs k)) (none_claims root is some) (kept.kept root is k under)
 
   -- nothing is prepared at a key that the mutations touch
   pub prepare_free : IsFree schema (mutations_in schema book t.mutations) cs
@@ -162,7 +163,7 @@ module _ (schema : List Table) (rules : MeetsRules schema) (m : Machine) (reache
   prepare_new = all_by_key (λ (c : KeyVersions). IsNotOf txn c.prepared) cs kept.keys (λ c at.
       let root = root_of_coding schema rules c.key (all_found (λ (d : KeyVersions). IsCodedCoding schema d.key) (is_key c.key) cs c at kept.coded) in
       subst (IsNotOf txn) (ap prepared_of at) (subst (λ n. IsNotOf n (prepared_at cs c.key)) txn_is
-      (not_of_others schema root.0 c.key (commits_at schema root.0 m.log) (versions_at cs c.key) (prepared_at cs c.key) (filter (claims schema root.0 0) m.transactions) t.number (kept.kept root.0 root.1 c.key root.2)
+      (not_of_others schema root.0 c.key (horizon_of m) (commits_at schema root.0 m.log) (versions_at cs c.key) (prepared_at cs c.key) (filter (claims schema root.0 0) m.transactions) t.number (kept.kept root.0 root.1 c.key root.2)
       (others_apart schema m reached root.0 (is_transaction owner txn) t found (not_yet root.0)))))
 
   -- the tables as they are
@@ -238,18 +239,18 @@ module _ (schema : List Table) (rules : MeetsRules schema) (m : Machine) (reache
 
     -- what is kept at a key with its write prepared
     prepared_key : (root : Root) (is_root : IsCodedRoot schema root) (k : List ℕ) (under : is_under schema root k ≡ true)
-        → IsKeptBy schema root k (commits_at schema root m.log) (versions_at cs k) (prepared_by txn (find (is_of k) ws) (prepared_at cs k)) (filter (claims schema root 0) (changed_first (is_transaction owner txn) (add_prepared 0 (prepare_timestamp book)) m.transactions))
+        → IsKeptBy schema root k (horizon_of m) (commits_at schema root m.log) (versions_at cs k) (prepared_by txn (find (is_of k) ws) (prepared_at cs k)) (filter (claims schema root 0) (changed_first (is_transaction owner txn) (add_prepared 0 (prepare_timestamp book)) m.transactions))
     prepared_key root is_root k under =
         let them = claimers_of schema m reached root (coded_root schema root is_root) (is_transaction owner txn) t found in
         elim (is_some_of (filter (is_at schema root) t.mutations)) as (λ v. is_some_of (filter (is_at schema root) t.mutations) ≡ v
-        → IsKeptBy schema root k (commits_at schema root m.log) (versions_at cs k) (prepared_by txn (find (is_of k) ws) (prepared_at cs k)) (filter (claims schema root 0) (changed_first (is_transaction owner txn) (add_prepared 0 (prepare_timestamp book)) m.transactions))) [
+        → IsKeptBy schema root k (horizon_of m) (commits_at schema root m.log) (versions_at cs k) (prepared_by txn (find (is_of k) ws) (prepared_at cs k)) (filter (claims schema root 0) (changed_first (is_transaction owner txn) (add_prepared 0 (prepare_timestamp book)) m.transactions))) [
           | false ↦ λ e.
               let none : filter (is_at schema root) (mutations_in schema book t.mutations) ≡ [] = whole root is_root ∙ none_of (filter (is_at schema root) t.mutations) e in
               let nothing : find (is_of k) ws ≡ None = no_write k (row_coded schema made.0 k) (row_coded schema after k) (find (is_of k) ws) (row_stays root is_root k under none) (are k) in
               let still : filter (claims schema root 0) (changed_first (is_transaction owner txn) (add_prepared 0 (prepare_timestamp book)) m.transactions) ≡ filter (claims schema root 0) m.transactions =
               them.away (add_prepared 0 (prepare_timestamp book)) (not_yet root) (and_false (is_prepared_at 0 (add_prepared 0 (prepare_timestamp book) t)) (is_some_of (filter (is_at schema root) t.mutations)) e) in
-              subst (IsKeptBy schema root k (commits_at schema root m.log) (versions_at cs k) (prepared_by txn (find (is_of k) ws) (prepared_at cs k))) (sym still)
-              (subst (λ f. IsKeptBy schema root k (commits_at schema root m.log) (versions_at cs k) (prepared_by txn f (prepared_at cs k)) (filter (claims schema root 0) m.transactions)) (sym nothing) (kept.kept root is_root k under))
+              subst (IsKeptBy schema root k (horizon_of m) (commits_at schema root m.log) (versions_at cs k) (prepared_by txn (find (is_of k) ws) (prepared_at cs k))) (sym still)
+              (subst (λ f. IsKeptBy schema root k (horizon_of m) (commits_at schema root m.log) (versions_at cs k) (prepared_by txn f (prepared_at cs k)) (filter (claims schema root 0) m.transactions)) (sym nothing) (kept.kept root is_root k under))
           | true ↦ λ e.
               let some : is_some_of (filter (is_at schema root) (mutations_in schema book t.mutations)) ≡ true = ap is_some_of (whole root is_root) ∙ e in
               let old = none_kept root is_root k under some in
@@ -257,9 +258,9 @@ module _ (schema : List Table) (rules : MeetsRules schema) (m : Machine) (reache
               let write : IsWrite k (row_coded schema (directory schema root made.0) k) (row_coded schema (directory schema root after) k) (find (is_of k) ws) =
               subst (λ (b : Option (List ℕ)). IsWrite k b (row_coded schema (directory schema root after) k) (find (is_of k) ws)) (sym (coded_in_directory schema rules root is_root k under made.0 made_typed))
               (subst (λ (a : Option (List ℕ)). IsWrite k (row_coded schema made.0 k) a (find (is_of k) ws)) (sym (coded_in_directory schema rules root is_root k under after after_typed)) (are k)) in
-              subst (IsKeptBy schema root k (commits_at schema root m.log) (versions_at cs k) (prepared_by txn (find (is_of k) ws) (prepared_at cs k)))
+              subst (IsKeptBy schema root k (horizon_of m) (commits_at schema root m.log) (versions_at cs k) (prepared_by txn (find (is_of k) ws) (prepared_at cs k)))
               (sym (them.comes (add_prepared 0 (prepare_timestamp book)) (not_yet root) is (none_claims root is_root some)))
-              (subst (IsKeptUnder schema root k (commits_at schema root m.log) (versions_at cs k) (prepared_by txn (find (is_of k) ws) (prepared_at cs k)) (add_prepared 0 (prepare_timestamp book) t)) (sym (is_undecided_outcome t.outcome may.0)) (
+              (subst (IsKeptUnder schema root k (horizon_of m) (commits_at schema root m.log) (versions_at cs k) (prepared_by txn (find (is_of k) ws) (prepared_at cs k)) (add_prepared 0 (prepare_timestamp book) t)) (sym (is_undecided_outcome t.outcome may.0)) (
                 record {
                   before = directory schema root made.0;
                   after = directory schema root after;
@@ -283,7 +284,8 @@ module _ (schema : List Table) (rules : MeetsRules schema) (m : Machine) (reache
       used = used_with_writes txn ws cs kept.used;
       coded = coded_with_writes schema txn ws cs writes_coded kept.coded;
       kept = λ root is_root k under.
-          subst (λ vs. IsKeptBy schema root k (commits_at schema root m.log) vs (prepared_at (with_writes txn ws cs) k) (filter (claims schema root 0) (changed_first (is_transaction owner txn) (add_prepared 0 (prepare_timestamp book)) m.transactions))) (sym (versions_at-with_writes txn ws cs k kept.keys))
-          (subst (λ p. IsKeptBy schema root k (commits_at schema root m.log) (versions_at cs k) p (filter (claims schema root 0) (changed_first (is_transaction owner txn) (add_prepared 0 (prepare_timestamp book)) m.transactions))) (sym (prepared_at-with_writes txn ws cs k kept.keys))
-          (prepared_key root is_root k under));
+          subst (λ h. IsKeptBy schema root k h (commits_at schema root m.log) (versions_at (with_writes txn ws cs) k) (prepared_at (with_writes txn ws cs) k) (filter (claims schema root 0) (changed_first (is_transaction owner txn) (add_prepared 0 (prepare_timestamp book)) m.transactions))) (sym (horizon_set m.books 0 book _ here refl))
+          (subst (λ vs. IsKeptBy schema root k (horizon_of m) (commits_at schema root m.log) vs (prepared_at (with_writes txn ws cs) k) (filter (claims schema root 0) (changed_first (is_transaction owner txn) (add_prepared 0 (prepare_timestamp book)) m.transactions))) (sym (versions_at-with_writes txn ws cs k kept.keys))
+          (subst (λ p. IsKeptBy schema root k (horizon_of m) (commits_at schema root m.log) (versions_at cs k) p (filter (claims schema root 0) (changed_first (is_transaction owner txn) (add_prepared 0 (prepare_timestamp book)) m.transactions))) (sym (prepared_at-with_writes txn ws cs k kept.keys))
+          (prepared_key root is_root k under)));
     }

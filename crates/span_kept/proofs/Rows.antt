@@ -34,7 +34,8 @@ use Rattle.span_laws.proofs.Claims.{all_kept, under_filter}
 use Rattle.span_laws.proofs.Numbers.{same_number}
 use Rattle.span_laws.proofs.Schemas.{keyed_upto}
 use Rattle.span_laws.proofs.Reached.{IsReached}
-use Rattle.span_kept.specs.Kept.{IsCodedRoot, is_under, HasRows, IsKeptUnder, IsKeptBy, AreKept}
+use Rattle.span_kept.specs.Kept.{IsCodedRoot, is_under, MakeRows, HasRows, IsKeptUnder, IsKeptBy, AreKept, made, horizon_of}
+use Rattle.span_kept.proofs.Trimming.{row_kept_all, made_upto}
 use Rattle.span_kept.proofs.Roots.{coded_root, coded_in_directory}
 use Rattle.span_kept.proofs.Steps.{open_of_put}
 
@@ -81,7 +82,7 @@ end_is_past : timestamp_end ≤ end_of_time
 end_is_past = omega arith
 
 -- the newest row is what all commits make
-pub row_end : (schema : List Table) (root : Root) (k : List ℕ) (cs : List Commit) (vs : List Version) → HasRows schema root k cs vs → IsUnder timestamp_end cs
+pub row_end : (schema : List Table) (root : Root) (k : List ℕ) (cs : List Commit) (vs : List Version) → MakeRows schema root k cs vs → IsUnder timestamp_end cs
     → (db : List TableRow) × (apply schema [] (changes_at schema root cs) ≡ Ok db) × (row_coded schema db k ≡ row_at vs end_of_time)
 row_end schema root k cs vs has under =
     let now = has.rows end_of_time in
@@ -89,7 +90,7 @@ row_end schema root k cs vs has under =
 
 -- ---- one commit more
 
-module _ (schema : List Table) (root : Root) (k : List ℕ) (front : List Commit) (c : Commit) (vs : List Version) (before after : List TableRow) (has : HasRows schema root k front vs) (under : IsUnder c.timestamp front)
+module _ (schema : List Table) (root : Root) (k : List ℕ) (front : List Commit) (c : Commit) (vs : List Version) (before after : List TableRow) (has : MakeRows schema root k front vs) (under : IsUnder c.timestamp front)
     (now : apply schema [] (changes_at schema root front) ≡ Ok before) (through : apply schema before (filter (is_at schema root) c.mutations) ≡ Ok after) where
   -- the rows with a commit behind these
   rows_more : (s : ℕ) (row : Option (List ℕ)) (b : Bool) → nat_le c.timestamp s ≡ b → row_coded schema after k ≡ row ⊎ (b ≡ false) → (b ≡ false → row_at vs s ≡ row)
@@ -117,7 +118,7 @@ module _ (schema : List Table) (root : Root) (k : List ℕ) (front : List Commit
       sym old.2 ∙ ap (λ (db : List TableRow). row_coded schema db k) same
 
   -- the commit's row as the newest version
-  pub rows_push : HasRows schema root k (front ++ c ∷ []) ((record { timestamp = c.timestamp; row = row_coded schema after k }) ∷ vs)
+  pub rows_push : MakeRows schema root k (front ++ c ∷ []) ((record { timestamp = c.timestamp; row = row_coded schema after k }) ∷ vs)
   rows_push = record {
     rows = λ s.
         let newest : List Version = (record { timestamp = c.timestamp; row = row_coded schema after k }) ∷ vs in
@@ -131,7 +132,7 @@ module _ (schema : List Table) (root : Root) (k : List ℕ) (front : List Commit
   }
 
   -- the commit leaves the row as it was
-  pub rows_still : row_coded schema after k ≡ row_coded schema before k → HasRows schema root k (front ++ c ∷ []) vs
+  pub rows_still : row_coded schema after k ≡ row_coded schema before k → MakeRows schema root k (front ++ c ∷ []) vs
   rows_still same = record {
     rows = λ s.
         subst (λ l. (db : List TableRow) × (apply schema [] (changes_at schema root l) ≡ Ok db) × (row_coded schema db k ≡ row_at vs s)) (sym (filter-append (λ d. nat_le d.timestamp s) front (c ∷ [])))
@@ -157,31 +158,33 @@ row_of_tables schema rules m reached root is k under s row db typed has made =
 -- the newest row of a key of a directory that no transaction claims is that of the tables
 pub row_now_of_tables : (schema : List Table) → MeetsRules schema → (m : Machine) (cs : List KeyVersions) (root : Root) (is : IsCodedRoot schema root) (k : List ℕ) (under : is_under schema root k ≡ true) (db : List TableRow) → IsReached schema m → AreKept schema m cs
     → AreTyped schema db → filter (claims schema root 0) m.transactions ≡ [] → tables schema m.log (timestamp_end - 1) ≡ Ok db → row_now cs k ≡ row_coded schema db k
-row_now_of_tables schema rules m cs root is k under db reached kept typed empty made =
+row_now_of_tables schema rules m cs root is k under db reached kept typed empty made_db =
     let place = reached.placed root (coded_root schema root is) in
-    let has : HasRows schema root k (commits_at schema root m.log) (versions_at cs k) =
-    (subst (IsKeptBy schema root k (commits_at schema root m.log) (versions_at cs k) (prepared_at cs k)) empty (kept.kept root is k under)).1 in
+    let has : HasRows schema root k (horizon_of m) (commits_at schema root m.log) (versions_at cs k) =
+    (subst (IsKeptBy schema root k (horizon_of m) (commits_at schema root m.log) (versions_at cs k) (prepared_at cs k)) empty (kept.kept root is k under)).1 in
     let below : IsUnder timestamp_end (commits_at schema root m.log) = under_filter timestamp_end (touches schema root) m.log place.in_range in
-    let end = row_end schema root k (commits_at schema root m.log) (versions_at cs k) has below in
-    row_of_tables schema rules m reached root is k under (timestamp_end - 1) (row_now cs k) db typed
+    let end = row_end schema root k (commits_at schema root m.log) (made schema root k (commits_at schema root m.log)) has.makes below in
+    let now : row_now cs k ≡ row_at (made schema root k (commits_at schema root m.log)) end_of_time =
+    ap (λ (vs : List Version). row_at vs end_of_time) has.versions ∙ row_kept_all (horizon_of m) end_of_time (made schema root k (commits_at schema root m.log)) (made_upto schema root k (commits_at schema root m.log) end_of_time timestamp_end end_is_past below) in
+    now ∙ row_of_tables schema rules m reached root is k under (timestamp_end - 1) (row_at (made schema root k (commits_at schema root m.log)) end_of_time) db typed
     (end.0, ap (λ l. apply schema [] (changes_at schema root l)) (all_kept (timestamp_end - 1) (commits_at schema root m.log) below refl) ∙ end.1, end.2)
-    made
+    made_db
 
 -- ---- whose the prepared write of a key is
 
-open_under : (schema : List Table) (root : Root) (k : List ℕ) (cs : List Commit) (vs : List Version) (p : Option PreparedWrite) (t : OpenTransaction) (o : Outcome) → IsKeptUnder schema root k cs vs p t o → IsOpenFor t.number p
-open_under schema root k cs vs p t outcome.Undecided h = open_of_put t.number _ _ p h.0.put
-open_under schema root k cs vs p t outcome.Aborted h = h.0
-open_under schema root k cs vs p t (outcome.Committed ts) h = open_of_put t.number _ _ p h.put.put
+open_under : (schema : List Table) (root : Root) (k : List ℕ) (h : ℕ) (cs : List Commit) (vs : List Version) (p : Option PreparedWrite) (t : OpenTransaction) (o : Outcome) → IsKeptUnder schema root k h cs vs p t o → IsOpenFor t.number p
+open_under schema root k h cs vs p t outcome.Undecided is = open_of_put t.number _ _ p is.0.put
+open_under schema root k h cs vs p t outcome.Aborted is = open_of_put t.number _ _ p is.0.put
+open_under schema root k h cs vs p t (outcome.Committed ts) is = open_of_put t.number _ _ p is.put.put
 
 not_of : (n txn : ℕ) (p : Option PreparedWrite) → IsOpenFor n p → n ≢ txn → IsNotOf txn p
 not_of n txn None is off = tt
 not_of n txn (Some w) is off = λ same. off (sym is ∙ same)
 
 -- what is prepared at a key is of no other transaction than the one that claims it
-pub not_of_others : (schema : List Table) (root : Root) (k : List ℕ) (cs : List Commit) (vs : List Version) (p : Option PreparedWrite) (us : List OpenTransaction) (txn : ℕ) → IsKeptBy schema root k cs vs p us → AllByRecursion (λ u. u.number ≢ txn) us → IsNotOf txn p
-not_of_others schema root k cs vs p [] txn h off = subst (IsNotOf txn) (sym h.0) tt
-not_of_others schema root k cs vs p (u ∷ us) txn h off = not_of u.number txn p (open_under schema root k cs vs p u u.outcome h) off.0
+pub not_of_others : (schema : List Table) (root : Root) (k : List ℕ) (h : ℕ) (cs : List Commit) (vs : List Version) (p : Option PreparedWrite) (us : List OpenTransaction) (txn : ℕ) → IsKeptBy schema root k h cs vs p us → AllByRecursion (λ u. u.number ≢ txn) us → IsNotOf txn p
+not_of_others schema root k h cs vs p [] txn is off = subst (IsNotOf txn) (sym is.0) tt
+not_of_others schema root k h cs vs p (u ∷ us) txn is off = not_of u.number txn p (open_under schema root k h cs vs p u u.outcome is) off.0
 
 -- the transactions that claim a directory have other numbers than one that does not
 pub others_apart : (schema : List Table) (m : Machine) → IsReached schema m → (root : Root) (test : OpenTransaction → Bool) (t : OpenTransaction) → find test m.transactions ≡ Some t → claims schema root 0 t ≡ false

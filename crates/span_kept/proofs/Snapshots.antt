@@ -1,7 +1,7 @@
 -- A snapshot at a sealed timestamp has the rows of the tables.
 use Rattle.std.proofs.Common.{◌≡◌, ◌≢◌, ℕ, suc, ◌+◌, ◌-◌, ◌<◌, ◌≤◌, Bool, true, false, cond, not, ◌||◌, ◌==◌, nat_lt, nat_le, List, [], ◌∷◌, ◌++◌, map, Option, Some, None, Ok, refl, ap, sym, ◌∙◌, subst, inl, inr, ◌⊎◌, arith}
 use Rattle.std.specs.Prelude.{slice_get, find, filter, option_map}
-use Rattle.std.specs.List.{AllByRecursion, list_any, list_all, filter_map, cons_option}
+use Rattle.std.specs.List.{AllByRecursion, list_all, filter_map, cons_option}
 use Rattle.std.specs.Ordering.{nat_cmp, ordering_then, is_lt}
 use Rattle.std.specs.declared.cmp.Ordering.{Ordering}
 use Rattle.std.specs.declared.cmp.Ordering.TheVariants.{Less, Equal}
@@ -42,14 +42,19 @@ use Rattle.span_mutate.proofs.TypedRows.{typed_stay}
 use Rattle.span_laws.proofs.Locality.{apply-database, empty_database}
 use Rattle.span_laws.proofs.Schemas.{keyed_upto, typed_upto}
 use Rattle.span_machine.specs.Machine.{Machine, is_prepared_at, is_safe, commit_of}
-use Rattle.span_laws.proofs.Tests.{first_true, second_true, both_of, number_same}
+use Rattle.span_laws.proofs.Tests.{first_true, second_true, both_of}
 use Rattle.span_laws.proofs.Lists.{IsIn, found_in, found_passes, kept_in, all_in, all_found, all_true}
 use Rattle.span_laws.proofs.Stability.{changes_at, is_some_of}
 use Rattle.span_laws.proofs.InPlace.{commits_at, claims}
 use Rattle.span_laws.proofs.Sealed.{IsAbove}
 use Rattle.span_laws.proofs.Holdings.{IsHolding, IsUpto}
 use Rattle.span_laws.proofs.Reached.{IsReached}
-use Rattle.span_kept.specs.Kept.{IsCodedRoot, IsCodedCoding, is_under, IsKeptUnder, IsKeptBy, AreKept, key_row, family, HasRowsOf}
+use Rattle.span_kept.specs.Kept.{IsCodedRoot, IsCodedCoding, is_under, IsKeptUnder, IsKeptBy, AreKept, key_row, family, HasRowsOf, HasRows, horizon_of}
+use Rattle.span_kept.specs.Kept as versions
+use Rattle.span_machine.specs.declared.transaction.Commit.{Commit}
+use Rattle.span_shard.specs.declared.chain.Version.{Version}
+use Rattle.span_kept.proofs.Trimming.{row_kept_above}
+use Rattle.span_kept.proofs.Claimers.{late}
 use Rattle.span_kept.proofs.Keys.{IsUnderAll, all_by_key}
 use Rattle.span_kept.proofs.KeyOrders.{code_order}
 use Rattle.span_kept.proofs.Roots.{coding_of_row, root_of_coding, first_and_rest}
@@ -63,13 +68,6 @@ above_by p s ts e same = grind (arith, nat_tests)
 
 not_upto : (s ts : ℕ) → s < ts → nat_le ts s ≡ false
 not_upto s ts low = grind (arith, nat_tests)
-
-late : (s ts : ℕ) (ps : List Prepared) → list_any (λ p. p.slot == 0) ps ≡ true → AllByRecursion (λ p. p.slot ≡ 0 → s < p.timestamp) ps → AllByRecursion (λ p. p.timestamp ≤ ts) ps → s < ts
-late s ts [] = λ e above low. absurd (cc)
-late s ts (p ∷ ps) = elim (p.slot == 0) as (λ v. (p.slot == 0) ≡ v → (v || list_any (λ p. p.slot == 0) ps) ≡ true → AllByRecursion (λ p. p.slot ≡ 0 → s < p.timestamp) (p ∷ ps) → AllByRecursion (λ p. p.timestamp ≤ ts) (p ∷ ps) → s < ts) [
-  | true ↦ λ is e above low. let up : s < p.timestamp = above.0 (number_same p.slot 0 is) in let down : p.timestamp ≤ ts = low.0 in omega arith
-  | false ↦ λ is e above low. late s ts ps e above.1 low.1
-] refl
 
 -- ---- lists
 
@@ -162,26 +160,32 @@ within_family t k rest e = subst (λ (l : List ℕ). is_within (family t) l ≡ 
 
 -- ---- the tables
 
-module _ (schema : List Table) (rules : MeetsRules schema) (m : Machine) (cs : List KeyVersions) (s : ℕ) (reached : IsReached schema m) (kept : AreKept schema m cs) (above : AllByRecursion (IsAbove s 0) m.transactions)
+module _ (schema : List Table) (rules : MeetsRules schema) (m : Machine) (cs : List KeyVersions) (s : ℕ) (reached : IsReached schema m) (kept : AreKept schema m cs) (above : AllByRecursion (IsAbove s 0) m.transactions) (high : horizon_of m ≤ s)
     (db : List TableRow) (is_db : IsDatabase schema db) (typed : AreTyped schema db) (made : tables schema m.log s ≡ Ok db) where
+  -- at s the versions have the row that the commits up to s make
+  row_seen : (root : Root) (is_root : IsCodedRoot schema root) (k : List ℕ) (under : is_under schema root k ≡ true) (commits : List Commit) → HasRows schema root k (horizon_of m) commits (versions_at cs k)
+      → filter (λ d. nat_le d.timestamp s) (commits_at schema root m.log) ≡ filter (λ d. nat_le d.timestamp s) commits → row_at (versions_at cs k) s ≡ row_coded schema db k
+  row_seen root is_root k under commits has same =
+      let now = has.makes.rows s in
+      ap (λ (vs : List Version). row_at vs s) has.versions ∙ row_kept_above (horizon_of m) s (versions.made schema root k commits) high
+      ∙ row_of_tables schema rules m reached root is_root k under s (row_at (versions.made schema root k commits) s) db typed (now.0, ap (λ l. apply schema [] (changes_at schema root l)) same ∙ now.1, now.2) made
+
   row_under : (root : Root) (is_root : IsCodedRoot schema root) (k : List ℕ) (under : is_under schema root k ≡ true) (u : OpenTransaction) (o : Outcome) → u.outcome ≡ o → IsIn u m.transactions → claims schema root 0 u ≡ true
-      → IsKeptUnder schema root k (commits_at schema root m.log) (versions_at cs k) (prepared_at cs k) u o → row_at (versions_at cs k) s ≡ row_coded schema db k
-  row_under root is_root k under u outcome.Undecided e at is h = row_of_tables schema rules m reached root is_root k under s (row_at (versions_at cs k) s) db typed (h.1.rows s) made
-  row_under root is_root k under u outcome.Aborted e at is h = row_of_tables schema rules m reached root is_root k under s (row_at (versions_at cs k) s) db typed (h.1.rows s) made
+      → IsKeptUnder schema root k (horizon_of m) (commits_at schema root m.log) (versions_at cs k) (prepared_at cs k) u o → row_at (versions_at cs k) s ≡ row_coded schema db k
+  row_under root is_root k under u outcome.Undecided e at is h = row_seen root is_root k under (commits_at schema root m.log) h.1 refl
+  row_under root is_root k under u outcome.Aborted e at is h = row_seen root is_root k under (commits_at schema root m.log) h.1 refl
   row_under root is_root k under u (outcome.Committed ts) e at is h =
       let upto_ts : AllByRecursion (λ (p : Prepared). p.timestamp ≤ ts) u.prepared = subst (λ o. IsUpto o u.prepared) e (all_in (IsHolding _) m.transactions u at reached.holding).timely in
-      let high : s < ts = late s ts u.prepared (first_true (is_prepared_at 0 u) (is_some_of _) is) (all_in (IsAbove s 0) m.transactions u at above) upto_ts in
-      let front_alone : filter (λ d. nat_le d.timestamp s) (commits_at schema root m.log) ≡ filter (λ d. nat_le d.timestamp s) h.front =
-      ap (filter (λ d. nat_le d.timestamp s)) h.whole ∙ filter-append (λ d. nat_le d.timestamp s) h.front (commit_of ts u ∷ [])
-      ∙ ap (λ b. filter (λ d. nat_le d.timestamp s) h.front ++ cond b (commit_of ts u ∷ []) []) (not_upto s ts high) ∙ append-nil _ in
-      let now = h.rows.rows s in
-      row_of_tables schema rules m reached root is_root k under s (row_at (versions_at cs k) s) db typed (now.0, ap (λ l. apply schema [] (changes_at schema root l)) front_alone ∙ now.1, now.2) made
+      let later : s < ts = late s ts u.prepared (first_true (is_prepared_at 0 u) (is_some_of _) is) (all_in (IsAbove s 0) m.transactions u at above) upto_ts in
+      row_seen root is_root k under h.front h.rows
+      (ap (filter (λ d. nat_le d.timestamp s)) h.whole ∙ filter-append (λ d. nat_le d.timestamp s) h.front (commit_of ts u ∷ [])
+      ∙ ap (λ b. filter (λ d. nat_le d.timestamp s) h.front ++ cond b (commit_of ts u ∷ []) []) (not_upto s ts later) ∙ append-nil _)
 
   -- the newest version at or below s is the row of the tables at s
   row_in_root : (root : Root) (is_root : IsCodedRoot schema root) (k : List ℕ) (under : is_under schema root k ≡ true) → row_at (versions_at cs k) s ≡ row_coded schema db k
   row_in_root root is_root k under = elim (filter (claims schema root 0) m.transactions) as (λ us. filter (claims schema root 0) m.transactions ≡ us
-      → IsKeptBy schema root k (commits_at schema root m.log) (versions_at cs k) (prepared_at cs k) us → row_at (versions_at cs k) s ≡ row_coded schema db k) [
-        | [] ↦ λ e h. row_of_tables schema rules m reached root is_root k under s (row_at (versions_at cs k) s) db typed (h.1.rows s) made
+      → IsKeptBy schema root k (horizon_of m) (commits_at schema root m.log) (versions_at cs k) (prepared_at cs k) us → row_at (versions_at cs k) s ≡ row_coded schema db k) [
+        | [] ↦ λ e h. row_seen root is_root k under (commits_at schema root m.log) h.1 refl
         | u ∷ us ↦ λ e h.
             let pass : AllByRecursion (λ x. claims schema root 0 x ≡ true) (u ∷ us) = subst (AllByRecursion (λ x. claims schema root 0 x ≡ true)) e (all_pass (claims schema root 0) m.transactions) in
             row_under root is_root k under u u.outcome refl (kept_in (claims schema root 0) m.transactions u (0, ap (λ l. slice_get l 0) e)) pass.0 h
@@ -348,14 +352,14 @@ module _ (schema : List Table) (rules : MeetsRules schema) (m : Machine) (cs : L
     pub snapshot_rows : (n : ℕ) → root_of schema n ≡ t → HasRowsOf schema n db (snapshot (family t) s cs)
     snapshot_rows n family_is = record { rows = rows_from cs; typed = rows_typed cs; entries_are = entries_are cs all_seen; of_table = family_rows n family_is }
 
--- a snapshot that a scan makes at a safe timestamp has the rows of the tables
-pub snapshot_when_safe : (schema : List Table) → MeetsRules schema → (m : Machine) (cs : List KeyVersions) (s : ℕ) (book : Book) → IsReached schema m → AreKept schema m cs → is_safe m 0 book s ≡ true → (db : List TableRow) → tables schema m.log s ≡ Ok db
+-- a snapshot that a scan makes at a safe timestamp, not below the horizon, has the rows of the tables
+pub snapshot_when_safe : (schema : List Table) → MeetsRules schema → (m : Machine) (cs : List KeyVersions) (s : ℕ) (book : Book) → IsReached schema m → AreKept schema m cs → is_safe m 0 book s ≡ true → horizon_of m ≤ s → (db : List TableRow) → tables schema m.log s ≡ Ok db
     → (n : ℕ) → HasRowsOf schema n db (snapshot (family (root_of schema n)) s cs)
-snapshot_when_safe schema rules m cs s book reached kept safe db made n =
+snapshot_when_safe schema rules m cs s book reached kept safe high db made n =
     let above : AllByRecursion (IsAbove s 0) m.transactions =
     all_true (IsAbove s 0) (λ t. list_all (λ p. not (p.slot == 0) || nat_lt s p.timestamp) t.prepared)
     (λ t e. all_true (λ (p : Prepared). p.slot ≡ 0 → s < p.timestamp) (λ p. not (p.slot == 0) || nat_lt s p.timestamp) (λ p e same. above_by p.slot s p.timestamp e same) t.prepared e)
     m.transactions (second_true (nat_le s book.floor) _ safe) in
     let is_db : IsDatabase schema db = apply-database schema rules (mutations_of (upto m.log s)) [] db (empty_database schema) (keyed_upto schema m.log s reached.by_schema.log) made in
     let typed : AreTyped schema db = typed_stay schema [] (mutations_of (upto m.log s)) db tt (typed_upto schema m.log s reached.by_schema.log) made in
-    snapshot_rows schema rules m cs s reached kept above db is_db typed made (root_of schema n) n refl
+    snapshot_rows schema rules m cs s reached kept above high db is_db typed made (root_of schema n) n refl

@@ -1,5 +1,5 @@
-use Rattle.std.proofs.Common.{◌≡◌, ℕ, Bool, true, false, cond, not, ◌==◌, nat_le, List, [], ◌∷◌, ◌++◌, length, Option, Some, None, refl, ap, sym, ◌∙◌, subst}
-use Rattle.std.specs.Prelude.{find, filter}
+use Rattle.std.proofs.Common.{◌≡◌, ℕ, zero, suc, max, Bool, true, false, cond, not, ◌==◌, ◌&&◌, nat_lt, nat_le, List, [], ◌∷◌, ◌++◌, length, Option, Some, None, refl, ap, sym, ◌∙◌, subst}
+use Rattle.std.specs.Prelude.{find, filter, slice_get, slice_set}
 use Rattle.std.specs.List.{list_all}
 use Rattle.std.proofs.lemmas.List.{append-nil}
 use Rattle.std.proofs.lemmas.List.Elements.{filter-append}
@@ -15,14 +15,15 @@ use Rattle.span_shard.specs.KeyVersions.{KeyVersions}
 use Rattle.span_shard.specs.Shard.{versions_at, prepared_at}
 use Rattle.span_shard.proofs.Undo.{IsOpenFor}
 use Rattle.span_machine.specs.declared.query.Params.{Params}
+use Rattle.span_machine.specs.declared.slot.Book.{Book}
 use Rattle.span_machine.specs.declared.step.Step.{Step}
-use Rattle.span_machine.specs.declared.step.Step.TheVariants.{Begin, Prepare, Decide, Apply, Advance, Open, Scan, Finish, Close}
+use Rattle.span_machine.specs.declared.step.Step.TheVariants.{Begin, Prepare, Decide, Apply, Advance, Trim, Open, Scan, Finish, Close}
 use Rattle.span_machine.specs.declared.step.Verdict.{Verdict}
 use Rattle.span_machine.specs.declared.transaction.Commit.{Commit}
 use Rattle.span_machine.specs.declared.transaction.OpenTransaction.{OpenTransaction}
 use Rattle.span_machine.specs.declared.transaction.Outcome.{Outcome}
 use Rattle.span_machine.specs.declared.transaction.Outcome.TheVariants as outcome
-use Rattle.span_machine.specs.Machine.{Machine, Answer, answer, start, begin, begun, decide, advance, open_query, scan, finish, close, is_transaction, is_undecided, is_prepared_at, is_all_prepared, is_prepared_for, commit_timestamp, commit_of, committed, aborted, with_outcome, changed_first, without_first, refused}
+use Rattle.span_machine.specs.Machine.{Machine, Answer, answer, start, begin, begun, decide, advance, open_query, scan, finish, close, is_transaction, is_undecided, is_prepared_at, is_all_prepared, is_prepared_for, commit_timestamp, commit_of, committed, aborted, with_outcome, with_last, coordinator_of, risen, if_some, changed_first, without_first, refused}
 use Rattle.span_laws.proofs.Causes.{may_commit, is_undecided_outcome}
 use Rattle.span_laws.proofs.Tests.{second_true, both_of}
 use Rattle.span_laws.proofs.Stability.{is_some_of}
@@ -30,7 +31,7 @@ use Rattle.span_laws.proofs.InPlace.{commits_at, claims}
 use Rattle.span_laws.proofs.Claims.{commits_at-push, prepared_root, none_left}
 use Rattle.span_laws.proofs.Walks.{Ends, answer_by}
 use Rattle.span_laws.proofs.Reached.{IsReached}
-use Rattle.span_kept.specs.Kept.{IsCodedRoot, is_under, IsPut, IsPending, IsKeptUnder, IsKeptBy, AreKept}
+use Rattle.span_kept.specs.Kept.{IsCodedRoot, is_under, IsPut, IsPending, IsKeptUnder, IsKeptBy, AreKept, horizon_in, horizon_of}
 use Rattle.span_kept.proofs.Claimers.{and_false, false_and, claimers_of}
 use Rattle.span_schema.specs.declared.table.Table.{Table}
 use Rattle.span_mutate.specs.Directories.{Root}
@@ -38,7 +39,7 @@ use Rattle.span_kept.proofs.Roots.{coded_root}
 
 -- an empty shard is what the start makes it
 pub start_kept : (schema : List Table) → AreKept schema start []
-start_kept schema = record { keys = tt; used = tt; coded = tt; kept = λ root is k under. (refl, record { rows = λ s. ([], refl, refl) }) }
+start_kept schema = record { keys = tt; used = tt; coded = tt; kept = λ root is k under. (refl, record { versions = refl; makes = record { rows = λ s. ([], refl, refl) } }) }
 
 -- what a transaction put is of that transaction
 pub open_of_put : (txn : ℕ) (before after : Option (List ℕ)) (p : Option PreparedWrite) → IsPut txn before after p → IsOpenFor txn p
@@ -46,31 +47,49 @@ open_of_put txn before after None put = tt
 open_of_put txn before after (Some w) put = put.0
 
 -- its only claimer was undecided and is committed
-pending_of : (schema : List Table) (root : Root) (k : List ℕ) (cs : List Commit) (vs : List Version) (p : Option PreparedWrite) (t : OpenTransaction) (ts : ℕ) → IsKeptUnder schema root k cs vs p t outcome.Undecided
-    → IsPending schema root k (cs ++ commit_of ts t ∷ []) vs p (with_outcome (outcome.Committed ts) t) ts
-pending_of schema root k cs vs p t ts h = record { front = cs; whole = refl; put = h.0; rows = h.1 }
+pending_of : (schema : List Table) (root : Root) (k : List ℕ) (h : ℕ) (cs : List Commit) (vs : List Version) (p : Option PreparedWrite) (t : OpenTransaction) (ts : ℕ) → IsKeptUnder schema root k h cs vs p t outcome.Undecided
+    → IsPending schema root k h (cs ++ commit_of ts t ∷ []) vs p (with_outcome (outcome.Committed ts) t) ts
+pending_of schema root k h cs vs p t ts is = record { front = cs; whole = refl; put = is.0; rows = is.1 }
 
--- its only claimer was undecided and is aborted
-given_up_of : (schema : List Table) (root : Root) (k : List ℕ) (cs : List Commit) (vs : List Version) (p : Option PreparedWrite) (t : OpenTransaction) → IsKeptUnder schema root k cs vs p t outcome.Undecided → IsKeptUnder schema root k cs vs p (with_outcome outcome.Aborted t) outcome.Aborted
-given_up_of schema root k cs vs p t h = (open_of_put t.number _ _ p h.0.put, h.1)
-
--- the same log and the same transactions
-pub kept_same : (schema : List Table) (m n : Machine) (cs : List KeyVersions) → AreKept schema m cs → n.log ≡ m.log → n.transactions ≡ m.transactions → AreKept schema n cs
-kept_same schema m n cs kept log ts = record {
+-- the same log, the same transactions and the same horizon
+pub kept_same : (schema : List Table) (m n : Machine) (cs : List KeyVersions) → AreKept schema m cs → n.log ≡ m.log → n.transactions ≡ m.transactions → horizon_of n ≡ horizon_of m → AreKept schema n cs
+kept_same schema m n cs kept log ts horizon = record {
   keys = kept.keys;
   used = kept.used;
   coded = kept.coded;
-  kept = λ root is k under. subst (λ l. IsKeptBy schema root k (commits_at schema root l) (versions_at cs k) (prepared_at cs k) (filter (claims schema root 0) n.transactions)) (sym log)
-      (subst (λ us. IsKeptBy schema root k (commits_at schema root m.log) (versions_at cs k) (prepared_at cs k) (filter (claims schema root 0) us)) (sym ts) (kept.kept root is k under));
+  kept = λ root is k under.
+      subst (λ h. IsKeptBy schema root k h (commits_at schema root n.log) (versions_at cs k) (prepared_at cs k) (filter (claims schema root 0) n.transactions)) (sym horizon)
+      (subst (λ l. IsKeptBy schema root k (horizon_of m) (commits_at schema root l) (versions_at cs k) (prepared_at cs k) (filter (claims schema root 0) n.transactions)) (sym log)
+      (subst (λ us. IsKeptBy schema root k (horizon_of m) (commits_at schema root m.log) (versions_at cs k) (prepared_at cs k) (filter (claims schema root 0) us)) (sym ts) (kept.kept root is k under)));
 }
 
--- after a step that leaves the versions, they are kept; of a Prepare and an Apply this says nothing
+-- ---- the horizon
+
+pub horizon_set : (books : List Book) (slot : ℕ) (old new : Book) → slice_get books slot ≡ Some old → new.horizon ≡ old.horizon → horizon_in (slice_set books slot new) ≡ horizon_in books
+horizon_set [] slot old new here same = refl
+horizon_set (b ∷ books) zero old new here same = same ∙ ap (λ (o : Option Book). if_some o 0 (λ (c : Book). c.horizon)) (sym here)
+horizon_set (b ∷ books) (suc slot) old new here same = refl
+
+pub horizon_last : (books : List Book) (slot ts : ℕ) → horizon_in (with_last books slot ts) ≡ horizon_in books
+horizon_last books slot ts = elim (slice_get books slot) as (λ o. slice_get books slot ≡ o → horizon_in (if_some o books (λ book. slice_set books slot (record book { last = max book.last ts }))) ≡ horizon_in books) [
+  | None ↦ λ e. refl
+  | Some book ↦ λ e. horizon_set books slot book (record book { last = max book.last ts }) e refl
+] refl
+
+horizon_risen : (books : List Book) (slot q : ℕ) (interval : Interval) (book : Book) → slice_get books slot ≡ Some book → horizon_in (slice_set books slot (risen book q interval)) ≡ horizon_in books
+horizon_risen books slot q interval book here = elim (nat_lt book.floor q && nat_le q interval.latest) as (λ v. horizon_in (slice_set books slot (cond v (record book { floor = q }) book)) ≡ horizon_in books) [
+  | true ↦ horizon_set books slot book (record book { floor = q }) here refl
+  | false ↦ horizon_set books slot book book here refl
+]
+
+-- after a step that leaves the versions, they are kept; of a Prepare, an Apply and a Trim this says nothing
 abbrev pub KeepsVersions : List Table → List KeyVersions → Step → Answer → Type 0
 KeepsVersions schema cs (Prepare owner txn slot) a = Unit {0}
 KeepsVersions schema cs (Apply owner txn slot interval) a = Unit {0}
 KeepsVersions schema cs (Begin owner ms) a = AreKept schema a.1 cs
 KeepsVersions schema cs (Decide owner txn v interval) a = AreKept schema a.1 cs
 KeepsVersions schema cs (Advance slot interval) a = AreKept schema a.1 cs
+KeepsVersions schema cs (Trim slot h) a = Unit {0}
 KeepsVersions schema cs (Open text params bound interval) a = AreKept schema a.1 cs
 KeepsVersions schema cs (Scan query leaf slot interval) a = AreKept schema a.1 cs
 KeepsVersions schema cs (Finish query) a = AreKept schema a.1 cs
@@ -79,32 +98,32 @@ KeepsVersions schema cs (Close query) a = AreKept schema a.1 cs
 module _ (schema : List Table) (m : Machine) (reached : IsReached schema m) (cs : List KeyVersions) (kept : AreKept schema m cs) where
   -- what is kept at a key that the found transaction claims
   pub kept_under : (root : Root) (is_root : IsCodedRoot schema root) (k : List ℕ) (under : is_under schema root k ≡ true) (test : OpenTransaction → Bool) (t : OpenTransaction) (o : Outcome) → find test m.transactions ≡ Some t → claims schema root 0 t ≡ true → t.outcome ≡ o
-      → IsKeptUnder schema root k (commits_at schema root m.log) (versions_at cs k) (prepared_at cs k) t o
+      → IsKeptUnder schema root k (horizon_of m) (commits_at schema root m.log) (versions_at cs k) (prepared_at cs k) t o
   kept_under root is_root k under test t o found is e =
-      subst (IsKeptUnder schema root k (commits_at schema root m.log) (versions_at cs k) (prepared_at cs k) t) e
-      (subst (IsKeptBy schema root k (commits_at schema root m.log) (versions_at cs k) (prepared_at cs k)) ((claimers_of schema m reached root (coded_root schema root is_root) test t found).here is) (kept.kept root is_root k under))
+      subst (IsKeptUnder schema root k (horizon_of m) (commits_at schema root m.log) (versions_at cs k) (prepared_at cs k) t) e
+      (subst (IsKeptBy schema root k (horizon_of m) (commits_at schema root m.log) (versions_at cs k) (prepared_at cs k)) ((claimers_of schema m reached root (coded_root schema root is_root) test t found).here is) (kept.kept root is_root k under))
 
   kept_begun : (owner : ℕ) (ms : List CheckedMutation) → AreKept schema (begun m owner ms).1 cs
   kept_begun owner ms = record {
     keys = kept.keys;
     used = kept.used;
     coded = kept.coded;
-    kept = λ root is_root k under. subst (IsKeptBy schema root k (commits_at schema root m.log) (versions_at cs k) (prepared_at cs k))
+    kept = λ root is_root k under. subst (IsKeptBy schema root k (horizon_of m) (commits_at schema root m.log) (versions_at cs k) (prepared_at cs k))
         (sym (filter-append (claims schema root 0) m.transactions ((record { owner = owner; number = m.next_transaction; mutations = ms; outcome = outcome.Undecided; prepared = [] }) ∷ []) ∙ append-nil _)) (kept.kept root is_root k under);
   }
 
   decided_at : (root : Root) (is_root : IsCodedRoot schema root) (k : List ℕ) (under : is_under schema root k ≡ true) (owner txn ts : ℕ) (t : OpenTransaction) → find (is_transaction owner txn) m.transactions ≡ Some t → is_undecided t ≡ true → is_all_prepared schema m t ≡ true
-      → IsKeptBy schema root k (commits_at schema root (m.log ++ commit_of ts t ∷ [])) (versions_at cs k) (prepared_at cs k) (filter (claims schema root 0) (changed_first (is_transaction owner txn) (with_outcome (outcome.Committed ts)) m.transactions))
+      → IsKeptBy schema root k (horizon_of m) (commits_at schema root (m.log ++ commit_of ts t ∷ [])) (versions_at cs k) (prepared_at cs k) (filter (claims schema root 0) (changed_first (is_transaction owner txn) (with_outcome (outcome.Committed ts)) m.transactions))
   decided_at root is_root k under owner txn ts t found open_still ready =
       let them = claimers_of schema m reached root (coded_root schema root is_root) (is_transaction owner txn) t found in
       elim (is_some_of (filter (is_at schema root) t.mutations)) as (λ v. is_some_of (filter (is_at schema root) t.mutations) ≡ v
-      → IsKeptBy schema root k (commits_at schema root (m.log ++ commit_of ts t ∷ [])) (versions_at cs k) (prepared_at cs k) (filter (claims schema root 0) (changed_first (is_transaction owner txn) (with_outcome (outcome.Committed ts)) m.transactions))) [
+      → IsKeptBy schema root k (horizon_of m) (commits_at schema root (m.log ++ commit_of ts t ∷ [])) (versions_at cs k) (prepared_at cs k) (filter (claims schema root 0) (changed_first (is_transaction owner txn) (with_outcome (outcome.Committed ts)) m.transactions))) [
         | false ↦ λ e.
             let same : commits_at schema root (m.log ++ commit_of ts t ∷ []) ≡ commits_at schema root m.log =
             commits_at-push schema root m.log (commit_of ts t) ∙ ap (λ b. commits_at schema root m.log ++ cond b (commit_of ts t ∷ []) []) e ∙ append-nil _ in
             let off : claims schema root 0 t ≡ false = and_false (is_prepared_at 0 t) (is_some_of (filter (is_at schema root) t.mutations)) e in
-            subst (λ l. IsKeptBy schema root k l (versions_at cs k) (prepared_at cs k) (filter (claims schema root 0) (changed_first (is_transaction owner txn) (with_outcome (outcome.Committed ts)) m.transactions))) (sym same)
-            (subst (IsKeptBy schema root k (commits_at schema root m.log) (versions_at cs k) (prepared_at cs k)) (sym (them.away (with_outcome (outcome.Committed ts)) off off)) (kept.kept root is_root k under))
+            subst (λ l. IsKeptBy schema root k (horizon_of m) l (versions_at cs k) (prepared_at cs k) (filter (claims schema root 0) (changed_first (is_transaction owner txn) (with_outcome (outcome.Committed ts)) m.transactions))) (sym same)
+            (subst (IsKeptBy schema root k (horizon_of m) (commits_at schema root m.log) (versions_at cs k) (prepared_at cs k)) (sym (them.away (with_outcome (outcome.Committed ts)) off off)) (kept.kept root is_root k under))
         | true ↦ λ e.
             let all : list_all (is_prepared_for schema m t) t.mutations ≡ true = second_true (not (length t.prepared == 0)) (list_all (is_prepared_for schema m t) t.mutations) ready in
             let ready_at = prepared_root schema root (coded_root schema root is_root) m 0 t (reached.placed root (coded_root schema root is_root)).only t.mutations e all in
@@ -113,33 +132,40 @@ module _ (schema : List Table) (m : Machine) (reached : IsReached schema m) (cs 
             commits_at-push schema root m.log (commit_of ts t) ∙ ap (λ b. commits_at schema root m.log ++ cond b (commit_of ts t ∷ []) []) e in
             let now : filter (claims schema root 0) (changed_first (is_transaction owner txn) (with_outcome (outcome.Committed ts)) m.transactions) ≡ with_outcome (outcome.Committed ts) t ∷ [] =
             them.changed (with_outcome (outcome.Committed ts)) is ∙ ap (λ b. cond b (with_outcome (outcome.Committed ts) t ∷ []) []) is in
-            subst (IsKeptBy schema root k (commits_at schema root (m.log ++ commit_of ts t ∷ [])) (versions_at cs k) (prepared_at cs k)) (sym now)
-            (subst (λ l. IsPending schema root k l (versions_at cs k) (prepared_at cs k) (with_outcome (outcome.Committed ts) t) ts) (sym more)
-            (pending_of schema root k (commits_at schema root m.log) (versions_at cs k) (prepared_at cs k) t ts
+            subst (IsKeptBy schema root k (horizon_of m) (commits_at schema root (m.log ++ commit_of ts t ∷ [])) (versions_at cs k) (prepared_at cs k)) (sym now)
+            (subst (λ l. IsPending schema root k (horizon_of m) l (versions_at cs k) (prepared_at cs k) (with_outcome (outcome.Committed ts) t) ts) (sym more)
+            (pending_of schema root k (horizon_of m) (commits_at schema root m.log) (versions_at cs k) (prepared_at cs k) t ts
             (kept_under root is_root k under (is_transaction owner txn) t outcome.Undecided found is (is_undecided_outcome t.outcome open_still))))
       ] refl
 
   -- a commit is in the log before its versions are
   pub kept_decided : (owner txn ts : ℕ) (t : OpenTransaction) → find (is_transaction owner txn) m.transactions ≡ Some t → is_undecided t ≡ true → is_all_prepared schema m t ≡ true → AreKept schema (committed m owner txn ts t).1 cs
-  kept_decided owner txn ts t found open_still ready = record { keys = kept.keys; used = kept.used; coded = kept.coded; kept = λ root is_root k under. decided_at root is_root k under owner txn ts t found open_still ready }
+  kept_decided owner txn ts t found open_still ready = record {
+    keys = kept.keys;
+    used = kept.used;
+    coded = kept.coded;
+    kept = λ root is_root k under.
+        subst (λ h. IsKeptBy schema root k h (commits_at schema root (m.log ++ commit_of ts t ∷ [])) (versions_at cs k) (prepared_at cs k) (filter (claims schema root 0) (changed_first (is_transaction owner txn) (with_outcome (outcome.Committed ts)) m.transactions)))
+        (sym (horizon_last m.books (coordinator_of t.prepared) ts)) (decided_at root is_root k under owner txn ts t found open_still ready);
+  }
 
   abort_at : (root : Root) (is_root : IsCodedRoot schema root) (k : List ℕ) (under : is_under schema root k ≡ true) (owner txn : ℕ) (t : OpenTransaction) → find (is_transaction owner txn) m.transactions ≡ Some t → is_undecided t ≡ true
-      → IsKeptBy schema root k (commits_at schema root m.log) (versions_at cs k) (prepared_at cs k) (filter (claims schema root 0) (aborted m owner txn t).1.transactions)
+      → IsKeptBy schema root k (horizon_of m) (commits_at schema root m.log) (versions_at cs k) (prepared_at cs k) (filter (claims schema root 0) (aborted m owner txn t).1.transactions)
   abort_at root is_root k under owner txn t found open_still =
       let them = claimers_of schema m reached root (coded_root schema root is_root) (is_transaction owner txn) t found in
       elim (length t.prepared == 0) as (λ v. (length t.prepared == 0) ≡ v
-      → IsKeptBy schema root k (commits_at schema root m.log) (versions_at cs k) (prepared_at cs k) (filter (claims schema root 0) (cond v (without_first (is_transaction owner txn) m.transactions) (changed_first (is_transaction owner txn) (with_outcome outcome.Aborted) m.transactions)))) [
+      → IsKeptBy schema root k (horizon_of m) (commits_at schema root m.log) (versions_at cs k) (prepared_at cs k) (filter (claims schema root 0) (cond v (without_first (is_transaction owner txn) m.transactions) (changed_first (is_transaction owner txn) (with_outcome outcome.Aborted) m.transactions)))) [
         | true ↦ λ e.
             let off : claims schema root 0 t ≡ false = false_and (is_prepared_at 0 t) (is_some_of (filter (is_at schema root) t.mutations)) (none_left 0 t.prepared e) in
-            subst (IsKeptBy schema root k (commits_at schema root m.log) (versions_at cs k) (prepared_at cs k)) (sym (them.away_gone off)) (kept.kept root is_root k under)
+            subst (IsKeptBy schema root k (horizon_of m) (commits_at schema root m.log) (versions_at cs k) (prepared_at cs k)) (sym (them.away_gone off)) (kept.kept root is_root k under)
         | false ↦ λ e. elim (claims schema root 0 t) as (λ v. claims schema root 0 t ≡ v
-            → IsKeptBy schema root k (commits_at schema root m.log) (versions_at cs k) (prepared_at cs k) (filter (claims schema root 0) (changed_first (is_transaction owner txn) (with_outcome outcome.Aborted) m.transactions))) [
-              | false ↦ λ off. subst (IsKeptBy schema root k (commits_at schema root m.log) (versions_at cs k) (prepared_at cs k)) (sym (them.away (with_outcome outcome.Aborted) off off)) (kept.kept root is_root k under)
+            → IsKeptBy schema root k (horizon_of m) (commits_at schema root m.log) (versions_at cs k) (prepared_at cs k) (filter (claims schema root 0) (changed_first (is_transaction owner txn) (with_outcome outcome.Aborted) m.transactions))) [
+              | false ↦ λ off. subst (IsKeptBy schema root k (horizon_of m) (commits_at schema root m.log) (versions_at cs k) (prepared_at cs k)) (sym (them.away (with_outcome outcome.Aborted) off off)) (kept.kept root is_root k under)
               | true ↦ λ is.
                   let now : filter (claims schema root 0) (changed_first (is_transaction owner txn) (with_outcome outcome.Aborted) m.transactions) ≡ with_outcome outcome.Aborted t ∷ [] =
                   them.changed (with_outcome outcome.Aborted) is ∙ ap (λ b. cond b (with_outcome outcome.Aborted t ∷ []) []) is in
-                  subst (IsKeptBy schema root k (commits_at schema root m.log) (versions_at cs k) (prepared_at cs k)) (sym now)
-                  (given_up_of schema root k (commits_at schema root m.log) (versions_at cs k) (prepared_at cs k) t (kept_under root is_root k under (is_transaction owner txn) t outcome.Undecided found is (is_undecided_outcome t.outcome open_still)))
+                  subst (IsKeptBy schema root k (horizon_of m) (commits_at schema root m.log) (versions_at cs k) (prepared_at cs k)) (sym now)
+                  (kept_under root is_root k under (is_transaction owner txn) t outcome.Undecided found is (is_undecided_outcome t.outcome open_still))
             ] refl
       ] refl
 
@@ -152,6 +178,7 @@ module _ (schema : List Table) (m : Machine) (reached : IsReached schema m) (cs 
   kept_refused (Begin owner ms) why = kept
   kept_refused (Decide owner txn v interval) why = kept
   kept_refused (Advance slot interval) why = kept
+  kept_refused (Trim slot h) why = tt
   kept_refused (Open text params bound interval) why = kept
   kept_refused (Scan query leaf slot interval) why = kept
   kept_refused (Finish query) why = kept
@@ -167,16 +194,17 @@ module _ (schema : List Table) (m : Machine) (reached : IsReached schema m) (cs 
         kept_decided owner txn (commit_timestamp m t interval) t found may.0 may.1;
     aborts = λ owner txn interval t found open_still. kept_abandoned owner txn t found open_still;
     applies = λ owner txn slot interval t book found here accepted. tt;
-    advances = λ slot interval book here. kept_same schema m _ cs kept refl refl;
-    opens = λ text params bound interval accepted. kept_same schema m _ cs kept refl refl;
+    advances = λ slot interval book here. kept_same schema m _ cs kept refl refl (horizon_set m.books slot book _ here refl);
+    trims = λ slot h book here accepted. tt;
+    opens = λ text params bound interval accepted. kept_same schema m _ cs kept refl refl refl;
     finds_nothing = λ query leaf slot interval. kept;
-    scans = λ query leaf slot interval q book found here safe. kept_same schema m _ cs kept refl refl;
-    waits = λ query leaf slot interval q book found here. kept_same schema m _ cs kept refl refl;
+    scans = λ query leaf slot interval q book found here above safe. kept_same schema m _ cs kept refl refl (horizon_risen m.books slot q.s interval book here);
+    waits = λ query leaf slot interval q book found here. kept_same schema m _ cs kept refl refl (horizon_risen m.books slot q.s interval book here);
     finishes = λ query q found covered. kept;
-    closes = λ query q found. kept_same schema m _ cs kept refl refl;
+    closes = λ query q found. kept_same schema m _ cs kept refl refl refl;
   }
 
-  -- every step but a Prepare and an Apply keeps what is kept, its refusals included
+  -- every step but a Prepare, an Apply and a Trim keeps what is kept, its refusals included
   pub kept_by_step : (step : Step) → KeepsVersions schema cs step (answer schema m step)
   kept_by_step step = answer_by schema m (KeepsVersions schema cs) kept_ends step
 

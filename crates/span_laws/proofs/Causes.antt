@@ -51,3 +51,8 @@ pub is_undecided_outcome : (o : Outcome) → undecided o ≡ true → o ≡ outc
 is_undecided_outcome outcome.Undecided e = refl
 is_undecided_outcome (outcome.Committed ts) e = absurd (cc)
 is_undecided_outcome outcome.Aborted e = absurd (cc)
+
+pub may_trim : (backward safe : Bool) → first_cause ((backward, refusal.TrimBackward) ∷ (not safe, refusal.TrimTooNew) ∷ []) ≡ None → (backward ≡ false) × (safe ≡ true)
+may_trim false true e = (refl, refl)
+may_trim false false e = absurd (cc)
+may_trim true safe e = absurd (cc)

@@ -39,9 +39,10 @@ slots_ends schema m = record {
   aborts = λ owner txn interval t found open_still. refl;
   applies = λ owner txn slot interval t book found here accepted. slots_applied m t.outcome owner txn slot t;
   advances = λ slot interval book here. length-set m.books slot _;
+  trims = λ slot h book here accepted. length-set m.books slot _;
   opens = λ text params bound interval accepted. refl;
   finds_nothing = λ query leaf slot interval. refl;
-  scans = λ query leaf slot interval q book found here safe. length-set m.books slot _;
+  scans = λ query leaf slot interval q book found here above safe. length-set m.books slot _;
   waits = λ query leaf slot interval q book found here. length-set m.books slot _;
   finishes = λ query q found covered. refl;
   closes = λ query q found. refl;
@@ -157,9 +158,10 @@ module _ (schema : List Table) (m : Machine) (holding : AreHolding m) where
     aborts = λ owner txn interval t found open_still. one_of (length t.prepared == 0) (is_transaction owner txn) (with_outcome outcome.Aborted) (λ u h. record { timely = tt; apart = h.apart; within = h.within });
     applies = λ owner txn slot interval t book found here accepted. holding_applied t.outcome owner txn slot t;
     advances = λ slot interval book here. holding;
+    trims = λ slot h book here accepted. holding;
     opens = λ text params bound interval accepted. holding;
     finds_nothing = λ query leaf slot interval. holding;
-    scans = λ query leaf slot interval q book found here safe. holding;
+    scans = λ query leaf slot interval q book found here above safe. holding;
     waits = λ query leaf slot interval q book found here. holding;
     finishes = λ query q found covered. holding;
     closes = λ query q found. holding;

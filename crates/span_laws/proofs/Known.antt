@@ -16,7 +16,7 @@ use Rattle.span_truetime.specs.Time.{timestamp_end, timestamp_of}
 use Rattle.span_machine.specs.declared.query.OpenQuery.{OpenQuery}
 use Rattle.span_machine.specs.declared.query.Params.{Params}
 use Rattle.span_machine.specs.declared.step.Step.{Step}
-use Rattle.span_machine.specs.declared.step.Step.TheVariants.{Begin, Prepare, Decide, Apply, Advance, Open, Scan, Finish, Close}
+use Rattle.span_machine.specs.declared.step.Step.TheVariants.{Begin, Prepare, Decide, Apply, Advance, Trim, Open, Scan, Finish, Close}
 use Rattle.span_machine.specs.declared.step.Reply.{Reply}
 use Rattle.span_machine.specs.declared.step.Reply.TheVariants as reply
 use Rattle.span_machine.specs.declared.step.Reply.TheVariants.{Rows, Refused}
@@ -82,6 +82,7 @@ refusal_quiet begun (Prepare owner txn slot) why = record { no_begun = refl; no_
 refusal_quiet begun (Decide owner txn v interval) why = record { no_begun = refl; no_asked = refl; no_commit = refl }
 refusal_quiet begun (Apply owner txn slot interval) why = record { no_begun = refl; no_asked = refl; no_commit = refl }
 refusal_quiet begun (Advance slot interval) why = record { no_begun = refl; no_asked = refl; no_commit = refl }
+refusal_quiet begun (Trim slot h) why = record { no_begun = refl; no_asked = refl; no_commit = refl }
 refusal_quiet begun (Open text params bound interval) why = record { no_begun = refl; no_asked = refl; no_commit = refl }
 refusal_quiet begun (Scan query leaf slot interval) why = record { no_begun = refl; no_asked = refl; no_commit = refl }
 refusal_quiet begun (Finish query) why = record { no_begun = refl; no_asked = refl; no_commit = refl }
@@ -94,6 +95,7 @@ refusal_right schema m asked (Prepare owner txn slot) why = tt
 refusal_right schema m asked (Decide owner txn v interval) why = tt
 refusal_right schema m asked (Apply owner txn slot interval) why = tt
 refusal_right schema m asked (Advance slot interval) why = tt
+refusal_right schema m asked (Trim slot h) why = tt
 refusal_right schema m asked (Open text params bound interval) why = tt
 refusal_right schema m asked (Scan query leaf slot interval) why = tt
 refusal_right schema m asked (Close query) why = tt
@@ -244,10 +246,11 @@ module _ (schema : List Table) (begun : List Begun) (asked : List Asked) (m : Ma
         (either_begun (length t.prepared == 0) (is_transaction owner txn) (with_outcome outcome.Aborted) (λ u is. is)) known.queries refl refl refl tt;
     applies = λ owner txn slot interval t book found here accepted. tells_applied t.outcome owner txn slot interval t;
     advances = λ slot interval book here. tells_quiet _ _ _ (record { no_begun = refl; no_asked = refl; no_commit = refl }) known.transactions known.queries refl refl refl tt;
+    trims = λ slot h book here accepted. tells_quiet _ _ _ (record { no_begun = refl; no_asked = refl; no_commit = refl }) known.transactions known.queries refl refl refl tt;
     opens = λ text params bound interval accepted. tells_opened text params bound interval (timestamp_of bound interval)
         (may_open (table_asked schema text) (nat_le timestamp_end (timestamp_of bound interval)) (nat_le 64 (length m.queries) || nat_le (2 ^ 63) m.next_query) accepted).0;
     finds_nothing = λ query leaf slot interval. tells_same _ _ (record { no_begun = refl; no_asked = refl; no_commit = refl }) tt;
-    scans = λ query leaf slot interval q book found here safe. tells_quiet _ _ _ (record { no_begun = refl; no_asked = refl; no_commit = refl })
+    scans = λ query leaf slot interval q book found here above safe. tells_quiet _ _ _ (record { no_begun = refl; no_asked = refl; no_commit = refl })
         known.transactions (all_changed (IsAsked schema asked) (is_query query) cover (λ u is. is) m.queries known.queries) refl refl refl tt;
     waits = λ query leaf slot interval q book found here. tells_quiet _ _ _ (record { no_begun = refl; no_asked = refl; no_commit = refl }) known.transactions known.queries refl refl refl tt;
     finishes = λ query q found covered. tells_same (Finish query) (answer_on q.s (meaning schema m q)) (record { no_begun = refl; no_asked = refl; no_commit = refl })

@@ -13,6 +13,7 @@ pub mod Placed
 pub mod Numbers
 pub mod Holdings
 pub mod Sound
+pub mod Horizons
 pub mod Queries
 pub mod Known
 pub mod Reached

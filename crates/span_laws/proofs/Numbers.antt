@@ -116,9 +116,10 @@ module _ (schema : List Table) (m : Machine) (numbered : IsNumbered m) where
     aborts = λ owner txn interval t found open_still. numbered_either (length t.prepared == 0) _ (is_transaction owner txn) (with_outcome outcome.Aborted) (λ _. refl) refl refl;
     applies = λ owner txn slot interval t book found here accepted. numbered_applied t.outcome owner txn slot t;
     advances = λ slot interval book here. numbered_same _ refl refl;
+    trims = λ slot h book here accepted. numbered_same _ refl refl;
     opens = λ text params bound interval accepted. numbered_same _ refl refl;
     finds_nothing = λ query leaf slot interval. numbered;
-    scans = λ query leaf slot interval q book found here safe. numbered_same _ refl refl;
+    scans = λ query leaf slot interval q book found here above safe. numbered_same _ refl refl;
     waits = λ query leaf slot interval q book found here. numbered_same _ refl refl;
     finishes = λ query q found covered. numbered;
     closes = λ query q found. numbered_same _ refl refl;

@@ -12,7 +12,7 @@ use Rattle.span_machine.specs.declared.transaction.Outcome.{Outcome}
 use Rattle.span_machine.specs.declared.transaction.Outcome.TheVariants as outcome
 use Rattle.span_mutate.specs.Directories.{Root}
 use Rattle.span_machine.specs.Machine.{is_at}
-use Rattle.span_machine.specs.Machine.{Machine, changed_first, without_first, is_prepared_at, greatest, with_last, mutations_in, faults, is_undecided, is_prepared_for, answer, begun, prepare_timestamp, prepare_refusal, prepared, conflicts, add_prepared, is_transaction, is_query, is_all_prepared, coordinator_of, commit_timestamp, commit_of, committed, aborted, with_outcome, without_prepared, applied, applied_at, advanced, opened, risen, with_book, cover, closed, start}
+use Rattle.span_machine.specs.Machine.{Machine, changed_first, without_first, is_prepared_at, greatest, with_last, mutations_in, faults, is_undecided, is_prepared_for, answer, begun, prepare_timestamp, prepare_refusal, prepared, conflicts, add_prepared, is_transaction, is_query, is_all_prepared, coordinator_of, commit_timestamp, commit_of, committed, aborted, with_outcome, without_prepared, applied, applied_at, advanced, opened, risen, with_book, cover, closed, start, trimmed}
 use Rattle.span_truetime.specs.Time.{timestamp_end, timestamp_of}
 use Rattle.span_machine.specs.declared.step.Step.{Step}
 use Rattle.span_truetime.specs.declared.interval.Interval.{Interval}
@@ -252,9 +252,10 @@ module _ (schema : List Table) (rules : MeetsRules schema) (root : Root) (is : I
     aborts = λ owner txn interval t found open_still. in_place_by (aborted m owner txn t).1 (lifts_same m.books) refl (λ a b p q low h. abort_claim owner txn t a.last b.last found open_still low h);
     applies = λ owner txn i interval t book found here accepted. apply_there owner txn i t found;
     advances = λ i interval book here. books_placed (advanced m i interval book).1 (lifts_set m.books i book (record book { floor = max book.floor interval.latest }) here (omega arith) (λ _. refl)) refl refl;
+    trims = λ i h book here accepted. books_placed (trimmed schema m i h book).1 (lifts_set m.books i book (record book { horizon = h }) here (omega arith) (λ _. refl)) refl refl;
     opens = λ text params bound interval accepted. books_placed (opened m text params (timestamp_of bound interval)).1 (lifts_same m.books) refl refl;
     finds_nothing = λ query leaf i interval. o;
-    scans = λ query leaf i interval q book found here safe.
+    scans = λ query leaf i interval q book found here above safe.
         books_placed (record (with_book m i (risen book q.s interval)) { queries = changed_first (is_query query) cover m.queries }) (lifts_risen i q.s interval book here) refl refl;
     waits = λ query leaf i interval q book found here. books_placed (with_book m i (risen book q.s interval)) (lifts_risen i q.s interval book here) refl refl;
     finishes = λ query q found covered. o;
@@ -272,7 +273,7 @@ only_one book b (suc i) e = cc
 
 pub start_placed : (schema : List Table) (root : Root) → IsInPlace schema root 0 start
 start_placed schema root = record {
-  only = λ i b h k. only_one (record { last = 0; floor = 0 }) b i h;
+  only = λ i b h k. only_one (record { last = 0; floor = 0; horizon = 0 }) b i h;
   held = λ b h. refl;
   in_range = tt;
   rising = tt;

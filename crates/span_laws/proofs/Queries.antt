@@ -49,13 +49,14 @@ module _ (schema : List Table) (m : Machine) (opened : AreOpened schema m) where
     aborts = λ owner txn interval t found open_still. opened;
     applies = λ owner txn slot interval t book found here accepted. opened_applied t.outcome owner txn slot t;
     advances = λ slot interval book here. opened;
+    trims = λ slot h book here accepted. opened;
     opens = λ text params bound interval accepted.
         let may = may_open (table_asked schema text) (nat_le timestamp_end (timestamp_of bound interval)) (nat_le 64 (length m.queries) || nat_le (2 ^ 63) m.next_query) accepted in
         all_push (IsOpened schema (m.next_query + 1)) m.queries (record { number = m.next_query; text = text; params = params; s = timestamp_of bound interval; covered = false })
         (all_weaker (IsOpened schema m.next_query) (IsOpened schema (m.next_query + 1)) (older schema m.next_query) m.queries opened)
         (record { understood = may.0; in_range = not_late timestamp_end (timestamp_of bound interval) may.1; below = omega arith });
     finds_nothing = λ query leaf slot interval. opened;
-    scans = λ query leaf slot interval q book found here safe. all_changed (IsOpened schema m.next_query) (is_query query) cover (λ u o. record { understood = o.understood; in_range = o.in_range; below = o.below }) m.queries opened;
+    scans = λ query leaf slot interval q book found here above safe. all_changed (IsOpened schema m.next_query) (is_query query) cover (λ u o. record { understood = o.understood; in_range = o.in_range; below = o.below }) m.queries opened;
     waits = λ query leaf slot interval q book found here. opened;
     finishes = λ query q found covered. opened;
     closes = λ query q found. all_without (IsOpened schema m.next_query) (is_query query) m.queries opened;

@@ -23,6 +23,7 @@ use Rattle.span_laws.proofs.Queries.{IsOpened, AreOpened, answer_opened, start_o
 use Rattle.span_laws.proofs.Numbers.{IsNumbered, answer_numbered, start_numbered}
 use Rattle.span_laws.proofs.Holdings.{AreHolding, answer_holding, start_holding}
 use Rattle.span_laws.proofs.Sound.{IsSound, answer_sound, start_sound}
+use Rattle.span_laws.proofs.Horizons.{HasHorizons, answer_horizons, start_horizons}
 
 -- what holds of every machine that a run from the start reaches
 pub record IsReached (schema : List Table) (m : Machine) : Type 0 where
@@ -31,6 +32,7 @@ pub record IsReached (schema : List Table) (m : Machine) : Type 0 where
   pub holding : AreHolding m
   pub placed : (root : Root) → IsRoot schema root → IsInPlace schema root 0 m
   pub sound : IsSound schema m
+  pub horizons : HasHorizons schema m
   pub opened : AreOpened schema m
 
 pub start_reached : (schema : List Table) → IsReached schema start
@@ -40,6 +42,7 @@ start_reached schema = record {
   holding = start_holding;
   placed = λ root is. start_placed schema root;
   sound = start_sound schema;
+  horizons = start_horizons schema;
   opened = start_opened schema;
 }
 
@@ -51,6 +54,7 @@ module _ (schema : List Table) (rules : MeetsRules schema) where
     holding = answer_holding schema m reached.holding step;
     placed = λ root is. answer_placed schema rules root is 0 m reached.by_schema (reached.placed root is) step;
     sound = answer_sound schema m reached.sound step;
+    horizons = answer_horizons schema m reached.sound reached.horizons step;
     opened = answer_opened schema m reached.opened step;
   }
 

@@ -110,9 +110,10 @@ module _ (schema : List Table) (m : Machine) (by : IsBySchema schema m) where
     aborts = λ owner txn interval t found open_still of. either_by (length t.prepared == 0) _ (is_transaction owner txn) (with_outcome outcome.Aborted) (λ t k. k) refl refl;
     applies = λ owner txn slot interval t book found here accepted of. applied_by t.outcome owner txn slot t;
     advances = λ slot interval book here of. same_by _ refl refl;
+    trims = λ slot h book here accepted of. same_by _ refl refl;
     opens = λ text params bound interval accepted of. same_by _ refl refl;
     finds_nothing = λ query leaf slot interval of. by;
-    scans = λ query leaf slot interval q book found here safe of. same_by _ refl refl;
+    scans = λ query leaf slot interval q book found here above safe of. same_by _ refl refl;
     waits = λ query leaf slot interval q book found here of. same_by _ refl refl;
     finishes = λ query q found covered of. by;
     closes = λ query q found of. same_by _ refl refl;

@@ -15,7 +15,7 @@ use Rattle.span_mutate.specs.Directories.{Root}
 use Rattle.span_machine.specs.Machine.{is_at, root_at}
 use Rattle.span_machine.specs.Tables.{upto}
 use Rattle.span_value.specs.declared.refusal.Refusal.TheVariants as refusal
-use Rattle.span_machine.specs.Machine.{begun, prepare_timestamp, prepared, is_query, Machine, Answer, answer, refused, holds, if_some, changed_first, is_transaction, is_all_prepared, is_prepared_for, greatest, commit_timestamp, commit_refusal, commit_of, committed, aborted, is_undecided, coordinator_of, applied, applied_at, advanced, opened, risen, with_book, cover, answer_on, meaning, closed, with_last, add_prepared, with_outcome, without_prepared}
+use Rattle.span_machine.specs.Machine.{begun, prepare_timestamp, prepared, is_query, Machine, Answer, answer, refused, holds, if_some, changed_first, is_transaction, is_all_prepared, is_prepared_for, greatest, commit_timestamp, commit_refusal, commit_of, committed, aborted, is_undecided, coordinator_of, applied, applied_at, advanced, opened, risen, with_book, cover, answer_on, meaning, closed, with_last, add_prepared, with_outcome, without_prepared, trimmed}
 use Rattle.span_truetime.specs.Time.{timestamp_end, timestamp_of}
 use Rattle.span_machine.specs.declared.step.Reply.TheVariants as reply
 use Rattle.span_machine.specs.declared.step.Reply.TheVariants.{Refused}
@@ -169,9 +169,10 @@ module _ (schema : List Table) (root : Root) (is : IsRoot schema root) (s : ℕ)
         refl;
     applies = λ owner txn slot interval t book found here accepted. applied_keeps t.outcome owner txn slot t;
     advances = λ slot interval book here. kept_by (advanced m slot interval book) (rises_set m.books slot book (record book { floor = max book.floor interval.latest }) here (omega arith) (λ _ k. k)) (λ i b h k all. all) refl;
+    trims = λ slot horizon book here accepted. kept_by (trimmed schema m slot horizon book) (rises_set m.books slot book (record book { horizon = horizon }) here (omega arith) (λ _ k. k)) (λ i b h k all. all) refl;
     opens = λ text params bound interval accepted. kept_by (opened m text params (timestamp_of bound interval)) (rises_same m.books) (λ i b h k all. all) refl;
     finds_nothing = λ query leaf slot interval. kept_as_is (reply.Nothing, m) refl;
-    scans = λ query leaf slot interval q book found here safe.
+    scans = λ query leaf slot interval q book found here above safe.
         kept_by (reply.Scanned, record (with_book m slot (risen book q.s interval)) { queries = changed_first (is_query query) cover m.queries }) (rises_risen slot q.s interval book here) (λ i b h k all. all) refl;
     waits = λ query leaf slot interval q book found here. kept_by (Refused refusal.NotYet, with_book m slot (risen book q.s interval)) (rises_risen slot q.s interval book here) (λ i b h k all. all) refl;
     finishes = λ query q found covered. kept_as_is (answer_on q.s (meaning schema m q), m) refl;

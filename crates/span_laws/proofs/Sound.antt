@@ -42,25 +42,48 @@ GoesSound schema m n = ((q : OpenQuery) → IsCoveredSealed schema m q → IsCov
 above_by : (p slot s ts : ℕ) → (not (p == slot) || nat_lt s ts) ≡ true → p ≡ slot → s < ts
 above_by p slot s ts e same = grind (arith, nat_tests)
 
+some_same : (a b : Book) → Some a ≡ Some b → a ≡ b
+some_same a b e = cc
+
 module _ (schema : List Table) (m : Machine) (sound : IsSound schema m) where
   -- the same queries
   goes_same : (n : Machine) → n.queries ≡ m.queries → GoesSound schema m n
   goes_same n e w = subst (AllByRecursion (IsCoveredSealed schema n)) (sym e) (all_weaker (IsCoveredSealed schema m) (IsCoveredSealed schema n) w m.queries sound.queries)
 
+  -- where s is safe at a slot, the floor has reached it, and what is prepared there is above it
+  pub above_of_safe : (slot s : ℕ) (book : Book) → is_safe m slot book s ≡ true → (s ≤ book.floor) × AllByRecursion (IsAbove s slot) m.transactions
+  above_of_safe slot s book safe =
+      let low : nat_le s book.floor ≡ true = first_true (nat_le s book.floor) _ safe in (
+        grind (arith, nat_tests),
+        all_true (IsAbove s slot) (λ t. list_all (λ p. not (p.slot == slot) || nat_lt s p.timestamp) t.prepared)
+            (λ t e. all_true (λ p. p.slot ≡ slot → s < p.timestamp) (λ p. not (p.slot == slot) || nat_lt s p.timestamp) (λ p e same. above_by p.slot slot s p.timestamp e same) t.prepared e)
+            m.transactions (second_true (nat_le s book.floor) _ safe),
+      )
+
+  -- there is one slot
+  only_slot : (slot i : ℕ) (before b : Book) (books : List Book) → length books ≡ length m.books → slice_get m.books slot ≡ Some before → slice_get books i ≡ Some b → i ≡ slot
+  only_slot slot i before b books len here h = let within = slice_get_within books i b h in let slot_within = slice_get_within m.books slot before here in let one = sound.one_slot in omega arith
+
   -- a slot that is safe is sealed
   pub sealed_by_scan : (slot s : ℕ) (before book : Book) (queries : List OpenQuery) (root : Root) → slice_get m.books slot ≡ Some before → is_safe m slot book s ≡ true → IsSealed root s (record (with_book m slot book) { queries = queries })
   sealed_by_scan slot s before book queries root here safe =
-      let low : nat_le s book.floor ≡ true = first_true (nat_le s book.floor) _ safe in
-      let same_slot : (i : ℕ) (b : Book) → slice_get (slice_set m.books slot book) i ≡ Some b → i ≡ slot =
-      λ i b h. let within = slice_get_within (slice_set m.books slot book) i b h in let slot_within = slice_get_within m.books slot before here in let len = length-set m.books slot book in let one = sound.one_slot in omega arith in
-      let above : AllByRecursion (IsAbove s slot) m.transactions =
-      all_true (IsAbove s slot) (λ t. list_all (λ p. not (p.slot == slot) || nat_lt s p.timestamp) t.prepared)
-      (λ t e. all_true (λ p. p.slot ≡ slot → s < p.timestamp) (λ p. not (p.slot == slot) || nat_lt s p.timestamp) (λ p e same. above_by p.slot slot s p.timestamp e same) t.prepared e)
-      m.transactions (second_true (nat_le s book.floor) _ safe) in
+      let same_slot : (i : ℕ) (b : Book) → slice_get (slice_set m.books slot book) i ≡ Some b → i ≡ slot = λ i b h. only_slot slot i before b (slice_set m.books slot book) (length-set m.books slot book) here h in
+      let above = above_of_safe slot s book safe in
       record {
         floors = λ i b h k. let is : b ≡ book = set_here m.books slot book b (subst (λ j. slice_get (slice_set m.books slot book) j ≡ Some b) (same_slot i b h) h) in
-            subst (λ (c : Book). s ≤ c.floor) (sym is) (grind (arith, nat_tests));
-        prepared = λ i b h k. subst (λ j. AllByRecursion (IsAbove s j) m.transactions) (sym (same_slot i b h)) above;
+            subst (λ (c : Book). s ≤ c.floor) (sym is) above.0;
+        prepared = λ i b h k. subst (λ j. AllByRecursion (IsAbove s j) m.transactions) (sym (same_slot i b h)) above.1;
+      }
+
+  -- what is safe now is sealed now
+  pub sealed_when_safe : (slot s : ℕ) (book : Book) (root : Root) → slice_get m.books slot ≡ Some book → is_safe m slot book s ≡ true → IsSealed root s m
+  sealed_when_safe slot s book root here safe =
+      let same_slot : (i : ℕ) (b : Book) → slice_get m.books i ≡ Some b → i ≡ slot = λ i b h. only_slot slot i book b m.books refl here h in
+      let above = above_of_safe slot s book safe in
+      record {
+        floors = λ i b h k. let is : Some book ≡ Some b = sym here ∙ subst (λ j. slice_get m.books j ≡ Some b) (same_slot i b h) h in
+            subst (λ (c : Book). s ≤ c.floor) (some_same book b is) above.0;
+        prepared = λ i b h k. subst (λ j. AllByRecursion (IsAbove s j) m.transactions) (sym (same_slot i b h)) above.1;
       }
 
   goes_applied : (o : Outcome) (owner txn slot : ℕ) (t : OpenTransaction) → GoesSound schema m (applied_at o m owner txn slot t).1
@@ -77,10 +100,11 @@ module _ (schema : List Table) (m : Machine) (sound : IsSound schema m) where
     aborts = λ owner txn interval t found open_still. goes_same _ refl;
     applies = λ owner txn slot interval t book found here accepted. goes_applied t.outcome owner txn slot t;
     advances = λ slot interval book here. goes_same _ refl;
+    trims = λ slot h book here accepted. goes_same _ refl;
     opens = λ text params bound interval accepted w. all_push (IsCoveredSealed schema _) m.queries (record { number = m.next_query; text = text; params = params; s = timestamp_of bound interval; covered = false })
         (all_weaker (IsCoveredSealed schema m) (IsCoveredSealed schema _) w m.queries sound.queries) (λ bad. cc);
     finds_nothing = λ query leaf slot interval. goes_same m refl;
-    scans = λ query leaf slot interval q book found here safe w.
+    scans = λ query leaf slot interval q book found here above safe w.
         let after : Machine = record (with_book m slot (risen book q.s interval)) { queries = changed_first (is_query query) cover m.queries } in
         all_changed_found (IsCoveredSealed schema after) (is_query query) cover m.queries q found (λ _ root is. sealed_by_scan slot q.s book (risen book q.s interval) (changed_first (is_query query) cover m.queries) root here safe)
         (all_weaker (IsCoveredSealed schema m) (IsCoveredSealed schema after) w m.queries sound.queries);

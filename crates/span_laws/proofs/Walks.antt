@@ -1,4 +1,4 @@
-use Rattle.std.proofs.Common.{◌≡◌, ℕ, Bool, true, false, cond, not, ◌==◌, nat_le, List, [], ◌∷◌, Option, Some, None, refl}
+use Rattle.std.proofs.Common.{◌≡◌, ℕ, nat_lt, Bool, true, false, cond, not, ◌==◌, nat_le, List, [], ◌∷◌, Option, Some, None, refl}
 use Rattle.std.specs.Prelude.{slice_get, find}
 use Rattle.span_schema.specs.declared.table.Table.{Table}
 use Rattle.span_mutate.specs.declared.mutation.CheckedMutation.{CheckedMutation}
@@ -11,13 +11,13 @@ use Rattle.span_machine.specs.declared.query.OpenQuery.{OpenQuery}
 use Rattle.span_machine.specs.declared.query.Params.{Params}
 use Rattle.span_machine.specs.declared.slot.Book.{Book}
 use Rattle.span_machine.specs.declared.step.Step.{Step}
-use Rattle.span_machine.specs.declared.step.Step.TheVariants.{Begin, Prepare, Decide, Apply, Advance, Open, Scan, Finish, Close}
+use Rattle.span_machine.specs.declared.step.Step.TheVariants.{Begin, Prepare, Decide, Apply, Advance, Trim, Open, Scan, Finish, Close}
 use Rattle.span_machine.specs.declared.step.Reply.TheVariants as reply
 use Rattle.span_machine.specs.declared.step.Reply.TheVariants.{Refused}
 use Rattle.span_machine.specs.declared.step.Verdict.{Verdict}
 use Rattle.span_machine.specs.declared.step.Verdict.TheVariants as verdict
 use Rattle.span_machine.specs.declared.transaction.OpenTransaction.{OpenTransaction}
-use Rattle.span_machine.specs.Machine.{Machine, Answer, answer, refused, if_some, first_cause, unless_refused, for_transaction, for_slot, for_query, is_transaction, is_query, is_safe, is_undecided, begin_refusal, begun, faults, prepare_timestamp, prepare_refusal, prepared, prepare_found, prepare, mutations_in, commit_timestamp, commit_refusal, committed, aborted, decide_found, decide, applied_at, apply_refusal, apply_found, apply_step, advanced, open_refusal, opened, risen, with_book, cover, changed_first, scanned, scan_at, scan_found, scan, answer_on, meaning, finish_found, finish, closed}
+use Rattle.span_machine.specs.Machine.{Machine, Answer, answer, refused, if_some, first_cause, unless_refused, for_transaction, for_slot, for_query, is_transaction, is_query, is_safe, is_undecided, begin_refusal, begun, faults, prepare_timestamp, prepare_refusal, prepared, prepare_found, prepare, mutations_in, commit_timestamp, commit_refusal, committed, aborted, decide_found, decide, applied_at, apply_refusal, apply_found, apply_step, advanced, trim_refusal, trimmed, trim_found, open_refusal, opened, risen, with_book, cover, changed_first, scanned, scan_gap, scan_at, scan_found, scan, answer_on, meaning, finish_found, finish, closed}
 use Rattle.span_laws.proofs.Causes.{may_abort}
 
 -- what a fact about a step and its answer owes at each way that a step can end
@@ -34,10 +34,11 @@ pub record Ends (schema : List Table) (m : Machine) (P : Step → Answer → Typ
   pub applies : (owner txn slot : ℕ) (interval : Interval) (t : OpenTransaction) (book : Book) → find (is_transaction owner txn) m.transactions ≡ Some t → slice_get m.books slot ≡ Some book
       → apply_refusal slot t interval ≡ None → P (Apply owner txn slot interval) (applied_at t.outcome m owner txn slot t)
   pub advances : (slot : ℕ) (interval : Interval) (book : Book) → slice_get m.books slot ≡ Some book → P (Advance slot interval) (advanced m slot interval book)
+  pub trims : (slot h : ℕ) (book : Book) → slice_get m.books slot ≡ Some book → trim_refusal m slot h book ≡ None → P (Trim slot h) (trimmed schema m slot h book)
   pub opens : (text : List ℕ) (params : Params) (bound : Bound) (interval : Interval) → open_refusal schema m text (timestamp_of bound interval) ≡ None
       → P (Open text params bound interval) (opened m text params (timestamp_of bound interval))
   pub finds_nothing : (query leaf slot : ℕ) (interval : Interval) → P (Scan query leaf slot interval) (reply.Nothing, m)
-  pub scans : (query leaf slot : ℕ) (interval : Interval) (q : OpenQuery) (book : Book) → find (is_query query) m.queries ≡ Some q → slice_get m.books slot ≡ Some book → is_safe m slot (risen book q.s interval) q.s ≡ true
+  pub scans : (query leaf slot : ℕ) (interval : Interval) (q : OpenQuery) (book : Book) → find (is_query query) m.queries ≡ Some q → slice_get m.books slot ≡ Some book → nat_lt q.s book.horizon ≡ false → is_safe m slot (risen book q.s interval) q.s ≡ true
       → P (Scan query leaf slot interval) (reply.Scanned, record (with_book m slot (risen book q.s interval)) { queries = changed_first (is_query query) cover m.queries })
   pub waits : (query leaf slot : ℕ) (interval : Interval) (q : OpenQuery) (book : Book) → find (is_query query) m.queries ≡ Some q → slice_get m.books slot ≡ Some book
       → P (Scan query leaf slot interval) (Refused refusal.NotYet, with_book m slot (risen book q.s interval))
@@ -88,10 +89,11 @@ module _ (schema : List Table) (m : Machine) (P : Step → Answer → Type 0) (e
   scan_by query leaf slot interval = by_query (Scan query leaf slot interval) query (scan_found m query leaf slot interval) (λ q found.
       by_cond (Scan query leaf slot interval) (leaf == 0) (for_slot m slot (scan_at m query slot interval q)) (refused m refusal.UnknownQuery) (λ _.
       by_slot (Scan query leaf slot interval) slot (scan_at m query slot interval q) (λ book here.
-      by_cond (Scan query leaf slot interval) q.covered (reply.Nothing, m) (scanned m query slot (risen book q.s interval) q.s) (λ _. ends.finds_nothing query leaf slot interval) (λ _.
+      by_cond (Scan query leaf slot interval) q.covered (reply.Nothing, m) (scan_gap m query slot interval q book) (λ _. ends.finds_nothing query leaf slot interval) (λ _.
+      by_cond (Scan query leaf slot interval) (nat_lt q.s book.horizon) (refused m refusal.Trimmed) (scanned m query slot (risen book q.s interval) q.s) (λ _. ends.refuses (Scan query leaf slot interval) refusal.Trimmed) (λ above.
       by_cond (Scan query leaf slot interval) (is_safe m slot (risen book q.s interval) q.s) (reply.Scanned, record (with_book m slot (risen book q.s interval)) { queries = changed_first (is_query query) cover m.queries }) (Refused refusal.NotYet, with_book m slot (risen book q.s interval))
-      (λ safe. ends.scans query leaf slot interval q book found here safe)
-      (λ _. ends.waits query leaf slot interval q book found here))))
+      (λ safe. ends.scans query leaf slot interval q book found here above safe)
+      (λ _. ends.waits query leaf slot interval q book found here)))))
       (λ _. ends.refuses (Scan query leaf slot interval) refusal.UnknownQuery))
 
   finish_by : (query : ℕ) → P (Finish query) (finish schema m query)
@@ -105,6 +107,8 @@ module _ (schema : List Table) (m : Machine) (P : Step → Answer → Type 0) (e
   answer_by (Decide owner txn v interval) = decide_by owner txn v interval
   answer_by (Apply owner txn slot interval) = apply_by owner txn slot interval
   answer_by (Advance slot interval) = by_slot (Advance slot interval) slot (advanced m slot interval) (λ book here. ends.advances slot interval book here)
+  answer_by (Trim slot h) = by_slot (Trim slot h) slot (trim_found schema m slot h) (λ book here.
+      by_refusal (Trim slot h) (trim_refusal m slot h book) (trimmed schema m slot h book) (λ accepted. ends.trims slot h book here accepted))
   answer_by (Open text params bound interval) = by_refusal (Open text params bound interval) (open_refusal schema m text (timestamp_of bound interval)) (opened m text params (timestamp_of bound interval)) (λ accepted. ends.opens text params bound interval accepted)
   answer_by (Scan query leaf slot interval) = scan_by query leaf slot interval
   answer_by (Finish query) = finish_by query

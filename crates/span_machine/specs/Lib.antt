@@ -1,6 +1,7 @@
 pub mod Sorting
 pub mod Tables
 pub mod Meaning
+pub mod Kept
 pub mod Machine
 pub mod Place
 pub mod Commits

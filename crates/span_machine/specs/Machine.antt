@@ -1,4 +1,4 @@
-use Rattle.std.specs.Prelude.{◌≡◌, ℕ, ◌+◌, ◌^◌, ◌-◌, max, Bool, true, false, ◌==◌, ◌&&◌, ◌||◌, not, nat_lt, nat_le, List, [], ◌∷◌, ◌++◌, length, filter, find, count_by, slice_get, slice_set, Option, Some, None, Result, Ok, Err, if◌then◌else◌, ◌⊎◌}
+use Rattle.std.specs.Prelude.{◌≡◌, ℕ, ◌+◌, ◌^◌, ◌-◌, max, min, Bool, true, false, ◌==◌, ◌&&◌, ◌||◌, not, nat_lt, nat_le, List, [], ◌∷◌, ◌++◌, length, filter, find, count_by, slice_get, slice_set, Option, Some, None, Result, Ok, Err, if◌then◌else◌, ◌⊎◌}
 use Rattle.std.specs.List.{list_any, list_all}
 use Rattle.std.specs.Option.{option_or}
 use Rattle.span_schema.specs.declared.table.Table.{Table}
@@ -7,7 +7,7 @@ use Rattle.span_machine.specs.declared.transaction.Commit.{Commit}
 use Rattle.span_value.specs.declared.refusal.Refusal.{Refusal}
 use Rattle.span_value.specs.declared.refusal.Refusal.TheVariants as refusal
 use Rattle.span_machine.specs.declared.step.Step.{Step}
-use Rattle.span_machine.specs.declared.step.Step.TheVariants.{Begin, Prepare, Decide, Apply, Advance, Open, Scan, Finish, Close}
+use Rattle.span_machine.specs.declared.step.Step.TheVariants.{Begin, Prepare, Decide, Apply, Advance, Trim, Open, Scan, Finish, Close}
 use Rattle.span_machine.specs.declared.step.Reply.{Reply}
 use Rattle.span_machine.specs.declared.step.Reply.TheVariants as reply
 use Rattle.span_machine.specs.declared.step.Reply.TheVariants.{Refused}
@@ -29,6 +29,7 @@ use Rattle.span_mutate.specs.Database.{apply}
 use Rattle.span_mutate.specs.Directories.{Root, is_of, root_row}
 use Rattle.span_machine.specs.Tables.{tables}
 use Rattle.span_machine.specs.Meaning.{table_asked, means}
+use Rattle.span_machine.specs.Kept as kept
 use Rattle.span_value.specs.declared.value.Value.{Value}
 
 -- what the journal knows: no versions and no rows
@@ -304,6 +305,30 @@ advanced m slot interval book = (
 abbrev pub advance : Machine → ℕ → Interval → Answer
 advance m slot interval = for_slot m slot (advanced m slot interval)
 
+-- the horizon may rise to h, which is at most safe time
+abbrev pub trim_refusal : Machine → ℕ → ℕ → Book → Option Refusal
+trim_refusal m slot h book = first_cause (
+    (nat_lt h book.horizon, refusal.TrimBackward)
+    ∷ (not (is_safe m slot book h), refusal.TrimTooNew) ∷ [])
+
+-- how many versions are kept from the horizon h on, as far as a machine word counts
+abbrev pub live_after : List Table → Machine → ℕ → ℕ → ℕ
+live_after schema m slot h = min (kept.live schema m.log m.transactions slot h) (2 ^ 64 - 1)
+
+abbrev pub trimmed : List Table → Machine → ℕ → ℕ → Book → Answer
+trimmed schema m slot h book = (
+  reply.Trimmed (live_after schema m slot h),
+  record m {
+    books = slice_set m.books slot (record book { horizon = h });
+  },
+)
+
+abbrev pub trim_found : List Table → Machine → ℕ → ℕ → Book → Answer
+trim_found schema m slot h book = unless_refused m (trim_refusal m slot h book) (trimmed schema m slot h book)
+
+abbrev pub trim : List Table → Machine → ℕ → ℕ → Answer
+trim schema m slot h = for_slot m slot (trim_found schema m slot h)
+
 abbrev pub open_refusal : List Table → Machine → List ℕ → ℕ → Option Refusal
 open_refusal schema m text s = option_or (fault_of (table_asked schema text)) (first_cause (
     (nat_le timestamp_end s, refusal.TimestampRange)
@@ -339,9 +364,14 @@ scanned m query slot book s =
     then (reply.Scanned, record (with_book m slot book) { queries = changed_first (is_query query) cover m.queries })
     else (Refused refusal.NotYet, with_book m slot book)
 
+-- below the horizon nothing is read, and the floor stays
+abbrev pub scan_gap : Machine → ℕ → ℕ → Interval → OpenQuery → Book → Answer
+scan_gap m query slot interval q book =
+    if nat_lt q.s book.horizon then refused m refusal.Trimmed else scanned m query slot (risen book q.s interval) q.s
+
 abbrev pub scan_at : Machine → ℕ → ℕ → Interval → OpenQuery → Book → Answer
 scan_at m query slot interval q book =
-    if q.covered then (reply.Nothing, m) else scanned m query slot (risen book q.s interval) q.s
+    if q.covered then (reply.Nothing, m) else scan_gap m query slot interval q book
 
 abbrev pub scan_found : Machine → ℕ → ℕ → ℕ → Interval → OpenQuery → Answer
 scan_found m query leaf slot interval q =
@@ -378,6 +408,7 @@ answer schema m (Prepare owner txn slot) = prepare schema m owner txn slot
 answer schema m (Decide owner txn v interval) = decide schema m owner txn v interval
 answer schema m (Apply owner txn slot interval) = apply_step m owner txn slot interval
 answer schema m (Advance slot interval) = advance m slot interval
+answer schema m (Trim slot h) = trim schema m slot h
 answer schema m (Open text params bound interval) = open_query schema m text params bound interval
 answer schema m (Scan query leaf slot interval) = scan m query leaf slot interval
 answer schema m (Finish query) = finish schema m query
@@ -390,6 +421,7 @@ may_grow (Prepare owner txn slot) = true
 may_grow (Decide owner txn v interval) = false
 may_grow (Apply owner txn slot interval) = false
 may_grow (Advance slot interval) = false
+may_grow (Trim slot h) = false
 may_grow (Open text params bound interval) = true
 may_grow (Scan query leaf slot interval) = true
 may_grow (Finish query) = true
@@ -402,4 +434,4 @@ Steps schema m s r next =
     ⊎ ((may_grow s ≡ true) × (r ≡ Refused refusal.OutOfMemory) × (next ≡ m))
 
 abbrev pub start : Machine
-start = record { books = (record { last = 0; floor = 0 }) ∷ []; transactions = []; log = []; queries = []; next_transaction = 1; next_query = 1 }
+start = record { books = (record { last = 0; floor = 0; horizon = 0 }) ∷ []; transactions = []; log = []; queries = []; next_transaction = 1; next_query = 1 }

@@ -7,4 +7,6 @@ pub struct Book {
     pub last: u64,
     /// No later prepare here gets a timestamp at or below this.
     pub floor: u64,
+    /// No scan reads below this here: the versions for it may be gone.
+    pub horizon: u64,
 }

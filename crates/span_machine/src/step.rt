@@ -43,6 +43,11 @@ pub enum Step {
         slot: usize,
         interval: Interval,
     },
+    Trim {
+        slot: usize,
+        /// The new horizon, a timestamp.
+        h: u64,
+    },
     Open {
         text: Text,
         params: Params,
@@ -76,6 +81,8 @@ pub enum Reply {
     Applied,
     /// The slot's floor.
     Floor(u64),
+    /// How many versions the slot keeps, prepared ones included.
+    Trimmed(usize),
     /// The query's number, the timestamp that it reads at, and how many leaves it has.
     Opened { query: u64, s: u64, leaves: usize },
     Scanned,

@@ -9,7 +9,7 @@ use Rattle.span_machine.specs.Pieces.{Pieced, Journaled, machine_of}
 use Rattle.std.specs.List.{list_all}
 use Rattle.span_machine.specs.declared.step.Reply.TheVariants as reply
 use Rattle.span_value.specs.declared.refusal.Refusal.TheVariants as refusal
-use Rattle.span_journal.proofs.Stepping.{scan_none, scan_no_slot, scan_nothing, scan_waits, may_scan}
+use Rattle.span_journal.proofs.Stepping.{scan_none, scan_no_slot, scan_nothing, scan_trimmed, scan_waits, may_scan, is_below, is_not_below}
 use Rattle.span_machine.specs.Machine.{scan}
 use Rattle.span_journal.specs.Judged.{MayScan}
 use Rattle.span_journal.proofs.journal.Journal.claim_gap.Goals as goal
@@ -44,6 +44,19 @@ returns-then-is_covered-clause-gap c =
     subst (λ (k : Journaled). scan (machine_of k) c.args.query c.args.leaf c.args.slot c.args.interval ≡ (reply.Nothing, machine_of k)) c.self.view_is
     (scan_nothing j c.args.query c.args.leaf c.args.slot c.args.interval p place.found book leaf here covered)
 
+pub returns-then-s-book-clause-refused : goal.returns-then-s-book-clause-refused
+returns-then-s-book-clause-refused c =
+    let j : Journaled = record { books = c.self.inside.books.items; transactions = c.self.inside.transactions.items; log = c.self.inside.log.items; queries = c.self.inside.queries.items; next_transaction = c.self.inside.next_transaction; next_query = c.self.inside.next_query } in
+    let p = c.in-Some.question.now in
+    let place : IsPlace (λ (p : Pieced). is_query c.args.query p.query) j.queries c.in-Some.field-0-0 p =
+    subst (λ (l : List Pieced). IsPlace (λ (p : Pieced). is_query c.args.query p.query) l c.in-Some.field-0-0 p) c.as_slice.ensures.value c.in-Some.ensures.some in
+    let book = c.in-Some-book_at.book.now in
+    let here : slice_get j.books c.args.slot ≡ Some book = subst (λ (l : List Book). slice_get l c.args.slot ≡ Some book) c.as_slice-2.ensures.value (sym c.in-Some-book_at.ensures) in
+    let leaf : (c.args.leaf == 0) ≡ true = ap (λ n. n == 0) c.if-leaf-ne0.false in
+    let uncovered : p.query.covered ≡ false = sym c.is_covered.ensures ∙ c.if-is_covered.false in
+    subst (λ (k : Journaled). scan (machine_of k) c.args.query c.args.leaf c.args.slot c.args.interval ≡ (reply.Refused refusal.Trimmed, machine_of k)) c.self.view_is
+    (scan_trimmed j c.args.query c.args.leaf c.args.slot c.args.interval p place.found book leaf here uncovered (is_below c.timestamp-s.result p.query.s book.horizon c.timestamp-s.ensures c.if-s-book.true))
+
 pub returns-then-is_safe_at-clause-gap : goal.returns-then-is_safe_at-clause-gap
 returns-then-is_safe_at-clause-gap c =
     let j : Journaled = record { books = c.self.inside.books.items; transactions = c.self.inside.transactions.items; log = c.self.inside.log.items; queries = c.self.inside.queries.items; next_transaction = c.self.inside.next_transaction; next_query = c.self.inside.next_query } in
@@ -62,7 +75,7 @@ returns-then-is_safe_at-clause-gap c =
     ∙ ap (λ (b : Book). is_safe (machine_of j) c.args.slot b s) risen_is in
     subst (λ (k : Journaled). MayScan (machine_of k) c.args.query c.args.leaf c.args.slot c.args.interval c.timestamp-s.result) c.self.view_is
     (subst (MayScan (machine_of j) c.args.query c.args.leaf c.args.slot c.args.interval) (sym timely)
-    (may_scan j c.args.query c.args.leaf c.args.slot c.args.interval p place.found book c.if-leaf-ne0.false here uncovered (sym safe ∙ c.if-is_safe_at.true)))
+    (may_scan j c.args.query c.args.leaf c.args.slot c.args.interval p place.found book c.if-leaf-ne0.false here uncovered (is_not_below c.timestamp-s.result s book.horizon timely c.if-s-book.false) (sym safe ∙ c.if-is_safe_at.true)))
 
 pub set_floor-requires : goal.set_floor-requires
 set_floor-requires c =
@@ -90,4 +103,4 @@ returns-clause-refused c =
     ∙ ap (λ (b : Book). is_safe (machine_of j) c.args.slot b s) risen_is in
     let books_are = subst (λ (o : Option Book). IfSome o (λ b. c.set_floor.new.books.items ≡ slice_set j.books c.args.slot (record b { floor = c.risen_floor-floor.result }))) here c.set_floor.ensures ∙ ap (slice_set j.books c.args.slot) risen_is in
     subst (λ (k : Journaled). scan (machine_of k) c.args.query c.args.leaf c.args.slot c.args.interval ≡ (reply.Refused refusal.NotYet, machine_of (record j { books = c.set_floor.new.books.items }))) c.self.view_is
-    (scan_waits j c.args.query c.args.leaf c.args.slot c.args.interval p place.found book leaf here uncovered (sym safe ∙ c.if-is_safe_at.false) c.set_floor.new.books.items books_are)
+    (scan_waits j c.args.query c.args.leaf c.args.slot c.args.interval p place.found book leaf here uncovered (is_not_below c.timestamp-s.result s book.horizon timely c.if-s-book.false) (sym safe ∙ c.if-is_safe_at.false) c.set_floor.new.books.items books_are)
