@@ -1,4 +1,4 @@
-# Writes the tables of span_parser from the grammar below: src/class.rt, src/grammar.rt, specs/Grammar.antt, specs/Shapes.antt,
+# Writes the tables of span_grammar from the grammar below: src/class.rt, src/grammar.rt, specs/Grammar.antt, specs/Shapes.antt,
 # specs/Contexts.antt, and in proofs/ Shaped, Having, Ending, Nothings, Ranks, Tables, Firsts, Goings, Facts, Repeated and Spelled.
 # It also says whether one token decides each choice ("conflicts 0"). Run it, then `rt fmt` and `rt check` in the crate.
 # Nothing rests on it: what it writes is checked as if it were written by hand.
@@ -79,6 +79,8 @@ seq('Named',['name','AfterName'],'call | col, of which a name stands in front')
 seq('IfCall',['IF','Arguments'],'IF "(" .. ")"')
 alt('Primary',['int','string','bytes','TRUE','FALSE','NULL','param','Named','IfCall','Case','Parenthesis'],'prim')
 alt('Unary',['Opposite','Primary'],'"-" unary | prim')
+alt('OtherUnary',['Opposite','PrimaryFromAString'],'unary, and no integer')
+alt('Signed',['int','OtherUnary'],'unary, where it is told whether it is an integer')
 alt('TermSign',['*','||'])
 seq('TermMore',['TermSign','Unary'])
 many('TermRest','TermMore')
@@ -198,20 +200,23 @@ seq('InLength',['LengthBound',')'])
 seq('InTableColumns',['TableColumn','TableColumnRest',')'])
 seq('InKeyColumns',['KeyColumn','KeyColumnRest',')'])
 PLACES=['InParenthesis','InArguments','InMembers','InSubquery','InCase','InNegation','InOpposite','InLength','InTableColumns','InKeyColumns']
-INSIDE={p:p for p in PLACES}; INSIDE['InNegation']='Negated'; INSIDE['InOpposite']='Unary'
+INSIDE={p:p for p in PLACES}; INSIDE['InNegation']='Negated'; INSIDE['InOpposite']='Signed'
 def snake(n): return re.sub(r'(?<!^)(?=[A-Z0-9])','_',n).lower()
 print(len(G))
 WORDS="ALL AND AS ASC BETWEEN BY CASE CREATE DESC DISTINCT ELSE END FALSE FROM GROUP HAVING IF IN INNER IS JOIN LEFT LIKE LIMIT NOT NULL ON OR ORDER OUTER SELECT THEN TRUE UNION WHEN WHERE".split()
 SIGNS=["Open","Close","Comma","Dot","Semicolon","Star","Plus","Minus","Equal","LessGreater","BangEqual","Less","LessEqual","Greater","GreaterEqual","Concat"]
 def rp(n): return f'Part::Token({rsort(TERM[n])})' if n in TERM else f'Part::{n}'
 def ap_(n): return f'(part.Token {asort(TERM[n])})' if n in TERM else f'part.{n}'
-base=os.path.join(os.path.dirname(os.path.abspath(__file__)),'..','crates','span_parser','')
+base=os.path.join(os.path.dirname(os.path.abspath(__file__)),'..','crates','span_grammar','')
 # ---- Rust: classes
 cls='''//! Classes of tokens: what the grammar asks of a token.
 //!
 //! A name that is a word of the grammar in its place, as OFFSET, is told from other names; so is a name before `.` and `*`, and
 //! a semicolon at the end of a text. With that, one token decides how reading goes on.
-use span_lexer::token::{Sign, Word};
+ghost use Rattle.std.specs.Prelude.{◌≡◌};
+ghost use Rattle.span_grammar.specs.Contexts as spelled;
+
+use span_lexer::token::{Sign, Token, Word};
 
 /// A word that is a name, and a word of the grammar where that asks for it.
 #[derive(Clone, Copy, Debug, PartialEq, Eq)]
@@ -233,6 +238,13 @@ pub enum Class {
     Sign(Sign),
     /// A semicolon behind which the text ends.
     LastSemicolon,
+}
+
+/// A token with its class.
+#[derive(Clone, Copy, Debug, PartialEq, Eq)]
+pub struct Lexeme {
+    pub class: Class,
+    pub token: Token,
 }
 
 /// What a rule asks of one token.
@@ -291,7 +303,7 @@ def arule(s):
     return f'Open {asort(a[0])} place.{a[1]}'
 g='''//! The grammar, part by part.
 ghost use Rattle.std.specs.Prelude.{◌≡◌};
-ghost use Rattle.span_parser.specs.Shapes.{shape_of, part_inside};
+ghost use Rattle.span_grammar.specs.Shapes.{shape_of, part_inside};
 
 use super::class::{Context, Sort};
 use span_lexer::token::{Sign, Word};
@@ -351,16 +363,16 @@ pub(crate) fn made_of(part: Part) -> Shape
 open(base+'src/grammar.rt','w').write(g)
 head='''use Rattle.span_lexer.specs.declared.token.Word.TheVariants as word
 use Rattle.span_lexer.specs.declared.token.Sign.TheVariants as sign
-use Rattle.span_parser.specs.declared.class.Sort.TheVariants as sort
-use Rattle.span_parser.specs.declared.class.Context.TheVariants as context
-use Rattle.span_parser.specs.declared.grammar.Part.{Part}
-use Rattle.span_parser.specs.declared.grammar.Part.TheVariants as part
-use Rattle.span_parser.specs.declared.grammar.Place.{Place}
-use Rattle.span_parser.specs.declared.grammar.Place.TheVariants as place
+use Rattle.span_grammar.specs.declared.class.Sort.TheVariants as sort
+use Rattle.span_grammar.specs.declared.class.Context.TheVariants as context
+use Rattle.span_grammar.specs.declared.grammar.Part.{Part}
+use Rattle.span_grammar.specs.declared.grammar.Part.TheVariants as part
+use Rattle.span_grammar.specs.declared.grammar.Place.{Place}
+use Rattle.span_grammar.specs.declared.grammar.Place.TheVariants as place
 '''
 sh='''-- How each part of the grammar is made of others.
-'''+head+'''use Rattle.span_parser.specs.declared.grammar.Shape.{Shape}
-use Rattle.span_parser.specs.declared.grammar.Shape.TheVariants as shape
+'''+head+'''use Rattle.span_grammar.specs.declared.grammar.Shape.{Shape}
+use Rattle.span_grammar.specs.declared.grammar.Shape.TheVariants as shape
 
 unfoldable pub shape_of : Part → Shape
 shape_of (part.Token s) = shape.One s
@@ -382,7 +394,7 @@ def visit(n):
     order.append(n)
 for n,_,_ in G: visit(n)
 gr='''-- The grammar of queries and of schema texts, as rules. What is commented stands in the grammar's own words.
-'''+head+'''use Rattle.span_parser.specs.Rules.{Rule, Empty, One, Then, Or, Many, Open}
+'''+head+'''use Rattle.span_grammar.specs.Rules.{Rule, Empty, One, Then, Or, Many, Open}
 
 '''
 for n in order:
@@ -398,11 +410,11 @@ abbrev pub inside : Place → Rule
 open(base+'specs/Grammar.antt','w').write(gr)
 sp='''-- Each part is shaped as the grammar's rule of it.
 use Rattle.std.proofs.Common.{◌≡◌, refl}
-'''+head+'''use Rattle.span_parser.specs.declared.grammar.Shape.{Shape}
-use Rattle.span_parser.specs.declared.grammar.Shape.TheVariants as shape
-use Rattle.span_parser.specs.Rules.{Rule, Empty, One, Then, Or, Many, Open}
-use Rattle.span_parser.specs.Shapes.{shape_of, part_inside}
-use Rattle.span_parser.specs.Grammar.{rule_of, inside, '''+', '.join(rn(n) for n in order)+'''}
+'''+head+'''use Rattle.span_grammar.specs.declared.grammar.Shape.{Shape}
+use Rattle.span_grammar.specs.declared.grammar.Shape.TheVariants as shape
+use Rattle.span_grammar.specs.Rules.{Rule, Empty, One, Then, Or, Many, Open}
+use Rattle.span_grammar.specs.Shapes.{shape_of, part_inside}
+use Rattle.span_grammar.specs.Grammar.{rule_of, inside, '''+', '.join(rn(n) for n in order)+'''}
 
 abbrev pub IsShaped : Rule → Shape → Type 0
 IsShaped r shape.Empty = r ≡ Empty
@@ -464,36 +476,40 @@ def pp(n): return '('+ph(n)+')' if n in TERM else ph(n)
 def ppe(n): return '('+pe(n)+')' if n in TERM else pe(n)
 imports='''use Rattle.std.proofs.Common.{◌≡◌, ◌∙◌, Bool, true, false, refl, ap}
 use Rattle.std.specs.Prelude.{◌||◌, ◌&&◌}
-'''+head+'''use Rattle.span_parser.specs.declared.class.Class.{Class}
-use Rattle.span_parser.specs.declared.class.Class.TheVariants as class
-use Rattle.span_parser.specs.declared.class.Sort.{Sort}
-use Rattle.span_parser.specs.Rules.{Rule, Empty, One, Then, Or, Many, Open, Tree, Nothing, Leaf, Pair, Left, Right, End, More, Nest, Fits, is_of, nullable}
-use Rattle.span_parser.specs.Grammar.{rule_of, inside, '''+', '.join(rn(n) for n in order)+'''}
-use Rattle.span_parser.proofs.Sound.{Has, Ends}
+'''+head+'''use Rattle.span_grammar.specs.declared.class.Class.{Class}
+use Rattle.span_grammar.specs.declared.class.Lexeme.{Lexeme}
+use Rattle.span_grammar.specs.declared.class.Class.TheVariants as class
+use Rattle.span_grammar.specs.declared.class.Sort.{Sort}
+use Rattle.span_grammar.specs.Rules.{Rule, Empty, One, Then, Or, Many, Open, Tree, Nothing, Leaf, Pair, Left, Right, End, More, Nest, Fits, is_of, is_class, of_class, nullable}
+use Rattle.span_grammar.specs.Grammar.{rule_of, inside, '''+', '.join(rn(n) for n in order)+'''}
+use Rattle.span_grammar.proofs.Sound.{Has, Ends}
 '''
 hv='''-- Each rule has a tree.
 use denote.Enum.Bare.{true_same}
 use Rattle.span_lexer.specs.contracts.token.Word.{the_type as word_type}
 use Rattle.span_lexer.specs.contracts.token.Sign.{the_type as sign_type}
-use Rattle.span_parser.specs.contracts.class.Context.{the_type as context_type}
+use Rattle.span_grammar.specs.contracts.class.Context.{the_type as context_type}
 '''+imports+'''
 -- a token of the sort
-abbrev sample : Sort → Class
-sample (sort.Word w) = class.Word w
-sample sort.Name = class.Name
-sample (sort.Context w) = class.Context w
-sample sort.AllOf = class.AllOf
-sample sort.Parameter = class.Parameter
-sample sort.Int = class.Int
-sample sort.Str = class.Str
-sample sort.Bytes = class.Bytes
-sample (sort.Sign s) = class.Sign s
-sample sort.Separator = class.Sign sign.Semicolon
-sample sort.LastSemicolon = class.LastSemicolon
-sample sort.AnySemicolon = class.LastSemicolon
+abbrev sample_class : Sort → Class
+sample_class (sort.Word w) = class.Word w
+sample_class sort.Name = class.Name
+sample_class (sort.Context w) = class.Context w
+sample_class sort.AllOf = class.AllOf
+sample_class sort.Parameter = class.Parameter
+sample_class sort.Int = class.Int
+sample_class sort.Str = class.Str
+sample_class sort.Bytes = class.Bytes
+sample_class (sort.Sign s) = class.Sign s
+sample_class sort.Separator = class.Sign sign.Semicolon
+sample_class sort.LastSemicolon = class.LastSemicolon
+sample_class sort.AnySemicolon = class.LastSemicolon
+
+abbrev sample : Sort → Lexeme
+sample s = of_class (sample_class s)
 
 sample_is : (s : Sort) → is_of s (sample s) ≡ true
-unfolding is_of
+unfolding is_class
 sample_is (sort.Word w) = true_same word_type w w refl
 sample_is sort.Name = refl
 sample_is (sort.Context w) = true_same context_type w w refl
@@ -507,7 +523,7 @@ sample_is sort.Separator = refl
 sample_is sort.LastSemicolon = refl
 sample_is sort.AnySemicolon = refl
 
-pub one_of : (s : Sort) → (t : Class) × (is_of s t ≡ true)
+pub one_of : (s : Sort) → (t : Lexeme) × (is_of s t ≡ true)
 one_of s = (sample s, sample_is s)
 
 pub one_has : (s : Sort) → Has inside (One s)
@@ -536,7 +552,7 @@ hv+='''pub inside_has : (p : Place) → Has inside (inside p)
 '''+''.join(f'inside_has place.{p} = {snake(INSIDE[p])}_has\n' for p in PLACES)
 open(base+'proofs/Having.antt','w').write(hv)
 en='''-- What was begun can be ended: each rule's parts have trees.
-'''+imports+'''use Rattle.span_parser.proofs.Having.{one_of, one_has, inside_has, '''+', '.join(snake(n)+'_has' for n in order)+'''}
+'''+imports+'''use Rattle.span_grammar.proofs.Having.{one_of, one_has, inside_has, '''+', '.join(snake(n)+'_has' for n in order)+'''}
 
 one_ends : (s : Sort) → Ends inside (One s)
 one_ends s = one_of s
@@ -560,8 +576,8 @@ open(base+'proofs/Ending.antt','w').write(en)
 # nullability
 def pn(n): return 'one_not' if n in TERM else f'{snake(n)}_nothing'
 nu='''-- Which rules may be nothing.
-'''+imports.replace('use Rattle.span_parser.proofs.Sound.{Has, Ends}\n','')+'''use Rattle.span_parser.specs.declared.grammar.Shape.TheVariants as shape
-use Rattle.span_parser.specs.Shapes.{shape_of}
+'''+imports.replace('use Rattle.span_grammar.proofs.Sound.{Has, Ends}\n','')+'''use Rattle.span_grammar.specs.declared.grammar.Shape.TheVariants as shape
+use Rattle.span_grammar.specs.Shapes.{shape_of}
 
 '''
 for n in order:
@@ -594,9 +610,9 @@ mx=max(rank(n) for n in order)
 print('max rank',mx)
 rk='''-- How high a part stands above those that it is made of.
 use Rattle.std.proofs.Common.{ℕ, ◌<◌, lit<}
-'''+head+'''use Rattle.span_parser.specs.declared.grammar.Shape.{Shape}
-use Rattle.span_parser.specs.declared.grammar.Shape.TheVariants as shape
-use Rattle.span_parser.specs.Shapes.{shape_of}
+'''+head+'''use Rattle.span_grammar.specs.declared.grammar.Shape.{Shape}
+use Rattle.span_grammar.specs.declared.grammar.Shape.TheVariants as shape
+use Rattle.span_grammar.specs.Shapes.{shape_of}
 
 unfoldable pub rank : Part → ℕ
 rank (part.Token s) = 0
@@ -680,12 +696,12 @@ def nothing(n): return 'refl' if n in TERM else f'{snake(n)}_nothing'
 def bl(b): return 'true' if b else 'false'
 tb="""-- The classes of tokens by number, and those that go on behind a place.
 use Rattle.std.proofs.Common.{ℕ, List, [], ◌∷◌}
-"""+head+"""use Rattle.span_parser.specs.declared.class.Class.{Class}
-use Rattle.span_parser.specs.declared.class.Class.TheVariants as class
-use Rattle.span_parser.specs.declared.class.Sort.{Sort}
+"""+head+"""use Rattle.span_grammar.specs.declared.class.Class.{Class}
+use Rattle.span_grammar.specs.declared.class.Class.TheVariants as class
+use Rattle.span_grammar.specs.declared.class.Sort.{Sort}
 use Rattle.span_lexer.specs.declared.token.Word.{Word}
 use Rattle.span_lexer.specs.declared.token.Sign.{Sign}
-use Rattle.span_parser.specs.declared.class.Context.{Context}
+use Rattle.span_grammar.specs.declared.class.Context.{Context}
 
 abbrev pub word_code : Word → ℕ
 """+''.join(f'word_code word.{w.capitalize()} = {CODE[("Word",w.capitalize())]}\n' for w in WORDS)+"""
@@ -739,17 +755,17 @@ abbrev pub place_codes : Place → List ℕ
 open(base+'proofs/Tables.antt','w').write(tb)
 fc="""-- One token decides every choice of the grammar.
 use Rattle.std.proofs.Common.{◌≡◌, Bool, true, false, refl, List, [], ◌∷◌}
-"""+head+"""use Rattle.span_parser.specs.Grammar.{rule_of, inside, """+', '.join(rn(n) for n in order)+"""}
-use Rattle.span_parser.specs.Rules.{Rule, One}
-use Rattle.span_parser.proofs.Tables
-use Rattle.span_parser.proofs.Tables.{sort_codes, place_codes}
-use Rattle.span_parser.proofs.Firsts.{"""+', '.join(f'{snake(n)}_first' for n in order)+"""}
-use Rattle.span_parser.proofs.Goings.{"""+', '.join(f'{snake(n)}_goes' for n in order)+"""}
-use Rattle.span_parser.proofs.Nothings.{"""+', '.join(snake(n)+'_nothing' for n in order)+"""}
-use Rattle.span_parser.proofs.Apart.{Facts, one_facts, empty_facts, then_facts, or_facts, many_facts, open_facts, st}
+"""+head+"""use Rattle.span_grammar.specs.Grammar.{rule_of, inside, """+', '.join(rn(n) for n in order)+"""}
+use Rattle.span_grammar.specs.Rules.{Rule, One}
+use Rattle.span_grammar.proofs.Tables
+use Rattle.span_grammar.proofs.Tables.{sort_codes, place_codes}
+use Rattle.span_grammar.proofs.Firsts.{"""+', '.join(f'{snake(n)}_first' for n in order)+"""}
+use Rattle.span_grammar.proofs.Goings.{"""+', '.join(f'{snake(n)}_goes' for n in order)+"""}
+use Rattle.span_grammar.proofs.Nothings.{"""+', '.join(snake(n)+'_nothing' for n in order)+"""}
+use Rattle.span_grammar.proofs.Apart.{Facts, one_facts, empty_facts, then_facts, or_facts, many_facts, open_facts, st}
 
 """
-fc=fc.replace("use Rattle.span_parser.proofs.Tables\n","")
+fc=fc.replace("use Rattle.span_grammar.proofs.Tables\n","")
 for n in order:
     k,a=D[n][0]
     f,g_=f'{snake(n)}_first',f'{snake(n)}_goes'
@@ -766,12 +782,12 @@ fc=fc.replace("List _","List ℕ").replace("refl, List, [], ◌∷◌}","refl, �
 open(base+'proofs/Facts.antt','w').write(fc)
 rp_='''-- What a part repeats is never nothing.
 use Rattle.std.proofs.Common.{◌≡◌, Bool, true, false, refl, ap, sym, subst}
-'''+head+'''use Rattle.span_parser.specs.declared.grammar.Shape.{Shape}
-use Rattle.span_parser.specs.declared.grammar.Shape.TheVariants as shape
-use Rattle.span_parser.specs.Rules.{nullable}
-use Rattle.span_parser.specs.Shapes.{shape_of}
-use Rattle.span_parser.specs.Grammar.{rule_of}
-use Rattle.span_parser.proofs.Nothings.{'''+', '.join(snake(n)+'_nothing' for n in sorted({D[m][0][1] for m in order if D[m][0][0]=='Many'}))+'''}
+'''+head+'''use Rattle.span_grammar.specs.declared.grammar.Shape.{Shape}
+use Rattle.span_grammar.specs.declared.grammar.Shape.TheVariants as shape
+use Rattle.span_grammar.specs.Rules.{nullable}
+use Rattle.span_grammar.specs.Shapes.{shape_of}
+use Rattle.span_grammar.specs.Grammar.{rule_of}
+use Rattle.span_grammar.proofs.Nothings.{'''+', '.join(snake(n)+'_nothing' for n in sorted({D[m][0][1] for m in order if D[m][0][0]=='Many'}))+'''}
 
 abbrev Repeats : Shape → Type 0
 Repeats (shape.Many a) = nullable (rule_of a) ≡ false
@@ -787,7 +803,7 @@ repeated_full p a h = subst Repeats (sym h) (repeats p)
 open(base+'proofs/Repeated.antt','w').write(rp_)
 cls2=open(base+'src/class.rt').read()
 cls2=cls2.replace('use span_lexer::token::{Sign, Word};','''ghost use Rattle.std.specs.Prelude.{◌≡◌};
-ghost use Rattle.span_parser.specs.Contexts as spelled;
+ghost use Rattle.span_grammar.specs.Contexts as spelled;
 
 use span_lexer::token::{Sign, Word};''')
 cls2+='''
@@ -809,9 +825,9 @@ open(base+'src/class.rt','w').write(cls2)
 cx='''-- How the words are spelled that are names and words of the grammar.
 use Rattle.std.specs.Prelude.{ℕ, List, ◌∷◌, [], codes, Option, Some, None, if◌then◌else◌}
 use Rattle.std.specs.Str.{bytes_eq, str_to_ascii_lowercase}
-use Rattle.span_parser.specs.declared.class.Context.{Context}
-use Rattle.span_parser.specs.declared.class.Context.TheVariants as context
-use Rattle.span_parser.specs.declared.class.TheConstants.{CONTEXTS}
+use Rattle.span_grammar.specs.declared.class.Context.{Context}
+use Rattle.span_grammar.specs.declared.class.Context.TheVariants as context
+use Rattle.span_grammar.specs.declared.class.TheConstants.{CONTEXTS}
 
 abbrev pub word : Context → List ℕ
 '''+''.join(f'word context.{c} = codes "{c.lower()}"\n' for c in CTX)+'''
@@ -827,8 +843,8 @@ open(base+'specs/Contexts.antt','w').write(cx)
 w=open(os.path.join(base,'..','span_lexer','proofs','Words.antt')).read()
 a=w.index('in_lower_case : (v'); b=w.index('equal_texts :')
 w=w[:a]+'in_lower_case : (v : Context) → str_to_ascii_lowercase (word v) ≡ word v\n'+''.join(f'in_lower_case context.{c} = refl\n' for c in CTX)+'\n'+w[b:]
-w=w.replace('use Rattle.span_lexer.specs.declared.token.Word.{Word}','use Rattle.span_parser.specs.declared.class.Context.{Context}').replace('use Rattle.span_lexer.specs.declared.token.Word.TheVariants as w','use Rattle.span_parser.specs.declared.class.Context.TheVariants as context').replace('use Rattle.span_lexer.specs.Spellings.','use Rattle.span_parser.specs.Contexts.').replace('List Word','List Context').replace(': Word)',': Context)').replace('-- Looking a reserved word up.','-- Looking a word up that is a name and a word of the grammar.')
+w=w.replace('use Rattle.span_lexer.specs.declared.token.Word.{Word}','use Rattle.span_grammar.specs.declared.class.Context.{Context}').replace('use Rattle.span_lexer.specs.declared.token.Word.TheVariants as w','use Rattle.span_grammar.specs.declared.class.Context.TheVariants as context').replace('use Rattle.span_lexer.specs.Spellings.','use Rattle.span_grammar.specs.Contexts.').replace('List Word','List Context').replace(': Word)',': Context)').replace('-- Looking a reserved word up.','-- Looking a word up that is a name and a word of the grammar.')
 i=w.index('pub if_true :'); j=w.index('in_lower_case :')
 w=w[:i]+w[j:]
-w=w.replace('use Rattle.span_parser.specs.Contexts.','use Rattle.span_lexer.proofs.Words.{if_true, if_false}\nuse Rattle.span_parser.specs.Contexts.')
+w=w.replace('use Rattle.span_grammar.specs.Contexts.','use Rattle.span_lexer.proofs.Words.{if_true, if_false}\nuse Rattle.span_grammar.specs.Contexts.')
 open(base+'proofs/Spelled.antt','w').write(w)

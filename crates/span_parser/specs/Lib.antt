@@ -1,9 +1,6 @@
-pub mod Classes
-pub mod Contexts
-pub mod Goals
-pub mod Grammar
-pub mod Judged
-pub mod Reading
-pub mod Rules
-pub mod Shapes
-pub mod Texts
+pub mod Expressions
+pub mod Nests
+pub mod Parsed
+pub mod Pieces
+pub mod Queries
+pub mod Subqueries

@@ -1,11 +1,15 @@
-//! The grammar of queries and of schema texts, and whether a text is in it.
+//! Queries, read from texts as trees.
 #![tactic(auto)]
 
-pub mod class;
-pub mod classify;
-pub mod grammar;
-pub mod judge;
-pub mod reader;
+pub mod clause;
+mod column;
+mod expression;
+pub mod fault;
+mod operator;
+pub mod parse;
 #[cfg(test)]
-mod tests;
-pub mod text;
+mod parse_tests;
+mod query;
+mod reader;
+pub mod token;
+pub mod tree;

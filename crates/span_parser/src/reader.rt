@@ -1,137 +1,244 @@
-//! Reading the classes of a text's tokens by the grammar.
-//!
-//! One token decides each choice, so that no token is read twice. What recurses goes down the grammar, and begins again at its
-//! top only behind an opening, of which at most `DEEPEST` are nested.
-ghost use Rattle.std.specs.Prelude.{◌≡◌, ◌≤◌, List};
-ghost use Rattle.span_parser.specs.Rules.{limit, is_of, nullable, first, starts};
-ghost use Rattle.span_parser.specs.Grammar.{rule_of};
-ghost use Rattle.span_parser.specs.Reading.{Follows, part_read, sort_read};
+//! What reads expressions behind an opening, and what stands inside an opening.
+ghost use Rattle.std.specs.Prelude.{◌≡◌, ◌<◌, ◌≤◌, ◌-◌};
+ghost use Rattle.span_grammar.specs.Rules.{limit};
+ghost use Rattle.span_parser.specs.Pieces.{Gives, each};
+ghost use Rattle.span_parser.specs.Expressions as spec;
+ghost use Rattle.span_parser.specs.Nests.{Nests, inner_at};
 
-use super::class::{Class, Sort};
-use super::grammar::{Part, Shape, inside, made_of};
-use span_lexer::token::Sign;
+use super::fault::Fault;
+use super::operator::first_and;
+use super::token::{next_is, take};
+use super::tree::{Arm, Expr, Spelling};
+use span_grammar::class::{Lexeme, Sort};
+use span_grammar::grammar::Part;
+use span_grammar::reader::goes_on;
+use span_lexer::token::{Sign, Word};
+use sqlite_items::{Boxed, Items};
+use std::alloc::Global;
 
-/// How many openings may be nested.
-pub const DEEPEST: usize = 32;
-
-/// Why tokens are not read.
+/// What may stand behind an opening.
 #[derive(Clone, Copy, Debug, PartialEq, Eq)]
-pub enum Stop {
-    /// With this token, or the end, no tree goes on.
-    Syntax,
-    /// One opening too many is nested.
-    TooDeep,
+pub(crate) enum Level {
+    Expression,
+    /// Behind NOT.
+    Negated,
+    /// Behind a minus.
+    Signed,
 }
 
-/// Whether a token is what a rule asks for.
-#[tactic(auto, unfolding(crate::specs::Rules::is_of))]
-fn is_class(sort: Sort, class: Class) -> bool
-    ensures { result ≡ is_of sort class }
-{
-    match (sort, class) {
-        (Sort::Word(asked), Class::Word(found)) => asked == found,
-        (Sort::Name, Class::Name) => true,
-        (Sort::Name, Class::Context(_)) => true,
-        (Sort::Context(asked), Class::Context(found)) => asked == found,
-        (Sort::AllOf, Class::AllOf) => true,
-        (Sort::Parameter, Class::Parameter) => true,
-        (Sort::Int, Class::Int) => true,
-        (Sort::Str, Class::Str) => true,
-        (Sort::Bytes, Class::Bytes) => true,
-        (Sort::Sign(asked), Class::Sign(found)) => asked == found,
-        (Sort::Separator, Class::Sign(found)) => Sign::Semicolon == found,
-        (Sort::LastSemicolon, Class::LastSemicolon) => true,
-        (Sort::AnySemicolon, Class::Sign(found)) => Sign::Semicolon == found,
-        (Sort::AnySemicolon, Class::LastSemicolon) => true,
-        _ => false,
+/// What reads expressions where so many openings are left.
+#[derive(Clone, Copy)]
+pub(crate) struct Reader<'t, F> {
+    pub alloc: Global,
+    /// The bytes of the text.
+    pub text: &'t [u8],
+    pub left: usize,
+    /// Reads behind an opening.
+    pub read: F,
+}
+
+impl<
+    F: for<'a> Fn(Global, &[u8], usize, Level, &'a [Lexeme]) -> Result<(Expr, &'a [Lexeme]), Fault>,
+> Reader<'_, F> {
+    /// What stands behind an opening.
+    #[tactic(auto, using(crate::proofs::Levels::level_steps))]
+    pub(crate) fn behind<'a>(
+        &self,
+        level: Level,
+        tokens: &'a [Lexeme],
+    ) -> Result<(Expr, &'a [Lexeme]), Fault>
+        requires nests { Nests self.now.text.now self.now.left (F.pre self.now.read) (F.post self.now.read) }
+        requires limited { self.now.left ≤ limit }
+        requires deeper { 0 < self.now.left }
+        ensures { Gives result ((inner_at level (spec.behind self.now.text.now self.now.left)).read tokens.now) }
+    {
+        (self.read)(self.alloc, self.text, self.left - 1, level, tokens)
     }
-}
 
-/// Whether a part may be nothing.
-#[tactic(auto, using(crate::proofs::Steps::nothing_steps))]
-fn may_be_nothing(part: Part) -> bool
-    ensures { result ≡ nullable (rule_of part) }
-{
-    match made_of(part) {
-        Shape::Empty => true,
-        Shape::One(_) => false,
-        Shape::Then(first, second) => may_be_nothing(first) && may_be_nothing(second),
-        Shape::Or(first, second) => may_be_nothing(first) || may_be_nothing(second),
-        Shape::Many(_) => true,
-        Shape::Open(_, _) => false,
+    /// `, expr`
+    #[tactic(auto, unfolding(crate::specs::Expressions::list_more))]
+    fn list_more<'a>(&self, tokens: &'a [Lexeme]) -> Result<(Expr, &'a [Lexeme]), Fault>
+        requires nests { Nests self.now.text.now self.now.left (F.pre self.now.read) (F.post self.now.read) }
+        requires limited { self.now.left ≤ limit }
+        requires deeper { 0 < self.now.left }
+        ensures { Gives result ((spec.list_more (spec.behind self.now.text.now self.now.left).expression).read tokens.now) }
+    {
+        let (_, rest) = take(Sort::Sign(Sign::Comma), tokens)?;
+        self.behind(Level::Expression, rest)
     }
-}
 
-/// Whether a part may begin with a token.
-#[tactic(auto, using(crate::proofs::Steps::begin_steps))]
-fn begins(part: Part, class: Class) -> bool
-    ensures { result ≡ first (rule_of part) class }
-{
-    match made_of(part) {
-        Shape::Empty => false,
-        Shape::One(sort) => is_class(sort, class),
-        Shape::Then(first, second) => begins(first, class)
-            || (may_be_nothing(first) && begins(second, class)),
-        Shape::Or(first, second) => begins(first, class) || begins(second, class),
-        Shape::Many(repeated) => begins(repeated, class),
-        Shape::Open(sort, _) => is_class(sort, class),
-    }
-}
-
-/// Whether a part may begin with the token that comes; no part begins at the end.
-fn goes_on(part: Part, tokens: &[Class]) -> bool
-    ensures { result ≡ starts (rule_of part) tokens.now }
-{
-    match tokens.first() {
-        Some(class) => begins(part, *class),
-        None => false,
-    }
-}
-
-/// What is behind a token of a sort.
-#[tactic(auto, unfolding(crate::specs::Reading::sort_read))]
-fn token(sort: Sort, tokens: &[Class]) -> Result<&[Class], Stop>
-    ensures { Follows result (sort_read sort tokens.now) }
-{
-    match tokens.split_first() {
-        Some((class, rest)) if is_class(sort, *class) => Ok(rest),
-        _ => Err(Stop::Syntax),
-    }
-}
-
-/// What is behind a part, with so many openings left.
-#[tactic(auto, using(crate::proofs::Steps::read_steps))]
-pub(crate) fn read(part: Part, left: usize, tokens: &[Class]) -> Result<&[Class], Stop>
-    requires { left ≤ limit }
-    ensures { Follows result (part_read left part tokens.now) }
-{
-    match made_of(part) {
-        Shape::Empty => Ok(tokens),
-        Shape::One(sort) => token(sort, tokens),
-        Shape::Then(first, second) => {
-            let rest = read(first, left, tokens)?;
-            read(second, left, rest)
+    /// `{"," expr}`
+    #[tactic(auto, using(crate::proofs::Shrinking::loop_steps))]
+    fn list_rest<'a>(&self, tokens: &'a [Lexeme]) -> Result<(Items<Expr>, &'a [Lexeme]), Fault>
+        requires nests { Nests self.now.text.now self.now.left (F.pre self.now.read) (F.post self.now.read) }
+        requires limited { self.now.left ≤ limit }
+        requires deeper { 0 < self.now.left }
+        ensures { Gives result ((each Part.ListMore (spec.list_more (spec.behind self.now.text.now self.now.left).expression)).read tokens.now) }
+    {
+        let mut found = Items::new(self.alloc);
+        let mut rest = tokens;
+        while goes_on(Part::ListMore, rest) {
+            let (next, behind) = self.list_more(rest)?;
+            found.push(next)?;
+            rest = behind;
         }
-        Shape::Or(first, second) => {
-            if goes_on(first, tokens) {
-                read(first, left, tokens)
-            } else {
-                read(second, left, tokens)
-            }
+        Ok((found, rest))
+    }
+
+    /// Expressions, parted by commas.
+    #[tactic(auto, unfolding(crate::specs::Expressions::list))]
+    pub(crate) fn list<'a>(
+        &self,
+        tokens: &'a [Lexeme],
+    ) -> Result<(Items<Expr>, &'a [Lexeme]), Fault>
+        requires nests { Nests self.now.text.now self.now.left (F.pre self.now.read) (F.post self.now.read) }
+        requires limited { self.now.left ≤ limit }
+        requires deeper { 0 < self.now.left }
+        ensures { Gives result ((spec.list (spec.behind self.now.text.now self.now.left).expression).read tokens.now) }
+    {
+        let (first, rest) = self.behind(Level::Expression, tokens)?;
+        let (more, rest) = self.list_rest(rest)?;
+        Ok((first_and(self.alloc, first, more)?, rest))
+    }
+
+    /// `WHEN expr THEN expr`
+    #[tactic(auto, unfolding(crate::specs::Expressions::when))]
+    fn when<'a>(&self, tokens: &'a [Lexeme]) -> Result<(Arm, &'a [Lexeme]), Fault>
+        requires nests { Nests self.now.text.now self.now.left (F.pre self.now.read) (F.post self.now.read) }
+        requires limited { self.now.left ≤ limit }
+        requires deeper { 0 < self.now.left }
+        ensures { Gives result ((spec.when (spec.behind self.now.text.now self.now.left).expression).read tokens.now) }
+    {
+        let (_, rest) = take(Sort::Word(Word::When), tokens)?;
+        let (condition, rest) = self.behind(Level::Expression, rest)?;
+        let (_, rest) = take(Sort::Word(Word::Then), rest)?;
+        let (value, rest) = self.behind(Level::Expression, rest)?;
+        Ok((Arm { condition, value }, rest))
+    }
+
+    /// `{WHEN expr THEN expr}`
+    #[tactic(auto, using(crate::proofs::Shrinking::loop_steps))]
+    fn when_rest<'a>(&self, tokens: &'a [Lexeme]) -> Result<(Items<Arm>, &'a [Lexeme]), Fault>
+        requires nests { Nests self.now.text.now self.now.left (F.pre self.now.read) (F.post self.now.read) }
+        requires limited { self.now.left ≤ limit }
+        requires deeper { 0 < self.now.left }
+        ensures { Gives result ((each Part.When (spec.when (spec.behind self.now.text.now self.now.left).expression)).read tokens.now) }
+    {
+        let mut found = Items::new(self.alloc);
+        let mut rest = tokens;
+        while goes_on(Part::When, rest) {
+            let (next, behind) = self.when(rest)?;
+            found.push(next)?;
+            rest = behind;
         }
-        Shape::Many(repeated) => {
-            let mut rest = tokens;
-            while goes_on(repeated, rest) {
-                rest = read(repeated, left, rest)?;
-            }
-            Ok(rest)
+        Ok((found, rest))
+    }
+
+    /// The operand of a CASE, if it has one.
+    #[tactic(auto, unfolding(crate::specs::Expressions::case_operand))]
+    fn case_operand<'a>(
+        &self,
+        tokens: &'a [Lexeme],
+    ) -> Result<(Option<Boxed<Expr>>, &'a [Lexeme]), Fault>
+        requires nests { Nests self.now.text.now self.now.left (F.pre self.now.read) (F.post self.now.read) }
+        requires limited { self.now.left ≤ limit }
+        requires deeper { 0 < self.now.left }
+        ensures { Gives result ((spec.case_operand (spec.behind self.now.text.now self.now.left).expression).read tokens.now) }
+    {
+        if !goes_on(Part::Expression, tokens) {
+            return Ok((None, tokens));
         }
-        Shape::Open(sort, place) => {
-            let rest = token(sort, tokens)?;
-            if left == 0 {
-                return Err(Stop::TooDeep);
-            }
-            read(inside(place), left - 1, rest)
+        let (operand, rest) = self.behind(Level::Expression, tokens)?;
+        Ok((Some(Boxed::new(self.alloc, operand)?), rest))
+    }
+
+    /// `[ELSE expr]`
+    #[tactic(auto, unfolding(crate::specs::Expressions::case_else))]
+    fn case_else<'a>(
+        &self,
+        tokens: &'a [Lexeme],
+    ) -> Result<(Option<Boxed<Expr>>, &'a [Lexeme]), Fault>
+        requires nests { Nests self.now.text.now self.now.left (F.pre self.now.read) (F.post self.now.read) }
+        requires limited { self.now.left ≤ limit }
+        requires deeper { 0 < self.now.left }
+        ensures { Gives result ((spec.case_else (spec.behind self.now.text.now self.now.left).expression).read tokens.now) }
+    {
+        if !goes_on(Part::Else, tokens) {
+            return Ok((None, tokens));
         }
+        let (_, rest) = take(Sort::Word(Word::Else), tokens)?;
+        let (value, rest) = self.behind(Level::Expression, rest)?;
+        Ok((Some(Boxed::new(self.alloc, value)?), rest))
+    }
+
+    /// What ends a CASE, behind its arms.
+    #[tactic(auto, using(crate::specs::declared::tree::Expr::the_lemmas), unfolding(crate::specs::Expressions::case_end))]
+    fn case_end<'a>(
+        &self,
+        operand: Option<Boxed<Expr>>,
+        arms: Items<Arm>,
+        tokens: &'a [Lexeme],
+    ) -> Result<(Expr, &'a [Lexeme]), Fault>
+        requires nests { Nests self.now.text.now self.now.left (F.pre self.now.read) (F.post self.now.read) }
+        requires limited { self.now.left ≤ limit }
+        requires deeper { 0 < self.now.left }
+        ensures { Gives result ((spec.case_end (spec.behind self.now.text.now self.now.left).expression operand arms).read tokens.now) }
+    {
+        let (otherwise, rest) = self.case_else(tokens)?;
+        let (_, rest) = take(Sort::Word(Word::End), rest)?;
+        Ok((Expr::Case(operand, arms, otherwise), rest))
+    }
+
+    /// What stands behind CASE and its operand.
+    #[tactic(auto, unfolding(crate::specs::Expressions::case_arms))]
+    fn case_arms<'a>(
+        &self,
+        operand: Option<Boxed<Expr>>,
+        tokens: &'a [Lexeme],
+    ) -> Result<(Expr, &'a [Lexeme]), Fault>
+        requires nests { Nests self.now.text.now self.now.left (F.pre self.now.read) (F.post self.now.read) }
+        requires limited { self.now.left ≤ limit }
+        requires deeper { 0 < self.now.left }
+        ensures { Gives result ((spec.case_arms (spec.behind self.now.text.now self.now.left).expression operand).read tokens.now) }
+    {
+        let (arm, rest) = self.when(tokens)?;
+        let (more, rest) = self.when_rest(rest)?;
+        let arms = first_and(self.alloc, arm, more)?;
+        self.case_end(operand, arms, rest)
+    }
+
+    /// What stands behind CASE.
+    #[tactic(auto, unfolding(crate::specs::Expressions::in_case))]
+    pub(crate) fn in_case<'a>(&self, tokens: &'a [Lexeme]) -> Result<(Expr, &'a [Lexeme]), Fault>
+        requires nests { Nests self.now.text.now self.now.left (F.pre self.now.read) (F.post self.now.read) }
+        requires limited { self.now.left ≤ limit }
+        requires deeper { 0 < self.now.left }
+        ensures { Gives result ((spec.in_case (spec.behind self.now.text.now self.now.left).expression).read tokens.now) }
+    {
+        let (operand, rest) = self.case_operand(tokens)?;
+        self.case_arms(operand, rest)
+    }
+
+    /// What stands between the parentheses of a call.
+    #[tactic(auto, unfolding(crate::specs::Expressions::argument_list))]
+    pub(crate) fn argument_list<'a>(
+        &self,
+        name: Spelling,
+        tokens: &'a [Lexeme],
+    ) -> Result<(Expr, &'a [Lexeme]), Fault>
+        requires nests { Nests self.now.text.now self.now.left (F.pre self.now.read) (F.post self.now.read) }
+        requires limited { self.now.left ≤ limit }
+        requires deeper { 0 < self.now.left }
+        ensures { Gives result ((spec.argument_list (spec.behind self.now.text.now self.now.left).expression name).read tokens.now) }
+    {
+        if next_is(Sort::Sign(Sign::Star), tokens) {
+            let (_, rest) = take(Sort::Sign(Sign::Star), tokens)?;
+            return Ok((Expr::CallStar(name), rest));
+        }
+        if goes_on(Part::List, tokens) {
+            let (operands, rest) = self.list(tokens)?;
+            return Ok((Expr::Call(name, operands), rest));
+        }
+        Ok((Expr::Call(name, Items::new(self.alloc)), tokens))
     }
 }

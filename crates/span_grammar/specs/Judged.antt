@@ -1,0 +1,51 @@
+-- Which texts are in the grammar, and how each other text is refused.
+use Rattle.std.specs.Prelude.{◌≡◌, ◌⊎◌, ℕ, ◌<◌, ◌≤◌, length, List, Result, Err}
+use Rattle.span_value.specs.declared.refusal.Refusal.{Refusal}
+use Rattle.span_value.specs.declared.refusal.Refusal.TheVariants as refusal
+use Rattle.span_lexer.specs.declared.lexer.TheConstants.{LONGEST_TEXT}
+use Rattle.span_lexer.specs.Tokens.{Item, AreItems, text_of, tokens_of}
+use Rattle.span_grammar.specs.declared.class.Lexeme.{Lexeme}
+use Rattle.span_grammar.specs.declared.judge.Goal.{Goal}
+use Rattle.span_grammar.specs.Rules.{Tree}
+use Rattle.span_grammar.specs.Texts.{HasTree, IsWrong, IsTooDeep}
+use Rattle.span_grammar.specs.Grammar.{inside}
+use Rattle.span_grammar.specs.Goals.{goal_rule}
+use Rattle.span_grammar.specs.Classes.{lexemes_of}
+
+-- the text is made of these items, and is not too long
+pub record IsMadeOf (text : List ℕ) (items : List Item) : Type 0 where
+  pub are : AreItems items
+  pub spells : text ≡ text_of items
+  pub short : length text ≤ LONGEST_TEXT
+
+-- the tokens among them with their classes
+abbrev pub lexemes_in : List ℕ → List Item → List Lexeme
+lexemes_in text items = lexemes_of text (tokens_of 0 items)
+
+-- the text is in the grammar
+pub record IsText (goal : Goal) (text : List ℕ) : Type 0 where
+  pub items : List Item
+  pub made : IsMadeOf text items
+  pub tree : Tree
+  pub has : HasTree inside (goal_rule goal) (lexemes_in text items) tree
+
+-- what a refusal says of a list of tokens
+abbrev pub IsJudged : Goal → List Lexeme → Refusal → Type 0
+IsJudged goal tokens refusal.Syntax = IsWrong inside (goal_rule goal) tokens
+IsJudged goal tokens refusal.TooDeep = IsTooDeep inside (goal_rule goal) tokens
+IsJudged goal tokens refusal.OutOfMemory = Unit {0}
+IsJudged goal tokens other = ⊥
+
+-- what a refusal says of a text: it is too long; else it is made of no items; else no tree goes on at a token, or a token is an
+-- opening that is too deep, whichever stands first; or memory ran out
+abbrev pub IsRefused : Goal → List ℕ → Refusal → Type 0
+IsRefused goal text refusal.TextTooLong = LONGEST_TEXT < length text
+IsRefused goal text refusal.BadToken = (length text ≤ LONGEST_TEXT) × ((items : List Item) → AreItems items → text ≡ text_of items → ⊥)
+IsRefused goal text refusal.Syntax = (items : List Item) × IsMadeOf text items × IsWrong inside (goal_rule goal) (lexemes_in text items)
+IsRefused goal text refusal.TooDeep = (items : List Item) × IsMadeOf text items × IsTooDeep inside (goal_rule goal) (lexemes_in text items)
+IsRefused goal text refusal.OutOfMemory = Unit {0}
+IsRefused goal text other = ⊥
+
+-- this, unless memory ran out
+abbrev pub OrNoMemory : Result (Unit {0}) Refusal → Result (Unit {0}) Refusal → Type 0
+OrNoMemory result wanted = (result ≡ wanted) ⊎ (result ≡ Err refusal.OutOfMemory)

@@ -1,0 +1,129 @@
+//! A text's tokens with their classes.
+ghost use Rattle.std.specs.Prelude.{◌≡◌, ◌-◌, take, drop, IfOk};
+ghost use Rattle.span_grammar.specs.Contexts.{context_named, spelled_by};
+ghost use Rattle.span_grammar.specs.Classes as spec;
+
+use super::class::{CONTEXTS, Class, Context, Lexeme};
+use span_lexer::token::{Sign, Token, TokenKind};
+use std::alloc::{AllocError, Global};
+
+/// The tokens with their classes, in order, of a text of these bytes.
+pub fn lexemes(alloc: Global, text: &[u8], tokens: &[Token]) -> Result<Vec<Lexeme>, AllocError>
+    ensures { IfOk result (λ found. found.items ≡ spec.lexemes_of text.now tokens.now) }
+{
+    let mut found = Vec::new(alloc);
+    let mut rest = tokens;
+    while let Some((token, behind)) = rest.split_first() {
+        let class = class_at(text, token, behind);
+        found.push(Lexeme {
+            class,
+            token: *token,
+        })?;
+        rest = behind;
+    }
+    Ok(found)
+}
+
+/// The class of a token, by the tokens behind it.
+fn class_at(text: &[u8], token: &Token, behind: &[Token]) -> Class
+    ensures { result ≡ spec.class_at text.now token.now behind.now }
+{
+    match token.kind {
+        TokenKind::Word(word) => Class::Word(word),
+        TokenKind::Name => {
+            if starts_all_of(behind) {
+                Class::AllOf
+            } else {
+                name_class(spelled(text, token))
+            }
+        }
+        TokenKind::Parameter => Class::Parameter,
+        TokenKind::Int(_) => Class::Int,
+        TokenKind::Str => Class::Str,
+        TokenKind::Bytes => Class::Bytes,
+        TokenKind::Sign(Sign::Semicolon) => {
+            if behind.is_empty() {
+                Class::LastSemicolon
+            } else {
+                Class::Sign(Sign::Semicolon)
+            }
+        }
+        TokenKind::Sign(sign) => Class::Sign(sign),
+    }
+}
+
+/// Whether `.` and `*` stand first.
+fn starts_all_of(tokens: &[Token]) -> bool
+    ensures { result ≡ spec.starts_all_of tokens.now }
+{
+    match tokens {
+        [first, second, ..] => is_dot(first.kind) && is_star(second.kind),
+        _ => false,
+    }
+}
+
+fn is_dot(kind: TokenKind) -> bool
+    ensures { result ≡ spec.is_dot kind }
+{
+    matches!(kind, TokenKind::Sign(Sign::Dot))
+}
+
+fn is_star(kind: TokenKind) -> bool
+    ensures { result ≡ spec.is_star kind }
+{
+    matches!(kind, TokenKind::Sign(Sign::Star))
+}
+
+/// The class of a name, which may be a word of the grammar.
+fn name_class(bytes: &[u8]) -> Class
+    ensures { result ≡ spec.name_class (context_named bytes.now) }
+{
+    match first_spelled(&CONTEXTS, bytes) {
+        Some(word) => Class::Context(word),
+        None => Class::Name,
+    }
+}
+
+/// The first of the words that the bytes spell in any case.
+fn first_spelled(words: &[Context], bytes: &[u8]) -> Option<Context>
+    ensures { result ≡ spelled_by words.now bytes.now }
+{
+    for word in words {
+        if bytes.eq_ignore_ascii_case(word.spelling().as_bytes()) {
+            return Some(*word);
+        }
+    }
+    None
+}
+
+/// The bytes of a token.
+pub fn spelled<'a>(text: &'a [u8], token: &Token) -> &'a [u8]
+    ensures { result.now ≡ spec.spelled text.now token.now }
+{
+    front(
+        behind(text, token.start),
+        token.end.saturating_sub(token.start),
+    )
+}
+
+/// The bytes from a place on, as far as there are.
+fn behind(bytes: &[u8], place: usize) -> &[u8]
+    ensures { result.now ≡ drop place bytes.now }
+{
+    if place <= bytes.len() {
+        &bytes[place..]
+    } else {
+        &[]
+    }
+}
+
+/// So many bytes, as far as there are.
+fn front(bytes: &[u8], count: usize) -> &[u8]
+    ensures { result.now ≡ take count bytes.now }
+{
+    if count <= bytes.len() {
+        &bytes[..count]
+    } else {
+        bytes
+    }
+}

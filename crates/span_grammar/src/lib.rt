@@ -1,0 +1,11 @@
+//! The grammar of queries and of schema texts, and whether a text is in it.
+#![tactic(auto)]
+
+pub mod class;
+pub mod classify;
+pub mod grammar;
+pub mod judge;
+pub mod reader;
+#[cfg(test)]
+mod tests;
+pub mod text;

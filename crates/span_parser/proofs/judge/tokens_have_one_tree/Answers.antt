@@ -1,5 +1,0 @@
-use Rattle.span_parser.proofs.Verdicts.{one}
-use Rattle.span_parser.proofs.judge.tokens_have_one_tree.Goals as goal
-
-pub returns : goal.returns
-returns c = one c.args.goal c.args.tokens.now

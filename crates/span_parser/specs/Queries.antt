@@ -1,0 +1,250 @@
+-- Queries: the query that each rule of the grammar stands for.
+use Rattle.std.specs.Prelude.{ℕ, zero, suc, Bool, true, false, List, [], ◌∷◌, Option, Some, None, Err}
+use Rattle.span_lexer.specs.declared.token.Word.TheVariants as word
+use Rattle.span_lexer.specs.declared.token.Sign.TheVariants as sign
+use Rattle.span_grammar.specs.declared.class.Context.TheVariants as context
+use Rattle.span_grammar.specs.declared.class.Sort.TheVariants as sort
+use Rattle.span_grammar.specs.declared.grammar.Part.TheVariants as part
+use Rattle.span_parser.specs.declared.fault.Fault.TheVariants as fault
+use Rattle.span_parser.specs.declared.tree.Span.{Span}
+use Rattle.span_parser.specs.declared.tree.Spelling.{Spelling}
+use Rattle.span_parser.specs.declared.tree.Column.{Column}
+use Rattle.span_parser.specs.declared.tree.Expr.{Expr}
+use Rattle.span_parser.specs.declared.tree.Output.{Output}
+use Rattle.span_parser.specs.declared.tree.Output.TheVariants as shown
+use Rattle.span_parser.specs.declared.tree.SortKey.{SortKey}
+use Rattle.span_parser.specs.declared.tree.SortColumn.{SortColumn}
+use Rattle.span_parser.specs.declared.tree.SortColumn.TheVariants as by
+use Rattle.span_parser.specs.declared.tree.Limit.{Limit}
+use Rattle.span_parser.specs.declared.tree.Item.{Item}
+use Rattle.span_parser.specs.declared.tree.Item.TheVariants as source
+use Rattle.span_parser.specs.declared.tree.Join.{Join, roll-Join}
+use Rattle.span_parser.specs.declared.tree.Block.{Block, roll-Block}
+use Rattle.span_parser.specs.declared.tree.Query.{Query, roll-Query}
+use Rattle.span_parser.specs.Pieces.{Piece, token, nothing, ◌<$>◌, ◌>>=◌, ◌>>◌, either, optional, each, opening}
+use Rattle.span_parser.specs.Expressions.{value_of, integer_of, spelling, column, closed, behind, expression}
+
+-- ---- names
+
+unfoldable pub as_name : List ℕ → Piece Spelling
+as_name text = token (sort.Word word.As) >> spelling text sort.Name
+
+-- [[AS] name]
+unfoldable pub alias : List ℕ → Piece (Option Spelling)
+alias text = either part.AsName (Some <$> as_name text) (optional (part.Token sort.Name) (spelling text sort.Name))
+
+-- [AS] name
+unfoldable pub required_alias : List ℕ → Piece Spelling
+required_alias text = either part.AsName (as_name text) (spelling text sort.Name)
+
+-- ---- ORDER BY and LIMIT
+
+-- [ASC | DESC]: whether it descends
+unfoldable pub direction : Piece Bool
+direction =
+    either (part.Token (sort.Word word.Asc)) ((λ t. false) <$> token (sort.Word word.Asc))
+    (either (part.Token (sort.Word word.Desc)) ((λ t. true) <$> token (sort.Word word.Desc)) (nothing false))
+
+unfoldable pub sort_column : List ℕ → Piece SortColumn
+sort_column text = either (part.Token sort.Name) (by.Name <$> spelling text sort.Name) ((λ t. by.Place (integer_of false t)) <$> token sort.Int)
+
+unfoldable pub sort_key : List ℕ → Piece SortKey
+sort_key text = do
+  column ← sort_column text
+  (λ is_descending. record { column = column; is_descending = is_descending }) <$> direction
+
+unfoldable pub sort_key_more : List ℕ → Piece SortKey
+sort_key_more text = token (sort.Sign sign.Comma) >> sort_key text
+
+unfoldable pub sort_keys : List ℕ → Piece (List SortKey)
+sort_keys text = sort_key text >>= (λ first. (λ more. first ∷ more) <$> each part.SortKeyMore (sort_key_more text))
+
+unfoldable pub order_by : List ℕ → Piece (List SortKey)
+order_by text = token (sort.Word word.Order) >> (token (sort.Word word.By) >> sort_keys text)
+
+unfoldable pub maybe_order_by : List ℕ → Piece (List SortKey)
+maybe_order_by text = either part.OrderBy (order_by text) (nothing [])
+
+unfoldable pub skip : Piece ℕ
+skip = token (sort.Context context.Offset) >> ((λ t. value_of t.token.kind) <$> token sort.Int)
+
+unfoldable pub maybe_skip : Piece ℕ
+maybe_skip = either part.Skip skip (nothing 0)
+
+unfoldable pub limit_clause : Piece Limit
+limit_clause = do
+  token (sort.Word word.Limit)
+  rows ← token sort.Int
+  (λ skip. record { rows = value_of rows.token.kind; skip = skip }) <$> maybe_skip
+
+unfoldable pub maybe_limit : Piece (Option Limit)
+maybe_limit = optional part.Limit limit_clause
+
+-- ---- the clauses of a block
+
+-- [ALL | DISTINCT]: whether it is DISTINCT
+unfoldable pub quantifier : Piece Bool
+quantifier =
+    either (part.Token (sort.Word word.All)) ((λ t. false) <$> token (sort.Word word.All))
+    (either (part.Token (sort.Word word.Distinct)) ((λ t. true) <$> token (sort.Word word.Distinct)) (nothing false))
+
+unfoldable pub column_more : List ℕ → Piece Column
+column_more text = token (sort.Sign sign.Comma) >> column text
+
+unfoldable pub columns : List ℕ → Piece (List Column)
+columns text = column text >>= (λ first. (λ more. first ∷ more) <$> each part.ColumnMore (column_more text))
+
+unfoldable pub group_by : List ℕ → Piece (List Column)
+group_by text = token (sort.Word word.Group) >> (token (sort.Word word.By) >> columns text)
+
+unfoldable pub maybe_group_by : List ℕ → Piece (List Column)
+maybe_group_by text = either part.GroupBy (group_by text) (nothing [])
+
+unfoldable pub all_of_table : List ℕ → Piece Output
+all_of_table text = do
+  name ← spelling text sort.AllOf
+  token (sort.Sign sign.Dot)
+  (λ t. shown.AllOf name) <$> token (sort.Sign sign.Star)
+
+unfoldable pub maybe_outer : Piece Bool
+maybe_outer = either (part.Token (sort.Word word.Outer)) ((λ t. true) <$> token (sort.Word word.Outer)) (nothing false)
+
+unfoldable pub left_join : Piece Bool
+left_join = do
+  token (sort.Word word.Left)
+  maybe_outer
+  (λ t. true) <$> token (sort.Word word.Join)
+
+unfoldable pub inner_join : Piece Bool
+inner_join = token (sort.Word word.Inner) >> ((λ t. false) <$> token (sort.Word word.Join))
+
+-- whether it is a LEFT JOIN
+unfoldable pub join_kind : Piece Bool
+join_kind =
+    either part.InnerJoin inner_join
+    (either (part.Token (sort.Word word.Join)) ((λ t. false) <$> token (sort.Word word.Join))
+    left_join)
+
+unfoldable pub maybe_semicolon : Piece Bool
+maybe_semicolon = either (part.Token sort.AnySemicolon) ((λ t. true) <$> token sort.AnySemicolon) (nothing false)
+
+-- ---- what the rules of queries make
+
+unfoldable pub join_of : Bool → Item → Expr → Join
+join_of is_left item on = roll-Join (record { is_left = is_left; item = item; on = on })
+
+unfoldable pub block_of : Bool → List Output → Item → List Join → Option Expr → List Column → Option Expr → Block
+block_of is_distinct shows from joins filter groups having = roll-Block (record { is_distinct = is_distinct; outputs = shows; from = from; joins = joins; filter = filter; groups = groups; having = having })
+
+unfoldable pub query_of : Block → List Block → List SortKey → Option Limit → Query
+query_of first others order limit = roll-Query (record { first = first; others = others; order = order; limit = limit })
+
+-- ---- what has expressions in it; the text, and how many openings are left
+
+module _ (text : List ℕ) (left : ℕ) where
+  abbrev pub expr : Piece Expr
+  expr = expression text left (behind text left)
+
+  unfoldable pub where_clause : Piece Expr
+  where_clause = token (sort.Word word.Where) >> expr
+
+  unfoldable pub maybe_where : Piece (Option Expr)
+  maybe_where = optional part.Where where_clause
+
+  unfoldable pub having : Piece Expr
+  having = token (sort.Word word.Having) >> expr
+
+  unfoldable pub maybe_having : Piece (Option Expr)
+  maybe_having = optional part.Having having
+
+  unfoldable pub output_expression : Piece Output
+  output_expression = expr >>= (λ value. shown.Value value <$> alias text)
+
+  unfoldable pub output : Piece Output
+  output = either (part.Token (sort.Sign sign.Star)) ((λ t. shown.All) <$> token (sort.Sign sign.Star)) (either part.AllOfTable (all_of_table text) output_expression)
+
+  unfoldable pub output_more : Piece Output
+  output_more = token (sort.Sign sign.Comma) >> output
+
+  unfoldable pub outputs : Piece (List Output)
+  outputs = output >>= (λ first. (λ more. first ∷ more) <$> each part.OutputMore output_more)
+
+  -- ---- queries; also what is a query one opening deeper
+
+  module _ (query_inside : Piece Query) where
+    unfoldable pub subquery : Piece Query
+    subquery = opening left (sort.Sign sign.Open) (closed query_inside)
+
+    unfoldable pub named_item : Piece Item
+    named_item = spelling text sort.Name >>= (λ name. source.Table name <$> alias text)
+
+    unfoldable pub derived_item : Piece Item
+    derived_item = subquery >>= (λ query. source.Derived query <$> required_alias text)
+
+    unfoldable pub item : Piece Item
+    item = either part.NamedItem named_item derived_item
+
+    -- behind the kind of a join and its item
+    unfoldable pub join_on : Bool → Item → Piece Join
+    join_on is_left joined = token (sort.Word word.On) >> (join_of is_left joined <$> expr)
+
+    unfoldable pub join_behind : Bool → Piece Join
+    join_behind is_left = item >>= join_on is_left
+
+    unfoldable pub join : Piece Join
+    join = join_kind >>= join_behind
+
+    -- behind the condition of a WHERE
+    unfoldable pub block_groups : Bool → List Output → Item → List Join → Option Expr → Piece Block
+    block_groups is_distinct shows from joins filter = maybe_group_by text >>= (λ groups. block_of is_distinct shows from joins filter groups <$> maybe_having)
+
+    -- behind the joins
+    unfoldable pub block_filter : Bool → List Output → Item → List Join → Piece Block
+    block_filter is_distinct shows from joins = maybe_where >>= block_groups is_distinct shows from joins
+
+    -- behind the first item
+    unfoldable pub block_rest : Bool → List Output → Item → Piece Block
+    block_rest is_distinct shows from = each part.Join join >>= block_filter is_distinct shows from
+
+    -- behind what is shown
+    unfoldable pub block_from : Bool → List Output → Piece Block
+    block_from is_distinct shows = token (sort.Word word.From) >> (item >>= block_rest is_distinct shows)
+
+    -- behind SELECT
+    unfoldable pub block_shown : Piece Block
+    block_shown = quantifier >>= (λ is_distinct. outputs >>= block_from is_distinct)
+
+    unfoldable pub block : Piece Block
+    block = token (sort.Word word.Select) >> block_shown
+
+    unfoldable pub union_more : Piece Block
+    union_more = token (sort.Word word.Union) >> (token (sort.Word word.All) >> block)
+
+    -- behind the blocks
+    unfoldable pub query_order : Block → List Block → Piece Query
+    query_order first others = maybe_order_by text >>= (λ order. query_of first others order <$> maybe_limit)
+
+    -- behind the first block
+    unfoldable pub query_unions : Block → Piece Query
+    query_unions first = each part.UnionMore union_more >>= query_order first
+
+    unfoldable pub query : Piece Query
+    query = block >>= query_unions
+
+pub no_spelling : Spelling
+no_spelling = record { text = []; span = record { start = 0; end = 0 } }
+
+pub no_block : Block
+no_block = roll-Block (record { is_distinct = false; outputs = []; from = source.Table no_spelling None; joins = []; filter = None; groups = []; having = None })
+
+-- behind an opening, of which so many are left
+unfoldable pub query_behind : List ℕ → ℕ → Piece Query
+query_behind text zero = record {
+  of = λ x. roll-Query (record { first = no_block; others = []; order = []; limit = None });
+  read = λ ts. Err (fault.TooDeep 0);
+}
+query_behind text (suc n) = query text n (query_behind text n)
+
+-- the query of a text, with a semicolon or none
+unfoldable pub statement : List ℕ → ℕ → Piece Query
+statement text n = query text n (query_behind text n) >>= (λ q. (λ u. q) <$> maybe_semicolon)

@@ -1,0 +1,544 @@
+//! The clauses of queries, read from tokens: a function for each rule.
+ghost use Rattle.std.specs.Prelude.{◌≡◌, ◌≤◌};
+ghost use Rattle.span_grammar.specs.Rules.{limit};
+ghost use Rattle.span_parser.specs.Pieces.{Gives, each};
+ghost use Rattle.span_parser.specs.Queries as spec;
+
+use super::column::column;
+use super::expression::read;
+use super::fault::Fault;
+use super::operator::first_and;
+use super::reader::Level;
+use super::token::{integer_of, integer_value, next_is, spelling, take};
+use super::tree::{Column, Expr, Limit, Output, SortColumn, SortKey, Spelling};
+use span_grammar::class::{Context, Lexeme, Sort};
+use span_grammar::grammar::Part;
+use span_grammar::reader::goes_on;
+use span_lexer::token::{Sign, Word};
+use sqlite_items::Items;
+use std::alloc::Global;
+
+/// `AS name`
+#[tactic(auto, unfolding(crate::specs::Queries::as_name))]
+fn as_name<'a>(
+    alloc: Global,
+    text: &[u8],
+    tokens: &'a [Lexeme],
+) -> Result<(Spelling, &'a [Lexeme]), Fault>
+    ensures { Gives result ((spec.as_name text.now).read tokens.now) }
+{
+    let (_, rest) = take(Sort::Word(Word::As), tokens)?;
+    spelling(alloc, text, Sort::Name, rest)
+}
+
+/// `[[AS] name]`
+#[tactic(auto, unfolding(crate::specs::Queries::alias))]
+pub(crate) fn alias<'a>(
+    alloc: Global,
+    text: &[u8],
+    tokens: &'a [Lexeme],
+) -> Result<(Option<Spelling>, &'a [Lexeme]), Fault>
+    ensures { Gives result ((spec.alias text.now).read tokens.now) }
+{
+    if goes_on(Part::AsName, tokens) {
+        let (name, rest) = as_name(alloc, text, tokens)?;
+        return Ok((Some(name), rest));
+    }
+    if next_is(Sort::Name, tokens) {
+        let (name, rest) = spelling(alloc, text, Sort::Name, tokens)?;
+        return Ok((Some(name), rest));
+    }
+    Ok((None, tokens))
+}
+
+/// `[AS] name`
+#[tactic(auto, unfolding(crate::specs::Queries::required_alias))]
+pub(crate) fn required_alias<'a>(
+    alloc: Global,
+    text: &[u8],
+    tokens: &'a [Lexeme],
+) -> Result<(Spelling, &'a [Lexeme]), Fault>
+    ensures { Gives result ((spec.required_alias text.now).read tokens.now) }
+{
+    if goes_on(Part::AsName, tokens) {
+        return as_name(alloc, text, tokens);
+    }
+    spelling(alloc, text, Sort::Name, tokens)
+}
+
+/// `[ASC | DESC]`: whether it descends.
+#[tactic(auto, unfolding(crate::specs::Queries::direction))]
+pub fn direction(tokens: &[Lexeme]) -> Result<(bool, &[Lexeme]), Fault>
+    ensures { Gives result (spec.direction.read tokens.now) }
+{
+    if next_is(Sort::Word(Word::Asc), tokens) {
+        let (_, rest) = take(Sort::Word(Word::Asc), tokens)?;
+        return Ok((false, rest));
+    }
+    if next_is(Sort::Word(Word::Desc), tokens) {
+        let (_, rest) = take(Sort::Word(Word::Desc), tokens)?;
+        return Ok((true, rest));
+    }
+    Ok((false, tokens))
+}
+
+/// `[ALL | DISTINCT]`: whether it is DISTINCT.
+#[tactic(auto, unfolding(crate::specs::Queries::quantifier))]
+pub(crate) fn quantifier(tokens: &[Lexeme]) -> Result<(bool, &[Lexeme]), Fault>
+    ensures { Gives result (spec.quantifier.read tokens.now) }
+{
+    if next_is(Sort::Word(Word::All), tokens) {
+        let (_, rest) = take(Sort::Word(Word::All), tokens)?;
+        return Ok((false, rest));
+    }
+    if next_is(Sort::Word(Word::Distinct), tokens) {
+        let (_, rest) = take(Sort::Word(Word::Distinct), tokens)?;
+        return Ok((true, rest));
+    }
+    Ok((false, tokens))
+}
+
+/// `[OUTER]`
+#[tactic(auto, unfolding(crate::specs::Queries::maybe_outer))]
+fn maybe_outer(tokens: &[Lexeme]) -> Result<(bool, &[Lexeme]), Fault>
+    ensures { Gives result (spec.maybe_outer.read tokens.now) }
+{
+    if next_is(Sort::Word(Word::Outer), tokens) {
+        let (_, rest) = take(Sort::Word(Word::Outer), tokens)?;
+        return Ok((true, rest));
+    }
+    Ok((false, tokens))
+}
+
+/// A name or a place.
+#[tactic(auto, unfolding(crate::specs::Queries::sort_column))]
+fn sort_column<'a>(
+    alloc: Global,
+    text: &[u8],
+    tokens: &'a [Lexeme],
+) -> Result<(SortColumn, &'a [Lexeme]), Fault>
+    ensures { Gives result ((spec.sort_column text.now).read tokens.now) }
+{
+    if next_is(Sort::Name, tokens) {
+        let (name, rest) = spelling(alloc, text, Sort::Name, tokens)?;
+        return Ok((SortColumn::Name(name), rest));
+    }
+    let (place, rest) = take(Sort::Int, tokens)?;
+    Ok((SortColumn::Place(integer_of(false, place)), rest))
+}
+
+/// `key`
+#[tactic(auto, unfolding(crate::specs::Queries::sort_key))]
+fn sort_key<'a>(
+    alloc: Global,
+    text: &[u8],
+    tokens: &'a [Lexeme],
+) -> Result<(SortKey, &'a [Lexeme]), Fault>
+    ensures { Gives result ((spec.sort_key text.now).read tokens.now) }
+{
+    let (column, rest) = sort_column(alloc, text, tokens)?;
+    let (is_descending, rest) = direction(rest)?;
+    Ok((
+        SortKey {
+            column,
+            is_descending,
+        },
+        rest,
+    ))
+}
+
+/// `, key`
+#[tactic(auto, unfolding(crate::specs::Queries::sort_key_more))]
+fn sort_key_more<'a>(
+    alloc: Global,
+    text: &[u8],
+    tokens: &'a [Lexeme],
+) -> Result<(SortKey, &'a [Lexeme]), Fault>
+    ensures { Gives result ((spec.sort_key_more text.now).read tokens.now) }
+{
+    let (_, rest) = take(Sort::Sign(Sign::Comma), tokens)?;
+    sort_key(alloc, text, rest)
+}
+
+/// `{"," key}`
+#[tactic(auto, using(crate::proofs::Falling::loop_steps))]
+fn sort_key_rest<'a>(
+    alloc: Global,
+    text: &[u8],
+    tokens: &'a [Lexeme],
+) -> Result<(Items<SortKey>, &'a [Lexeme]), Fault>
+    ensures { Gives result ((each Part.SortKeyMore (spec.sort_key_more text.now)).read tokens.now) }
+{
+    let mut found = Items::new(alloc);
+    let mut rest = tokens;
+    'turns: while goes_on(Part::SortKeyMore, rest) {
+        let (next, behind) = sort_key_more(alloc, text, rest)?;
+        found.push(next)?;
+        rest = behind;
+    }
+    Ok((found, rest))
+}
+
+/// `key {"," key}`
+#[tactic(auto, unfolding(crate::specs::Queries::sort_keys))]
+fn sort_keys<'a>(
+    alloc: Global,
+    text: &[u8],
+    tokens: &'a [Lexeme],
+) -> Result<(Items<SortKey>, &'a [Lexeme]), Fault>
+    ensures { Gives result ((spec.sort_keys text.now).read tokens.now) }
+{
+    let (first, rest) = sort_key(alloc, text, tokens)?;
+    let (more, rest) = sort_key_rest(alloc, text, rest)?;
+    Ok((first_and(alloc, first, more)?, rest))
+}
+
+/// `ORDER BY key {"," key}`
+#[tactic(auto, unfolding(crate::specs::Queries::order_by))]
+fn order_by<'a>(
+    alloc: Global,
+    text: &[u8],
+    tokens: &'a [Lexeme],
+) -> Result<(Items<SortKey>, &'a [Lexeme]), Fault>
+    ensures { Gives result ((spec.order_by text.now).read tokens.now) }
+{
+    let (_, rest) = take(Sort::Word(Word::Order), tokens)?;
+    let (_, rest) = take(Sort::Word(Word::By), rest)?;
+    sort_keys(alloc, text, rest)
+}
+
+/// The keys of an ORDER BY, if there is one.
+#[tactic(auto, unfolding(crate::specs::Queries::maybe_order_by))]
+pub(crate) fn maybe_order_by<'a>(
+    alloc: Global,
+    text: &[u8],
+    tokens: &'a [Lexeme],
+) -> Result<(Items<SortKey>, &'a [Lexeme]), Fault>
+    ensures { Gives result ((spec.maybe_order_by text.now).read tokens.now) }
+{
+    if !goes_on(Part::OrderBy, tokens) {
+        return Ok((Items::new(alloc), tokens));
+    }
+    order_by(alloc, text, tokens)
+}
+
+/// `OFFSET int`
+#[tactic(auto, unfolding(crate::specs::Queries::skip))]
+pub(crate) fn skip(tokens: &[Lexeme]) -> Result<(u64, &[Lexeme]), Fault>
+    ensures { Gives result (spec.skip.read tokens.now) }
+{
+    let (_, rest) = take(Sort::Context(Context::Offset), tokens)?;
+    let (rows, rest) = take(Sort::Int, rest)?;
+    Ok((integer_value(rows.token.kind), rest))
+}
+
+/// How many rows are passed over.
+#[tactic(auto, unfolding(crate::specs::Queries::maybe_skip))]
+fn maybe_skip(tokens: &[Lexeme]) -> Result<(u64, &[Lexeme]), Fault>
+    ensures { Gives result (spec.maybe_skip.read tokens.now) }
+{
+    if !goes_on(Part::Skip, tokens) {
+        return Ok((0, tokens));
+    }
+    skip(tokens)
+}
+
+/// `LIMIT int [OFFSET int]`
+#[tactic(auto, unfolding(crate::specs::Queries::limit_clause))]
+fn limit_clause(tokens: &[Lexeme]) -> Result<(Limit, &[Lexeme]), Fault>
+    ensures { Gives result (spec.limit_clause.read tokens.now) }
+{
+    let (_, rest) = take(Sort::Word(Word::Limit), tokens)?;
+    let (rows, rest) = take(Sort::Int, rest)?;
+    let (skip, rest) = maybe_skip(rest)?;
+    let rows = integer_value(rows.token.kind);
+    Ok((Limit { rows, skip }, rest))
+}
+
+/// A LIMIT, if there is one.
+#[tactic(auto, unfolding(crate::specs::Queries::maybe_limit))]
+pub(crate) fn maybe_limit(tokens: &[Lexeme]) -> Result<(Option<Limit>, &[Lexeme]), Fault>
+    ensures { Gives result (spec.maybe_limit.read tokens.now) }
+{
+    if !goes_on(Part::Limit, tokens) {
+        return Ok((None, tokens));
+    }
+    let (found, rest) = limit_clause(tokens)?;
+    Ok((Some(found), rest))
+}
+
+/// `, col`
+#[tactic(auto, unfolding(crate::specs::Queries::column_more))]
+fn column_more<'a>(
+    alloc: Global,
+    text: &[u8],
+    tokens: &'a [Lexeme],
+) -> Result<(Column, &'a [Lexeme]), Fault>
+    ensures { Gives result ((spec.column_more text.now).read tokens.now) }
+{
+    let (_, rest) = take(Sort::Sign(Sign::Comma), tokens)?;
+    column(alloc, text, rest)
+}
+
+/// `{"," col}`
+#[tactic(auto, using(crate::proofs::Falling::loop_steps))]
+fn column_rest<'a>(
+    alloc: Global,
+    text: &[u8],
+    tokens: &'a [Lexeme],
+) -> Result<(Items<Column>, &'a [Lexeme]), Fault>
+    ensures { Gives result ((each Part.ColumnMore (spec.column_more text.now)).read tokens.now) }
+{
+    let mut found = Items::new(alloc);
+    let mut rest = tokens;
+    'turns: while goes_on(Part::ColumnMore, rest) {
+        let (next, behind) = column_more(alloc, text, rest)?;
+        found.push(next)?;
+        rest = behind;
+    }
+    Ok((found, rest))
+}
+
+/// `col {"," col}`
+#[tactic(auto, unfolding(crate::specs::Queries::columns))]
+fn columns<'a>(
+    alloc: Global,
+    text: &[u8],
+    tokens: &'a [Lexeme],
+) -> Result<(Items<Column>, &'a [Lexeme]), Fault>
+    ensures { Gives result ((spec.columns text.now).read tokens.now) }
+{
+    let (first, rest) = column(alloc, text, tokens)?;
+    let (more, rest) = column_rest(alloc, text, rest)?;
+    Ok((first_and(alloc, first, more)?, rest))
+}
+
+/// `GROUP BY col {"," col}`
+#[tactic(auto, unfolding(crate::specs::Queries::group_by))]
+fn group_by<'a>(
+    alloc: Global,
+    text: &[u8],
+    tokens: &'a [Lexeme],
+) -> Result<(Items<Column>, &'a [Lexeme]), Fault>
+    ensures { Gives result ((spec.group_by text.now).read tokens.now) }
+{
+    let (_, rest) = take(Sort::Word(Word::Group), tokens)?;
+    let (_, rest) = take(Sort::Word(Word::By), rest)?;
+    columns(alloc, text, rest)
+}
+
+/// The columns of a GROUP BY, if there is one.
+#[tactic(auto, unfolding(crate::specs::Queries::maybe_group_by))]
+pub(crate) fn maybe_group_by<'a>(
+    alloc: Global,
+    text: &[u8],
+    tokens: &'a [Lexeme],
+) -> Result<(Items<Column>, &'a [Lexeme]), Fault>
+    ensures { Gives result ((spec.maybe_group_by text.now).read tokens.now) }
+{
+    if !goes_on(Part::GroupBy, tokens) {
+        return Ok((Items::new(alloc), tokens));
+    }
+    group_by(alloc, text, tokens)
+}
+
+/// `name "." "*"`
+#[tactic(auto, unfolding(crate::specs::Queries::all_of_table))]
+fn all_of_table<'a>(
+    alloc: Global,
+    text: &[u8],
+    tokens: &'a [Lexeme],
+) -> Result<(Output, &'a [Lexeme]), Fault>
+    ensures { Gives result ((spec.all_of_table text.now).read tokens.now) }
+{
+    let (name, rest) = spelling(alloc, text, Sort::AllOf, tokens)?;
+    let (_, rest) = take(Sort::Sign(Sign::Dot), rest)?;
+    let (_, rest) = take(Sort::Sign(Sign::Star), rest)?;
+    Ok((Output::AllOf(name), rest))
+}
+
+/// `INNER JOIN`
+#[tactic(auto, unfolding(crate::specs::Queries::inner_join))]
+fn inner_join(tokens: &[Lexeme]) -> Result<(bool, &[Lexeme]), Fault>
+    ensures { Gives result (spec.inner_join.read tokens.now) }
+{
+    let (_, rest) = take(Sort::Word(Word::Inner), tokens)?;
+    let (_, rest) = take(Sort::Word(Word::Join), rest)?;
+    Ok((false, rest))
+}
+
+/// `LEFT [OUTER] JOIN`
+#[tactic(auto, unfolding(crate::specs::Queries::left_join))]
+fn left_join(tokens: &[Lexeme]) -> Result<(bool, &[Lexeme]), Fault>
+    ensures { Gives result (spec.left_join.read tokens.now) }
+{
+    let (_, rest) = take(Sort::Word(Word::Left), tokens)?;
+    let (_, rest) = maybe_outer(rest)?;
+    let (_, rest) = take(Sort::Word(Word::Join), rest)?;
+    Ok((true, rest))
+}
+
+/// Whether a join is a LEFT JOIN.
+#[tactic(auto, unfolding(crate::specs::Queries::join_kind))]
+pub(crate) fn join_kind(tokens: &[Lexeme]) -> Result<(bool, &[Lexeme]), Fault>
+    ensures { Gives result (spec.join_kind.read tokens.now) }
+{
+    if goes_on(Part::InnerJoin, tokens) {
+        return inner_join(tokens);
+    }
+    if next_is(Sort::Word(Word::Join), tokens) {
+        let (_, rest) = take(Sort::Word(Word::Join), tokens)?;
+        return Ok((false, rest));
+    }
+    left_join(tokens)
+}
+
+/// `[";"]`
+#[tactic(auto, unfolding(crate::specs::Queries::maybe_semicolon))]
+pub(crate) fn maybe_semicolon(tokens: &[Lexeme]) -> Result<(bool, &[Lexeme]), Fault>
+    ensures { Gives result (spec.maybe_semicolon.read tokens.now) }
+{
+    if !next_is(Sort::AnySemicolon, tokens) {
+        return Ok((false, tokens));
+    }
+    let (_, rest) = take(Sort::AnySemicolon, tokens)?;
+    Ok((true, rest))
+}
+
+/// What reads what has expressions in it, where so many openings are left.
+#[derive(Clone, Copy)]
+pub(crate) struct Clauses<'t> {
+    pub alloc: Global,
+    /// The bytes of the text.
+    pub text: &'t [u8],
+    pub left: usize,
+}
+
+impl<'t> Clauses<'t> {
+    /// An expression.
+    pub(crate) fn expr<'a>(&self, tokens: &'a [Lexeme]) -> Result<(Expr, &'a [Lexeme]), Fault>
+        requires { self.now.left ≤ limit }
+        ensures { Gives result ((spec.expr self.now.text.now self.now.left).read tokens.now) }
+    {
+        read(self.alloc, self.text, self.left, Level::Expression, tokens)
+    }
+
+    /// `WHERE expr`
+    #[tactic(auto, unfolding(crate::specs::Queries::where_clause))]
+    fn where_clause<'a>(&self, tokens: &'a [Lexeme]) -> Result<(Expr, &'a [Lexeme]), Fault>
+        requires { self.now.left ≤ limit }
+        ensures { Gives result ((spec.where_clause self.now.text.now self.now.left).read tokens.now) }
+    {
+        let (_, rest) = take(Sort::Word(Word::Where), tokens)?;
+        self.expr(rest)
+    }
+
+    /// The condition of a WHERE, if there is one.
+    #[tactic(auto, unfolding(crate::specs::Queries::maybe_where))]
+    pub(crate) fn maybe_where<'a>(
+        &self,
+        tokens: &'a [Lexeme],
+    ) -> Result<(Option<Expr>, &'a [Lexeme]), Fault>
+        requires { self.now.left ≤ limit }
+        ensures { Gives result ((spec.maybe_where self.now.text.now self.now.left).read tokens.now) }
+    {
+        if !goes_on(Part::Where, tokens) {
+            return Ok((None, tokens));
+        }
+        let (condition, rest) = self.where_clause(tokens)?;
+        Ok((Some(condition), rest))
+    }
+
+    /// `HAVING expr`
+    #[tactic(auto, unfolding(crate::specs::Queries::having))]
+    pub(crate) fn having<'a>(&self, tokens: &'a [Lexeme]) -> Result<(Expr, &'a [Lexeme]), Fault>
+        requires { self.now.left ≤ limit }
+        ensures { Gives result ((spec.having self.now.text.now self.now.left).read tokens.now) }
+    {
+        let (_, rest) = take(Sort::Word(Word::Having), tokens)?;
+        self.expr(rest)
+    }
+
+    /// The condition of a HAVING, if there is one.
+    #[tactic(auto, unfolding(crate::specs::Queries::maybe_having))]
+    pub(crate) fn maybe_having<'a>(
+        &self,
+        tokens: &'a [Lexeme],
+    ) -> Result<(Option<Expr>, &'a [Lexeme]), Fault>
+        requires { self.now.left ≤ limit }
+        ensures { Gives result ((spec.maybe_having self.now.text.now self.now.left).read tokens.now) }
+    {
+        if !goes_on(Part::Having, tokens) {
+            return Ok((None, tokens));
+        }
+        let (condition, rest) = self.having(tokens)?;
+        Ok((Some(condition), rest))
+    }
+
+    /// `expr [[AS] name]`
+    #[tactic(auto, unfolding(crate::specs::Queries::output_expression))]
+    fn output_expression<'a>(&self, tokens: &'a [Lexeme]) -> Result<(Output, &'a [Lexeme]), Fault>
+        requires { self.now.left ≤ limit }
+        ensures { Gives result ((spec.output_expression self.now.text.now self.now.left).read tokens.now) }
+    {
+        let (value, rest) = self.expr(tokens)?;
+        let (name, rest) = alias(self.alloc, self.text, rest)?;
+        Ok((Output::Value(value, name), rest))
+    }
+
+    /// `out`
+    #[tactic(auto, unfolding(crate::specs::Queries::output))]
+    fn output<'a>(&self, tokens: &'a [Lexeme]) -> Result<(Output, &'a [Lexeme]), Fault>
+        requires { self.now.left ≤ limit }
+        ensures { Gives result ((spec.output self.now.text.now self.now.left).read tokens.now) }
+    {
+        if next_is(Sort::Sign(Sign::Star), tokens) {
+            let (_, rest) = take(Sort::Sign(Sign::Star), tokens)?;
+            return Ok((Output::All, rest));
+        }
+        if goes_on(Part::AllOfTable, tokens) {
+            return all_of_table(self.alloc, self.text, tokens);
+        }
+        self.output_expression(tokens)
+    }
+
+    /// `, out`
+    #[tactic(auto, unfolding(crate::specs::Queries::output_more))]
+    fn output_more<'a>(&self, tokens: &'a [Lexeme]) -> Result<(Output, &'a [Lexeme]), Fault>
+        requires { self.now.left ≤ limit }
+        ensures { Gives result ((spec.output_more self.now.text.now self.now.left).read tokens.now) }
+    {
+        let (_, rest) = take(Sort::Sign(Sign::Comma), tokens)?;
+        self.output(rest)
+    }
+
+    /// `{"," out}`
+    #[tactic(auto, using(crate::proofs::Falling::loop_steps))]
+    fn output_rest<'a>(&self, tokens: &'a [Lexeme]) -> Result<(Items<Output>, &'a [Lexeme]), Fault>
+        requires { self.now.left ≤ limit }
+        ensures { Gives result ((each Part.OutputMore (spec.output_more self.now.text.now self.now.left)).read tokens.now) }
+    {
+        let mut found = Items::new(self.alloc);
+        let mut rest = tokens;
+        while goes_on(Part::OutputMore, rest) {
+            let (next, behind) = self.output_more(rest)?;
+            found.push(next)?;
+            rest = behind;
+        }
+        Ok((found, rest))
+    }
+
+    /// `out {"," out}`
+    #[tactic(auto, unfolding(crate::specs::Queries::outputs))]
+    pub(crate) fn outputs<'a>(
+        &self,
+        tokens: &'a [Lexeme],
+    ) -> Result<(Items<Output>, &'a [Lexeme]), Fault>
+        requires { self.now.left ≤ limit }
+        ensures { Gives result ((spec.outputs self.now.text.now self.now.left).read tokens.now) }
+    {
+        let (first, rest) = self.output(tokens)?;
+        let (more, rest) = self.output_rest(rest)?;
+        Ok((first_and(self.alloc, first, more)?, rest))
+    }
+}

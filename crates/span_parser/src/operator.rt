@@ -1,0 +1,170 @@
+//! Operators, and what they make of their operands.
+ghost use Rattle.std.specs.Prelude.{◌≡◌, ◌∷◌, IfOk};
+ghost use Rattle.span_parser.specs.Pieces.{Gives};
+ghost use Rattle.span_parser.specs.Expressions as spec;
+
+use super::fault::Fault;
+use super::token::{next_is, take};
+use super::tree::{Comparison, Expr, Link, Operator};
+use span_grammar::class::{Lexeme, Sort};
+use span_lexer::token::{Sign, Word};
+use sqlite_items::{Boxed, Items};
+use std::alloc::{AllocError, Global};
+
+/// `*` or `||`
+#[tactic(auto, unfolding(crate::specs::Expressions::term_sign))]
+pub(crate) fn term_sign(tokens: &[Lexeme]) -> Result<(Operator, &[Lexeme]), Fault>
+    ensures { Gives result (spec.term_sign.read tokens.now) }
+{
+    if next_is(Sort::Sign(Sign::Star), tokens) {
+        let (_, rest) = take(Sort::Sign(Sign::Star), tokens)?;
+        return Ok((Operator::Times, rest));
+    }
+    let (_, rest) = take(Sort::Sign(Sign::Concat), tokens)?;
+    Ok((Operator::Concat, rest))
+}
+
+/// `+` or `-`
+#[tactic(auto, unfolding(crate::specs::Expressions::sum_sign))]
+pub(crate) fn sum_sign(tokens: &[Lexeme]) -> Result<(Operator, &[Lexeme]), Fault>
+    ensures { Gives result (spec.sum_sign.read tokens.now) }
+{
+    if next_is(Sort::Sign(Sign::Plus), tokens) {
+        let (_, rest) = take(Sort::Sign(Sign::Plus), tokens)?;
+        return Ok((Operator::Plus, rest));
+    }
+    let (_, rest) = take(Sort::Sign(Sign::Minus), tokens)?;
+    Ok((Operator::Minus, rest))
+}
+
+/// A comparison.
+#[tactic(auto, unfolding(crate::specs::Expressions::comparison))]
+pub(crate) fn comparison(tokens: &[Lexeme]) -> Result<(Comparison, &[Lexeme]), Fault>
+    ensures { Gives result (spec.comparison.read tokens.now) }
+{
+    if next_is(Sort::Sign(Sign::Equal), tokens) {
+        let (_, rest) = take(Sort::Sign(Sign::Equal), tokens)?;
+        return Ok((Comparison::Equal, rest));
+    }
+    if next_is(Sort::Sign(Sign::LessGreater), tokens) {
+        let (_, rest) = take(Sort::Sign(Sign::LessGreater), tokens)?;
+        return Ok((Comparison::NotEqual, rest));
+    }
+    if next_is(Sort::Sign(Sign::BangEqual), tokens) {
+        let (_, rest) = take(Sort::Sign(Sign::BangEqual), tokens)?;
+        return Ok((Comparison::NotEqual, rest));
+    }
+    if next_is(Sort::Sign(Sign::Less), tokens) {
+        let (_, rest) = take(Sort::Sign(Sign::Less), tokens)?;
+        return Ok((Comparison::Less, rest));
+    }
+    if next_is(Sort::Sign(Sign::LessEqual), tokens) {
+        let (_, rest) = take(Sort::Sign(Sign::LessEqual), tokens)?;
+        return Ok((Comparison::AtMost, rest));
+    }
+    if next_is(Sort::Sign(Sign::Greater), tokens) {
+        let (_, rest) = take(Sort::Sign(Sign::Greater), tokens)?;
+        return Ok((Comparison::Greater, rest));
+    }
+    let (_, rest) = take(Sort::Sign(Sign::GreaterEqual), tokens)?;
+    Ok((Comparison::AtLeast, rest))
+}
+
+/// Whether NOT comes next.
+#[tactic(auto, unfolding(crate::specs::Expressions::maybe_not))]
+pub(crate) fn maybe_not(tokens: &[Lexeme]) -> Result<(bool, &[Lexeme]), Fault>
+    ensures { Gives result (spec.maybe_not.read tokens.now) }
+{
+    if !next_is(Sort::Word(Word::Not), tokens) {
+        return Ok((false, tokens));
+    }
+    let (_, rest) = take(Sort::Word(Word::Not), tokens)?;
+    Ok((true, rest))
+}
+
+/// `IS [NOT] NULL`: whether with NOT.
+#[tactic(auto, unfolding(crate::specs::Expressions::null_words))]
+pub(crate) fn null_words(tokens: &[Lexeme]) -> Result<(bool, &[Lexeme]), Fault>
+    ensures { Gives result (spec.null_words.read tokens.now) }
+{
+    let (_, rest) = take(Sort::Word(Word::Is), tokens)?;
+    let (is_not, rest) = maybe_not(rest)?;
+    let (_, rest) = take(Sort::Word(Word::Null), rest)?;
+    Ok((is_not, rest))
+}
+
+/// An operand with the operators and operands behind it.
+pub(crate) fn chained(alloc: Global, first: Expr, more: Items<Link>) -> Result<Expr, AllocError>
+    ensures { IfOk result (λ x. x ≡ spec.chained first more) }
+{
+    if more.is_empty() {
+        Ok(first)
+    } else {
+        Ok(Expr::Chain(Boxed::new(alloc, first)?, more))
+    }
+}
+
+/// Operands of AND.
+pub(crate) fn all_of(alloc: Global, first: Expr, more: Items<Expr>) -> Result<Expr, AllocError>
+    ensures { IfOk result (λ x. x ≡ spec.all_of first more) }
+{
+    if more.is_empty() {
+        Ok(first)
+    } else {
+        Ok(Expr::And(Boxed::new(alloc, first)?, more))
+    }
+}
+
+/// Operands of OR.
+pub(crate) fn some_of(alloc: Global, first: Expr, more: Items<Expr>) -> Result<Expr, AllocError>
+    ensures { IfOk result (λ x. x ≡ spec.some_of first more) }
+{
+    if more.is_empty() {
+        Ok(first)
+    } else {
+        Ok(Expr::Or(Boxed::new(alloc, first)?, more))
+    }
+}
+
+/// With NOT or without.
+pub(crate) fn denied(alloc: Global, is_not: bool, x: Expr) -> Result<Expr, AllocError>
+    ensures { IfOk result (λ y. y ≡ spec.denied is_not x) }
+{
+    if is_not {
+        Ok(Expr::Not(Boxed::new(alloc, x)?))
+    } else {
+        Ok(x)
+    }
+}
+
+/// Two operands that are compared.
+pub(crate) fn compare(alloc: Global, x: Expr, how: Comparison, y: Expr) -> Result<Expr, AllocError>
+    ensures { IfOk result (λ z. z ≡ Expr.Compare x how y) }
+{
+    Ok(Expr::Compare(Boxed::new(alloc, x)?, how, Boxed::new(alloc, y)?))
+}
+
+/// BETWEEN with its three operands.
+pub(crate) fn is_between(alloc: Global, x: Expr, low: Expr, high: Expr) -> Result<Expr, AllocError>
+    ensures { IfOk result (λ y. y ≡ Expr.Between x low high) }
+{
+    Ok(Expr::Between(
+        Boxed::new(alloc, x)?,
+        Boxed::new(alloc, low)?,
+        Boxed::new(alloc, high)?,
+    ))
+}
+
+/// The first, and the others behind it.
+pub(crate) fn first_and<T: Drop>(
+    alloc: Global,
+    first: T,
+    more: Items<T>,
+) -> Result<Items<T>, AllocError>
+    ensures { IfOk result (λ all. all ≡ first ∷ more) }
+{
+    let mut all = Items::new(alloc);
+    all.push(first)?;
+    all.append(more)?;
+    Ok(all)
+}

@@ -1,0 +1,101 @@
+//! Queries, read from texts.
+ghost use Rattle.std.specs.Prelude.{◌≡◌, ◌≢◌, IfOk, IfErr};
+ghost use Rattle.span_grammar.specs.Goals.{goal_rule};
+ghost use Rattle.span_grammar.specs.Judged.{IsRefused};
+ghost use Rattle.span_grammar.specs.Rules.{limit};
+ghost use Rattle.span_parser.specs.Queries as spec;
+ghost use Rattle.span_grammar.specs.Classes.{lexemes_of};
+ghost use Rattle.span_parser.specs.Parsed.{IsQuery, GivesWhole, used_all, whole_read, refusal_of, Reports, Refuses, IsOrNoMemory};
+
+use super::fault::Fault;
+use super::query::statement;
+use super::tree::Query;
+use span_grammar::class::Lexeme;
+use span_grammar::classify::lexemes;
+use span_grammar::judge::Goal;
+use span_grammar::reader::DEEPEST;
+use span_lexer::lexer::{Misread, tokens};
+use span_lexer::token::Token;
+use span_value::refusal::Refusal;
+use std::alloc::Global;
+
+/// What was read, where no token is left.
+#[tactic(auto, using(crate::proofs::Parsing::used_steps))]
+pub fn whole<T: Drop>(found: T, rest: &[Lexeme]) -> Result<T, Fault>
+    ensures { GivesWhole result (used_all found rest.now) }
+{
+    if rest.is_empty() {
+        Ok(found)
+    } else {
+        Err(Fault::Syntax(rest.len()))
+    }
+}
+
+/// The query that all the tokens are, of a text of these bytes.
+#[tactic(auto, using(crate::proofs::Parsing::whole_steps))]
+fn read_statement(alloc: Global, text: &[u8], tokens: &[Lexeme]) -> Result<Query, Fault>
+    ensures { GivesWhole result (whole_read (spec.statement text.now limit) tokens.now) }
+{
+    let (query, rest) = statement(alloc, text, DEEPEST, tokens)?;
+    whole(query, rest)
+}
+
+/// Where the token stands that has so many tokens from it on; the end of the text where it has none.
+fn place_of(left: usize, tokens: &[Lexeme], end: usize) -> usize {
+    match tokens.len().checked_sub(left) {
+        Some(before) => match tokens.get(before) {
+            Some(lexeme) => lexeme.token.start,
+            None => end,
+        },
+        None => end,
+    }
+}
+
+/// The refusal for a fault, and its place in the text.
+pub fn misread(fault: Fault, tokens: &[Lexeme], end: usize) -> Misread
+    ensures { result.refusal ≡ refusal_of fault }
+{
+    match fault {
+        Fault::OutOfMemory => Misread {
+            refusal: Refusal::OutOfMemory,
+            place: 0,
+        },
+        Fault::Syntax(left) => Misread {
+            refusal: Refusal::Syntax,
+            place: place_of(left, tokens, end),
+        },
+        Fault::TooDeep(left) => Misread {
+            refusal: Refusal::TooDeep,
+            place: place_of(left, tokens, end),
+        },
+    }
+}
+
+/// The query that the tokens of a text are.
+fn query_of(alloc: Global, text: &[u8], tokens: &[Token]) -> Result<Query, Misread>
+    ensures { Reports result (whole_read (spec.statement text.now limit) (lexemes_of text.now tokens.now)) }
+{
+    let found = lexemes(alloc, text, tokens)?;
+    match read_statement(alloc, text, found.as_slice()) {
+        Ok(query) => Ok(query),
+        Err(fault) => Err(misread(fault, found.as_slice(), text.len())),
+    }
+}
+
+/// The query that a text is, with a semicolon behind it or none.
+///
+/// The error is `TextTooLong` for a text of more than 65,536 bytes; else `BadToken` where no token stands somewhere; else
+/// `Syntax` where there is a token, or the end, with which no tree goes on, or `TooDeep` where the 33rd nested opening stands,
+/// whichever stands first; or want of memory. It tells the byte where that stands.
+pub fn parse_select(alloc: Global, text: &str) -> Result<Query, Misread>
+    // What is read is what the text's tree stands for, and a text that has a tree is read.
+    ensures read { IfOk result (λ query. IsQuery text.now query) }
+    ensures read_all { (query : Query) → IsQuery text.now query → IsOrNoMemory result query }
+    ensures refused { IfErr result (λ why. IsRefused Goal.Statement text.now why.refusal) }
+    ensures refused_all { (why : Refusal) → why ≢ Refusal.OutOfMemory → IsRefused Goal.Statement text.now why → Refuses result why }
+{
+    match tokens(alloc, text) {
+        Ok(found) => query_of(alloc, text.as_bytes(), found.as_slice()),
+        Err(why) => Err(why),
+    }
+}

@@ -1,0 +1,287 @@
+//! Queries, read from tokens: a function for each rule.
+//!
+//! As with expressions, a single function recurses, behind the parenthesis of a derived table.
+ghost use Rattle.std.specs.Prelude.{◌≡◌, ◌<◌, ◌≤◌, ◌-◌};
+ghost use Rattle.span_grammar.specs.Rules.{limit};
+ghost use Rattle.span_parser.specs.Pieces.{Gives, each};
+ghost use Rattle.span_parser.specs.Queries as spec;
+ghost use Rattle.span_parser.specs.Subqueries.{NestsQueries};
+
+use super::clause::{
+    Clauses, alias, join_kind, maybe_group_by, maybe_limit, maybe_order_by, maybe_semicolon,
+    quantifier, required_alias,
+};
+use super::fault::Fault;
+use super::token::{enter, spelling, take};
+use super::tree::{Block, Item, Join, Output, Query};
+use span_grammar::class::{Lexeme, Sort};
+use span_grammar::grammar::Part;
+use span_grammar::reader::goes_on;
+use span_lexer::token::{Sign, Word};
+use sqlite_items::{Boxed, Items};
+use std::alloc::Global;
+
+/// What reads queries, where so many openings are left.
+#[derive(Clone, Copy)]
+struct QueryReader<'t, F> {
+    clauses: Clauses<'t>,
+    /// Reads behind an opening.
+    read: F,
+}
+
+impl<
+    F: for<'a> Fn(Global, &[u8], usize, &'a [Lexeme]) -> Result<(Query, &'a [Lexeme]), Fault>,
+> QueryReader<'_, F> {
+    /// A query behind an opening.
+    #[tactic(auto, using(crate::proofs::Sublevels::level_steps))]
+    fn behind<'a>(&self, tokens: &'a [Lexeme]) -> Result<(Query, &'a [Lexeme]), Fault>
+        requires nests { NestsQueries self.now.clauses.text.now self.now.clauses.left (F.pre self.now.read) (F.post self.now.read) }
+        requires limited { self.now.clauses.left ≤ limit }
+        requires deeper { 0 < self.now.clauses.left }
+        ensures { Gives result ((spec.query_behind self.now.clauses.text.now self.now.clauses.left).read tokens.now) }
+    {
+        (self.read)(
+            self.clauses.alloc,
+            self.clauses.text,
+            self.clauses.left - 1,
+            tokens,
+        )
+    }
+
+    /// `"(" query ")"`
+    #[tactic(auto, unfolding(crate::specs::Queries::subquery))]
+    fn subquery<'a>(&self, tokens: &'a [Lexeme]) -> Result<(Query, &'a [Lexeme]), Fault>
+        requires nests { NestsQueries self.now.clauses.text.now self.now.clauses.left (F.pre self.now.read) (F.post self.now.read) }
+        requires limited { self.now.clauses.left ≤ limit }
+        ensures { Gives result ((spec.subquery self.now.clauses.text.now self.now.clauses.left (spec.query_behind self.now.clauses.text.now self.now.clauses.left)).read tokens.now) }
+    {
+        let (_, rest) = enter(self.clauses.left, Sort::Sign(Sign::Open), tokens)?;
+        let (query, rest) = self.behind(rest)?;
+        let (_, rest) = take(Sort::Sign(Sign::Close), rest)?;
+        Ok((query, rest))
+    }
+
+    /// `name [[AS] name]`
+    #[tactic(auto, unfolding(crate::specs::Queries::named_item))]
+    fn named_item<'a>(&self, tokens: &'a [Lexeme]) -> Result<(Item, &'a [Lexeme]), Fault>
+        requires nests { NestsQueries self.now.clauses.text.now self.now.clauses.left (F.pre self.now.read) (F.post self.now.read) }
+        requires limited { self.now.clauses.left ≤ limit }
+        ensures { Gives result ((spec.named_item self.now.clauses.text.now self.now.clauses.left (spec.query_behind self.now.clauses.text.now self.now.clauses.left)).read tokens.now) }
+    {
+        let (name, rest) = spelling(self.clauses.alloc, self.clauses.text, Sort::Name, tokens)?;
+        let (other, rest) = alias(self.clauses.alloc, self.clauses.text, rest)?;
+        Ok((Item::Table(name, other), rest))
+    }
+
+    /// `"(" query ")" [AS] name`
+    #[tactic(auto, unfolding(crate::specs::Queries::derived_item))]
+    fn derived_item<'a>(&self, tokens: &'a [Lexeme]) -> Result<(Item, &'a [Lexeme]), Fault>
+        requires nests { NestsQueries self.now.clauses.text.now self.now.clauses.left (F.pre self.now.read) (F.post self.now.read) }
+        requires limited { self.now.clauses.left ≤ limit }
+        ensures { Gives result ((spec.derived_item self.now.clauses.text.now self.now.clauses.left (spec.query_behind self.now.clauses.text.now self.now.clauses.left)).read tokens.now) }
+    {
+        let (query, rest) = self.subquery(tokens)?;
+        let (name, rest) = required_alias(self.clauses.alloc, self.clauses.text, rest)?;
+        Ok((
+            Item::Derived(Boxed::new(self.clauses.alloc, query)?, name),
+            rest,
+        ))
+    }
+
+    /// `item`
+    #[tactic(auto, unfolding(crate::specs::Queries::item))]
+    fn item<'a>(&self, tokens: &'a [Lexeme]) -> Result<(Item, &'a [Lexeme]), Fault>
+        requires nests { NestsQueries self.now.clauses.text.now self.now.clauses.left (F.pre self.now.read) (F.post self.now.read) }
+        requires limited { self.now.clauses.left ≤ limit }
+        ensures { Gives result ((spec.item self.now.clauses.text.now self.now.clauses.left (spec.query_behind self.now.clauses.text.now self.now.clauses.left)).read tokens.now) }
+    {
+        if goes_on(Part::NamedItem, tokens) {
+            return self.named_item(tokens);
+        }
+        self.derived_item(tokens)
+    }
+
+    /// `join`
+    #[tactic(auto, unfolding(crate::specs::Queries::join, crate::specs::Queries::join_behind, crate::specs::Queries::join_on, crate::specs::Queries::join_of))]
+    fn join<'a>(&self, tokens: &'a [Lexeme]) -> Result<(Join, &'a [Lexeme]), Fault>
+        requires nests { NestsQueries self.now.clauses.text.now self.now.clauses.left (F.pre self.now.read) (F.post self.now.read) }
+        requires limited { self.now.clauses.left ≤ limit }
+        ensures { Gives result ((spec.join self.now.clauses.text.now self.now.clauses.left (spec.query_behind self.now.clauses.text.now self.now.clauses.left)).read tokens.now) }
+    {
+        let (is_left, rest) = join_kind(tokens)?;
+        let (item, rest) = self.item(rest)?;
+        let (_, rest) = take(Sort::Word(Word::On), rest)?;
+        let (on, rest) = self.clauses.expr(rest)?;
+        Ok((Join { is_left, item, on }, rest))
+    }
+
+    /// `{join}`
+    #[tactic(auto, using(crate::proofs::Falling::loop_steps))]
+    fn joins<'a>(&self, tokens: &'a [Lexeme]) -> Result<(Items<Join>, &'a [Lexeme]), Fault>
+        requires nests { NestsQueries self.now.clauses.text.now self.now.clauses.left (F.pre self.now.read) (F.post self.now.read) }
+        requires limited { self.now.clauses.left ≤ limit }
+        ensures { Gives result ((each Part.Join (spec.join self.now.clauses.text.now self.now.clauses.left (spec.query_behind self.now.clauses.text.now self.now.clauses.left))).read tokens.now) }
+    {
+        let mut found = Items::new(self.clauses.alloc);
+        let mut rest = tokens;
+        while goes_on(Part::Join, rest) {
+            let (next, behind) = self.join(rest)?;
+            found.push(next)?;
+            rest = behind;
+        }
+        Ok((found, rest))
+    }
+
+    /// What is behind the first item of a block.
+    #[tactic(auto, unfolding(crate::specs::Queries::block_rest, crate::specs::Queries::block_filter, crate::specs::Queries::block_groups, crate::specs::Queries::block_of))]
+    fn block_rest<'a>(
+        &self,
+        is_distinct: bool,
+        outputs: Items<Output>,
+        from: Item,
+        tokens: &'a [Lexeme],
+    ) -> Result<(Block, &'a [Lexeme]), Fault>
+        requires nests { NestsQueries self.now.clauses.text.now self.now.clauses.left (F.pre self.now.read) (F.post self.now.read) }
+        requires limited { self.now.clauses.left ≤ limit }
+        ensures { Gives result ((spec.block_rest self.now.clauses.text.now self.now.clauses.left (spec.query_behind self.now.clauses.text.now self.now.clauses.left) is_distinct outputs from).read tokens.now) }
+    {
+        let (joins, rest) = self.joins(tokens)?;
+        let (filter, rest) = self.clauses.maybe_where(rest)?;
+        let (groups, rest) = maybe_group_by(self.clauses.alloc, self.clauses.text, rest)?;
+        let (having, rest) = self.clauses.maybe_having(rest)?;
+        let block = Block {
+            is_distinct,
+            outputs,
+            from,
+            joins,
+            filter,
+            groups,
+            having,
+        };
+        Ok((block, rest))
+    }
+
+    /// What is behind what a block shows.
+    #[tactic(auto, unfolding(crate::specs::Queries::block_from))]
+    fn block_from<'a>(
+        &self,
+        is_distinct: bool,
+        outputs: Items<Output>,
+        tokens: &'a [Lexeme],
+    ) -> Result<(Block, &'a [Lexeme]), Fault>
+        requires nests { NestsQueries self.now.clauses.text.now self.now.clauses.left (F.pre self.now.read) (F.post self.now.read) }
+        requires limited { self.now.clauses.left ≤ limit }
+        ensures { Gives result ((spec.block_from self.now.clauses.text.now self.now.clauses.left (spec.query_behind self.now.clauses.text.now self.now.clauses.left) is_distinct outputs).read tokens.now) }
+    {
+        let (_, rest) = take(Sort::Word(Word::From), tokens)?;
+        let (from, rest) = self.item(rest)?;
+        self.block_rest(is_distinct, outputs, from, rest)
+    }
+
+    /// What is behind SELECT.
+    #[tactic(auto, unfolding(crate::specs::Queries::block_shown))]
+    fn block_shown<'a>(&self, tokens: &'a [Lexeme]) -> Result<(Block, &'a [Lexeme]), Fault>
+        requires nests { NestsQueries self.now.clauses.text.now self.now.clauses.left (F.pre self.now.read) (F.post self.now.read) }
+        requires limited { self.now.clauses.left ≤ limit }
+        ensures { Gives result ((spec.block_shown self.now.clauses.text.now self.now.clauses.left (spec.query_behind self.now.clauses.text.now self.now.clauses.left)).read tokens.now) }
+    {
+        let (is_distinct, rest) = quantifier(tokens)?;
+        let (outputs, rest) = self.clauses.outputs(rest)?;
+        self.block_from(is_distinct, outputs, rest)
+    }
+
+    /// `block`
+    #[tactic(auto, unfolding(crate::specs::Queries::block))]
+    fn block<'a>(&self, tokens: &'a [Lexeme]) -> Result<(Block, &'a [Lexeme]), Fault>
+        requires nests { NestsQueries self.now.clauses.text.now self.now.clauses.left (F.pre self.now.read) (F.post self.now.read) }
+        requires limited { self.now.clauses.left ≤ limit }
+        ensures { Gives result ((spec.block self.now.clauses.text.now self.now.clauses.left (spec.query_behind self.now.clauses.text.now self.now.clauses.left)).read tokens.now) }
+    {
+        let (_, rest) = take(Sort::Word(Word::Select), tokens)?;
+        self.block_shown(rest)
+    }
+
+    /// `UNION ALL block`
+    #[tactic(auto, unfolding(crate::specs::Queries::union_more))]
+    fn union_more<'a>(&self, tokens: &'a [Lexeme]) -> Result<(Block, &'a [Lexeme]), Fault>
+        requires nests { NestsQueries self.now.clauses.text.now self.now.clauses.left (F.pre self.now.read) (F.post self.now.read) }
+        requires limited { self.now.clauses.left ≤ limit }
+        ensures { Gives result ((spec.union_more self.now.clauses.text.now self.now.clauses.left (spec.query_behind self.now.clauses.text.now self.now.clauses.left)).read tokens.now) }
+    {
+        let (_, rest) = take(Sort::Word(Word::Union), tokens)?;
+        let (_, rest) = take(Sort::Word(Word::All), rest)?;
+        self.block(rest)
+    }
+
+    /// `{UNION ALL block}`
+    #[tactic(auto, using(crate::proofs::Falling::loop_steps))]
+    fn union_rest<'a>(&self, tokens: &'a [Lexeme]) -> Result<(Items<Block>, &'a [Lexeme]), Fault>
+        requires nests { NestsQueries self.now.clauses.text.now self.now.clauses.left (F.pre self.now.read) (F.post self.now.read) }
+        requires limited { self.now.clauses.left ≤ limit }
+        ensures { Gives result ((each Part.UnionMore (spec.union_more self.now.clauses.text.now self.now.clauses.left (spec.query_behind self.now.clauses.text.now self.now.clauses.left))).read tokens.now) }
+    {
+        let mut found = Items::new(self.clauses.alloc);
+        let mut rest = tokens;
+        while goes_on(Part::UnionMore, rest) {
+            let (next, behind) = self.union_more(rest)?;
+            found.push(next)?;
+            rest = behind;
+        }
+        Ok((found, rest))
+    }
+
+    /// `query`
+    #[tactic(auto, unfolding(crate::specs::Queries::query, crate::specs::Queries::query_unions, crate::specs::Queries::query_order, crate::specs::Queries::query_of))]
+    fn query<'a>(&self, tokens: &'a [Lexeme]) -> Result<(Query, &'a [Lexeme]), Fault>
+        requires nests { NestsQueries self.now.clauses.text.now self.now.clauses.left (F.pre self.now.read) (F.post self.now.read) }
+        requires limited { self.now.clauses.left ≤ limit }
+        ensures { Gives result ((spec.query self.now.clauses.text.now self.now.clauses.left (spec.query_behind self.now.clauses.text.now self.now.clauses.left)).read tokens.now) }
+    {
+        let (first, rest) = self.block(tokens)?;
+        let (others, rest) = self.union_rest(rest)?;
+        let (order, rest) = maybe_order_by(self.clauses.alloc, self.clauses.text, rest)?;
+        let (limit, rest) = maybe_limit(rest)?;
+        let query = Query {
+            first,
+            others,
+            order,
+            limit,
+        };
+        Ok((query, rest))
+    }
+}
+
+/// A query, where so many openings are left. This function alone recurses.
+#[tactic(auto, using(crate::proofs::Sublevels::level_steps))]
+fn read_query<'a>(
+    alloc: Global,
+    text: &[u8],
+    left: usize,
+    tokens: &'a [Lexeme],
+) -> Result<(Query, &'a [Lexeme]), Fault>
+    requires { left ≤ limit }
+    ensures { Gives result ((spec.query text.now left (spec.query_behind text.now left)).read tokens.now) }
+{
+    let clauses = Clauses { alloc, text, left };
+    let reader = QueryReader {
+        clauses,
+        read: read_query,
+    };
+    reader.query(tokens)
+}
+
+/// A query with a semicolon behind it or none.
+#[tactic(auto, unfolding(crate::specs::Queries::statement))]
+pub(crate) fn statement<'a>(
+    alloc: Global,
+    text: &[u8],
+    left: usize,
+    tokens: &'a [Lexeme],
+) -> Result<(Query, &'a [Lexeme]), Fault>
+    requires { left ≤ limit }
+    ensures { Gives result ((spec.statement text.now left).read tokens.now) }
+{
+    let (query, rest) = read_query(alloc, text, left, tokens)?;
+    let (_, rest) = maybe_semicolon(rest)?;
+    Ok((query, rest))
+}
