@@ -1,0 +1,7 @@
+//! Schemas, read from texts.
+#![tactic(auto)]
+
+mod declaration;
+#[cfg(test)]
+mod tests;
+pub mod text;

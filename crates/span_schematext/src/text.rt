@@ -1,0 +1,77 @@
+//! Schemas, read from texts.
+ghost use Rattle.std.specs.Prelude.{◌≡◌, ◌≢◌, List, IfOk, IfErr};
+ghost use Rattle.span_grammar.specs.Classes.{lexemes_of};
+ghost use Rattle.span_grammar.specs.Judged.{IsRefused};
+ghost use Rattle.span_grammar.specs.Rules.{limit};
+ghost use Rattle.span_parser.specs.Parsed.{GivesWhole, whole_read, Reports, Refuses, IsOrNoMemory};
+ghost use Rattle.span_schema.specs.declared.table.Table.{Table as Declared};
+ghost use Rattle.span_schematext.specs.Declarations as spec;
+ghost use Rattle.span_schematext.specs.SchemaTexts.{AreTables, IsSchemaText, IsSchemaRefused, IsSchemaOrNoMemory, RefusesSchema};
+
+use super::declaration::tables;
+use span_grammar::class::Lexeme;
+use span_grammar::classify::lexemes;
+use span_grammar::judge::Goal;
+use span_grammar::reader::DEEPEST;
+use span_lexer::lexer::{Misread, tokens as tokens_of};
+use span_lexer::token::Token;
+use span_parser::fault::Fault;
+use span_parser::parse::{misread, whole};
+use span_schema::schema::Schema;
+use span_schema::table::Table;
+use span_value::refusal::Refusal;
+use span_value::seq::Seq;
+use std::alloc::Global;
+
+/// The tables that all the tokens declare, of a text of these bytes.
+#[tactic(auto, using(span_parser::proofs::Parsing::whole_steps))]
+fn read_all(alloc: Global, text: &[u8], tokens: &[Lexeme]) -> Result<Seq<Table>, Fault>
+    ensures { GivesWhole result (whole_read (spec.tables text.now limit) tokens.now) }
+{
+    let (found, rest) = tables(alloc, text, DEEPEST, tokens)?;
+    whole(found, rest)
+}
+
+/// The tables that the tokens of a text declare.
+fn tables_of(alloc: Global, text: &[u8], tokens: &[Token]) -> Result<Seq<Table>, Misread>
+    ensures { Reports result (whole_read (spec.tables text.now limit) (lexemes_of text.now tokens.now)) }
+{
+    let found = lexemes(alloc, text, tokens)?;
+    match read_all(alloc, text, found.as_slice()) {
+        Ok(found) => Ok(found),
+        Err(fault) => Err(misread(fault, found.as_slice(), text.len())),
+    }
+}
+
+/// The tables that a text declares, whatever rules they break.
+///
+/// The error is `TextTooLong` for a text of more than 65,536 bytes; else `BadToken` where no token stands somewhere; else
+/// `Syntax` where there is a token, or the end, with which no tree goes on; or want of memory. It tells the byte where that
+/// stands.
+pub fn parse_tables(alloc: Global, text: &str) -> Result<Seq<Table>, Misread>
+    ensures read { IfOk result (λ found. AreTables text.now found) }
+    ensures read_all { (found : List Declared) → AreTables text.now found → IsOrNoMemory result found }
+    ensures refused { IfErr result (λ why. IsRefused Goal.Schema text.now why.refusal) }
+    ensures refused_all { (why : Refusal) → why ≢ Refusal.OutOfMemory → IsRefused Goal.Schema text.now why → Refuses result why }
+{
+    match tokens_of(alloc, text) {
+        Ok(found) => tables_of(alloc, text.as_bytes(), found.as_slice()),
+        Err(why) => Err(why),
+    }
+}
+
+/// The schema that a text declares.
+///
+/// The error is the first of: what `parse_tables` refuses; a table that breaks a rule of schemas, as `Schema::new` judges them
+/// (`TooMany`, `DuplicateTable`, `BadColumn`, `NoParent`, `KeyNotPrefixed`, `HierarchyTooDeep`); or want of memory.
+pub fn parse_schema(alloc: Global, text: &str) -> Result<Schema, Refusal>
+    ensures read { IfOk result (λ schema. IsSchemaText text.now schema) }
+    ensures read_all { (found : List Declared) → IsSchemaText text.now found → IsSchemaOrNoMemory result found }
+    ensures refused { IfErr result (λ why. IsSchemaRefused text.now why) }
+    ensures refused_all { (why : Refusal) → why ≢ Refusal.OutOfMemory → IsSchemaRefused text.now why → RefusesSchema result why }
+{
+    match parse_tables(alloc, text) {
+        Ok(found) => Schema::new(alloc, found.into_vec()),
+        Err(why) => Err(why.refusal),
+    }
+}
