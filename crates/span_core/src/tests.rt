@@ -425,8 +425,10 @@ fn parent_missing(rt: HostRuntime) -> Result<(), Fail> {
 
 const INSERT_B: Asked<'static> = (MutationKind::Insert, "Users", &[2], Some(("email", "b")));
 
+const INSERT_C: Asked<'static> = (MutationKind::Insert, "Users", &[3], Some(("email", "c")));
+
 const TRIM: [Call<'static>; 14] = [
-    Call::Begin(&[INSERT_A, INSERT_B]),
+    Call::Begin(&[INSERT_A, INSERT_B, INSERT_C]),
     Call::Prepare(1),
     Call::Decide(1, COMMIT, EARLY),
     Call::Apply(1, NOW),
@@ -449,6 +451,7 @@ fn trim(rt: HostRuntime) -> Result<(), Fail> {
     let mut rows = Seq::new(alloc);
     rows.push(row(alloc, 1, "a")?)?;
     rows.push(row(alloc, 2, "b")?)?;
+    rows.push(row(alloc, 3, "c")?)?;
     let expected = vec![in alloc;
         Reply::Began(1),
         Reply::Prepared(1),
@@ -458,7 +461,7 @@ fn trim(rt: HostRuntime) -> Result<(), Fail> {
         Reply::Scanned,
         Reply::Refused(Refusal::TrimTooNew),
         Reply::Floor(210),
-        Reply::Trimmed(2),
+        Reply::Trimmed(3),
         Reply::Rows { s: 150, rows },
         opened(2, 150),
         Reply::Refused(Refusal::Trimmed),
