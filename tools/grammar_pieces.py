@@ -41,7 +41,7 @@ def O(p): return ('E',M('Some',p),N('None'))
 def MANY(p): return ('MANY',p)
 def OP(p): return ('OP',p)
 def R(spec,good): return ('R',spec,good)
-def C(p): return B(p,'x',M('(λ t. x)',T('(sort.Sign sign.Close)')))
+def C(p): return B(p,'x',R('closing x','closing_good m x'))
 cnt=[0]
 def spec(a,part,n):
     k=a[0]
@@ -111,7 +111,7 @@ use Rattle.span_parser.specs.declared.tree.Link.{roll-Link}
 use Rattle.span_grammar.specs.Shapes.{shape_of, part_inside}
 use Rattle.span_grammar.specs.Grammar.{rule_of}
 use Rattle.span_parser.specs.Pieces.{Piece, token, nothing, ◌<$>◌, ◌>>=◌, either, each, opening}
-use Rattle.span_parser.specs.Expressions.{span_of, spelling_of, spelling, integer_of, qualifier, column_of, qualified, column, chained, all_of, some_of, denied, term_sign, sum_sign, comparison, maybe_not, null_words, list_more, list, when, case_operand, case_else, case_end, case_arms, in_case, argument_list, Inner, parenthesis, arguments, members, case, negation, opposite, after_name, named, if_call, compound, word_literal, other_primary, primary, unary, other_unary, signed, term_more, term, sum_more, sum, compared, is_null, like, high_end, both_ends, between, within, test, maybe_not_test, predicate_rest, predicate, negated, conjunction_more, conjunction, expression_more, expression, behind}
+use Rattle.span_parser.specs.Expressions.{span_of, spelling_of, spelling, closing, arm_of, then_value, integer_of, qualifier, column_of, qualified, column, chained, all_of, some_of, denied, term_sign, sum_sign, comparison, maybe_not, null_words, list_more, list, when, case_operand, case_else, case_end, case_arms, in_case, argument_list, Inner, parenthesis, arguments, members, case, negation, opposite, after_name, named, if_call, compound, word_literal, other_primary, primary, unary, other_unary, signed, term_more, term, sum_more, sum, compared, is_null, like, high_end, both_ends, between, within, test, maybe_not_test, predicate_rest, predicate, negated, conjunction_more, conjunction, expression_more, expression, behind}
 use Rattle.span_parser.proofs.Good.{Good, token_good, nothing_good, map_good, then_good, or_good, many_good, open_good}
 
 '''
@@ -122,6 +122,10 @@ o+='''-- ---- columns and signs
 pub spelling_good : (text : List ℕ) (n : ℕ) (s : Sort) → Good n (rule_of (part.Token s)) (spelling text s)
 unfolding spelling
 spelling_good text n s = map_good (spelling_of text) (token s) (token_good n s)
+
+pub closing_good : {A : Type 0} (n : ℕ) (x : A) → Good n (rule_of (part.Token (sort.Sign sign.Close))) (closing x)
+unfolding closing
+closing_good n x = map_good (λ t. x) (token (sort.Sign sign.Close)) (token_good n (sort.Sign sign.Close))
 
 module _ (text : List ℕ) (n : ℕ) where
 '''
@@ -144,7 +148,8 @@ o+=L('null_words','IsNull','null_words',S(T(Wd('Is')),B(R('maybe_not','maybe_not
 o+='-- ---- what stands inside an opening\n\nmodule _ (n : ℕ) (p : Piece Expr) (gp : Good n (rule_of part.Expression) p) where\n'
 o+=L('list_more','ListMore','list_more p',S(T(Sg('Comma')),P))
 o+=L('list','List','list p',B(P,'x',M('(λ xs. x ∷ xs)',MANY(R('list_more p','list_more_good')))))
-o+=L('when','When','when p',S(T(Wd('When')),B(P,'condition',S(T(Wd('Then')),M('(λ value. roll-Arm (record { condition = condition; value = value }))',P)))))
+o+=L('then_value','WhenFromWordThen','then_value p x',S(T(Wd('Then')),M('(λ value. (x, value))',P)),args='{A : Type 0} (x : A)')
+o+=L('when','When','when p',S(T(Wd('When')),B(P,'condition',M('arm_of',R('then_value p condition','then_value_good condition')))))
 o+=L('case_else','CaseElse','case_else p',O(S(T(Wd('Else')),P)))
 W=R('when p','when_good')
 o+=L('case_operand','CaseOperand','case_operand p',O(P))
@@ -302,10 +307,10 @@ use Rattle.span_parser.specs.declared.tree.Query.{Query}
 use Rattle.span_grammar.specs.Shapes.{shape_of, part_inside}
 use Rattle.span_grammar.specs.Grammar.{rule_of}
 use Rattle.span_parser.specs.Pieces.{Piece, token, nothing, ◌<$>◌, ◌>>=◌, either, each, opening}
-use Rattle.span_parser.specs.Expressions.{value_of, integer_of, spelling, column, behind, expression}
-use Rattle.span_parser.specs.Queries.{as_name, alias, required_alias, direction, sort_column, sort_key, sort_key_more, sort_keys, order_by, maybe_order_by, skip, maybe_skip, limit_clause, maybe_limit, quantifier, column_more, columns, group_by, maybe_group_by, all_of_table, maybe_outer, left_join, inner_join, join_kind, maybe_semicolon, where_clause, maybe_where, having, maybe_having, output_expression, output, output_more, outputs, subquery, named_item, derived_item, item, join_of, block_of, query_of, join_on, join_behind, join, block_groups, block_filter, query_order, query_unions, block_rest, block_from, block_shown, block, union_more, query, query_behind, statement}
+use Rattle.span_parser.specs.Expressions.{value_of, integer_of, spelling, closing, column, behind, expression}
+use Rattle.span_parser.specs.Queries.{as_name, alias, required_alias, direction, sort_column, sort_key, sort_key_more, sort_keys, order_by, maybe_order_by, skip, maybe_skip, limit_clause, maybe_limit, quantifier, column_more, columns, group_by, maybe_group_by, all_of_table, maybe_outer, left_join, inner_join, join_kind, maybe_semicolon, where_clause, maybe_where, having, maybe_having, output_expression, output, output_more, outputs, subquery, named_item, derived_item, item, join_of, block_of, query_of, join_on, join_behind, join, block_groups, block_filter, ordered, unions, block_rest, block_from, block_shown, block, union_more, query, query_behind, statement}
 use Rattle.span_parser.proofs.Good.{Good, token_good, nothing_good, map_good, then_good, or_good, many_good, open_good}
-use Rattle.span_parser.proofs.Expressing.{spelling_good, column_good, expression_good, deep}
+use Rattle.span_parser.proofs.Expressing.{spelling_good, closing_good, column_good, expression_good, deep}
 
 '''
 o+='module _ (n : ℕ) where\n'
@@ -384,9 +389,9 @@ o+=L('block_from','BlockFromWordFrom','block_from text n inner is_distinct shows
 t3('block_shown','BlockFromMaybeQuantifier',B(rn('quantifier'),'is_distinct',B(r2('outputs'),'shows',R('block_from text n inner is_distinct shows','block_from_good is_distinct shows'))))
 t3('block','Block',S(T(Wd('Select')),r3('block_shown')))
 t3('union_more','UnionMore',S(T(Wd('Union')),S(T(Wd('All')),r3('block'))))
-o+=L('query_order','QueryFromMaybeOrderBy','query_order text n inner first others',B(r1('maybe_order_by'),'order',M('(query_of first others order)',rn('maybe_limit'))),args='(first : Block) → (others : List Block)',ind='    ')
-o+=L('query_unions','QueryFromUnionRest','query_unions text n inner first',B(MANY(r3('union_more')),'others',R('query_order text n inner first others','query_order_good first others')),args='(first : Block)',ind='    ')
-t3('query','Query',B(r3('block'),'first',R('query_unions text n inner first','query_unions_good first')))
+o+=L('ordered','QueryFromMaybeOrderBy','ordered text x others',B(r1('maybe_order_by'),'order',M('(λ limit. (x, others, order, limit))',rn('maybe_limit'))),args='{A : Type 0} (x : A) (others : List Block)',ind='    ')
+o+=L('unions','QueryFromUnionRest','unions text n inner x',B(MANY(r3('union_more')),'others',R('ordered text x others','ordered_good x others')),args='{A : Type 0} (x : A)',ind='    ')
+t3('query','Query',B(r3('block'),'first',M('query_of',R('unions text n inner first','unions_good first'))))
 o+='''before : (n m : ℕ) → suc n ≡ suc m → n ≡ m
 before n m h = omega (arith, h)
 

@@ -1,6 +1,4 @@
 -- What was begun can be ended: each rule's parts have trees.
-use Rattle.std.proofs.Common.{◌≡◌, ◌∙◌, Bool, true, false, refl, ap}
-use Rattle.std.specs.Prelude.{◌||◌, ◌&&◌}
 use Rattle.span_lexer.specs.declared.token.Word.TheVariants as word
 use Rattle.span_lexer.specs.declared.token.Sign.TheVariants as sign
 use Rattle.span_grammar.specs.declared.class.Sort.TheVariants as sort
@@ -9,14 +7,11 @@ use Rattle.span_grammar.specs.declared.grammar.Part.{Part}
 use Rattle.span_grammar.specs.declared.grammar.Part.TheVariants as part
 use Rattle.span_grammar.specs.declared.grammar.Place.{Place}
 use Rattle.span_grammar.specs.declared.grammar.Place.TheVariants as place
-use Rattle.span_grammar.specs.declared.class.Class.{Class}
-use Rattle.span_grammar.specs.declared.class.Lexeme.{Lexeme}
-use Rattle.span_grammar.specs.declared.class.Class.TheVariants as class
 use Rattle.span_grammar.specs.declared.class.Sort.{Sort}
-use Rattle.span_grammar.specs.Rules.{Rule, Empty, One, Then, Or, Many, Open, Tree, Nothing, Leaf, Pair, Left, Right, End, More, Nest, Fits, is_of, nullable}
+use Rattle.span_grammar.specs.Rules.{One}
 use Rattle.span_grammar.specs.Grammar.{rule_of, inside, nothing_rule, parenthesis_rule, arguments_rule, members_rule, subquery_rule, case_rule, negation_rule, opposite_rule, qualifier_rule, after_name_from_qualifier_rule, after_name_rule, named_rule, if_call_rule, primary_from_case_rule, primary_from_if_call_rule, primary_from_named_rule, primary_from_a_parameter_rule, primary_from_word_null_rule, primary_from_word_false_rule, primary_from_word_true_rule, primary_from_a_bytes_rule, primary_from_a_string_rule, primary_rule, unary_rule, other_unary_rule, signed_rule, term_sign_rule, term_more_rule, term_rest_rule, term_rule, sum_sign_rule, sum_more_rule, sum_rest_rule, sum_rule, comparison_from_sign_greater_rule, comparison_from_sign_less_equal_rule, comparison_from_sign_less_rule, comparison_from_sign_bang_equal_rule, comparison_from_sign_less_greater_rule, comparison_rule, compared_rule, maybe_not_rule, is_null_from_maybe_not_rule, is_null_rule, like_rule, between_from_word_and_rule, between_from_sum_rule, between_rule, within_rule, test_from_between_rule, test_rule, maybe_not_test_rule, predicate_rest_from_maybe_not_test_rule, predicate_rest_from_is_null_rule, predicate_rest_rule, predicate_rule, negated_rule, conjunction_more_rule, conjunction_rest_rule, conjunction_rule, expression_more_rule, expression_rest_rule, expression_rule, list_more_rule, list_rest_rule, list_rule, in_parenthesis_rule, argument_list_from_list_rule, argument_list_rule, in_arguments_rule, in_members_rule, when_from_word_then_rule, when_from_expression_rule, when_rule, when_rest_rule, case_operand_rule, else_rule, case_else_rule, in_case_from_case_else_rule, in_case_from_when_rest_rule, in_case_from_when_rule, in_case_rule, as_name_rule, alias_from_a_name_rule, alias_rule, all_of_table_from_sign_dot_rule, all_of_table_rule, output_expression_rule, output_from_all_of_table_rule, output_rule, output_more_rule, output_rest_rule, outputs_rule, required_alias_rule, named_item_rule, derived_item_rule, item_rule, inner_join_rule, maybe_outer_rule, left_join_from_maybe_outer_rule, left_join_rule, join_kind_from_word_join_rule, join_kind_rule, join_from_word_on_rule, join_from_item_rule, join_rule, joins_rule, maybe_quantifier_from_word_distinct_rule, maybe_quantifier_rule, where_rule, maybe_where_rule, maybe_qualifier_rule, column_rule, column_more_rule, column_rest_rule, group_by_from_column_rule, group_by_from_word_by_rule, group_by_rule, maybe_group_by_rule, having_rule, maybe_having_rule, block_from_maybe_group_by_rule, block_from_maybe_where_rule, block_from_joins_rule, block_from_item_rule, block_from_word_from_rule, block_from_outputs_rule, block_from_maybe_quantifier_rule, block_rule, union_more_from_word_all_rule, union_more_rule, union_rest_rule, direction_from_word_desc_rule, direction_rule, sort_column_rule, sort_key_rule, sort_key_more_rule, sort_key_rest_rule, order_by_from_sort_key_rule, order_by_from_word_by_rule, order_by_rule, maybe_order_by_rule, skip_rule, maybe_skip_rule, limit_from_an_integer_rule, limit_rule, maybe_limit_rule, query_from_maybe_order_by_rule, query_from_union_rest_rule, query_rule, in_subquery_rule, maybe_semicolon_rule, statement_rule, length_bound_rule, long_kind_rule, length_parenthesis_rule, long_type_rule, type_from_word_bool_rule, type_rule, not_null_rule, maybe_not_null_rule, table_column_from_type_rule, table_column_rule, table_column_more_rule, table_column_rest_rule, table_columns_rule, key_column_rule, key_column_more_rule, key_column_rest_rule, key_columns_rule, no_action_rule, action_rule, on_delete_from_word_delete_rule, on_delete_rule, maybe_on_delete_rule, interleave_from_a_name_rule, interleave_from_word_parent_rule, interleave_from_word_in_rule, interleave_from_word_interleave_rule, interleave_rule, maybe_interleave_rule, table_from_key_columns_rule, table_from_word_key_rule, table_from_word_primary_rule, table_from_table_columns_rule, table_from_a_name_rule, table_from_word_table_rule, table_rule, table_more_rule, table_rest_rule, maybe_last_semicolon_rule, schema_from_table_rest_rule, schema_rule, in_length_rule, in_table_columns_from_table_column_rest_rule, in_table_columns_rule, in_key_columns_from_key_column_rest_rule, in_key_columns_rule}
-use Rattle.span_grammar.proofs.Sound.{Has, Ends}
-use Rattle.span_grammar.proofs.Having.{one_of, one_has, inside_has, nothing_has, parenthesis_has, arguments_has, members_has, subquery_has, case_has, negation_has, opposite_has, qualifier_has, after_name_from_qualifier_has, after_name_has, named_has, if_call_has, primary_from_case_has, primary_from_if_call_has, primary_from_named_has, primary_from_a_parameter_has, primary_from_word_null_has, primary_from_word_false_has, primary_from_word_true_has, primary_from_a_bytes_has, primary_from_a_string_has, primary_has, unary_has, other_unary_has, signed_has, term_sign_has, term_more_has, term_rest_has, term_has, sum_sign_has, sum_more_has, sum_rest_has, sum_has, comparison_from_sign_greater_has, comparison_from_sign_less_equal_has, comparison_from_sign_less_has, comparison_from_sign_bang_equal_has, comparison_from_sign_less_greater_has, comparison_has, compared_has, maybe_not_has, is_null_from_maybe_not_has, is_null_has, like_has, between_from_word_and_has, between_from_sum_has, between_has, within_has, test_from_between_has, test_has, maybe_not_test_has, predicate_rest_from_maybe_not_test_has, predicate_rest_from_is_null_has, predicate_rest_has, predicate_has, negated_has, conjunction_more_has, conjunction_rest_has, conjunction_has, expression_more_has, expression_rest_has, expression_has, list_more_has, list_rest_has, list_has, in_parenthesis_has, argument_list_from_list_has, argument_list_has, in_arguments_has, in_members_has, when_from_word_then_has, when_from_expression_has, when_has, when_rest_has, case_operand_has, else_has, case_else_has, in_case_from_case_else_has, in_case_from_when_rest_has, in_case_from_when_has, in_case_has, as_name_has, alias_from_a_name_has, alias_has, all_of_table_from_sign_dot_has, all_of_table_has, output_expression_has, output_from_all_of_table_has, output_has, output_more_has, output_rest_has, outputs_has, required_alias_has, named_item_has, derived_item_has, item_has, inner_join_has, maybe_outer_has, left_join_from_maybe_outer_has, left_join_has, join_kind_from_word_join_has, join_kind_has, join_from_word_on_has, join_from_item_has, join_has, joins_has, maybe_quantifier_from_word_distinct_has, maybe_quantifier_has, where_has, maybe_where_has, maybe_qualifier_has, column_has, column_more_has, column_rest_has, group_by_from_column_has, group_by_from_word_by_has, group_by_has, maybe_group_by_has, having_has, maybe_having_has, block_from_maybe_group_by_has, block_from_maybe_where_has, block_from_joins_has, block_from_item_has, block_from_word_from_has, block_from_outputs_has, block_from_maybe_quantifier_has, block_has, union_more_from_word_all_has, union_more_has, union_rest_has, direction_from_word_desc_has, direction_has, sort_column_has, sort_key_has, sort_key_more_has, sort_key_rest_has, order_by_from_sort_key_has, order_by_from_word_by_has, order_by_has, maybe_order_by_has, skip_has, maybe_skip_has, limit_from_an_integer_has, limit_has, maybe_limit_has, query_from_maybe_order_by_has, query_from_union_rest_has, query_has, in_subquery_has, maybe_semicolon_has, statement_has, length_bound_has, long_kind_has, length_parenthesis_has, long_type_has, type_from_word_bool_has, type_has, not_null_has, maybe_not_null_has, table_column_from_type_has, table_column_has, table_column_more_has, table_column_rest_has, table_columns_has, key_column_has, key_column_more_has, key_column_rest_has, key_columns_has, no_action_has, action_has, on_delete_from_word_delete_has, on_delete_has, maybe_on_delete_has, interleave_from_a_name_has, interleave_from_word_parent_has, interleave_from_word_in_has, interleave_from_word_interleave_has, interleave_has, maybe_interleave_has, table_from_key_columns_has, table_from_word_key_has, table_from_word_primary_has, table_from_table_columns_has, table_from_a_name_has, table_from_word_table_has, table_has, table_more_has, table_rest_has, maybe_last_semicolon_has, schema_from_table_rest_has, schema_has, in_length_has, in_table_columns_from_table_column_rest_has, in_table_columns_has, in_key_columns_from_key_column_rest_has, in_key_columns_has}
+use Rattle.span_grammar.proofs.Sound.{Ends}
+use Rattle.span_grammar.proofs.Having.{one_of, one_has, inside_has, arguments_has, members_has, after_name_has, unary_has, term_rest_has, term_has, sum_rest_has, sum_has, is_null_from_maybe_not_has, between_from_word_and_has, between_from_sum_has, test_has, predicate_rest_has, negated_has, conjunction_rest_has, conjunction_has, expression_rest_has, expression_has, list_rest_has, when_from_word_then_has, when_from_expression_has, in_case_from_case_else_has, in_case_from_when_rest_has, in_case_from_when_has, alias_has, all_of_table_from_sign_dot_has, output_has, output_rest_has, required_alias_has, left_join_from_maybe_outer_has, join_from_word_on_has, join_from_item_has, maybe_qualifier_has, column_has, column_rest_has, group_by_from_column_has, group_by_from_word_by_has, maybe_having_has, block_from_maybe_group_by_has, block_from_maybe_where_has, block_from_joins_has, block_from_item_has, block_from_word_from_has, block_from_outputs_has, block_from_maybe_quantifier_has, block_has, union_more_from_word_all_has, direction_has, sort_key_has, sort_key_rest_has, order_by_from_sort_key_has, order_by_from_word_by_has, maybe_skip_has, limit_from_an_integer_has, maybe_limit_has, query_from_maybe_order_by_has, query_from_union_rest_has, maybe_semicolon_has, length_parenthesis_has, maybe_not_null_has, table_column_from_type_has, table_column_has, key_column_has, action_has, on_delete_from_word_delete_has, maybe_on_delete_has, interleave_from_a_name_has, interleave_from_word_parent_has, interleave_from_word_in_has, interleave_from_word_interleave_has, maybe_interleave_has, table_from_key_columns_has, table_from_word_key_has, table_from_word_primary_has, table_from_table_columns_has, table_from_a_name_has, table_from_word_table_has, table_has, maybe_last_semicolon_has, schema_from_table_rest_has, in_table_columns_from_table_column_rest_has, in_key_columns_from_key_column_rest_has}
 
 one_ends : (s : Sort) → Ends inside (One s)
 one_ends s = one_of s

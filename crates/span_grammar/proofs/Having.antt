@@ -3,14 +3,11 @@ use denote.Enum.Bare.{true_same}
 use Rattle.span_lexer.specs.contracts.token.Word.{the_type as word_type}
 use Rattle.span_lexer.specs.contracts.token.Sign.{the_type as sign_type}
 use Rattle.span_grammar.specs.contracts.class.Context.{the_type as context_type}
-use Rattle.std.proofs.Common.{◌≡◌, ◌∙◌, Bool, true, false, refl, ap}
-use Rattle.std.specs.Prelude.{◌||◌, ◌&&◌}
+use Rattle.std.proofs.Common.{◌≡◌, true, refl}
 use Rattle.span_lexer.specs.declared.token.Word.TheVariants as word
 use Rattle.span_lexer.specs.declared.token.Sign.TheVariants as sign
 use Rattle.span_grammar.specs.declared.class.Sort.TheVariants as sort
 use Rattle.span_grammar.specs.declared.class.Context.TheVariants as context
-use Rattle.span_grammar.specs.declared.grammar.Part.{Part}
-use Rattle.span_grammar.specs.declared.grammar.Part.TheVariants as part
 use Rattle.span_grammar.specs.declared.grammar.Place.{Place}
 use Rattle.span_grammar.specs.declared.grammar.Place.TheVariants as place
 use Rattle.span_grammar.specs.declared.class.Class.{Class}
@@ -18,8 +15,8 @@ use Rattle.span_grammar.specs.declared.class.Lexeme.{Lexeme}
 use Rattle.span_grammar.specs.declared.class.Class.TheVariants as class
 use Rattle.span_grammar.specs.declared.class.Sort.{Sort}
 use Rattle.span_grammar.specs.Rules.{One, Nothing, Leaf, Pair, Left, Right, End, Nest, is_of, is_class, of_class}
-use Rattle.span_grammar.specs.Grammar.{rule_of, inside, nothing_rule, parenthesis_rule, arguments_rule, members_rule, subquery_rule, case_rule, negation_rule, opposite_rule, qualifier_rule, after_name_from_qualifier_rule, after_name_rule, named_rule, if_call_rule, primary_from_case_rule, primary_from_if_call_rule, primary_from_named_rule, primary_from_a_parameter_rule, primary_from_word_null_rule, primary_from_word_false_rule, primary_from_word_true_rule, primary_from_a_bytes_rule, primary_from_a_string_rule, primary_rule, unary_rule, other_unary_rule, signed_rule, term_sign_rule, term_more_rule, term_rest_rule, term_rule, sum_sign_rule, sum_more_rule, sum_rest_rule, sum_rule, comparison_from_sign_greater_rule, comparison_from_sign_less_equal_rule, comparison_from_sign_less_rule, comparison_from_sign_bang_equal_rule, comparison_from_sign_less_greater_rule, comparison_rule, compared_rule, maybe_not_rule, is_null_from_maybe_not_rule, is_null_rule, like_rule, between_from_word_and_rule, between_from_sum_rule, between_rule, within_rule, test_from_between_rule, test_rule, maybe_not_test_rule, predicate_rest_from_maybe_not_test_rule, predicate_rest_from_is_null_rule, predicate_rest_rule, predicate_rule, negated_rule, conjunction_more_rule, conjunction_rest_rule, conjunction_rule, expression_more_rule, expression_rest_rule, expression_rule, list_more_rule, list_rest_rule, list_rule, in_parenthesis_rule, argument_list_from_list_rule, argument_list_rule, in_arguments_rule, in_members_rule, when_from_word_then_rule, when_from_expression_rule, when_rule, when_rest_rule, case_operand_rule, else_rule, case_else_rule, in_case_from_case_else_rule, in_case_from_when_rest_rule, in_case_from_when_rule, in_case_rule, as_name_rule, alias_from_a_name_rule, alias_rule, all_of_table_from_sign_dot_rule, all_of_table_rule, output_expression_rule, output_from_all_of_table_rule, output_rule, output_more_rule, output_rest_rule, outputs_rule, required_alias_rule, named_item_rule, derived_item_rule, item_rule, inner_join_rule, maybe_outer_rule, left_join_from_maybe_outer_rule, left_join_rule, join_kind_from_word_join_rule, join_kind_rule, join_from_word_on_rule, join_from_item_rule, join_rule, joins_rule, maybe_quantifier_from_word_distinct_rule, maybe_quantifier_rule, where_rule, maybe_where_rule, maybe_qualifier_rule, column_rule, column_more_rule, column_rest_rule, group_by_from_column_rule, group_by_from_word_by_rule, group_by_rule, maybe_group_by_rule, having_rule, maybe_having_rule, block_from_maybe_group_by_rule, block_from_maybe_where_rule, block_from_joins_rule, block_from_item_rule, block_from_word_from_rule, block_from_outputs_rule, block_from_maybe_quantifier_rule, block_rule, union_more_from_word_all_rule, union_more_rule, union_rest_rule, direction_from_word_desc_rule, direction_rule, sort_column_rule, sort_key_rule, sort_key_more_rule, sort_key_rest_rule, order_by_from_sort_key_rule, order_by_from_word_by_rule, order_by_rule, maybe_order_by_rule, skip_rule, maybe_skip_rule, limit_from_an_integer_rule, limit_rule, maybe_limit_rule, query_from_maybe_order_by_rule, query_from_union_rest_rule, query_rule, in_subquery_rule, maybe_semicolon_rule, statement_rule, length_bound_rule, long_kind_rule, length_parenthesis_rule, long_type_rule, type_from_word_bool_rule, type_rule, not_null_rule, maybe_not_null_rule, table_column_from_type_rule, table_column_rule, table_column_more_rule, table_column_rest_rule, table_columns_rule, key_column_rule, key_column_more_rule, key_column_rest_rule, key_columns_rule, no_action_rule, action_rule, on_delete_from_word_delete_rule, on_delete_rule, maybe_on_delete_rule, interleave_from_a_name_rule, interleave_from_word_parent_rule, interleave_from_word_in_rule, interleave_from_word_interleave_rule, interleave_rule, maybe_interleave_rule, table_from_key_columns_rule, table_from_word_key_rule, table_from_word_primary_rule, table_from_table_columns_rule, table_from_a_name_rule, table_from_word_table_rule, table_rule, table_more_rule, table_rest_rule, maybe_last_semicolon_rule, schema_from_table_rest_rule, schema_rule, in_length_rule, in_table_columns_from_table_column_rest_rule, in_table_columns_rule, in_key_columns_from_key_column_rest_rule, in_key_columns_rule}
-use Rattle.span_grammar.proofs.Sound.{Has, Ends}
+use Rattle.span_grammar.specs.Grammar.{inside, nothing_rule, parenthesis_rule, arguments_rule, members_rule, subquery_rule, case_rule, negation_rule, opposite_rule, qualifier_rule, after_name_from_qualifier_rule, after_name_rule, named_rule, if_call_rule, primary_from_case_rule, primary_from_if_call_rule, primary_from_named_rule, primary_from_a_parameter_rule, primary_from_word_null_rule, primary_from_word_false_rule, primary_from_word_true_rule, primary_from_a_bytes_rule, primary_from_a_string_rule, primary_rule, unary_rule, other_unary_rule, signed_rule, term_sign_rule, term_more_rule, term_rest_rule, term_rule, sum_sign_rule, sum_more_rule, sum_rest_rule, sum_rule, comparison_from_sign_greater_rule, comparison_from_sign_less_equal_rule, comparison_from_sign_less_rule, comparison_from_sign_bang_equal_rule, comparison_from_sign_less_greater_rule, comparison_rule, compared_rule, maybe_not_rule, is_null_from_maybe_not_rule, is_null_rule, like_rule, between_from_word_and_rule, between_from_sum_rule, between_rule, within_rule, test_from_between_rule, test_rule, maybe_not_test_rule, predicate_rest_from_maybe_not_test_rule, predicate_rest_from_is_null_rule, predicate_rest_rule, predicate_rule, negated_rule, conjunction_more_rule, conjunction_rest_rule, conjunction_rule, expression_more_rule, expression_rest_rule, expression_rule, list_more_rule, list_rest_rule, list_rule, in_parenthesis_rule, argument_list_from_list_rule, argument_list_rule, in_arguments_rule, in_members_rule, when_from_word_then_rule, when_from_expression_rule, when_rule, when_rest_rule, case_operand_rule, else_rule, case_else_rule, in_case_from_case_else_rule, in_case_from_when_rest_rule, in_case_from_when_rule, in_case_rule, as_name_rule, alias_from_a_name_rule, alias_rule, all_of_table_from_sign_dot_rule, all_of_table_rule, output_expression_rule, output_from_all_of_table_rule, output_rule, output_more_rule, output_rest_rule, outputs_rule, required_alias_rule, named_item_rule, derived_item_rule, item_rule, inner_join_rule, maybe_outer_rule, left_join_from_maybe_outer_rule, left_join_rule, join_kind_from_word_join_rule, join_kind_rule, join_from_word_on_rule, join_from_item_rule, join_rule, joins_rule, maybe_quantifier_from_word_distinct_rule, maybe_quantifier_rule, where_rule, maybe_where_rule, maybe_qualifier_rule, column_rule, column_more_rule, column_rest_rule, group_by_from_column_rule, group_by_from_word_by_rule, group_by_rule, maybe_group_by_rule, having_rule, maybe_having_rule, block_from_maybe_group_by_rule, block_from_maybe_where_rule, block_from_joins_rule, block_from_item_rule, block_from_word_from_rule, block_from_outputs_rule, block_from_maybe_quantifier_rule, block_rule, union_more_from_word_all_rule, union_more_rule, union_rest_rule, direction_from_word_desc_rule, direction_rule, sort_column_rule, sort_key_rule, sort_key_more_rule, sort_key_rest_rule, order_by_from_sort_key_rule, order_by_from_word_by_rule, order_by_rule, maybe_order_by_rule, skip_rule, maybe_skip_rule, limit_from_an_integer_rule, limit_rule, maybe_limit_rule, query_from_maybe_order_by_rule, query_from_union_rest_rule, query_rule, in_subquery_rule, maybe_semicolon_rule, statement_rule, length_bound_rule, long_kind_rule, length_parenthesis_rule, long_type_rule, type_from_word_bool_rule, type_rule, not_null_rule, maybe_not_null_rule, table_column_from_type_rule, table_column_rule, table_column_more_rule, table_column_rest_rule, table_columns_rule, key_column_rule, key_column_more_rule, key_column_rest_rule, key_columns_rule, no_action_rule, action_rule, on_delete_from_word_delete_rule, on_delete_rule, maybe_on_delete_rule, interleave_from_a_name_rule, interleave_from_word_parent_rule, interleave_from_word_in_rule, interleave_from_word_interleave_rule, interleave_rule, maybe_interleave_rule, table_from_key_columns_rule, table_from_word_key_rule, table_from_word_primary_rule, table_from_table_columns_rule, table_from_a_name_rule, table_from_word_table_rule, table_rule, table_more_rule, table_rest_rule, maybe_last_semicolon_rule, schema_from_table_rest_rule, schema_rule, in_length_rule, in_table_columns_from_table_column_rest_rule, in_table_columns_rule, in_key_columns_from_key_column_rest_rule, in_key_columns_rule}
+use Rattle.span_grammar.proofs.Sound.{Has}
 
 -- a token of the sort
 abbrev sample_class : Sort → Class

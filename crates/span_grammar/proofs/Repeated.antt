@@ -1,13 +1,7 @@
 -- What a part repeats is never nothing.
-use Rattle.std.proofs.Common.{◌≡◌, Bool, true, false, refl, ap, sym, subst}
-use Rattle.span_lexer.specs.declared.token.Word.TheVariants as word
-use Rattle.span_lexer.specs.declared.token.Sign.TheVariants as sign
-use Rattle.span_grammar.specs.declared.class.Sort.TheVariants as sort
-use Rattle.span_grammar.specs.declared.class.Context.TheVariants as context
+use Rattle.std.proofs.Common.{◌≡◌, false, sym, subst}
 use Rattle.span_grammar.specs.declared.grammar.Part.{Part}
 use Rattle.span_grammar.specs.declared.grammar.Part.TheVariants as part
-use Rattle.span_grammar.specs.declared.grammar.Place.{Place}
-use Rattle.span_grammar.specs.declared.grammar.Place.TheVariants as place
 use Rattle.span_grammar.specs.declared.grammar.Shape.{Shape}
 use Rattle.span_grammar.specs.declared.grammar.Shape.TheVariants as shape
 use Rattle.span_grammar.specs.Rules.{nullable}

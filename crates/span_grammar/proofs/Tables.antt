@@ -4,8 +4,6 @@ use Rattle.span_lexer.specs.declared.token.Word.TheVariants as word
 use Rattle.span_lexer.specs.declared.token.Sign.TheVariants as sign
 use Rattle.span_grammar.specs.declared.class.Sort.TheVariants as sort
 use Rattle.span_grammar.specs.declared.class.Context.TheVariants as context
-use Rattle.span_grammar.specs.declared.grammar.Part.{Part}
-use Rattle.span_grammar.specs.declared.grammar.Part.TheVariants as part
 use Rattle.span_grammar.specs.declared.grammar.Place.{Place}
 use Rattle.span_grammar.specs.declared.grammar.Place.TheVariants as place
 use Rattle.span_grammar.specs.declared.class.Class.{Class}

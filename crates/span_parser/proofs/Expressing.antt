@@ -17,7 +17,7 @@ use Rattle.span_parser.specs.declared.tree.Link.{roll-Link}
 use Rattle.span_grammar.specs.Shapes.{shape_of, part_inside}
 use Rattle.span_grammar.specs.Grammar.{rule_of}
 use Rattle.span_parser.specs.Pieces.{Piece, token, nothing, ◌<$>◌, ◌>>=◌, either, each, opening}
-use Rattle.span_parser.specs.Expressions.{span_of, spelling_of, spelling, integer_of, qualifier, column_of, qualified, column, chained, all_of, some_of, denied, term_sign, sum_sign, comparison, maybe_not, null_words, list_more, list, when, case_operand, case_else, case_end, case_arms, in_case, argument_list, Inner, parenthesis, arguments, members, case, negation, opposite, after_name, named, if_call, compound, word_literal, other_primary, primary, unary, other_unary, signed, term_more, term, sum_more, sum, compared, is_null, like, high_end, both_ends, between, within, test, maybe_not_test, predicate_rest, predicate, negated, conjunction_more, conjunction, expression_more, expression, behind}
+use Rattle.span_parser.specs.Expressions.{span_of, spelling_of, spelling, closing, arm_of, then_value, integer_of, qualifier, column_of, qualified, column, chained, all_of, some_of, denied, term_sign, sum_sign, comparison, maybe_not, null_words, list_more, list, when, case_operand, case_else, case_end, case_arms, in_case, argument_list, Inner, parenthesis, arguments, members, case, negation, opposite, after_name, named, if_call, compound, word_literal, other_primary, primary, unary, other_unary, signed, term_more, term, sum_more, sum, compared, is_null, like, high_end, both_ends, between, within, test, maybe_not_test, predicate_rest, predicate, negated, conjunction_more, conjunction, expression_more, expression, behind}
 use Rattle.span_parser.proofs.Good.{Good, token_good, nothing_good, map_good, then_good, or_good, many_good, open_good}
 
 -- ---- columns and signs
@@ -25,6 +25,10 @@ use Rattle.span_parser.proofs.Good.{Good, token_good, nothing_good, map_good, th
 pub spelling_good : (text : List ℕ) (n : ℕ) (s : Sort) → Good n (rule_of (part.Token s)) (spelling text s)
 unfolding spelling
 spelling_good text n s = map_good (spelling_of text) (token s) (token_good n s)
+
+pub closing_good : {A : Type 0} (n : ℕ) (x : A) → Good n (rule_of (part.Token (sort.Sign sign.Close))) (closing x)
+unfolding closing
+closing_good n x = map_good (λ t. x) (token (sort.Sign sign.Close)) (token_good n (sort.Sign sign.Close))
 
 module _ (text : List ℕ) (n : ℕ) where
   pub qualifier_good : Good n (rule_of part.Qualifier) (qualifier text)
@@ -75,9 +79,13 @@ module _ (n : ℕ) (p : Piece Expr) (gp : Good n (rule_of part.Expression) p) wh
   unfolding list shape_of part_inside
   list_good = then_good n part.List part.Expression part.ListRest refl (p) (λ x. ((λ xs. x ∷ xs) <$> (each part.ListMore (list_more p)))) (gp) (λ x. (map_good (λ xs. x ∷ xs) (each part.ListMore (list_more p)) (many_good n part.ListRest part.ListMore refl (list_more p) (list_more_good))))
 
+  pub then_value_good : {A : Type 0} (x : A) → Good n (rule_of part.WhenFromWordThen) (then_value p x)
+  unfolding then_value shape_of part_inside
+  then_value_good x = then_good n part.WhenFromWordThen (part.Token (sort.Word word.Then)) part.Expression refl (token (sort.Word word.Then)) (λ _. ((λ value. (x, value)) <$> (p))) (token_good n (sort.Word word.Then)) (λ _. (map_good (λ value. (x, value)) (p) (gp)))
+
   pub when_good : Good n (rule_of part.When) (when p)
   unfolding when shape_of part_inside
-  when_good = then_good n part.When (part.Token (sort.Word word.When)) part.WhenFromExpression refl (token (sort.Word word.When)) (λ _. ((p) >>= (λ condition. ((token (sort.Word word.Then)) >>= (λ _. ((λ value. roll-Arm (record { condition = condition; value = value })) <$> (p))))))) (token_good n (sort.Word word.When)) (λ _. (then_good n part.WhenFromExpression part.Expression part.WhenFromWordThen refl (p) (λ condition. ((token (sort.Word word.Then)) >>= (λ _. ((λ value. roll-Arm (record { condition = condition; value = value })) <$> (p))))) (gp) (λ condition. (then_good n part.WhenFromWordThen (part.Token (sort.Word word.Then)) part.Expression refl (token (sort.Word word.Then)) (λ _. ((λ value. roll-Arm (record { condition = condition; value = value })) <$> (p))) (token_good n (sort.Word word.Then)) (λ _. (map_good (λ value. roll-Arm (record { condition = condition; value = value })) (p) (gp)))))))
+  when_good = then_good n part.When (part.Token (sort.Word word.When)) part.WhenFromExpression refl (token (sort.Word word.When)) (λ _. ((p) >>= (λ condition. (arm_of <$> (then_value p condition))))) (token_good n (sort.Word word.When)) (λ _. (then_good n part.WhenFromExpression part.Expression part.WhenFromWordThen refl (p) (λ condition. (arm_of <$> (then_value p condition))) (gp) (λ condition. (map_good arm_of (then_value p condition) (then_value_good condition)))))
 
   pub case_else_good : Good n (rule_of part.CaseElse) (case_else p)
   unfolding case_else shape_of part_inside
@@ -114,15 +122,15 @@ pub record Deep (n : ℕ) (inner : Inner) : Type 0 where
 module _ (text : List ℕ) (n : ℕ) (inner : Inner) (deep : Deep n inner) where
   pub parenthesis_good : Good n (rule_of part.Parenthesis) (parenthesis text n inner)
   unfolding parenthesis shape_of part_inside
-  parenthesis_good = open_good n part.Parenthesis (sort.Sign sign.Open) place.InParenthesis refl ((inner.expression) >>= (λ x. ((λ t. x) <$> (token (sort.Sign sign.Close))))) (λ m e. (then_good m part.InParenthesis part.Expression (part.Token (sort.Sign sign.Close)) refl (inner.expression) (λ x. ((λ t. x) <$> (token (sort.Sign sign.Close)))) (deep.expression m e) (λ x. (map_good (λ t. x) (token (sort.Sign sign.Close)) (token_good m (sort.Sign sign.Close))))))
+  parenthesis_good = open_good n part.Parenthesis (sort.Sign sign.Open) place.InParenthesis refl ((inner.expression) >>= (λ x. (closing x))) (λ m e. (then_good m part.InParenthesis part.Expression (part.Token (sort.Sign sign.Close)) refl (inner.expression) (λ x. (closing x)) (deep.expression m e) (λ x. (closing_good m x))))
 
   pub arguments_good : (name : Spelling) → Good n (rule_of part.Arguments) (arguments text n inner name)
   unfolding arguments shape_of part_inside
-  arguments_good name = open_good n part.Arguments (sort.Sign sign.Open) place.InArguments refl ((argument_list inner.expression name) >>= (λ x. ((λ t. x) <$> (token (sort.Sign sign.Close))))) (λ m e. (then_good m part.InArguments part.ArgumentList (part.Token (sort.Sign sign.Close)) refl (argument_list inner.expression name) (λ x. ((λ t. x) <$> (token (sort.Sign sign.Close)))) (argument_list_good m inner.expression (deep.expression m e) name) (λ x. (map_good (λ t. x) (token (sort.Sign sign.Close)) (token_good m (sort.Sign sign.Close))))))
+  arguments_good name = open_good n part.Arguments (sort.Sign sign.Open) place.InArguments refl ((argument_list inner.expression name) >>= (λ x. (closing x))) (λ m e. (then_good m part.InArguments part.ArgumentList (part.Token (sort.Sign sign.Close)) refl (argument_list inner.expression name) (λ x. (closing x)) (argument_list_good m inner.expression (deep.expression m e) name) (λ x. (closing_good m x))))
 
   pub members_good : Good n (rule_of part.Members) (members text n inner)
   unfolding members shape_of part_inside
-  members_good = open_good n part.Members (sort.Sign sign.Open) place.InMembers refl ((list inner.expression) >>= (λ x. ((λ t. x) <$> (token (sort.Sign sign.Close))))) (λ m e. (then_good m part.InMembers part.List (part.Token (sort.Sign sign.Close)) refl (list inner.expression) (λ x. ((λ t. x) <$> (token (sort.Sign sign.Close)))) (list_good m inner.expression (deep.expression m e)) (λ x. (map_good (λ t. x) (token (sort.Sign sign.Close)) (token_good m (sort.Sign sign.Close))))))
+  members_good = open_good n part.Members (sort.Sign sign.Open) place.InMembers refl ((list inner.expression) >>= (λ x. (closing x))) (λ m e. (then_good m part.InMembers part.List (part.Token (sort.Sign sign.Close)) refl (list inner.expression) (λ x. (closing x)) (list_good m inner.expression (deep.expression m e)) (λ x. (closing_good m x))))
 
   pub case_good : Good n (rule_of part.Case) (case text n inner)
   unfolding case shape_of part_inside

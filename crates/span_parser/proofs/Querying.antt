@@ -19,10 +19,10 @@ use Rattle.span_parser.specs.declared.tree.Query.{Query}
 use Rattle.span_grammar.specs.Shapes.{shape_of, part_inside}
 use Rattle.span_grammar.specs.Grammar.{rule_of}
 use Rattle.span_parser.specs.Pieces.{Piece, token, nothing, ◌<$>◌, ◌>>=◌, either, each, opening}
-use Rattle.span_parser.specs.Expressions.{value_of, integer_of, spelling, column, behind, expression}
-use Rattle.span_parser.specs.Queries.{as_name, alias, required_alias, direction, sort_column, sort_key, sort_key_more, sort_keys, order_by, maybe_order_by, skip, maybe_skip, limit_clause, maybe_limit, quantifier, column_more, columns, group_by, maybe_group_by, all_of_table, maybe_outer, left_join, inner_join, join_kind, maybe_semicolon, where_clause, maybe_where, having, maybe_having, output_expression, output, output_more, outputs, subquery, named_item, derived_item, item, join_of, block_of, query_of, join_on, join_behind, join, block_groups, block_filter, query_order, query_unions, block_rest, block_from, block_shown, block, union_more, query, query_behind, statement}
+use Rattle.span_parser.specs.Expressions.{value_of, integer_of, spelling, closing, column, behind, expression}
+use Rattle.span_parser.specs.Queries.{as_name, alias, required_alias, direction, sort_column, sort_key, sort_key_more, sort_keys, order_by, maybe_order_by, skip, maybe_skip, limit_clause, maybe_limit, quantifier, column_more, columns, group_by, maybe_group_by, all_of_table, maybe_outer, left_join, inner_join, join_kind, maybe_semicolon, where_clause, maybe_where, having, maybe_having, output_expression, output, output_more, outputs, subquery, named_item, derived_item, item, join_of, block_of, query_of, join_on, join_behind, join, block_groups, block_filter, ordered, unions, block_rest, block_from, block_shown, block, union_more, query, query_behind, statement}
 use Rattle.span_parser.proofs.Good.{Good, token_good, nothing_good, map_good, then_good, or_good, many_good, open_good}
-use Rattle.span_parser.proofs.Expressing.{spelling_good, column_good, expression_good, deep}
+use Rattle.span_parser.proofs.Expressing.{spelling_good, closing_good, column_good, expression_good, deep}
 
 module _ (n : ℕ) where
   pub direction_good : Good n (rule_of part.Direction) (direction)
@@ -162,7 +162,7 @@ module _ (text : List ℕ) (n : ℕ) where
   module _ (inner : Piece Query) (good_inside : (m : ℕ) → n ≡ suc m → Good m (rule_of part.Query) inner) where
     pub subquery_good : Good n (rule_of part.Subquery) (subquery text n inner)
     unfolding subquery shape_of part_inside
-    subquery_good = open_good n part.Subquery (sort.Sign sign.Open) place.InSubquery refl ((inner) >>= (λ x. ((λ t. x) <$> (token (sort.Sign sign.Close))))) (λ m e. (then_good m part.InSubquery part.Query (part.Token (sort.Sign sign.Close)) refl (inner) (λ x. ((λ t. x) <$> (token (sort.Sign sign.Close)))) (good_inside m e) (λ x. (map_good (λ t. x) (token (sort.Sign sign.Close)) (token_good m (sort.Sign sign.Close))))))
+    subquery_good = open_good n part.Subquery (sort.Sign sign.Open) place.InSubquery refl ((inner) >>= (λ x. (closing x))) (λ m e. (then_good m part.InSubquery part.Query (part.Token (sort.Sign sign.Close)) refl (inner) (λ x. (closing x)) (good_inside m e) (λ x. (closing_good m x))))
 
     pub named_item_good : Good n (rule_of part.NamedItem) (named_item text n inner)
     unfolding named_item shape_of part_inside
@@ -216,17 +216,17 @@ module _ (text : List ℕ) (n : ℕ) where
     unfolding union_more shape_of part_inside
     union_more_good = then_good n part.UnionMore (part.Token (sort.Word word.Union)) part.UnionMoreFromWordAll refl (token (sort.Word word.Union)) (λ _. ((token (sort.Word word.All)) >>= (λ _. (block text n inner)))) (token_good n (sort.Word word.Union)) (λ _. (then_good n part.UnionMoreFromWordAll (part.Token (sort.Word word.All)) part.Block refl (token (sort.Word word.All)) (λ _. (block text n inner)) (token_good n (sort.Word word.All)) (λ _. (block_good))))
 
-    pub query_order_good : (first : Block) → (others : List Block) → Good n (rule_of part.QueryFromMaybeOrderBy) (query_order text n inner first others)
-    unfolding query_order shape_of part_inside
-    query_order_good first others = then_good n part.QueryFromMaybeOrderBy part.MaybeOrderBy part.MaybeLimit refl (maybe_order_by text) (λ order. ((query_of first others order) <$> (maybe_limit))) (maybe_order_by_good) (λ order. (map_good (query_of first others order) (maybe_limit) (maybe_limit_good n)))
+    pub ordered_good : {A : Type 0} (x : A) (others : List Block) → Good n (rule_of part.QueryFromMaybeOrderBy) (ordered text x others)
+    unfolding ordered shape_of part_inside
+    ordered_good x others = then_good n part.QueryFromMaybeOrderBy part.MaybeOrderBy part.MaybeLimit refl (maybe_order_by text) (λ order. ((λ limit. (x, others, order, limit)) <$> (maybe_limit))) (maybe_order_by_good) (λ order. (map_good (λ limit. (x, others, order, limit)) (maybe_limit) (maybe_limit_good n)))
 
-    pub query_unions_good : (first : Block) → Good n (rule_of part.QueryFromUnionRest) (query_unions text n inner first)
-    unfolding query_unions shape_of part_inside
-    query_unions_good first = then_good n part.QueryFromUnionRest part.UnionRest part.QueryFromMaybeOrderBy refl (each part.UnionMore (union_more text n inner)) (λ others. (query_order text n inner first others)) (many_good n part.UnionRest part.UnionMore refl (union_more text n inner) (union_more_good)) (λ others. (query_order_good first others))
+    pub unions_good : {A : Type 0} (x : A) → Good n (rule_of part.QueryFromUnionRest) (unions text n inner x)
+    unfolding unions shape_of part_inside
+    unions_good x = then_good n part.QueryFromUnionRest part.UnionRest part.QueryFromMaybeOrderBy refl (each part.UnionMore (union_more text n inner)) (λ others. (ordered text x others)) (many_good n part.UnionRest part.UnionMore refl (union_more text n inner) (union_more_good)) (λ others. (ordered_good x others))
 
     pub query_good : Good n (rule_of part.Query) (query text n inner)
     unfolding query shape_of part_inside
-    query_good = then_good n part.Query part.Block part.QueryFromUnionRest refl (block text n inner) (λ first. (query_unions text n inner first)) (block_good) (λ first. (query_unions_good first))
+    query_good = then_good n part.Query part.Block part.QueryFromUnionRest refl (block text n inner) (λ first. (query_of <$> (unions text n inner first))) (block_good) (λ first. (map_good query_of (unions text n inner first) (unions_good first)))
 
 before : (n m : ℕ) → suc n ≡ suc m → n ≡ m
 before n m h = omega (arith, h)

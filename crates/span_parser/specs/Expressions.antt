@@ -46,9 +46,13 @@ integer_of is_negative t = record { is_negative = is_negative; value = value_of 
 unfoldable pub spelling : List ℕ → Sort → Piece Spelling
 spelling text s = spelling_of text <$> token s
 
+-- what was found, and the parenthesis that closes it
+unfoldable pub closing : {A : Type 0} → A → Piece A
+closing x = (λ t. x) <$> token (sort.Sign sign.Close)
+
 -- a piece and the parenthesis that closes it
 abbrev pub closed : {A : Type 0} → Piece A → Piece A
-closed p = p >>= (λ x. (λ t. x) <$> token (sort.Sign sign.Close))
+closed p = p >>= closing
 
 -- ---- columns
 
@@ -121,12 +125,15 @@ list_more p = token (sort.Sign sign.Comma) >> p
 unfoldable pub list : Piece Expr → Piece (List Expr)
 list p = p >>= (λ x. (λ xs. x ∷ xs) <$> each part.ListMore (list_more p))
 
+unfoldable pub arm_of : Expr × Expr → Arm
+arm_of ends = roll-Arm (record { condition = ends.0; value = ends.1 })
+
+-- THEN and a value, behind what was found
+unfoldable pub then_value : {A : Type 0} → Piece Expr → A → Piece (A × Expr)
+then_value p x = token (sort.Word word.Then) >> ((λ value. (x, value)) <$> p)
+
 unfoldable pub when : Piece Expr → Piece Arm
-when p = do
-  token (sort.Word word.When)
-  condition ← p
-  token (sort.Word word.Then)
-  (λ value. roll-Arm (record { condition = condition; value = value })) <$> p
+when p = token (sort.Word word.When) >> (p >>= (λ condition. arm_of <$> then_value p condition))
 
 unfoldable pub case_operand : Piece Expr → Piece (Option Expr)
 case_operand p = optional part.Expression p

@@ -136,8 +136,12 @@ join_of is_left item on = roll-Join (record { is_left = is_left; item = item; on
 unfoldable pub block_of : Bool → List Output → Item → List Join → Option Expr → List Column → Option Expr → Block
 block_of is_distinct shows from joins filter groups having = roll-Block (record { is_distinct = is_distinct; outputs = shows; from = from; joins = joins; filter = filter; groups = groups; having = having })
 
-unfoldable pub query_of : Block → List Block → List SortKey → Option Limit → Query
-query_of first others order limit = roll-Query (record { first = first; others = others; order = order; limit = limit })
+unfoldable pub query_of : Block × List Block × List SortKey × Option Limit → Query
+query_of parts = roll-Query (record { first = parts.0; others = parts.1; order = parts.2; limit = parts.3 })
+
+-- ORDER BY and LIMIT, behind what was found
+unfoldable pub ordered : {A : Type 0} → List ℕ → A → List Block → Piece (A × List Block × List SortKey × Option Limit)
+ordered text x others = maybe_order_by text >>= (λ order. (λ limit. (x, others, order, limit)) <$> maybe_limit)
 
 -- ---- what has expressions in it; the text, and how many openings are left
 
@@ -220,16 +224,12 @@ module _ (text : List ℕ) (left : ℕ) where
     unfoldable pub union_more : Piece Block
     union_more = token (sort.Word word.Union) >> (token (sort.Word word.All) >> block)
 
-    -- behind the blocks
-    unfoldable pub query_order : Block → List Block → Piece Query
-    query_order first others = maybe_order_by text >>= (λ order. query_of first others order <$> maybe_limit)
-
-    -- behind the first block
-    unfoldable pub query_unions : Block → Piece Query
-    query_unions first = each part.UnionMore union_more >>= query_order first
+    -- the other blocks and what is behind them, behind what was found
+    unfoldable pub unions : {A : Type 0} → A → Piece (A × List Block × List SortKey × Option Limit)
+    unions x = each part.UnionMore union_more >>= ordered text x
 
     unfoldable pub query : Piece Query
-    query = block >>= query_unions
+    query = block >>= (λ first. query_of <$> unions first)
 
 pub no_spelling : Spelling
 no_spelling = record { text = []; span = record { start = 0; end = 0 } }

@@ -15,7 +15,7 @@ use super::operator::{
     sum_sign, term_sign,
 };
 use super::reader::{Level, Reader};
-use super::token::{enter, integer_of, next_is, span_of, spelling, take};
+use super::token::{closed, enter, integer_of, next_is, span_of, spelling, take};
 use super::tree::{Expr, Link, Spelling};
 use span_grammar::class::{Lexeme, Sort};
 use span_grammar::grammar::Part;
@@ -36,8 +36,7 @@ impl<
     {
         let (_, rest) = enter(self.left, Sort::Sign(Sign::Open), tokens)?;
         let (inner, rest) = self.behind(Level::Expression, rest)?;
-        let (_, rest) = take(Sort::Sign(Sign::Close), rest)?;
-        Ok((inner, rest))
+        closed(inner, rest)
     }
 
     /// A call, behind its name.
@@ -53,8 +52,7 @@ impl<
     {
         let (_, rest) = enter(self.left, Sort::Sign(Sign::Open), tokens)?;
         let (call, rest) = self.argument_list(name, rest)?;
-        let (_, rest) = take(Sort::Sign(Sign::Close), rest)?;
-        Ok((call, rest))
+        closed(call, rest)
     }
 
     /// `"(" expr {"," expr} ")"`
@@ -66,8 +64,7 @@ impl<
     {
         let (_, rest) = enter(self.left, Sort::Sign(Sign::Open), tokens)?;
         let (found, rest) = self.list(rest)?;
-        let (_, rest) = take(Sort::Sign(Sign::Close), rest)?;
-        Ok((found, rest))
+        closed(found, rest)
     }
 
     /// A CASE.

@@ -137,22 +137,43 @@ pub(crate) fn denied(alloc: Global, is_not: bool, x: Expr) -> Result<Expr, Alloc
     }
 }
 
+/// Two values, each in a box.
+fn boxed_both<T: Drop>(alloc: Global, x: T, y: T) -> Result<(Boxed<T>, Boxed<T>), AllocError>
+    ensures { IfOk result (λ both. (both.0 ≡ x) × (both.1 ≡ y)) }
+{
+    let x = Boxed::new(alloc, x)?;
+    let y = Boxed::new(alloc, y)?;
+    Ok((x, y))
+}
+
+/// Three values, each in a box.
+fn boxed_all<T: Drop>(
+    alloc: Global,
+    x: T,
+    y: T,
+    z: T,
+) -> Result<(Boxed<T>, (Boxed<T>, Boxed<T>)), AllocError>
+    ensures { IfOk result (λ all. (all.0 ≡ x) × (all.1.0 ≡ y) × (all.1.1 ≡ z)) }
+{
+    let x = Boxed::new(alloc, x)?;
+    let others = boxed_both(alloc, y, z)?;
+    Ok((x, others))
+}
+
 /// Two operands that are compared.
 pub(crate) fn compare(alloc: Global, x: Expr, how: Comparison, y: Expr) -> Result<Expr, AllocError>
     ensures { IfOk result (λ z. z ≡ Expr.Compare x how y) }
 {
-    Ok(Expr::Compare(Boxed::new(alloc, x)?, how, Boxed::new(alloc, y)?))
+    let (x, y) = boxed_both(alloc, x, y)?;
+    Ok(Expr::Compare(x, how, y))
 }
 
 /// BETWEEN with its three operands.
 pub(crate) fn is_between(alloc: Global, x: Expr, low: Expr, high: Expr) -> Result<Expr, AllocError>
     ensures { IfOk result (λ y. y ≡ Expr.Between x low high) }
 {
-    Ok(Expr::Between(
-        Boxed::new(alloc, x)?,
-        Boxed::new(alloc, low)?,
-        Boxed::new(alloc, high)?,
-    ))
+    let (x, (low, high)) = boxed_all(alloc, x, low, high)?;
+    Ok(Expr::Between(x, low, high))
 }
 
 /// The first, and the others behind it.

@@ -12,8 +12,8 @@ use super::clause::{
     quantifier, required_alias,
 };
 use super::fault::Fault;
-use super::token::{enter, spelling, take};
-use super::tree::{Block, Item, Join, Output, Query};
+use super::token::{closed, enter, spelling, take};
+use super::tree::{Block, Item, Join, Limit, Output, Query, SortKey};
 use span_grammar::class::{Lexeme, Sort};
 use span_grammar::grammar::Part;
 use span_grammar::reader::goes_on;
@@ -57,8 +57,7 @@ impl<
     {
         let (_, rest) = enter(self.clauses.left, Sort::Sign(Sign::Open), tokens)?;
         let (query, rest) = self.behind(rest)?;
-        let (_, rest) = take(Sort::Sign(Sign::Close), rest)?;
-        Ok((query, rest))
+        closed(query, rest)
     }
 
     /// `name [[AS] name]`
@@ -230,17 +229,36 @@ impl<
         Ok((found, rest))
     }
 
+    /// The other blocks and what is behind them, behind what was found.
+    #[tactic(auto, unfolding(crate::specs::Queries::unions))]
+    fn unions<'a, T: Drop>(
+        &self,
+        found: T,
+        tokens: &'a [Lexeme],
+    ) -> Result<
+        (
+            (T, Items<Block>, Items<SortKey>, Option<Limit>),
+            &'a [Lexeme],
+        ),
+        Fault,
+    >
+        requires nests { NestsQueries self.now.clauses.text.now self.now.clauses.left (F.pre self.now.read) (F.post self.now.read) }
+        requires limited { self.now.clauses.left ≤ limit }
+        ensures { Gives result ((spec.unions self.now.clauses.text.now self.now.clauses.left (spec.query_behind self.now.clauses.text.now self.now.clauses.left) found).read tokens.now) }
+    {
+        let (others, rest) = self.union_rest(tokens)?;
+        ordered(self.clauses.alloc, self.clauses.text, found, others, rest)
+    }
+
     /// `query`
-    #[tactic(auto, unfolding(crate::specs::Queries::query, crate::specs::Queries::query_unions, crate::specs::Queries::query_order, crate::specs::Queries::query_of))]
+    #[tactic(auto, unfolding(crate::specs::Queries::query, crate::specs::Queries::query_of))]
     fn query<'a>(&self, tokens: &'a [Lexeme]) -> Result<(Query, &'a [Lexeme]), Fault>
         requires nests { NestsQueries self.now.clauses.text.now self.now.clauses.left (F.pre self.now.read) (F.post self.now.read) }
         requires limited { self.now.clauses.left ≤ limit }
         ensures { Gives result ((spec.query self.now.clauses.text.now self.now.clauses.left (spec.query_behind self.now.clauses.text.now self.now.clauses.left)).read tokens.now) }
     {
         let (first, rest) = self.block(tokens)?;
-        let (others, rest) = self.union_rest(rest)?;
-        let (order, rest) = maybe_order_by(self.clauses.alloc, self.clauses.text, rest)?;
-        let (limit, rest) = maybe_limit(rest)?;
+        let ((first, others, order, limit), rest) = self.unions(first, rest)?;
         let query = Query {
             first,
             others,
@@ -249,6 +267,28 @@ impl<
         };
         Ok((query, rest))
     }
+}
+
+/// ORDER BY and LIMIT, behind what was found.
+#[tactic(auto, unfolding(crate::specs::Queries::ordered))]
+fn ordered<'a, T: Drop>(
+    alloc: Global,
+    text: &[u8],
+    found: T,
+    others: Items<Block>,
+    tokens: &'a [Lexeme],
+) -> Result<
+    (
+        (T, Items<Block>, Items<SortKey>, Option<Limit>),
+        &'a [Lexeme],
+    ),
+    Fault,
+>
+    ensures { Gives result ((spec.ordered text.now found others).read tokens.now) }
+{
+    let (order, rest) = maybe_order_by(alloc, text, tokens)?;
+    let (limit, rest) = maybe_limit(rest)?;
+    Ok(((found, others, order, limit), rest))
 }
 
 /// A query, where so many openings are left. This function alone recurses.

@@ -101,8 +101,25 @@ impl<
         Ok((first_and(self.alloc, first, more)?, rest))
     }
 
+    /// `THEN expr`, behind what was found.
+    #[tactic(auto, unfolding(crate::specs::Expressions::then_value))]
+    fn then_value<'a, T: Drop>(
+        &self,
+        found: T,
+        tokens: &'a [Lexeme],
+    ) -> Result<((T, Expr), &'a [Lexeme]), Fault>
+        requires nests { Nests self.now.text.now self.now.left (F.pre self.now.read) (F.post self.now.read) }
+        requires limited { self.now.left ≤ limit }
+        requires deeper { 0 < self.now.left }
+        ensures { Gives result ((spec.then_value (spec.behind self.now.text.now self.now.left).expression found).read tokens.now) }
+    {
+        let (_, rest) = take(Sort::Word(Word::Then), tokens)?;
+        let (value, rest) = self.behind(Level::Expression, rest)?;
+        Ok(((found, value), rest))
+    }
+
     /// `WHEN expr THEN expr`
-    #[tactic(auto, unfolding(crate::specs::Expressions::when))]
+    #[tactic(auto, unfolding(crate::specs::Expressions::when, crate::specs::Expressions::arm_of))]
     fn when<'a>(&self, tokens: &'a [Lexeme]) -> Result<(Arm, &'a [Lexeme]), Fault>
         requires nests { Nests self.now.text.now self.now.left (F.pre self.now.read) (F.post self.now.read) }
         requires limited { self.now.left ≤ limit }
@@ -111,8 +128,7 @@ impl<
     {
         let (_, rest) = take(Sort::Word(Word::When), tokens)?;
         let (condition, rest) = self.behind(Level::Expression, rest)?;
-        let (_, rest) = take(Sort::Word(Word::Then), rest)?;
-        let (value, rest) = self.behind(Level::Expression, rest)?;
+        let ((condition, value), rest) = self.then_value(condition, rest)?;
         Ok((Arm { condition, value }, rest))
     }
 

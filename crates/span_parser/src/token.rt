@@ -14,7 +14,7 @@ use span_grammar::class::{Lexeme, Sort};
 use span_grammar::classify::spelled;
 use span_grammar::grammar::Part;
 use span_grammar::reader::{goes_on, is_class};
-use span_lexer::token::{Token, TokenKind};
+use span_lexer::token::{Sign, Token, TokenKind};
 use span_value::text::Text;
 use std::alloc::{AllocError, Global};
 
@@ -47,6 +47,18 @@ pub fn enter(left: usize, sort: Sort, tokens: &[Lexeme]) -> Result<(Lexeme, &[Le
         return Err(Fault::TooDeep(tokens.len()));
     }
     Ok((lexeme, rest))
+}
+
+/// What was found, and the parenthesis that closes it.
+///
+/// Here as elsewhere, what was found goes through a function that takes it at any type: where the next token is at fault it is
+/// dropped, and to prove that the drop of a tree is safe takes long.
+#[tactic(auto, unfolding(crate::specs::Expressions::closing))]
+pub(crate) fn closed<T: Drop>(found: T, tokens: &[Lexeme]) -> Result<(T, &[Lexeme]), Fault>
+    ensures { Gives result ((spec.closing found).read tokens.now) }
+{
+    let (_, rest) = take(Sort::Sign(Sign::Close), tokens)?;
+    Ok((found, rest))
 }
 
 /// Where a token stands.
