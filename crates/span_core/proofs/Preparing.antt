@@ -1,22 +1,25 @@
-use Rattle.std.proofs.Common.{◌≡◌, ℕ, List, Option, Some, None, refl, ap, sym, ◌∙◌, subst, inl, inr}
+use Rattle.std.proofs.Common.{◌≡◌, ℕ, ◌<◌, ◌≤◌, Bool, true, false, nat_lt, arith, [], ◌∷◌, List, Option, Some, None, refl, ap, sym, ◌∙◌, subst, inl, inr}
 use Rattle.std.specs.Prelude.{slice_get, Ok, Err, ◌⊎◌}
+use Rattle.std.proofs.lemmas.Bool.Decides.{nat_tests}
 use Rattle.span_value.specs.declared.refusal.Refusal.{Refusal}
 use Rattle.span_value.specs.declared.refusal.Refusal.TheVariants as refusal
 use Rattle.span_mutate.specs.declared.mutation.CheckedMutation.{CheckedMutation}
 use Rattle.span_shard.specs.declared.write.Write.{Write}
 use Rattle.span_shard.specs.KeyVersions.{KeyVersions}
-use Rattle.span_shard.specs.Shard.{with_writes, IsFree, HasNoneOf, IsNow}
+use Rattle.span_shard.specs.Shard.{with_writes, live, IsFree, HasNoneOf, IsNow}
 use Rattle.span_machine.specs.declared.step.Step.TheVariants as step
 use Rattle.span_machine.specs.declared.step.Reply.TheVariants as reply
 use Rattle.span_machine.specs.declared.slot.Book.{Book}
 use Rattle.span_machine.specs.declared.transaction.OpenTransaction.{OpenTransaction}
-use Rattle.span_machine.specs.Machine.{Machine, Answer, Steps, refused, unless_refused, if_some, for_slot, mutations_in, faults, prepare, prepare_found, prepare_refusal, prepared}
+use Rattle.span_machine.specs.Machine.{Machine, Answer, Steps, refused, unless_refused, if_some, for_slot, mutations_in, faults, prepare, prepare_found, prepare_refusal, room_refusal, first_cause, prepared}
+use Rattle.span_machine.specs.Kept.{most, live_with}
+use Rattle.span_kept.proofs.Trims.{horizon_here}
 use Rattle.span_machine.specs.Pieces.{Journaled, machine_of}
 use Rattle.span_laws.proofs.Reached.{IsReached, answer_reached}
 use Rattle.span_kept.specs.Kept.{AreKept, ArePieced}
 use Rattle.span_kept.proofs.Claimers.{only_slot}
 use Rattle.span_kept.proofs.Covers.{pieced_by_step}
-use Rattle.span_kept.proofs.Preparing.{its_typed, prepare_free, prepare_new, prepare_fault, prepare_well, kept_prepared}
+use Rattle.span_kept.proofs.Preparing.{its_typed, prepare_free, prepare_new, prepare_fault, prepare_well, kept_prepared, live_prepared}
 use Rattle.span_journal.specs.Judged.{MayPrepare, IsNoted, IsUnnoted, stamp_refusal}
 use Rattle.span_core.specs.Whole.{IsWhole}
 use Rattle.span_schema.specs.declared.table.Table.{Table}
@@ -28,6 +31,12 @@ use Rattle.span_shard.specs.Rows.{AreChanges}
 
 some_same : {A : Type 0} (x y : A) → Some x ≡ Some y → x ≡ y
 some_same x y e = cc
+
+above : (n k : ℕ) → n ≡ k → most < n → nat_lt most k ≡ true
+above n k same many = grind (arith, nat_tests)
+
+not_above : (n k : ℕ) → n ≡ k → n ≤ most → nat_lt most k ≡ false
+not_above n k same few = grind (arith, nat_tests)
 
 module _ (schema : List Table) (j : Journaled) (cs : List KeyVersions) (w : IsWhole schema j cs) (owner txn slot : ℕ) (ms : List CheckedMutation) (may : MayPrepare schema (machine_of j) owner txn slot ms) where
   zero_slot : slot ≡ 0
@@ -46,8 +55,12 @@ module _ (schema : List Table) (j : Journaled) (cs : List KeyVersions) (w : IsWh
   pub new : HasNoneOf txn cs
   new = prepare_new schema w.rules (machine_of j) w.reached cs w.kept owner txn may.transaction may.book may.found here_zero accepted_zero
 
+  -- what is left to judge: room, and then the timestamp
+  abbrev stamped : Answer
+  stamped = unless_refused (machine_of j) (stamp_refusal may.book) (prepared (machine_of j) owner txn slot may.book)
+
   abbrev tail : Answer
-  tail = unless_refused (machine_of j) (stamp_refusal may.book) (prepared (machine_of j) owner txn slot may.book)
+  tail = unless_refused (machine_of j) (room_refusal schema (machine_of j) slot may.book (mutations_in schema may.book may.transaction.mutations)) stamped
 
   prepare_is : prepare schema (machine_of j) owner txn slot ≡ unless_refused (machine_of j) (faults schema (machine_of j) (mutations_in schema may.book may.transaction.mutations)) tail
   prepare_is =
@@ -82,8 +95,25 @@ module _ (schema : List Table) (j : Journaled) (cs : List KeyVersions) (w : IsWh
     well : faults schema (machine_of j) (mutations_in schema may.book may.transaction.mutations) ≡ None
     well = prepare_well schema w.rules (machine_of j) w.reached cs w.kept owner txn may.transaction may.book may.found here_zero accepted_zero ws are_in
 
-    judged : prepare schema (machine_of j) owner txn slot ≡ tail
-    judged = prepare_is ∙ ap (λ (o : Option Refusal). unless_refused (machine_of j) o tail) well
+    to_room : prepare schema (machine_of j) owner txn slot ≡ tail
+    to_room = prepare_is ∙ ap (λ (o : Option Refusal). unless_refused (machine_of j) o tail) well
+
+    -- with the writes there are as many versions as the machine counts
+    number : live (with_writes txn ws cs) ≡ live_with schema (machine_of j).log (machine_of j).transactions slot may.book.horizon (mutations_in schema may.book may.transaction.mutations)
+    number =
+        live_prepared schema w.rules (machine_of j) w.reached cs w.kept owner txn may.transaction may.book may.found here_zero accepted_zero ws are_in
+        ∙ ap (λ (h : ℕ). live_with schema (machine_of j).log (machine_of j).transactions 0 h (mutations_in schema may.book may.transaction.mutations)) (horizon_here (machine_of j).books may.book here_zero)
+        ∙ ap (λ (i : ℕ). live_with schema (machine_of j).log (machine_of j).transactions i may.book.horizon (mutations_in schema may.book may.transaction.mutations)) (sym zero_slot)
+
+    -- where they are too many, that is the reply
+    pub full_steps : most < live (with_writes txn ws cs) → Steps schema (machine_of j) (step.Prepare owner txn slot) (reply.Refused refusal.ShardFull) (machine_of j)
+    full_steps many =
+        let e = to_room ∙ ap (λ (b : Bool). unless_refused (machine_of j) (first_cause ((b, refusal.ShardFull) ∷ [])) stamped) (above (live (with_writes txn ws cs)) _ number many) in
+        inl (sym (ap (λ (a : Answer). a.0) e), sym (ap (λ (a : Answer). a.1) e))
+
+  module _ (ws : List Write) (are : Changes ms ws) (few : live (with_writes txn ws cs) ≤ most) where
+    judged : prepare schema (machine_of j) owner txn slot ≡ stamped
+    judged = to_room ws are ∙ ap (λ (b : Bool). unless_refused (machine_of j) (first_cause ((b, refusal.ShardFull) ∷ [])) stamped) (not_above (live (with_writes txn ws cs)) _ (number ws are) few)
 
     -- a transaction that is noted is prepared
     prepared_is : (ts : ℕ) (n : Machine) → (d : IsNoted (machine_of j) owner txn slot ts n) → prepare schema (machine_of j) owner txn slot ≡ prepared (machine_of j) owner txn slot d.book
@@ -103,7 +133,7 @@ module _ (schema : List Table) (j : Journaled) (cs : List KeyVersions) (w : IsWh
         let e = prepared_is ts (machine_of k) d in
         let is : machine_of k ≡ (prepare schema m owner txn slot).1 = d.after ∙ sym (ap (λ (a : Answer). a.1) e) in
         let same : may.book ≡ d.book = some_same may.book d.book (sym may.here ∙ d.here) in
-        let kept = kept_prepared schema w.rules m w.reached cs w.kept owner txn may.transaction may.book may.found here_zero accepted_zero ws are_in in
+        let kept = kept_prepared schema w.rules m w.reached cs w.kept owner txn may.transaction may.book may.found here_zero accepted_zero ws (are_in ws are) in
         record {
           rules = w.rules;
           reached = subst (IsReached schema) (sym is) (answer_reached schema w.rules m w.reached (step.Prepare owner txn slot) tt);

@@ -1,5 +1,5 @@
-use Rattle.std.proofs.Common.{◌≡◌, ℕ, ◌≤◌, ◌-◌, ◌^◌, arith, nat_lt, cond, true, false, List, [], ◌∷◌, ◌++◌, Option, Some, None, Result, Ok, Err, refl, ap, sym, ◌∙◌, subst, inl, inr}
-use Rattle.std.specs.Prelude.{find, min, slice_get, slice_set, OnOk, OnErr, option_map}
+use Rattle.std.proofs.Common.{◌≡◌, ℕ, ◌≤◌, arith, nat_lt, cond, true, false, List, [], ◌∷◌, ◌++◌, Option, Some, None, Result, Ok, Err, refl, ap, sym, ◌∙◌, subst, inl, inr}
+use Rattle.std.specs.Prelude.{find, slice_get, slice_set, OnOk, OnErr, option_map}
 use Rattle.std.proofs.lemmas.Bool.Decides.{nat_tests}
 use Rattle.span_value.specs.declared.refusal.Refusal.{Refusal}
 use Rattle.span_value.specs.declared.refusal.Refusal.TheVariants as refusal
@@ -160,7 +160,7 @@ whole_trimmed schema j k cs slot h w d queries =
 
 -- what is left in the shard is what the machine answers
 pub trimmed_steps : (schema : List Table) (j k : Journaled) (cs : List KeyVersions) (slot h : ℕ) → IsWhole schema j cs → IsRaised (machine_of j) slot h (machine_of k) → k.queries ≡ j.queries
-    → Steps schema (machine_of j) (step.Trim slot h) (reply.Trimmed (min (shard.live (shard.trimmed h cs)) (2 ^ 64 - 1))) (machine_of k)
+    → Steps schema (machine_of j) (step.Trim slot h) (reply.Trimmed (shard.live (shard.trimmed h cs))) (machine_of k)
 trimmed_steps schema j k cs slot h w d queries =
     let m = machine_of j in
     let zero = only_slot schema m w.reached slot d.book d.here in
@@ -177,7 +177,7 @@ trimmed_steps schema j k cs slot h w d queries =
     ∙ ap (λ (ts : List OpenTransaction). kept.live schema m.log ts 0 (horizon_of (machine_of k))) open_still
     ∙ ap (kept.live schema m.log m.transactions 0) horizon
     ∙ ap (λ (i : ℕ). kept.live schema m.log m.transactions i h) (sym zero) in
-    inl (ap (λ (n : ℕ). reply.Trimmed (min n (2 ^ 64 - 1))) number ∙ sym (ap (λ (a : Answer). a.0) e), d.after ∙ sym (ap (λ (a : Answer). a.1) e))
+    inl (ap reply.Trimmed number ∙ sym (ap (λ (a : Answer). a.0) e), d.after ∙ sym (ap (λ (a : Answer). a.1) e))
 
 -- ---- scan
 

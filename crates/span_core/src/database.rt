@@ -140,13 +140,16 @@ impl Core {
     {
         match self.journal.judge_prepare(&self.schema, owner, txn, slot) {
             Ok(mutations) => match self.shard.prepare(alloc, &self.schema, txn, mutations) {
-                Ok(()) => match self.journal.note_prepared(owner, txn, slot) {
-                    Ok(timestamp) => Ok(timestamp),
-                    Err(why) => {
-                        self.shard.apply(txn, None);
-                        Err(why)
+                Ok(()) => {
+                    self.shard.keeps_at_most();
+                    match self.journal.note_prepared(owner, txn, slot) {
+                        Ok(timestamp) => Ok(timestamp),
+                        Err(why) => {
+                            self.shard.apply(txn, None);
+                            Err(why)
+                        }
                     }
-                },
+                }
                 Err(why) => Err(why),
             },
             Err(why) => Err(why),

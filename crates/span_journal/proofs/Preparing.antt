@@ -10,7 +10,7 @@ use Rattle.span_truetime.specs.Time.{timestamp_end}
 use Rattle.span_machine.specs.declared.slot.Book.{Book}
 use Rattle.span_machine.specs.declared.transaction.Prepared.{Prepared}
 use Rattle.span_machine.specs.declared.transaction.OpenTransaction.{OpenTransaction}
-use Rattle.span_machine.specs.Machine.{Machine, refused, first_cause, unless_refused, if_some, is_transaction, is_undecided, is_prepared_at, conflicts, mutations_in, faults, prepare, prepare_found, prepare_refusal, prepare_timestamp, prepared, for_slot}
+use Rattle.span_machine.specs.Machine.{Machine, refused, first_cause, unless_refused, if_some, is_transaction, is_undecided, is_prepared_at, conflicts, mutations_in, faults, prepare, prepare_found, prepare_refusal, prepare_timestamp, prepared, for_slot, room_refusal}
 use Rattle.span_journal.specs.Judged.{MayPrepare, stamp_refusal}
 
 -- every mutation lies in the one slot
@@ -51,7 +51,7 @@ module _ (schema : List Table) (m : Machine) (owner txn slot : ℕ) (t : OpenTra
 
   refused_by : (why : Refusal) → prepare_refusal schema m slot t book ≡ Some why → prepare schema m owner txn slot ≡ refused m why
   refused_by why e = prepare_is ∙ ap (λ (o : Option Refusal). unless_refused m o
-      (unless_refused m (faults schema m (mutations_in schema book t.mutations)) (unless_refused m (stamp_refusal book) (prepared m owner txn slot book)))) e
+      (unless_refused m (faults schema m (mutations_in schema book t.mutations)) (unless_refused m (room_refusal schema m slot book (mutations_in schema book t.mutations)) (unless_refused m (stamp_refusal book) (prepared m owner txn slot book))))) e
 
   pub refused_wrong : not (is_wrong slot t) ≡ false → prepare schema m owner txn slot ≡ refused m refusal.WrongState
   refused_wrong e = refused_by refusal.WrongState (refusal_is schema m slot t book ∙ ap (λ b. first_cause ((b, refusal.WrongState) ∷ (conflicts schema m slot t.mutations, refusal.Conflict) ∷ [])) (not_false (is_wrong slot t) e))

@@ -23,7 +23,7 @@ use Rattle.span_shard.specs.KeyVersions.{KeyVersions}
 use Rattle.span_shard.specs.Rows.{begins_with, code_of, row_coded}
 use Rattle.span_shard.specs.Reading.{is_same_row}
 use Rattle.span_shard.specs.Versions.{kept_version, kept_upto}
-use Rattle.span_shard.specs.Shard.{is_key, versions_of, prepared_of, versions_at, prepared_at, kept_of, live}
+use Rattle.span_shard.specs.Shard.{AreInOrder, is_key, versions_of, prepared_of, versions_at, prepared_at, kept_of, live}
 use Rattle.span_shard.proofs.Bytes.{bytes_same, front_begins}
 use Rattle.span_shard.proofs.Lists.{all_append, all_filter_itself, any_all, none_any}
 use Rattle.span_machine.specs.declared.transaction.Commit.{Commit}
@@ -379,7 +379,7 @@ module _ (schema : List Table) (rules : MeetsRules schema) (m : Machine) (cs : L
 -- ---- the keys of changes
 
 -- the change is of a coded key
-abbrev IsOfKey : List Table → Change → Type 0
+abbrev pub IsOfKey : List Table → Change → Type 0
 IsOfKey schema d = IsCodedCoding schema d.key
 
 -- the key of a typed row is coded
@@ -392,7 +392,7 @@ of_rows schema change same [] typed = tt
 of_rows schema change same (r ∷ rs) typed = (subst (IsCodedCoding schema) (sym (same r)) (row_coding schema r typed.0), of_rows schema change same rs typed.1)
 
 -- the keys that change between two typed databases are coded
-coded_between : (schema : List Table) (ts : ℕ) (before after : List TableRow) → AreTyped schema before → AreTyped schema after → AllByRecursion (IsOfKey schema) (changes_between schema ts before after)
+pub coded_between : (schema : List Table) (ts : ℕ) (before after : List TableRow) → AreTyped schema before → AreTyped schema after → AllByRecursion (IsOfKey schema) (changes_between schema ts before after)
 coded_between schema ts before after typed_before typed_after =
     all_append (IsOfKey schema) (map (put_at schema ts) (filter (λ r. not (list_any (is_same schema r) before)) after)) (map (gone_at schema ts) (filter (λ r. not (list_any (has_same_key schema r) after)) before))
     (of_rows schema (put_at schema ts) (λ r. refl) (filter (λ r. not (list_any (is_same schema r) before)) after) (all_filtered (IsTyped schema) (λ r. not (list_any (is_same schema r) before)) after typed_after))
@@ -430,53 +430,61 @@ coded_prepared schema db (t ∷ ts) typed by = all_append (IsOfKey schema) (chan
 
 -- ---- all keys
 
-module _ (schema : List Table) (rules : MeetsRules schema) (m : Machine) (cs : List KeyVersions) (reached : IsReached schema m) (are_kept : AreKept schema m cs) where
-  -- all that is counted: the changes of the log that are kept, and those that are prepared
-  abbrev counted_changes : List Change
-  counted_changes = kept (horizon_of m) (changes_of schema m.log) ++ all_prepared schema (database_of schema m.log) 0 m.transactions
-
-  -- at each coded key as many stand as are counted
-  count_at : (k : List ℕ) → IsCodedCoding schema k → length (versions_at cs k) + cond (is_some (prepared_at cs k)) 1 0 ≡ length (filter (is_at_key k) counted_changes)
-  count_at k coding = let root = root_of_coding schema rules k coding in count_at_key schema rules m cs reached are_kept root.0 root.1 k root.2
-
+-- a shard that has at each coded key as many versions, the prepared one included, as there are of these changes, has as many as changes
+module _ (schema : List Table) (cs : List KeyVersions) (up : AreInOrder cs) (coded : AllByRecursion (λ (c : KeyVersions). IsCodedCoding schema c.key) cs) (ds : List Change) (of_keys : AllByRecursion (IsOfKey schema) ds)
+    (each : (k : List ℕ) → IsCodedCoding schema k → length (versions_at cs k) + cond (is_some (prepared_at cs k)) 1 0 ≡ length (filter (is_at_key k) ds)) where
   -- each key of the shard has as many as are counted there
-  each_key : AllByRecursion (λ (c : KeyVersions). kept_of c ≡ length (filter (is_at_key c.key) counted_changes)) cs
-  each_key = all_by_key (λ (c : KeyVersions). kept_of c ≡ length (filter (is_at_key c.key) counted_changes)) cs are_kept.keys (λ c found.
+  each_key : AllByRecursion (λ (c : KeyVersions). kept_of c ≡ length (filter (is_at_key c.key) ds)) cs
+  each_key = all_by_key (λ (c : KeyVersions). kept_of c ≡ length (filter (is_at_key c.key) ds)) cs up (λ c found.
       sym (ap (λ (o : Option KeyVersions). length (versions_of o) + cond (is_some (prepared_of o)) 1 0) found)
-      ∙ count_at c.key (all_found (λ (d : KeyVersions). IsCodedCoding schema d.key) (is_key c.key) cs c found are_kept.coded))
+      ∙ each c.key (all_found (λ (d : KeyVersions). IsCodedCoding schema d.key) (is_key c.key) cs c found coded))
 
-  -- the log's commits in their order are typed
-  in_order_by : AllByRecursion (IsCommitBy schema) (in_order is_before m.log)
-  in_order_by = all_in_order (IsCommitBy schema) m.log reached.by_schema.log
-
-  -- the keys of all that is counted are coded
-  all_coded : AllByRecursion (IsOfKey schema) counted_changes
-  all_coded = all_append (IsOfKey schema) (kept (horizon_of m) (changes_of schema m.log)) (all_prepared schema (database_of schema m.log) 0 m.transactions)
-      (all_filtered (IsOfKey schema) (is_kept (horizon_of m) (changes_of schema m.log)) (changes_of schema m.log) (coded_from schema [] (in_order is_before m.log) tt in_order_by))
-      (coded_prepared schema (database_of schema m.log) m.transactions (typed_database schema [] (in_order is_before m.log) tt in_order_by) reached.by_schema.transactions)
-
-  -- and are in the shard
-  all_there : AllByRecursion (λ (d : Change). list_any (is_key d.key) cs ≡ true) counted_changes
-  all_there = all_of_in (λ (d : Change). list_any (is_key d.key) cs ≡ true) counted_changes there
+  -- the keys of the changes are in the shard
+  all_there : AllByRecursion (λ (d : Change). list_any (is_key d.key) cs ≡ true) ds
+  all_there = all_of_in (λ (d : Change). list_any (is_key d.key) cs ≡ true) ds there
     where
-      there : (d : Change) → IsIn d counted_changes → list_any (is_key d.key) cs ≡ true
+      there : (d : Change) → IsIn d ds → list_any (is_key d.key) cs ≡ true
       there d at = cases (list_any (is_key d.key) cs) refl
         where
           cases : (b : Bool) → list_any (is_key d.key) cs ≡ b → b ≡ true
           cases true e = refl
           cases false e =
               let none : find (is_key d.key) cs ≡ None = none_any (is_key d.key) cs e in
-              let count = count_at d.key (all_in (IsOfKey schema) counted_changes d at all_coded) in
+              let count = each d.key (all_in (IsOfKey schema) ds d at of_keys) in
               let nothing : length (versions_at cs d.key) + cond (is_some (prepared_at cs d.key)) 1 0 ≡ 0 = ap (λ (o : Option KeyVersions). length (versions_of o) + cond (is_some (prepared_of o)) 1 0) none in
-              absurd (not_empty (filter (is_at_key d.key) counted_changes) d (in_filter (is_at_key d.key) counted_changes d at (bytes_same d.key d.key refl)) (sym count ∙ nothing))
+              absurd (not_empty (filter (is_at_key d.key) ds) d (in_filter (is_at_key d.key) ds d at (bytes_same d.key d.key refl)) (sym count ∙ nothing))
+
+  pub live_by_keys : live cs ≡ length ds
+  live_by_keys = sum_alike kept_of (λ (c : KeyVersions). length (filter (is_at_key c.key) ds)) cs each_key ∙ count_by_keys cs up ds all_there
+
+module _ (schema : List Table) (rules : MeetsRules schema) (m : Machine) (cs : List KeyVersions) (reached : IsReached schema m) (are_kept : AreKept schema m cs) where
+  -- all that is counted: the changes of the log that are kept, and those that are prepared
+  abbrev pub counted_changes : List Change
+  counted_changes = kept (horizon_of m) (changes_of schema m.log) ++ all_prepared schema (database_of schema m.log) 0 m.transactions
+
+  -- at each coded key as many stand as are counted
+  pub count_at : (k : List ℕ) → IsCodedCoding schema k → length (versions_at cs k) + cond (is_some (prepared_at cs k)) 1 0 ≡ length (filter (is_at_key k) counted_changes)
+  count_at k coding = let root = root_of_coding schema rules k coding in count_at_key schema rules m cs reached are_kept root.0 root.1 k root.2
+
+  -- the log's commits in their order are typed
+  in_order_by : AllByRecursion (IsCommitBy schema) (in_order is_before m.log)
+  in_order_by = all_in_order (IsCommitBy schema) m.log reached.by_schema.log
+
+  -- the keys of all that is counted are coded
+  pub all_coded : AllByRecursion (IsOfKey schema) counted_changes
+  all_coded = all_append (IsOfKey schema) (kept (horizon_of m) (changes_of schema m.log)) (all_prepared schema (database_of schema m.log) 0 m.transactions)
+      (all_filtered (IsOfKey schema) (is_kept (horizon_of m) (changes_of schema m.log)) (changes_of schema m.log) (coded_from schema [] (in_order is_before m.log) tt in_order_by))
+      (coded_prepared schema (database_of schema m.log) m.transactions (typed_database schema [] (in_order is_before m.log) tt in_order_by) reached.by_schema.transactions)
+
+  -- how many they are
+  pub counted_length : length counted_changes ≡ live_by_log schema m.log m.transactions 0 (horizon_of m)
+  counted_length =
+      length-append (kept (horizon_of m) (changes_of schema m.log)) (all_prepared schema (database_of schema m.log) 0 m.transactions)
+      ∙ ap (λ (n : ℕ). length (kept (horizon_of m) (changes_of schema m.log)) + n) (prepared_length schema (database_of schema m.log) 0 m.transactions)
 
   -- so both counts are the same
   pub live_count : live cs ≡ live_by_log schema m.log m.transactions 0 (horizon_of m)
-  live_count =
-      sum_alike kept_of (λ (c : KeyVersions). length (filter (is_at_key c.key) counted_changes)) cs each_key
-      ∙ count_by_keys cs are_kept.keys counted_changes all_there
-      ∙ length-append (kept (horizon_of m) (changes_of schema m.log)) (all_prepared schema (database_of schema m.log) 0 m.transactions)
-      ∙ ap (λ (n : ℕ). length (kept (horizon_of m) (changes_of schema m.log)) + n) (prepared_length schema (database_of schema m.log) 0 m.transactions)
+  live_count = live_by_keys schema cs are_kept.keys are_kept.coded counted_changes all_coded count_at ∙ counted_length
 
 -- The versions in the shard, prepared ones included, are as many as the changes of the log that are kept at the horizon and those that
 -- transactions have prepared which are not committed.

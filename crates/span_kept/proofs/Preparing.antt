@@ -1,9 +1,10 @@
 -- A Prepare: the shard holds what the machine says, and the writes that it prepares are kept.
-use Rattle.std.proofs.Common.{◌≡◌, ◌≢◌, ℕ, ◌-◌, true, false, cond, ◌&&◌, ◌||◌, ◌==◌, Bool, List, [], ◌∷◌, ◌++◌, length, Option, Some, None, Ok, Err, refl, ap, sym, ◌∙◌, subst, inl, inr, ◌⊎◌}
+use Rattle.std.proofs.Common.{◌≡◌, ◌≢◌, ℕ, nat_le, ◌-◌, ◌+◌, arith, not, true, false, cond, ◌&&◌, ◌||◌, ◌==◌, Bool, List, [], ◌∷◌, ◌++◌, length, Option, Some, None, Ok, Err, refl, ap, sym, ◌∙◌, subst, inl, inr, ◌⊎◌}
 use Rattle.std.specs.Prelude.{slice_get, find, filter, is_some}
 use Rattle.std.specs.List.{list_any, AllByRecursion}
 use Rattle.span_value.specs.declared.refusal.Refusal.{Refusal}
 use Rattle.span_value.specs.declared.refusal.Refusal.TheVariants.{OutOfMemory}
+use Rattle.span_value.specs.declared.refusal.Refusal.TheVariants as refusal
 use Rattle.span_schema.specs.declared.table.Table.{Table}
 use Rattle.span_schema.specs.Lineages.{MeetsRules}
 use Rattle.span_truetime.specs.Time.{timestamp_end}
@@ -22,15 +23,18 @@ use Rattle.span_shard.specs.Writes.{IsWrite, is_of}
 use Rattle.std.specs.declared.cmp.Ordering.TheVariants.{Less, Equal, Greater}
 use Rattle.span_keycode.specs.Order.{byte_order}
 use Rattle.span_shard.specs.Versions.{with_prepared}
-use Rattle.span_shard.specs.Shard.{is_key, versions_at, prepared_at, prepared_of, by_order, fresh, prepared_write, with_write, with_writes, IsNotOf, HasNoneOf, IsFree, IsNow}
+use Rattle.span_shard.specs.Shard.{is_key, versions_at, prepared_at, prepared_of, by_order, fresh, prepared_write, with_write, with_writes, live, IsNotOf, HasNoneOf, IsFree, IsNow}
 use Rattle.span_shard.proofs.Bytes.{bytes_same}
 use Rattle.span_shard.proofs.InOrder.{in_order_with_writes}
 use Rattle.span_shard.proofs.Undo.{used_with_writes}
 use Rattle.span_machine.specs.declared.slot.Book.{Book}
 use Rattle.span_machine.specs.declared.transaction.OpenTransaction.{OpenTransaction}
 use Rattle.span_machine.specs.declared.transaction.Prepared.{Prepared}
-use Rattle.span_machine.specs.Tables.{upto, mutations_of, tables}
-use Rattle.span_machine.specs.Machine.{Machine, root_at, is_at, is_transaction, is_undecided, is_prepared_at, mutations_in, conflicts, prepare_refusal, prepare_timestamp, prepared, add_prepared, changed_first, faults, fault_of}
+use Rattle.span_machine.specs.declared.transaction.Commit.{Commit}
+use Rattle.span_machine.specs.Sorting.{in_order}
+use Rattle.span_machine.specs.Tables.{is_before, upto, mutations_of, tables}
+use Rattle.span_machine.specs.Kept.{Change, changes_between, database_of, count_changes, live_with}
+use Rattle.span_machine.specs.Machine.{Machine, root_at, is_at, is_transaction, is_undecided, is_prepared_at, mutations_in, conflicts, prepare_refusal, prepare_timestamp, prepared, add_prepared, changed_first, faults, fault_of, first_cause}
 use Rattle.span_laws.proofs.Causes.{may_prepare, is_undecided_outcome}
 use Rattle.span_laws.proofs.Tests.{second_true, second_or, number_same}
 use Rattle.span_laws.proofs.Lists.{found_passes, all_found, all_weaker}
@@ -45,6 +49,13 @@ use Rattle.span_kept.proofs.Keys.{all_by_key, prepared_by, versions_at-with_writ
 use Rattle.span_kept.proofs.Claimers.{and_false, false_and, claimers_of}
 use Rattle.span_kept.proofs.Roots.{coded_root, coded_root_at, root_of_coding, coding_of_row, coded_in_directory}
 use Rattle.span_kept.proofs.Steps.{horizon_set}
+use Rattle.span_kept.proofs.Trimming.{not_same_of}
+use Rattle.span_kept.proofs.Counting.{is_at_key}
+use Rattle.span_kept.proofs.Changes.{change_at, change_none, changes_at_key, IsTypedDatabase, apart_of, typed_after, after_is, log_made}
+use Rattle.span_kept.proofs.Live.{IsOfKey, coded_between, live_by_keys, counted_changes, count_at, all_coded, counted_length}
+use Rattle.span_shard.proofs.Lists.{all_append}
+use Rattle.std.proofs.lemmas.List.{length-append}
+use Rattle.std.proofs.lemmas.List.Elements.{filter-append}
 use Rattle.span_kept.proofs.Rows.{row_now_of_tables, not_of_others, others_apart}
 
 -- ---- tests
@@ -121,6 +132,13 @@ coded_with_writes : (schema : List Table) (txn : ℕ) (ws : List Write) (cs : Li
     → AllByRecursion (λ (c : KeyVersions). IsCodedCoding schema c.key) (with_writes txn ws cs)
 coded_with_writes schema txn [] cs each all = all
 coded_with_writes schema txn (w ∷ ws) cs each all = coded_with_write schema txn w (with_writes txn ws cs) each.0 (coded_with_writes schema txn ws cs each.1 all)
+
+-- a transaction that may be prepared has a mutation of the slot
+has_some : (u p c z : Bool) → first_cause ((not u || p || z, refusal.WrongState) ∷ (c, refusal.Conflict) ∷ []) ≡ None → z ≡ true → ⊥
+has_some true false c true e is = absurd (cc)
+has_some true true c true e is = absurd (cc)
+has_some false p c true e is = absurd (cc)
+has_some u p c false e is = absurd (cc)
 
 -- ---- Prepare at slot 0
 
@@ -289,3 +307,83 @@ module _ (schema : List Table) (rules : MeetsRules schema) (m : Machine) (reache
           (subst (λ p. IsKeptBy schema root k (horizon_of m) (commits_at schema root m.log) (versions_at cs k) p (filter (claims schema root 0) (changed_first (is_transaction owner txn) (add_prepared 0 (prepare_timestamp book)) m.transactions))) (sym (prepared_at-with_writes txn ws cs k kept.keys))
           (prepared_key root is_root k under)));
     }
+
+    -- ---- how many versions there are then
+
+    -- there is a mutation
+    some_mutation : (l : List CheckedMutation) → mutations_in schema book t.mutations ≡ l → (l ≡ [] → ⊥) → AreTypedMutations schema l → (root : Root) × IsCodedRoot schema root
+    some_mutation [] e none typed = absurd (none refl)
+    some_mutation (c ∷ l) e none typed = (root_at schema c, coded_root_at schema rules c typed.0)
+
+    not_none : mutations_in schema book t.mutations ≡ [] → ⊥
+    not_none e = has_some (is_undecided t) (is_prepared_at 0 t) (conflicts schema m 0 (mutations_in schema book t.mutations)) (length (mutations_in schema book t.mutations) == 0) accepted (ap (λ (l : List CheckedMutation). length l == 0) e)
+
+    some_root : (root : Root) × IsCodedRoot schema root
+    some_root = some_mutation (mutations_in schema book t.mutations) refl not_none its_typed
+
+    -- the tables as they are have all commits of the log
+    all_made : made.0 ≡ database_of schema m.log
+    all_made =
+        let root = some_root in
+        let all : filter (λ (c : Commit). nat_le c.timestamp (timestamp_end - 1)) m.log ≡ m.log = all_kept (timestamp_end - 1) m.log (reached.placed root.0 (coded_root schema root.0 root.1)).in_range refl in
+        ok_same (sym made.1 ∙ ap (λ (l : List Commit). apply schema [] (mutations_of (in_order is_before l))) all ∙ (log_made schema rules m reached root.0 root.1).made)
+
+    -- what the mutations change of them
+    abbrev its_changes : List Change
+    its_changes = changes_between schema 0 made.0 after
+
+    before_is : IsTypedDatabase schema made.0
+    before_is = record { database = made_database; typed = made_typed }
+
+    after_is_one : IsTypedDatabase schema after
+    after_is_one = typed_after schema rules made.0 after (mutations_in schema book t.mutations) before_is its_typed applies
+
+    at_key : (k : List ℕ) → filter (is_at_key k) its_changes ≡ change_at k 0 (row_coded schema made.0 k) (row_coded schema after k)
+    at_key k = changes_at_key schema k 0 made.0 after (apart_of schema rules made.0 before_is) (apart_of schema rules after after_is_one)
+
+    -- a key that changes is of a directory of the mutations, where nothing is prepared
+    none_there : (k : List ℕ) → IsCodedCoding schema k → row_coded schema after k ≢ row_coded schema made.0 k → prepared_at cs k ≡ None
+    none_there k coding off =
+        let root = root_of_coding schema rules k coding in
+        elim (is_some_of (filter (is_at schema root.0) (mutations_in schema book t.mutations))) as (λ b. is_some_of (filter (is_at schema root.0) (mutations_in schema book t.mutations)) ≡ b → prepared_at cs k ≡ None) [
+          | true ↦ λ some. (none_kept root.0 root.1 k root.2 some).0
+          | false ↦ λ none. absurd (off (row_stays root.0 root.1 k root.2 (none_of (filter (is_at schema root.0) (mutations_in schema book t.mutations)) none)))
+        ] refl
+
+    -- at a key as many are prepared with the writes as without them, and as the mutations change there
+    more_prepared : (k : List ℕ) → IsCodedCoding schema k → (found : Option Write) → IsWrite k (row_coded schema made.0 k) (row_coded schema after k) found
+        → cond (is_some (prepared_by txn found (prepared_at cs k))) 1 0 ≡ cond (is_some (prepared_at cs k)) 1 0 + length (change_at k 0 (row_coded schema made.0 k) (row_coded schema after k))
+    more_prepared k coding None same =
+        let none : length (change_at k 0 (row_coded schema made.0 k) (row_coded schema after k)) ≡ 0 = ap (λ (row : Option (List ℕ)). length (change_at k 0 (row_coded schema made.0 k) row)) same ∙ ap length (change_none k 0 (row_coded schema made.0 k)) in
+        omega arith
+    more_prepared k coding (Some w) write =
+        let none : cond {A = ℕ} (is_some (prepared_at cs k)) 1 0 ≡ 0 = ap (λ (p : Option PreparedWrite). cond {A = ℕ} (is_some p) 1 0) (none_there k coding write.2) in
+        let one : length (change_at k 0 (row_coded schema made.0 k) (row_coded schema after k)) ≡ 1 =
+        ap (λ (b : Bool). length {A = Change} (cond b [] ((record { key = k; timestamp = 0; row = row_coded schema after k }) ∷ []))) (not_same_of (row_coded schema made.0 k) (row_coded schema after k) write.2) in
+        omega arith
+
+    -- with the writes prepared there stand at each key as many as are counted, and as the mutations change
+    each_prepared : (k : List ℕ) → IsCodedCoding schema k
+        → length (versions_at (with_writes txn ws cs) k) + cond (is_some (prepared_at (with_writes txn ws cs) k)) 1 0 ≡ length (filter (is_at_key k) (counted_changes schema rules m cs reached kept ++ its_changes))
+    each_prepared k coding =
+        let versions : length (versions_at (with_writes txn ws cs) k) ≡ length (versions_at cs k) = ap length (versions_at-with_writes txn ws cs k kept.keys) in
+        let prepared_now : cond (is_some (prepared_at (with_writes txn ws cs) k)) 1 0 ≡ cond (is_some (prepared_at cs k)) 1 0 + length (change_at k 0 (row_coded schema made.0 k) (row_coded schema after k)) =
+        ap (λ (p : Option PreparedWrite). cond (is_some p) 1 0) (prepared_at-with_writes txn ws cs k kept.keys) ∙ more_prepared k coding (find (is_of k) ws) (are k) in
+        let before = count_at schema rules m cs reached kept k coding in
+        let both : length (filter (is_at_key k) (counted_changes schema rules m cs reached kept ++ its_changes)) ≡ length (filter (is_at_key k) (counted_changes schema rules m cs reached kept)) + length (change_at k 0 (row_coded schema made.0 k) (row_coded schema after k)) =
+        ap length (filter-append (is_at_key k) (counted_changes schema rules m cs reached kept) its_changes)
+        ∙ length-append (filter (is_at_key k) (counted_changes schema rules m cs reached kept)) (filter (is_at_key k) its_changes)
+        ∙ ap (λ (l : List Change). length (filter (is_at_key k) (counted_changes schema rules m cs reached kept)) + length l) (at_key k) in
+        omega arith
+
+    -- with the writes prepared there are as many versions as the machine counts
+    pub live_prepared : live (with_writes txn ws cs) ≡ live_with schema m.log m.transactions 0 (horizon_of m) (mutations_in schema book t.mutations)
+    live_prepared =
+        let its : count_changes schema (database_of schema m.log) (mutations_in schema book t.mutations) ≡ length its_changes =
+        ap (λ (db : List TableRow). count_changes schema db (mutations_in schema book t.mutations)) (sym all_made)
+        ∙ ap (λ (db : List TableRow). length (changes_between schema 0 made.0 db)) (after_is schema made.0 after (mutations_in schema book t.mutations) applies) in
+        let counted = counted_length schema rules m cs reached kept in
+        live_by_keys schema (with_writes txn ws cs) (in_order_with_writes txn ws cs kept.keys) (coded_with_writes schema txn ws cs writes_coded kept.coded) (counted_changes schema rules m cs reached kept ++ its_changes)
+        (all_append (IsOfKey schema) (counted_changes schema rules m cs reached kept) its_changes (all_coded schema rules m cs reached kept) (coded_between schema 0 made.0 after made_typed after_typed)) each_prepared
+        ∙ length-append (counted_changes schema rules m cs reached kept) its_changes
+        ∙ omega arith

@@ -188,7 +188,7 @@ module _ (schema : List Table) (m : Machine) (reached : IsReached schema m) (cs 
   kept_ends = record {
     refuses = kept_refused;
     begins = λ owner ms accepted. kept_begun owner ms;
-    prepares = λ owner txn slot t book found here accepted well low. tt;
+    prepares = λ owner txn slot t book found here accepted well room low. tt;
     commits = λ owner txn interval t found accepted.
         let may = may_commit (is_undecided t) (is_all_prepared schema m t) (nat_le timestamp_end (commit_timestamp m t interval)) accepted in
         kept_decided owner txn (commit_timestamp m t interval) t found may.0 may.1;

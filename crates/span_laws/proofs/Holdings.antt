@@ -34,7 +34,7 @@ slots_ends : (schema : List Table) (m : Machine) → Ends schema m (λ step a. l
 slots_ends schema m = record {
   refuses = λ step why. refl;
   begins = λ owner ms accepted. refl;
-  prepares = λ owner txn slot t book found here accepted well low. length-set m.books slot _;
+  prepares = λ owner txn slot t book found here accepted well room low. length-set m.books slot _;
   commits = λ owner txn interval t found accepted. last_length m.books (coordinator_of t.prepared) (commit_timestamp m t interval);
   aborts = λ owner txn interval t found open_still. refl;
   applies = λ owner txn slot interval t book found here accepted. slots_applied m t.outcome owner txn slot t;
@@ -139,7 +139,7 @@ module _ (schema : List Table) (m : Machine) (holding : AreHolding m) where
   holding_ends = record {
     refuses = λ step why. holding;
     begins = λ owner ms accepted. all_push (IsHolding (length m.books)) m.transactions (record { owner = owner; number = m.next_transaction; mutations = ms; outcome = outcome.Undecided; prepared = [] }) holding (record { timely = tt; apart = tt; within = tt });
-    prepares = λ owner txn slot t book found here accepted well low.
+    prepares = λ owner txn slot t book found here accepted well room low.
         let may = may_prepare (is_undecided t) (is_prepared_at slot t) (length (mutations_in schema book t.mutations) == 0) (conflicts schema m slot (mutations_in schema book t.mutations)) accepted in
         let old = all_found (IsHolding (length m.books)) (is_transaction owner txn) m.transactions t found holding in
         let p : Prepared = record { slot = slot; timestamp = prepare_timestamp book } in

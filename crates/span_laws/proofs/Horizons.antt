@@ -54,7 +54,7 @@ horizon_ends : (schema : List Table) (m : Machine) → Ends schema m (λ step a.
 horizon_ends schema m = record {
   refuses = λ step why. horizons_same m;
   begins = λ owner ms accepted. horizons_same m;
-  prepares = λ owner txn slot t book found here accepted well low. horizons_set m slot book _ here (inl refl);
+  prepares = λ owner txn slot t book found here accepted well room low. horizons_set m slot book _ here (inl refl);
   commits = λ owner txn interval t found accepted. horizons_last m (coordinator_of t.prepared) (commit_timestamp m t interval);
   aborts = λ owner txn interval t found open_still. horizons_same m;
   applies = λ owner txn slot interval t book found here accepted. horizons_applied m t.outcome owner txn slot t;

@@ -239,7 +239,7 @@ module _ (schema : List Table) (begun : List Begun) (asked : List Asked) (m : Ma
   tells_ends = record {
     refuses = λ step why. tells_same step (Refused why) (refusal_quiet begun step why) (refusal_right schema m asked step why);
     begins = λ owner ms accepted. tells_begun owner ms;
-    prepares = λ owner txn slot t book found here accepted well low. tells_quiet _ _ _ (record { no_begun = refl; no_asked = refl; no_commit = refl })
+    prepares = λ owner txn slot t book found here accepted well room low. tells_quiet _ _ _ (record { no_begun = refl; no_asked = refl; no_commit = refl })
         (all_changed (IsBegun begun) (is_transaction owner txn) (add_prepared slot (prepare_timestamp book)) (λ u is. is) m.transactions known.transactions) known.queries refl refl refl tt;
     commits = λ owner txn interval t found accepted. tells_committed owner txn (commit_timestamp m t interval) interval t found;
     aborts = λ owner txn interval t found open_still. tells_quiet _ _ _ (record { no_begun = refl; no_asked = refl; no_commit = refl })

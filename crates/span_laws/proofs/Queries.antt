@@ -44,7 +44,7 @@ module _ (schema : List Table) (m : Machine) (opened : AreOpened schema m) where
   opened_ends = record {
     refuses = λ step why. opened;
     begins = λ owner ms accepted. opened;
-    prepares = λ owner txn slot t book found here accepted well low. opened;
+    prepares = λ owner txn slot t book found here accepted well room low. opened;
     commits = λ owner txn interval t found accepted. opened;
     aborts = λ owner txn interval t found open_still. opened;
     applies = λ owner txn slot interval t book found here accepted. opened_applied t.outcome owner txn slot t;

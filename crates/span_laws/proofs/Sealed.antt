@@ -156,7 +156,7 @@ module _ (schema : List Table) (root : Root) (is : IsRoot schema root) (s : ℕ)
     refuses = λ step why. kept_as_is (refused m why) refl;
     begins = λ owner ms accepted. kept_by (begun m owner ms) (rises_same m.books)
         (λ i b h k all. all_push (IsAbove s i) m.transactions (record { owner = owner; number = m.next_transaction; mutations = ms; outcome = outcome.Undecided; prepared = [] }) all tt) refl;
-    prepares = λ owner txn slot t book found here accepted well low. kept_by (prepared m owner txn slot book) (rises_set m.books slot book (record book { last = prepare_timestamp book }) here (omega arith) (λ _ k. k))
+    prepares = λ owner txn slot t book found here accepted well room low. kept_by (prepared m owner txn slot book) (rises_set m.books slot book (record book { last = prepare_timestamp book }) here (omega arith) (λ _ k. k))
         (λ i b h k all. all_changed (IsAbove s i) (is_transaction owner txn) (add_prepared slot (prepare_timestamp book))
         (λ u above. all_push (λ p. p.slot ≡ i → s < p.timestamp) u.prepared (record { slot = slot; timestamp = prepare_timestamp book }) above (new_above slot i book b here h k)) m.transactions all)
         refl;

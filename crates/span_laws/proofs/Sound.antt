@@ -95,7 +95,7 @@ module _ (schema : List Table) (m : Machine) (sound : IsSound schema m) where
   sound_ends = record {
     refuses = λ step why. goes_same m refl;
     begins = λ owner ms accepted. goes_same _ refl;
-    prepares = λ owner txn slot t book found here accepted well low. goes_same _ refl;
+    prepares = λ owner txn slot t book found here accepted well room low. goes_same _ refl;
     commits = λ owner txn interval t found accepted. goes_same _ refl;
     aborts = λ owner txn interval t found open_still. goes_same _ refl;
     applies = λ owner txn slot interval t book found here accepted. goes_applied t.outcome owner txn slot t;

@@ -17,7 +17,7 @@ use Rattle.span_machine.specs.declared.step.Reply.TheVariants.{Refused}
 use Rattle.span_machine.specs.declared.step.Verdict.{Verdict}
 use Rattle.span_machine.specs.declared.step.Verdict.TheVariants as verdict
 use Rattle.span_machine.specs.declared.transaction.OpenTransaction.{OpenTransaction}
-use Rattle.span_machine.specs.Machine.{Machine, Answer, answer, refused, if_some, first_cause, unless_refused, for_transaction, for_slot, for_query, is_transaction, is_query, is_safe, is_undecided, begin_refusal, begun, faults, prepare_timestamp, prepare_refusal, prepared, prepare_found, prepare, mutations_in, commit_timestamp, commit_refusal, committed, aborted, decide_found, decide, applied_at, apply_refusal, apply_found, apply_step, advanced, trim_refusal, trimmed, trim_found, open_refusal, opened, risen, with_book, cover, changed_first, scanned, scan_gap, scan_at, scan_found, scan, answer_on, meaning, finish_found, finish, closed}
+use Rattle.span_machine.specs.Machine.{Machine, Answer, answer, refused, if_some, first_cause, unless_refused, for_transaction, for_slot, for_query, is_transaction, is_query, is_safe, is_undecided, begin_refusal, begun, faults, room_refusal, prepare_timestamp, prepare_refusal, prepared, prepare_found, prepare, mutations_in, commit_timestamp, commit_refusal, committed, aborted, decide_found, decide, applied_at, apply_refusal, apply_found, apply_step, advanced, trim_refusal, trimmed, trim_found, open_refusal, opened, risen, with_book, cover, changed_first, scanned, scan_gap, scan_at, scan_found, scan, answer_on, meaning, finish_found, finish, closed}
 use Rattle.span_laws.proofs.Causes.{may_abort}
 
 -- what a fact about a step and its answer owes at each way that a step can end
@@ -25,7 +25,7 @@ pub record Ends (schema : List Table) (m : Machine) (P : Step → Answer → Typ
   pub refuses : (step : Step) (why : Refusal) → P step (refused m why)
   pub begins : (owner : ℕ) (ms : List CheckedMutation) → begin_refusal m ≡ None → P (Begin owner ms) (begun m owner ms)
   pub prepares : (owner txn slot : ℕ) (t : OpenTransaction) (book : Book) → find (is_transaction owner txn) m.transactions ≡ Some t → slice_get m.books slot ≡ Some book
-      → prepare_refusal schema m slot t book ≡ None → faults schema m (mutations_in schema book t.mutations) ≡ None → first_cause ((nat_le timestamp_end (prepare_timestamp book), refusal.TimestampRange) ∷ []) ≡ None
+      → prepare_refusal schema m slot t book ≡ None → faults schema m (mutations_in schema book t.mutations) ≡ None → room_refusal schema m slot book (mutations_in schema book t.mutations) ≡ None → first_cause ((nat_le timestamp_end (prepare_timestamp book), refusal.TimestampRange) ∷ []) ≡ None
       → P (Prepare owner txn slot) (prepared m owner txn slot book)
   pub commits : (owner txn : ℕ) (interval : Interval) (t : OpenTransaction) → find (is_transaction owner txn) m.transactions ≡ Some t → commit_refusal schema m t interval ≡ None
       → P (Decide owner txn verdict.Commit interval) (committed m owner txn (commit_timestamp m t interval) t)
@@ -64,14 +64,25 @@ module _ (schema : List Table) (m : Machine) (P : Step → Answer → Type 0) (e
   by_query : (step : Step) (number : ℕ) (make : OpenQuery → Answer) → ((q : OpenQuery) → find (is_query number) m.queries ≡ Some q → P step (make q)) → P step (for_query m number make)
   by_query step number make p = by_some step (find (is_query number) m.queries) refusal.UnknownQuery make p
 
+  -- what is left to judge of a Prepare
+  abbrev stamped : ℕ → ℕ → ℕ → Book → Answer
+  stamped owner txn slot book = unless_refused m (first_cause ((nat_le timestamp_end (prepare_timestamp book), refusal.TimestampRange) ∷ [])) (prepared m owner txn slot book)
+
+  abbrev crowded : ℕ → ℕ → ℕ → OpenTransaction → Book → Answer
+  crowded owner txn slot t book = unless_refused m (room_refusal schema m slot book (mutations_in schema book t.mutations)) (stamped owner txn slot book)
+
+  abbrev faulted : ℕ → ℕ → ℕ → OpenTransaction → Book → Answer
+  faulted owner txn slot t book = unless_refused m (faults schema m (mutations_in schema book t.mutations)) (crowded owner txn slot t book)
+
   prepare_by : (owner txn slot : ℕ) → P (Prepare owner txn slot) (prepare schema m owner txn slot)
   prepare_by owner txn slot =
       by_transaction (Prepare owner txn slot) owner txn (λ t. for_slot m slot (prepare_found schema m owner txn slot t)) (λ t found.
       by_slot (Prepare owner txn slot) slot (prepare_found schema m owner txn slot t) (λ book here.
-      by_refusal (Prepare owner txn slot) (prepare_refusal schema m slot t book) (unless_refused m (faults schema m (mutations_in schema book t.mutations)) (unless_refused m (first_cause ((nat_le timestamp_end (prepare_timestamp book), refusal.TimestampRange) ∷ [])) (prepared m owner txn slot book))) (λ accepted.
-      by_refusal (Prepare owner txn slot) (faults schema m (mutations_in schema book t.mutations)) (unless_refused m (first_cause ((nat_le timestamp_end (prepare_timestamp book), refusal.TimestampRange) ∷ [])) (prepared m owner txn slot book)) (λ well.
+      by_refusal (Prepare owner txn slot) (prepare_refusal schema m slot t book) (faulted owner txn slot t book) (λ accepted.
+      by_refusal (Prepare owner txn slot) (faults schema m (mutations_in schema book t.mutations)) (crowded owner txn slot t book) (λ well.
+      by_refusal (Prepare owner txn slot) (room_refusal schema m slot book (mutations_in schema book t.mutations)) (stamped owner txn slot book) (λ room.
       by_refusal (Prepare owner txn slot) (first_cause ((nat_le timestamp_end (prepare_timestamp book), refusal.TimestampRange) ∷ [])) (prepared m owner txn slot book) (λ low.
-      ends.prepares owner txn slot t book found here accepted well low)))))
+      ends.prepares owner txn slot t book found here accepted well room low))))))
 
   decide_by : (owner txn : ℕ) (v : Verdict) (interval : Interval) → P (Decide owner txn v interval) (decide schema m owner txn v interval)
   decide_by owner txn verdict.Commit interval = by_transaction (Decide owner txn verdict.Commit interval) owner txn (decide_found schema m owner txn verdict.Commit interval) (λ t found.

@@ -1,5 +1,5 @@
 -- Kept versions: what a slot keeps of the changes that commits make.
-use Rattle.std.specs.Prelude.{ℕ, ◌+◌, ◌==◌, Bool, true, false, not, ◌&&◌, ◌||◌, nat_lt, nat_le, List, [], ◌∷◌, ◌++◌, length, map, filter, sum_by, Option, Some, None, is_some, Result, Ok, Err, if◌then◌else◌}
+use Rattle.std.specs.Prelude.{ℕ, ◌+◌, ◌^◌, ◌==◌, Bool, true, false, not, ◌&&◌, ◌||◌, nat_lt, nat_le, List, [], ◌∷◌, ◌++◌, length, map, filter, sum_by, Option, Some, None, is_some, Result, Ok, Err, if◌then◌else◌}
 use Rattle.std.specs.List.{list_any}
 use Rattle.std.specs.Str.{bytes_eq}
 use Rattle.span_value.specs.declared.refusal.Refusal.{Refusal}
@@ -90,12 +90,24 @@ abbrev pub is_committed : Outcome → Bool
 is_committed (Committed ts) = true
 is_committed o = false
 
+-- how many changes mutations make of a database
+abbrev pub count_changes : List Table → List TableRow → List CheckedMutation → ℕ
+count_changes schema db ms = length (changes_between schema 0 db (after_mutations schema db ms))
+
 -- how many changes the transaction has prepared in the slot, where it is not committed: its commit's are among those of the log
 abbrev pub prepared_changes : List Table → List TableRow → ℕ → OpenTransaction → ℕ
 prepared_changes schema db slot t =
-    if list_any (λ p. p.slot == slot) t.prepared && not (is_committed t.outcome) then length (changes_between schema 0 db (after_mutations schema db t.mutations)) else 0
+    if list_any (λ p. p.slot == slot) t.prepared && not (is_committed t.outcome) then count_changes schema db t.mutations else 0
 
 -- how many versions a slot with this horizon keeps: one for each kept change, also one that is prepared and not applied yet
 abbrev pub live : List Table → List Commit → List OpenTransaction → ℕ → ℕ → ℕ
 live schema log transactions slot horizon =
     length (kept horizon (changes_of schema log)) + sum_by (prepared_changes schema (database_of schema log) slot) transactions
+
+-- the most versions that a slot may keep
+abbrev pub most : ℕ
+most = 2 ^ 24
+
+-- how many versions the slot would keep once the mutations are prepared there too
+abbrev pub live_with : List Table → List Commit → List OpenTransaction → ℕ → ℕ → List CheckedMutation → ℕ
+live_with schema log transactions slot horizon ms = live schema log transactions slot horizon + count_changes schema (database_of schema log) ms

@@ -1,4 +1,4 @@
-use Rattle.std.specs.Prelude.{◌≡◌, ℕ, ◌+◌, ◌^◌, ◌-◌, max, min, Bool, true, false, ◌==◌, ◌&&◌, ◌||◌, not, nat_lt, nat_le, List, [], ◌∷◌, ◌++◌, length, filter, find, count_by, slice_get, slice_set, Option, Some, None, Result, Ok, Err, if◌then◌else◌, ◌⊎◌}
+use Rattle.std.specs.Prelude.{◌≡◌, ℕ, ◌+◌, ◌^◌, ◌-◌, max, Bool, true, false, ◌==◌, ◌&&◌, ◌||◌, not, nat_lt, nat_le, List, [], ◌∷◌, ◌++◌, length, filter, find, count_by, slice_get, slice_set, Option, Some, None, Result, Ok, Err, if◌then◌else◌, ◌⊎◌}
 use Rattle.std.specs.List.{list_any, list_all}
 use Rattle.std.specs.Option.{option_or}
 use Rattle.span_schema.specs.declared.table.Table.{Table}
@@ -170,6 +170,10 @@ prepare_refusal schema m slot t book = first_cause (
     (not (is_undecided t) || is_prepared_at slot t || (length (mutations_in schema book t.mutations) == 0), refusal.WrongState)
     ∷ (conflicts schema m slot (mutations_in schema book t.mutations), refusal.Conflict) ∷ [])
 
+-- the slot would keep more versions than it may
+abbrev pub room_refusal : List Table → Machine → ℕ → Book → List CheckedMutation → Option Refusal
+room_refusal schema m slot book ms = first_cause ((nat_lt kept.most (kept.live_with schema m.log m.transactions slot book.horizon ms), refusal.ShardFull) ∷ [])
+
 abbrev pub prepared : Machine → ℕ → ℕ → ℕ → Book → Answer
 prepared m owner txn slot book = (
   reply.Prepared (prepare_timestamp book),
@@ -183,8 +187,9 @@ abbrev pub prepare_found : List Table → Machine → ℕ → ℕ → ℕ → Op
 prepare_found schema m owner txn slot t book =
     unless_refused m (prepare_refusal schema m slot t book)
     (unless_refused m (faults schema m (mutations_in schema book t.mutations))
+    (unless_refused m (room_refusal schema m slot book (mutations_in schema book t.mutations))
     (unless_refused m (first_cause ((nat_le timestamp_end (prepare_timestamp book), refusal.TimestampRange) ∷ []))
-    (prepared m owner txn slot book)))
+    (prepared m owner txn slot book))))
 
 abbrev pub prepare : List Table → Machine → ℕ → ℕ → ℕ → Answer
 prepare schema m owner txn slot = for_transaction m owner txn (λ t. for_slot m slot (prepare_found schema m owner txn slot t))
@@ -311,9 +316,9 @@ trim_refusal m slot h book = first_cause (
     (nat_lt h book.horizon, refusal.TrimBackward)
     ∷ (not (is_safe m slot book h), refusal.TrimTooNew) ∷ [])
 
--- how many versions are kept from the horizon h on, as far as a machine word counts
+-- how many versions are kept from the horizon h on
 abbrev pub live_after : List Table → Machine → ℕ → ℕ → ℕ
-live_after schema m slot h = min (kept.live schema m.log m.transactions slot h) (2 ^ 64 - 1)
+live_after schema m slot h = kept.live schema m.log m.transactions slot h
 
 abbrev pub trimmed : List Table → Machine → ℕ → ℕ → Book → Answer
 trimmed schema m slot h book = (

@@ -62,6 +62,7 @@ module _ (h : ℕ) (a b d : Content) (c : ℕ) (so_far : HasTrimmed h a b) (chai
   trimmed_now : HasTrimmed h a d
   trimmed_now = record {
     same = same_after a b d so_far.same same_now;
+    most = ap (λ (x : Content). x.most) is ∙ so_far.most;
     prepared = ap (λ (x : Content). x.prepared) is ∙ so_far.prepared;
     chains = λ x. elim (cases_eq x c) [
       | inl equal ↦ subst (λ y. kept_upto h (versions d y) ≡ kept_upto h (versions a y)) (sym equal) (ap (kept_upto h) here ∙ kept_again h (versions b c) ∙ so_far.chains c)
@@ -79,7 +80,7 @@ module _ (h : ℕ) (a b d : Content) (c : ℕ) (so_far : HasTrimmed h a b) (chai
   now e equal = subst (λ y. versions d y ≡ kept_upto h (versions a y)) (sym equal) (here ∙ so_far.chains c)
 
 pub trim_start : (h : ℕ) (es : List Entry) (a : Content) → AreTrimmed h es es a a
-trim_start h es a = record { done = []; whole = refl; each = tt; so_far = record { same = λ c. refl; prepared = refl; chains = λ c. refl } }
+trim_start h es a = record { done = []; whole = refl; each = tt; so_far = record { same = λ c. refl; most = refl; prepared = refl; chains = λ c. refl } }
 
 pub trim_step : (h : ℕ) (es left rest : List Entry) (e : Entry) (a b d : Content) → AreTrimmed h es left a b → left ≡ e ∷ rest → IsChain b e.chain.number → d ≡ trimmed b e.chain.number h → AreTrimmed h es rest a d
 trim_step h es left rest e a b d old is chain now_is = record {
@@ -105,6 +106,7 @@ module _ (h : ℕ) (es : List Entry) (a b : Content) (ps : List PreparedNode) (s
   pub stored_after : IsStored es b ps
   stored_after = record {
     own = own_stays es a b stored.own all.so_far.same;
+    most = all.so_far.most ∙ stored.most;
     owned = record {
       nodes = all_map (IsNodeOf a) (IsNodeOf b) (λ p n. record { image = n.image; prepared = stay p ∙ n.prepared; is_chain = chain_same a b p.chain.number all.so_far.same n.is_chain }) ps stored.owned.nodes;
       counted = λ c. ap (prepared_for c) all.so_far.prepared ∙ stored.owned.counted c;

@@ -30,6 +30,14 @@ ended-same : (a : Content) (c n : ℕ) (image : Option (List ℕ)) (committed : 
 ended-same a c n image None chain e = same-equal a (given_back a n) refl
 ended-same a c n image (Some ts) chain e = same-linked a (linked a n ts) n ts c image chain e refl
 
+ended-most : (a : Content) (n : ℕ) (committed : Option ℕ) → (ended a n committed).most ≡ a.most
+ended-most a n None = refl
+ended-most a n (Some ts) = by (prepared_at a n)
+  where
+    by : (o : Option Prepared) → (linked_as a n ts o).most ≡ a.most
+    by None = refl
+    by (Some p) = refl
+
 -- the versions of the chain, and those of the others
 ended-here : (a : Content) (c n : ℕ) (image : Option (List ℕ)) (committed : Option ℕ) → IsChain a c → prepared_at a n ≡ Some (record { chain = c; image = image }) → chain_versions (ended a n committed) c ≡ with_version committed image (chain_versions a c)
 ended-here a c n image None chain e = refl
@@ -128,6 +136,7 @@ module _ (ps : List PreparedNode) (i : ℕ) (p : PreparedNode) (lt : i < length 
         let ys = drop (i + 1) ps in
         subst (HasEnded txn committed a d ps) (sym (own_next e)) (record {
           owned = ended_owned b d xs ys p owned_here txn committed e is;
+          most = ap (λ (x : Content). x.most) is ∙ ended-most b p.node.number committed ∙ so_far.most;
           same = same_after a b d so_far.same (ended_same b d xs ys p owned_here txn committed e is);
           keys = λ key c. ended_key b d xs ys p owned_here txn committed e is key c ∙ ap (λ (l : List PreparedNode). applied_to_key txn committed (kept b l key c)) (sym before) ∙ so_far.keys key c;
         })
@@ -136,7 +145,7 @@ module _ (ps : List PreparedNode) (i : ℕ) (p : PreparedNode) (lt : i < length 
     ends_other e = subst (HasEnded txn committed a b ps) (sym (other_next e)) so_far
 
 pub ends_start : (txn : ℕ) (committed : Option ℕ) (a : Content) (ps : List PreparedNode) → AreOwned a ps → HasEnded txn committed a a ps (left_of txn 0 ps)
-ends_start txn committed a ps owned = record { owned = owned; same = λ c. refl; keys = λ key c. refl }
+ends_start txn committed a ps owned = record { owned = owned; most = refl; same = λ c. refl; keys = λ key c. refl }
 
 pub ends_all : (txn : ℕ) (committed : Option ℕ) (a b : Content) (ps : List PreparedNode) (i : ℕ) → length ps ≤ i → HasEnded txn committed a b ps (left_of txn i ps) → HasEnded txn committed a b ps (filter (is_other txn) ps)
 ends_all txn committed a b ps i le h =

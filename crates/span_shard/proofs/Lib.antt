@@ -22,3 +22,4 @@ pub mod Counting
 pub mod Seeing
 pub mod Cutting
 pub mod Horizons
+pub mod Filling

@@ -14,7 +14,8 @@ use Rattle.std.proofs.lemmas.Map.Lookups.{exact_bytes}
 use Rattle.span_keycode.specs.Order.{byte_order}
 use Rattle.span_arena.specs.declared.version.Version as arena
 use Rattle.span_arena.specs.declared.token.Chain.{Chain}
-use Rattle.span_arena.specs.Content.{Content, Prepared, versions, versions_in, prepared_at, prepared_for, IsNewChain}
+use Rattle.span_arena.specs.Content as content
+use Rattle.span_arena.specs.Content.{Content, Prepared, versions, versions_in, prepared_for, IsNewChain}
 use Rattle.span_arena.proofs.Keeping.{is_new_chain}
 use Rattle.span_keyindex.specs.Arenas.{holders, one_if_chain, IsArenaOf, in_use, IsWithoutUnused}
 use Rattle.span_keyindex.specs.Entries.{HasChain, IsAbsent, IsSlotFor, with_entry}
@@ -25,8 +26,8 @@ use Rattle.span_shard.specs.declared.node.PreparedNode.{PreparedNode}
 use Rattle.span_shard.specs.declared.write.Write.{Write}
 use Rattle.span_shard.specs.KeyVersions.{KeyVersions}
 use Rattle.span_shard.specs.Versions.{is_used, with_prepared}
-use Rattle.span_shard.specs.Shard.{keys_cmp, AreInOrder, IsInUse, is_key, by_order, fresh, prepared_write, with_write}
-use Rattle.span_shard.specs.Stored.{version_of, chain_versions, write_for, kept, kept_entry, all_kept, IsNodeOf, AreOwned, HasPrepared}
+use Rattle.span_shard.specs.Shard.{keys_cmp, AreInOrder, IsInUse, is_key, prepared_of, prepared_at, by_order, fresh, prepared_write, with_write}
+use Rattle.span_shard.specs.Stored.{version_of, chain_versions, write_for, kept, kept_entry, all_kept, IsNodeOf, AreOwned, HasPrepared, count_for}
 use Rattle.span_shard.proofs.Bytes.{bytes_total}
 use Rattle.span_shard.proofs.Lists.{all_map, all_filter_itself, all_whole, filter_all}
 use Rattle.span_shard.proofs.Owned.{all_back_of, write-none, write-same, made, kept_equal}
@@ -133,6 +134,8 @@ pub record IsSlot (es fs : List Entry) (a b : Content) (ps : List PreparedNode) 
   pub whole : fs ≡ front ++ entry key chain ∷ back
   pub keys : (e : Entry) → kept_entry b ps e ≡ kept_entry a ps e
   pub owned : AreOwned b ps
+  pub most : b.most ≡ a.most
+  pub vacant : count_for chain.number ps ≡ 0 → prepared_at (all_kept a ps es) key ≡ None
   pub put : (txn : ℕ) (w : Write) → w.key ≡ key → with_write txn w (all_kept a ps es) ≡ map (kept_entry a ps) front ++ with_prepared (prepared_write txn w) (kept_entry b ps (entry key chain)) ∷ map (kept_entry a ps) back
   pub undone : AllByRecursion IsInUse (all_kept a ps es) → filter is_used (all_kept b ps fs) ≡ all_kept a ps es
 
@@ -160,6 +163,11 @@ module _ (es : List Entry) (a : Content) (ps : List PreparedNode) (key : List �
   mapped : all_kept a ps es ≡ map (kept_entry a ps) at.front ++ kept_entry a ps (entry key chain) ∷ map (kept_entry a ps) at.back
   mapped = ap (map (kept_entry a ps)) at.whole ∙ map-append (kept_entry a ps) at.front (entry key chain ∷ at.back)
 
+  pub found_there : find (is_key key) (all_kept a ps es) ≡ Some (kept a ps key chain.number)
+  found_there =
+      let front = front_before (map (kept_entry a ps) at.front) (map (kept_entry a ps) at.back) (kept_entry a ps (entry key chain)) (subst (IsRising keys_cmp) mapped order) in
+      ap (find (is_key key)) mapped ∙ find_here key (map (kept_entry a ps) at.front) (map (kept_entry a ps) at.back) (kept_entry a ps (entry key chain)) front (ap is_eq (tied_itself bytes_total key))
+
   pub slot_there : IsSlot es es a a ps key chain
   slot_there = record {
     front = at.front;
@@ -167,6 +175,8 @@ module _ (es : List Entry) (a : Content) (ps : List PreparedNode) (key : List �
     whole = at.whole;
     keys = λ e. refl;
     owned = owned;
+    most = refl;
+    vacant = λ none. ap prepared_of found_there ∙ write-none a chain.number ps none;
     put = λ txn w is. (
         let up = subst (IsRising keys_cmp) mapped order in
         let front = front_before (map (kept_entry a ps) at.front) (map (kept_entry a ps) at.back) (kept_entry a ps (entry key chain)) up in
@@ -175,11 +185,6 @@ module _ (es : List Entry) (a : Content) (ps : List PreparedNode) (key : List �
         ap (with_write txn w) mapped ∙ with_write-here txn w (map (kept_entry a ps) at.front) (map (kept_entry a ps) at.back) (kept_entry a ps (entry key chain)) (subst P (sym is) front) same);
     undone = λ used. filter_all is_used (all_kept a ps es) used;
   }
-
-  pub found_there : find (is_key key) (all_kept a ps es) ≡ Some (kept a ps key chain.number)
-  found_there =
-      let front = front_before (map (kept_entry a ps) at.front) (map (kept_entry a ps) at.back) (kept_entry a ps (entry key chain)) (subst (IsRising keys_cmp) mapped order) in
-      ap (find (is_key key)) mapped ∙ find_here key (map (kept_entry a ps) at.front) (map (kept_entry a ps) at.back) (kept_entry a ps (entry key chain)) front (ap is_eq (tied_itself bytes_total key))
 
 pub found_none : (es : List Entry) (a : Content) (ps : List PreparedNode) (key : List ℕ) → IsAbsent es key → find (is_key key) (all_kept a ps es) ≡ None
 found_none [] a ps key absent = refl
@@ -202,8 +207,8 @@ module _ (es : List Entry) (a b : Content) (ps : List PreparedNode) (key : List 
     | inr differs ↦ ap versions_in (chains_elsewhere a b chain.number c new differs)
   ]
 
-  stay : AllByRecursion (λ (q : PreparedNode). prepared_at b q.node.number ≡ prepared_at a q.node.number) ps
-  stay = all_whole (λ (q : PreparedNode). prepared_at b q.node.number ≡ prepared_at a q.node.number) (λ q. ap (λ (l : List (Option Prepared)). get_or l q.node.number None) prepared_is) ps
+  stay : AllByRecursion (λ (q : PreparedNode). content.prepared_at b q.node.number ≡ content.prepared_at a q.node.number) ps
+  stay = all_whole (λ (q : PreparedNode). content.prepared_at b q.node.number ≡ content.prepared_at a q.node.number) (λ q. ap (λ (l : List (Option Prepared)). get_or l q.node.number None) prepared_is) ps
 
   key_is : (e : Entry) → kept_entry b ps e ≡ kept_entry a ps e
   key_is e = kept_equal e.key (chain_versions b e.chain.number) (chain_versions a e.chain.number) (write_for b ps e.chain.number) (write_for a ps e.chain.number)
@@ -263,6 +268,8 @@ module _ (es : List Entry) (a b : Content) (ps : List PreparedNode) (key : List 
     whole = refl;
     keys = key_is;
     owned = owned_new;
+    most = ap (λ (x : Content). x.most) new.now;
+    vacant = λ _. ap prepared_of (found_none es a ps key absent);
     put = λ txn w is. (
         let f = kept_entry a ps in
         let xs = map f (filter (before key) es) in

@@ -1,5 +1,5 @@
 use Rattle.std.proofs.Common.{◌≡◌, ◌≢◌, ℕ, Bool, true, false, cond, ◌==◌, ◌||◌, List, [], ◌∷◌, ◌++◌, Option, Some, None, refl, ap, sym, ◌∙◌, subst, arith}
-use Rattle.std.specs.Prelude.{filter, not}
+use Rattle.std.specs.Prelude.{filter, map, is_some, not}
 use Rattle.std.specs.List.{AllByRecursion}
 use Rattle.span_keycode.specs.Order.{byte_order}
 use Rattle.std.specs.declared.cmp.Ordering.TheVariants.{Less, Equal, Greater}
@@ -11,7 +11,7 @@ use Rattle.span_mutate.specs.declared.mutation.CheckedMutation.{CheckedMutation}
 use Rattle.span_shard.specs.declared.write.Write.{Write}
 use Rattle.span_shard.specs.Rows.{is_touched}
 use Rattle.span_shard.specs.KeyVersions.{KeyVersions}
-use Rattle.span_shard.specs.Versions.{is_empty, is_used, with_prepared, applied_write, applied_to_key}
+use Rattle.span_shard.specs.Versions.{is_empty, is_used, with_prepared, with_version, applied_write, applied_to_key}
 use Rattle.span_shard.specs.Shard.{by_order, with_write, with_writes, fresh, prepared_write, applied, IsInUse, IsNotOf, HasNoneOf, HasSomeOf, IsFree}
 
 same_number : (n : ℕ) → (n == n) ≡ true
@@ -37,6 +37,22 @@ applied-none txn (c ∷ cs) used none =
     let keep : is_used (applied_to_key txn None c) ≡ true = ap is_used same ∙ used.0 in
     ap (λ b. cond b (applied_to_key txn None c ∷ applied txn None cs) (applied txn None cs)) keep
     ∙ ap (λ (d : KeyVersions). d ∷ applied txn None cs) same ∙ ap (λ l. c ∷ l) (applied-none txn cs used.1 none.1)
+
+-- ---- a commit leaves no key with nothing
+
+used_committed : (txn ts : ℕ) (c : KeyVersions) → is_used c ≡ true → is_used (applied_to_key txn (Some ts) c) ≡ true
+used_committed txn ts c used = by c.prepared
+  where
+    by : (p : Option PreparedWrite) → is_used (applied_write p txn (Some ts) c) ≡ true
+    by None = used
+    by (Some w) = elim (w.txn == txn) as (λ b. is_used (cond b (record c { versions = with_version (Some ts) w.row c.versions; prepared = None }) c) ≡ true) [ true ↦ refl | false ↦ used ]
+
+pub applied-committed : (txn : ℕ) (committed : Option ℕ) (cs : List KeyVersions) → is_some committed ≡ true → AllByRecursion IsInUse cs → map (applied_to_key txn committed) cs ≡ applied txn committed cs
+applied-committed txn None cs e used = absurd (let f : false ≡ true = e in cc)
+applied-committed txn (Some ts) [] e used = refl
+applied-committed txn (Some ts) (c ∷ cs) e used =
+    ap (λ (l : List KeyVersions). applied_to_key txn (Some ts) c ∷ l) (applied-committed txn (Some ts) cs e used.1)
+    ∙ sym (ap (λ b. cond b (applied_to_key txn (Some ts) c ∷ applied txn (Some ts) cs) (applied txn (Some ts) cs)) (used_committed txn ts c used.0))
 
 -- ---- writes that are given up
 

@@ -1,11 +1,12 @@
 -- What is read of a shard to prepare mutations, and what is made of it.
-use Rattle.std.specs.Prelude.{◌≡◌, ℕ, Bool, true, false, not, ◌&&◌, ◌⊎◌, List, [], ◌∷◌, ◌++◌, map, filter, is_some, Option, Some, None, Ok, Err, if◌then◌else◌}
+use Rattle.std.specs.Prelude.{◌≡◌, ℕ, Bool, true, false, not, ◌&&◌, ◌⊎◌, List, [], ◌∷◌, ◌++◌, map, filter, is_some, Option, Some, None, Ok, Err, if◌then◌else◌, ◌<◌}
 use Rattle.std.specs.List.{list_any, AllByRecursion}
 use Rattle.std.specs.List.Sorted.{IsPermutation, IsSortedBy}
 use Rattle.std.specs.Ordering.{eq_by_cmp, is_lt}
 use Rattle.std.specs.Str.{bytes_eq}
 use Rattle.span_value.specs.declared.refusal.Refusal.{Refusal}
-use Rattle.span_value.specs.declared.refusal.Refusal.TheVariants.{OutOfMemory}
+use Rattle.span_value.specs.declared.refusal.Refusal.TheVariants.{OutOfMemory, ShardFull}
+use Rattle.span_arena.specs.declared.arena.TheConstants.{MOST_NODES}
 use Rattle.span_arena.specs.Content.{Content}
 use Rattle.span_keyindex.specs.declared.entry.Entry.{Entry as IndexEntry}
 use Rattle.span_schema.specs.declared.table.Table.{Table}
@@ -23,7 +24,7 @@ use Rattle.span_shard.specs.Versions.{row_at}
 use Rattle.span_shard.specs.Writes.{is_of}
 use Rattle.span_shard.specs.Rows.{begins_with, code_of, is_coded, is_touched, AreChanges}
 use Rattle.span_shard.specs.Stored.{chain_versions}
-use Rattle.span_shard.specs.Shard.{KeyRow, is_key, end_of_time, row_now, seen_at, IsNow}
+use Rattle.span_shard.specs.Shard.{KeyRow, is_key, end_of_time, row_now, seen_at, IsNow, with_writes, live}
 
 -- an entry, by what it lends
 abbrev pub shown : Entry → KeyRow
@@ -123,3 +124,10 @@ pub record AreWrites (tables : List Table) (ms : List CheckedMutation) (cs : Lis
 -- the fault that the mutations meet on each database whose rows these are now, or want of memory
 abbrev pub IsFault : List Table → List CheckedMutation → List KeyVersions → Refusal → Type 0
 IsFault tables ms cs why = (db : List TableRow) → IsDatabase tables db → AreTyped tables db → IsNow tables ms db cs → (why ≡ OutOfMemory) ⊎ (apply tables db ms ≡ Err why)
+
+-- the writes of the mutations would bring the number of kept versions over the most that a shard keeps
+pub record IsFull (tables : List Table) (ms : List CheckedMutation) (txn : ℕ) (cs : List KeyVersions) (why : Refusal) : Type 0 where
+  pub full : why ≡ ShardFull
+  pub writes : List Write
+  pub of : AreWrites tables ms cs writes
+  pub over : MOST_NODES < live (with_writes txn writes cs)

@@ -1,8 +1,11 @@
-use Rattle.std.specs.Prelude.{◌≡◌, ℕ, ◌+◌, Bool, true, not, ◌&&◌, List, [], ◌∷◌, ◌++◌, length, map, filter, find, sum_by, is_some, Option, Some, None, option_map, ◌≢◌, if◌then◌else◌}
+use Rattle.std.specs.Prelude.{◌≡◌, ℕ, ◌+◌, Bool, true, not, ◌&&◌, List, [], ◌∷◌, ◌++◌, length, map, filter, find, sum_by, is_some, Option, Some, None, option_map, ◌≢◌, if◌then◌else◌, ◌<◌, ◌⊎◌}
 use Rattle.std.specs.List.{filter_map, AllByRecursion}
 use Rattle.std.specs.Ordering.{eq_by_cmp, is_lt}
 use Rattle.std.specs.declared.cmp.Ordering.{Ordering}
 use Rattle.std.specs.declared.cmp.Ordering.TheVariants.{Less, Equal, Greater}
+use Rattle.span_value.specs.declared.refusal.Refusal.{Refusal}
+use Rattle.span_value.specs.declared.refusal.Refusal.TheVariants.{OutOfMemory, ShardFull}
+use Rattle.span_arena.specs.declared.arena.TheConstants.{MOST_NODES}
 use Rattle.span_schema.specs.declared.table.Table.{Table}
 use Rattle.span_keycode.specs.Order.{byte_order}
 use Rattle.span_keycode.specs.declared.range.KeyRange.{KeyRange}
@@ -146,3 +149,11 @@ kept_of c = length c.versions + (if is_some c.prepared then 1 else 0)
 -- how many versions are kept, prepared ones included
 abbrev pub live : List KeyVersions → ℕ
 live cs = sum_by kept_of cs
+
+-- want of memory; or nothing is prepared at the key, and as many versions are kept as may be
+abbrev pub IsPutRefused : List KeyVersions → List ℕ → Refusal → Type 0
+IsPutRefused cs key why = (why ≡ OutOfMemory) ⊎ ((why ≡ ShardFull) × (prepared_at cs key ≡ None) × (live cs ≡ MOST_NODES))
+
+-- want of memory; or the writes would bring the number of kept versions over the most
+abbrev pub ArePutsRefused : ℕ → List Write → List KeyVersions → Refusal → Type 0
+ArePutsRefused txn ws cs why = (why ≡ OutOfMemory) ⊎ ((why ≡ ShardFull) × (MOST_NODES < live (with_writes txn ws cs)))

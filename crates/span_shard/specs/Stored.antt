@@ -1,8 +1,11 @@
 -- How a shard keeps its keys: in an index with their chains, whose versions are in an arena, beside the nodes in which something is
 -- prepared. No public clause cites this module.
-use Rattle.std.specs.Prelude.{◌≡◌, ℕ, ◌+◌, ◌<◌, ◌≤◌, ◌==◌, nat_eq, Bool, not, List, [], ◌∷◌, ◌++◌, length, take, drop, map, filter, Option, Some, None, slice_index_or, if◌then◌else◌}
+use Rattle.std.specs.Prelude.{◌≡◌, ◌⊎◌, ℕ, ◌+◌, ◌<◌, ◌≤◌, ◌==◌, nat_eq, Bool, not, List, [], ◌∷◌, ◌++◌, length, take, drop, map, filter, Option, Some, None, slice_index_or, if◌then◌else◌}
 use Rattle.std.specs.List.{AllByRecursion}
-use Rattle.span_arena.specs.Content.{Content, Prepared, versions, prepared_at, prepared_for, IsChain, linked, given_back, kept_upto}
+use Rattle.span_value.specs.declared.refusal.Refusal.{Refusal}
+use Rattle.span_value.specs.declared.refusal.Refusal.TheVariants.{OutOfMemory, ShardFull}
+use Rattle.span_arena.specs.Content.{Content, Prepared, versions, prepared_at, prepared_for, IsChain, IsInOrder, live, linked, given_back, kept_upto}
+use Rattle.span_arena.specs.declared.arena.TheConstants.{MOST_NODES}
 use Rattle.span_arena.specs.declared.version.Version as arena
 use Rattle.span_keyindex.specs.Arenas.{IsArenaOf, HasSameChains}
 use Rattle.span_keyindex.specs.declared.entry.Entry.{Entry}
@@ -68,6 +71,7 @@ pub record AreOwned (a : Content) (ps : List PreparedNode) : Type 0 where
 pub record IsStored (es : List Entry) (a : Content) (ps : List PreparedNode) : Type 0 where
   pub own : IsArenaOf es a
   pub owned : AreOwned a ps
+  pub most : a.most ≡ MOST_NODES
 
 -- ---- prepare
 
@@ -79,8 +83,13 @@ pub record IsPlaceFor (c : ℕ) (ps : List PreparedNode) (i : ℕ) : Type 0 wher
 -- a write is prepared for a chain, and all else is as it was
 pub record HasPrepared (a b : Content) (ps qs : List PreparedNode) (c : ℕ) (write : PreparedWrite) : Type 0 where
   pub owned : AreOwned b qs
+  pub most : b.most ≡ a.most
   pub chains : b.chains ≡ a.chains
   pub writes : (d : ℕ) → write_for b qs d ≡ (if nat_eq c d then Some write else write_for a ps d)
+
+-- want of memory; or nothing is prepared for the chain, and as many nodes are in use as may be
+abbrev pub IsRefusedFor : Content → ℕ → Refusal → Type 0
+IsRefusedFor a c why = (why ≡ OutOfMemory) ⊎ ((why ≡ ShardFull) × (prepared_for c a.prepared ≡ 0) × IsInOrder a × (live a ≡ a.most))
 
 -- ---- apply
 
@@ -100,6 +109,7 @@ left_of txn i ps = filter (is_other txn) (take i ps) ++ drop i ps
 -- some of the transaction's nodes were ended: with the others ended too each key is what it is to be
 pub record HasEnded (txn : ℕ) (committed : Option ℕ) (a b : Content) (ps qs : List PreparedNode) : Type 0 where
   pub owned : AreOwned b qs
+  pub most : b.most ≡ a.most
   pub same : HasSameChains a b
   pub keys : (key : List ℕ) (c : ℕ) → applied_to_key txn committed (kept b qs key c) ≡ applied_to_key txn committed (kept a ps key c)
 
@@ -108,6 +118,7 @@ pub record HasEnded (txn : ℕ) (committed : Option ℕ) (a b : Content) (ps qs 
 -- Some of the chains were trimmed; those that were not are as they were. With the others trimmed too each chain is what it is to be.
 pub record HasTrimmed (h : ℕ) (a b : Content) : Type 0 where
   pub same : HasSameChains a b
+  pub most : b.most ≡ a.most
   pub prepared : b.prepared ≡ a.prepared
   pub chains : (c : ℕ) → kept_upto h (versions b c) ≡ kept_upto h (versions a c)
 

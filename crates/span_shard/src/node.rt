@@ -1,7 +1,7 @@
 //! The nodes in which writes are prepared.
-ghost use Rattle.std.specs.Prelude.{◌≡◌, ◌<◌, filter, OnOk, OnErr};
+ghost use Rattle.std.specs.Prelude.{◌≡◌, ◌<◌, filter, IfErr, OnOk, OnErr};
 ghost use Rattle.span_arena.specs.Content.{IsChain, IsPrepared};
-ghost use Rattle.span_shard.specs.Stored.{AreOwned, HasPrepared, HasEnded, IsPlaceFor, count_for, ended, is_other};
+ghost use Rattle.span_shard.specs.Stored.{AreOwned, HasPrepared, HasEnded, IsPlaceFor, IsRefusedFor, count_for, ended, is_other};
 
 use span_arena::arena::Arena;
 use span_arena::token::{Chain, Node};
@@ -43,6 +43,7 @@ fn prepare_again(
 {
     let at = place_for(prepared, chain);
     arena.give_back(prepared[at].node);
+    // Nodes in use and free ones are all nodes, so the one that was given back makes room.
     let _in_use = arena.live();
     let Ok(node) = arena.reserve_node(chain, row) else {
         unreachable!()
@@ -63,8 +64,11 @@ pub(crate) fn prepare_node(
     ensures ok { OnOk result (HasPrepared arena.old arena.new prepared.old.items prepared.new.items chain.number (record { txn = txn; row = row })) }
     ensures arena { OnErr result (arena.new ≡ arena.old) }
     ensures nodes { OnErr result (prepared.new.items ≡ prepared.old.items) }
+    ensures refused { IfErr result (IsRefusedFor arena.old chain.number) }
 {
     prepared.reserve(1)?;
+    // What it says of the arena is what a refusal is told by.
+    let _in_use = arena.live();
     if arena.is_prepared(chain) {
         prepare_again(arena, prepared, chain, txn, row);
         return Ok(());

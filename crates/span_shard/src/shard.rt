@@ -1,16 +1,17 @@
 //! The versions of every key in a shard's range, and the writes that are prepared there.
-ghost use Rattle.std.specs.Prelude.{◌≡◌, ◌≤◌, ℕ, [], List, map, min, IfOk, IfErr, OnOk, OnErr};
+ghost use Rattle.std.specs.Prelude.{◌≡◌, ◌≤◌, ◌⊎◌, ℕ, [], List, map, IfOk, IfErr, OnOk, OnErr};
 ghost use Rattle.span_keycode.specs.declared.range.KeyRange.{KeyRange};
 ghost use Rattle.span_mutate.specs.Typed.{AreTypedMutations};
-ghost use Rattle.span_shard.specs.Reading.{shown, AreWrites, IsFault};
+ghost use Rattle.span_shard.specs.Reading.{shown, AreWrites, IsFault, IsFull};
 ghost use Rattle.std.specs.List.{AllByRecursion};
-ghost use Rattle.span_shard.specs.Shard.{with_writes, applied, trimmed, trimmed_key, snapshot, live, IsFree, HasNoneOf, HasSomeOf, AreInOrder, IsInUse};
+ghost use Rattle.span_shard.specs.Shard.{with_writes, applied, trimmed, trimmed_key, snapshot, live, IsFree, HasNoneOf, HasSomeOf, ArePutsRefused, AreInOrder, IsInUse};
 ghost use Rattle.span_shard.specs.declared.write.Write.{Write};
 
 use super::change::writes_of;
 use super::place::rows_in;
 use super::store::Store;
 use super::write::Write;
+use span_arena::arena::MOST_NODES;
 use span_keycode::range::KeyRange;
 use span_mutate::mutation::CheckedMutation;
 use span_schema::schema::Schema;
@@ -77,16 +78,24 @@ impl Shard {
         let _ = &self.store;
     }
 
+    /// A law, which takes no time: no more versions are kept than may be.
+    pub fn keeps_at_most(&self)
+        ensures { live self.now ≤ MOST_NODES }
+    {
+        let _kept = self.store.live();
+    }
+
     /// How many versions are kept, prepared ones included.
     pub fn live(&self) -> usize
-        ensures { result ≡ min (live self.now) usize.MAX }
+        ensures { result ≡ live self.now }
     {
         self.store.live()
     }
 
     /// Prepares what the mutations of a transaction write: at each key of their directories whose presence or row they change, the row
     /// that they leave there or a deletion, and the room for its version. The fault is that of the first mutation that has one, over
-    /// all directories, or want of memory; it leaves all as it was.
+    /// all directories, want of memory, or that the writes would bring the number of kept versions over `MOST_NODES`; it leaves all as
+    /// it was.
     ///
     /// The directories are found by binary search, and no others are read. `db` is any database whose rows in those directories are
     /// the ones that stand here now: it may be the whole one. Bytes that are no key or row of the schema would be refused with
@@ -102,25 +111,29 @@ impl Shard {
         requires new { HasNoneOf txn self.old }
         requires typed { AreTypedMutations schema.now mutations.now }
         ensures ok { OnOk result ((ws : List Write) × (self.new ≡ with_writes txn ws self.old) × AreWrites schema.now mutations.now self.old ws) }
-        ensures fault { IfErr result (IsFault schema.now mutations.now self.old) }
+        ensures fault { IfErr result (λ why. IsFault schema.now mutations.now self.old why ⊎ IsFull schema.now mutations.now txn self.old why) }
         ensures err { OnErr result (self.new ≡ self.old) }
     {
         let writes = writes_of(alloc, schema, &self.store, mutations)?;
         match put_all(&mut self.store, txn, writes) {
             Ok(()) => Ok(()),
-            Err(_) => {
+            Err(why) => {
                 self.apply(txn, None);
-                Err(Refusal::OutOfMemory)
+                Err(why)
             }
         }
     }
 
     /// Ends the writes of a transaction: they become versions at its commit timestamp, or are given up where there is none. It takes
-    /// no memory: `prepare` made the room.
+    /// no memory, and moves links alone: `prepare` made the nodes.
     pub fn apply(&mut self, txn: u64, committed: Option<u64>)
         ensures { self.new ≡ applied txn committed self.old }
     {
         self.store.end(txn, committed);
+        if committed.is_some() {
+            // A key with a new version stays.
+            return;
+        }
         self.store.remove_unused();
     }
 
@@ -149,6 +162,7 @@ fn put_all(store: &mut Store, txn: u64, writes: Vec<Write>) -> Result<(), Refusa
     requires used { AllByRecursion IsInUse store.old }
     ensures ok { OnOk result (store.new ≡ with_writes txn writes.items store.old) }
     ensures err { OnErr result (HasSomeOf txn writes.items store.old store.new) }
+    ensures refused { IfErr result (ArePutsRefused txn writes.items store.old) }
 {
     let mut left = writes;
     while let Some(write) = left.pop() {

@@ -1,13 +1,13 @@
 //! The keys of a shard, in an index with their chains; their versions and prepared writes, in an arena.
-ghost use Rattle.std.specs.Prelude.{◌≡◌, [], map, filter, OnOk, OnErr};
+ghost use Rattle.std.specs.Prelude.{◌≡◌, ◌≤◌, [], map, filter, IfErr, OnOk, OnErr};
 ghost use Rattle.std.specs.List.{AllByRecursion};
 ghost use Rattle.span_shard.specs.Versions.{applied_to_key, is_used};
-ghost use Rattle.span_shard.specs.Shard.{AreInOrder, IsInUse, with_write, trimmed_key, live};
+ghost use Rattle.span_shard.specs.Shard.{AreInOrder, IsInUse, IsPutRefused, with_write, trimmed_key, live};
 
 use super::node::{PreparedNode, end_nodes, prepare_node};
 use super::trim::trim_chains;
 use super::write::Write;
-use span_arena::arena::Arena;
+use span_arena::arena::{Arena, MOST_NODES};
 use span_keyindex::index::KeyIndex;
 use span_value::refusal::Refusal;
 use std::alloc::Global;
@@ -40,9 +40,8 @@ impl Store {
     pub(crate) fn new(alloc: Global) -> Store
         ensures { result ≡ [] }
     {
-        // A node takes many bytes, so memory ends before the arena's limit is met.
         Store {
-            arena: Arena::with_most(alloc, usize::MAX),
+            arena: Arena::new(alloc),
             index: KeyIndex::new(alloc),
             prepared: Vec::new(alloc),
         }
@@ -50,7 +49,8 @@ impl Store {
 
     /// How many versions are kept, prepared ones included.
     pub(crate) fn live(&self) -> usize
-        ensures { result ≡ live self.now }
+        ensures live { result ≡ live self.now }
+        ensures most { live self.now ≤ MOST_NODES }
     {
         self.arena.live()
     }
@@ -61,6 +61,7 @@ impl Store {
         requires used { AllByRecursion IsInUse self.old }
         ensures ok { OnOk result (self.new ≡ with_write txn write self.old) }
         ensures err { OnErr result (self.new ≡ self.old) }
+        ensures refused { IfErr result (IsPutRefused self.old write.key) }
     {
         let Write { key, row } = write;
         let chain = self.index.slot_for(&mut self.arena, key)?;

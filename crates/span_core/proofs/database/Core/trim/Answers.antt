@@ -1,6 +1,4 @@
-use Rattle.std.proofs.Common.{◌≡◌, ℕ, ◌-◌, ◌^◌, List, ap, sym, ◌∙◌, subst}
-use Rattle.std.specs.Prelude.{min}
-use Rattle.span_shard.specs.KeyVersions.{KeyVersions}
+use Rattle.std.proofs.Common.{◌≡◌, ℕ, ap, sym, ◌∙◌, subst}
 use Rattle.span_shard.specs.Shard as shard
 use Rattle.span_machine.specs.Machine.{Steps}
 use Rattle.span_machine.specs.Pieces.{machine_of}
@@ -20,7 +18,7 @@ returns-in-Ok-clause-steps c =
     let schema = c.self.inside.schema in
     let m = machine_of c.self.inside.journal in
     let n = machine_of c.raise_horizon.new.self in
-    let number : c.live.result ≡ min (shard.live (shard.trimmed c.args.h c.self.inside.shard)) (2 ^ 64 - 1) = c.live.ensures ∙ ap (λ (cs : List KeyVersions). min (shard.live cs) (2 ^ 64 - 1)) c.trim.ensures in
+    let number : c.live.result ≡ shard.live (shard.trimmed c.args.h c.self.inside.shard) = c.live.ensures ∙ ap shard.live c.trim.ensures in
     let right : Steps schema m (step.Trim c.args.slot c.args.h) (reply.Trimmed c.live.result) n =
     subst (λ (i : ℕ). Steps schema m (step.Trim c.args.slot c.args.h) (reply.Trimmed i) n) (sym number)
     (trimmed_steps schema c.self.inside.journal c.raise_horizon.new.self c.self.inside.shard c.args.slot c.args.h c.self.invariant c.in-Ok.ensures.ok c.in-Ok.ensures.pieces) in

@@ -1,14 +1,17 @@
-use Rattle.std.proofs.Common.{◌≡◌, [], None, refl, sym, ap, ◌∙◌, subst}
+use Rattle.std.proofs.Common.{◌≡◌, ◌≤◌, List, [], None, refl, sym, ap, ◌∙◌, subst, inl, inr}
+use Rattle.span_value.specs.declared.refusal.Refusal.{Refusal}
+use Rattle.span_shard.specs.KeyVersions.{KeyVersions}
+use Rattle.span_machine.specs.Kept.{most}
 use Rattle.span_machine.specs.Pieces.{machine_of}
 use Rattle.span_machine.specs.Machine.{Steps}
 use Rattle.span_machine.specs.declared.step.Step.TheVariants as step
 use Rattle.span_machine.specs.declared.step.Reply.TheVariants as reply
-use Rattle.span_shard.specs.Shard.{applied, with_writes}
+use Rattle.span_shard.specs.Shard.{applied, with_writes, live}
 use Rattle.span_journal.specs.Judged.{MayPrepare}
 use Rattle.span_shard.proofs.Undo.{given_back}
 use Rattle.span_core.specs.Whole.{State, IsWhole}
 use Rattle.span_core.proofs.Wholes.{whole_same}
-use Rattle.span_core.proofs.Preparing.{free, new, fault_steps, noted_steps, noted_whole, unnoted_steps, typed}
+use Rattle.span_core.proofs.Preparing.{free, new, fault_steps, full_steps, noted_steps, noted_whole, unnoted_steps, typed}
 use Rattle.span_core.proofs.database.Core.try_prepare.Goals as goal
 
 pub prepare-requires-clause-free : goal.prepare-requires-clause-free
@@ -31,8 +34,9 @@ invariant_of-self c =
     let cs = c.self.inside.shard in
     let may : MayPrepare c.self.inside.schema (machine_of j) c.args.owner c.args.txn c.args.slot c.in-Ok.mutations.now = c.in-Ok.ensures.accepted in
     let put = c.in-Ok-prepare.ensures.ok in
+    let few : live (with_writes c.args.txn put.0 cs) ≤ most = subst (λ (l : List KeyVersions). live l ≤ most) put.1 c.keeps_at_most.ensures in
     subst (IsWhole c.self.inside.schema c.note_prepared.new.self) (sym put.1)
-    (noted_whole c.self.inside.schema j cs c.self.invariant c.args.owner c.args.txn c.args.slot c.in-Ok.mutations.now may put.0 put.2.changes c.in-Ok-note_prepared.timestamp c.note_prepared.new.self c.in-Ok-note_prepared.ensures.ok c.in-Ok-note_prepared.ensures.pieces)
+    (noted_whole c.self.inside.schema j cs c.self.invariant c.args.owner c.args.txn c.args.slot c.in-Ok.mutations.now may put.0 put.2.changes few c.in-Ok-note_prepared.timestamp c.note_prepared.new.self c.in-Ok-note_prepared.ensures.ok c.in-Ok-note_prepared.ensures.pieces)
 
 pub invariant_of-self-in-Err-note_prepared : goal.invariant_of-self-in-Err-note_prepared
 invariant_of-self-in-Err-note_prepared c =
@@ -52,8 +56,9 @@ returns-in-Ok-note_prepared-clause-steps c =
     let cs = c.self.inside.shard in
     let may : MayPrepare c.self.inside.schema (machine_of j) c.args.owner c.args.txn c.args.slot c.in-Ok.mutations.now = c.in-Ok.ensures.accepted in
     let put = c.in-Ok-prepare.ensures.ok in
+    let few : live (with_writes c.args.txn put.0 cs) ≤ most = subst (λ (l : List KeyVersions). live l ≤ most) put.1 c.keeps_at_most.ensures in
     subst (λ (st : State). Steps st.schema st.machine (step.Prepare c.args.owner c.args.txn c.args.slot) (reply.Prepared c.in-Ok-note_prepared.timestamp) (machine_of c.note_prepared.new.self)) c.self.view_is
-    (noted_steps c.self.inside.schema j cs c.self.invariant c.args.owner c.args.txn c.args.slot c.in-Ok.mutations.now may put.0 put.2.changes c.in-Ok-note_prepared.timestamp (machine_of c.note_prepared.new.self) c.in-Ok-note_prepared.ensures.ok)
+    (noted_steps c.self.inside.schema j cs c.self.invariant c.args.owner c.args.txn c.args.slot c.in-Ok.mutations.now may put.0 put.2.changes few c.in-Ok-note_prepared.timestamp (machine_of c.note_prepared.new.self) c.in-Ok-note_prepared.ensures.ok)
 
 pub returns-in-Err-note_prepared-clause-steps : goal.returns-in-Err-note_prepared-clause-steps
 returns-in-Err-note_prepared-clause-steps c =
@@ -62,8 +67,9 @@ returns-in-Err-note_prepared-clause-steps c =
     let may : MayPrepare c.self.inside.schema (machine_of j) c.args.owner c.args.txn c.args.slot c.in-Ok.mutations.now = c.in-Ok.ensures.accepted in
     let put = c.in-Ok-prepare.ensures.ok in
     let why = c.in-Err-note_prepared.why in
+    let few : live (with_writes c.args.txn put.0 cs) ≤ most = subst (λ (l : List KeyVersions). live l ≤ most) put.1 c.keeps_at_most.ensures in
     let right : Steps c.self.inside.schema (machine_of j) (step.Prepare c.args.owner c.args.txn c.args.slot) (reply.Refused why) (machine_of j) =
-    unnoted_steps c.self.inside.schema j cs c.self.invariant c.args.owner c.args.txn c.args.slot c.in-Ok.mutations.now may put.0 put.2.changes why c.in-Err-note_prepared.ensures.why in
+    unnoted_steps c.self.inside.schema j cs c.self.invariant c.args.owner c.args.txn c.args.slot c.in-Ok.mutations.now may put.0 put.2.changes few why c.in-Err-note_prepared.ensures.why in
     subst (λ (st : State). Steps st.schema st.machine (step.Prepare c.args.owner c.args.txn c.args.slot) (reply.Refused why) (machine_of c.note_prepared.new.self)) c.self.view_is
     (subst (Steps c.self.inside.schema (machine_of j) (step.Prepare c.args.owner c.args.txn c.args.slot) (reply.Refused why)) (sym c.in-Err-note_prepared.ensures.err) right)
 
@@ -72,9 +78,13 @@ returns-in-Err-prepare-clause-steps c =
     let j = c.self.inside.journal in
     let cs = c.self.inside.shard in
     let may : MayPrepare c.self.inside.schema (machine_of j) c.args.owner c.args.txn c.args.slot c.in-Ok.mutations.now = c.in-Ok.ensures.accepted in
-    let fault = c.in-Err-prepare.ensures.fault in
-    subst (λ (st : State). Steps st.schema st.machine (step.Prepare c.args.owner c.args.txn c.args.slot) (reply.Refused c.in-Err-prepare.why) (machine_of j)) c.self.view_is
-    (fault_steps c.self.inside.schema j cs c.self.invariant c.args.owner c.args.txn c.args.slot c.in-Ok.mutations.now may c.in-Err-prepare.why fault)
+    let right : Steps c.self.inside.schema (machine_of j) (step.Prepare c.args.owner c.args.txn c.args.slot) (reply.Refused c.in-Err-prepare.why) (machine_of j) =
+    elim c.in-Err-prepare.ensures.fault [
+      | inl fault ↦ fault_steps c.self.inside.schema j cs c.self.invariant c.args.owner c.args.txn c.args.slot c.in-Ok.mutations.now may c.in-Err-prepare.why fault
+      | inr full ↦ subst (λ (why : Refusal). Steps c.self.inside.schema (machine_of j) (step.Prepare c.args.owner c.args.txn c.args.slot) (reply.Refused why) (machine_of j)) (sym full.full)
+          (full_steps c.self.inside.schema j cs c.self.invariant c.args.owner c.args.txn c.args.slot c.in-Ok.mutations.now may full.writes full.of.changes full.over)
+    ] in
+    subst (λ (st : State). Steps st.schema st.machine (step.Prepare c.args.owner c.args.txn c.args.slot) (reply.Refused c.in-Err-prepare.why) (machine_of j)) c.self.view_is right
 
 pub prepare-requires-clause-typed : goal.prepare-requires-clause-typed
 prepare-requires-clause-typed c =

@@ -13,6 +13,7 @@ invariant_of-self c =
     let left = filter_same _ (is_other c.args.txn) _ (λ x b f' k. search rules) _ _ c.retain.ensures.filtered in
     record {
       own = own_stays i.index i.arena c.end_nodes.new.arena c.self.invariant.own c.end_nodes.ensures.same;
+      most = c.end_nodes.ensures.most ∙ c.self.invariant.most;
       owned = subst (AreOwned c.end_nodes.new.arena) (sym left) c.end_nodes.ensures.owned;
     }
 

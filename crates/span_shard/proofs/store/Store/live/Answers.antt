@@ -1,9 +1,15 @@
-use Rattle.std.proofs.Common.{◌∙◌, ap}
+use Rattle.std.proofs.Common.{◌∙◌, ap, arith}
 use Rattle.span_shard.specs.Shard.{live}
 use Rattle.span_shard.proofs.Counting.{live_is}
 use Rattle.span_shard.proofs.store.Store.live.Goals as goal
 
-pub returns : goal.returns
-returns c =
+pub returns-clause-live : goal.returns-clause-live
+returns-clause-live c =
     let i = c.self.inside in
     c.live.ensures.live ∙ live_is i.index i.arena i.prepared.items c.self.invariant c.live.ensures.order ∙ ap live c.self.view_is
+
+pub returns-clause-most : goal.returns-clause-most
+returns-clause-most c =
+    let i = c.self.inside in
+    let same = live_is i.index i.arena i.prepared.items c.self.invariant c.live.ensures.order ∙ ap live c.self.view_is in
+    omega (arith, same, c.live.ensures.order.placed, c.live.ensures.order.bounded, c.self.invariant.most)
