@@ -1,9 +1,10 @@
-# Writes what span_parser and span_schematext prove of their pieces, part by part: proofs/Expressing, Shrinking, Querying and Falling, and
-# proofs/Declaring and Lasting. What each part is made of is read from span_grammar's specs/Shapes.antt; how a piece is put together is said below, as in specs/Expressions.antt and specs/Queries.antt.
+# Writes what span_expression, span_parser and span_schematext prove of their pieces, part by part: proofs/Expressing and Shrinking,
+# proofs/Querying and Falling, and proofs/Declaring and Lasting. What each part is made of is read from span_grammar's specs/Shapes.antt; how a piece is put together is said below, as in specs/Expressions.antt and specs/Queries.antt.
 # Run it after tools/grammar_tables.py, then `rt fmt` and `rt check` in the crate. Nothing rests on it: what it writes is checked.
 import os
 import re
 CRATES=os.path.join(os.path.dirname(os.path.abspath(__file__)),'..','crates','')
+LOW=CRATES+'span_expression/'
 ROOT=CRATES+'span_parser/'
 THEORY=CRATES+'span_grammar/'
 # shapes of the parts
@@ -40,6 +41,7 @@ def E(p,q): return ('E',p,q)
 def O(p): return ('E',M('Some',p),N('None'))
 def MANY(p): return ('MANY',p)
 def OP(p): return ('OP',p)
+def BESIDE(x,p): return ('BESIDE',x,p)
 def R(spec,good): return ('R',spec,good)
 def C(p): return B(p,'x',R('closing x','closing_good m x'))
 cnt=[0]
@@ -48,6 +50,7 @@ def spec(a,part,n):
     if k=='T': return f'(token {a[1]})'
     if k=='N': return f'(nothing {a[1]})'
     if k=='M': return f'({a[1]} <$> {spec(a[2],part,n)})'
+    if k=='BESIDE': return f'(beside {a[1]} {spec(a[2],part,n)})'
     if k=='R': return f'({a[1]})'
     sk,sa=shape(part)
     if k=='B': return f'({spec(a[1],sa[0],n)} >>= (λ {a[2]}. {spec(a[3],sa[1],n)}))'
@@ -58,6 +61,7 @@ def spec(a,part,n):
 def good(a,part,n):
     k=a[0]
     if k=='M': return f'(map_good {a[1]} {spec(a[2],part,n)} {good(a[2],part,n)})'
+    if k=='BESIDE': return f'(beside_good {a[1]} {spec(a[2],part,n)} {good(a[2],part,n)})'
     if k=='R': return f'({a[2]})'
     sk,sa=shape(part)
     if k=='T':
@@ -101,18 +105,19 @@ use Rattle.span_grammar.specs.declared.class.Sort.TheVariants as sort
 use Rattle.span_grammar.specs.declared.grammar.Part.TheVariants as part
 use Rattle.span_grammar.specs.declared.grammar.Place.TheVariants as place
 use Rattle.span_grammar.specs.declared.grammar.Shape.TheVariants as shape
-use Rattle.span_parser.specs.declared.tree.Spelling.{Spelling}
-use Rattle.span_parser.specs.declared.tree.Operator.TheVariants as operator
-use Rattle.span_parser.specs.declared.tree.Comparison.TheVariants as how
-use Rattle.span_parser.specs.declared.tree.Expr.{Expr}
-use Rattle.span_parser.specs.declared.tree.Expr.TheVariants as e
-use Rattle.span_parser.specs.declared.tree.Arm.{Arm, roll-Arm}
-use Rattle.span_parser.specs.declared.tree.Link.{roll-Link}
+use Rattle.span_expression.specs.declared.operator.Asked.TheVariants as asked
+use Rattle.span_expression.specs.declared.tree.Spelling.{Spelling}
+use Rattle.span_expression.specs.declared.tree.Operator.TheVariants as operator
+use Rattle.span_expression.specs.declared.tree.Comparison.TheVariants as how
+use Rattle.span_expression.specs.declared.tree.Expr.{Expr}
+use Rattle.span_expression.specs.declared.tree.Expr.TheVariants as e
+use Rattle.span_expression.specs.declared.tree.Arm.{Arm, roll-Arm}
+use Rattle.span_expression.specs.declared.tree.Link.{roll-Link}
 use Rattle.span_grammar.specs.Shapes.{shape_of, part_inside}
 use Rattle.span_grammar.specs.Grammar.{rule_of}
-use Rattle.span_parser.specs.Pieces.{Piece, token, nothing, ◌<$>◌, ◌>>=◌, either, each, opening}
-use Rattle.span_parser.specs.Expressions.{span_of, spelling_of, spelling, closing, arm_of, then_value, integer_of, qualifier, column_of, qualified, column, chained, all_of, some_of, denied, term_sign, sum_sign, comparison, maybe_not, null_words, list_more, list, when, case_operand, case_else, case_end, case_arms, in_case, argument_list, Inner, parenthesis, arguments, members, case, negation, opposite, after_name, named, if_call, compound, word_literal, other_primary, primary, unary, other_unary, signed, term_more, term, sum_more, sum, compared, is_null, like, high_end, both_ends, between, within, test, maybe_not_test, predicate_rest, predicate, negated, conjunction_more, conjunction, expression_more, expression, behind}
-use Rattle.span_parser.proofs.Good.{Good, token_good, nothing_good, map_good, then_good, or_good, many_good, open_good}
+use Rattle.span_expression.specs.Pieces.{Piece, token, nothing, ◌<$>◌, ◌>>=◌, either, each, beside, opening}
+use Rattle.span_expression.specs.Expressions.{span_of, spelling_of, spelling, closing, arm_of, then_value, integer_of, qualifier, column_of, qualified, column, direction, chained, all_of, some_of, denied, test_of, tested, term_sign, sum_sign, comparison, maybe_not, null_words, list_more, list, when, case_operand, case_else, case_end, case_arms, case_of, in_case, argument_list, Inner, parenthesis, arguments, members, case, negation, opposite, after_name, named, if_call, compound, word_literal, other_primary, primary, unary, other_unary, signed, term_more, term, sum_more, sum, compared, is_null, like, high_end, between, within, test, maybe_not_test, predicate_rest, predicate, negated, conjunction_more, conjunction, expression_more, expression, behind}
+use Rattle.span_expression.proofs.Good.{Good, token_good, nothing_good, map_good, then_good, or_good, many_good, beside_good, open_good}
 
 '''
 L=lambda name,part,sp,ast,**k: lemma(name,part,sp,ast,ind=k.pop('ind','  '),**k)
@@ -135,6 +140,7 @@ o+=L('qualified','MaybeQualifier','qualified text first',Q,args='(first : Spelli
 o+=lemma('qualified_name','AfterNameFromQualifier','qualified text first',Q,args='(first : Spelling)',unf='qualified')
 o+=L('column','Column','column text',B(SP('sort.Name'),'first',R('qualified text first','qualified_good first')))
 o+='module _ (n : ℕ) where\n'
+o+=L('direction','Direction','direction',E(M('(λ t. false)',T(Wd('Asc'))),E(M('(λ t. true)',T(Wd('Desc'))),N('false'))))
 o+=L('term_sign','TermSign','term_sign',E(M('(λ t. operator.Times)',T(Sg('Star'))),M('(λ t. operator.Concat)',T(Sg('Concat')))))
 o+=L('sum_sign','SumSign','sum_sign',E(M('(λ t. operator.Plus)',T(Sg('Plus'))),M('(λ t. operator.Minus)',T(Sg('Minus')))))
 cs=[('Equal','Equal'),('NotEqual','LessGreater'),('NotEqual','BangEqual'),('Less','Less'),('AtMost','LessEqual'),('Greater','Greater'),('AtLeast','GreaterEqual')]
@@ -147,15 +153,15 @@ o+=L('maybe_not','MaybeNot','maybe_not',E(M('(λ t. true)',T(Wd('Not'))),N('fals
 o+=L('null_words','IsNull','null_words',S(T(Wd('Is')),B(R('maybe_not','maybe_not_good'),'is_not',M('(λ t. is_not)',T(Wd('Null'))))))
 o+='-- ---- what stands inside an opening\n\nmodule _ (n : ℕ) (p : Piece Expr) (gp : Good n (rule_of part.Expression) p) where\n'
 o+=L('list_more','ListMore','list_more p',S(T(Sg('Comma')),P))
-o+=L('list','List','list p',B(P,'x',M('(λ xs. x ∷ xs)',MANY(R('list_more p','list_more_good')))))
-o+=L('then_value','WhenFromWordThen','then_value p x',S(T(Wd('Then')),M('(λ value. (x, value))',P)),args='{A : Type 0} (x : A)')
-o+=L('when','When','when p',S(T(Wd('When')),B(P,'condition',M('arm_of',R('then_value p condition','then_value_good condition')))))
+o+=L('list','List','list p',B(P,'first',M('(λ all. all.0 ∷ all.1)',BESIDE('first',MANY(R('list_more p','list_more_good'))))))
+o+=L('then_value','WhenFromWordThen','then_value p',S(T(Wd('Then')),P))
+o+=L('when','When','when p',S(T(Wd('When')),B(P,'condition',M('arm_of',BESIDE('condition',R('then_value p','then_value_good'))))))
 o+=L('case_else','CaseElse','case_else p',O(S(T(Wd('Else')),P)))
 W=R('when p','when_good')
 o+=L('case_operand','CaseOperand','case_operand p',O(P))
-o+=L('case_end','InCaseFromCaseElse','case_end p operand arms',B(R('case_else p','case_else_good'),'otherwise',M('(λ t. e.Case operand arms otherwise)',T(Wd('End')))),args='(operand : Option Expr) → (arms : List Arm)')
-o+=L('case_arms','InCaseFromWhen','case_arms p operand',B(W,'arm',B(MANY(W),'arms',R('case_end p operand (arm ∷ arms)','case_end_good operand (arm ∷ arms)'))),args='(operand : Option Expr)')
-o+=L('in_case','InCase','in_case p',B(R('case_operand p','case_operand_good'),'operand',R('case_arms p operand','case_arms_good operand')))
+o+=L('case_end','InCaseFromCaseElse','case_end p',B(R('case_else p','case_else_good'),'otherwise',M('(λ both. both.0)',BESIDE('otherwise',T(Wd('End'))))))
+o+=L('case_arms','InCaseFromWhen','case_arms p',B(W,'arm',B(BESIDE('arm',MANY(W)),'all',BESIDE('(all.0 ∷ all.1)',R('case_end p','case_end_good')))))
+o+=L('in_case','InCase','in_case p',B(R('case_operand p','case_operand_good'),'operand',M('case_of',BESIDE('operand',R('case_arms p','case_arms_good')))))
 o+=L('argument_list','ArgumentList','argument_list p name',E(M('(λ t. e.CallStar name)',T(Sg('Star'))),E(M('(e.Call name)',R('list p','list_good')),N('(e.Call name [])'))),args='(name : Spelling)')
 o+='''-- ---- expressions
 
@@ -190,25 +196,24 @@ X('other_unary','OtherUnary',E(r('opposite'),r('other_primary')))
 X('signed','Signed',E(M('(λ t. e.Integer (integer_of true t))',T('sort.Int')),M('e.Negative',r('other_unary'))))
 for nm,sub,Pt in [('term','unary','Term'),('sum','term','Sum')]:
     X(f'{nm}_more',f'{Pt}More',B(R(f'{nm}_sign',f'{nm}_sign_good n'),'o',M('(λ x. roll-Link (record { operator = o; operand = x }))',r(sub))))
-    X(nm,Pt,B(r(sub),'x',M('(chained x)',MANY(r(f'{nm}_more')))))
-XA='(x : Expr)'
-X('compared','Compared',B(R('comparison','comparison_good n'),'c',M('(e.Compare x c)',r('sum'))),XA)
+    X(nm,Pt,B(r(sub),'first',M('(λ all. chained all.0 all.1)',BESIDE('first',MANY(r(f'{nm}_more'))))))
+NOTHING=N('(false, asked.Nothing)')
+X('compared','Compared',B(R('comparison','comparison_good n'),'c',M('(λ x. (false, asked.Compared c x))',r('sum'))))
 MN=R('maybe_not','maybe_not_good n')
-X('is_null','IsNull',M('(λ is_not. denied is_not (e.IsNull x))',R('null_words','null_words_good n')),XA)
-X('like','Like',S(T(Wd('Like')),M('(e.Like x)',SP('sort.Str'))),XA)
+X('is_null','IsNull',M('(λ is_not. (is_not, asked.IsNull))',R('null_words','null_words_good n')))
+X('like','Like',S(T(Wd('Like')),M('asked.Like',SP('sort.Str'))))
 X('high_end','BetweenFromWordAnd',S(T(Wd('And')),r('sum')))
-X('both_ends','Between',S(T(Wd('Between')),B(r('sum'),'low',M('(λ high. (low, high))',r('high_end')))))
-X('between','Between',M('(λ ends. e.Between x ends.0 ends.1)',r('both_ends')),XA)
-X('within','Within',S(T(Wd('In')),M('(e.In x)',r('members'))),XA)
-X('test','Test',E(r('like',' x'),E(r('between',' x'),r('within',' x'))),XA)
-X('maybe_not_test','MaybeNotTest',B(MN,'is_not',M('(denied is_not)',r('test',' x'))),XA)
-X('predicate_rest','PredicateRest',E(r('compared',' x'),E(r('is_null',' x'),E(r('maybe_not_test',' x'),N('x')))),XA)
-X('predicate','Predicate',B(r('sum'),'x',r('predicate_rest',' x')))
+X('between','Between',S(T(Wd('Between')),B(r('sum'),'low',M('(λ ends. asked.Between ends.0 ends.1)',BESIDE('low',r('high_end'))))))
+X('within','Within',S(T(Wd('In')),M('asked.In',r('members'))))
+X('test','Test',E(r('like'),E(r('between'),r('within'))))
+X('maybe_not_test','MaybeNotTest',B(MN,'is_not',M('(λ question. (is_not, question))',r('test'))))
+X('predicate_rest','PredicateRest',E(r('compared'),E(r('is_null'),E(r('maybe_not_test'),NOTHING))))
+X('predicate','Predicate',B(r('sum'),'x',M('(λ both. tested both.0 both.1)',BESIDE('x',r('predicate_rest')))))
 X('negated','Negated',E(r('negation'),r('predicate')))
 X('conjunction_more','ConjunctionMore',S(T(Wd('And')),r('negated')))
-X('conjunction','Conjunction',B(r('negated'),'x',M('(all_of x)',MANY(r('conjunction_more')))))
+X('conjunction','Conjunction',B(r('negated'),'first',M('(λ all. all_of all.0 all.1)',BESIDE('first',MANY(r('conjunction_more'))))))
 X('expression_more','ExpressionMore',S(T(Wd('Or')),r('conjunction')))
-X('expression','Expression',B(r('conjunction'),'x',M('(some_of x)',MANY(r('expression_more')))))
+X('expression','Expression',B(r('conjunction'),'first',M('(λ all. some_of all.0 all.1)',BESIDE('first',MANY(r('expression_more'))))))
 o+='''-- ---- at each number of openings
 
 before : (n m : ℕ) → suc n ≡ suc m → n ≡ m
@@ -226,23 +231,23 @@ deep text (suc n) =
       signed = λ m h. subst (λ (k : ℕ). Good k (rule_of part.Signed) (signed text n inner)) (before n m h) (signed_good text n inner all);
     }
 '''
-open(ROOT+'proofs/Expressing.antt','w').write(o)
+open(LOW+'proofs/Expressing.antt','w').write(o)
 sh='''-- What is read any number of times takes a token each time.
 use Rattle.std.proofs.Common.{◌≡◌, ℕ, zero, suc, ◌<◌, ◌≤◌, ◌-◌, false, List, ap, subst, arith, Ok}
 use Rattle.span_grammar.specs.declared.class.Lexeme.{Lexeme}
 use Rattle.span_grammar.specs.declared.grammar.Part.{Part}
 use Rattle.span_grammar.specs.declared.grammar.Part.TheVariants as part
-use Rattle.span_parser.specs.declared.tree.Expr.{Expr}
+use Rattle.span_expression.specs.declared.tree.Expr.{Expr}
 use Rattle.span_grammar.specs.Rules.{Answer, Read, Wrong, Deep, Tree, limit, nullable, parse}
 use Rattle.span_grammar.specs.Shapes.{shape_of}
 use Rattle.span_grammar.specs.Grammar.{inside, rule_of}
-use Rattle.span_parser.specs.Pieces.{Piece, Outcome, given}
-use Rattle.span_parser.specs.Expressions.{behind, list_more, when, term_more, sum_more, conjunction_more, expression_more}
-use Rattle.span_parser.proofs.Good.{Good}
+use Rattle.span_expression.specs.Pieces.{Piece, Outcome, given}
+use Rattle.span_expression.specs.Expressions.{behind, list_more, when, term_more, sum_more, conjunction_more, expression_more}
+use Rattle.span_expression.proofs.Good.{Good}
 use Rattle.span_grammar.proofs.Repeated.{repeated_full}
 use Rattle.span_grammar.proofs.Steps.{shrinks}
-use Rattle.span_parser.proofs.Loops.{Shrinks, each_more, each_end, each_err, each_falls}
-use Rattle.span_parser.proofs.Expressing.{deep, list_more_good, when_good, term_more_good, sum_more_good, conjunction_more_good, expression_more_good}
+use Rattle.span_expression.proofs.Loops.{Shrinks, each_more, each_end, each_err, each_falls}
+use Rattle.span_expression.proofs.Expressing.{deep, list_more_good, when_good, term_more_good, sum_more_good, conjunction_more_good, expression_more_good}
 
 ok_is : {X : Type 0} (a b : X) → (let o : Result X Fault = Ok a in o) ≡ Ok b → a ≡ b
 ok_is a b h = cc
@@ -278,8 +283,8 @@ unfolding shape_of
 
 '''
 sh+='pub ruleset loop_steps = (each_more, each_end, each_err, each_falls, term_more_shrinks, sum_more_shrinks, conjunction_more_shrinks, expression_more_shrinks, list_more_shrinks, when_shrinks)\n'
-sh=sh.replace('false, List, ap, subst, arith, Ok}','false, List, Result, refl, sym, ap, ◌∙◌, arith, Ok}\nuse Rattle.span_parser.specs.declared.fault.Fault.{Fault}')
-open(ROOT+'proofs/Shrinking.antt','w').write(sh)
+sh=sh.replace('false, List, ap, subst, arith, Ok}','false, List, Result, refl, sym, ap, ◌∙◌, arith, Ok}\nuse Rattle.span_expression.specs.declared.fault.Fault.{Fault}')
+open(LOW+'proofs/Shrinking.antt','w').write(sh)
 
 # ---- queries
 Sg=lambda s:f'(sort.Sign sign.{s})'
@@ -295,7 +300,7 @@ use Rattle.span_grammar.specs.declared.class.Sort.TheVariants as sort
 use Rattle.span_grammar.specs.declared.grammar.Part.TheVariants as part
 use Rattle.span_grammar.specs.declared.grammar.Place.TheVariants as place
 use Rattle.span_grammar.specs.declared.grammar.Shape.TheVariants as shape
-use Rattle.span_parser.specs.declared.tree.Expr.{Expr}
+use Rattle.span_expression.specs.declared.tree.Expr.{Expr}
 use Rattle.span_parser.specs.declared.tree.Output.{Output}
 use Rattle.span_parser.specs.declared.tree.Output.TheVariants as shown
 use Rattle.span_parser.specs.declared.tree.SortColumn.TheVariants as by
@@ -306,11 +311,11 @@ use Rattle.span_parser.specs.declared.tree.Block.{Block}
 use Rattle.span_parser.specs.declared.tree.Query.{Query}
 use Rattle.span_grammar.specs.Shapes.{shape_of, part_inside}
 use Rattle.span_grammar.specs.Grammar.{rule_of}
-use Rattle.span_parser.specs.Pieces.{Piece, token, nothing, ◌<$>◌, ◌>>=◌, either, each, opening}
-use Rattle.span_parser.specs.Expressions.{value_of, integer_of, spelling, closing, column, behind, expression}
-use Rattle.span_parser.specs.Queries.{as_name, alias, required_alias, direction, sort_column, sort_key, sort_key_more, sort_keys, order_by, maybe_order_by, skip, maybe_skip, limit_clause, maybe_limit, quantifier, column_more, columns, group_by, maybe_group_by, all_of_table, maybe_outer, left_join, inner_join, join_kind, maybe_semicolon, where_clause, maybe_where, having, maybe_having, output_expression, output, output_more, outputs, subquery, named_item, derived_item, item, join_of, block_of, query_of, join_on, join_behind, join, block_groups, block_filter, ordered, unions, block_rest, block_from, block_shown, block, union_more, query, query_behind, statement}
-use Rattle.span_parser.proofs.Good.{Good, token_good, nothing_good, map_good, then_good, or_good, many_good, open_good}
-use Rattle.span_parser.proofs.Expressing.{spelling_good, closing_good, column_good, expression_good, deep}
+use Rattle.span_expression.specs.Pieces.{Piece, token, nothing, ◌<$>◌, ◌>>=◌, either, each, beside, opening}
+use Rattle.span_expression.specs.Expressions.{value_of, integer_of, spelling, closing, column, direction, behind, expression}
+use Rattle.span_parser.specs.Queries.{as_name, alias, required_alias, sort_column, sort_key, sort_key_more, sort_keys, order_by, maybe_order_by, skip, maybe_skip, limit_clause, maybe_limit, quantifier, column_more, columns, group_by, maybe_group_by, all_of_table, maybe_outer, left_join, inner_join, join_kind, maybe_semicolon, where_clause, maybe_where, having, maybe_having, output_expression, output, output_more, outputs, subquery, named_item, derived_item, item, join_of, block_of, query_of, join_on, join, block_groups, block_filter, ordered, unions, block_joins, block_from, block_shown, block, union_more, query, query_behind, statement}
+use Rattle.span_expression.proofs.Good.{Good, token_good, nothing_good, map_good, then_good, or_good, many_good, beside_good, open_good}
+use Rattle.span_expression.proofs.Expressing.{spelling_good, closing_good, column_good, direction_good, expression_good, deep}
 
 '''
 o+='module _ (n : ℕ) where\n'
@@ -320,7 +325,6 @@ def t0(name,part,ast):
 def r0(name): return R(name,f'{name}_good')
 def rn(name): return R(name,f'{name}_good n')
 wb=lambda w,v: M(f'(λ t. {v})',T(Wd(w)))
-t0('direction','Direction',E(wb('Asc','false'),E(wb('Desc','true'),N('false'))))
 t0('quantifier','MaybeQuantifier',E(wb('All','false'),E(wb('Distinct','true'),N('false'))))
 t0('maybe_outer','MaybeOuter',E(wb('Outer','true'),N('false')))
 t0('skip','Skip',S(T('(sort.Context context.Offset)'),M('(λ t. value_of t.token.kind)',T('sort.Int'))))
@@ -361,10 +365,13 @@ t2('where_clause','Where',S(T(Wd('Where')),EX))
 t2('maybe_where','MaybeWhere',O(r2('where_clause')))
 t2('having','Having',S(T(Wd('Having')),EX))
 t2('maybe_having','MaybeHaving',O(r2('having')))
-t2('output_expression','OutputExpression',B(EX,'value',M('(shown.Value value)',r1('alias'))))
+t2('output_expression','OutputExpression',B(EX,'value',M('(λ both. shown.Value both.0 both.1)',BESIDE('value',r1('alias')))))
 t2('output','Output',E(M('(λ t. shown.All)',T(Sg('Star'))),E(r1('all_of_table'),r2('output_expression'))))
 t2('output_more','OutputMore',S(T(Sg('Comma')),r2('output')))
-t2('outputs','Outputs',B(r2('output'),'first',fm(r2('output_more'))))
+t2('outputs','Outputs',B(r2('output'),'first',M('(λ all. all.0 ∷ all.1)',BESIDE('first',MANY(r2('output_more'))))))
+t2('join_on','JoinFromWordOn',S(T(Wd('On')),EX))
+t2('block_groups','BlockFromMaybeGroupBy',B(r1('maybe_group_by'),'groups',BESIDE('groups',r2('maybe_having'))))
+t2('block_filter','BlockFromMaybeWhere',B(r2('maybe_where'),'filter',BESIDE('filter',r2('block_groups'))))
 o+='''  -- what is a query one opening deeper is read so, where there is one left
   module _ (inner : Piece Query) (good_inside : (m : ℕ) → n ≡ suc m → Good m (rule_of part.Query) inner) where
 '''
@@ -374,24 +381,17 @@ def t3(name,part,ast):
 def r3(name): return R(f'{name} text n inner',f'{name}_good')
 t3('subquery','Subquery',OP(C(R('inner','good_inside m e'))))
 t3('named_item','NamedItem',B(SP('sort.Name'),'name',M('(source.Table name)',r1('alias'))))
-t3('derived_item','DerivedItem',B(r3('subquery'),'query',M('(source.Derived query)',r1('required_alias'))))
+t3('derived_item','DerivedItem',B(r3('subquery'),'query',M('(λ both. source.Derived both.0 both.1)',BESIDE('query',r1('required_alias')))))
 t3('item','Item',E(r3('named_item'),r3('derived_item')))
-JA='(is_left : Bool) → (joined : Item)'
-o+=L('join_on','JoinFromWordOn','join_on text n inner is_left joined',S(T(Wd('On')),M('(join_of is_left joined)',EX)),args=JA,ind='    ')
-o+=L('join_behind','JoinFromItem','join_behind text n inner is_left',B(r3('item'),'joined',R('join_on text n inner is_left joined','join_on_good is_left joined')),args='(is_left : Bool)',ind='    ')
-t3('join','Join',B(rn('join_kind'),'is_left',R('join_behind text n inner is_left','join_behind_good is_left')))
-AA='(is_distinct : Bool) → (shows : List Output) → (from : Item)'
-JB=AA+' → (joins : List Join)'
-o+=L('block_groups','BlockFromMaybeGroupBy','block_groups text n inner is_distinct shows from joins filter',B(r1('maybe_group_by'),'groups',M('(block_of is_distinct shows from joins filter groups)',r2('maybe_having'))),args=JB+' → (filter : Option Expr)',ind='    ')
-o+=L('block_filter','BlockFromMaybeWhere','block_filter text n inner is_distinct shows from joins',B(r2('maybe_where'),'filter',R('block_groups text n inner is_distinct shows from joins filter','block_groups_good is_distinct shows from joins filter')),args=JB,ind='    ')
-o+=L('block_rest','BlockFromJoins','block_rest text n inner is_distinct shows from',B(MANY(r3('join')),'joins',R('block_filter text n inner is_distinct shows from joins','block_filter_good is_distinct shows from joins')),args=AA,ind='    ')
-o+=L('block_from','BlockFromWordFrom','block_from text n inner is_distinct shows',S(T(Wd('From')),B(r3('item'),'from',R('block_rest text n inner is_distinct shows from','block_rest_good is_distinct shows from'))),args='(is_distinct : Bool) → (shows : List Output)',ind='    ')
-t3('block_shown','BlockFromMaybeQuantifier',B(rn('quantifier'),'is_distinct',B(r2('outputs'),'shows',R('block_from text n inner is_distinct shows','block_from_good is_distinct shows'))))
+t3('join','Join',B(rn('join_kind'),'is_left',B(r3('item'),'joined',M('(λ both. join_of is_left both.0 both.1)',BESIDE('joined',r2('join_on'))))))
+t3('block_joins','BlockFromJoins',B(MANY(r3('join')),'joins',BESIDE('joins',r2('block_filter'))))
+t3('block_from','BlockFromWordFrom',S(T(Wd('From')),B(r3('item'),'from',BESIDE('from',r3('block_joins')))))
+t3('block_shown','BlockFromMaybeQuantifier',B(rn('quantifier'),'is_distinct',B(r2('outputs'),'shows',M('(block_of is_distinct)',BESIDE('shows',r3('block_from'))))))
 t3('block','Block',S(T(Wd('Select')),r3('block_shown')))
 t3('union_more','UnionMore',S(T(Wd('Union')),S(T(Wd('All')),r3('block'))))
-o+=L('ordered','QueryFromMaybeOrderBy','ordered text x others',B(r1('maybe_order_by'),'order',M('(λ limit. (x, others, order, limit))',rn('maybe_limit'))),args='{A : Type 0} (x : A) (others : List Block)',ind='    ')
-o+=L('unions','QueryFromUnionRest','unions text n inner x',B(MANY(r3('union_more')),'others',R('ordered text x others','ordered_good x others')),args='{A : Type 0} (x : A)',ind='    ')
-t3('query','Query',B(r3('block'),'first',M('query_of',R('unions text n inner first','unions_good first'))))
+o+=L('ordered','QueryFromMaybeOrderBy','ordered text',B(r1('maybe_order_by'),'order',BESIDE('order',rn('maybe_limit'))),ind='    ')
+t3('unions','QueryFromUnionRest',B(MANY(r3('union_more')),'others',BESIDE('others',R('ordered text','ordered_good'))))
+t3('query','Query',B(r3('block'),'first',M('query_of',BESIDE('first',r3('unions')))))
 o+='''before : (n m : ℕ) → suc n ≡ suc m → n ≡ m
 before n m h = omega (arith, h)
 
@@ -402,7 +402,7 @@ query_deep text (suc n) m h = subst (λ (k : ℕ). Good k (rule_of part.Query) (
 
 pub statement_good : (text : List ℕ) (n : ℕ) → Good n (rule_of part.Statement) (statement text n)
 unfolding statement shape_of
-statement_good text n = '''+good(B(R('query text n (query_behind text n)','query_good text n (query_behind text n) (λ m e. query_deep text n m e)'),'q',M('(λ u. q)',rn('maybe_semicolon'))),'part.Statement','n')[1:-1]+'\n'
+statement_good text n = '''+good(B(R('query text n (query_behind text n)','query_good text n (query_behind text n) (λ m e. query_deep text n m e)'),'q',M('(λ both. both.0)',BESIDE('q',rn('maybe_semicolon')))),'part.Statement','n')[1:-1]+'\n'
 open(ROOT+'proofs/Querying.antt','w').write(o)
 f='''-- What a query has any number of times takes a token each time.
 use Rattle.std.proofs.Common.{ℕ, ◌≤◌, List, refl}
@@ -411,8 +411,8 @@ use Rattle.span_grammar.specs.Rules.{limit}
 use Rattle.span_grammar.specs.Shapes.{shape_of}
 use Rattle.span_parser.specs.Queries.{sort_key_more, column_more, output_more, join, union_more, query_behind}
 use Rattle.span_grammar.proofs.Repeated.{repeated_full}
-use Rattle.span_parser.proofs.Loops.{Shrinks, each_more, each_end, each_err, each_falls}
-use Rattle.span_parser.proofs.Shrinking.{shrinking}
+use Rattle.span_expression.proofs.Loops.{Shrinks, each_more, each_end, each_err, each_falls}
+use Rattle.span_expression.proofs.Shrinking.{shrinking}
 use Rattle.span_parser.proofs.Querying.{sort_key_more_good, column_more_good, output_more_good, join_good, union_more_good, query_deep}
 
 '''
@@ -455,10 +455,10 @@ use Rattle.span_grammar.specs.declared.grammar.Place.TheVariants as place
 use Rattle.span_grammar.specs.declared.grammar.Shape.TheVariants as shape
 use Rattle.span_grammar.specs.Shapes.{shape_of, part_inside}
 use Rattle.span_grammar.specs.Grammar.{rule_of}
-use Rattle.span_parser.specs.Pieces.{Piece, token, nothing, ◌<$>◌, ◌>>=◌, either, each, opening}
-use Rattle.span_parser.specs.Queries.{direction}
-use Rattle.span_parser.proofs.Good.{Good, token_good, nothing_good, map_good, then_good, or_good, many_good, open_good}
-use Rattle.span_parser.proofs.Querying.{direction_good}
+use Rattle.span_expression.specs.Pieces.{Piece, token, nothing, ◌<$>◌, ◌>>=◌, either, each, beside, opening}
+use Rattle.span_expression.specs.Expressions.{direction}
+use Rattle.span_expression.proofs.Good.{Good, token_good, nothing_good, map_good, then_good, or_good, many_good, open_good}
+use Rattle.span_expression.proofs.Expressing.{direction_good}
 use Rattle.span_schematext.specs.Declarations.{name_of, name, at_most, unbounded, length_bound, in_length, long_kind, long_of, not_null, maybe_not_null, no_action, action, on_delete, maybe_on_delete, maybe_last_semicolon, parent, in_parent, interleave, maybe_interleave, key_column, key_column_more, in_key_columns, length_parenthesis, long_type, column_type, table_column, table_column_more, in_table_columns, key_columns, table_columns, keyed, with_key, named_table, table, table_more, tables}
 
 module _ (n : ℕ) where
@@ -523,8 +523,8 @@ use Rattle.span_grammar.specs.Rules.{limit}
 use Rattle.span_grammar.specs.Shapes.{shape_of}
 use Rattle.span_schematext.specs.Declarations.{key_column_more, table_column_more, table_more}
 use Rattle.span_grammar.proofs.Repeated.{repeated_full}
-use Rattle.span_parser.proofs.Loops.{Shrinks, each_more, each_end, each_err, each_falls}
-use Rattle.span_parser.proofs.Shrinking.{shrinking}
+use Rattle.span_expression.proofs.Loops.{Shrinks, each_more, each_end, each_err, each_falls}
+use Rattle.span_expression.proofs.Shrinking.{shrinking}
 use Rattle.span_schematext.proofs.Declaring.{key_column_more_good, table_column_more_good, table_more_good}
 
 '''
@@ -540,7 +540,7 @@ for nm,part,left in(('key_column','KeyColumn',False),('table_column','TableColum
     c='c.args.text.now'+(' c.args.left c.requires' if left else '')
     open(folder+'/Invariants.antt','w').write(f"""use Rattle.std.proofs.Common.{{◌≡◌, [], length}}
 use Rattle.span_grammar.specs.declared.grammar.Part.TheVariants as part
-use Rattle.span_parser.specs.Pieces.{{each_read}}
+use Rattle.span_expression.specs.Pieces.{{each_read}}
 use Rattle.span_schematext.specs.Declarations.{{{nm}_more}}
 use Rattle.span_schematext.proofs.declaration.{nm}_rest.Given as goal
 

@@ -1,9 +1,3 @@
-pub mod Expressing
 pub mod Falling
-pub mod Good
-pub mod Levels
-pub mod Loops
-pub mod Parsing
 pub mod Querying
-pub mod Shrinking
 pub mod Sublevels

@@ -7,7 +7,7 @@ use Rattle.span_grammar.specs.declared.class.Sort.TheVariants as sort
 use Rattle.span_grammar.specs.declared.grammar.Part.TheVariants as part
 use Rattle.span_grammar.specs.declared.grammar.Place.TheVariants as place
 use Rattle.span_grammar.specs.declared.grammar.Shape.TheVariants as shape
-use Rattle.span_parser.specs.declared.tree.Expr.{Expr}
+use Rattle.span_expression.specs.declared.tree.Expr.{Expr}
 use Rattle.span_parser.specs.declared.tree.Output.{Output}
 use Rattle.span_parser.specs.declared.tree.Output.TheVariants as shown
 use Rattle.span_parser.specs.declared.tree.SortColumn.TheVariants as by
@@ -18,17 +18,13 @@ use Rattle.span_parser.specs.declared.tree.Block.{Block}
 use Rattle.span_parser.specs.declared.tree.Query.{Query}
 use Rattle.span_grammar.specs.Shapes.{shape_of, part_inside}
 use Rattle.span_grammar.specs.Grammar.{rule_of}
-use Rattle.span_parser.specs.Pieces.{Piece, token, nothing, ◌<$>◌, ◌>>=◌, either, each, opening}
-use Rattle.span_parser.specs.Expressions.{value_of, integer_of, spelling, closing, column, behind, expression}
-use Rattle.span_parser.specs.Queries.{as_name, alias, required_alias, direction, sort_column, sort_key, sort_key_more, sort_keys, order_by, maybe_order_by, skip, maybe_skip, limit_clause, maybe_limit, quantifier, column_more, columns, group_by, maybe_group_by, all_of_table, maybe_outer, left_join, inner_join, join_kind, maybe_semicolon, where_clause, maybe_where, having, maybe_having, output_expression, output, output_more, outputs, subquery, named_item, derived_item, item, join_of, block_of, query_of, join_on, join_behind, join, block_groups, block_filter, ordered, unions, block_rest, block_from, block_shown, block, union_more, query, query_behind, statement}
-use Rattle.span_parser.proofs.Good.{Good, token_good, nothing_good, map_good, then_good, or_good, many_good, open_good}
-use Rattle.span_parser.proofs.Expressing.{spelling_good, closing_good, column_good, expression_good, deep}
+use Rattle.span_expression.specs.Pieces.{Piece, token, nothing, ◌<$>◌, ◌>>=◌, either, each, beside, opening}
+use Rattle.span_expression.specs.Expressions.{value_of, integer_of, spelling, closing, column, direction, behind, expression}
+use Rattle.span_parser.specs.Queries.{as_name, alias, required_alias, sort_column, sort_key, sort_key_more, sort_keys, order_by, maybe_order_by, skip, maybe_skip, limit_clause, maybe_limit, quantifier, column_more, columns, group_by, maybe_group_by, all_of_table, maybe_outer, left_join, inner_join, join_kind, maybe_semicolon, where_clause, maybe_where, having, maybe_having, output_expression, output, output_more, outputs, subquery, named_item, derived_item, item, join_of, block_of, query_of, join_on, join, block_groups, block_filter, ordered, unions, block_joins, block_from, block_shown, block, union_more, query, query_behind, statement}
+use Rattle.span_expression.proofs.Good.{Good, token_good, nothing_good, map_good, then_good, or_good, many_good, beside_good, open_good}
+use Rattle.span_expression.proofs.Expressing.{spelling_good, closing_good, column_good, direction_good, expression_good, deep}
 
 module _ (n : ℕ) where
-  pub direction_good : Good n (rule_of part.Direction) (direction)
-  unfolding direction shape_of part_inside
-  direction_good = or_good n part.Direction (part.Token (sort.Word word.Asc)) part.DirectionFromWordDesc refl ((λ t. false) <$> (token (sort.Word word.Asc))) (either (part.Token (sort.Word word.Desc)) ((λ t. true) <$> (token (sort.Word word.Desc))) (nothing false)) (map_good (λ t. false) (token (sort.Word word.Asc)) (token_good n (sort.Word word.Asc))) (or_good n part.DirectionFromWordDesc (part.Token (sort.Word word.Desc)) part.Nothing refl ((λ t. true) <$> (token (sort.Word word.Desc))) (nothing false) (map_good (λ t. true) (token (sort.Word word.Desc)) (token_good n (sort.Word word.Desc))) (nothing_good n false))
-
   pub quantifier_good : Good n (rule_of part.MaybeQuantifier) (quantifier)
   unfolding quantifier shape_of part_inside
   quantifier_good = or_good n part.MaybeQuantifier (part.Token (sort.Word word.All)) part.MaybeQuantifierFromWordDistinct refl ((λ t. false) <$> (token (sort.Word word.All))) (either (part.Token (sort.Word word.Distinct)) ((λ t. true) <$> (token (sort.Word word.Distinct))) (nothing false)) (map_good (λ t. false) (token (sort.Word word.All)) (token_good n (sort.Word word.All))) (or_good n part.MaybeQuantifierFromWordDistinct (part.Token (sort.Word word.Distinct)) part.Nothing refl ((λ t. true) <$> (token (sort.Word word.Distinct))) (nothing false) (map_good (λ t. true) (token (sort.Word word.Distinct)) (token_good n (sort.Word word.Distinct))) (nothing_good n false))
@@ -144,7 +140,7 @@ module _ (text : List ℕ) (n : ℕ) where
 
   pub output_expression_good : Good n (rule_of part.OutputExpression) (output_expression text n)
   unfolding output_expression shape_of part_inside
-  output_expression_good = then_good n part.OutputExpression part.Expression part.Alias refl (expression text n (behind text n)) (λ value. ((shown.Value value) <$> (alias text))) (expression_good text n (behind text n) (deep text n)) (λ value. (map_good (shown.Value value) (alias text) (alias_good)))
+  output_expression_good = then_good n part.OutputExpression part.Expression part.Alias refl (expression text n (behind text n)) (λ value. ((λ both. shown.Value both.0 both.1) <$> (beside value (alias text)))) (expression_good text n (behind text n) (deep text n)) (λ value. (map_good (λ both. shown.Value both.0 both.1) (beside value (alias text)) (beside_good value (alias text) (alias_good))))
 
   pub output_good : Good n (rule_of part.Output) (output text n)
   unfolding output shape_of part_inside
@@ -156,7 +152,19 @@ module _ (text : List ℕ) (n : ℕ) where
 
   pub outputs_good : Good n (rule_of part.Outputs) (outputs text n)
   unfolding outputs shape_of part_inside
-  outputs_good = then_good n part.Outputs part.Output part.OutputRest refl (output text n) (λ first. ((λ more. first ∷ more) <$> (each part.OutputMore (output_more text n)))) (output_good) (λ first. (map_good (λ more. first ∷ more) (each part.OutputMore (output_more text n)) (many_good n part.OutputRest part.OutputMore refl (output_more text n) (output_more_good))))
+  outputs_good = then_good n part.Outputs part.Output part.OutputRest refl (output text n) (λ first. ((λ all. all.0 ∷ all.1) <$> (beside first (each part.OutputMore (output_more text n))))) (output_good) (λ first. (map_good (λ all. all.0 ∷ all.1) (beside first (each part.OutputMore (output_more text n))) (beside_good first (each part.OutputMore (output_more text n)) (many_good n part.OutputRest part.OutputMore refl (output_more text n) (output_more_good)))))
+
+  pub join_on_good : Good n (rule_of part.JoinFromWordOn) (join_on text n)
+  unfolding join_on shape_of part_inside
+  join_on_good = then_good n part.JoinFromWordOn (part.Token (sort.Word word.On)) part.Expression refl (token (sort.Word word.On)) (λ _. (expression text n (behind text n))) (token_good n (sort.Word word.On)) (λ _. (expression_good text n (behind text n) (deep text n)))
+
+  pub block_groups_good : Good n (rule_of part.BlockFromMaybeGroupBy) (block_groups text n)
+  unfolding block_groups shape_of part_inside
+  block_groups_good = then_good n part.BlockFromMaybeGroupBy part.MaybeGroupBy part.MaybeHaving refl (maybe_group_by text) (λ groups. (beside groups (maybe_having text n))) (maybe_group_by_good) (λ groups. (beside_good groups (maybe_having text n) (maybe_having_good)))
+
+  pub block_filter_good : Good n (rule_of part.BlockFromMaybeWhere) (block_filter text n)
+  unfolding block_filter shape_of part_inside
+  block_filter_good = then_good n part.BlockFromMaybeWhere part.MaybeWhere part.BlockFromMaybeGroupBy refl (maybe_where text n) (λ filter. (beside filter (block_groups text n))) (maybe_where_good) (λ filter. (beside_good filter (block_groups text n) (block_groups_good)))
 
   -- what is a query one opening deeper is read so, where there is one left
   module _ (inner : Piece Query) (good_inside : (m : ℕ) → n ≡ suc m → Good m (rule_of part.Query) inner) where
@@ -170,43 +178,27 @@ module _ (text : List ℕ) (n : ℕ) where
 
     pub derived_item_good : Good n (rule_of part.DerivedItem) (derived_item text n inner)
     unfolding derived_item shape_of part_inside
-    derived_item_good = then_good n part.DerivedItem part.Subquery part.RequiredAlias refl (subquery text n inner) (λ query. ((source.Derived query) <$> (required_alias text))) (subquery_good) (λ query. (map_good (source.Derived query) (required_alias text) (required_alias_good)))
+    derived_item_good = then_good n part.DerivedItem part.Subquery part.RequiredAlias refl (subquery text n inner) (λ query. ((λ both. source.Derived both.0 both.1) <$> (beside query (required_alias text)))) (subquery_good) (λ query. (map_good (λ both. source.Derived both.0 both.1) (beside query (required_alias text)) (beside_good query (required_alias text) (required_alias_good))))
 
     pub item_good : Good n (rule_of part.Item) (item text n inner)
     unfolding item shape_of part_inside
     item_good = or_good n part.Item part.NamedItem part.DerivedItem refl (named_item text n inner) (derived_item text n inner) (named_item_good) (derived_item_good)
 
-    pub join_on_good : (is_left : Bool) → (joined : Item) → Good n (rule_of part.JoinFromWordOn) (join_on text n inner is_left joined)
-    unfolding join_on shape_of part_inside
-    join_on_good is_left joined = then_good n part.JoinFromWordOn (part.Token (sort.Word word.On)) part.Expression refl (token (sort.Word word.On)) (λ _. ((join_of is_left joined) <$> (expression text n (behind text n)))) (token_good n (sort.Word word.On)) (λ _. (map_good (join_of is_left joined) (expression text n (behind text n)) (expression_good text n (behind text n) (deep text n))))
-
-    pub join_behind_good : (is_left : Bool) → Good n (rule_of part.JoinFromItem) (join_behind text n inner is_left)
-    unfolding join_behind shape_of part_inside
-    join_behind_good is_left = then_good n part.JoinFromItem part.Item part.JoinFromWordOn refl (item text n inner) (λ joined. (join_on text n inner is_left joined)) (item_good) (λ joined. (join_on_good is_left joined))
-
     pub join_good : Good n (rule_of part.Join) (join text n inner)
     unfolding join shape_of part_inside
-    join_good = then_good n part.Join part.JoinKind part.JoinFromItem refl (join_kind) (λ is_left. (join_behind text n inner is_left)) (join_kind_good n) (λ is_left. (join_behind_good is_left))
+    join_good = then_good n part.Join part.JoinKind part.JoinFromItem refl (join_kind) (λ is_left. ((item text n inner) >>= (λ joined. ((λ both. join_of is_left both.0 both.1) <$> (beside joined (join_on text n)))))) (join_kind_good n) (λ is_left. (then_good n part.JoinFromItem part.Item part.JoinFromWordOn refl (item text n inner) (λ joined. ((λ both. join_of is_left both.0 both.1) <$> (beside joined (join_on text n)))) (item_good) (λ joined. (map_good (λ both. join_of is_left both.0 both.1) (beside joined (join_on text n)) (beside_good joined (join_on text n) (join_on_good))))))
 
-    pub block_groups_good : (is_distinct : Bool) → (shows : List Output) → (from : Item) → (joins : List Join) → (filter : Option Expr) → Good n (rule_of part.BlockFromMaybeGroupBy) (block_groups text n inner is_distinct shows from joins filter)
-    unfolding block_groups shape_of part_inside
-    block_groups_good is_distinct shows from joins filter = then_good n part.BlockFromMaybeGroupBy part.MaybeGroupBy part.MaybeHaving refl (maybe_group_by text) (λ groups. ((block_of is_distinct shows from joins filter groups) <$> (maybe_having text n))) (maybe_group_by_good) (λ groups. (map_good (block_of is_distinct shows from joins filter groups) (maybe_having text n) (maybe_having_good)))
+    pub block_joins_good : Good n (rule_of part.BlockFromJoins) (block_joins text n inner)
+    unfolding block_joins shape_of part_inside
+    block_joins_good = then_good n part.BlockFromJoins part.Joins part.BlockFromMaybeWhere refl (each part.Join (join text n inner)) (λ joins. (beside joins (block_filter text n))) (many_good n part.Joins part.Join refl (join text n inner) (join_good)) (λ joins. (beside_good joins (block_filter text n) (block_filter_good)))
 
-    pub block_filter_good : (is_distinct : Bool) → (shows : List Output) → (from : Item) → (joins : List Join) → Good n (rule_of part.BlockFromMaybeWhere) (block_filter text n inner is_distinct shows from joins)
-    unfolding block_filter shape_of part_inside
-    block_filter_good is_distinct shows from joins = then_good n part.BlockFromMaybeWhere part.MaybeWhere part.BlockFromMaybeGroupBy refl (maybe_where text n) (λ filter. (block_groups text n inner is_distinct shows from joins filter)) (maybe_where_good) (λ filter. (block_groups_good is_distinct shows from joins filter))
-
-    pub block_rest_good : (is_distinct : Bool) → (shows : List Output) → (from : Item) → Good n (rule_of part.BlockFromJoins) (block_rest text n inner is_distinct shows from)
-    unfolding block_rest shape_of part_inside
-    block_rest_good is_distinct shows from = then_good n part.BlockFromJoins part.Joins part.BlockFromMaybeWhere refl (each part.Join (join text n inner)) (λ joins. (block_filter text n inner is_distinct shows from joins)) (many_good n part.Joins part.Join refl (join text n inner) (join_good)) (λ joins. (block_filter_good is_distinct shows from joins))
-
-    pub block_from_good : (is_distinct : Bool) → (shows : List Output) → Good n (rule_of part.BlockFromWordFrom) (block_from text n inner is_distinct shows)
+    pub block_from_good : Good n (rule_of part.BlockFromWordFrom) (block_from text n inner)
     unfolding block_from shape_of part_inside
-    block_from_good is_distinct shows = then_good n part.BlockFromWordFrom (part.Token (sort.Word word.From)) part.BlockFromItem refl (token (sort.Word word.From)) (λ _. ((item text n inner) >>= (λ from. (block_rest text n inner is_distinct shows from)))) (token_good n (sort.Word word.From)) (λ _. (then_good n part.BlockFromItem part.Item part.BlockFromJoins refl (item text n inner) (λ from. (block_rest text n inner is_distinct shows from)) (item_good) (λ from. (block_rest_good is_distinct shows from))))
+    block_from_good = then_good n part.BlockFromWordFrom (part.Token (sort.Word word.From)) part.BlockFromItem refl (token (sort.Word word.From)) (λ _. ((item text n inner) >>= (λ from. (beside from (block_joins text n inner))))) (token_good n (sort.Word word.From)) (λ _. (then_good n part.BlockFromItem part.Item part.BlockFromJoins refl (item text n inner) (λ from. (beside from (block_joins text n inner))) (item_good) (λ from. (beside_good from (block_joins text n inner) (block_joins_good)))))
 
     pub block_shown_good : Good n (rule_of part.BlockFromMaybeQuantifier) (block_shown text n inner)
     unfolding block_shown shape_of part_inside
-    block_shown_good = then_good n part.BlockFromMaybeQuantifier part.MaybeQuantifier part.BlockFromOutputs refl (quantifier) (λ is_distinct. ((outputs text n) >>= (λ shows. (block_from text n inner is_distinct shows)))) (quantifier_good n) (λ is_distinct. (then_good n part.BlockFromOutputs part.Outputs part.BlockFromWordFrom refl (outputs text n) (λ shows. (block_from text n inner is_distinct shows)) (outputs_good) (λ shows. (block_from_good is_distinct shows))))
+    block_shown_good = then_good n part.BlockFromMaybeQuantifier part.MaybeQuantifier part.BlockFromOutputs refl (quantifier) (λ is_distinct. ((outputs text n) >>= (λ shows. ((block_of is_distinct) <$> (beside shows (block_from text n inner)))))) (quantifier_good n) (λ is_distinct. (then_good n part.BlockFromOutputs part.Outputs part.BlockFromWordFrom refl (outputs text n) (λ shows. ((block_of is_distinct) <$> (beside shows (block_from text n inner)))) (outputs_good) (λ shows. (map_good (block_of is_distinct) (beside shows (block_from text n inner)) (beside_good shows (block_from text n inner) (block_from_good))))))
 
     pub block_good : Good n (rule_of part.Block) (block text n inner)
     unfolding block shape_of part_inside
@@ -216,17 +208,17 @@ module _ (text : List ℕ) (n : ℕ) where
     unfolding union_more shape_of part_inside
     union_more_good = then_good n part.UnionMore (part.Token (sort.Word word.Union)) part.UnionMoreFromWordAll refl (token (sort.Word word.Union)) (λ _. ((token (sort.Word word.All)) >>= (λ _. (block text n inner)))) (token_good n (sort.Word word.Union)) (λ _. (then_good n part.UnionMoreFromWordAll (part.Token (sort.Word word.All)) part.Block refl (token (sort.Word word.All)) (λ _. (block text n inner)) (token_good n (sort.Word word.All)) (λ _. (block_good))))
 
-    pub ordered_good : {A : Type 0} (x : A) (others : List Block) → Good n (rule_of part.QueryFromMaybeOrderBy) (ordered text x others)
+    pub ordered_good : Good n (rule_of part.QueryFromMaybeOrderBy) (ordered text)
     unfolding ordered shape_of part_inside
-    ordered_good x others = then_good n part.QueryFromMaybeOrderBy part.MaybeOrderBy part.MaybeLimit refl (maybe_order_by text) (λ order. ((λ limit. (x, others, order, limit)) <$> (maybe_limit))) (maybe_order_by_good) (λ order. (map_good (λ limit. (x, others, order, limit)) (maybe_limit) (maybe_limit_good n)))
+    ordered_good = then_good n part.QueryFromMaybeOrderBy part.MaybeOrderBy part.MaybeLimit refl (maybe_order_by text) (λ order. (beside order (maybe_limit))) (maybe_order_by_good) (λ order. (beside_good order (maybe_limit) (maybe_limit_good n)))
 
-    pub unions_good : {A : Type 0} (x : A) → Good n (rule_of part.QueryFromUnionRest) (unions text n inner x)
+    pub unions_good : Good n (rule_of part.QueryFromUnionRest) (unions text n inner)
     unfolding unions shape_of part_inside
-    unions_good x = then_good n part.QueryFromUnionRest part.UnionRest part.QueryFromMaybeOrderBy refl (each part.UnionMore (union_more text n inner)) (λ others. (ordered text x others)) (many_good n part.UnionRest part.UnionMore refl (union_more text n inner) (union_more_good)) (λ others. (ordered_good x others))
+    unions_good = then_good n part.QueryFromUnionRest part.UnionRest part.QueryFromMaybeOrderBy refl (each part.UnionMore (union_more text n inner)) (λ others. (beside others (ordered text))) (many_good n part.UnionRest part.UnionMore refl (union_more text n inner) (union_more_good)) (λ others. (beside_good others (ordered text) (ordered_good)))
 
     pub query_good : Good n (rule_of part.Query) (query text n inner)
     unfolding query shape_of part_inside
-    query_good = then_good n part.Query part.Block part.QueryFromUnionRest refl (block text n inner) (λ first. (query_of <$> (unions text n inner first))) (block_good) (λ first. (map_good query_of (unions text n inner first) (unions_good first)))
+    query_good = then_good n part.Query part.Block part.QueryFromUnionRest refl (block text n inner) (λ first. (query_of <$> (beside first (unions text n inner)))) (block_good) (λ first. (map_good query_of (beside first (unions text n inner)) (beside_good first (unions text n inner) (unions_good))))
 
 before : (n m : ℕ) → suc n ≡ suc m → n ≡ m
 before n m h = omega (arith, h)
@@ -238,4 +230,4 @@ query_deep text (suc n) m h = subst (λ (k : ℕ). Good k (rule_of part.Query) (
 
 pub statement_good : (text : List ℕ) (n : ℕ) → Good n (rule_of part.Statement) (statement text n)
 unfolding statement shape_of
-statement_good text n = then_good n part.Statement part.Query part.MaybeSemicolon refl (query text n (query_behind text n)) (λ q. ((λ u. q) <$> (maybe_semicolon))) (query_good text n (query_behind text n) (λ m e. query_deep text n m e)) (λ q. (map_good (λ u. q) (maybe_semicolon) (maybe_semicolon_good n)))
+statement_good text n = then_good n part.Statement part.Query part.MaybeSemicolon refl (query text n (query_behind text n)) (λ q. ((λ both. both.0) <$> (beside q (maybe_semicolon)))) (query_good text n (query_behind text n) (λ m e. query_deep text n m e)) (λ q. (map_good (λ both. both.0) (beside q (maybe_semicolon)) (beside_good q (maybe_semicolon) (maybe_semicolon_good n))))

@@ -1,6 +1,2 @@
-pub mod Expressions
-pub mod Nests
-pub mod Parsed
-pub mod Pieces
 pub mod Queries
 pub mod Subqueries

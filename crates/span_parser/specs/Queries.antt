@@ -5,11 +5,13 @@ use Rattle.span_lexer.specs.declared.token.Sign.TheVariants as sign
 use Rattle.span_grammar.specs.declared.class.Context.TheVariants as context
 use Rattle.span_grammar.specs.declared.class.Sort.TheVariants as sort
 use Rattle.span_grammar.specs.declared.grammar.Part.TheVariants as part
-use Rattle.span_parser.specs.declared.fault.Fault.TheVariants as fault
-use Rattle.span_parser.specs.declared.tree.Span.{Span}
-use Rattle.span_parser.specs.declared.tree.Spelling.{Spelling}
-use Rattle.span_parser.specs.declared.tree.Column.{Column}
-use Rattle.span_parser.specs.declared.tree.Expr.{Expr}
+use Rattle.span_grammar.specs.declared.judge.Goal.TheVariants as goal
+use Rattle.span_grammar.specs.Rules.{limit}
+use Rattle.span_expression.specs.declared.fault.Fault.TheVariants as fault
+use Rattle.span_expression.specs.declared.tree.Span.{Span}
+use Rattle.span_expression.specs.declared.tree.Spelling.{Spelling}
+use Rattle.span_expression.specs.declared.tree.Column.{Column}
+use Rattle.span_expression.specs.declared.tree.Expr.{Expr}
 use Rattle.span_parser.specs.declared.tree.Output.{Output}
 use Rattle.span_parser.specs.declared.tree.Output.TheVariants as shown
 use Rattle.span_parser.specs.declared.tree.SortKey.{SortKey}
@@ -21,8 +23,9 @@ use Rattle.span_parser.specs.declared.tree.Item.TheVariants as source
 use Rattle.span_parser.specs.declared.tree.Join.{Join, roll-Join}
 use Rattle.span_parser.specs.declared.tree.Block.{Block, roll-Block}
 use Rattle.span_parser.specs.declared.tree.Query.{Query, roll-Query}
-use Rattle.span_parser.specs.Pieces.{Piece, token, nothing, ◌<$>◌, ◌>>=◌, ◌>>◌, either, optional, each, opening}
-use Rattle.span_parser.specs.Expressions.{value_of, integer_of, spelling, column, closed, behind, expression}
+use Rattle.span_expression.specs.Pieces.{Piece, token, nothing, ◌<$>◌, ◌>>=◌, ◌>>◌, either, optional, each, beside, opening}
+use Rattle.span_expression.specs.Expressions.{value_of, integer_of, spelling, column, direction, closed, behind, expression}
+use Rattle.span_expression.specs.Parsed.{Stands}
 
 -- ---- names
 
@@ -38,12 +41,6 @@ unfoldable pub required_alias : List ℕ → Piece Spelling
 required_alias text = either part.AsName (as_name text) (spelling text sort.Name)
 
 -- ---- ORDER BY and LIMIT
-
--- [ASC | DESC]: whether it descends
-unfoldable pub direction : Piece Bool
-direction =
-    either (part.Token (sort.Word word.Asc)) ((λ t. false) <$> token (sort.Word word.Asc))
-    (either (part.Token (sort.Word word.Desc)) ((λ t. true) <$> token (sort.Word word.Desc)) (nothing false))
 
 unfoldable pub sort_column : List ℕ → Piece SortColumn
 sort_column text = either (part.Token sort.Name) (by.Name <$> spelling text sort.Name) ((λ t. by.Place (integer_of false t)) <$> token sort.Int)
@@ -133,15 +130,27 @@ maybe_semicolon = either (part.Token sort.AnySemicolon) ((λ t. true) <$> token 
 unfoldable pub join_of : Bool → Item → Expr → Join
 join_of is_left item on = roll-Join (record { is_left = is_left; item = item; on = on })
 
-unfoldable pub block_of : Bool → List Output → Item → List Join → Option Expr → List Column → Option Expr → Block
-block_of is_distinct shows from joins filter groups having = roll-Block (record { is_distinct = is_distinct; outputs = shows; from = from; joins = joins; filter = filter; groups = groups; having = having })
+-- the conditions of a block: WHERE, the columns of GROUP BY, and HAVING
+abbrev pub Conditions : Type 0
+Conditions = Option Expr × (List Column × Option Expr)
 
-unfoldable pub query_of : Block × List Block × List SortKey × Option Limit → Query
-query_of parts = roll-Query (record { first = parts.0; others = parts.1; order = parts.2; limit = parts.3 })
+unfoldable pub block_of : Bool → List Output × (Item × (List Join × Conditions)) → Block
+block_of is_distinct parts = roll-Block (record {
+  is_distinct = is_distinct;
+  outputs = parts.0;
+  from = parts.1.0;
+  joins = parts.1.1.0;
+  filter = parts.1.1.1.0;
+  groups = parts.1.1.1.1.0;
+  having = parts.1.1.1.1.1;
+})
 
--- ORDER BY and LIMIT, behind what was found
-unfoldable pub ordered : {A : Type 0} → List ℕ → A → List Block → Piece (A × List Block × List SortKey × Option Limit)
-ordered text x others = maybe_order_by text >>= (λ order. (λ limit. (x, others, order, limit)) <$> maybe_limit)
+unfoldable pub query_of : Block × (List Block × (List SortKey × Option Limit)) → Query
+query_of parts = roll-Query (record { first = parts.0; others = parts.1.0; order = parts.1.1.0; limit = parts.1.1.1 })
+
+-- ORDER BY and LIMIT
+unfoldable pub ordered : List ℕ → Piece (List SortKey × Option Limit)
+ordered text = maybe_order_by text >>= (λ order. beside order maybe_limit)
 
 -- ---- what has expressions in it; the text, and how many openings are left
 
@@ -162,7 +171,7 @@ module _ (text : List ℕ) (left : ℕ) where
   maybe_having = optional part.Having having
 
   unfoldable pub output_expression : Piece Output
-  output_expression = expr >>= (λ value. shown.Value value <$> alias text)
+  output_expression = expr >>= (λ value. (λ both. shown.Value both.0 both.1) <$> beside value (alias text))
 
   unfoldable pub output : Piece Output
   output = either (part.Token (sort.Sign sign.Star)) ((λ t. shown.All) <$> token (sort.Sign sign.Star)) (either part.AllOfTable (all_of_table text) output_expression)
@@ -171,7 +180,19 @@ module _ (text : List ℕ) (left : ℕ) where
   output_more = token (sort.Sign sign.Comma) >> output
 
   unfoldable pub outputs : Piece (List Output)
-  outputs = output >>= (λ first. (λ more. first ∷ more) <$> each part.OutputMore output_more)
+  outputs = output >>= (λ first. (λ all. all.0 ∷ all.1) <$> beside first (each part.OutputMore output_more))
+
+  -- ON expr
+  unfoldable pub join_on : Piece Expr
+  join_on = token (sort.Word word.On) >> expr
+
+  -- the columns of GROUP BY, and HAVING
+  unfoldable pub block_groups : Piece (List Column × Option Expr)
+  block_groups = maybe_group_by text >>= (λ groups. beside groups maybe_having)
+
+  -- WHERE, and what is behind it
+  unfoldable pub block_filter : Piece Conditions
+  block_filter = maybe_where >>= (λ filter. beside filter block_groups)
 
   -- ---- queries; also what is a query one opening deeper
 
@@ -183,40 +204,25 @@ module _ (text : List ℕ) (left : ℕ) where
     named_item = spelling text sort.Name >>= (λ name. source.Table name <$> alias text)
 
     unfoldable pub derived_item : Piece Item
-    derived_item = subquery >>= (λ query. source.Derived query <$> required_alias text)
+    derived_item = subquery >>= (λ query. (λ both. source.Derived both.0 both.1) <$> beside query (required_alias text))
 
     unfoldable pub item : Piece Item
     item = either part.NamedItem named_item derived_item
 
-    -- behind the kind of a join and its item
-    unfoldable pub join_on : Bool → Item → Piece Join
-    join_on is_left joined = token (sort.Word word.On) >> (join_of is_left joined <$> expr)
-
-    unfoldable pub join_behind : Bool → Piece Join
-    join_behind is_left = item >>= join_on is_left
-
     unfoldable pub join : Piece Join
-    join = join_kind >>= join_behind
+    join = join_kind >>= (λ is_left. item >>= (λ joined. (λ both. join_of is_left both.0 both.1) <$> beside joined join_on))
 
-    -- behind the condition of a WHERE
-    unfoldable pub block_groups : Bool → List Output → Item → List Join → Option Expr → Piece Block
-    block_groups is_distinct shows from joins filter = maybe_group_by text >>= (λ groups. block_of is_distinct shows from joins filter groups <$> maybe_having)
+    -- the joins, and what is behind them
+    unfoldable pub block_joins : Piece (List Join × Conditions)
+    block_joins = each part.Join join >>= (λ joins. beside joins block_filter)
 
-    -- behind the joins
-    unfoldable pub block_filter : Bool → List Output → Item → List Join → Piece Block
-    block_filter is_distinct shows from joins = maybe_where >>= block_groups is_distinct shows from joins
-
-    -- behind the first item
-    unfoldable pub block_rest : Bool → List Output → Item → Piece Block
-    block_rest is_distinct shows from = each part.Join join >>= block_filter is_distinct shows from
-
-    -- behind what is shown
-    unfoldable pub block_from : Bool → List Output → Piece Block
-    block_from is_distinct shows = token (sort.Word word.From) >> (item >>= block_rest is_distinct shows)
+    -- FROM, and what is behind it
+    unfoldable pub block_from : Piece (Item × (List Join × Conditions))
+    block_from = token (sort.Word word.From) >> (item >>= (λ from. beside from block_joins))
 
     -- behind SELECT
     unfoldable pub block_shown : Piece Block
-    block_shown = quantifier >>= (λ is_distinct. outputs >>= block_from is_distinct)
+    block_shown = quantifier >>= (λ is_distinct. outputs >>= (λ shows. block_of is_distinct <$> beside shows block_from))
 
     unfoldable pub block : Piece Block
     block = token (sort.Word word.Select) >> block_shown
@@ -224,12 +230,12 @@ module _ (text : List ℕ) (left : ℕ) where
     unfoldable pub union_more : Piece Block
     union_more = token (sort.Word word.Union) >> (token (sort.Word word.All) >> block)
 
-    -- the other blocks and what is behind them, behind what was found
-    unfoldable pub unions : {A : Type 0} → A → Piece (A × List Block × List SortKey × Option Limit)
-    unions x = each part.UnionMore union_more >>= ordered text x
+    -- the other blocks, and what is behind them
+    unfoldable pub unions : Piece (List Block × (List SortKey × Option Limit))
+    unions = each part.UnionMore union_more >>= (λ others. beside others (ordered text))
 
     unfoldable pub query : Piece Query
-    query = block >>= (λ first. query_of <$> unions first)
+    query = block >>= (λ first. query_of <$> beside first unions)
 
 pub no_spelling : Spelling
 no_spelling = record { text = []; span = record { start = 0; end = 0 } }
@@ -247,4 +253,8 @@ query_behind text (suc n) = query text n (query_behind text n)
 
 -- the query of a text, with a semicolon or none
 unfoldable pub statement : List ℕ → ℕ → Piece Query
-statement text n = query text n (query_behind text n) >>= (λ q. (λ u. q) <$> maybe_semicolon)
+statement text n = query text n (query_behind text n) >>= (λ q. (λ both. both.0) <$> beside q maybe_semicolon)
+
+-- the text has a tree, which stands for the query
+abbrev pub IsQuery : List ℕ → Query → Type 0
+IsQuery text query = Stands goal.Statement (statement text limit).of text query

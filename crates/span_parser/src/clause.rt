@@ -1,16 +1,16 @@
 //! The clauses of queries, read from tokens: a function for each rule.
 ghost use Rattle.std.specs.Prelude.{◌≡◌, ◌≤◌};
 ghost use Rattle.span_grammar.specs.Rules.{limit};
-ghost use Rattle.span_parser.specs.Pieces.{Gives, each};
+ghost use Rattle.span_expression.specs.Pieces.{Gives, each};
 ghost use Rattle.span_parser.specs.Queries as spec;
 
-use super::column::column;
-use super::expression::read;
-use super::fault::Fault;
-use super::operator::first_and;
-use super::reader::Level;
-use super::token::{integer_of, integer_value, next_is, spelling, take};
-use super::tree::{Column, Expr, Limit, Output, SortColumn, SortKey, Spelling};
+use super::tree::{Limit, Output, SortColumn, SortKey};
+use span_expression::column::{column, direction};
+use span_expression::expression::read_expression;
+use span_expression::fault::Fault;
+use span_expression::operator::first_and;
+use span_expression::token::{beside, integer_of, integer_value, next_is, spelling, take};
+use span_expression::tree::{Column, Expr, Spelling};
 use span_grammar::class::{Context, Lexeme, Sort};
 use span_grammar::grammar::Part;
 use span_grammar::reader::goes_on;
@@ -64,22 +64,6 @@ pub(crate) fn required_alias<'a>(
         return as_name(alloc, text, tokens);
     }
     spelling(alloc, text, Sort::Name, tokens)
-}
-
-/// `[ASC | DESC]`: whether it descends.
-#[tactic(auto, unfolding(crate::specs::Queries::direction))]
-pub fn direction(tokens: &[Lexeme]) -> Result<(bool, &[Lexeme]), Fault>
-    ensures { Gives result (spec.direction.read tokens.now) }
-{
-    if next_is(Sort::Word(Word::Asc), tokens) {
-        let (_, rest) = take(Sort::Word(Word::Asc), tokens)?;
-        return Ok((false, rest));
-    }
-    if next_is(Sort::Word(Word::Desc), tokens) {
-        let (_, rest) = take(Sort::Word(Word::Desc), tokens)?;
-        return Ok((true, rest));
-    }
-    Ok((false, tokens))
 }
 
 /// `[ALL | DISTINCT]`: whether it is DISTINCT.
@@ -329,7 +313,7 @@ fn group_by<'a>(
 
 /// The columns of a GROUP BY, if there is one.
 #[tactic(auto, unfolding(crate::specs::Queries::maybe_group_by))]
-pub(crate) fn maybe_group_by<'a>(
+fn maybe_group_by<'a>(
     alloc: Global,
     text: &[u8],
     tokens: &'a [Lexeme],
@@ -405,6 +389,9 @@ pub(crate) fn maybe_semicolon(tokens: &[Lexeme]) -> Result<(bool, &[Lexeme]), Fa
     Ok((true, rest))
 }
 
+/// The conditions of a block: WHERE, the columns of GROUP BY, and HAVING.
+pub(crate) type Conditions = (Option<Expr>, (Items<Column>, Option<Expr>));
+
 /// What reads what has expressions in it, where so many openings are left.
 #[derive(Clone, Copy)]
 pub(crate) struct Clauses<'t> {
@@ -420,7 +407,7 @@ impl<'t> Clauses<'t> {
         requires { self.now.left ≤ limit }
         ensures { Gives result ((spec.expr self.now.text.now self.now.left).read tokens.now) }
     {
-        read(self.alloc, self.text, self.left, Level::Expression, tokens)
+        read_expression(self.alloc, self.text, self.left, tokens)
     }
 
     /// `WHERE expr`
@@ -435,10 +422,7 @@ impl<'t> Clauses<'t> {
 
     /// The condition of a WHERE, if there is one.
     #[tactic(auto, unfolding(crate::specs::Queries::maybe_where))]
-    pub(crate) fn maybe_where<'a>(
-        &self,
-        tokens: &'a [Lexeme],
-    ) -> Result<(Option<Expr>, &'a [Lexeme]), Fault>
+    fn maybe_where<'a>(&self, tokens: &'a [Lexeme]) -> Result<(Option<Expr>, &'a [Lexeme]), Fault>
         requires { self.now.left ≤ limit }
         ensures { Gives result ((spec.maybe_where self.now.text.now self.now.left).read tokens.now) }
     {
@@ -451,7 +435,7 @@ impl<'t> Clauses<'t> {
 
     /// `HAVING expr`
     #[tactic(auto, unfolding(crate::specs::Queries::having))]
-    pub(crate) fn having<'a>(&self, tokens: &'a [Lexeme]) -> Result<(Expr, &'a [Lexeme]), Fault>
+    fn having<'a>(&self, tokens: &'a [Lexeme]) -> Result<(Expr, &'a [Lexeme]), Fault>
         requires { self.now.left ≤ limit }
         ensures { Gives result ((spec.having self.now.text.now self.now.left).read tokens.now) }
     {
@@ -461,10 +445,7 @@ impl<'t> Clauses<'t> {
 
     /// The condition of a HAVING, if there is one.
     #[tactic(auto, unfolding(crate::specs::Queries::maybe_having))]
-    pub(crate) fn maybe_having<'a>(
-        &self,
-        tokens: &'a [Lexeme],
-    ) -> Result<(Option<Expr>, &'a [Lexeme]), Fault>
+    fn maybe_having<'a>(&self, tokens: &'a [Lexeme]) -> Result<(Option<Expr>, &'a [Lexeme]), Fault>
         requires { self.now.left ≤ limit }
         ensures { Gives result ((spec.maybe_having self.now.text.now self.now.left).read tokens.now) }
     {
@@ -482,7 +463,7 @@ impl<'t> Clauses<'t> {
         ensures { Gives result ((spec.output_expression self.now.text.now self.now.left).read tokens.now) }
     {
         let (value, rest) = self.expr(tokens)?;
-        let (name, rest) = alias(self.alloc, self.text, rest)?;
+        let ((value, name), rest) = beside(value, alias(self.alloc, self.text, rest))?;
         Ok((Output::Value(value, name), rest))
     }
 
@@ -538,7 +519,43 @@ impl<'t> Clauses<'t> {
         ensures { Gives result ((spec.outputs self.now.text.now self.now.left).read tokens.now) }
     {
         let (first, rest) = self.output(tokens)?;
-        let (more, rest) = self.output_rest(rest)?;
+        let ((first, more), rest) = beside(first, self.output_rest(rest))?;
         Ok((first_and(self.alloc, first, more)?, rest))
+    }
+
+    /// `ON expr`
+    #[tactic(auto, unfolding(crate::specs::Queries::join_on))]
+    pub(crate) fn join_on<'a>(&self, tokens: &'a [Lexeme]) -> Result<(Expr, &'a [Lexeme]), Fault>
+        requires { self.now.left ≤ limit }
+        ensures { Gives result ((spec.join_on self.now.text.now self.now.left).read tokens.now) }
+    {
+        let (_, rest) = take(Sort::Word(Word::On), tokens)?;
+        self.expr(rest)
+    }
+
+    /// The columns of a GROUP BY, and the condition of a HAVING.
+    #[tactic(auto, unfolding(crate::specs::Queries::block_groups))]
+    fn block_groups<'a>(
+        &self,
+        tokens: &'a [Lexeme],
+    ) -> Result<((Items<Column>, Option<Expr>), &'a [Lexeme]), Fault>
+        requires { self.now.left ≤ limit }
+        ensures { Gives result ((spec.block_groups self.now.text.now self.now.left).read tokens.now) }
+    {
+        let (groups, rest) = maybe_group_by(self.alloc, self.text, tokens)?;
+        beside(groups, self.maybe_having(rest))
+    }
+
+    /// The conditions of a block.
+    #[tactic(auto, unfolding(crate::specs::Queries::block_filter))]
+    pub(crate) fn block_filter<'a>(
+        &self,
+        tokens: &'a [Lexeme],
+    ) -> Result<(Conditions, &'a [Lexeme]), Fault>
+        requires { self.now.left ≤ limit }
+        ensures { Gives result ((spec.block_filter self.now.text.now self.now.left).read tokens.now) }
+    {
+        let (filter, rest) = self.maybe_where(tokens)?;
+        beside(filter, self.block_groups(rest))
     }
 }

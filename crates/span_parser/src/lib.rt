@@ -1,15 +1,9 @@
 //! Queries, read from texts as trees.
 #![tactic(auto)]
 
-pub mod clause;
-mod column;
-mod expression;
-pub mod fault;
-mod operator;
+mod clause;
 pub mod parse;
 #[cfg(test)]
 mod parse_tests;
 mod query;
-mod reader;
-pub mod token;
 pub mod tree;

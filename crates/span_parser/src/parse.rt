@@ -1,15 +1,16 @@
 //! Queries, read from texts.
 ghost use Rattle.std.specs.Prelude.{◌≡◌, ◌≢◌, IfOk, IfErr};
-ghost use Rattle.span_grammar.specs.Goals.{goal_rule};
 ghost use Rattle.span_grammar.specs.Judged.{IsRefused};
 ghost use Rattle.span_grammar.specs.Rules.{limit};
 ghost use Rattle.span_parser.specs.Queries as spec;
 ghost use Rattle.span_grammar.specs.Classes.{lexemes_of};
-ghost use Rattle.span_parser.specs.Parsed.{IsQuery, GivesWhole, used_all, whole_read, refusal_of, Reports, Refuses, IsOrNoMemory};
+ghost use Rattle.span_expression.specs.Parsed.{GivesWhole, whole_read, Reports, Refuses, IsOrNoMemory};
+ghost use Rattle.span_parser.specs.Queries.{IsQuery};
 
-use super::fault::Fault;
 use super::query::statement;
 use super::tree::Query;
+use span_expression::ending::{misread, whole};
+use span_expression::fault::Fault;
 use span_grammar::class::Lexeme;
 use span_grammar::classify::lexemes;
 use span_grammar::judge::Goal;
@@ -19,56 +20,13 @@ use span_lexer::token::Token;
 use span_value::refusal::Refusal;
 use std::alloc::Global;
 
-/// What was read, where no token is left.
-#[tactic(auto, using(crate::proofs::Parsing::used_steps))]
-pub fn whole<T: Drop>(found: T, rest: &[Lexeme]) -> Result<T, Fault>
-    ensures { GivesWhole result (used_all found rest.now) }
-{
-    if rest.is_empty() {
-        Ok(found)
-    } else {
-        Err(Fault::Syntax(rest.len()))
-    }
-}
-
 /// The query that all the tokens are, of a text of these bytes.
-#[tactic(auto, using(crate::proofs::Parsing::whole_steps))]
+#[tactic(auto, using(span_expression::proofs::Parsing::whole_steps))]
 fn read_statement(alloc: Global, text: &[u8], tokens: &[Lexeme]) -> Result<Query, Fault>
     ensures { GivesWhole result (whole_read (spec.statement text.now limit) tokens.now) }
 {
     let (query, rest) = statement(alloc, text, DEEPEST, tokens)?;
     whole(query, rest)
-}
-
-/// Where the token stands that has so many tokens from it on; the end of the text where it has none.
-fn place_of(left: usize, tokens: &[Lexeme], end: usize) -> usize {
-    match tokens.len().checked_sub(left) {
-        Some(before) => match tokens.get(before) {
-            Some(lexeme) => lexeme.token.start,
-            None => end,
-        },
-        None => end,
-    }
-}
-
-/// The refusal for a fault, and its place in the text.
-pub fn misread(fault: Fault, tokens: &[Lexeme], end: usize) -> Misread
-    ensures { result.refusal ≡ refusal_of fault }
-{
-    match fault {
-        Fault::OutOfMemory => Misread {
-            refusal: Refusal::OutOfMemory,
-            place: 0,
-        },
-        Fault::Syntax(left) => Misread {
-            refusal: Refusal::Syntax,
-            place: place_of(left, tokens, end),
-        },
-        Fault::TooDeep(left) => Misread {
-            refusal: Refusal::TooDeep,
-            place: place_of(left, tokens, end),
-        },
-    }
 }
 
 /// The query that the tokens of a text are.

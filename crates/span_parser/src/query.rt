@@ -3,17 +3,17 @@
 //! As with expressions, a single function recurses, behind the parenthesis of a derived table.
 ghost use Rattle.std.specs.Prelude.{◌≡◌, ◌<◌, ◌≤◌, ◌-◌};
 ghost use Rattle.span_grammar.specs.Rules.{limit};
-ghost use Rattle.span_parser.specs.Pieces.{Gives, each};
+ghost use Rattle.span_expression.specs.Pieces.{Gives, each};
 ghost use Rattle.span_parser.specs.Queries as spec;
 ghost use Rattle.span_parser.specs.Subqueries.{NestsQueries};
 
 use super::clause::{
-    Clauses, alias, join_kind, maybe_group_by, maybe_limit, maybe_order_by, maybe_semicolon,
+    Clauses, Conditions, alias, join_kind, maybe_limit, maybe_order_by, maybe_semicolon,
     quantifier, required_alias,
 };
-use super::fault::Fault;
-use super::token::{closed, enter, spelling, take};
-use super::tree::{Block, Item, Join, Limit, Output, Query, SortKey};
+use super::tree::{Block, Item, Join, Limit, Query, SortKey};
+use span_expression::fault::Fault;
+use span_expression::token::{beside, closed, enter, spelling, take};
 use span_grammar::class::{Lexeme, Sort};
 use span_grammar::grammar::Part;
 use span_grammar::reader::goes_on;
@@ -80,7 +80,8 @@ impl<
         ensures { Gives result ((spec.derived_item self.now.clauses.text.now self.now.clauses.left (spec.query_behind self.now.clauses.text.now self.now.clauses.left)).read tokens.now) }
     {
         let (query, rest) = self.subquery(tokens)?;
-        let (name, rest) = required_alias(self.clauses.alloc, self.clauses.text, rest)?;
+        let name = required_alias(self.clauses.alloc, self.clauses.text, rest);
+        let ((query, name), rest) = beside(query, name)?;
         Ok((
             Item::Derived(Boxed::new(self.clauses.alloc, query)?, name),
             rest,
@@ -101,7 +102,7 @@ impl<
     }
 
     /// `join`
-    #[tactic(auto, unfolding(crate::specs::Queries::join, crate::specs::Queries::join_behind, crate::specs::Queries::join_on, crate::specs::Queries::join_of))]
+    #[tactic(auto, unfolding(crate::specs::Queries::join, crate::specs::Queries::join_of))]
     fn join<'a>(&self, tokens: &'a [Lexeme]) -> Result<(Join, &'a [Lexeme]), Fault>
         requires nests { NestsQueries self.now.clauses.text.now self.now.clauses.left (F.pre self.now.read) (F.post self.now.read) }
         requires limited { self.now.clauses.left ≤ limit }
@@ -109,8 +110,7 @@ impl<
     {
         let (is_left, rest) = join_kind(tokens)?;
         let (item, rest) = self.item(rest)?;
-        let (_, rest) = take(Sort::Word(Word::On), rest)?;
-        let (on, rest) = self.clauses.expr(rest)?;
+        let ((item, on), rest) = beside(item, self.clauses.join_on(rest))?;
         Ok((Join { is_left, item, on }, rest))
     }
 
@@ -131,23 +131,49 @@ impl<
         Ok((found, rest))
     }
 
-    /// What is behind the first item of a block.
-    #[tactic(auto, unfolding(crate::specs::Queries::block_rest, crate::specs::Queries::block_filter, crate::specs::Queries::block_groups, crate::specs::Queries::block_of))]
-    fn block_rest<'a>(
+    /// The joins of a block, and what is behind them.
+    #[tactic(auto, unfolding(crate::specs::Queries::block_joins))]
+    fn block_joins<'a>(
         &self,
-        is_distinct: bool,
-        outputs: Items<Output>,
-        from: Item,
         tokens: &'a [Lexeme],
-    ) -> Result<(Block, &'a [Lexeme]), Fault>
+    ) -> Result<((Items<Join>, Conditions), &'a [Lexeme]), Fault>
         requires nests { NestsQueries self.now.clauses.text.now self.now.clauses.left (F.pre self.now.read) (F.post self.now.read) }
         requires limited { self.now.clauses.left ≤ limit }
-        ensures { Gives result ((spec.block_rest self.now.clauses.text.now self.now.clauses.left (spec.query_behind self.now.clauses.text.now self.now.clauses.left) is_distinct outputs from).read tokens.now) }
+        ensures { Gives result ((spec.block_joins self.now.clauses.text.now self.now.clauses.left (spec.query_behind self.now.clauses.text.now self.now.clauses.left)).read tokens.now) }
     {
         let (joins, rest) = self.joins(tokens)?;
-        let (filter, rest) = self.clauses.maybe_where(rest)?;
-        let (groups, rest) = maybe_group_by(self.clauses.alloc, self.clauses.text, rest)?;
-        let (having, rest) = self.clauses.maybe_having(rest)?;
+        beside(joins, self.clauses.block_filter(rest))
+    }
+
+    /// FROM, and what is behind it.
+    #[tactic(auto, unfolding(crate::specs::Queries::block_from))]
+    fn block_from<'a>(
+        &self,
+        tokens: &'a [Lexeme],
+    ) -> Result<((Item, (Items<Join>, Conditions)), &'a [Lexeme]), Fault>
+        requires nests { NestsQueries self.now.clauses.text.now self.now.clauses.left (F.pre self.now.read) (F.post self.now.read) }
+        requires limited { self.now.clauses.left ≤ limit }
+        ensures { Gives result ((spec.block_from self.now.clauses.text.now self.now.clauses.left (spec.query_behind self.now.clauses.text.now self.now.clauses.left)).read tokens.now) }
+    {
+        let (_, rest) = take(Sort::Word(Word::From), tokens)?;
+        let (from, rest) = self.item(rest)?;
+        beside(from, self.block_joins(rest))
+    }
+
+    /// What is behind SELECT.
+    #[tactic(auto, unfolding(crate::specs::Queries::block_shown, crate::specs::Queries::block_of))]
+    fn block_shown<'a>(&self, tokens: &'a [Lexeme]) -> Result<(Block, &'a [Lexeme]), Fault>
+        requires nests { NestsQueries self.now.clauses.text.now self.now.clauses.left (F.pre self.now.read) (F.post self.now.read) }
+        requires limited { self.now.clauses.left ≤ limit }
+        ensures { Gives result ((spec.block_shown self.now.clauses.text.now self.now.clauses.left (spec.query_behind self.now.clauses.text.now self.now.clauses.left)).read tokens.now) }
+    {
+        let (is_distinct, rest) = quantifier(tokens)?;
+        let (outputs, rest) = self.clauses.outputs(rest)?;
+        let ((outputs, (from, (joins, conditions))), rest) = beside(
+            outputs,
+            self.block_from(rest),
+        )?;
+        let (filter, (groups, having)) = conditions;
         let block = Block {
             is_distinct,
             outputs,
@@ -158,35 +184,6 @@ impl<
             having,
         };
         Ok((block, rest))
-    }
-
-    /// What is behind what a block shows.
-    #[tactic(auto, unfolding(crate::specs::Queries::block_from))]
-    fn block_from<'a>(
-        &self,
-        is_distinct: bool,
-        outputs: Items<Output>,
-        tokens: &'a [Lexeme],
-    ) -> Result<(Block, &'a [Lexeme]), Fault>
-        requires nests { NestsQueries self.now.clauses.text.now self.now.clauses.left (F.pre self.now.read) (F.post self.now.read) }
-        requires limited { self.now.clauses.left ≤ limit }
-        ensures { Gives result ((spec.block_from self.now.clauses.text.now self.now.clauses.left (spec.query_behind self.now.clauses.text.now self.now.clauses.left) is_distinct outputs).read tokens.now) }
-    {
-        let (_, rest) = take(Sort::Word(Word::From), tokens)?;
-        let (from, rest) = self.item(rest)?;
-        self.block_rest(is_distinct, outputs, from, rest)
-    }
-
-    /// What is behind SELECT.
-    #[tactic(auto, unfolding(crate::specs::Queries::block_shown))]
-    fn block_shown<'a>(&self, tokens: &'a [Lexeme]) -> Result<(Block, &'a [Lexeme]), Fault>
-        requires nests { NestsQueries self.now.clauses.text.now self.now.clauses.left (F.pre self.now.read) (F.post self.now.read) }
-        requires limited { self.now.clauses.left ≤ limit }
-        ensures { Gives result ((spec.block_shown self.now.clauses.text.now self.now.clauses.left (spec.query_behind self.now.clauses.text.now self.now.clauses.left)).read tokens.now) }
-    {
-        let (is_distinct, rest) = quantifier(tokens)?;
-        let (outputs, rest) = self.clauses.outputs(rest)?;
-        self.block_from(is_distinct, outputs, rest)
     }
 
     /// `block`
@@ -229,25 +226,25 @@ impl<
         Ok((found, rest))
     }
 
-    /// The other blocks and what is behind them, behind what was found.
+    /// The other blocks, and what is behind them.
     #[tactic(auto, unfolding(crate::specs::Queries::unions))]
-    fn unions<'a, T: Drop>(
+    fn unions<'a>(
         &self,
-        found: T,
         tokens: &'a [Lexeme],
     ) -> Result<
         (
-            (T, Items<Block>, Items<SortKey>, Option<Limit>),
+            (Items<Block>, (Items<SortKey>, Option<Limit>)),
             &'a [Lexeme],
         ),
         Fault,
     >
         requires nests { NestsQueries self.now.clauses.text.now self.now.clauses.left (F.pre self.now.read) (F.post self.now.read) }
         requires limited { self.now.clauses.left ≤ limit }
-        ensures { Gives result ((spec.unions self.now.clauses.text.now self.now.clauses.left (spec.query_behind self.now.clauses.text.now self.now.clauses.left) found).read tokens.now) }
+        ensures { Gives result ((spec.unions self.now.clauses.text.now self.now.clauses.left (spec.query_behind self.now.clauses.text.now self.now.clauses.left)).read tokens.now) }
     {
         let (others, rest) = self.union_rest(tokens)?;
-        ordered(self.clauses.alloc, self.clauses.text, found, others, rest)
+        let order = ordered(self.clauses.alloc, self.clauses.text, rest);
+        beside(others, order)
     }
 
     /// `query`
@@ -258,7 +255,7 @@ impl<
         ensures { Gives result ((spec.query self.now.clauses.text.now self.now.clauses.left (spec.query_behind self.now.clauses.text.now self.now.clauses.left)).read tokens.now) }
     {
         let (first, rest) = self.block(tokens)?;
-        let ((first, others, order, limit), rest) = self.unions(first, rest)?;
+        let ((first, (others, (order, limit))), rest) = beside(first, self.unions(rest))?;
         let query = Query {
             first,
             others,
@@ -269,26 +266,17 @@ impl<
     }
 }
 
-/// ORDER BY and LIMIT, behind what was found.
+/// ORDER BY and LIMIT.
 #[tactic(auto, unfolding(crate::specs::Queries::ordered))]
-fn ordered<'a, T: Drop>(
+fn ordered<'a>(
     alloc: Global,
     text: &[u8],
-    found: T,
-    others: Items<Block>,
     tokens: &'a [Lexeme],
-) -> Result<
-    (
-        (T, Items<Block>, Items<SortKey>, Option<Limit>),
-        &'a [Lexeme],
-    ),
-    Fault,
->
-    ensures { Gives result ((spec.ordered text.now found others).read tokens.now) }
+) -> Result<((Items<SortKey>, Option<Limit>), &'a [Lexeme]), Fault>
+    ensures { Gives result ((spec.ordered text.now).read tokens.now) }
 {
     let (order, rest) = maybe_order_by(alloc, text, tokens)?;
-    let (limit, rest) = maybe_limit(rest)?;
-    Ok(((found, others, order, limit), rest))
+    beside(order, maybe_limit(rest))
 }
 
 /// A query, where so many openings are left. This function alone recurses.
@@ -322,6 +310,6 @@ pub(crate) fn statement<'a>(
     ensures { Gives result ((spec.statement text.now left).read tokens.now) }
 {
     let (query, rest) = read_query(alloc, text, left, tokens)?;
-    let (_, rest) = maybe_semicolon(rest)?;
+    let ((query, _), rest) = beside(query, maybe_semicolon(rest))?;
     Ok((query, rest))
 }

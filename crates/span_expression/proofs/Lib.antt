@@ -1,0 +1,6 @@
+pub mod Expressing
+pub mod Good
+pub mod Levels
+pub mod Loops
+pub mod Parsing
+pub mod Shrinking

@@ -1,0 +1,4 @@
+pub mod Expressions
+pub mod Nests
+pub mod Parsed
+pub mod Pieces
