@@ -215,6 +215,15 @@ fn opened(query: u64, s: u64) -> Reply {
     }
 }
 
+/// The users of the test of trims, read at s.
+fn users_at(alloc: Global, s: u64) -> Result<Reply, Fail> {
+    let mut rows = Seq::new(alloc);
+    rows.push(row(alloc, 1, "a")?)?;
+    rows.push(row(alloc, 2, "b")?)?;
+    rows.push(row(alloc, 3, "c")?)?;
+    Ok(Reply::Rows { s, rows })
+}
+
 /// No row at s.
 fn none_at(alloc: Global, s: u64) -> Reply {
     Reply::Rows {
@@ -281,7 +290,7 @@ fn boundary(rt: HostRuntime) -> Result<(), Fail> {
 
 const EARLY: Clock = (100, 110);
 
-const ABORTED: [Call<'static>; 13] = [
+const ABORTED: [Call<'static>; 14] = [
     Call::Begin(&[INSERT_A]),
     Call::Prepare(1),
     Call::Open(TEXT, Bound::At(50), EARLY),
@@ -291,13 +300,15 @@ const ABORTED: [Call<'static>; 13] = [
     Call::Apply(1, EARLY),
     Call::Scan(1, EARLY),
     Call::Finish(1),
+    Call::Trim(0, 50),
     Call::Apply(1, EARLY),
     Call::Open("SELECT * FROM users", Bound::Strong, EARLY),
     Call::Open("SELECT *, FROM Users", Bound::Strong, EARLY),
     Call::Open(TEXT, Bound::At(4611686018427387904), EARLY),
 ];
 
-/// A prepared transaction holds safe time back until it is aborted and applied; it leaves nothing. Texts and bounds that are refused.
+/// A prepared transaction holds safe time back until it is aborted and applied; it leaves nothing, and no version in the
+/// shard. Texts and bounds that are refused.
 #[test]
 fn aborted(rt: HostRuntime) -> Result<(), Fail> {
     let alloc = rt.alloc();
@@ -311,6 +322,7 @@ fn aborted(rt: HostRuntime) -> Result<(), Fail> {
         Reply::Applied,
         Reply::Scanned,
         none_at(alloc, 50),
+        Reply::Trimmed(0),
         Reply::Refused(Refusal::UnknownTransaction),
         Reply::Refused(Refusal::NoTable),
         Reply::Refused(Refusal::Syntax),
@@ -427,7 +439,7 @@ const INSERT_B: Asked<'static> = (MutationKind::Insert, "Users", &[2], Some(("em
 
 const INSERT_C: Asked<'static> = (MutationKind::Insert, "Users", &[3], Some(("email", "c")));
 
-const TRIM: [Call<'static>; 14] = [
+const TRIM: [Call<'static>; 17] = [
     Call::Begin(&[INSERT_A, INSERT_B, INSERT_C]),
     Call::Prepare(1),
     Call::Decide(1, COMMIT, EARLY),
@@ -440,18 +452,19 @@ const TRIM: [Call<'static>; 14] = [
     Call::Finish(1),
     Call::Open(TEXT, Bound::At(150), NOW),
     Call::Scan(2, NOW),
+    Call::Open(TEXT, Bound::At(160), NOW),
+    Call::Scan(3, NOW),
+    Call::Finish(3),
     Call::Trim(0, 159),
     Call::Trim(1, 160),
 ];
 
-/// A trim waits for safe time; then what was read stays answered, and nothing below the horizon is read any more.
+/// A trim waits for safe time; then what was read stays answered, and nothing below the horizon is read any more, but at it.
 #[test]
 fn trim(rt: HostRuntime) -> Result<(), Fail> {
     let alloc = rt.alloc();
-    let mut rows = Seq::new(alloc);
-    rows.push(row(alloc, 1, "a")?)?;
-    rows.push(row(alloc, 2, "b")?)?;
-    rows.push(row(alloc, 3, "c")?)?;
+    let early = users_at(alloc, 150)?;
+    let at_horizon = users_at(alloc, 160)?;
     let expected = vec![in alloc;
         Reply::Began(1),
         Reply::Prepared(1),
@@ -462,9 +475,12 @@ fn trim(rt: HostRuntime) -> Result<(), Fail> {
         Reply::Refused(Refusal::TrimTooNew),
         Reply::Floor(210),
         Reply::Trimmed(3),
-        Reply::Rows { s: 150, rows },
+        early,
         opened(2, 150),
         Reply::Refused(Refusal::Trimmed),
+        opened(3, 160),
+        Reply::Scanned,
+        at_horizon,
         Reply::Refused(Refusal::TrimBackward),
         Reply::Refused(Refusal::NoSlot),
     ]?;

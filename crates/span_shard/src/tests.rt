@@ -185,6 +185,23 @@ fn change(
     run(alloc, schema, shard, 2, &second, Some(222))
 }
 
+// Why one mutation is refused as transaction 2, if it is: want of memory is an error here, so that no refusal stands for it.
+fn refusal_of(
+    alloc: Global,
+    schema: &Schema,
+    shard: &mut Shard,
+    asked: Asked<'_>,
+) -> Result<Option<Refusal>, Refusal>
+    requires { IsIdle shard.old }
+    ensures { IsIdle shard.new }
+{
+    match change(alloc, schema, shard, asked) {
+        Ok(()) => Ok(None),
+        Err(Refusal::OutOfMemory) => Err(Refusal::OutOfMemory),
+        Err(why) => Ok(Some(why)),
+    }
+}
+
 // How many rows there are at s.
 fn count_at(alloc: Global, shard: &Shard, s: u64) -> Result<usize, Refusal> {
     Ok(shard.snapshot(alloc, &whole(alloc)?, s)?.len())
@@ -286,20 +303,20 @@ fn faults(rt: HostRuntime) -> Result<(), Fail> {
     let alloc = rt.alloc();
     let schema = family(alloc)?;
     let mut shard = filled(alloc, &schema)?;
-    let twice = change(
+    let twice = refusal_of(
         alloc,
         &schema,
         &mut shard,
         (MutationKind::Insert, "A", &[1], None),
-    );
-    assert!(rt; matches!(&twice, Err(Refusal::Exists)));
-    let alone = change(
+    )?;
+    assert_eq!(rt; twice, Some(Refusal::Exists));
+    let alone = refusal_of(
         alloc,
         &schema,
         &mut shard,
         (MutationKind::Insert, "B", &[3, 3], None),
-    );
-    assert!(rt; matches!(&alone, Err(Refusal::ParentMissing)));
+    )?;
+    assert_eq!(rt; alone, Some(Refusal::ParentMissing));
     assert_eq!(rt; shard.live(), 3);
     Ok(())
 }

@@ -83,7 +83,8 @@ pub enum Refusal {
     WrongType,
     /// 50: 65,536 commits and undecided transactions.
     LogFull,
-    /// 51: the nodes in use would pass 2^24.
+    /// 51: a Prepare would bring the versions that a slot keeps, prepared ones included, over 2^24; of an arena, as many nodes are in
+    /// use as may be.
     ShardFull,
     /// 52: the commit timestamp has not surely passed.
     TooEarly,
