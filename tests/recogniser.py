@@ -236,23 +236,22 @@ def runs(goal, text):
 
 
 TESTS = [
-    ("statement", "crates/span_parser/src/beginnings_tests.rt"),
-    ("schema", "crates/span_schematext/src/beginnings_tests.rt"),
+    ("statement", "crates/span_parser/src/answer_tests.rt"),
+    ("schema", "crates/span_schematext/src/answer_tests.rt"),
 ]
-CONSTANT = r'const %s: [^=]*=\s*'
-ROWS = re.compile(CONSTANT.replace("%s", "ANSWERS").replace("[^=]*", r"\[[^]]*; )(\d+)(\]") .join(["(", r")(\[.*?\n?\];)"]), re.DOTALL)
+TABLE = re.compile(r"(const ANSWERS: \[[^]]*; )\d+(\] =\s*)\[.*?\];", re.DOTALL)
 
 
 def table_in(source):
     """The text that a test's source has, and the rows of its table."""
     text = re.search(r'const TEXT: &str =\s*"((?:[^"\\]|\\.)*)";', source).group(1)
-    rows = re.findall(r"\((\w+), (\w+), (\w+)\)", ROWS.search(source).group(4))
+    rows = re.findall(r"\((\d+), (\d+), (\w+)\)", TABLE.search(source).group())
     return text.encode().decode("unicode_escape").encode(), rows
 
 
 def written(source, rows):
     body = "[\n" + "".join(f"    ({', '.join(row)}),\n" for row in rows) + "];"
-    return ROWS.sub(lambda found: found.group(1) + str(len(rows)) + found.group(3) + body, source)
+    return TABLE.sub(lambda found: found.group(1) + str(len(rows)) + found.group(2) + body, source)
 
 
 def tables(is_writing):

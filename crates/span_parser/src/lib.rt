@@ -1,6 +1,8 @@
 //! Queries, read from texts as trees.
 #![tactic(auto)]
 
+#[cfg(test)]
+mod answer_tests;
 pub mod clause;
 mod column;
 mod expression;
