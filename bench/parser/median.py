@@ -1,4 +1,4 @@
-"""The median of each time over the rounds, in microseconds, for the program in Rattle and for SQLite."""
+"""The median of each time over all rounds, in microseconds, for the program in Rattle and for SQLite."""
 import statistics
 import sys
 
