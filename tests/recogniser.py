@@ -31,7 +31,7 @@ class Part:
 def grammar_of(page):
     """Under the name of each rule: what it stands for."""
     lines = " ".join(page.split("```")[1].split("\n"))
-    rules = re.split(r"(\w+) +=(?!\") ", lines)
+    rules = re.split(r"(\w+) += ", lines)
     return {name: choice(re.findall(r'"[^"]+"|\w+|[][{}()|]', body)) for name, body in zip(rules[1::2], rules[2::2])}
 
 
@@ -95,8 +95,9 @@ def is_bad(kind, spelling):
     """Whether a token that is shaped well is none after all."""
     if kind == "int":
         return int(spelling) > GREATEST
-    name = spelling.lstrip("@")
-    return kind in ("word", "parameter") and len(name) > LONGEST_WORD or kind == "parameter" and name.upper() in RESERVED
+    if kind == "parameter":
+        return len(spelling) > 1 + LONGEST_WORD or spelling[1:].upper() in RESERVED
+    return kind == "word" and len(spelling) > LONGEST_WORD
 
 
 def tokens(text):
@@ -134,6 +135,7 @@ def leading(ways):
 
 
 def behind(depth, row, rest):
+    """The way of a row, with so many openings around it, and then the rest."""
     for part in reversed(row):
         rest = (depth, part, rest)
     return rest
@@ -143,9 +145,9 @@ def fits(part, kind, spelling):
     """Whether a token is this one of the grammar's: a sign, a word, or a kind."""
     if part.startswith('"'):
         return kind == "sign" and spelling == part.strip('"')
-    if part.isupper() or part == "INT64":
-        return kind == "word" and spelling.upper() == part
-    return kind == "word" and spelling.upper() not in RESERVED if part == "name" else kind == part
+    if part == "name":
+        return kind == "word" and spelling.upper() not in RESERVED
+    return kind == "word" and spelling.upper() == part if part.isupper() else kind == part
 
 
 def recognise(goal, text):
@@ -249,23 +251,29 @@ def table_in(source):
     return text.encode().decode("unicode_escape").encode(), rows
 
 
+def words_in(source):
+    """The reserved words that a test's source lists."""
+    return re.findall(r'"([A-Z]+)"', re.search(r"const RESERVED: .*?\];", source, re.DOTALL).group())
+
+
 def written(source, rows):
     body = "[\n" + "".join(f"    ({', '.join(row)}),\n" for row in rows) + "];"
     return TABLE.sub(lambda found: found.group(1) + str(len(rows)) + found.group(2) + body, source)
 
 
 def tables(is_writing):
-    """Compares the tables of the tests, or writes them; the status."""
+    """Compares the tables of the tests, or writes them; the status, 1 where they differ."""
     status = 0
     for goal, path in TESTS:
         source = open(os.path.join(TOP, path), encoding="utf-8").read()
         text, rows = table_in(source)
         wanted = runs(goal, text)
+        is_same = rows == wanted and words_in(source) == RESERVED
         if is_writing:
             open(os.path.join(TOP, path), "w", encoding="utf-8").write(written(source, wanted))
-        elif rows != wanted:
+        elif not is_same:
             status = 1
-        print(f"{path}: {len(text) + 1} beginnings, {len(wanted)} runs, {'written' if is_writing else 'the same' if rows == wanted else 'DIFFERENT'}")
+        print(f"{path}: {len(text) + 1} beginnings, {len(wanted)} runs, {'written' if is_writing else 'the same' if is_same else 'different'}")
     return status
 
 
