@@ -2,6 +2,8 @@
 #![tactic(auto)]
 
 pub mod character;
+#[cfg(test)]
+mod edge_tests;
 pub mod lexer;
 pub mod literal;
 #[cfg(test)]

@@ -1,6 +1,8 @@
 //! Queries, read from texts as trees.
 #![tactic(auto)]
 
+#[cfg(test)]
+mod answer_tests;
 mod clause;
 pub mod parse;
 #[cfg(test)]
