@@ -1,24 +1,22 @@
 -- Expressions are read as the grammar's theory reads them, and built.
-use Rattle.std.proofs.Common.{◌≡◌, ℕ, zero, suc, true, false, List, [], ◌∷◌, refl, sym, ap, subst, arith, Option, Some, None}
+use Rattle.std.proofs.Common.{◌≡◌, ℕ, zero, suc, true, false, List, [], ◌∷◌, refl, subst, arith, Some, None}
 use Rattle.span_lexer.specs.declared.token.Word.TheVariants as word
 use Rattle.span_lexer.specs.declared.token.Sign.TheVariants as sign
 use Rattle.span_grammar.specs.declared.class.Sort.{Sort}
 use Rattle.span_grammar.specs.declared.class.Sort.TheVariants as sort
 use Rattle.span_grammar.specs.declared.grammar.Part.TheVariants as part
 use Rattle.span_grammar.specs.declared.grammar.Place.TheVariants as place
-use Rattle.span_grammar.specs.declared.grammar.Shape.TheVariants as shape
 use Rattle.span_expression.specs.declared.operator.Asked.TheVariants as asked
 use Rattle.span_expression.specs.declared.tree.Spelling.{Spelling}
 use Rattle.span_expression.specs.declared.tree.Operator.TheVariants as operator
 use Rattle.span_expression.specs.declared.tree.Comparison.TheVariants as how
 use Rattle.span_expression.specs.declared.tree.Expr.{Expr}
 use Rattle.span_expression.specs.declared.tree.Expr.TheVariants as e
-use Rattle.span_expression.specs.declared.tree.Arm.{Arm, roll-Arm}
 use Rattle.span_expression.specs.declared.tree.Link.{roll-Link}
 use Rattle.span_grammar.specs.Shapes.{shape_of, part_inside}
 use Rattle.span_grammar.specs.Grammar.{rule_of}
 use Rattle.span_expression.specs.Pieces.{Piece, token, nothing, ◌<$>◌, ◌>>=◌, either, each, beside, opening}
-use Rattle.span_expression.specs.Expressions.{span_of, spelling_of, spelling, closing, arm_of, then_value, integer_of, qualifier, column_of, qualified, column, direction, chained, all_of, some_of, denied, test_of, tested, term_sign, sum_sign, comparison, maybe_not, null_words, list_more, list, when, case_operand, case_else, case_end, case_arms, case_of, in_case, argument_list, Inner, parenthesis, arguments, members, case, negation, opposite, after_name, named, if_call, compound, word_literal, other_primary, primary, unary, other_unary, signed, term_more, term, sum_more, sum, compared, is_null, like, high_end, between, within, test, maybe_not_test, predicate_rest, predicate, negated, conjunction_more, conjunction, expression_more, expression, behind}
+use Rattle.span_expression.specs.Expressions.{span_of, spelling_of, spelling, closing, arm_of, then_value, integer_of, qualifier, column_of, qualified, column, direction, chained, all_of, some_of, tested, term_sign, sum_sign, comparison, maybe_not, null_words, list_more, list, when, case_operand, case_else, case_end, case_arms, case_of, in_case, argument_list, Inner, parenthesis, arguments, members, case, negation, opposite, after_name, named, if_call, compound, word_literal, other_primary, primary, unary, other_unary, signed, term_more, term, sum_more, sum, compared, is_null, like, high_end, between, within, test, maybe_not_test, predicate_rest, predicate, negated, conjunction_more, conjunction, expression_more, expression, behind}
 use Rattle.span_expression.proofs.Good.{Good, token_good, nothing_good, map_good, then_good, or_good, many_good, beside_good, open_good}
 
 -- ---- columns and signs

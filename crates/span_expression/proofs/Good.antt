@@ -1,17 +1,16 @@
 -- A piece is read as the grammar's theory reads its part, and built.
-use Rattle.std.proofs.Common.{◌≡◌, ℕ, zero, suc, ◌<◌, ◌≤◌, Bool, true, false, List, [], ◌∷◌, ◌++◌, length, refl, sym, ap, subst, ◌∙◌, arith, Ok, Err, append_assoc}
+use Rattle.std.proofs.Common.{◌≡◌, ℕ, zero, suc, Bool, true, false, List, [], ◌∷◌, ◌++◌, length, refl, sym, ap, subst, ◌∙◌, Ok, Err, append_assoc}
 use Rattle.std.proofs.Math.Dec.{eqb-suc-zero}
 use Rattle.std.specs.Prelude.{if◌then◌else◌, ◌==◌}
 use Rattle.span_grammar.specs.declared.class.Lexeme.{Lexeme}
 use Rattle.span_grammar.specs.declared.class.Sort.{Sort}
-use Rattle.span_expression.specs.declared.fault.Fault.{Fault}
 use Rattle.span_expression.specs.declared.fault.Fault.TheVariants as fault
 use Rattle.span_grammar.specs.declared.grammar.Part.{Part}
 use Rattle.span_grammar.specs.declared.grammar.Part.TheVariants as part
 use Rattle.span_grammar.specs.declared.grammar.Place.{Place}
 use Rattle.span_grammar.specs.declared.grammar.Shape.{Shape}
 use Rattle.span_grammar.specs.declared.grammar.Shape.TheVariants as shape
-use Rattle.span_grammar.specs.Rules.{is_of, Rule, Empty, One, Then, Or, Many, Open, Tree, Nothing, Leaf, Pair, Left, Right, End, More, Nest, limit, Answer, Read, Wrong, Deep, bind, nullable, starts, many, one, No, go_in, opening as opening_answer, deeper, parse}
+use Rattle.span_grammar.specs.Rules.{is_of, Rule, Then, Or, Many, Open, Tree, Leaf, Pair, Left, Right, End, More, Nest, Answer, Read, Wrong, Deep, bind, starts, many, one, parse}
 use Rattle.span_grammar.specs.Shapes.{shape_of, part_inside}
 use Rattle.span_grammar.specs.Grammar.{inside, rule_of, nothing_rule}
 use Rattle.span_expression.specs.Pieces.{token_of, first_of, second_of, behind_of, either_of, each_of, Outcome, and_then, token_read, enter_read, turns, each_read, Piece, token, nothing, ◌<$>◌, ◌>>=◌, either, each, beside, opening, given}

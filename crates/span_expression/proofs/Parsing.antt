@@ -12,10 +12,10 @@ use Rattle.span_expression.specs.declared.fault.Fault.TheVariants as fault
 use Rattle.span_grammar.specs.declared.judge.Goal.{Goal}
 use Rattle.span_grammar.specs.Rules.{Rule, Tree, Answer, Read, Wrong, Deep, limit, parse}
 use Rattle.span_grammar.specs.Texts.{HasTree, IsWrong, IsTooDeep}
-use Rattle.span_grammar.specs.Grammar.{inside, rule_of}
+use Rattle.span_grammar.specs.Grammar.{inside}
 use Rattle.span_grammar.specs.Goals.{goal_part, goal_rule}
 use Rattle.span_grammar.specs.Judged.{IsMadeOf, lexemes_in, IsJudged, IsRefused}
-use Rattle.span_expression.specs.Pieces.{Piece, Outcome, given}
+use Rattle.span_expression.specs.Pieces.{Piece, given}
 use Rattle.span_expression.specs.Parsed.{Stands, GivesWhole, used_all, used, whole_read, refusal_of, Reports, Refuses, IsOrNoMemory}
 use Rattle.span_grammar.proofs.Whole.{whole, Right, answered, tree_answered, deep_answered, wrong_answered}
 use Rattle.span_grammar.proofs.Ending.{ends, inside_ends}

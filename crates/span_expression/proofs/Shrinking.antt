@@ -1,10 +1,9 @@
 -- What is read any number of times takes a token each time.
-use Rattle.std.proofs.Common.{◌≡◌, ℕ, zero, suc, ◌<◌, ◌≤◌, ◌-◌, false, List, Result, refl, sym, ap, ◌∙◌, arith, Ok}
+use Rattle.std.proofs.Common.{◌≡◌, ℕ, zero, suc, ◌<◌, ◌≤◌, false, List, Result, refl, sym, ap, ◌∙◌, arith, Ok}
 use Rattle.span_expression.specs.declared.fault.Fault.{Fault}
 use Rattle.span_grammar.specs.declared.class.Lexeme.{Lexeme}
 use Rattle.span_grammar.specs.declared.grammar.Part.{Part}
 use Rattle.span_grammar.specs.declared.grammar.Part.TheVariants as part
-use Rattle.span_expression.specs.declared.tree.Expr.{Expr}
 use Rattle.span_grammar.specs.Rules.{Answer, Read, Wrong, Deep, Tree, limit, nullable, parse}
 use Rattle.span_grammar.specs.Shapes.{shape_of}
 use Rattle.span_grammar.specs.Grammar.{inside, rule_of}

@@ -1,5 +1,5 @@
 -- Pieces of the grammar: what a derivation by a rule stands for, and how it is read, one token ahead.
-use Rattle.std.specs.Prelude.{◌≡◌, ◌≢◌, ℕ, zero, suc, Bool, ◌==◌, List, [], ◌∷◌, ◌++◌, length, Option, Some, None, Result, Ok, Err, if◌then◌else◌}
+use Rattle.std.specs.Prelude.{◌≡◌, ◌≢◌, ℕ, zero, suc, ◌==◌, List, [], ◌∷◌, ◌++◌, length, Option, Some, None, Result, Ok, Err, if◌then◌else◌}
 use denote.Ref.{Bor}
 use Rattle.span_grammar.specs.declared.class.Lexeme.{Lexeme}
 use Rattle.span_grammar.specs.declared.class.Class.TheVariants as class
@@ -8,7 +8,7 @@ use Rattle.span_expression.specs.declared.fault.Fault.{Fault}
 use Rattle.span_expression.specs.declared.fault.Fault.TheVariants as fault
 use Rattle.span_grammar.specs.declared.grammar.Part.{Part}
 use Rattle.span_grammar.specs.Grammar.{rule_of}
-use Rattle.span_grammar.specs.Rules.{is_of, of_class, Tree, Nothing, Leaf, Pair, Left, Right, More, Nest, Answer, Read, Wrong, Deep, starts}
+use Rattle.span_grammar.specs.Rules.{is_of, of_class, Tree, Leaf, Pair, Left, Right, More, Nest, Answer, Read, Wrong, Deep, starts}
 
 -- ---- the parts of a derivation; where there is no such part, it does not matter what is said
 
