@@ -3,9 +3,11 @@ ghost use Rattle.std.specs.Prelude.{◌≡◌};
 ghost use Rattle.span_expression.specs.Parsed.{GivesWhole, used_all, refusal_of};
 
 use super::fault::Fault;
-use span_grammar::class::Lexeme;
+use span_grammar::class::{Class, Lexeme};
 use span_lexer::lexer::Misread;
+use span_lexer::token::Token;
 use span_value::refusal::Refusal;
+use std::alloc::AllocError;
 
 /// What was read, where no token is left.
 #[tactic(auto, using(crate::proofs::Parsing::used_steps))]
@@ -47,5 +49,38 @@ pub fn misread(fault: Fault, tokens: &[Lexeme], end: usize) -> Misread
             refusal: Refusal::TooDeep,
             place: place_of(left, tokens, end),
         },
+    }
+}
+
+/// Where a name before `.` and `*` is at fault: the tokens up to that dot, and where the star stands.
+///
+/// Such a name is of a class of its own, but read without the star it is a name as any other. So these tokens tell where the fault
+/// is: at the name, at the dot, or else at the star.
+pub fn before_star<'a>(
+    fault: Fault,
+    found: &[Lexeme],
+    tokens: &'a [Token],
+) -> Option<(&'a [Token], usize)> {
+    let Fault::Syntax(left) = fault else {
+        return None;
+    };
+    let name = found.len().checked_sub(left)?;
+    if found.get(name)?.class != Class::AllOf {
+        return None;
+    }
+    let (beginning, behind) = tokens.split_at_checked(name.checked_add(2)?)?;
+    Some((beginning, behind.first()?.start))
+}
+
+/// Where the fault stands that reading tokens told; behind them, where it told none.
+pub fn place_told<T: Drop>(
+    read: Result<T, Fault>,
+    tokens: &[Lexeme],
+    behind: usize,
+) -> Result<usize, AllocError> {
+    match read {
+        Ok(_) => Ok(behind),
+        Err(Fault::OutOfMemory) => Err(AllocError),
+        Err(fault) => Ok(misread(fault, tokens, behind).place),
     }
 }

@@ -132,6 +132,12 @@ fn ends_and_integers(rt: HostRuntime) {
         ("SELECT a FROM t ORDER BY 18446744073709551616", 2, 25),
         // A bad token is answered before what stands before it in the text.
         ("SELECT FROM 9223372036854775808", 2, 12),
+        // A name before `.*` is at fault only where no name may stand; else the dot or the star is.
+        ("SELECT -max.* FROM t", 3, 12),
+        ("SELECT a b.* FROM t", 3, 10),
+        ("SELECT a FROM t LIMIT 1 offset.*", 3, 30),
+        ("SELECT a FROM t WHERE TRUE b.*", 3, 27),
+        ("SELECT a.* FROM t b.* JOIN", 3, 19),
     ];
     for (text, number, place) in texts {
         assert_eq!(rt; answer(rt.alloc(), text), (number, place), "at {text}");

@@ -9,7 +9,7 @@ ghost use Rattle.span_parser.specs.Queries.{IsQuery};
 
 use super::query::statement;
 use super::tree::Query;
-use span_expression::ending::{misread, whole};
+use span_expression::ending::{before_star, misread, place_told, whole};
 use span_expression::fault::Fault;
 use span_grammar::class::Lexeme;
 use span_grammar::classify::lexemes;
@@ -18,7 +18,7 @@ use span_grammar::reader::DEEPEST;
 use span_lexer::lexer::{Misread, tokens};
 use span_lexer::token::Token;
 use span_value::refusal::Refusal;
-use std::alloc::Global;
+use std::alloc::{AllocError, Global};
 
 /// The query that all the tokens are, of a text of these bytes.
 #[tactic(auto, using(span_expression::proofs::Parsing::whole_steps))]
@@ -29,6 +29,22 @@ fn read_statement(alloc: Global, text: &[u8], tokens: &[Lexeme]) -> Result<Query
     whole(query, rest)
 }
 
+/// Where a fault stands, in a text of these bytes and tokens; want of memory is an error.
+fn place_of(
+    alloc: Global,
+    text: &[u8],
+    tokens: &[Token],
+    found: &[Lexeme],
+    fault: Fault,
+) -> Result<usize, AllocError> {
+    let Some((beginning, star)) = before_star(fault, found, tokens) else {
+        return Ok(misread(fault, found, text.len()).place);
+    };
+    let again = lexemes(alloc, text, beginning)?;
+    let read = read_statement(alloc, text, again.as_slice());
+    place_told(read, again.as_slice(), star)
+}
+
 /// The query that the tokens of a text are.
 fn query_of(alloc: Global, text: &[u8], tokens: &[Token]) -> Result<Query, Misread>
     ensures { Reports result (whole_read (spec.statement text.now limit) (lexemes_of text.now tokens.now)) }
@@ -36,7 +52,11 @@ fn query_of(alloc: Global, text: &[u8], tokens: &[Token]) -> Result<Query, Misre
     let found = lexemes(alloc, text, tokens)?;
     match read_statement(alloc, text, found.as_slice()) {
         Ok(query) => Ok(query),
-        Err(fault) => Err(misread(fault, found.as_slice(), text.len())),
+        Err(fault) => {
+            let place = place_of(alloc, text, tokens, found.as_slice(), fault)?;
+            let Misread { refusal, .. } = misread(fault, found.as_slice(), text.len());
+            Err(Misread { refusal, place })
+        }
     }
 }
 

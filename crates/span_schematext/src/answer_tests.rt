@@ -161,3 +161,15 @@ fn lengths_of_columns(rt: HostRuntime) -> Result<(), AllocError> {
     }
     Ok(())
 }
+
+#[test]
+fn names_before_stars(rt: HostRuntime) {
+    let texts = [
+        ("CREATE TABLE t.* (a INT64) PRIMARY KEY (a)", 3, 14),
+        ("CREATE table.* (a INT64) PRIMARY KEY (a)", 3, 12),
+        ("CREATE t.* (a INT64) PRIMARY KEY (a)", 3, 7),
+    ];
+    for (text, number, place) in texts {
+        assert_eq!(rt; answer(rt.alloc(), text), (number, place), "at {text}");
+    }
+}

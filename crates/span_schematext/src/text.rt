@@ -9,7 +9,7 @@ ghost use Rattle.span_schematext.specs.Declarations as spec;
 ghost use Rattle.span_schematext.specs.SchemaTexts.{AreTables, IsSchemaText, IsSchemaRefused, IsSchemaOrNoMemory, RefusesSchema};
 
 use super::declaration::tables;
-use span_expression::ending::{misread, whole};
+use span_expression::ending::{before_star, misread, place_told, whole};
 use span_expression::fault::Fault;
 use span_grammar::class::Lexeme;
 use span_grammar::classify::lexemes;
@@ -21,7 +21,7 @@ use span_schema::schema::Schema;
 use span_schema::table::Table;
 use span_value::refusal::Refusal;
 use span_value::seq::Seq;
-use std::alloc::Global;
+use std::alloc::{AllocError, Global};
 
 /// The tables that all the tokens declare, of a text of these bytes.
 #[tactic(auto, using(span_expression::proofs::Parsing::whole_steps))]
@@ -32,6 +32,22 @@ fn read_all(alloc: Global, text: &[u8], tokens: &[Lexeme]) -> Result<Seq<Table>,
     whole(found, rest)
 }
 
+/// Where a fault stands, in a text of these bytes and tokens; want of memory is an error.
+fn place_of(
+    alloc: Global,
+    text: &[u8],
+    tokens: &[Token],
+    found: &[Lexeme],
+    fault: Fault,
+) -> Result<usize, AllocError> {
+    let Some((beginning, star)) = before_star(fault, found, tokens) else {
+        return Ok(misread(fault, found, text.len()).place);
+    };
+    let again = lexemes(alloc, text, beginning)?;
+    let read = read_all(alloc, text, again.as_slice());
+    place_told(read, again.as_slice(), star)
+}
+
 /// The tables that the tokens of a text declare.
 fn tables_of(alloc: Global, text: &[u8], tokens: &[Token]) -> Result<Seq<Table>, Misread>
     ensures { Reports result (whole_read (spec.tables text.now limit) (lexemes_of text.now tokens.now)) }
@@ -39,7 +55,11 @@ fn tables_of(alloc: Global, text: &[u8], tokens: &[Token]) -> Result<Seq<Table>,
     let found = lexemes(alloc, text, tokens)?;
     match read_all(alloc, text, found.as_slice()) {
         Ok(found) => Ok(found),
-        Err(fault) => Err(misread(fault, found.as_slice(), text.len())),
+        Err(fault) => {
+            let place = place_of(alloc, text, tokens, found.as_slice(), fault)?;
+            let Misread { refusal, .. } = misread(fault, found.as_slice(), text.len());
+            Err(Misread { refusal, place })
+        }
     }
 }
 
