@@ -1,0 +1,3 @@
+pub mod Loops
+pub mod Firsts
+pub mod Matching
