@@ -1,10 +1,10 @@
 -- The value of an expression at a row, or the fault.
-use Rattle.std.specs.Prelude.{ℕ, Bool, true, false, ◌&&◌, Option, Some, None, List, [], ◌∷◌, map}
+use Rattle.std.specs.Prelude.{Bool, true, false, ◌&&◌, Option, Some, None, List, [], ◌∷◌}
 use Rattle.std.specs.List.{fold, list_all}
 use Rattle.span_value.specs.declared.value.Value.{Value}
 use Rattle.span_value.specs.declared.value.Value.TheVariants as value
 use Rattle.span_value.specs.declared.truth.Outcome.{Outcome}
-use Rattle.span_value.specs.declared.truth.Outcome.TheVariants.{Val, Fault}
+use Rattle.span_value.specs.declared.truth.Outcome.TheVariants.{Val}
 use Rattle.span_value.specs.declared.truth.Truth.TheVariants.{False}
 use Rattle.span_expr.specs.declared.condition.Condition.{Condition}
 use Rattle.span_expr.specs.declared.condition.Condition.TheVariants as condition
@@ -14,7 +14,7 @@ use Rattle.span_expr.specs.declared.expr.Expr.TheFolds.{fold-Expr}
 use Rattle.span_expr.specs.declared.expr.Link.{Link}
 use Rattle.span_expr.specs.declared.expr.Arm.{Arm}
 use Rattle.span_expr.specs.declared.expr.Operator.{Operator}
-use Rattle.span_expr.specs.declared.expr.Operator.TheVariants.{Add, Subtract, Multiply, Divide, Modulo, Concatenate}
+use Rattle.span_expr.specs.declared.expr.Operator.TheVariants.{Concatenate}
 use Rattle.span_expr.specs.declared.expr.Comparison.TheVariants.{Equal, AtMost, AtLeast}
 use Rattle.span_expr.specs.Outcomes.{and_then, strict, null_test, condition_of, outcome_of, both, either, either_strict, denied, if_true, first_known}
 use Rattle.span_expr.specs.Operators.{applied, opposite, compared, measured, begun_by, column_of}

@@ -2,12 +2,13 @@
 //!
 //! Evaluating lends what it reads and goes along chains of operators by loops, so that the depth of the recursion is bounded by the
 //! nesting of the text.
-ghost use Rattle.std.specs.Prelude.{◌≡◌, map};
+ghost use Rattle.std.specs.Prelude.{◌≡◌, map, IfOk, IsOkUnless};
 ghost use Rattle.std.specs.List.{fold};
 ghost use Rattle.std.specs.Option.{option_map};
 ghost use Rattle.span_expr.specs.Cells.{shown, Gives, GivesOr, Judges, Tells};
 ghost use Rattle.span_expr.specs.Outcomes as outcomes;
 ghost use Rattle.span_expr.specs.Operators as operators;
+ghost use Rattle.span_expr.specs.Patterns as patterns;
 ghost use Rattle.span_expr.specs.Meaning as spec;
 ghost use Rattle.span_value.specs.declared.truth.Outcome.{Outcome};
 ghost use Rattle.span_value.specs.declared.truth.Outcome.TheVariants as outcome;
@@ -15,10 +16,11 @@ ghost use Rattle.span_value.specs.declared.value.Value.TheVariants as value;
 
 use super::cell::{Cell, Failure, column_of, lend};
 use super::condition::{Condition, both, either, either_strict};
-use super::expr::{Arm, Comparison, Expr, Link, Operator};
+use super::expr::{Arm, Comparison, Expr, Link, Operator, PatternPart};
 use super::operator::{apply, begins, compare, length_of, opposite};
-
-use span_value::truth::{Truth, not};
+use super::pattern::fits;
+use span_value::refusal::Refusal;
+use span_value::truth::{Outcome, Truth, not};
 use span_value::value::Value;
 use sqlite_items::Boxed;
 use std::alloc::Global;
@@ -129,6 +131,15 @@ fn begun<'a>(text: Found<'a>, front: Found<'a>) -> Found<'a>
     Ok(begins(&text?, &front?))
 }
 
+fn liked<'a>(operand: Found<'a>, pattern: &[PatternPart]) -> Found<'a>
+    ensures { (o : Outcome) → Gives operand.entry o → Gives result (outcomes.and_then o (patterns.like pattern.now)) }
+{
+    match operand?.as_str() {
+        Some(text) => Ok(Cell::Bool(fits(pattern, text))),
+        None => Ok(Cell::Null),
+    }
+}
+
 /// What an expression comes to at a row. The error is `Fault` for an arithmetic error, or want of memory for a text that `||` makes.
 #[cycle(eval)]
 pub fn evaluate<'a>(alloc: Global, expr: &'a Expr, row: &'a [Value]) -> Found<'a>
@@ -139,7 +150,12 @@ pub fn evaluate<'a>(alloc: Global, expr: &'a Expr, row: &'a [Value]) -> Found<'a
         Expr::Column(place) => Ok(column_of(row, *place)),
         Expr::Negative(a) => negative(evaluate(alloc, a.get(), row)),
         Expr::Chain(first, links) => {
-            chained(alloc, evaluate(alloc, first.get(), row), links.as_slice(), row)
+            chained(
+                alloc,
+                evaluate(alloc, first.get(), row),
+                links.as_slice(),
+                row,
+            )
         },
         Expr::Compare(a, comparison, b) => compared(
             *comparison,
@@ -161,12 +177,22 @@ pub fn evaluate<'a>(alloc: Global, expr: &'a Expr, row: &'a [Value]) -> Found<'a
             among(alloc, &operand, members.as_slice(), row)
         }
         Expr::And(first, more) => {
-            all_of(alloc, evaluate(alloc, first.get(), row), more.as_slice(), row)
+            all_of(
+                alloc,
+                evaluate(alloc, first.get(), row),
+                more.as_slice(),
+                row,
+            )
         },
         Expr::Not(a) => denied(evaluate(alloc, a.get(), row)),
         Expr::IsNull(a) => null_test(evaluate(alloc, a.get(), row)),
         Expr::Or(first, more) => {
-            any_of(alloc, evaluate(alloc, first.get(), row), more.as_slice(), row)
+            any_of(
+                alloc,
+                evaluate(alloc, first.get(), row),
+                more.as_slice(),
+                row,
+            )
         }
         Expr::Case(arms, otherwise) => match chosen(alloc, arms.as_slice(), row) {
             Some(found) => found,
@@ -180,17 +206,12 @@ pub fn evaluate<'a>(alloc: Global, expr: &'a Expr, row: &'a [Value]) -> Found<'a
             }
         }
         Expr::Coalesce(operands) => first_known(alloc, operands.as_slice(), row),
-        Expr::Like(_, _) => Err(Failure::OutOfMemory),
+        Expr::Like(a, pattern) => liked(evaluate(alloc, a.get(), row), pattern.as_slice()),
     }
 }
 
 /// An operator at what stands before it and its operand.
-fn linked<'a>(
-    alloc: Global,
-    operator: Operator,
-    so_far: Cell<'a>,
-    operand: Found<'a>,
-) -> Found<'a>
+fn linked<'a>(alloc: Global, operator: Operator, so_far: Cell<'a>, operand: Found<'a>) -> Found<'a>
     ensures { (o : Outcome) → Gives operand.entry o → Gives result (outcomes.strict (operators.applied operator) (outcome.Val (shown so_far.entry)) o) }
 {
     apply(alloc, operator, so_far, &operand?)
@@ -218,16 +239,14 @@ fn chained<'a>(
 /// An AND, behind its first operand.
 #[cycle(eval)]
 #[tactic(auto, using(crate::proofs::Loops::loop_steps))]
-fn all_of<'a>(
-    alloc: Global,
-    first: Found<'a>,
-    more: &'a [Expr],
-    row: &'a [Value],
-) -> Found<'a>
+fn all_of<'a>(alloc: Global, first: Found<'a>, more: &'a [Expr], row: &'a [Value]) -> Found<'a>
     ensures { (o : Outcome) → Gives first.entry o → Gives result (spec.all_of o (map (spec.val row.now) more.now)) }
 {
     let mut so_far = condition_of(first)?;
     for operand in more {
+        if so_far == Condition::Known(Truth::False) {
+            return Ok(Cell::Bool(false));
+        }
         so_far = both(so_far, condition_of(evaluate(alloc, operand, row))?);
     }
     outcome_of(so_far)
@@ -236,16 +255,14 @@ fn all_of<'a>(
 /// An OR, behind its first operand.
 #[cycle(eval)]
 #[tactic(auto, using(crate::proofs::Loops::loop_steps))]
-fn any_of<'a>(
-    alloc: Global,
-    first: Found<'a>,
-    more: &'a [Expr],
-    row: &'a [Value],
-) -> Found<'a>
+fn any_of<'a>(alloc: Global, first: Found<'a>, more: &'a [Expr], row: &'a [Value]) -> Found<'a>
     ensures { (o : Outcome) → Gives first.entry o → Gives result (spec.any_of o (map (spec.val row.now) more.now)) }
 {
     let mut so_far = condition_of(first)?;
     for operand in more {
+        if so_far == Condition::Known(Truth::True) {
+            return Ok(Cell::Bool(true));
+        }
         so_far = either(so_far, condition_of(evaluate(alloc, operand, row))?);
     }
     outcome_of(so_far)
@@ -253,12 +270,7 @@ fn any_of<'a>(
 
 /// An IN, behind its operand.
 #[cycle(eval)]
-fn among<'a>(
-    alloc: Global,
-    operand: &Found<'a>,
-    members: &'a [Expr],
-    row: &'a [Value],
-) -> Found<'a>
+fn among<'a>(alloc: Global, operand: &Found<'a>, members: &'a [Expr], row: &'a [Value]) -> Found<'a>
     ensures { (o : Outcome) → Gives operand.now o → Gives result (spec.among o (map (spec.val row.now) members.now)) }
 {
     let mut so_far = Condition::Known(Truth::False);
@@ -335,4 +347,16 @@ fn first_known<'a>(alloc: Global, operands: &'a [Expr], row: &'a [Value]) -> Fou
         }
     }
     Ok(Cell::Null)
+}
+
+/// What an expression comes to at a row, as a value of its own. The error is want of memory.
+pub fn eval(alloc: Global, expr: &Expr, row: &[Value]) -> Result<Outcome, Refusal>
+    ensures value { IfOk result (λ o. o ≡ spec.val row.now expr.now) }
+    ensures memory { IsOkUnless result Refusal.OutOfMemory }
+{
+    match evaluate(alloc, expr, row) {
+        Ok(cell) => Ok(Outcome::Val(cell.into_value(alloc)?)),
+        Err(Failure::Fault) => Ok(Outcome::Fault),
+        Err(Failure::OutOfMemory) => Err(Refusal::OutOfMemory),
+    }
 }

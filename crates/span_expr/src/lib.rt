@@ -3,7 +3,9 @@
 
 pub mod cell;
 pub mod condition;
-pub mod expr;
 pub mod eval;
+pub mod expr;
 mod operator;
 pub mod pattern;
+#[cfg(test)]
+mod tests;

@@ -23,7 +23,7 @@ chained-returns-in_err-so_far-2 t c o given =
     let rest : List (Link Outcome) = map (link_val c.args.row.now) (drop (c.loop-link.link-index + 1) c.args.links.now) in
     let so_far : Outcome = linked (Val (shown c.loop-link.so_far)) (link_val c.args.row.now c.link-item.result) in
     let is : fold linked o (map (link_val c.args.row.now) c.args.links.now) ≡ fold linked so_far rest =
-        c.loop-link.invariant o given ∙ chain_step c.args.row.now c.args.links.now c.loop-link.link-index c.link-item.result (shown c.loop-link.so_far) c.loop-link-test.true c.link-item.is in
+    c.loop-link.invariant o given ∙ chain_step c.args.row.now c.args.links.now c.loop-link.link-index c.link-item.result (shown c.loop-link.so_far) c.loop-link-test.true c.link-item.is in
     let gives : Gives (Err c.in_err-so_far-2.field-0.0) (fold linked so_far rest) = err_stays c.in_err-so_far-2.field-0.0 so_far rest (c.in_err-so_far-2.ensures (val c.args.row.now c.link-item.result.operand) c.evaluate-operand.ensures) in
     let whole : Gives (Err c.in_err-so_far-2.field-0.0) (fold linked o (map (link_val c.args.row.now) c.args.links.now)) = subst (λ (x : Outcome). Gives (Err c.in_err-so_far-2.field-0.0) x) (sym is) gives in
     search (rules, whole)
@@ -32,19 +32,19 @@ pub chosen-returns-in-Ok-true : goal.chosen-returns-in-Ok-true
 chosen-returns-in-Ok-true t c o =
     let rest : Outcome = chosen (map (arm_val c.args.row.now) (drop (c.loop-arm.arm-index + 1) c.args.arms.now)) o in
     let is : chosen (map (arm_val c.args.row.now) c.args.arms.now) o ≡ val c.args.row.now c.arm-item.result.value =
-        c.loop-arm.invariant o
-        ∙ chosen_step c.args.row.now c.args.arms.now c.loop-arm.arm-index c.arm-item.result o c.loop-arm-test.true c.arm-item.is
-        ∙ tells_first (val c.args.row.now c.arm-item.result.condition) (val c.args.row.now c.arm-item.result.value) rest c.in-Ok-true.field-0 (c.in-Ok-true.ensures (val c.args.row.now c.arm-item.result.condition) c.evaluate.ensures) c.in-Ok-true.field-0-test in
+    c.loop-arm.invariant o
+    ∙ chosen_step c.args.row.now c.args.arms.now c.loop-arm.arm-index c.arm-item.result o c.loop-arm-test.true c.arm-item.is
+    ∙ tells_first (val c.args.row.now c.arm-item.result.condition) (val c.args.row.now c.arm-item.result.value) rest c.in-Ok-true.field-0 (c.in-Ok-true.ensures (val c.args.row.now c.arm-item.result.condition) c.evaluate.ensures) c.in-Ok-true.field-0-test in
     subst (λ (x : Outcome). Gives c.evaluate-in-Ok-true.result x) (sym is) c.evaluate-in-Ok-true.ensures
 
 pub chosen-returns-in-Err : goal.chosen-returns-in-Err
 chosen-returns-in-Err t c o =
     let rest : Outcome = chosen (map (arm_val c.args.row.now) (drop (c.loop-arm.arm-index + 1) c.args.arms.now)) o in
     let is : chosen (map (arm_val c.args.row.now) c.args.arms.now) o ≡ if_true (val c.args.row.now c.arm-item.result.condition) (val c.args.row.now c.arm-item.result.value) rest =
-        c.loop-arm.invariant o
-        ∙ chosen_step c.args.row.now c.args.arms.now c.loop-arm.arm-index c.arm-item.result o c.loop-arm-test.true c.arm-item.is in
+    c.loop-arm.invariant o
+    ∙ chosen_step c.args.row.now c.args.arms.now c.loop-arm.arm-index c.arm-item.result o c.loop-arm-test.true c.arm-item.is in
     subst (λ (x : Outcome). Gives (Err c.in-Err.why) x) (sym is)
-      (tells_err c.in-Err.why (val c.args.row.now c.arm-item.result.condition) (val c.args.row.now c.arm-item.result.value) rest (c.in-Err.ensures (val c.args.row.now c.arm-item.result.condition) c.evaluate.ensures))
+    (tells_err c.in-Err.why (val c.args.row.now c.arm-item.result.condition) (val c.args.row.now c.arm-item.result.value) rest (c.in-Err.ensures (val c.args.row.now c.arm-item.result.condition) c.evaluate.ensures))
 
 pub chosen-loop-arm-preserved : goal.chosen-loop-arm-preserved
 chosen-loop-arm-preserved t c o =
@@ -58,9 +58,9 @@ matched-returns-in-Ok-true t c x given o =
     let condition : Outcome = strict (compared Equal) x (val c.args.row.now c.arm-item.result.condition) in
     let rest : Outcome = matched x (map (arm_val c.args.row.now) (drop (c.loop-arm.arm-index + 1) c.args.arms.now)) o in
     let is : matched x (map (arm_val c.args.row.now) c.args.arms.now) o ≡ val c.args.row.now c.arm-item.result.value =
-        c.loop-arm.invariant x o given
-        ∙ matched_step x c.args.row.now c.args.arms.now c.loop-arm.arm-index c.arm-item.result o c.loop-arm-test.true c.arm-item.is
-        ∙ tells_first condition (val c.args.row.now c.arm-item.result.value) rest c.in-Ok-true.field-0 (c.in-Ok-true.ensures condition (c.compared_lent-equal.ensures x (val c.args.row.now c.arm-item.result.condition) given c.evaluate.ensures)) c.in-Ok-true.field-0-test in
+    c.loop-arm.invariant x o given
+    ∙ matched_step x c.args.row.now c.args.arms.now c.loop-arm.arm-index c.arm-item.result o c.loop-arm-test.true c.arm-item.is
+    ∙ tells_first condition (val c.args.row.now c.arm-item.result.value) rest c.in-Ok-true.field-0 (c.in-Ok-true.ensures condition (c.compared_lent-equal.ensures x (val c.args.row.now c.arm-item.result.condition) given c.evaluate.ensures)) c.in-Ok-true.field-0-test in
     subst (λ (y : Outcome). Gives c.evaluate-in-Ok-true.result y) (sym is) c.evaluate-in-Ok-true.ensures
 
 pub matched-returns-in-Err : goal.matched-returns-in-Err
@@ -68,10 +68,10 @@ matched-returns-in-Err t c x given o =
     let condition : Outcome = strict (compared Equal) x (val c.args.row.now c.arm-item.result.condition) in
     let rest : Outcome = matched x (map (arm_val c.args.row.now) (drop (c.loop-arm.arm-index + 1) c.args.arms.now)) o in
     let is : matched x (map (arm_val c.args.row.now) c.args.arms.now) o ≡ if_true condition (val c.args.row.now c.arm-item.result.value) rest =
-        c.loop-arm.invariant x o given
-        ∙ matched_step x c.args.row.now c.args.arms.now c.loop-arm.arm-index c.arm-item.result o c.loop-arm-test.true c.arm-item.is in
+    c.loop-arm.invariant x o given
+    ∙ matched_step x c.args.row.now c.args.arms.now c.loop-arm.arm-index c.arm-item.result o c.loop-arm-test.true c.arm-item.is in
     subst (λ (y : Outcome). Gives (Err c.in-Err.why) y) (sym is)
-      (tells_err c.in-Err.why condition (val c.args.row.now c.arm-item.result.value) rest (c.in-Err.ensures condition (c.compared_lent-equal.ensures x (val c.args.row.now c.arm-item.result.condition) given c.evaluate.ensures)))
+    (tells_err c.in-Err.why condition (val c.args.row.now c.arm-item.result.value) rest (c.in-Err.ensures condition (c.compared_lent-equal.ensures x (val c.args.row.now c.arm-item.result.condition) given c.evaluate.ensures)))
 
 pub matched-loop-arm-preserved : goal.matched-loop-arm-preserved
 matched-loop-arm-preserved t c x o given =
