@@ -1,0 +1,4 @@
+pub mod Loops
+pub mod Firsts
+pub mod Matching
+pub mod Writing
