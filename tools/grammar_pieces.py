@@ -1,10 +1,10 @@
-# Writes what span_expression, span_parser and span_schematext prove of their pieces, part by part: proofs/Expressing and Shrinking,
+# Writes what span_syntax, span_parser and span_schematext prove of their pieces, part by part: proofs/Expressing and Shrinking,
 # proofs/Querying and Falling, and proofs/Declaring and Lasting. What each part is made of is read from span_grammar's specs/Shapes.antt; how a piece is put together is said below, as in specs/Expressions.antt and specs/Queries.antt.
 # Run it after tools/grammar_tables.py, then `rt fmt` and `rt check` in the crate. Nothing rests on it: what it writes is checked.
 import os
 import re
 CRATES=os.path.join(os.path.dirname(os.path.abspath(__file__)),'..','crates','')
-LOW=CRATES+'span_expression/'
+LOW=CRATES+'span_syntax/'
 ROOT=CRATES+'span_parser/'
 THEORY=CRATES+'span_grammar/'
 # shapes of the parts
@@ -105,19 +105,19 @@ use Rattle.span_grammar.specs.declared.class.Sort.TheVariants as sort
 use Rattle.span_grammar.specs.declared.grammar.Part.TheVariants as part
 use Rattle.span_grammar.specs.declared.grammar.Place.TheVariants as place
 use Rattle.span_grammar.specs.declared.grammar.Shape.TheVariants as shape
-use Rattle.span_expression.specs.declared.operator.Asked.TheVariants as asked
-use Rattle.span_expression.specs.declared.tree.Spelling.{Spelling}
-use Rattle.span_expression.specs.declared.tree.Operator.TheVariants as operator
-use Rattle.span_expression.specs.declared.tree.Comparison.TheVariants as how
-use Rattle.span_expression.specs.declared.tree.Expr.{Expr}
-use Rattle.span_expression.specs.declared.tree.Expr.TheVariants as e
-use Rattle.span_expression.specs.declared.tree.Arm.{Arm, roll-Arm}
-use Rattle.span_expression.specs.declared.tree.Link.{roll-Link}
+use Rattle.span_syntax.specs.declared.operator.Asked.TheVariants as asked
+use Rattle.span_syntax.specs.declared.tree.Spelling.{Spelling}
+use Rattle.span_syntax.specs.declared.tree.Operator.TheVariants as operator
+use Rattle.span_syntax.specs.declared.tree.Comparison.TheVariants as how
+use Rattle.span_syntax.specs.declared.tree.Expr.{Expr}
+use Rattle.span_syntax.specs.declared.tree.Expr.TheVariants as e
+use Rattle.span_syntax.specs.declared.tree.Arm.{Arm, roll-Arm}
+use Rattle.span_syntax.specs.declared.tree.Link.{roll-Link}
 use Rattle.span_grammar.specs.Shapes.{shape_of, part_inside}
 use Rattle.span_grammar.specs.Grammar.{rule_of}
-use Rattle.span_expression.specs.Pieces.{Piece, token, nothing, ◌<$>◌, ◌>>=◌, either, each, beside, opening}
-use Rattle.span_expression.specs.Expressions.{span_of, spelling_of, spelling, closing, arm_of, then_value, integer_of, qualifier, column_of, qualified, column, direction, chained, all_of, some_of, denied, test_of, tested, term_sign, sum_sign, comparison, maybe_not, null_words, list_more, list, when, case_operand, case_else, case_end, case_arms, case_of, in_case, argument_list, Inner, parenthesis, arguments, members, case, negation, opposite, after_name, named, if_call, compound, word_literal, other_primary, primary, unary, other_unary, signed, term_more, term, sum_more, sum, compared, is_null, like, high_end, between, within, test, maybe_not_test, predicate_rest, predicate, negated, conjunction_more, conjunction, expression_more, expression, behind}
-use Rattle.span_expression.proofs.Good.{Good, token_good, nothing_good, map_good, then_good, or_good, many_good, beside_good, open_good}
+use Rattle.span_syntax.specs.Pieces.{Piece, token, nothing, ◌<$>◌, ◌>>=◌, either, each, beside, opening}
+use Rattle.span_syntax.specs.Expressions.{span_of, spelling_of, spelling, closing, arm_of, then_value, integer_of, qualifier, column_of, qualified, column, direction, chained, all_of, some_of, denied, test_of, tested, term_sign, sum_sign, comparison, maybe_not, null_words, list_more, list, when, case_operand, case_else, case_end, case_arms, case_of, in_case, argument_list, Inner, parenthesis, arguments, members, case, negation, opposite, after_name, named, if_call, compound, word_literal, other_primary, primary, unary, other_unary, signed, term_more, term, sum_more, sum, compared, is_null, like, high_end, between, within, test, maybe_not_test, predicate_rest, predicate, negated, conjunction_more, conjunction, expression_more, expression, behind}
+use Rattle.span_syntax.proofs.Good.{Good, token_good, nothing_good, map_good, then_good, or_good, many_good, beside_good, open_good}
 
 '''
 L=lambda name,part,sp,ast,**k: lemma(name,part,sp,ast,ind=k.pop('ind','  '),**k)
@@ -237,17 +237,17 @@ use Rattle.std.proofs.Common.{◌≡◌, ℕ, zero, suc, ◌<◌, ◌≤◌, ◌
 use Rattle.span_grammar.specs.declared.class.Lexeme.{Lexeme}
 use Rattle.span_grammar.specs.declared.grammar.Part.{Part}
 use Rattle.span_grammar.specs.declared.grammar.Part.TheVariants as part
-use Rattle.span_expression.specs.declared.tree.Expr.{Expr}
+use Rattle.span_syntax.specs.declared.tree.Expr.{Expr}
 use Rattle.span_grammar.specs.Rules.{Answer, Read, Wrong, Deep, Tree, limit, nullable, parse}
 use Rattle.span_grammar.specs.Shapes.{shape_of}
 use Rattle.span_grammar.specs.Grammar.{inside, rule_of}
-use Rattle.span_expression.specs.Pieces.{Piece, Outcome, given}
-use Rattle.span_expression.specs.Expressions.{behind, list_more, when, term_more, sum_more, conjunction_more, expression_more}
-use Rattle.span_expression.proofs.Good.{Good}
+use Rattle.span_syntax.specs.Pieces.{Piece, Outcome, given}
+use Rattle.span_syntax.specs.Expressions.{behind, list_more, when, term_more, sum_more, conjunction_more, expression_more}
+use Rattle.span_syntax.proofs.Good.{Good}
 use Rattle.span_grammar.proofs.Repeated.{repeated_full}
 use Rattle.span_grammar.proofs.Steps.{shrinks}
-use Rattle.span_expression.proofs.Loops.{Shrinks, each_more, each_end, each_err, each_falls}
-use Rattle.span_expression.proofs.Expressing.{deep, list_more_good, when_good, term_more_good, sum_more_good, conjunction_more_good, expression_more_good}
+use Rattle.span_syntax.proofs.Loops.{Shrinks, each_more, each_end, each_err, each_falls}
+use Rattle.span_syntax.proofs.Expressing.{deep, list_more_good, when_good, term_more_good, sum_more_good, conjunction_more_good, expression_more_good}
 
 ok_is : {X : Type 0} (a b : X) → (let o : Result X Fault = Ok a in o) ≡ Ok b → a ≡ b
 ok_is a b h = cc
@@ -283,7 +283,7 @@ unfolding shape_of
 
 '''
 sh+='pub ruleset loop_steps = (each_more, each_end, each_err, each_falls, term_more_shrinks, sum_more_shrinks, conjunction_more_shrinks, expression_more_shrinks, list_more_shrinks, when_shrinks)\n'
-sh=sh.replace('false, List, ap, subst, arith, Ok}','false, List, Result, refl, sym, ap, ◌∙◌, arith, Ok}\nuse Rattle.span_expression.specs.declared.fault.Fault.{Fault}')
+sh=sh.replace('false, List, ap, subst, arith, Ok}','false, List, Result, refl, sym, ap, ◌∙◌, arith, Ok}\nuse Rattle.span_syntax.specs.declared.fault.Fault.{Fault}')
 open(LOW+'proofs/Shrinking.antt','w').write(sh)
 
 # ---- queries
@@ -300,7 +300,7 @@ use Rattle.span_grammar.specs.declared.class.Sort.TheVariants as sort
 use Rattle.span_grammar.specs.declared.grammar.Part.TheVariants as part
 use Rattle.span_grammar.specs.declared.grammar.Place.TheVariants as place
 use Rattle.span_grammar.specs.declared.grammar.Shape.TheVariants as shape
-use Rattle.span_expression.specs.declared.tree.Expr.{Expr}
+use Rattle.span_syntax.specs.declared.tree.Expr.{Expr}
 use Rattle.span_parser.specs.declared.tree.Output.{Output}
 use Rattle.span_parser.specs.declared.tree.Output.TheVariants as shown
 use Rattle.span_parser.specs.declared.tree.SortColumn.TheVariants as by
@@ -311,11 +311,11 @@ use Rattle.span_parser.specs.declared.tree.Block.{Block}
 use Rattle.span_parser.specs.declared.tree.Query.{Query}
 use Rattle.span_grammar.specs.Shapes.{shape_of, part_inside}
 use Rattle.span_grammar.specs.Grammar.{rule_of}
-use Rattle.span_expression.specs.Pieces.{Piece, token, nothing, ◌<$>◌, ◌>>=◌, either, each, beside, opening}
-use Rattle.span_expression.specs.Expressions.{value_of, integer_of, spelling, closing, column, direction, behind, expression}
+use Rattle.span_syntax.specs.Pieces.{Piece, token, nothing, ◌<$>◌, ◌>>=◌, either, each, beside, opening}
+use Rattle.span_syntax.specs.Expressions.{value_of, integer_of, spelling, closing, column, direction, behind, expression}
 use Rattle.span_parser.specs.Queries.{as_name, alias, required_alias, sort_column, sort_key, sort_key_more, sort_keys, order_by, maybe_order_by, skip, maybe_skip, limit_clause, maybe_limit, quantifier, column_more, columns, group_by, maybe_group_by, all_of_table, maybe_outer, left_join, inner_join, join_kind, maybe_semicolon, where_clause, maybe_where, having, maybe_having, output_expression, output, output_more, outputs, subquery, named_item, derived_item, item, join_of, block_of, query_of, join_on, join, block_groups, block_filter, ordered, unions, block_joins, block_from, block_shown, block, union_more, query, query_behind, statement}
-use Rattle.span_expression.proofs.Good.{Good, token_good, nothing_good, map_good, then_good, or_good, many_good, beside_good, open_good}
-use Rattle.span_expression.proofs.Expressing.{spelling_good, closing_good, column_good, direction_good, expression_good, deep}
+use Rattle.span_syntax.proofs.Good.{Good, token_good, nothing_good, map_good, then_good, or_good, many_good, beside_good, open_good}
+use Rattle.span_syntax.proofs.Expressing.{spelling_good, closing_good, column_good, direction_good, expression_good, deep}
 
 '''
 o+='module _ (n : ℕ) where\n'
@@ -411,8 +411,8 @@ use Rattle.span_grammar.specs.Rules.{limit}
 use Rattle.span_grammar.specs.Shapes.{shape_of}
 use Rattle.span_parser.specs.Queries.{sort_key_more, column_more, output_more, join, union_more, query_behind}
 use Rattle.span_grammar.proofs.Repeated.{repeated_full}
-use Rattle.span_expression.proofs.Loops.{Shrinks, each_more, each_end, each_err, each_falls}
-use Rattle.span_expression.proofs.Shrinking.{shrinking}
+use Rattle.span_syntax.proofs.Loops.{Shrinks, each_more, each_end, each_err, each_falls}
+use Rattle.span_syntax.proofs.Shrinking.{shrinking}
 use Rattle.span_parser.proofs.Querying.{sort_key_more_good, column_more_good, output_more_good, join_good, union_more_good, query_deep}
 
 '''
@@ -455,10 +455,10 @@ use Rattle.span_grammar.specs.declared.grammar.Place.TheVariants as place
 use Rattle.span_grammar.specs.declared.grammar.Shape.TheVariants as shape
 use Rattle.span_grammar.specs.Shapes.{shape_of, part_inside}
 use Rattle.span_grammar.specs.Grammar.{rule_of}
-use Rattle.span_expression.specs.Pieces.{Piece, token, nothing, ◌<$>◌, ◌>>=◌, either, each, beside, opening}
-use Rattle.span_expression.specs.Expressions.{direction}
-use Rattle.span_expression.proofs.Good.{Good, token_good, nothing_good, map_good, then_good, or_good, many_good, open_good}
-use Rattle.span_expression.proofs.Expressing.{direction_good}
+use Rattle.span_syntax.specs.Pieces.{Piece, token, nothing, ◌<$>◌, ◌>>=◌, either, each, beside, opening}
+use Rattle.span_syntax.specs.Expressions.{direction}
+use Rattle.span_syntax.proofs.Good.{Good, token_good, nothing_good, map_good, then_good, or_good, many_good, open_good}
+use Rattle.span_syntax.proofs.Expressing.{direction_good}
 use Rattle.span_schematext.specs.Declarations.{name_of, name, at_most, unbounded, length_bound, in_length, long_kind, long_of, not_null, maybe_not_null, no_action, action, on_delete, maybe_on_delete, maybe_last_semicolon, parent, in_parent, interleave, maybe_interleave, key_column, key_column_more, in_key_columns, length_parenthesis, long_type, column_type, table_column, table_column_more, in_table_columns, key_columns, table_columns, keyed, with_key, named_table, table, table_more, tables}
 
 module _ (n : ℕ) where
@@ -523,8 +523,8 @@ use Rattle.span_grammar.specs.Rules.{limit}
 use Rattle.span_grammar.specs.Shapes.{shape_of}
 use Rattle.span_schematext.specs.Declarations.{key_column_more, table_column_more, table_more}
 use Rattle.span_grammar.proofs.Repeated.{repeated_full}
-use Rattle.span_expression.proofs.Loops.{Shrinks, each_more, each_end, each_err, each_falls}
-use Rattle.span_expression.proofs.Shrinking.{shrinking}
+use Rattle.span_syntax.proofs.Loops.{Shrinks, each_more, each_end, each_err, each_falls}
+use Rattle.span_syntax.proofs.Shrinking.{shrinking}
 use Rattle.span_schematext.proofs.Declaring.{key_column_more_good, table_column_more_good, table_more_good}
 
 '''
@@ -540,7 +540,7 @@ for nm,part,left in(('key_column','KeyColumn',False),('table_column','TableColum
     c='c.args.text.now'+(' c.args.left c.requires' if left else '')
     open(folder+'/Invariants.antt','w').write(f"""use Rattle.std.proofs.Common.{{◌≡◌, [], length}}
 use Rattle.span_grammar.specs.declared.grammar.Part.TheVariants as part
-use Rattle.span_expression.specs.Pieces.{{each_read}}
+use Rattle.span_syntax.specs.Pieces.{{each_read}}
 use Rattle.span_schematext.specs.Declarations.{{{nm}_more}}
 use Rattle.span_schematext.proofs.declaration.{nm}_rest.Given as goal
 

@@ -7,7 +7,7 @@ use Rattle.span_grammar.specs.declared.class.Sort.TheVariants as sort
 use Rattle.span_grammar.specs.declared.grammar.Part.TheVariants as part
 use Rattle.span_grammar.specs.declared.grammar.Place.TheVariants as place
 use Rattle.span_grammar.specs.declared.grammar.Shape.TheVariants as shape
-use Rattle.span_expression.specs.declared.tree.Expr.{Expr}
+use Rattle.span_syntax.specs.declared.tree.Expr.{Expr}
 use Rattle.span_parser.specs.declared.tree.Output.{Output}
 use Rattle.span_parser.specs.declared.tree.Output.TheVariants as shown
 use Rattle.span_parser.specs.declared.tree.SortColumn.TheVariants as by
@@ -18,11 +18,11 @@ use Rattle.span_parser.specs.declared.tree.Block.{Block}
 use Rattle.span_parser.specs.declared.tree.Query.{Query}
 use Rattle.span_grammar.specs.Shapes.{shape_of, part_inside}
 use Rattle.span_grammar.specs.Grammar.{rule_of}
-use Rattle.span_expression.specs.Pieces.{Piece, token, nothing, ◌<$>◌, ◌>>=◌, either, each, beside, opening}
-use Rattle.span_expression.specs.Expressions.{value_of, integer_of, spelling, closing, column, direction, behind, expression}
+use Rattle.span_syntax.specs.Pieces.{Piece, token, nothing, ◌<$>◌, ◌>>=◌, either, each, beside, opening}
+use Rattle.span_syntax.specs.Expressions.{value_of, integer_of, spelling, closing, column, direction, behind, expression}
 use Rattle.span_parser.specs.Queries.{as_name, alias, required_alias, sort_column, sort_key, sort_key_more, sort_keys, order_by, maybe_order_by, skip, maybe_skip, limit_clause, maybe_limit, quantifier, column_more, columns, group_by, maybe_group_by, all_of_table, maybe_outer, left_join, inner_join, join_kind, maybe_semicolon, where_clause, maybe_where, having, maybe_having, output_expression, output, output_more, outputs, subquery, named_item, derived_item, item, join_of, block_of, query_of, join_on, join, block_groups, block_filter, ordered, unions, block_joins, block_from, block_shown, block, union_more, query, query_behind, statement}
-use Rattle.span_expression.proofs.Good.{Good, token_good, nothing_good, map_good, then_good, or_good, many_good, beside_good, open_good}
-use Rattle.span_expression.proofs.Expressing.{spelling_good, closing_good, column_good, direction_good, expression_good, deep}
+use Rattle.span_syntax.proofs.Good.{Good, token_good, nothing_good, map_good, then_good, or_good, many_good, beside_good, open_good}
+use Rattle.span_syntax.proofs.Expressing.{spelling_good, closing_good, column_good, direction_good, expression_good, deep}
 
 module _ (n : ℕ) where
   pub quantifier_good : Good n (rule_of part.MaybeQuantifier) (quantifier)

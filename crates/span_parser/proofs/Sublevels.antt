@@ -2,9 +2,9 @@
 use Rattle.std.proofs.Common.{◌≡◌, ℕ, zero, suc, ◌<◌, ◌-◌, List, Result, sym, ap, subst, ◌∙◌, arith}
 use denote.Ref.{Bor}
 use Rattle.span_grammar.specs.declared.class.Lexeme.{Lexeme}
-use Rattle.span_expression.specs.declared.fault.Fault.{Fault}
+use Rattle.span_syntax.specs.declared.fault.Fault.{Fault}
 use Rattle.span_parser.specs.declared.tree.Query.{Query}
-use Rattle.span_expression.specs.Pieces.{Piece, Gives}
+use Rattle.span_syntax.specs.Pieces.{Piece, Gives}
 use Rattle.span_parser.specs.Queries.{query, query_behind}
 
 before : (n : ℕ) → suc n - 1 ≡ n

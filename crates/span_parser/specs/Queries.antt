@@ -7,11 +7,11 @@ use Rattle.span_grammar.specs.declared.class.Sort.TheVariants as sort
 use Rattle.span_grammar.specs.declared.grammar.Part.TheVariants as part
 use Rattle.span_grammar.specs.declared.judge.Goal.TheVariants as goal
 use Rattle.span_grammar.specs.Rules.{limit}
-use Rattle.span_expression.specs.declared.fault.Fault.TheVariants as fault
-use Rattle.span_expression.specs.declared.tree.Span.{Span}
-use Rattle.span_expression.specs.declared.tree.Spelling.{Spelling}
-use Rattle.span_expression.specs.declared.tree.Column.{Column}
-use Rattle.span_expression.specs.declared.tree.Expr.{Expr}
+use Rattle.span_syntax.specs.declared.fault.Fault.TheVariants as fault
+use Rattle.span_syntax.specs.declared.tree.Span.{Span}
+use Rattle.span_syntax.specs.declared.tree.Spelling.{Spelling}
+use Rattle.span_syntax.specs.declared.tree.Column.{Column}
+use Rattle.span_syntax.specs.declared.tree.Expr.{Expr}
 use Rattle.span_parser.specs.declared.tree.Output.{Output}
 use Rattle.span_parser.specs.declared.tree.Output.TheVariants as shown
 use Rattle.span_parser.specs.declared.tree.SortKey.{SortKey}
@@ -23,9 +23,9 @@ use Rattle.span_parser.specs.declared.tree.Item.TheVariants as source
 use Rattle.span_parser.specs.declared.tree.Join.{Join, roll-Join}
 use Rattle.span_parser.specs.declared.tree.Block.{Block, roll-Block}
 use Rattle.span_parser.specs.declared.tree.Query.{Query, roll-Query}
-use Rattle.span_expression.specs.Pieces.{Piece, token, nothing, ◌<$>◌, ◌>>=◌, ◌>>◌, either, optional, each, beside, opening}
-use Rattle.span_expression.specs.Expressions.{value_of, integer_of, spelling, column, direction, closed, behind, expression}
-use Rattle.span_expression.specs.Parsed.{Stands}
+use Rattle.span_syntax.specs.Pieces.{Piece, token, nothing, ◌<$>◌, ◌>>=◌, ◌>>◌, either, optional, each, beside, opening}
+use Rattle.span_syntax.specs.Expressions.{value_of, integer_of, spelling, column, direction, closed, behind, expression}
+use Rattle.span_syntax.specs.Parsed.{Stands}
 
 -- ---- names
 

@@ -3,10 +3,10 @@ use Rattle.std.specs.Prelude.{◌≡◌, ℕ, ◌<◌, ◌≤◌, ◌-◌, List,
 use Rattle.std.specs.declared.alloc.Global.{Global}
 use denote.Ref.{Bor}
 use Rattle.span_grammar.specs.declared.class.Lexeme.{Lexeme}
-use Rattle.span_expression.specs.declared.fault.Fault.{Fault}
+use Rattle.span_syntax.specs.declared.fault.Fault.{Fault}
 use Rattle.span_parser.specs.declared.tree.Query.{Query}
 use Rattle.span_grammar.specs.Rules.{limit}
-use Rattle.span_expression.specs.Pieces.{Gives}
+use Rattle.span_syntax.specs.Pieces.{Gives}
 use Rattle.span_parser.specs.Queries.{query, query_behind}
 
 pub record NestsQueries (text : List ℕ) (left : ℕ) (pre : Global → Bor (List ℕ) → ℕ → Bor (List Lexeme) → Type 0)

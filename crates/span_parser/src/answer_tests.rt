@@ -1,7 +1,7 @@
 //! The answers to whole texts: to each beginning of a text, to reserved words where a name may stand, to texts at a limit.
 use super::parse::parse_select;
 use super::tree::Output;
-use span_expression::tree::Expr;
+use span_syntax::tree::Expr;
 use std::alloc::{AllocError, Global};
 
 const TEXT: &str =

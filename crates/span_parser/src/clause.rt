@@ -1,20 +1,20 @@
 //! The clauses of queries, read from tokens: a function for each rule.
 ghost use Rattle.std.specs.Prelude.{◌≡◌, ◌≤◌};
 ghost use Rattle.span_grammar.specs.Rules.{limit};
-ghost use Rattle.span_expression.specs.Pieces.{Gives, each};
+ghost use Rattle.span_syntax.specs.Pieces.{Gives, each};
 ghost use Rattle.span_parser.specs.Queries as spec;
 
 use super::tree::{Limit, Output, SortColumn, SortKey};
-use span_expression::column::{column, direction};
-use span_expression::expression::read_expression;
-use span_expression::fault::Fault;
-use span_expression::operator::first_and;
-use span_expression::token::{beside, integer_of, integer_value, next_is, spelling, take};
-use span_expression::tree::{Column, Expr, Spelling};
 use span_grammar::class::{Context, Lexeme, Sort};
 use span_grammar::grammar::Part;
 use span_grammar::reader::goes_on;
 use span_lexer::token::{Sign, Word};
+use span_syntax::column::{column, direction};
+use span_syntax::expression::read_expression;
+use span_syntax::fault::Fault;
+use span_syntax::operator::first_and;
+use span_syntax::token::{beside, integer_of, integer_value, next_is, spelling, take};
+use span_syntax::tree::{Column, Expr, Spelling};
 use sqlite_items::Items;
 use std::alloc::Global;
 

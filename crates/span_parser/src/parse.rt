@@ -4,24 +4,24 @@ ghost use Rattle.span_grammar.specs.Judged.{IsRefused};
 ghost use Rattle.span_grammar.specs.Rules.{limit};
 ghost use Rattle.span_parser.specs.Queries as spec;
 ghost use Rattle.span_grammar.specs.Classes.{lexemes_of};
-ghost use Rattle.span_expression.specs.Parsed.{GivesWhole, whole_read, Reports, Refuses, IsOrNoMemory};
+ghost use Rattle.span_syntax.specs.Parsed.{GivesWhole, whole_read, Reports, Refuses, IsOrNoMemory};
 ghost use Rattle.span_parser.specs.Queries.{IsQuery};
 
 use super::query::statement;
 use super::tree::Query;
-use span_expression::ending::{before_star, misread, place_told, whole};
-use span_expression::fault::Fault;
 use span_grammar::class::Lexeme;
 use span_grammar::classify::lexemes;
 use span_grammar::judge::Goal;
 use span_grammar::reader::DEEPEST;
 use span_lexer::lexer::{Misread, tokens};
 use span_lexer::token::Token;
+use span_syntax::ending::{before_star, misread, place_told, whole};
+use span_syntax::fault::Fault;
 use span_value::refusal::Refusal;
 use std::alloc::{AllocError, Global};
 
 /// The query that all the tokens are, of a text of these bytes.
-#[tactic(auto, using(span_expression::proofs::Parsing::whole_steps))]
+#[tactic(auto, using(span_syntax::proofs::Parsing::whole_steps))]
 fn read_statement(alloc: Global, text: &[u8], tokens: &[Lexeme]) -> Result<Query, Fault>
     ensures { GivesWhole result (whole_read (spec.statement text.now limit) tokens.now) }
 {

@@ -1,8 +1,8 @@
 //! Queries read as trees, worked out by hand; where a refusal stands; that the stack holds the deepest tree.
 use super::parse::parse_select;
 use super::tree::{Item, Limit, Output, Query, SortColumn, SortKey};
-use span_expression::tree::{Column, Comparison, Expr, Operator, Spelling};
 use span_lexer::lexer::Misread;
+use span_syntax::tree::{Column, Comparison, Expr, Operator, Spelling};
 use span_value::refusal::Refusal;
 use std::alloc::{AllocError, Global};
 

@@ -3,7 +3,7 @@
 //! As with expressions, a single function recurses, behind the parenthesis of a derived table.
 ghost use Rattle.std.specs.Prelude.{◌≡◌, ◌<◌, ◌≤◌, ◌-◌};
 ghost use Rattle.span_grammar.specs.Rules.{limit};
-ghost use Rattle.span_expression.specs.Pieces.{Gives, each};
+ghost use Rattle.span_syntax.specs.Pieces.{Gives, each};
 ghost use Rattle.span_parser.specs.Queries as spec;
 ghost use Rattle.span_parser.specs.Subqueries.{NestsQueries};
 
@@ -12,12 +12,12 @@ use super::clause::{
     quantifier, required_alias,
 };
 use super::tree::{Block, Item, Join, Limit, Query, SortKey};
-use span_expression::fault::Fault;
-use span_expression::token::{beside, closed, enter, spelling, take};
 use span_grammar::class::{Lexeme, Sort};
 use span_grammar::grammar::Part;
 use span_grammar::reader::goes_on;
 use span_lexer::token::{Sign, Word};
+use span_syntax::fault::Fault;
+use span_syntax::token::{beside, closed, enter, spelling, take};
 use sqlite_items::{Boxed, Items};
 use std::alloc::Global;
 

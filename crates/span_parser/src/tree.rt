@@ -1,5 +1,5 @@
 //! The trees of queries, as they are written.
-use span_expression::tree::{Column, Expr, Integer, Spelling};
+use span_syntax::tree::{Column, Expr, Integer, Spelling};
 use sqlite_items::{Boxed, Items};
 
 /// One of the things that a block shows.

@@ -10,11 +10,11 @@ use Rattle.span_schema.specs.Lineages.{path_at, cause_in, cause_at, MeetsRules, 
 use Rattle.span_grammar.specs.declared.judge.Goal.TheVariants as goal
 use Rattle.span_grammar.specs.Rules.{limit}
 use Rattle.span_grammar.specs.Judged.{IsRefused}
-use Rattle.span_expression.specs.Parsed.{Stands}
+use Rattle.span_syntax.specs.Parsed.{Stands}
 use Rattle.span_schematext.specs.SchemaTexts.{AreTables, IsSchemaText, IsSchemaRefused, IsSchemaOrNoMemory, RefusesSchema}
 use Rattle.span_schematext.specs.Declarations.{tables}
 use Rattle.span_schematext.proofs.Declaring.{tables_good}
-use Rattle.span_expression.proofs.Parsing.{one_value, value_not_refused}
+use Rattle.span_syntax.proofs.Parsing.{one_value, value_not_refused}
 
 none_not_some : {X : Type 0} (o : Option X) (x : X) → o ≡ None → o ≡ Some x → ⊥
 none_not_some {X = X} o x h i = let j : (let p : Option X = None in p) ≡ Some x = sym h ∙ i in absurd cc

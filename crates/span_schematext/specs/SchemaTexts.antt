@@ -7,7 +7,7 @@ use Rattle.span_schema.specs.Lineages.{MeetsRules, IsFirstCause}
 use Rattle.span_grammar.specs.declared.judge.Goal.TheVariants as goal
 use Rattle.span_grammar.specs.Rules.{limit}
 use Rattle.span_grammar.specs.Judged.{IsRefused}
-use Rattle.span_expression.specs.Parsed.{Stands}
+use Rattle.span_syntax.specs.Parsed.{Stands}
 use Rattle.span_schematext.specs.Declarations.{tables}
 
 -- the text has a tree, which stands for the tables

@@ -3,14 +3,12 @@ ghost use Rattle.std.specs.Prelude.{◌≡◌, ◌≢◌, List, IfOk, IfErr};
 ghost use Rattle.span_grammar.specs.Classes.{lexemes_of};
 ghost use Rattle.span_grammar.specs.Judged.{IsRefused};
 ghost use Rattle.span_grammar.specs.Rules.{limit};
-ghost use Rattle.span_expression.specs.Parsed.{GivesWhole, whole_read, Reports, Refuses, IsOrNoMemory};
+ghost use Rattle.span_syntax.specs.Parsed.{GivesWhole, whole_read, Reports, Refuses, IsOrNoMemory};
 ghost use Rattle.span_schema.specs.declared.table.Table.{Table as Declared};
 ghost use Rattle.span_schematext.specs.Declarations as spec;
 ghost use Rattle.span_schematext.specs.SchemaTexts.{AreTables, IsSchemaText, IsSchemaRefused, IsSchemaOrNoMemory, RefusesSchema};
 
 use super::declaration::tables;
-use span_expression::ending::{before_star, misread, place_told, whole};
-use span_expression::fault::Fault;
 use span_grammar::class::Lexeme;
 use span_grammar::classify::lexemes;
 use span_grammar::judge::Goal;
@@ -19,12 +17,14 @@ use span_lexer::lexer::{Misread, tokens as tokens_of};
 use span_lexer::token::Token;
 use span_schema::schema::Schema;
 use span_schema::table::Table;
+use span_syntax::ending::{before_star, misread, place_told, whole};
+use span_syntax::fault::Fault;
 use span_value::refusal::Refusal;
 use span_value::seq::Seq;
 use std::alloc::{AllocError, Global};
 
 /// The tables that all the tokens declare, of a text of these bytes.
-#[tactic(auto, using(span_expression::proofs::Parsing::whole_steps))]
+#[tactic(auto, using(span_syntax::proofs::Parsing::whole_steps))]
 fn read_all(alloc: Global, text: &[u8], tokens: &[Lexeme]) -> Result<Seq<Table>, Fault>
     ensures { GivesWhole result (whole_read (spec.tables text.now limit) tokens.now) }
 {

@@ -3,8 +3,8 @@ use Rattle.span_grammar.specs.declared.class.Lexeme.{Lexeme}
 use Rattle.span_grammar.specs.Classes.{lexemes_of}
 use Rattle.span_grammar.specs.Rules.{limit}
 use Rattle.span_parser.specs.Queries.{statement}
-use Rattle.span_expression.specs.Parsed.{whole_read}
-use Rattle.span_expression.proofs.Parsing.{reports}
+use Rattle.span_syntax.specs.Parsed.{whole_read}
+use Rattle.span_syntax.proofs.Parsing.{reports}
 use Rattle.span_parser.proofs.parse.query_of.Goals as goal
 
 pub returns : goal.returns

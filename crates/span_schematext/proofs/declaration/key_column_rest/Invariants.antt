@@ -1,6 +1,6 @@
 use Rattle.std.proofs.Common.{◌≡◌, [], length}
 use Rattle.span_grammar.specs.declared.grammar.Part.TheVariants as part
-use Rattle.span_expression.specs.Pieces.{each_read}
+use Rattle.span_syntax.specs.Pieces.{each_read}
 use Rattle.span_schematext.specs.Declarations.{key_column_more}
 use Rattle.span_schematext.proofs.declaration.key_column_rest.Given as goal
 

@@ -1,14 +1,14 @@
 use Rattle.std.proofs.Common.{◌≡◌, ◌∙◌, ap, subst, List, ℕ, Result}
 use Rattle.span_lexer.specs.declared.token.Token.{Token}
 use Rattle.span_grammar.specs.declared.judge.Goal.TheVariants as goal_of
-use Rattle.span_expression.specs.declared.fault.Fault.{Fault}
+use Rattle.span_syntax.specs.declared.fault.Fault.{Fault}
 use Rattle.span_schema.specs.declared.table.Table.{Table}
 use Rattle.span_grammar.specs.Classes.{lexemes_of}
 use Rattle.span_grammar.specs.Rules.{limit}
 use Rattle.span_grammar.specs.Judged.{IsMadeOf, lexemes_in}
 use Rattle.span_schematext.specs.Declarations.{tables}
-use Rattle.span_expression.specs.Parsed.{whole_read, Reports}
-use Rattle.span_expression.proofs.Parsing.{text_value, text_value_all, text_refused, text_refused_all, misread_value, misread_refuses}
+use Rattle.span_syntax.specs.Parsed.{whole_read, Reports}
+use Rattle.span_syntax.proofs.Parsing.{text_value, text_value_all, text_refused, text_refused_all, misread_value, misread_refuses}
 use Rattle.span_schematext.proofs.Declaring.{tables_good}
 use Rattle.span_schematext.proofs.text.parse_tables.Goals as goal
 

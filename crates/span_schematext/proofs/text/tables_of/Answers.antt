@@ -2,8 +2,8 @@ use Rattle.std.proofs.Common.{◌≡◌, ◌∙◌, sym, ap, List}
 use Rattle.span_grammar.specs.Classes.{lexemes_of}
 use Rattle.span_grammar.specs.Rules.{limit}
 use Rattle.span_grammar.specs.declared.class.Lexeme.{Lexeme}
-use Rattle.span_expression.specs.Parsed.{whole_read}
-use Rattle.span_expression.proofs.Parsing.{reports}
+use Rattle.span_syntax.specs.Parsed.{whole_read}
+use Rattle.span_syntax.proofs.Parsing.{reports}
 use Rattle.span_schematext.specs.Declarations.{tables}
 use Rattle.span_schematext.proofs.text.tables_of.Goals as goal
 

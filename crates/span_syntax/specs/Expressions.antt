@@ -1,0 +1,321 @@
+-- Expressions: the expression that each rule of the grammar stands for.
+use Rattle.std.specs.Prelude.{ℕ, zero, suc, Bool, true, false, List, [], ◌∷◌, Option, Some, None, Err}
+use Rattle.std.specs.Str.Lossy.{utf8_lossy}
+use Rattle.span_lexer.specs.declared.token.TokenKind.{TokenKind}
+use Rattle.span_lexer.specs.declared.token.TokenKind.TheVariants as kind
+use Rattle.span_lexer.specs.declared.token.Word.TheVariants as word
+use Rattle.span_lexer.specs.declared.token.Sign.{Sign}
+use Rattle.span_lexer.specs.declared.token.Sign.TheVariants as sign
+use Rattle.span_lexer.specs.declared.token.Token.{Token}
+use Rattle.span_grammar.specs.declared.class.Lexeme.{Lexeme}
+use Rattle.span_grammar.specs.declared.class.Sort.{Sort}
+use Rattle.span_grammar.specs.declared.class.Sort.TheVariants as sort
+use Rattle.span_grammar.specs.declared.grammar.Part.TheVariants as part
+use Rattle.span_syntax.specs.declared.fault.Fault.TheVariants as fault
+use Rattle.span_syntax.specs.declared.tree.Span.{Span}
+use Rattle.span_syntax.specs.declared.tree.Spelling.{Spelling}
+use Rattle.span_syntax.specs.declared.tree.Integer.{Integer}
+use Rattle.span_syntax.specs.declared.tree.Column.{Column}
+use Rattle.span_syntax.specs.declared.tree.Operator.{Operator}
+use Rattle.span_syntax.specs.declared.tree.Operator.TheVariants as operator
+use Rattle.span_syntax.specs.declared.tree.Comparison.{Comparison}
+use Rattle.span_syntax.specs.declared.tree.Comparison.TheVariants as how
+use Rattle.span_syntax.specs.declared.operator.Asked.{Asked}
+use Rattle.span_syntax.specs.declared.operator.Asked.TheVariants as asked
+use Rattle.span_syntax.specs.declared.tree.Expr.{Expr}
+use Rattle.span_syntax.specs.declared.tree.Expr.TheVariants as e
+use Rattle.span_syntax.specs.declared.tree.Arm.{Arm, roll-Arm}
+use Rattle.span_syntax.specs.declared.tree.Link.{Link, roll-Link}
+use Rattle.span_grammar.specs.Classes.{spelled}
+use Rattle.span_syntax.specs.Pieces.{Piece, token, nothing, ◌<$>◌, ◌>>=◌, ◌>>◌, either, optional, each, beside, opening}
+
+-- ---- tokens
+
+abbrev pub span_of : Token → Span
+span_of t = record { start = t.start; end = t.end }
+
+-- the text of a token, and where it stands
+abbrev pub spelling_of : List ℕ → Lexeme → Spelling
+spelling_of text t = record { text = utf8_lossy (spelled text t.token); span = span_of t.token }
+
+abbrev pub value_of : TokenKind → ℕ
+value_of (kind.Int v) = v
+value_of _ = 0
+
+abbrev pub integer_of : Bool → Lexeme → Integer
+integer_of is_negative t = record { is_negative = is_negative; value = value_of t.token.kind; span = span_of t.token }
+
+unfoldable pub spelling : List ℕ → Sort → Piece Spelling
+spelling text s = spelling_of text <$> token s
+
+-- what was found, and the parenthesis that closes it
+unfoldable pub closing : {A : Type 0} → A → Piece A
+closing x = (λ t. x) <$> token (sort.Sign sign.Close)
+
+-- a piece and the parenthesis that closes it
+abbrev pub closed : {A : Type 0} → Piece A → Piece A
+closed p = p >>= closing
+
+-- ---- columns
+
+unfoldable pub qualifier : List ℕ → Piece Spelling
+qualifier text = token (sort.Sign sign.Dot) >> spelling text sort.Name
+
+abbrev pub column_of : Spelling → Option Spelling → Column
+column_of first None = record { table = None; name = first }
+column_of first (Some name) = record { table = Some first; name = name }
+
+-- what may stand behind a column's name
+unfoldable pub qualified : List ℕ → Spelling → Piece Column
+qualified text first = column_of first <$> optional part.Qualifier (qualifier text)
+
+unfoldable pub column : List ℕ → Piece Column
+column text = spelling text sort.Name >>= qualified text
+
+-- [ASC | DESC]: whether it descends
+unfoldable pub direction : Piece Bool
+direction =
+    either (part.Token (sort.Word word.Asc)) ((λ t. false) <$> token (sort.Word word.Asc))
+    (either (part.Token (sort.Word word.Desc)) ((λ t. true) <$> token (sort.Word word.Desc)) (nothing false))
+
+-- ---- what operators make
+
+abbrev pub chained : Expr → List Link → Expr
+chained x [] = x
+chained x (l ∷ ls) = e.Chain x (l ∷ ls)
+
+abbrev pub all_of : Expr → List Expr → Expr
+all_of x [] = x
+all_of x (y ∷ ys) = e.And x (y ∷ ys)
+
+abbrev pub some_of : Expr → List Expr → Expr
+some_of x [] = x
+some_of x (y ∷ ys) = e.Or x (y ∷ ys)
+
+-- with NOT or without
+abbrev pub denied : Bool → Expr → Expr
+denied true x = e.Not x
+denied false x = x
+
+-- what is asked of an operand
+abbrev pub test_of : Expr → Asked → Expr
+test_of x asked.Nothing = x
+test_of x (asked.Compared c y) = e.Compare x c y
+test_of x asked.IsNull = e.IsNull x
+test_of x (asked.Like pattern) = e.Like x pattern
+test_of x (asked.Between low high) = e.Between x low high
+test_of x (asked.In ys) = e.In x ys
+
+-- the same, with NOT or without
+abbrev pub tested : Expr → Bool × Asked → Expr
+tested x question = denied question.0 (test_of x question.1)
+
+-- ---- operators
+
+unfoldable pub term_sign : Piece Operator
+term_sign = either (part.Token (sort.Sign sign.Star)) ((λ t. operator.Times) <$> token (sort.Sign sign.Star)) ((λ t. operator.Concat) <$> token (sort.Sign sign.Concat))
+
+unfoldable pub sum_sign : Piece Operator
+sum_sign = either (part.Token (sort.Sign sign.Plus)) ((λ t. operator.Plus) <$> token (sort.Sign sign.Plus)) ((λ t. operator.Minus) <$> token (sort.Sign sign.Minus))
+
+abbrev compares : Comparison → Sign → Piece Comparison
+compares c s = (λ t. c) <$> token (sort.Sign s)
+
+unfoldable pub comparison : Piece Comparison
+comparison =
+    either (part.Token (sort.Sign sign.Equal)) (compares how.Equal sign.Equal)
+    (either (part.Token (sort.Sign sign.LessGreater)) (compares how.NotEqual sign.LessGreater)
+    (either (part.Token (sort.Sign sign.BangEqual)) (compares how.NotEqual sign.BangEqual)
+    (either (part.Token (sort.Sign sign.Less)) (compares how.Less sign.Less)
+    (either (part.Token (sort.Sign sign.LessEqual)) (compares how.AtMost sign.LessEqual)
+    (either (part.Token (sort.Sign sign.Greater)) (compares how.Greater sign.Greater)
+    (compares how.AtLeast sign.GreaterEqual))))))
+
+unfoldable pub maybe_not : Piece Bool
+maybe_not = either (part.Token (sort.Word word.Not)) ((λ t. true) <$> token (sort.Word word.Not)) (nothing false)
+
+-- IS [NOT] NULL: whether with NOT
+unfoldable pub null_words : Piece Bool
+null_words = token (sort.Word word.Is) >> (maybe_not >>= (λ is_not. (λ t. is_not) <$> token (sort.Word word.Null)))
+
+-- ---- what stands inside an opening, over the expressions there
+
+unfoldable pub list_more : Piece Expr → Piece Expr
+list_more p = token (sort.Sign sign.Comma) >> p
+
+unfoldable pub list : Piece Expr → Piece (List Expr)
+list p = p >>= (λ first. (λ all. all.0 ∷ all.1) <$> beside first (each part.ListMore (list_more p)))
+
+unfoldable pub arm_of : Expr × Expr → Arm
+arm_of ends = roll-Arm (record { condition = ends.0; value = ends.1 })
+
+unfoldable pub then_value : Piece Expr → Piece Expr
+then_value p = token (sort.Word word.Then) >> p
+
+unfoldable pub when : Piece Expr → Piece Arm
+when p = token (sort.Word word.When) >> (p >>= (λ condition. arm_of <$> beside condition (then_value p)))
+
+unfoldable pub case_operand : Piece Expr → Piece (Option Expr)
+case_operand p = optional part.Expression p
+
+unfoldable pub case_else : Piece Expr → Piece (Option Expr)
+case_else p = optional part.Else (token (sort.Word word.Else) >> p)
+
+-- [ELSE expr] END
+unfoldable pub case_end : Piece Expr → Piece (Option Expr)
+case_end p = case_else p >>= (λ otherwise. (λ both. both.0) <$> beside otherwise (token (sort.Word word.End)))
+
+-- the arms, and what ends them
+unfoldable pub case_arms : Piece Expr → Piece (List Arm × Option Expr)
+case_arms p = when p >>= (λ arm. beside arm (each part.When (when p)) >>= (λ all. beside (all.0 ∷ all.1) (case_end p)))
+
+unfoldable pub case_of : Option Expr × (List Arm × Option Expr) → Expr
+case_of parts = e.Case parts.0 parts.1.0 parts.1.1
+
+unfoldable pub in_case : Piece Expr → Piece Expr
+in_case p = case_operand p >>= (λ operand. case_of <$> beside operand (case_arms p))
+
+unfoldable pub argument_list : Piece Expr → Spelling → Piece Expr
+argument_list p name =
+    either (part.Token (sort.Sign sign.Star)) ((λ t. e.CallStar name) <$> token (sort.Sign sign.Star))
+    (either part.List (e.Call name <$> list p) (nothing (e.Call name [])))
+
+-- ---- expressions
+
+-- what stands one opening deeper
+pub record Inner : Type 0 where
+  pub expression : Piece Expr
+  pub negated : Piece Expr
+  pub signed : Piece Expr
+
+-- the text, and how many openings are left
+module _ (text : List ℕ) (left : ℕ) (inner : Inner) where
+  unfoldable pub parenthesis : Piece Expr
+  parenthesis = opening left (sort.Sign sign.Open) (closed inner.expression)
+
+  unfoldable pub arguments : Spelling → Piece Expr
+  arguments name = opening left (sort.Sign sign.Open) (closed (argument_list inner.expression name))
+
+  unfoldable pub members : Piece (List Expr)
+  members = opening left (sort.Sign sign.Open) (closed (list inner.expression))
+
+  unfoldable pub case : Piece Expr
+  case = opening left (sort.Word word.Case) (in_case inner.expression)
+
+  unfoldable pub negation : Piece Expr
+  negation = e.Not <$> opening left (sort.Word word.Not) inner.negated
+
+  unfoldable pub opposite : Piece Expr
+  opposite = opening left (sort.Sign sign.Minus) inner.signed
+
+  unfoldable pub after_name : Spelling → Piece Expr
+  after_name name = either part.Arguments (arguments name) (e.Column <$> qualified text name)
+
+  unfoldable pub named : Piece Expr
+  named = spelling text sort.Name >>= after_name
+
+  unfoldable pub if_call : Piece Expr
+  if_call = spelling text (sort.Word word.If) >>= arguments
+
+  -- CASE and what begins with a name, IF or a parenthesis
+  unfoldable pub compound : Piece Expr
+  compound = either part.Named named (either part.IfCall if_call (either part.Case case parenthesis))
+
+  unfoldable pub word_literal : Piece Expr
+  word_literal =
+      either (part.Token (sort.Word word.True)) ((λ t. e.Truth true (span_of t.token)) <$> token (sort.Word word.True))
+      (either (part.Token (sort.Word word.False)) ((λ t. e.Truth false (span_of t.token)) <$> token (sort.Word word.False))
+      (either (part.Token (sort.Word word.Null)) ((λ t. e.Null (span_of t.token)) <$> token (sort.Word word.Null))
+      (either (part.Token sort.Parameter) (e.Parameter <$> spelling text sort.Parameter) compound)))
+
+  -- prim, but no integer
+  unfoldable pub other_primary : Piece Expr
+  other_primary =
+      either (part.Token sort.Str) (e.Str <$> spelling text sort.Str)
+      (either (part.Token sort.Bytes) (e.Bytes <$> spelling text sort.Bytes) word_literal)
+
+  unfoldable pub primary : Piece Expr
+  primary = either (part.Token sort.Int) ((λ t. e.Integer (integer_of false t)) <$> token sort.Int) other_primary
+
+  unfoldable pub unary : Piece Expr
+  unary = either part.Opposite opposite primary
+
+  unfoldable pub other_unary : Piece Expr
+  other_unary = either part.Opposite opposite other_primary
+
+  -- behind a minus: the minus directly before an integer belongs to it
+  unfoldable pub signed : Piece Expr
+  signed = either (part.Token sort.Int) ((λ t. e.Integer (integer_of true t)) <$> token sort.Int) (e.Negative <$> other_unary)
+
+  unfoldable pub term_more : Piece Link
+  term_more = term_sign >>= (λ o. (λ x. roll-Link (record { operator = o; operand = x })) <$> unary)
+
+  unfoldable pub term : Piece Expr
+  term = unary >>= (λ first. (λ all. chained all.0 all.1) <$> beside first (each part.TermMore term_more))
+
+  unfoldable pub sum_more : Piece Link
+  sum_more = sum_sign >>= (λ o. (λ x. roll-Link (record { operator = o; operand = x })) <$> term)
+
+  unfoldable pub sum : Piece Expr
+  sum = term >>= (λ first. (λ all. chained all.0 all.1) <$> beside first (each part.SumMore sum_more))
+
+  -- what is asked of an operand, and whether with NOT
+
+  unfoldable pub compared : Piece (Bool × Asked)
+  compared = comparison >>= (λ c. (λ x. (false, asked.Compared c x)) <$> sum)
+
+  unfoldable pub is_null : Piece (Bool × Asked)
+  is_null = (λ is_not. (is_not, asked.IsNull)) <$> null_words
+
+  unfoldable pub like : Piece Asked
+  like = token (sort.Word word.Like) >> (asked.Like <$> spelling text sort.Str)
+
+  -- AND sum, behind the low end of a BETWEEN
+  unfoldable pub high_end : Piece Expr
+  high_end = token (sort.Word word.And) >> sum
+
+  unfoldable pub between : Piece Asked
+  between = token (sort.Word word.Between) >> (sum >>= (λ low. (λ ends. asked.Between ends.0 ends.1) <$> beside low high_end))
+
+  unfoldable pub within : Piece Asked
+  within = token (sort.Word word.In) >> (asked.In <$> members)
+
+  unfoldable pub test : Piece Asked
+  test = either part.Like like (either part.Between between within)
+
+  unfoldable pub maybe_not_test : Piece (Bool × Asked)
+  maybe_not_test = maybe_not >>= (λ is_not. (λ question. (is_not, question)) <$> test)
+
+  unfoldable pub predicate_rest : Piece (Bool × Asked)
+  predicate_rest = either part.Compared compared (either part.IsNull is_null (either part.MaybeNotTest maybe_not_test (nothing (false, asked.Nothing))))
+
+  unfoldable pub predicate : Piece Expr
+  predicate = sum >>= (λ x. (λ both. tested both.0 both.1) <$> beside x predicate_rest)
+
+  unfoldable pub negated : Piece Expr
+  negated = either part.Negation negation predicate
+
+  unfoldable pub conjunction_more : Piece Expr
+  conjunction_more = token (sort.Word word.And) >> negated
+
+  unfoldable pub conjunction : Piece Expr
+  conjunction = negated >>= (λ first. (λ all. all_of all.0 all.1) <$> beside first (each part.ConjunctionMore conjunction_more))
+
+  unfoldable pub expression_more : Piece Expr
+  expression_more = token (sort.Word word.Or) >> conjunction
+
+  unfoldable pub expression : Piece Expr
+  expression = conjunction >>= (λ first. (λ all. some_of all.0 all.1) <$> beside first (each part.ExpressionMore expression_more))
+
+-- nothing is read where no opening is left
+abbrev pub shut : Piece Expr
+shut = record { of = λ x. e.Null (record { start = 0; end = 0 }); read = λ ts. Err (fault.TooDeep 0) }
+
+-- behind an opening, of which so many are left
+unfoldable pub behind : List ℕ → ℕ → Inner
+behind text zero = record { expression = shut; negated = shut; signed = shut }
+behind text (suc n) = record {
+  expression = expression text n (behind text n);
+  negated = negated text n (behind text n);
+  signed = signed text n (behind text n);
+}

@@ -1,0 +1,617 @@
+//! Expressions, read from tokens: a function for each rule.
+//!
+//! The functions stand at a number of openings left, and take what reads behind one: so a single function recurses, and no deeper
+//! than openings may be nested.
+ghost use Rattle.std.specs.Prelude.{◌≡◌, ◌<◌, ◌≤◌, ◌-◌};
+ghost use Rattle.span_grammar.specs.Rules.{limit};
+ghost use Rattle.span_syntax.specs.Pieces.{Gives, each};
+ghost use Rattle.span_syntax.specs.Expressions as spec;
+ghost use Rattle.span_syntax.specs.Nests.{Nests, at};
+
+use super::column::qualified;
+use super::fault::Fault;
+use super::operator::{
+    Asked, all_of, chained, comparison, maybe_not, null_words, some_of, sum_sign, term_sign, tested,
+};
+use super::reader::{Level, Reader};
+use super::token::{beside, closed, enter, integer_of, next_is, span_of, spelling, take};
+use super::tree::{Expr, Link, Spelling};
+use span_grammar::class::{Lexeme, Sort};
+use span_grammar::grammar::Part;
+use span_grammar::reader::goes_on;
+use span_lexer::token::{Sign, Word};
+use sqlite_items::{Boxed, Items};
+use std::alloc::Global;
+
+impl<
+    F: for<'a> Fn(Global, &[u8], usize, Level, &'a [Lexeme]) -> Result<(Expr, &'a [Lexeme]), Fault>,
+> Reader<'_, F> {
+    /// `"(" expr ")"`
+    #[tactic(auto, unfolding(crate::specs::Expressions::parenthesis))]
+    fn parenthesis<'a>(&self, tokens: &'a [Lexeme]) -> Result<(Expr, &'a [Lexeme]), Fault>
+        requires nests { Nests self.now.text.now self.now.left (F.pre self.now.read) (F.post self.now.read) }
+        requires limited { self.now.left ≤ limit }
+        ensures { Gives result ((spec.parenthesis self.now.text.now self.now.left (spec.behind self.now.text.now self.now.left)).read tokens.now) }
+    {
+        let (_, rest) = enter(self.left, Sort::Sign(Sign::Open), tokens)?;
+        let (inner, rest) = self.behind(Level::Expression, rest)?;
+        closed(inner, rest)
+    }
+
+    /// A call, behind its name.
+    #[tactic(auto, unfolding(crate::specs::Expressions::arguments))]
+    fn arguments<'a>(
+        &self,
+        name: Spelling,
+        tokens: &'a [Lexeme],
+    ) -> Result<(Expr, &'a [Lexeme]), Fault>
+        requires nests { Nests self.now.text.now self.now.left (F.pre self.now.read) (F.post self.now.read) }
+        requires limited { self.now.left ≤ limit }
+        ensures { Gives result ((spec.arguments self.now.text.now self.now.left (spec.behind self.now.text.now self.now.left) name).read tokens.now) }
+    {
+        let (_, rest) = enter(self.left, Sort::Sign(Sign::Open), tokens)?;
+        let (call, rest) = self.argument_list(name, rest)?;
+        closed(call, rest)
+    }
+
+    /// `"(" expr {"," expr} ")"`
+    #[tactic(auto, unfolding(crate::specs::Expressions::members))]
+    fn members<'a>(&self, tokens: &'a [Lexeme]) -> Result<(Items<Expr>, &'a [Lexeme]), Fault>
+        requires nests { Nests self.now.text.now self.now.left (F.pre self.now.read) (F.post self.now.read) }
+        requires limited { self.now.left ≤ limit }
+        ensures { Gives result ((spec.members self.now.text.now self.now.left (spec.behind self.now.text.now self.now.left)).read tokens.now) }
+    {
+        let (_, rest) = enter(self.left, Sort::Sign(Sign::Open), tokens)?;
+        let (found, rest) = self.list(rest)?;
+        closed(found, rest)
+    }
+
+    /// A CASE.
+    #[tactic(auto, unfolding(crate::specs::Expressions::case))]
+    fn case<'a>(&self, tokens: &'a [Lexeme]) -> Result<(Expr, &'a [Lexeme]), Fault>
+        requires nests { Nests self.now.text.now self.now.left (F.pre self.now.read) (F.post self.now.read) }
+        requires limited { self.now.left ≤ limit }
+        ensures { Gives result ((spec.case self.now.text.now self.now.left (spec.behind self.now.text.now self.now.left)).read tokens.now) }
+    {
+        let (_, rest) = enter(self.left, Sort::Word(Word::Case), tokens)?;
+        self.in_case(rest)
+    }
+
+    /// `NOT neg`
+    #[tactic(auto, unfolding(crate::specs::Expressions::negation))]
+    fn negation<'a>(&self, tokens: &'a [Lexeme]) -> Result<(Expr, &'a [Lexeme]), Fault>
+        requires nests { Nests self.now.text.now self.now.left (F.pre self.now.read) (F.post self.now.read) }
+        requires limited { self.now.left ≤ limit }
+        ensures { Gives result ((spec.negation self.now.text.now self.now.left (spec.behind self.now.text.now self.now.left)).read tokens.now) }
+    {
+        let (_, rest) = enter(self.left, Sort::Word(Word::Not), tokens)?;
+        let (operand, rest) = self.behind(Level::Negated, rest)?;
+        Ok((Expr::Not(Boxed::new(self.alloc, operand)?), rest))
+    }
+
+    /// `"-" unary`
+    #[tactic(auto, unfolding(crate::specs::Expressions::opposite))]
+    fn opposite<'a>(&self, tokens: &'a [Lexeme]) -> Result<(Expr, &'a [Lexeme]), Fault>
+        requires nests { Nests self.now.text.now self.now.left (F.pre self.now.read) (F.post self.now.read) }
+        requires limited { self.now.left ≤ limit }
+        ensures { Gives result ((spec.opposite self.now.text.now self.now.left (spec.behind self.now.text.now self.now.left)).read tokens.now) }
+    {
+        let (_, rest) = enter(self.left, Sort::Sign(Sign::Minus), tokens)?;
+        self.behind(Level::Signed, rest)
+    }
+
+    /// A call or a column, behind its name.
+    #[tactic(auto, unfolding(crate::specs::Expressions::after_name))]
+    fn after_name<'a>(
+        &self,
+        name: Spelling,
+        tokens: &'a [Lexeme],
+    ) -> Result<(Expr, &'a [Lexeme]), Fault>
+        requires nests { Nests self.now.text.now self.now.left (F.pre self.now.read) (F.post self.now.read) }
+        requires limited { self.now.left ≤ limit }
+        ensures { Gives result ((spec.after_name self.now.text.now self.now.left (spec.behind self.now.text.now self.now.left) name).read tokens.now) }
+    {
+        if goes_on(Part::Arguments, tokens) {
+            return self.arguments(name, tokens);
+        }
+        let (column, rest) = qualified(self.alloc, self.text, name, tokens)?;
+        Ok((Expr::Column(column), rest))
+    }
+
+    /// A call or a column.
+    #[tactic(auto, unfolding(crate::specs::Expressions::named))]
+    fn named<'a>(&self, tokens: &'a [Lexeme]) -> Result<(Expr, &'a [Lexeme]), Fault>
+        requires nests { Nests self.now.text.now self.now.left (F.pre self.now.read) (F.post self.now.read) }
+        requires limited { self.now.left ≤ limit }
+        ensures { Gives result ((spec.named self.now.text.now self.now.left (spec.behind self.now.text.now self.now.left)).read tokens.now) }
+    {
+        let (name, rest) = spelling(self.alloc, self.text, Sort::Name, tokens)?;
+        self.after_name(name, rest)
+    }
+
+    /// A call of IF.
+    #[tactic(auto, unfolding(crate::specs::Expressions::if_call))]
+    fn if_call<'a>(&self, tokens: &'a [Lexeme]) -> Result<(Expr, &'a [Lexeme]), Fault>
+        requires nests { Nests self.now.text.now self.now.left (F.pre self.now.read) (F.post self.now.read) }
+        requires limited { self.now.left ≤ limit }
+        ensures { Gives result ((spec.if_call self.now.text.now self.now.left (spec.behind self.now.text.now self.now.left)).read tokens.now) }
+    {
+        let (name, rest) = spelling(self.alloc, self.text, Sort::Word(Word::If), tokens)?;
+        self.arguments(name, rest)
+    }
+
+    /// A call, a column, a CASE or an expression in parentheses.
+    #[tactic(auto, unfolding(crate::specs::Expressions::compound))]
+    fn compound<'a>(&self, tokens: &'a [Lexeme]) -> Result<(Expr, &'a [Lexeme]), Fault>
+        requires nests { Nests self.now.text.now self.now.left (F.pre self.now.read) (F.post self.now.read) }
+        requires limited { self.now.left ≤ limit }
+        ensures { Gives result ((spec.compound self.now.text.now self.now.left (spec.behind self.now.text.now self.now.left)).read tokens.now) }
+    {
+        if goes_on(Part::Named, tokens) {
+            return self.named(tokens);
+        }
+        if goes_on(Part::IfCall, tokens) {
+            return self.if_call(tokens);
+        }
+        if goes_on(Part::Case, tokens) {
+            return self.case(tokens);
+        }
+        self.parenthesis(tokens)
+    }
+
+    /// TRUE, FALSE, NULL, a parameter, or what has other parts.
+    #[tactic(auto, unfolding(crate::specs::Expressions::word_literal))]
+    fn word_literal<'a>(&self, tokens: &'a [Lexeme]) -> Result<(Expr, &'a [Lexeme]), Fault>
+        requires nests { Nests self.now.text.now self.now.left (F.pre self.now.read) (F.post self.now.read) }
+        requires limited { self.now.left ≤ limit }
+        ensures { Gives result ((spec.word_literal self.now.text.now self.now.left (spec.behind self.now.text.now self.now.left)).read tokens.now) }
+    {
+        if next_is(Sort::Word(Word::True), tokens) {
+            let (found, rest) = take(Sort::Word(Word::True), tokens)?;
+            return Ok((Expr::Truth(true, span_of(&found.token)), rest));
+        }
+        if next_is(Sort::Word(Word::False), tokens) {
+            let (found, rest) = take(Sort::Word(Word::False), tokens)?;
+            return Ok((Expr::Truth(false, span_of(&found.token)), rest));
+        }
+        if next_is(Sort::Word(Word::Null), tokens) {
+            let (found, rest) = take(Sort::Word(Word::Null), tokens)?;
+            return Ok((Expr::Null(span_of(&found.token)), rest));
+        }
+        if next_is(Sort::Parameter, tokens) {
+            let (name, rest) = spelling(self.alloc, self.text, Sort::Parameter, tokens)?;
+            return Ok((Expr::Parameter(name), rest));
+        }
+        self.compound(tokens)
+    }
+
+    /// `prim`, but no integer.
+    #[tactic(auto, unfolding(crate::specs::Expressions::other_primary))]
+    fn other_primary<'a>(&self, tokens: &'a [Lexeme]) -> Result<(Expr, &'a [Lexeme]), Fault>
+        requires nests { Nests self.now.text.now self.now.left (F.pre self.now.read) (F.post self.now.read) }
+        requires limited { self.now.left ≤ limit }
+        ensures { Gives result ((spec.other_primary self.now.text.now self.now.left (spec.behind self.now.text.now self.now.left)).read tokens.now) }
+    {
+        if next_is(Sort::Str, tokens) {
+            let (literal, rest) = spelling(self.alloc, self.text, Sort::Str, tokens)?;
+            return Ok((Expr::Str(literal), rest));
+        }
+        if next_is(Sort::Bytes, tokens) {
+            let (literal, rest) = spelling(self.alloc, self.text, Sort::Bytes, tokens)?;
+            return Ok((Expr::Bytes(literal), rest));
+        }
+        self.word_literal(tokens)
+    }
+
+    /// `prim`
+    #[tactic(auto, unfolding(crate::specs::Expressions::primary))]
+    fn primary<'a>(&self, tokens: &'a [Lexeme]) -> Result<(Expr, &'a [Lexeme]), Fault>
+        requires nests { Nests self.now.text.now self.now.left (F.pre self.now.read) (F.post self.now.read) }
+        requires limited { self.now.left ≤ limit }
+        ensures { Gives result ((spec.primary self.now.text.now self.now.left (spec.behind self.now.text.now self.now.left)).read tokens.now) }
+    {
+        if next_is(Sort::Int, tokens) {
+            let (found, rest) = take(Sort::Int, tokens)?;
+            return Ok((Expr::Integer(integer_of(false, found)), rest));
+        }
+        self.other_primary(tokens)
+    }
+
+    /// `unary`
+    #[tactic(auto, unfolding(crate::specs::Expressions::unary))]
+    fn unary<'a>(&self, tokens: &'a [Lexeme]) -> Result<(Expr, &'a [Lexeme]), Fault>
+        requires nests { Nests self.now.text.now self.now.left (F.pre self.now.read) (F.post self.now.read) }
+        requires limited { self.now.left ≤ limit }
+        ensures { Gives result ((spec.unary self.now.text.now self.now.left (spec.behind self.now.text.now self.now.left)).read tokens.now) }
+    {
+        if goes_on(Part::Opposite, tokens) {
+            return self.opposite(tokens);
+        }
+        self.primary(tokens)
+    }
+
+    /// `unary`, but no integer.
+    #[tactic(auto, unfolding(crate::specs::Expressions::other_unary))]
+    fn other_unary<'a>(&self, tokens: &'a [Lexeme]) -> Result<(Expr, &'a [Lexeme]), Fault>
+        requires nests { Nests self.now.text.now self.now.left (F.pre self.now.read) (F.post self.now.read) }
+        requires limited { self.now.left ≤ limit }
+        ensures { Gives result ((spec.other_unary self.now.text.now self.now.left (spec.behind self.now.text.now self.now.left)).read tokens.now) }
+    {
+        if goes_on(Part::Opposite, tokens) {
+            return self.opposite(tokens);
+        }
+        self.other_primary(tokens)
+    }
+
+    /// What stands behind a minus. One directly before an integer belongs to it.
+    #[tactic(auto, unfolding(crate::specs::Expressions::signed))]
+    fn signed<'a>(&self, tokens: &'a [Lexeme]) -> Result<(Expr, &'a [Lexeme]), Fault>
+        requires nests { Nests self.now.text.now self.now.left (F.pre self.now.read) (F.post self.now.read) }
+        requires limited { self.now.left ≤ limit }
+        ensures { Gives result ((spec.signed self.now.text.now self.now.left (spec.behind self.now.text.now self.now.left)).read tokens.now) }
+    {
+        if next_is(Sort::Int, tokens) {
+            let (found, rest) = take(Sort::Int, tokens)?;
+            return Ok((Expr::Integer(integer_of(true, found)), rest));
+        }
+        let (operand, rest) = self.other_unary(tokens)?;
+        Ok((Expr::Negative(Boxed::new(self.alloc, operand)?), rest))
+    }
+
+    /// An operator and the operand behind it.
+    #[tactic(auto, unfolding(crate::specs::Expressions::term_more))]
+    fn term_more<'a>(&self, tokens: &'a [Lexeme]) -> Result<(Link, &'a [Lexeme]), Fault>
+        requires nests { Nests self.now.text.now self.now.left (F.pre self.now.read) (F.post self.now.read) }
+        requires limited { self.now.left ≤ limit }
+        ensures { Gives result ((spec.term_more self.now.text.now self.now.left (spec.behind self.now.text.now self.now.left)).read tokens.now) }
+    {
+        let (operator, rest) = term_sign(tokens)?;
+        let (operand, rest) = self.unary(rest)?;
+        Ok((Link { operator, operand }, rest))
+    }
+
+    /// The operators with their operands.
+    #[tactic(auto, using(crate::proofs::Shrinking::loop_steps))]
+    fn term_rest<'a>(&self, tokens: &'a [Lexeme]) -> Result<(Items<Link>, &'a [Lexeme]), Fault>
+        requires nests { Nests self.now.text.now self.now.left (F.pre self.now.read) (F.post self.now.read) }
+        requires limited { self.now.left ≤ limit }
+        ensures { Gives result ((each Part.TermMore (spec.term_more self.now.text.now self.now.left (spec.behind self.now.text.now self.now.left))).read tokens.now) }
+    {
+        let mut found = Items::new(self.alloc);
+        let mut rest = tokens;
+        while goes_on(Part::TermMore, rest) {
+            let (next, behind) = self.term_more(rest)?;
+            found.push(next)?;
+            rest = behind;
+        }
+        Ok((found, rest))
+    }
+
+    /// `term`
+    #[tactic(auto, unfolding(crate::specs::Expressions::term))]
+    fn term<'a>(&self, tokens: &'a [Lexeme]) -> Result<(Expr, &'a [Lexeme]), Fault>
+        requires nests { Nests self.now.text.now self.now.left (F.pre self.now.read) (F.post self.now.read) }
+        requires limited { self.now.left ≤ limit }
+        ensures { Gives result ((spec.term self.now.text.now self.now.left (spec.behind self.now.text.now self.now.left)).read tokens.now) }
+    {
+        let (first, rest) = self.unary(tokens)?;
+        let ((first, more), rest) = beside(first, self.term_rest(rest))?;
+        Ok((chained(self.alloc, first, more)?, rest))
+    }
+
+    /// An operator and the operand behind it.
+    #[tactic(auto, unfolding(crate::specs::Expressions::sum_more))]
+    fn sum_more<'a>(&self, tokens: &'a [Lexeme]) -> Result<(Link, &'a [Lexeme]), Fault>
+        requires nests { Nests self.now.text.now self.now.left (F.pre self.now.read) (F.post self.now.read) }
+        requires limited { self.now.left ≤ limit }
+        ensures { Gives result ((spec.sum_more self.now.text.now self.now.left (spec.behind self.now.text.now self.now.left)).read tokens.now) }
+    {
+        let (operator, rest) = sum_sign(tokens)?;
+        let (operand, rest) = self.term(rest)?;
+        Ok((Link { operator, operand }, rest))
+    }
+
+    /// The operators with their operands.
+    #[tactic(auto, using(crate::proofs::Shrinking::loop_steps))]
+    fn sum_rest<'a>(&self, tokens: &'a [Lexeme]) -> Result<(Items<Link>, &'a [Lexeme]), Fault>
+        requires nests { Nests self.now.text.now self.now.left (F.pre self.now.read) (F.post self.now.read) }
+        requires limited { self.now.left ≤ limit }
+        ensures { Gives result ((each Part.SumMore (spec.sum_more self.now.text.now self.now.left (spec.behind self.now.text.now self.now.left))).read tokens.now) }
+    {
+        let mut found = Items::new(self.alloc);
+        let mut rest = tokens;
+        while goes_on(Part::SumMore, rest) {
+            let (next, behind) = self.sum_more(rest)?;
+            found.push(next)?;
+            rest = behind;
+        }
+        Ok((found, rest))
+    }
+
+    /// `sum`
+    #[tactic(auto, unfolding(crate::specs::Expressions::sum))]
+    fn sum<'a>(&self, tokens: &'a [Lexeme]) -> Result<(Expr, &'a [Lexeme]), Fault>
+        requires nests { Nests self.now.text.now self.now.left (F.pre self.now.read) (F.post self.now.read) }
+        requires limited { self.now.left ≤ limit }
+        ensures { Gives result ((spec.sum self.now.text.now self.now.left (spec.behind self.now.text.now self.now.left)).read tokens.now) }
+    {
+        let (first, rest) = self.term(tokens)?;
+        let ((first, more), rest) = beside(first, self.sum_rest(rest))?;
+        Ok((chained(self.alloc, first, more)?, rest))
+    }
+
+    /// A comparison with an operand.
+    #[tactic(auto, unfolding(crate::specs::Expressions::compared))]
+    fn compared<'a>(&self, tokens: &'a [Lexeme]) -> Result<((bool, Asked), &'a [Lexeme]), Fault>
+        requires nests { Nests self.now.text.now self.now.left (F.pre self.now.read) (F.post self.now.read) }
+        requires limited { self.now.left ≤ limit }
+        ensures { Gives result ((spec.compared self.now.text.now self.now.left (spec.behind self.now.text.now self.now.left)).read tokens.now) }
+    {
+        let (how, rest) = comparison(tokens)?;
+        let (second, rest) = self.sum(rest)?;
+        Ok(((false, Asked::Compared(how, second)), rest))
+    }
+
+    /// `IS [NOT] NULL`
+    #[tactic(auto, unfolding(crate::specs::Expressions::is_null))]
+    fn is_null<'a>(&self, tokens: &'a [Lexeme]) -> Result<((bool, Asked), &'a [Lexeme]), Fault>
+        requires nests { Nests self.now.text.now self.now.left (F.pre self.now.read) (F.post self.now.read) }
+        requires limited { self.now.left ≤ limit }
+        ensures { Gives result ((spec.is_null self.now.text.now self.now.left (spec.behind self.now.text.now self.now.left)).read tokens.now) }
+    {
+        let (is_not, rest) = null_words(tokens)?;
+        Ok(((is_not, Asked::IsNull), rest))
+    }
+
+    /// `LIKE string`
+    #[tactic(auto, unfolding(crate::specs::Expressions::like))]
+    fn like<'a>(&self, tokens: &'a [Lexeme]) -> Result<(Asked, &'a [Lexeme]), Fault>
+        requires nests { Nests self.now.text.now self.now.left (F.pre self.now.read) (F.post self.now.read) }
+        requires limited { self.now.left ≤ limit }
+        ensures { Gives result ((spec.like self.now.text.now self.now.left (spec.behind self.now.text.now self.now.left)).read tokens.now) }
+    {
+        let (_, rest) = take(Sort::Word(Word::Like), tokens)?;
+        let (pattern, rest) = spelling(self.alloc, self.text, Sort::Str, rest)?;
+        Ok((Asked::Like(pattern), rest))
+    }
+
+    /// `AND sum`, behind the low end of a BETWEEN.
+    #[tactic(auto, unfolding(crate::specs::Expressions::high_end))]
+    fn high_end<'a>(&self, tokens: &'a [Lexeme]) -> Result<(Expr, &'a [Lexeme]), Fault>
+        requires nests { Nests self.now.text.now self.now.left (F.pre self.now.read) (F.post self.now.read) }
+        requires limited { self.now.left ≤ limit }
+        ensures { Gives result ((spec.high_end self.now.text.now self.now.left (spec.behind self.now.text.now self.now.left)).read tokens.now) }
+    {
+        let (_, rest) = take(Sort::Word(Word::And), tokens)?;
+        self.sum(rest)
+    }
+
+    /// `BETWEEN sum AND sum`
+    #[tactic(auto, unfolding(crate::specs::Expressions::between))]
+    fn between<'a>(&self, tokens: &'a [Lexeme]) -> Result<(Asked, &'a [Lexeme]), Fault>
+        requires nests { Nests self.now.text.now self.now.left (F.pre self.now.read) (F.post self.now.read) }
+        requires limited { self.now.left ≤ limit }
+        ensures { Gives result ((spec.between self.now.text.now self.now.left (spec.behind self.now.text.now self.now.left)).read tokens.now) }
+    {
+        let (_, rest) = take(Sort::Word(Word::Between), tokens)?;
+        let (low, rest) = self.sum(rest)?;
+        let ((low, high), rest) = beside(low, self.high_end(rest))?;
+        Ok((Asked::Between(low, high), rest))
+    }
+
+    /// `IN "(" expr {"," expr} ")"`
+    #[tactic(auto, unfolding(crate::specs::Expressions::within))]
+    fn within<'a>(&self, tokens: &'a [Lexeme]) -> Result<(Asked, &'a [Lexeme]), Fault>
+        requires nests { Nests self.now.text.now self.now.left (F.pre self.now.read) (F.post self.now.read) }
+        requires limited { self.now.left ≤ limit }
+        ensures { Gives result ((spec.within self.now.text.now self.now.left (spec.behind self.now.text.now self.now.left)).read tokens.now) }
+    {
+        let (_, rest) = take(Sort::Word(Word::In), tokens)?;
+        let (members, rest) = self.members(rest)?;
+        Ok((Asked::In(members), rest))
+    }
+
+    /// LIKE, BETWEEN or IN.
+    #[tactic(auto, unfolding(crate::specs::Expressions::test))]
+    fn test<'a>(&self, tokens: &'a [Lexeme]) -> Result<(Asked, &'a [Lexeme]), Fault>
+        requires nests { Nests self.now.text.now self.now.left (F.pre self.now.read) (F.post self.now.read) }
+        requires limited { self.now.left ≤ limit }
+        ensures { Gives result ((spec.test self.now.text.now self.now.left (spec.behind self.now.text.now self.now.left)).read tokens.now) }
+    {
+        if goes_on(Part::Like, tokens) {
+            return self.like(tokens);
+        }
+        if goes_on(Part::Between, tokens) {
+            return self.between(tokens);
+        }
+        self.within(tokens)
+    }
+
+    /// LIKE, BETWEEN or IN, with NOT or without.
+    #[tactic(auto, unfolding(crate::specs::Expressions::maybe_not_test))]
+    fn maybe_not_test<'a>(
+        &self,
+        tokens: &'a [Lexeme],
+    ) -> Result<((bool, Asked), &'a [Lexeme]), Fault>
+        requires nests { Nests self.now.text.now self.now.left (F.pre self.now.read) (F.post self.now.read) }
+        requires limited { self.now.left ≤ limit }
+        ensures { Gives result ((spec.maybe_not_test self.now.text.now self.now.left (spec.behind self.now.text.now self.now.left)).read tokens.now) }
+    {
+        let (is_not, rest) = maybe_not(tokens)?;
+        let (question, rest) = self.test(rest)?;
+        Ok(((is_not, question), rest))
+    }
+
+    /// What is asked of an operand, and whether with NOT.
+    #[tactic(auto, unfolding(crate::specs::Expressions::predicate_rest))]
+    fn predicate_rest<'a>(
+        &self,
+        tokens: &'a [Lexeme],
+    ) -> Result<((bool, Asked), &'a [Lexeme]), Fault>
+        requires nests { Nests self.now.text.now self.now.left (F.pre self.now.read) (F.post self.now.read) }
+        requires limited { self.now.left ≤ limit }
+        ensures { Gives result ((spec.predicate_rest self.now.text.now self.now.left (spec.behind self.now.text.now self.now.left)).read tokens.now) }
+    {
+        if goes_on(Part::Compared, tokens) {
+            return self.compared(tokens);
+        }
+        if goes_on(Part::IsNull, tokens) {
+            return self.is_null(tokens);
+        }
+        if goes_on(Part::MaybeNotTest, tokens) {
+            return self.maybe_not_test(tokens);
+        }
+        Ok(((false, Asked::Nothing), tokens))
+    }
+
+    /// `pred`
+    #[tactic(auto, unfolding(crate::specs::Expressions::predicate))]
+    fn predicate<'a>(&self, tokens: &'a [Lexeme]) -> Result<(Expr, &'a [Lexeme]), Fault>
+        requires nests { Nests self.now.text.now self.now.left (F.pre self.now.read) (F.post self.now.read) }
+        requires limited { self.now.left ≤ limit }
+        ensures { Gives result ((spec.predicate self.now.text.now self.now.left (spec.behind self.now.text.now self.now.left)).read tokens.now) }
+    {
+        let (first, rest) = self.sum(tokens)?;
+        let ((first, question), rest) = beside(first, self.predicate_rest(rest))?;
+        Ok((tested(self.alloc, first, question)?, rest))
+    }
+
+    /// `neg`
+    #[tactic(auto, unfolding(crate::specs::Expressions::negated))]
+    fn negated<'a>(&self, tokens: &'a [Lexeme]) -> Result<(Expr, &'a [Lexeme]), Fault>
+        requires nests { Nests self.now.text.now self.now.left (F.pre self.now.read) (F.post self.now.read) }
+        requires limited { self.now.left ≤ limit }
+        ensures { Gives result ((spec.negated self.now.text.now self.now.left (spec.behind self.now.text.now self.now.left)).read tokens.now) }
+    {
+        if goes_on(Part::Negation, tokens) {
+            return self.negation(tokens);
+        }
+        self.predicate(tokens)
+    }
+
+    /// AND and the operand behind it.
+    #[tactic(auto, unfolding(crate::specs::Expressions::conjunction_more))]
+    fn conjunction_more<'a>(&self, tokens: &'a [Lexeme]) -> Result<(Expr, &'a [Lexeme]), Fault>
+        requires nests { Nests self.now.text.now self.now.left (F.pre self.now.read) (F.post self.now.read) }
+        requires limited { self.now.left ≤ limit }
+        ensures { Gives result ((spec.conjunction_more self.now.text.now self.now.left (spec.behind self.now.text.now self.now.left)).read tokens.now) }
+    {
+        let (_, rest) = take(Sort::Word(Word::And), tokens)?;
+        self.negated(rest)
+    }
+
+    /// The other operands of AND.
+    #[tactic(auto, using(crate::proofs::Shrinking::loop_steps))]
+    fn conjunction_rest<'a>(
+        &self,
+        tokens: &'a [Lexeme],
+    ) -> Result<(Items<Expr>, &'a [Lexeme]), Fault>
+        requires nests { Nests self.now.text.now self.now.left (F.pre self.now.read) (F.post self.now.read) }
+        requires limited { self.now.left ≤ limit }
+        ensures { Gives result ((each Part.ConjunctionMore (spec.conjunction_more self.now.text.now self.now.left (spec.behind self.now.text.now self.now.left))).read tokens.now) }
+    {
+        let mut found = Items::new(self.alloc);
+        let mut rest = tokens;
+        while goes_on(Part::ConjunctionMore, rest) {
+            let (next, behind) = self.conjunction_more(rest)?;
+            found.push(next)?;
+            rest = behind;
+        }
+        Ok((found, rest))
+    }
+
+    /// `conj`
+    #[tactic(auto, unfolding(crate::specs::Expressions::conjunction))]
+    fn conjunction<'a>(&self, tokens: &'a [Lexeme]) -> Result<(Expr, &'a [Lexeme]), Fault>
+        requires nests { Nests self.now.text.now self.now.left (F.pre self.now.read) (F.post self.now.read) }
+        requires limited { self.now.left ≤ limit }
+        ensures { Gives result ((spec.conjunction self.now.text.now self.now.left (spec.behind self.now.text.now self.now.left)).read tokens.now) }
+    {
+        let (first, rest) = self.negated(tokens)?;
+        let ((first, more), rest) = beside(first, self.conjunction_rest(rest))?;
+        Ok((all_of(self.alloc, first, more)?, rest))
+    }
+
+    /// OR and the operand behind it.
+    #[tactic(auto, unfolding(crate::specs::Expressions::expression_more))]
+    fn expression_more<'a>(&self, tokens: &'a [Lexeme]) -> Result<(Expr, &'a [Lexeme]), Fault>
+        requires nests { Nests self.now.text.now self.now.left (F.pre self.now.read) (F.post self.now.read) }
+        requires limited { self.now.left ≤ limit }
+        ensures { Gives result ((spec.expression_more self.now.text.now self.now.left (spec.behind self.now.text.now self.now.left)).read tokens.now) }
+    {
+        let (_, rest) = take(Sort::Word(Word::Or), tokens)?;
+        self.conjunction(rest)
+    }
+
+    /// The other operands of OR.
+    #[tactic(auto, using(crate::proofs::Shrinking::loop_steps))]
+    fn expression_rest<'a>(
+        &self,
+        tokens: &'a [Lexeme],
+    ) -> Result<(Items<Expr>, &'a [Lexeme]), Fault>
+        requires nests { Nests self.now.text.now self.now.left (F.pre self.now.read) (F.post self.now.read) }
+        requires limited { self.now.left ≤ limit }
+        ensures { Gives result ((each Part.ExpressionMore (spec.expression_more self.now.text.now self.now.left (spec.behind self.now.text.now self.now.left))).read tokens.now) }
+    {
+        let mut found = Items::new(self.alloc);
+        let mut rest = tokens;
+        while goes_on(Part::ExpressionMore, rest) {
+            let (next, behind) = self.expression_more(rest)?;
+            found.push(next)?;
+            rest = behind;
+        }
+        Ok((found, rest))
+    }
+
+    /// `expr`
+    #[tactic(auto, unfolding(crate::specs::Expressions::expression))]
+    fn expression<'a>(&self, tokens: &'a [Lexeme]) -> Result<(Expr, &'a [Lexeme]), Fault>
+        requires nests { Nests self.now.text.now self.now.left (F.pre self.now.read) (F.post self.now.read) }
+        requires limited { self.now.left ≤ limit }
+        ensures { Gives result ((spec.expression self.now.text.now self.now.left (spec.behind self.now.text.now self.now.left)).read tokens.now) }
+    {
+        let (first, rest) = self.conjunction(tokens)?;
+        let ((first, more), rest) = beside(first, self.expression_rest(rest))?;
+        Ok((some_of(self.alloc, first, more)?, rest))
+    }
+}
+
+/// An expression, or what else stands at a level, where so many openings are left. This function alone recurses.
+#[tactic(auto, using(crate::proofs::Levels::level_steps))]
+fn read<'a>(
+    alloc: Global,
+    text: &[u8],
+    left: usize,
+    level: Level,
+    tokens: &'a [Lexeme],
+) -> Result<(Expr, &'a [Lexeme]), Fault>
+    requires { left ≤ limit }
+    ensures { Gives result ((at level text.now left).read tokens.now) }
+{
+    let reader = Reader {
+        alloc,
+        text,
+        left,
+        read,
+    };
+    match level {
+        Level::Expression => reader.expression(tokens),
+        Level::Negated => reader.negated(tokens),
+        Level::Signed => reader.signed(tokens),
+    }
+}
+
+/// An expression, where so many openings are left, and what is behind it.
+///
+/// The error is the first token with which no expression goes on, an opening where none is left, or want of memory.
+pub fn read_expression<'a>(
+    alloc: Global,
+    text: &[u8],
+    left: usize,
+    tokens: &'a [Lexeme],
+) -> Result<(Expr, &'a [Lexeme]), Fault>
+    requires { left ≤ limit }
+    ensures { Gives result ((spec.expression text.now left (spec.behind text.now left)).read tokens.now) }
+{
+    read(alloc, text, left, Level::Expression, tokens)
+}

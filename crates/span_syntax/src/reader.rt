@@ -1,0 +1,253 @@
+//! What reads expressions behind an opening, and what stands inside an opening.
+ghost use Rattle.std.specs.Prelude.{◌≡◌, ◌<◌, ◌≤◌, ◌-◌};
+ghost use Rattle.span_grammar.specs.Rules.{limit};
+ghost use Rattle.span_syntax.specs.Pieces.{Gives, each};
+ghost use Rattle.span_syntax.specs.Expressions as spec;
+ghost use Rattle.span_syntax.specs.Nests.{Nests, inner_at};
+
+use super::fault::Fault;
+use super::operator::first_and;
+use super::token::{beside, next_is, take};
+use super::tree::{Arm, Expr, Spelling};
+use span_grammar::class::{Lexeme, Sort};
+use span_grammar::grammar::Part;
+use span_grammar::reader::goes_on;
+use span_lexer::token::{Sign, Word};
+use sqlite_items::{Boxed, Items};
+use std::alloc::Global;
+
+/// What may stand behind an opening.
+#[derive(Clone, Copy, Debug, PartialEq, Eq)]
+pub(crate) enum Level {
+    Expression,
+    /// Behind NOT.
+    Negated,
+    /// Behind a minus.
+    Signed,
+}
+
+/// What reads expressions where so many openings are left.
+#[derive(Clone, Copy)]
+pub(crate) struct Reader<'t, F> {
+    pub alloc: Global,
+    /// The bytes of the text.
+    pub text: &'t [u8],
+    pub left: usize,
+    /// Reads behind an opening.
+    pub read: F,
+}
+
+impl<
+    F: for<'a> Fn(Global, &[u8], usize, Level, &'a [Lexeme]) -> Result<(Expr, &'a [Lexeme]), Fault>,
+> Reader<'_, F> {
+    /// What stands behind an opening.
+    #[tactic(auto, using(crate::proofs::Levels::level_steps))]
+    pub(crate) fn behind<'a>(
+        &self,
+        level: Level,
+        tokens: &'a [Lexeme],
+    ) -> Result<(Expr, &'a [Lexeme]), Fault>
+        requires nests { Nests self.now.text.now self.now.left (F.pre self.now.read) (F.post self.now.read) }
+        requires limited { self.now.left ≤ limit }
+        requires deeper { 0 < self.now.left }
+        ensures { Gives result ((inner_at level (spec.behind self.now.text.now self.now.left)).read tokens.now) }
+    {
+        (self.read)(self.alloc, self.text, self.left - 1, level, tokens)
+    }
+
+    /// `, expr`
+    #[tactic(auto, unfolding(crate::specs::Expressions::list_more))]
+    fn list_more<'a>(&self, tokens: &'a [Lexeme]) -> Result<(Expr, &'a [Lexeme]), Fault>
+        requires nests { Nests self.now.text.now self.now.left (F.pre self.now.read) (F.post self.now.read) }
+        requires limited { self.now.left ≤ limit }
+        requires deeper { 0 < self.now.left }
+        ensures { Gives result ((spec.list_more (spec.behind self.now.text.now self.now.left).expression).read tokens.now) }
+    {
+        let (_, rest) = take(Sort::Sign(Sign::Comma), tokens)?;
+        self.behind(Level::Expression, rest)
+    }
+
+    /// `{"," expr}`
+    #[tactic(auto, using(crate::proofs::Shrinking::loop_steps))]
+    fn list_rest<'a>(&self, tokens: &'a [Lexeme]) -> Result<(Items<Expr>, &'a [Lexeme]), Fault>
+        requires nests { Nests self.now.text.now self.now.left (F.pre self.now.read) (F.post self.now.read) }
+        requires limited { self.now.left ≤ limit }
+        requires deeper { 0 < self.now.left }
+        ensures { Gives result ((each Part.ListMore (spec.list_more (spec.behind self.now.text.now self.now.left).expression)).read tokens.now) }
+    {
+        let mut found = Items::new(self.alloc);
+        let mut rest = tokens;
+        while goes_on(Part::ListMore, rest) {
+            let (next, behind) = self.list_more(rest)?;
+            found.push(next)?;
+            rest = behind;
+        }
+        Ok((found, rest))
+    }
+
+    /// Expressions, parted by commas.
+    #[tactic(auto, unfolding(crate::specs::Expressions::list))]
+    pub(crate) fn list<'a>(
+        &self,
+        tokens: &'a [Lexeme],
+    ) -> Result<(Items<Expr>, &'a [Lexeme]), Fault>
+        requires nests { Nests self.now.text.now self.now.left (F.pre self.now.read) (F.post self.now.read) }
+        requires limited { self.now.left ≤ limit }
+        requires deeper { 0 < self.now.left }
+        ensures { Gives result ((spec.list (spec.behind self.now.text.now self.now.left).expression).read tokens.now) }
+    {
+        let (first, rest) = self.behind(Level::Expression, tokens)?;
+        let ((first, more), rest) = beside(first, self.list_rest(rest))?;
+        Ok((first_and(self.alloc, first, more)?, rest))
+    }
+
+    /// `THEN expr`
+    #[tactic(auto, unfolding(crate::specs::Expressions::then_value))]
+    fn then_value<'a>(&self, tokens: &'a [Lexeme]) -> Result<(Expr, &'a [Lexeme]), Fault>
+        requires nests { Nests self.now.text.now self.now.left (F.pre self.now.read) (F.post self.now.read) }
+        requires limited { self.now.left ≤ limit }
+        requires deeper { 0 < self.now.left }
+        ensures { Gives result ((spec.then_value (spec.behind self.now.text.now self.now.left).expression).read tokens.now) }
+    {
+        let (_, rest) = take(Sort::Word(Word::Then), tokens)?;
+        self.behind(Level::Expression, rest)
+    }
+
+    /// `WHEN expr THEN expr`
+    #[tactic(auto, unfolding(crate::specs::Expressions::when, crate::specs::Expressions::arm_of))]
+    fn when<'a>(&self, tokens: &'a [Lexeme]) -> Result<(Arm, &'a [Lexeme]), Fault>
+        requires nests { Nests self.now.text.now self.now.left (F.pre self.now.read) (F.post self.now.read) }
+        requires limited { self.now.left ≤ limit }
+        requires deeper { 0 < self.now.left }
+        ensures { Gives result ((spec.when (spec.behind self.now.text.now self.now.left).expression).read tokens.now) }
+    {
+        let (_, rest) = take(Sort::Word(Word::When), tokens)?;
+        let (condition, rest) = self.behind(Level::Expression, rest)?;
+        let ((condition, value), rest) = beside(condition, self.then_value(rest))?;
+        Ok((Arm { condition, value }, rest))
+    }
+
+    /// `{WHEN expr THEN expr}`
+    #[tactic(auto, using(crate::proofs::Shrinking::loop_steps))]
+    fn when_rest<'a>(&self, tokens: &'a [Lexeme]) -> Result<(Items<Arm>, &'a [Lexeme]), Fault>
+        requires nests { Nests self.now.text.now self.now.left (F.pre self.now.read) (F.post self.now.read) }
+        requires limited { self.now.left ≤ limit }
+        requires deeper { 0 < self.now.left }
+        ensures { Gives result ((each Part.When (spec.when (spec.behind self.now.text.now self.now.left).expression)).read tokens.now) }
+    {
+        let mut found = Items::new(self.alloc);
+        let mut rest = tokens;
+        while goes_on(Part::When, rest) {
+            let (next, behind) = self.when(rest)?;
+            found.push(next)?;
+            rest = behind;
+        }
+        Ok((found, rest))
+    }
+
+    /// The operand of a CASE, if it has one.
+    #[tactic(auto, unfolding(crate::specs::Expressions::case_operand))]
+    fn case_operand<'a>(
+        &self,
+        tokens: &'a [Lexeme],
+    ) -> Result<(Option<Boxed<Expr>>, &'a [Lexeme]), Fault>
+        requires nests { Nests self.now.text.now self.now.left (F.pre self.now.read) (F.post self.now.read) }
+        requires limited { self.now.left ≤ limit }
+        requires deeper { 0 < self.now.left }
+        ensures { Gives result ((spec.case_operand (spec.behind self.now.text.now self.now.left).expression).read tokens.now) }
+    {
+        if !goes_on(Part::Expression, tokens) {
+            return Ok((None, tokens));
+        }
+        let (operand, rest) = self.behind(Level::Expression, tokens)?;
+        Ok((Some(Boxed::new(self.alloc, operand)?), rest))
+    }
+
+    /// `[ELSE expr]`
+    #[tactic(auto, unfolding(crate::specs::Expressions::case_else))]
+    fn case_else<'a>(
+        &self,
+        tokens: &'a [Lexeme],
+    ) -> Result<(Option<Boxed<Expr>>, &'a [Lexeme]), Fault>
+        requires nests { Nests self.now.text.now self.now.left (F.pre self.now.read) (F.post self.now.read) }
+        requires limited { self.now.left ≤ limit }
+        requires deeper { 0 < self.now.left }
+        ensures { Gives result ((spec.case_else (spec.behind self.now.text.now self.now.left).expression).read tokens.now) }
+    {
+        if !goes_on(Part::Else, tokens) {
+            return Ok((None, tokens));
+        }
+        let (_, rest) = take(Sort::Word(Word::Else), tokens)?;
+        let (value, rest) = self.behind(Level::Expression, rest)?;
+        Ok((Some(Boxed::new(self.alloc, value)?), rest))
+    }
+
+    /// `[ELSE expr] END`
+    #[tactic(auto, unfolding(crate::specs::Expressions::case_end))]
+    fn case_end<'a>(
+        &self,
+        tokens: &'a [Lexeme],
+    ) -> Result<(Option<Boxed<Expr>>, &'a [Lexeme]), Fault>
+        requires nests { Nests self.now.text.now self.now.left (F.pre self.now.read) (F.post self.now.read) }
+        requires limited { self.now.left ≤ limit }
+        requires deeper { 0 < self.now.left }
+        ensures { Gives result ((spec.case_end (spec.behind self.now.text.now self.now.left).expression).read tokens.now) }
+    {
+        let (otherwise, rest) = self.case_else(tokens)?;
+        let ((otherwise, _), rest) = beside(otherwise, take(Sort::Word(Word::End), rest))?;
+        Ok((otherwise, rest))
+    }
+
+    /// The arms of a CASE, and what ends it.
+    #[tactic(auto, unfolding(crate::specs::Expressions::case_arms))]
+    fn case_arms<'a>(
+        &self,
+        tokens: &'a [Lexeme],
+    ) -> Result<((Items<Arm>, Option<Boxed<Expr>>), &'a [Lexeme]), Fault>
+        requires nests { Nests self.now.text.now self.now.left (F.pre self.now.read) (F.post self.now.read) }
+        requires limited { self.now.left ≤ limit }
+        requires deeper { 0 < self.now.left }
+        ensures { Gives result ((spec.case_arms (spec.behind self.now.text.now self.now.left).expression).read tokens.now) }
+    {
+        let (arm, rest) = self.when(tokens)?;
+        let ((arm, more), rest) = beside(arm, self.when_rest(rest))?;
+        let arms = first_and(self.alloc, arm, more)?;
+        beside(arms, self.case_end(rest))
+    }
+
+    /// What stands behind CASE.
+    #[tactic(auto, using(crate::specs::declared::tree::Expr::the_lemmas), unfolding(crate::specs::Expressions::in_case, crate::specs::Expressions::case_of))]
+    pub(crate) fn in_case<'a>(&self, tokens: &'a [Lexeme]) -> Result<(Expr, &'a [Lexeme]), Fault>
+        requires nests { Nests self.now.text.now self.now.left (F.pre self.now.read) (F.post self.now.read) }
+        requires limited { self.now.left ≤ limit }
+        requires deeper { 0 < self.now.left }
+        ensures { Gives result ((spec.in_case (spec.behind self.now.text.now self.now.left).expression).read tokens.now) }
+    {
+        let (operand, rest) = self.case_operand(tokens)?;
+        let ((operand, (arms, otherwise)), rest) = beside(operand, self.case_arms(rest))?;
+        Ok((Expr::Case(operand, arms, otherwise), rest))
+    }
+
+    /// What stands between the parentheses of a call.
+    #[tactic(auto, unfolding(crate::specs::Expressions::argument_list))]
+    pub(crate) fn argument_list<'a>(
+        &self,
+        name: Spelling,
+        tokens: &'a [Lexeme],
+    ) -> Result<(Expr, &'a [Lexeme]), Fault>
+        requires nests { Nests self.now.text.now self.now.left (F.pre self.now.read) (F.post self.now.read) }
+        requires limited { self.now.left ≤ limit }
+        requires deeper { 0 < self.now.left }
+        ensures { Gives result ((spec.argument_list (spec.behind self.now.text.now self.now.left).expression name).read tokens.now) }
+    {
+        if next_is(Sort::Sign(Sign::Star), tokens) {
+            let (_, rest) = take(Sort::Sign(Sign::Star), tokens)?;
+            return Ok((Expr::CallStar(name), rest));
+        }
+        if goes_on(Part::List, tokens) {
+            let (operands, rest) = self.list(tokens)?;
+            return Ok((Expr::Call(name, operands), rest));
+        }
+        Ok((Expr::Call(name, Items::new(self.alloc)), tokens))
+    }
+}

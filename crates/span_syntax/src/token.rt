@@ -1,0 +1,130 @@
+//! The steps that every rule is read by.
+ghost use Rattle.std.specs.Prelude.{◌≡◌, ◌<◌, List, IfOk};
+ghost use Rattle.std.specs.Str.Lossy.{utf8_lossy};
+ghost use Rattle.span_grammar.specs.declared.grammar.Part;
+ghost use Rattle.span_grammar.specs.Rules.{starts};
+ghost use Rattle.span_grammar.specs.Grammar.{rule_of};
+ghost use Rattle.span_syntax.specs.Pieces.{Gives, Piece, beside, token_read, enter_read};
+ghost use Rattle.span_grammar.specs.Classes as classes;
+ghost use Rattle.span_syntax.specs.Expressions as spec;
+
+use super::fault::Fault;
+use super::tree::{Integer, Span, Spelling};
+use span_grammar::class::{Lexeme, Sort};
+use span_grammar::classify::spelled;
+use span_grammar::grammar::Part;
+use span_grammar::reader::{goes_on, is_class};
+use span_lexer::token::{Sign, Token, TokenKind};
+use span_value::text::Text;
+use std::alloc::{AllocError, Global};
+
+/// Whether a token of a sort comes next.
+pub fn next_is(sort: Sort, tokens: &[Lexeme]) -> bool
+    ensures { result ≡ starts (rule_of (Part.Token sort)) tokens.now }
+{
+    goes_on(Part::Token(sort), tokens)
+}
+
+/// The token of a sort that comes next, and what is behind it.
+#[tactic(auto, unfolding(crate::specs::Pieces::token_read))]
+pub fn take(sort: Sort, tokens: &[Lexeme]) -> Result<(Lexeme, &[Lexeme]), Fault>
+    ensures { Gives result (token_read sort tokens.now) }
+{
+    match tokens.split_first() {
+        Some((lexeme, rest)) if is_class(sort, lexeme.class) => Ok((*lexeme, rest)),
+        _ => Err(Fault::Syntax(tokens.len())),
+    }
+}
+
+/// The opening token that comes next, where so many openings are left, and what is behind it.
+#[tactic(auto, unfolding(crate::specs::Pieces::enter_read))]
+pub fn enter(left: usize, sort: Sort, tokens: &[Lexeme]) -> Result<(Lexeme, &[Lexeme]), Fault>
+    ensures read { Gives result (enter_read left sort tokens.now) }
+    ensures deeper { IfOk result (λ x. 0 < left) }
+{
+    let (lexeme, rest) = take(sort, tokens)?;
+    if left == 0 {
+        return Err(Fault::TooDeep(tokens.len()));
+    }
+    Ok((lexeme, rest))
+}
+
+/// What was found, and what was read behind it.
+///
+/// Where that wasn't read, what was found is dropped here, at any type: to prove that the drop of a tree is safe takes long, at
+/// each place where a tree may be dropped.
+#[tactic(auto, unfolding(crate::specs::Pieces::beside))]
+pub fn beside<'a, T: Drop, U>(
+    found: T,
+    behind: Result<(U, &'a [Lexeme]), Fault>,
+) -> Result<((T, U), &'a [Lexeme]), Fault>
+    ensures { (p : Piece U) (ts : List Lexeme) → Gives behind.entry (p.read ts) → Gives result ((beside found p).read ts) }
+{
+    let (next, rest) = behind?;
+    Ok(((found, next), rest))
+}
+
+/// What was found, and the parenthesis that closes it.
+#[tactic(auto, unfolding(crate::specs::Expressions::closing))]
+pub fn closed<T: Drop>(found: T, tokens: &[Lexeme]) -> Result<(T, &[Lexeme]), Fault>
+    ensures { Gives result ((spec.closing found).read tokens.now) }
+{
+    let (_, rest) = take(Sort::Sign(Sign::Close), tokens)?;
+    Ok((found, rest))
+}
+
+/// Where a token stands.
+pub(crate) fn span_of(token: &Token) -> Span
+    ensures { result ≡ spec.span_of token.now }
+{
+    Span {
+        start: token.start,
+        end: token.end,
+    }
+}
+
+/// The text of a token, and where it stands.
+fn spelling_of(alloc: Global, text: &[u8], lexeme: Lexeme) -> Result<Spelling, AllocError>
+    ensures { IfOk result (λ x. x ≡ spec.spelling_of text.now lexeme) }
+{
+    let spelling = String::from_utf8_lossy(alloc, spelled(text, &lexeme.token))?;
+    Ok(Spelling {
+        text: Text::from_string(spelling),
+        span: span_of(&lexeme.token),
+    })
+}
+
+/// A token's text, where it is of a sort, and what is behind it.
+#[tactic(auto, unfolding(crate::specs::Expressions::spelling))]
+pub fn spelling<'a>(
+    alloc: Global,
+    text: &[u8],
+    sort: Sort,
+    tokens: &'a [Lexeme],
+) -> Result<(Spelling, &'a [Lexeme]), Fault>
+    ensures { Gives result ((spec.spelling text.now sort).read tokens.now) }
+{
+    let (lexeme, rest) = take(sort, tokens)?;
+    Ok((spelling_of(alloc, text, lexeme)?, rest))
+}
+
+/// The value of an integer.
+pub fn integer_value(kind: TokenKind) -> u64
+    ensures { result ≡ spec.value_of kind }
+{
+    match kind {
+        TokenKind::Int(value) => value,
+        _ => 0,
+    }
+}
+
+/// The integer that a token is, with a minus before it or none.
+pub fn integer_of(is_negative: bool, lexeme: Lexeme) -> Integer
+    ensures { result ≡ spec.integer_of is_negative lexeme }
+{
+    Integer {
+        is_negative,
+        value: integer_value(lexeme.token.kind),
+        span: span_of(&lexeme.token),
+    }
+}
