@@ -116,7 +116,7 @@ use Rattle.span_syntax.specs.declared.tree.Link.{roll-Link}
 use Rattle.span_grammar.specs.Shapes.{shape_of, part_inside}
 use Rattle.span_grammar.specs.Grammar.{rule_of}
 use Rattle.span_syntax.specs.Pieces.{Piece, token, nothing, ◌<$>◌, ◌>>=◌, either, each, beside, opening}
-use Rattle.span_syntax.specs.Expressions.{span_of, spelling_of, spelling, closing, arm_of, then_value, integer_of, qualifier, column_of, qualified, column, direction, chained, all_of, some_of, denied, test_of, tested, term_sign, sum_sign, comparison, maybe_not, null_words, list_more, list, when, case_operand, case_else, case_end, case_arms, case_of, in_case, argument_list, Inner, parenthesis, arguments, members, case, negation, opposite, after_name, named, if_call, compound, word_literal, other_primary, primary, unary, other_unary, signed, term_more, term, sum_more, sum, compared, is_null, like, high_end, between, within, test, maybe_not_test, predicate_rest, predicate, negated, conjunction_more, conjunction, expression_more, expression, behind}
+use Rattle.span_syntax.specs.Expressions.{span_of, spelling_of, spelling, closing, arm_of, then_value, integer_of, qualifier, column_of, qualified, column, direction, chained, all_of, some_of, denied, test_of, tested, term_sign, sum_sign, comparison, maybe_not, null_words, list_more, list, when, case_operand, case_else, case_end, case_arms, case_of, in_case, argument_list, Inner, parenthesis, arguments, members, case, negation, opposite, after_name, named, if_call, compound, word_literal, other_primary, primary, unary, other_unary, signed, term_more, term, sum_more, sum, compared, is_null, like, high_end, between, within, deniable, maybe_not_test, predicate_rest, predicate, negated, conjunction_more, conjunction, expression_more, expression, behind}
 use Rattle.span_syntax.proofs.Good.{Good, token_good, nothing_good, map_good, then_good, or_good, many_good, beside_good, open_good}
 
 '''
@@ -205,8 +205,8 @@ X('like','Like',S(T(Wd('Like')),M('asked.Like',SP('sort.Str'))))
 X('high_end','BetweenFromWordAnd',S(T(Wd('And')),r('sum')))
 X('between','Between',S(T(Wd('Between')),B(r('sum'),'low',M('(λ ends. asked.Between ends.0 ends.1)',BESIDE('low',r('high_end'))))))
 X('within','Within',S(T(Wd('In')),M('asked.In',r('members'))))
-X('test','Test',E(r('like'),E(r('between'),r('within'))))
-X('maybe_not_test','MaybeNotTest',B(MN,'is_not',M('(λ question. (is_not, question))',r('test'))))
+X('deniable','Test',E(r('like'),E(r('between'),r('within'))))
+X('maybe_not_test','MaybeNotTest',B(MN,'is_not',M('(λ question. (is_not, question))',r('deniable'))))
 X('predicate_rest','PredicateRest',E(r('compared'),E(r('is_null'),E(r('maybe_not_test'),NOTHING))))
 X('predicate','Predicate',B(r('sum'),'x',M('(λ both. tested both.0 both.1)',BESIDE('x',r('predicate_rest')))))
 X('negated','Negated',E(r('negation'),r('predicate')))

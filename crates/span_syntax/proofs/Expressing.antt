@@ -16,7 +16,7 @@ use Rattle.span_syntax.specs.declared.tree.Link.{roll-Link}
 use Rattle.span_grammar.specs.Shapes.{shape_of, part_inside}
 use Rattle.span_grammar.specs.Grammar.{rule_of}
 use Rattle.span_syntax.specs.Pieces.{Piece, token, nothing, ◌<$>◌, ◌>>=◌, either, each, beside, opening}
-use Rattle.span_syntax.specs.Expressions.{span_of, spelling_of, spelling, closing, arm_of, then_value, integer_of, qualifier, column_of, qualified, column, direction, chained, all_of, some_of, tested, term_sign, sum_sign, comparison, maybe_not, null_words, list_more, list, when, case_operand, case_else, case_end, case_arms, case_of, in_case, argument_list, Inner, parenthesis, arguments, members, case, negation, opposite, after_name, named, if_call, compound, word_literal, other_primary, primary, unary, other_unary, signed, term_more, term, sum_more, sum, compared, is_null, like, high_end, between, within, test, maybe_not_test, predicate_rest, predicate, negated, conjunction_more, conjunction, expression_more, expression, behind}
+use Rattle.span_syntax.specs.Expressions.{span_of, spelling_of, spelling, closing, arm_of, then_value, integer_of, qualifier, column_of, qualified, column, direction, chained, all_of, some_of, tested, term_sign, sum_sign, comparison, maybe_not, null_words, list_more, list, when, case_operand, case_else, case_end, case_arms, case_of, in_case, argument_list, Inner, parenthesis, arguments, members, case, negation, opposite, after_name, named, if_call, compound, word_literal, other_primary, primary, unary, other_unary, signed, term_more, term, sum_more, sum, compared, is_null, like, high_end, between, within, deniable, maybe_not_test, predicate_rest, predicate, negated, conjunction_more, conjunction, expression_more, expression, behind}
 use Rattle.span_syntax.proofs.Good.{Good, token_good, nothing_good, map_good, then_good, or_good, many_good, beside_good, open_good}
 
 -- ---- columns and signs
@@ -227,13 +227,13 @@ module _ (text : List ℕ) (n : ℕ) (inner : Inner) (deep : Deep n inner) where
   unfolding within shape_of part_inside
   within_good = then_good n part.Within (part.Token (sort.Word word.In)) part.Members refl (token (sort.Word word.In)) (λ _. (asked.In <$> (members text n inner))) (token_good n (sort.Word word.In)) (λ _. (map_good asked.In (members text n inner) (members_good)))
 
-  pub test_good : Good n (rule_of part.Test) (test text n inner)
-  unfolding test shape_of part_inside
-  test_good = or_good n part.Test part.Like part.TestFromBetween refl (like text n inner) (either part.Between (between text n inner) (within text n inner)) (like_good) (or_good n part.TestFromBetween part.Between part.Within refl (between text n inner) (within text n inner) (between_good) (within_good))
+  pub deniable_good : Good n (rule_of part.Test) (deniable text n inner)
+  unfolding deniable shape_of part_inside
+  deniable_good = or_good n part.Test part.Like part.TestFromBetween refl (like text n inner) (either part.Between (between text n inner) (within text n inner)) (like_good) (or_good n part.TestFromBetween part.Between part.Within refl (between text n inner) (within text n inner) (between_good) (within_good))
 
   pub maybe_not_test_good : Good n (rule_of part.MaybeNotTest) (maybe_not_test text n inner)
   unfolding maybe_not_test shape_of part_inside
-  maybe_not_test_good = then_good n part.MaybeNotTest part.MaybeNot part.Test refl (maybe_not) (λ is_not. ((λ question. (is_not, question)) <$> (test text n inner))) (maybe_not_good n) (λ is_not. (map_good (λ question. (is_not, question)) (test text n inner) (test_good)))
+  maybe_not_test_good = then_good n part.MaybeNotTest part.MaybeNot part.Test refl (maybe_not) (λ is_not. ((λ question. (is_not, question)) <$> (deniable text n inner))) (maybe_not_good n) (λ is_not. (map_good (λ question. (is_not, question)) (deniable text n inner) (deniable_good)))
 
   pub predicate_rest_good : Good n (rule_of part.PredicateRest) (predicate_rest text n inner)
   unfolding predicate_rest shape_of part_inside

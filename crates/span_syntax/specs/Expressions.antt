@@ -280,11 +280,11 @@ module _ (text : List ℕ) (left : ℕ) (inner : Inner) where
   unfoldable pub within : Piece Asked
   within = token (sort.Word word.In) >> (asked.In <$> members)
 
-  unfoldable pub test : Piece Asked
-  test = either part.Like like (either part.Between between within)
+  unfoldable pub deniable : Piece Asked
+  deniable = either part.Like like (either part.Between between within)
 
   unfoldable pub maybe_not_test : Piece (Bool × Asked)
-  maybe_not_test = maybe_not >>= (λ is_not. (λ question. (is_not, question)) <$> test)
+  maybe_not_test = maybe_not >>= (λ is_not. (λ question. (is_not, question)) <$> deniable)
 
   unfoldable pub predicate_rest : Piece (Bool × Asked)
   predicate_rest = either part.Compared compared (either part.IsNull is_null (either part.MaybeNotTest maybe_not_test (nothing (false, asked.Nothing))))

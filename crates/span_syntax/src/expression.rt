@@ -412,11 +412,11 @@ impl<
     }
 
     /// LIKE, BETWEEN or IN.
-    #[tactic(auto, unfolding(crate::specs::Expressions::test))]
-    fn test<'a>(&self, tokens: &'a [Lexeme]) -> Result<(Asked, &'a [Lexeme]), Fault>
+    #[tactic(auto, unfolding(crate::specs::Expressions::deniable))]
+    fn deniable<'a>(&self, tokens: &'a [Lexeme]) -> Result<(Asked, &'a [Lexeme]), Fault>
         requires nests { Nests self.now.text.now self.now.left (F.pre self.now.read) (F.post self.now.read) }
         requires limited { self.now.left ≤ limit }
-        ensures { Gives result ((spec.test self.now.text.now self.now.left (spec.behind self.now.text.now self.now.left)).read tokens.now) }
+        ensures { Gives result ((spec.deniable self.now.text.now self.now.left (spec.behind self.now.text.now self.now.left)).read tokens.now) }
     {
         if goes_on(Part::Like, tokens) {
             return self.like(tokens);
@@ -438,7 +438,7 @@ impl<
         ensures { Gives result ((spec.maybe_not_test self.now.text.now self.now.left (spec.behind self.now.text.now self.now.left)).read tokens.now) }
     {
         let (is_not, rest) = maybe_not(tokens)?;
-        let (question, rest) = self.test(rest)?;
+        let (question, rest) = self.deniable(rest)?;
         Ok(((is_not, question), rest))
     }
 
