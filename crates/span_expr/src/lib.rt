@@ -9,3 +9,4 @@ mod operator;
 pub mod pattern;
 #[cfg(test)]
 mod tests;
+pub mod total;

@@ -2,6 +2,7 @@
 use super::eval::{eval, evaluate};
 use super::expr::{Comparison, Expr, Link, Operator};
 use super::pattern::{fits, parts_of};
+use super::total::is_total;
 use span_value::refusal::Refusal;
 use span_value::text::Text;
 use span_value::truth::Outcome;
@@ -121,5 +122,17 @@ fn patterns(rt: HostRuntime) -> Result<(), Refusal> {
         parts_of(rt.alloc(), "a\\").err(),
         Some(Refusal::BadPattern)
     );
+    Ok(())
+}
+
+#[test]
+fn total_expressions(rt: HostRuntime) -> Result<(), Refusal> {
+    let a = rt.alloc();
+    let sum = of_two(a, 1, Operator::Add, 2)?;
+    let compared = Expr::Compare(int(a, 1)?, Comparison::Less, int(a, 2)?);
+    let found = (is_total(&sum), is_total(&compared));
+    discard(sum);
+    discard(compared);
+    assert_eq!(rt; found, (false, true));
     Ok(())
 }
