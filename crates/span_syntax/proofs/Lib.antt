@@ -3,4 +3,5 @@ pub mod Good
 pub mod Levels
 pub mod Loops
 pub mod Parsing
+pub mod Places
 pub mod Shrinking
