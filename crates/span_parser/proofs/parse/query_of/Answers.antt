@@ -11,4 +11,4 @@ pub returns : goal.returns
 returns c =
     let same : lexemes_of c.args.text.now c.args.tokens.now ≡ c.as_slice.result.now = sym (c.as_slice.ensures.value ∙ c.in_ok-found.ensures) in
     reports (whole_read (statement c.args.text.now limit) (lexemes_of c.args.text.now c.args.tokens.now)) c.in-Err.fault c.misread-refusal.result
-    (λ n. ap (whole_read (statement c.args.text.now limit)) same ∙ c.in-Err.ensures n) c.misread-refusal.ensures
+    (λ n. ap (whole_read (statement c.args.text.now limit)) same ∙ c.in-Err.ensures n) c.misread-refusal.ensures.refusal
