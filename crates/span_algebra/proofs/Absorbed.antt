@@ -1,0 +1,116 @@
+-- One more row: it is taken by the group of its key, or by a new one behind the others.
+use Rattle.std.proofs.Common.{◌≡◌, ◌≢◌, ℕ, zero, suc, ◌+◌, ◌<◌, ◌^◌, Bool, true, false, cond, List, [], ◌∷◌, ◌++◌, length, set, get_or, refl, sym, ap, ◌∙◌, subst, inl, inr, arith}
+use Rattle.std.proofs.lemmas.Bool.{cases_eq}
+use Rattle.std.proofs.lemmas.List.{length-map, length-set, length-append, get_or-map, get_or-set_same, get_or-set_other, map-append, append-nil}
+use Rattle.std.proofs.lemmas.List.Elements.{All-push}
+use Rattle.std.proofs.Math.Seq.{get_or-append_seam}
+use Rattle.span_query.specs.declared.query.Aggregate.{Aggregate}
+use Rattle.span_query.specs.declared.query.Grouping.{Grouping}
+use Rattle.span_query.specs.Rows.{Row}
+use Rattle.span_query.specs.Groups.{are_alike, columns_at, group_keys, rows_with}
+use Rattle.span_algebra.specs.declared.aggregate.State.{State}
+use Rattle.span_algebra.specs.declared.group.Group.{Group}
+use Rattle.span_algebra.specs.Keys.{has_alike, with_new, place_of}
+use Rattle.span_algebra.specs.States.{AreStatesOf, HaveRoom}
+use Rattle.span_algebra.specs.Grouped.{keys_of, HasTakenRows, AreGroupsOf, HasPlace}
+use Rattle.span_algebra.proofs.Alike.{are_alike-itself}
+use Rattle.span_algebra.proofs.Together.{filter-shorter}
+use Rattle.span_algebra.proofs.Places.{AreApart, place_found, place_tells, place_most, apart_at, group_keys-apart, group_keys-more, no_rows, rows_with-push}
+
+key_at : (groups : List Group) (i : ℕ) (d : Group) (e : Row) → i < length groups → get_or (keys_of groups) i e ≡ (get_or groups i d).key
+key_at groups i d e inside = get_or-map (λ (x : Group). x.key) groups i d e inside
+
+key_count : (groups : List Group) → length (keys_of groups) ≡ length groups
+key_count groups = length-map groups (λ (x : Group). x.key)
+
+keys-same : (groups : List Group) (at : ℕ) (new : Group) → at < length groups → new.key ≡ (get_or groups at new).key → keys_of (set groups at new) ≡ keys_of groups
+keys-same [] at new within same = refl
+keys-same (x ∷ groups) zero new within same = ap (λ (k : Row). k ∷ keys_of groups) same
+keys-same (x ∷ groups) (suc at) new within same = ap (λ (ks : List Row). x.key ∷ ks) (keys-same groups at new (omega arith) same)
+
+-- the states behind a row, whichever rows were taken before
+abbrev pub TakesRow : List Aggregate → Row → List State → List State → Type 0
+TakesRow aggregates row old new = (rows : List Row) → AreStatesOf aggregates rows old → AreStatesOf aggregates (rows ++ row ∷ []) new
+
+module _ (g : Grouping) (row : Row) (rows : List Row) (groups : List Group) where
+  abbrev key : Row
+  key = columns_at g.keys row
+
+  -- ---- the place
+
+  module _ (are : AreGroupsOf g rows groups) (at : ℕ) (is : at ≡ place_of (keys_of groups) key) where
+    more : (known : Bool) → has_alike (keys_of groups) key ≡ known → group_keys g.keys (rows ++ row ∷ []) ≡ cond known (keys_of groups) (keys_of groups ++ key ∷ [])
+    more known e =
+        group_keys-more g.keys rows row
+        ∙ ap (λ (ks : List Row). with_new ks key) (sym are.keyed)
+        ∙ ap (λ b. cond b (keys_of groups) (keys_of groups ++ key ∷ [])) e
+
+    pub has_place : at ≢ length groups → HasPlace g row rows groups at
+    has_place apart =
+        let within : at < length groups = omega (arith, place_most (keys_of groups) key, key_count groups) in
+        let inside : place_of (keys_of groups) key < length (keys_of groups) = omega (arith, key_count groups) in
+        record {
+          are = record { keyed = sym (more true ((place_tells (keys_of groups) key).0 inside)); each = are.each };
+          within = within;
+          key = λ d. sym (key_at groups at d key within) ∙ ap (λ i. get_or (keys_of groups) i key) is ∙ place_found (keys_of groups) key key inside;
+        }
+
+    pub new_place : (x : Group) → at ≡ length groups → x.key ≡ key → AreStatesOf g.aggregates [] x.states.items → HasPlace g row rows (groups ++ x ∷ []) at
+    new_place x past same states =
+        let new : has_alike (keys_of groups) key ≡ false = (place_tells (keys_of groups) key).1 (omega (arith, key_count groups)) in
+        let none : rows_with g.keys key rows ≡ [] = no_rows g.keys row rows (ap (λ (ks : List Row). has_alike ks key) (sym are.keyed) ∙ new) in
+        let taken : HasTakenRows g rows x = subst (λ (rs : List Row). AreStatesOf g.aggregates rs x.states.items) (sym (ap (λ (k : Row). rows_with g.keys k rows) same ∙ none)) states in
+        record {
+          are = record {
+            keyed = map-append (λ (y : Group). y.key) groups (x ∷ []) ∙ ap (λ (k : Row). keys_of groups ++ k ∷ []) same ∙ sym (more false new);
+            each = All-push (HasTakenRows g rows) groups x are.each taken;
+          };
+          within = omega (arith, length-append groups (x ∷ []));
+          key = λ d. ap (λ (y : Group). y.key) (ap (λ i. get_or (groups ++ x ∷ []) i d) past ∙ get_or-append_seam groups x [] d) ∙ same;
+        }
+
+  -- ---- the row
+
+  module _ (at : ℕ) (place : HasPlace g row rows groups at) where
+    pub has_room : (x : Group) → x ≡ get_or groups at x → length rows + 1 < 2 ^ 64 → HaveRoom g.aggregates x.states.items
+    has_room x is few = record {
+      rows = rows_with g.keys x.key rows;
+      are = subst (HasTakenRows g rows) (sym is) (place.are.each at x place.within);
+      few = omega (arith, filter-shorter (λ (r : Row). are_alike x.key (columns_at g.keys r)) rows);
+    }
+
+    -- no other group has the key
+    other_key : (j : ℕ) (d : Group) → j < length groups → j ≢ at → are_alike (get_or groups j d).key key ≡ false
+    other_key j d inside other =
+        let keys = keys_of groups in
+        let apart : are_alike (get_or keys j key) (get_or keys at key) ≡ false =
+        apart_at keys (subst AreApart (sym place.are.keyed) (group_keys-apart g.keys (rows ++ row ∷ []))) at j key key (omega (arith, place.within, key_count groups)) (omega (arith, key_count groups)) other in
+        ap (λ (k : Row). are_alike k key) (sym (key_at groups j d key inside))
+        ∙ ap (are_alike (get_or keys j key)) (sym (key_at groups at d key place.within ∙ place.key d))
+        ∙ apart
+
+    module _ (was new : Group) (is : was ≡ get_or groups at was) (same : new.key ≡ was.key)
+        (step : TakesRow g.aggregates row was.states.items new.states.items) where
+      takes_here : HasTakenRows g (rows ++ row ∷ []) new
+      takes_here =
+          let old : HasTakenRows g rows was = subst (HasTakenRows g rows) (sym is) (place.are.each at was place.within) in
+          let alike : are_alike new.key key ≡ true = ap (λ (k : Row). are_alike k key) (same ∙ ap (λ (x : Group). x.key) is ∙ place.key was) ∙ are_alike-itself key in
+          let all : rows_with g.keys new.key (rows ++ row ∷ []) ≡ rows_with g.keys was.key rows ++ row ∷ [] =
+          rows_with-push g.keys new.key rows row true alike ∙ ap (λ (k : Row). rows_with g.keys k rows ++ row ∷ []) same in
+          subst (λ (rs : List Row). AreStatesOf g.aggregates rs new.states.items) (sym all) (step (rows_with g.keys was.key rows) old)
+
+      passes_there : (x : Group) → are_alike x.key key ≡ false → HasTakenRows g rows x → HasTakenRows g (rows ++ row ∷ []) x
+      passes_there x other h =
+          subst (λ (rs : List Row). AreStatesOf g.aggregates rs x.states.items) (sym (rows_with-push g.keys x.key rows row false other ∙ append-nil (rows_with g.keys x.key rows))) h
+
+      -- ONE MORE ROW: the groups with it
+      pub absorbed : AreGroupsOf g (rows ++ row ∷ []) (set groups at new)
+      absorbed = record {
+        keyed = keys-same groups at new place.within (same ∙ ap (λ (x : Group). x.key) is ∙ place.key was ∙ sym (place.key new)) ∙ place.are.keyed;
+        each = λ j d inside. elim (cases_eq j at) [
+          | inl here ↦ subst (HasTakenRows g (rows ++ row ∷ [])) (sym (ap (λ i. get_or (set groups at new) i d) here ∙ get_or-set_same groups at new d place.within)) takes_here
+          | inr other ↦
+              let within : j < length groups = omega (arith, length-set groups at new) in
+              subst (HasTakenRows g (rows ++ row ∷ [])) (sym (get_or-set_other groups at j new d other)) (passes_there (get_or groups j d) (other_key j d within other) (place.are.each j d within))
+        ];
+      }

@@ -1,0 +1,88 @@
+-- One pass over the rows: the groups of those kept so far, and the rows that are left.
+use Rattle.std.proofs.Common.{◌≡◌, ℕ, zero, ◌+◌, ◌<◌, ◌≤◌, ◌^◌, true, false, List, [], ◌∷◌, ◌++◌, length, get_or, drop, Any, Option, Some, None, Result, Err, refl, sym, ap, ◌∙◌, append_assoc, arith}
+use Rattle.std.proofs.lemmas.List.{append-nil, drop_all, length-append}
+use Rattle.span_expr.specs.declared.expr.Expr.{Expr}
+use Rattle.span_expr.specs.declared.cell.Failure.{Failure}
+use Rattle.span_expr.specs.declared.cell.Failure.TheVariants as failure
+use Rattle.span_query.specs.declared.query.Grouping.{Grouping}
+use Rattle.span_query.specs.Rows.{Row, Rows, ◌>>=◌, followed, only_if, holds, kept_where}
+use Rattle.span_query.specs.Groups.{groups}
+use Rattle.span_algebra.specs.declared.group.Group.{Group}
+use Rattle.span_algebra.specs.Answers.{Gives}
+use Rattle.span_algebra.specs.Selecting.{holds_where}
+use Rattle.span_algebra.specs.States.{operand_at}
+use Rattle.span_algebra.specs.Grouped.{AreGroupsOf, HaveRoomFor}
+use Rattle.span_algebra.proofs.Alike.{drop_at}
+use Rattle.span_algebra.proofs.Gathering.{nil-followed, gathered_at, one_more, one_less, one_fails, then_fails}
+use Rattle.span_algebra.proofs.Shown.{groups-fault}
+
+-- before row i, where these are the groups so far
+pub record HavePassed (filter : Option Expr) (g : Grouping) (rows : List Row) (i : ℕ) (so_far : List Group) : Type 0 where
+  pub kept : List Row
+  pub all : kept_where filter rows ≡ followed (Some kept) (kept_where filter (drop i rows))
+  pub are : AreGroupsOf g kept so_far
+  pub few : length kept ≤ i
+
+pub pass_starts : (filter : Option Expr) (g : Grouping) (rows : List Row) (so_far : List Group) → AreGroupsOf g [] so_far → HavePassed filter g rows zero so_far
+pass_starts filter g rows so_far are = record { kept = []; all = sym (nil-followed (kept_where filter rows)); are = are; few = omega arith }
+
+-- what one row gives
+abbrev judged : Option Expr → Row → Rows
+judged filter row = holds_where filter row >>= (λ b. Some (only_if row b))
+
+kept_at : (filter : Option Expr) (rows : List Row) (i : ℕ) (row : Row) → i < length rows → row ≡ get_or rows i row → kept_where filter (drop i rows) ≡ followed (judged filter row) (kept_where filter (drop (i + 1) rows))
+kept_at None rows i row inside is = ap (λ (l : List Row). Some l) (drop_at rows i row inside is)
+kept_at (Some e) rows i row inside is = gathered_at (λ row. holds e row >>= (λ b. Some (only_if row b))) rows i row inside is
+
+kept_nil : (filter : Option Expr) → kept_where filter [] ≡ Some []
+kept_nil None = refl
+kept_nil (Some e) = refl
+
+module _ (filter : Option Expr) (g : Grouping) (rows : List Row) (i : ℕ) (so_far : List Group) (passed : HavePassed filter g rows i so_far) where
+  module _ (row : Row) (inside : i < length rows) (is : row ≡ get_or rows i row) where
+    next : kept_where filter (drop i rows) ≡ followed (judged filter row) (kept_where filter (drop (i + 1) rows))
+    next = kept_at filter rows i row inside is
+
+    pub pass_room : length rows < 2 ^ 64 → HaveRoomFor g so_far
+    pass_room small = record { rows = passed.kept; are = passed.are; few = omega (arith, passed.few) }
+
+    module _ (holds : holds_where filter row ≡ Some true) where
+      with_it : kept_where filter rows ≡ followed (Some (passed.kept ++ row ∷ [])) (kept_where filter (drop (i + 1) rows))
+      with_it = one_more _ _ _ _ passed.kept (row ∷ []) passed.all next (ap (λ o. o >>= (λ b. Some (only_if row b))) holds)
+
+      pub pass_keeps : (new : List Group) → ((rows : List Row) → AreGroupsOf g rows so_far → AreGroupsOf g (rows ++ row ∷ []) new) → HavePassed filter g rows (i + 1) new
+      pass_keeps new takes = record {
+        kept = passed.kept ++ row ∷ [];
+        all = with_it;
+        are = takes passed.kept passed.are;
+        few = omega (arith, passed.few, length-append passed.kept (row ∷ []));
+      }
+
+      fault_behind : Any (λ a. operand_at row a ≡ None) g.aggregates → (rest : Rows) → (followed (Some (passed.kept ++ row ∷ [])) rest >>= groups g) ≡ None
+      fault_behind any None = refl
+      fault_behind any (Some behind) = ap (groups g) (append_assoc passed.kept (row ∷ []) behind) ∙ groups-fault g passed.kept row behind any
+
+      pub take_fails : (why : Failure) → (◌≡◌ {A = Result (Unit {0}) Failure} (Err why) (Err failure.Fault) → Any (λ a. operand_at row a ≡ None) g.aggregates) → Gives (Err why) (kept_where filter rows >>= groups g)
+      take_fails failure.Fault any = ap (λ (o : Rows). o >>= groups g) with_it ∙ fault_behind (any refl) (kept_where filter (drop (i + 1) rows))
+      take_fails failure.OutOfMemory any = tt {0}
+
+    pub pass_drops : holds_where filter row ≡ Some false → HavePassed filter g rows (i + 1) so_far
+    pass_drops holds = record {
+      kept = passed.kept;
+      all = one_less _ _ _ _ passed.kept passed.all next (ap (λ o. o >>= (λ b. Some (only_if row b))) holds);
+      are = passed.are;
+      few = omega (arith, passed.few);
+    }
+
+    pub pass_fails : (why : Failure) → Gives (Err why) (holds_where filter row) → Gives (Err why) (kept_where filter rows >>= groups g)
+    pass_fails why gives =
+        then_fails why (kept_where filter rows) (groups g)
+        (one_fails why _ _ _ _ passed.kept passed.all next (then_fails why (holds_where filter row) (λ b. Some (only_if row b)) gives))
+
+  pub pass_ends : length rows ≤ i → (kept_where filter rows >>= groups g) ≡ groups g passed.kept
+  pass_ends past =
+      ap (λ (o : Rows). o >>= groups g) (
+      passed.all
+      ∙ ap (λ (l : List Row). followed (Some passed.kept) (kept_where filter l)) (drop_all i rows past)
+      ∙ ap (followed (Some passed.kept)) (kept_nil filter)
+      ∙ ap (λ (l : List Row). Some l) (append-nil passed.kept))

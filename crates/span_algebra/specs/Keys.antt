@@ -1,0 +1,18 @@
+-- Rows that are kept by their first appearance, one after another.
+use Rattle.std.specs.Prelude.{ℕ, zero, suc, List, [], ◌∷◌, ◌++◌, Bool, if◌then◌else◌}
+use Rattle.std.specs.List.{list_any}
+use Rattle.span_query.specs.Rows.{Row}
+use Rattle.span_query.specs.Groups.{are_alike}
+
+-- whether one of the rows is alike
+abbrev pub has_alike : List Row → Row → Bool
+has_alike rows row = list_any (λ (x : Row). are_alike x row) rows
+
+-- the rows, and one more where none of them is alike
+abbrev pub with_new : List Row → Row → List Row
+with_new rows row = if has_alike rows row then rows else rows ++ row ∷ []
+
+-- the place of the first row that is alike, or how many there are
+abbrev pub place_of : List Row → Row → ℕ
+place_of [] row = zero
+place_of (x ∷ rows) row = if are_alike x row then zero else suc (place_of rows row)

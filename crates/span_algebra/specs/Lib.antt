@@ -1,0 +1,9 @@
+pub mod Answers
+pub mod Selecting
+pub mod Joining
+pub mod Orders
+pub mod Keys
+pub mod States
+pub mod Meant
+pub mod Sources
+pub mod Grouped

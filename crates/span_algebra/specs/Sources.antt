@@ -1,0 +1,17 @@
+-- The rows of an item of a FROM, lent or made.
+use Rattle.std.specs.Prelude.{◌≡◌, List, Result, Ok, Err, Some, None}
+use Rattle.span_expr.specs.declared.cell.Failure.{Failure}
+use Rattle.span_expr.specs.declared.cell.Failure.TheVariants.{Fault, OutOfMemory}
+use Rattle.span_query.specs.Rows.{Row, Rows}
+use Rattle.span_algebra.specs.declared.source.Source.{Source}
+use Rattle.span_algebra.specs.declared.source.Source.TheVariants.{Lent, Made}
+
+abbrev pub source_rows : Source → List Row
+source_rows (Lent rows) = rows.now
+source_rows (Made rows) = rows
+
+-- These are the rows that are meant, or it is the fault; nothing is said of want of memory.
+abbrev pub GivesRows : Result Source Failure → Rows → Type 0
+GivesRows (Ok source) o = o ≡ Some (source_rows source)
+GivesRows (Err Fault) o = o ≡ None
+GivesRows (Err OutOfMemory) o = Unit {0}

@@ -1,0 +1,161 @@
+//! Aggregates as states that take one row after another.
+ghost use Rattle.std.specs.Prelude.{◌≡◌, ◌+◌, ◌^◌, ◌<◌, ℕ, pos, [], ◌∷◌, ◌++◌, List, Err, None, IfOk, OnOk};
+ghost use Rattle.span_value.specs.declared.value.Value.{Value};
+ghost use Rattle.span_value.specs.declared.value.Value.TheVariants as value;
+ghost use Rattle.span_expr.specs.declared.cell.Failure.TheVariants.{Fault};
+ghost use Rattle.span_expr.specs.Operators.{number};
+ghost use Rattle.span_expr.specs.Cells.{shown};
+ghost use Rattle.span_query.specs.declared.query.Aggregate.{Aggregate};
+ghost use Rattle.span_query.specs.declared.query.Function.{Function};
+ghost use Rattle.span_query.specs.Rows.{Row, value_of};
+ghost use Rattle.span_query.specs.Groups as spec;
+ghost use Rattle.span_algebra.specs.Answers.{Gives};
+ghost use Rattle.span_algebra.specs.States.{counted, HasCounted, HasTaken, IsStateOf, operand_at, or_better, or_null};
+
+use super::row::copy_of;
+use super::sum::{Sum, number};
+use span_expr::cell::{Cell, Failure};
+use span_expr::eval::evaluate;
+use span_query::query::{Aggregate, Function};
+use span_value::order::compare;
+use span_value::value::Value;
+use std::alloc::{AllocError, Global};
+
+/// The number of an INT64 value.
+fn int_of(value: &Cell<'_>) -> i64
+    ensures { result ≡ spec.int_of (shown value.now) }
+{
+    match value {
+        Cell::Int(n) => *n,
+        _ => 0,
+    }
+}
+
+/// The value, or the best so far where that is not greater.
+fn lesser(best: Option<Value>, value: Value) -> Value
+    ensures { result ≡ or_better spec.lesser best value }
+{
+    match best {
+        Some(so_far) if !compare(&value, &so_far).is_lt() => so_far,
+        _ => value,
+    }
+}
+
+/// The value, or the best so far where that is not less.
+fn greater(best: Option<Value>, value: Value) -> Value
+    ensures { result ≡ or_better spec.greater best value }
+{
+    match best {
+        Some(so_far) if !compare(&value, &so_far).is_gt() => so_far,
+        _ => value,
+    }
+}
+
+fn copy_or_null(alloc: Global, best: &Option<Value>) -> Result<Value, AllocError>
+    ensures { IfOk result (λ copy. copy ≡ or_null best.now) }
+{
+    match best {
+        Some(value) => copy_of(alloc, value),
+        None => Ok(Value::Null),
+    }
+}
+
+/// What is known of an aggregate after some rows.
+#[derive(Drop)]
+pub(crate) enum State {
+    /// How many rows, or how many values.
+    Count(u64),
+    Sum(Sum),
+    /// The first of the least values.
+    Least(Option<Value>),
+    /// The first of the greatest values.
+    Greatest(Option<Value>),
+}
+
+impl State {
+    /// Of no rows.
+    pub(crate) fn new(aggregate: &Aggregate) -> State
+        ensures { IsStateOf aggregate.now [] result }
+    {
+        match aggregate {
+            Aggregate::CountRows => State::Count(0),
+            Aggregate::Of(Function::Count, _) => State::Count(0),
+            Aggregate::Of(Function::Sum, _) => State::Sum(Sum::new()),
+            Aggregate::Of(Function::Min, _) => State::Least(None),
+            Aggregate::Of(Function::Max, _) => State::Greatest(None),
+        }
+    }
+
+    /// One more row of a count of rows.
+    fn count_row(&mut self)
+        requires { counted self.old + 1 < 2 ^ 64 }
+        ensures { (n : ℕ) → HasCounted n self.old → HasCounted (n + 1) self.new }
+    {
+        if let State::Count(count) = self {
+            *count += 1;
+        }
+    }
+
+    /// One more value that is not NULL. Only a least or a greatest value is kept, and so copied.
+    fn take_value(&mut self, alloc: Global, value: Cell<'_>) -> Result<(), AllocError>
+        requires { counted self.old + 1 < 2 ^ 64 }
+        ensures { OnOk result ((f : Function) (vs : List Value) → HasTaken f vs self.old → HasTaken f (vs ++ shown value.entry ∷ []) self.new) }
+    {
+        match self {
+            State::Count(count) => *count += 1,
+            State::Sum(sum) => sum.add(int_of(&value)),
+            State::Least(best) => {
+                let value = value.into_value(alloc)?;
+                *best = Some(lesser(best.take(), value));
+            }
+            State::Greatest(best) => {
+                let value = value.into_value(alloc)?;
+                *best = Some(greater(best.take(), value));
+            }
+        }
+        Ok(())
+    }
+
+    /// One more row.
+    pub(crate) fn take(
+        &mut self,
+        alloc: Global,
+        aggregate: &Aggregate,
+        row: &[Value],
+    ) -> Result<(), Failure>
+        requires { counted self.old + 1 < 2 ^ 64 }
+        ensures ok { OnOk result ((rows : List Row) → IsStateOf aggregate.now rows self.old → IsStateOf aggregate.now (rows ++ row.now ∷ []) self.new) }
+        ensures fault { result ≡ Err Fault → operand_at row.now aggregate.now ≡ None }
+    {
+        match aggregate {
+            Aggregate::CountRows => self.count_row(),
+            Aggregate::Of(_, operand) => {
+                let value = evaluate(alloc, operand, row)?;
+                if !value.is_null() {
+                    self.take_value(alloc, value)?;
+                }
+            }
+        }
+        Ok(())
+    }
+
+    /// What the values that were taken come to.
+    fn value(&self, alloc: Global) -> Result<Value, Failure>
+        ensures values { (f : Function) (vs : List Value) → HasTaken f vs self.now → Gives result (value_of (spec.of_values f vs)) }
+        ensures rows { (n : ℕ) → HasCounted n self.now → Gives result (value_of (number (pos n))) }
+    {
+        match self {
+            State::Count(count) => number(i128::from(*count)),
+            State::Sum(sum) => sum.outcome(),
+            State::Least(best) => Ok(copy_or_null(alloc, best)?),
+            State::Greatest(best) => Ok(copy_or_null(alloc, best)?),
+        }
+    }
+
+    /// The aggregate of the rows that were taken.
+    pub(crate) fn outcome(&self, alloc: Global) -> Result<Value, Failure>
+        ensures { (a : Aggregate) (rows : List Row) → IsStateOf a rows self.now → Gives result (spec.aggregate rows a) }
+    {
+        self.value(alloc)
+    }
+}

@@ -1,0 +1,47 @@
+//! What one SELECT makes of the rows of its FROM.
+ghost use Rattle.std.specs.Prelude.{◌≡◌, Some};
+ghost use Rattle.span_query.specs.Rows.{kept_where, selected};
+ghost use Rattle.span_query.specs.Groups.{grouped};
+ghost use Rattle.span_query.specs.Meaning.{distinct_if};
+ghost use Rattle.span_algebra.specs.Answers.{Gives};
+ghost use Rattle.span_algebra.specs.Meant.{outputs_of, shown};
+
+use super::distinct::distinct;
+use super::group::group_rows;
+use super::select::select_rows;
+use span_expr::cell::Failure;
+use span_query::query::{Block, BoundQuery};
+use span_value::seq::Seq;
+use span_value::value::Row;
+use std::alloc::Global;
+
+/// The select list at the rows of the FROM, or at those of the groups.
+#[tactic(auto, using(crate::proofs::Blocks::block_laws))]
+fn outputs_of(alloc: Global, block: &Block<BoundQuery>, rows: &[Row]) -> Result<Seq<Row>, Failure>
+    ensures { Gives result (outputs_of block.now rows.now) }
+{
+    let outputs = block.outputs.as_slice();
+    match &block.grouping {
+        None => select_rows(alloc, &block.filter, outputs, rows),
+        Some(grouping) => {
+            let groups = group_rows(alloc, &block.filter, grouping, rows)?;
+            select_rows(alloc, &grouping.having, outputs, groups.as_slice())
+        }
+    }
+}
+
+/// The rows that a block shows, of the rows of its FROM.
+pub(crate) fn shown(
+    alloc: Global,
+    block: &Block<BoundQuery>,
+    rows: &[Row],
+) -> Result<Seq<Row>, Failure>
+    ensures { Gives result (shown block.now rows.now) }
+{
+    let found = outputs_of(alloc, block, rows)?;
+    if block.is_distinct {
+        distinct(alloc, found)
+    } else {
+        Ok(found)
+    }
+}

@@ -1,0 +1,65 @@
+//! Rows that are alike, and each row once.
+ghost use Rattle.std.specs.Prelude.{◌≡◌, IfOk, Some};
+ghost use Rattle.span_expr.specs.Operators.{column_of};
+ghost use Rattle.span_query.specs.Groups.{is_like, are_alike, distinct, columns_at};
+ghost use Rattle.span_algebra.specs.Answers.{Gives};
+ghost use Rattle.span_algebra.specs.Keys.{has_alike};
+
+use span_expr::cell::Failure;
+use span_value::order::compare;
+use span_value::seq::Seq;
+use span_value::value::{Row, Value};
+use std::alloc::{AllocError, Global};
+
+/// Whether the two are the same value; NULL is like NULL.
+pub(crate) fn is_like(left: &Value, right: &Value) -> bool
+    ensures { result ≡ is_like left.now right.now }
+{
+    compare(left, right).is_eq()
+}
+
+/// Whether the rows have as many values, each like the one at its place.
+fn are_alike(left: &[Value], right: &[Value]) -> bool
+    ensures { result ≡ are_alike left.now right.now }
+{
+    if left.len() != right.len() {
+        return false;
+    }
+    for at in 0..left.len() {
+        if !is_like(&left[at], &right[at]) {
+            return false;
+        }
+    }
+    true
+}
+
+fn has_alike(rows: &[Row], row: &[Value]) -> bool
+    ensures { result ≡ has_alike rows.now row.now }
+{
+    for other in rows {
+        if are_alike(other.as_slice(), row) {
+            return true;
+        }
+    }
+    false
+}
+
+#[tactic(auto, using(crate::proofs::Firsts::one_more))]
+fn first_ones(alloc: Global, rows: Vec<Row>) -> Result<Vec<Row>, AllocError>
+    ensures { IfOk result (λ kept. kept.items ≡ distinct rows.items) }
+{
+    let mut kept = Vec::new(alloc);
+    for row in rows {
+        if !has_alike(kept.as_slice(), row.as_slice()) {
+            kept.push(row)?;
+        }
+    }
+    Ok(kept)
+}
+
+/// Each row once, where it stands first.
+pub(crate) fn distinct(alloc: Global, rows: Seq<Row>) -> Result<Seq<Row>, Failure>
+    ensures { Gives result (Some (distinct rows)) }
+{
+    Ok(Seq::from_vec(first_ones(alloc, rows.into_vec())?))
+}

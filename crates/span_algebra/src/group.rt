@@ -1,0 +1,191 @@
+//! GROUP BY: one pass over the rows, each of which is taken by the group of its key.
+ghost use Rattle.std.specs.Prelude.{◌≡◌, [], ◌∷◌, ◌++◌, List, Err, None, Any, IfOk, OnOk};
+ghost use Rattle.span_expr.specs.declared.cell.Failure.TheVariants.{Fault};
+ghost use Rattle.span_expr.specs.Operators.{column_of};
+ghost use Rattle.span_query.specs.declared.query.Grouping.{Grouping};
+ghost use Rattle.span_query.specs.Rows.{Row, and_then, kept_where};
+ghost use Rattle.span_query.specs.Groups as spec;
+ghost use Rattle.span_algebra.specs.Answers.{Gives};
+ghost use Rattle.span_algebra.specs.Keys as keys;
+ghost use Rattle.span_algebra.specs.States.{AreStatesOf, HaveRoom, operand_at};
+ghost use Rattle.span_algebra.specs.Grouped.{keys_of, AreGroupsOf, HaveRoomFor, HasPlace};
+
+use super::aggregate::State;
+use super::distinct::is_like;
+use super::row::{add, copy_of};
+use super::select::is_kept;
+use super::states::{new_states, row_with, take_all};
+use span_expr::cell::Failure;
+use span_expr::expr::Expr;
+use span_query::query::{Aggregate, Grouping};
+use span_value::seq::Seq;
+use span_value::value::{Row, Value};
+use std::alloc::{AllocError, Global};
+
+/// The rows of one key, as the states of the aggregates.
+#[derive(Drop)]
+struct Group {
+    key: Row,
+    states: Vec<State>,
+}
+
+/// Whether the value is like the row's at a place; NULL stands at a place that the row has not.
+fn is_like_at(value: &Value, row: &[Value], place: usize) -> bool
+    ensures { result ≡ spec.is_like value.now (column_of row.now place) }
+{
+    match row.get(place) {
+        Some(other) => is_like(value, other),
+        None => is_like(value, &Value::Null),
+    }
+}
+
+/// Whether the row has this key.
+fn has_key(key: &[Value], places: &[usize], row: &[Value]) -> bool
+    ensures { result ≡ spec.are_alike key.now (spec.columns_at places.now row.now) }
+{
+    if key.len() != places.len() {
+        return false;
+    }
+    for at in 0..key.len() {
+        if !is_like_at(&key[at], row, places[at]) {
+            return false;
+        }
+    }
+    true
+}
+
+/// The place of the group of the row, or how many groups there are.
+fn place_of(groups: &[Group], places: &[usize], row: &[Value]) -> usize
+    ensures { result ≡ keys.place_of (keys_of groups.now) (spec.columns_at places.now row.now) }
+{
+    for at in 0..groups.len() {
+        if has_key(groups[at].key.as_slice(), places, row) {
+            return at;
+        }
+    }
+    groups.len()
+}
+
+fn copy_at(alloc: Global, row: &[Value], place: usize) -> Result<Value, AllocError>
+    ensures { IfOk result (λ copy. copy ≡ column_of row.now place) }
+{
+    match row.get(place) {
+        Some(value) => copy_of(alloc, value),
+        None => Ok(Value::Null),
+    }
+}
+
+/// The key of a row.
+fn key_of(alloc: Global, places: &[usize], row: &[Value]) -> Result<Row, AllocError>
+    ensures { IfOk result (λ key. key ≡ spec.columns_at places.now row.now) }
+{
+    let mut key = Vec::with_capacity(alloc, places.len())?;
+    for place in places {
+        key.push(copy_at(alloc, row, *place)?)?;
+    }
+    Ok(Seq::from_vec(key))
+}
+
+/// A group of no rows.
+fn new_group(alloc: Global, aggregates: &[Aggregate], key: Row) -> Result<Group, AllocError>
+    ensures key { IfOk result (λ group. group.key ≡ key) }
+    ensures states { IfOk result (λ group. AreStatesOf aggregates.now [] group.states.items) }
+{
+    let states = new_states(alloc, aggregates)?;
+    Ok(Group { key, states })
+}
+
+impl Group {
+    /// One more row.
+    fn take(
+        &mut self,
+        alloc: Global,
+        aggregates: &[Aggregate],
+        row: &[Value],
+    ) -> Result<(), Failure>
+        requires { HaveRoom aggregates.now self.old.states.items }
+        ensures key { self.new.key ≡ self.old.key }
+        ensures ok { OnOk result ((rows : List Row) → AreStatesOf aggregates.now rows self.old.states.items → AreStatesOf aggregates.now (rows ++ row.now ∷ []) self.new.states.items) }
+        ensures fault { result ≡ Err Fault → Any (λ a. operand_at row.now a ≡ None) aggregates.now }
+    {
+        take_all(alloc, aggregates, &mut self.states, row)
+    }
+}
+
+/// The place of the group of the row, which is added behind the others where there was none.
+fn group_of(
+    alloc: Global,
+    grouping: &Grouping,
+    groups: &mut Vec<Group>,
+    row: &[Value],
+) -> Result<usize, AllocError>
+    ensures { IfOk result (λ at. (rows : List Row) → AreGroupsOf grouping.now rows groups.old.items → HasPlace grouping.now row.now rows groups.new.items at) }
+{
+    let places = grouping.keys.as_slice();
+    let at = place_of(groups, places, row);
+    if at == groups.len() {
+        let key = key_of(alloc, places, row)?;
+        add(
+            groups,
+            new_group(alloc, grouping.aggregates.as_slice(), key)?,
+        )?;
+    }
+    Ok(at)
+}
+
+/// The groups with one more row.
+fn take_row(
+    alloc: Global,
+    grouping: &Grouping,
+    groups: &mut Vec<Group>,
+    row: &[Value],
+) -> Result<(), Failure>
+    requires { HaveRoomFor grouping.now groups.old.items }
+    ensures ok { OnOk result ((rows : List Row) → AreGroupsOf grouping.now rows groups.old.items → AreGroupsOf grouping.now (rows ++ row.now ∷ []) groups.new.items) }
+    ensures fault { result ≡ Err Fault → Any (λ a. operand_at row.now a ≡ None) grouping.now.aggregates }
+{
+    let at = group_of(alloc, grouping, groups, row)?;
+    groups[at].take(alloc, grouping.aggregates.as_slice(), row)
+}
+
+/// The groups of no rows: none, or the one group where there are no key columns.
+fn first_groups(alloc: Global, grouping: &Grouping) -> Result<Vec<Group>, AllocError>
+    ensures { IfOk result (λ groups. AreGroupsOf grouping.now [] groups.items) }
+{
+    let mut groups = Vec::new(alloc);
+    if grouping.keys.is_empty() {
+        groups.push(new_group(alloc, grouping.aggregates.as_slice(), Seq::new(alloc))?)?;
+    }
+    Ok(groups)
+}
+
+/// The row of each group.
+fn rows_of(alloc: Global, groups: Vec<Group>) -> Result<Seq<Row>, Failure>
+    ensures { (g : Grouping) (rows : List Row) → AreGroupsOf g rows groups.items → Gives result (spec.groups g rows) }
+{
+    let mut rows = Vec::with_capacity(alloc, groups.len())?;
+    for group in groups {
+        let Group { key, states } = group;
+        add(&mut rows, row_with(alloc, key, states.as_slice())?)?;
+    }
+    Ok(Seq::from_vec(rows))
+}
+
+/// The rows of the groups of the rows where the condition is TRUE: of each group its key, and then its aggregates.
+pub(crate) fn group_rows(
+    alloc: Global,
+    filter: &Option<Expr>,
+    grouping: &Grouping,
+    rows: &[Row],
+) -> Result<Seq<Row>, Failure>
+    ensures { Gives result (and_then (kept_where filter.now rows.now) (spec.groups grouping.now)) }
+{
+    let mut groups = first_groups(alloc, grouping)?;
+    for row in rows {
+        let row = row.as_slice();
+        if is_kept(alloc, filter, row)? {
+            take_row(alloc, grouping, &mut groups, row)?;
+        }
+    }
+    rows_of(alloc, groups)
+}

@@ -1,0 +1,15 @@
+//! The plain meaning of queries: rows by nested loops over whole tables.
+#![tactic(auto)]
+
+mod aggregate;
+mod block;
+mod distinct;
+mod group;
+mod join;
+pub mod plain;
+mod row;
+mod select;
+pub mod sort;
+mod source;
+mod states;
+mod sum;

@@ -1,0 +1,82 @@
+//! Rows: conditions at them, and rows made of others.
+ghost use Rattle.std.specs.Prelude.{◌≡◌, ◌++◌, ◌∷◌, [], IfOk, OnOk, replicate};
+ghost use Rattle.span_query.specs.Rows.{holds, value_of};
+ghost use Rattle.span_expr.specs.Meaning.{val};
+ghost use Rattle.span_algebra.specs.Answers.{Gives};
+
+use span_expr::cell::Failure;
+use span_expr::eval::evaluate;
+use span_expr::expr::Expr;
+use span_value::seq::Seq;
+use span_value::truth::Truth;
+use span_value::value::{Row, Value};
+use std::alloc::{AllocError, Global};
+
+/// Whether the condition is TRUE at the row.
+pub(crate) fn is_met(alloc: Global, condition: &Expr, row: &[Value]) -> Result<bool, Failure>
+    ensures { Gives result (holds condition.now row.now) }
+{
+    Ok(evaluate(alloc, condition, row)?.truth() == Truth::True)
+}
+
+/// The value of an expression at the row.
+pub(crate) fn value_at(alloc: Global, expr: &Expr, row: &[Value]) -> Result<Value, Failure>
+    ensures { Gives result (value_of (val row.now expr.now)) }
+{
+    match evaluate(alloc, expr, row)?.into_value(alloc) {
+        Ok(value) => Ok(value),
+        Err(_) => Err(Failure::OutOfMemory),
+    }
+}
+
+/// Adds an item at the end.
+pub(crate) fn add<T: Drop>(items: &mut Vec<T>, item: T) -> Result<(), AllocError>
+    ensures { OnOk result (items.new.items ≡ items.old.items ++ item ∷ []) }
+{
+    items.push(item)?;
+    Ok(())
+}
+
+pub(crate) fn copy_of(alloc: Global, value: &Value) -> Result<Value, AllocError>
+    ensures { IfOk result (λ copy. copy ≡ value.now) }
+{
+    match value.copy(alloc) {
+        Ok(copy) => Ok(copy),
+        Err(_) => Err(AllocError),
+    }
+}
+
+/// The values and then more.
+pub(crate) fn extended(
+    alloc: Global,
+    mut row: Vec<Value>,
+    more: &[Value],
+) -> Result<Vec<Value>, AllocError>
+    ensures { IfOk result (λ all. all.items ≡ row.items ++ more.now) }
+{
+    for value in more {
+        row.push(copy_of(alloc, value)?)?;
+    }
+    Ok(row)
+}
+
+/// A copy of the row.
+pub(crate) fn copied(alloc: Global, row: &[Value]) -> Result<Row, AllocError>
+    ensures { IfOk result (λ copy. copy ≡ row.now) }
+{
+    let room = Vec::with_capacity(alloc, row.len())?;
+    Ok(Seq::from_vec(extended(alloc, room, row)?))
+}
+
+/// A row, and so many NULLs behind it.
+#[tactic(auto, using(crate::proofs::Gathering::row_steps))]
+pub(crate) fn padded(alloc: Global, left: &[Value], width: usize) -> Result<Row, AllocError>
+    ensures { IfOk result (λ row. row ≡ left.now ++ replicate width Value.Null) }
+{
+    let room = Vec::with_capacity(alloc, left.len().saturating_add(width))?;
+    let mut row = extended(alloc, room, left)?;
+    for _ in 0..width {
+        row.push(Value::Null)?;
+    }
+    Ok(Seq::from_vec(row))
+}

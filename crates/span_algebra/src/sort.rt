@@ -1,0 +1,83 @@
+//! ORDER BY and LIMIT: rows in the order of some keys, and a part of a list of rows.
+ghost use Rattle.std.specs.Prelude.{◌≡◌, Some, List};
+ghost use Rattle.std.specs.Cmp.{IsStrictWeakOrder};
+ghost use Rattle.std.specs.List.Sorted.{IsStableBy};
+ghost use Rattle.span_query.specs.Rows.{Row};
+ghost use Rattle.span_query.specs.Sorting as spec;
+ghost use Rattle.span_query.specs.Meaning as meaning;
+ghost use Rattle.span_query.specs.declared.query.SortKey.{SortKey};
+ghost use Rattle.span_algebra.specs.Answers.{Gives};
+ghost use Rattle.span_algebra.specs.Orders.{IsInOrder};
+
+use span_expr::cell::Failure;
+use span_query::query::{Limit, SortKey};
+use span_value::order::compare;
+use span_value::seq::Seq;
+use span_value::value::{Row, Value};
+use std::cmp::Ordering;
+
+/// How two rows stand to each other by one key; a place that a row does not have counts as NULL. Nothing is copied.
+fn compare_by_key(key: &SortKey, left: &[Value], right: &[Value]) -> Ordering
+    ensures { result ≡ spec.key_order key.now left.now right.now }
+{
+    let null = Value::Null;
+    let order = compare(
+        left.get(key.column).unwrap_or(&null),
+        right.get(key.column).unwrap_or(&null),
+    );
+    if key.is_descending {
+        order.reverse()
+    } else {
+        order
+    }
+}
+
+/// How two rows stand to each other, by the first key that tells them apart.
+pub(crate) fn compare_rows(keys: &[SortKey], left: &[Value], right: &[Value]) -> Ordering
+    ensures { result ≡ spec.row_order keys.now left.now right.now }
+{
+    for key in keys {
+        let order = compare_by_key(key, left, right);
+        if order != Ordering::Equal {
+            return order;
+        }
+    }
+    Ordering::Equal
+}
+
+/// The rows in the order of the keys. Rows that no key tells apart stay as they stood. The only error is want of memory.
+pub(crate) fn sort_rows(keys: &[SortKey], rows: Seq<Row>) -> Result<Seq<Row>, Failure>
+    ensures { Gives result (Some (spec.sorted keys.now rows)) }
+{
+    if keys.is_empty() {
+        return Ok(rows);
+    }
+    let mut rows = rows.into_vec();
+    rows.sort_by(|left, right| compare_rows(keys, left.as_slice(), right.as_slice()))?;
+    Ok(Seq::from_vec(rows))
+}
+
+/// A part of the rows: those passed over and those cut off are dropped, the others are moved.
+pub(crate) fn limited(limit: Option<Limit>, rows: Seq<Row>) -> Seq<Row>
+    ensures { result ≡ meaning.limited limit rows }
+{
+    let Some(limit) = limit else {
+        return rows;
+    };
+    let mut rows = rows.into_vec();
+    // What is cut off goes first, so that little is moved to the front.
+    rows.truncate(limit.skip.saturating_add(limit.rows) as usize);
+    let skip = rows.len().min(limit.skip as usize);
+    rows.drain(..skip);
+    Seq::from_vec(rows)
+}
+
+/// A law, which takes no time: the rows that sorting gives are in the order of the keys, rows that no key tells apart stay as they
+/// stood, and no other list is so.
+pub fn sorting_is_stable()
+    ensures ranked { (keys : List SortKey) → IsStrictWeakOrder (spec.comes_before keys) }
+    ensures sorted { (keys : List SortKey) (rows : List Row) → IsInOrder (spec.comes_before keys) (spec.sorted keys rows) }
+    ensures stable { (keys : List SortKey) (rows : List Row) → IsStableBy (spec.comes_before keys) rows (spec.sorted keys rows) }
+    ensures only { (keys : List SortKey) (rows others : List Row) →
+        IsInOrder (spec.comes_before keys) others → IsStableBy (spec.comes_before keys) rows others → others ≡ spec.sorted keys rows }
+{}

@@ -1,0 +1,81 @@
+-- What a literal of a string or bytes stands for: its characters, each as it stands or by an escape.
+use Rattle.std.specs.Prelude.{ℕ, zero, suc, ◌+◌, ◌-◌, ◌*◌, ◌%◌, ◌==◌, nat_lt, nat_le, ◌&&◌, List, [], ◌∷◌, length, take, drop, map, chars, Option, Some, None, if◌then◌else◌}
+use Rattle.std.specs.Str.{encode_utf8_all}
+
+-- the value of a hexadecimal digit in either case: 0 to 9 from 48 on, A to F from 65 on, a to f from 97 on; no literal has
+-- another character as a digit
+unfoldable pub digit : ℕ → ℕ
+digit c = if nat_le 48 c && nat_lt c 58 then c - 48 else (if nat_le 65 c && nat_lt c 71 then c - 55 else (if nat_le 97 c && nat_lt c 103 then c - 87 else 0))
+
+-- the character with this code; no literal has the code of a surrogate
+abbrev pub character : ℕ → ℕ
+character n = if nat_le 55296 n && nat_lt n 57344 then 65533 else n
+
+-- the number that two digits are, and what is behind them; no literal has fewer
+unfoldable pub two_digits : List ℕ → Option (ℕ × List ℕ)
+two_digits [] = None
+two_digits (h ∷ []) = None
+two_digits (h ∷ l ∷ cs) = Some (digit h * 16 + digit l, cs)
+
+-- the same of four digits
+unfoldable pub four_digits : List ℕ → Option (ℕ × List ℕ)
+four_digits [] = None
+four_digits (a ∷ []) = None
+four_digits (a ∷ b ∷ []) = None
+four_digits (a ∷ b ∷ c ∷ []) = None
+four_digits (a ∷ b ∷ c ∷ d ∷ cs) = Some (((digit a * 16 + digit b) * 16 + digit c) * 16 + digit d, cs)
+
+-- the code that an escape has by its letter and its digits, if it has one, and what is behind it
+abbrev pub code_of : ℕ → List ℕ → Option (ℕ × List ℕ)
+code_of c cs = if c == 120 then two_digits cs else (if c == 117 then four_digits cs else None)
+
+-- the character of an escape that has no digits: n is LF, r is CR, t is a tab, and a quote or a backslash is itself
+abbrev pub named : ℕ → ℕ
+named c = if c == 110 then 10 else (if c == 114 then 13 else (if c == 116 then 9 else c))
+
+-- the character of an escape, whose letter and digits stand there, and what is behind it
+abbrev pub escaped_as : Option (ℕ × List ℕ) → ℕ → List ℕ → ℕ × List ℕ
+escaped_as None c cs = (named c, cs)
+escaped_as (Some p) c cs = (character p.0, p.1)
+
+abbrev pub escaped : ℕ → List ℕ → ℕ × List ℕ
+escaped c cs = escaped_as (code_of c cs) c cs
+
+-- the character that a backslash begins, and what is behind it; no literal ends by a backslash
+abbrev pub behind_backslash : List ℕ → ℕ × List ℕ
+behind_backslash [] = (92, [])
+behind_backslash (c ∷ cs) = escaped c cs
+
+-- the first character, and what is behind it
+abbrev pub first_of : ℕ → List ℕ → ℕ × List ℕ
+first_of c cs = if c == 92 then behind_backslash cs else (c, cs)
+
+-- at most so many characters
+unfoldable pub characters : ℕ → List ℕ → List ℕ
+characters zero cs = []
+characters (suc n) [] = []
+characters (suc n) (c ∷ cs) = (first_of c cs).0 ∷ characters n (first_of c cs).1
+
+-- each character takes one at least
+unfoldable pub meant : List ℕ → List ℕ
+meant cs = characters (length cs) cs
+
+-- all but the last one
+abbrev pub before_last : List ℕ → List ℕ
+before_last cs = take (length cs - 1) cs
+
+-- what stands between the quotes, which are the first character and the last one
+abbrev pub between_quotes : List ℕ → List ℕ
+between_quotes cs = before_last (drop 1 cs)
+
+-- the text of a string literal, spelt with its quotes
+abbrev pub text_of : List ℕ → List ℕ
+text_of spelled = encode_utf8_all (meant (between_quotes (chars spelled)))
+
+-- each as a byte; no character of a BYTES literal has another code
+abbrev pub as_bytes : List ℕ → List ℕ
+as_bytes cs = map (λ (c : ℕ). c % 256) cs
+
+-- the bytes of a BYTES literal, spelt with its mark and its quotes
+abbrev pub bytes_of : List ℕ → List ℕ
+bytes_of spelled = as_bytes (meant (between_quotes (drop 1 (chars spelled))))

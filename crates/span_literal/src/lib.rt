@@ -1,0 +1,7 @@
+//! What literals of strings and bytes stand for.
+#![tactic(auto)]
+
+pub mod laws;
+pub mod literal;
+#[cfg(test)]
+mod tests;

@@ -1,0 +1,7 @@
+//! The parameters of a query.
+#![tactic(auto)]
+
+pub mod laws;
+pub mod params;
+#[cfg(test)]
+mod tests;

@@ -1,0 +1,4 @@
+pub mod Rows
+pub mod Groups
+pub mod Sorting
+pub mod Meaning

@@ -1,0 +1,83 @@
+-- Lists, or the fault: what it is to make a list of what each item of another gives.
+use Rattle.std.specs.Prelude.{Bool, true, false, List, [], ◌∷◌, ◌++◌, Option, Some, None}
+use Rattle.std.specs.Option.{option_map}
+use Rattle.span_value.specs.declared.value.Value.{Value}
+use Rattle.span_value.specs.declared.value.Value.TheVariants as value
+use Rattle.span_value.specs.declared.truth.Outcome.{Outcome}
+use Rattle.span_value.specs.declared.truth.Outcome.TheVariants.{Val, Fault}
+use Rattle.span_expr.specs.declared.expr.Expr.{Expr}
+use Rattle.span_expr.specs.Meaning.{val}
+
+abbrev pub Row : Type 0
+Row = List Value
+
+-- something, or the fault, which None stands for
+abbrev pub OrFault : Type 0 → Type 0
+OrFault A = Option A
+
+-- what comes of it; a fault stays one
+abbrev pub and_then : {A B : Type 0} → OrFault A → (A → OrFault B) → OrFault B
+and_then (Some x) next = next x
+and_then None next = None
+
+-- the same, as an operator
+infixl 10 ◌>>=◌
+abbrev pub ◌>>=◌ : {A B : Type 0} → OrFault A → (A → OrFault B) → OrFault B
+found >>= next = and_then found next
+
+abbrev pub Rows : Type 0
+Rows = OrFault (List Row)
+
+abbrev pub value_of : Outcome → OrFault Value
+value_of (Val v) = Some v
+value_of Fault = None
+
+abbrev pub is_true : Value → Bool
+is_true (value.Bool b) = b
+is_true v = false
+
+-- ---- lists
+
+-- both lists, or the fault where either is one
+abbrev pub followed : {A : Type 0} → OrFault (List A) → OrFault (List A) → OrFault (List A)
+followed a b = a >>= (λ xs. b >>= (λ ys. Some (xs ++ ys)))
+
+-- the lists that each gives, in order
+abbrev pub gathered : {A B : Type 0} → (A → OrFault (List B)) → List A → OrFault (List B)
+gathered f [] = Some []
+gathered f (x ∷ xs) = followed (f x) (gathered f xs)
+
+abbrev pub only : {A : Type 0} → A → List A
+only x = x ∷ []
+
+-- what each gives, in order
+abbrev pub each : {A B : Type 0} → (A → OrFault B) → List A → OrFault (List B)
+each f xs = gathered (λ x. option_map only (f x)) xs
+
+abbrev pub only_if : {A : Type 0} → A → Bool → List A
+only_if x true = x ∷ []
+only_if x false = []
+
+-- ---- conditions
+
+-- whether the condition is TRUE at a row
+abbrev pub holds : Expr → Row → OrFault Bool
+holds e row = value_of (val row e) >>= (λ v. Some (is_true v))
+
+-- the rows at which the condition is TRUE; it is judged at each
+abbrev pub kept : Expr → List Row → Rows
+kept e rows = gathered (λ row. holds e row >>= (λ b. Some (only_if row b))) rows
+
+-- the same, where there may be no condition
+abbrev pub kept_where : Option Expr → List Row → Rows
+kept_where None rows = Some rows
+kept_where (Some e) rows = kept e rows
+
+-- ---- the select list
+
+abbrev pub values : List Expr → Row → OrFault Row
+values es row = each (λ e. value_of (val row e)) es
+
+-- the select list at each row
+abbrev pub selected : List Expr → List Row → Rows
+selected es rows = each (values es) rows

@@ -1,0 +1,43 @@
+-- Rows in the order that ORDER BY asks for.
+use Rattle.std.specs.Prelude.{ℕ, Bool, true, false, List, [], ◌∷◌, if◌then◌else◌}
+use Rattle.std.specs.declared.cmp.Ordering.{Ordering}
+use Rattle.std.specs.declared.cmp.Ordering.TheVariants.{Less, Equal, Greater}
+use Rattle.std.specs.Ordering.{is_lt}
+use Rattle.span_value.specs.Orders.{value_order}
+use Rattle.span_expr.specs.Operators.{column_of}
+use Rattle.span_query.specs.declared.query.SortKey.{SortKey}
+use Rattle.span_query.specs.Rows.{Row}
+
+abbrev pub turned : Bool → Ordering → Ordering
+turned true Less = Greater
+turned true Greater = Less
+turned b o = o
+
+abbrev pub or_next : Ordering → Ordering → Ordering
+or_next Equal next = next
+or_next o next = o
+
+-- NULL first, or last where the values descend
+abbrev pub key_order : SortKey → Row → Row → Ordering
+key_order key r s = turned key.is_descending (value_order (column_of r key.column) (column_of s key.column))
+
+-- by the first key that tells them apart
+abbrev pub row_order : List SortKey → Row → Row → Ordering
+row_order [] r s = Equal
+row_order (key ∷ keys) r s = or_next (key_order key r s) (row_order keys r s)
+
+abbrev pub comes_before : List SortKey → Row → Row → Bool
+comes_before keys r s = is_lt (row_order keys r s)
+
+-- the list with x in front of the first item that does not come before it
+abbrev pub placed : {A : Type 0} → (A → A → Bool) → A → List A → List A
+placed before x [] = x ∷ []
+placed before x (y ∷ ys) = if before y x then y ∷ placed before x ys else x ∷ y ∷ ys
+
+-- the list in order; items of which neither comes before the other stay as they stood
+abbrev pub in_order : {A : Type 0} → (A → A → Bool) → List A → List A
+in_order before [] = []
+in_order before (x ∷ xs) = placed before x (in_order before xs)
+
+abbrev pub sorted : List SortKey → List Row → List Row
+sorted keys rows = in_order (comes_before keys) rows

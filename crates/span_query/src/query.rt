@@ -1,0 +1,91 @@
+//! Typed queries, as the binder makes them.
+use span_expr::expr::Expr;
+use sqlite_items::{Boxed, Items};
+
+/// A query.
+#[derive(Debug, Drop)]
+pub struct BoundQuery {
+    pub first: Block<BoundQuery>,
+    /// The blocks behind UNION ALL.
+    pub others: Items<Block<BoundQuery>>,
+    pub order: Items<SortKey>,
+    pub limit: Option<Limit>,
+}
+
+/// One SELECT. `Q` is the type of the queries of derived tables.
+#[derive(Debug, Drop)]
+pub struct Block<Q> {
+    pub from: Item<Q>,
+    pub joins: Items<Join<Q>>,
+    /// WHERE, at a row of the FROM.
+    pub filter: Option<Expr>,
+    pub grouping: Option<Grouping>,
+    /// What is shown: at a row of the FROM or, of a grouped block, at a row of the groups.
+    pub outputs: Items<Expr>,
+    pub is_distinct: bool,
+}
+
+/// What stands in a FROM.
+#[derive(Debug, Drop)]
+pub enum Item<Q> {
+    /// The table with this number; the first has number 1.
+    Table(usize),
+    /// A derived table.
+    Derived(Boxed<Q>),
+}
+
+/// A further item of a FROM, and how its rows join those to their left.
+#[derive(Debug, Drop)]
+pub struct Join<Q> {
+    /// Whether a row to the left that meets none stays, with NULLs.
+    pub is_left: bool,
+    pub item: Item<Q>,
+    /// How many columns the item has.
+    pub width: usize,
+    /// The condition, at a row of the items up to this one.
+    pub on: Expr,
+}
+
+/// How the rows of a block are grouped. A row of the groups has the values of the keys, and then those of the aggregates.
+#[derive(Debug, Drop)]
+pub struct Grouping {
+    /// The columns of the FROM, by their places, counted from 0.
+    pub keys: Items<usize>,
+    pub aggregates: Items<Aggregate>,
+    /// The condition, at a row of the groups.
+    pub having: Option<Expr>,
+}
+
+/// What is made of the rows of a group. The operand is at a row of the FROM.
+#[derive(Debug, Drop)]
+pub enum Aggregate {
+    /// How many rows there are.
+    CountRows,
+    /// Of a function of the operand's values that are not NULL.
+    Of(Function, Expr),
+}
+
+#[derive(Clone, Copy, Debug, PartialEq, Eq)]
+pub enum Function {
+    Count,
+    Sum,
+    Min,
+    Max,
+}
+
+/// A column of the result that its rows are sorted by.
+#[derive(Clone, Copy, Debug, PartialEq, Eq)]
+pub struct SortKey {
+    /// Its place, counted from 0.
+    pub column: usize,
+    pub is_descending: bool,
+}
+
+/// Which rows are given.
+#[derive(Clone, Copy, Debug, PartialEq, Eq)]
+pub struct Limit {
+    /// How many, at most.
+    pub rows: u64,
+    /// How many are passed over first.
+    pub skip: u64,
+}
