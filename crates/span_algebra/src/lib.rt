@@ -13,3 +13,5 @@ pub mod sort;
 mod source;
 mod states;
 mod sum;
+#[cfg(test)]
+mod tests;
