@@ -1,6 +1,16 @@
 //! Typed queries, as the binder makes them.
 use span_expr::expr::Expr;
+use span_value::seq::Seq;
 use sqlite_items::{Boxed, Items};
+
+/// What a text asks: its query, and the tables that it reads.
+#[derive(Debug, Drop)]
+pub struct Statement {
+    pub query: BoundQuery,
+    /// The leaves: the tables of all FROMs by their numbers in the schema, in the order of the text. A table that is named twice is
+    /// two leaves.
+    pub leaves: Seq<usize>,
+}
 
 /// A query.
 #[derive(Debug, Drop)]
@@ -28,7 +38,7 @@ pub struct Block<Q> {
 /// What stands in a FROM.
 #[derive(Debug, Drop)]
 pub enum Item<Q> {
-    /// The table with this number; the first has number 1.
+    /// The leaf with this number; the first has number 1.
     Table(usize),
     /// A derived table.
     Derived(Boxed<Q>),
