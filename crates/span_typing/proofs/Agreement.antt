@@ -1,0 +1,37 @@
+-- The one type of many operands, and operands by their number.
+use Rattle.std.proofs.Common.{◌≡◌, ℕ, suc, ◌<◌, List, [], ◌∷◌, ◌++◌, map, drop, length, get_or, Option, Result, Ok, Err, refl, ap, sym, ◌∙◌}
+use Rattle.std.proofs.Math.Seq.{drop-cons}
+use Rattle.span_value.specs.declared.value.Kind.{Kind}
+use Rattle.span_value.specs.declared.refusal.Refusal.{Refusal}
+use Rattle.span_value.specs.declared.refusal.Refusal.TheVariants.{TypeMismatch}
+use Rattle.span_typing.specs.declared.typed.Typed.{Typed}
+use Rattle.span_typing.specs.Steps.{and_then}
+use Rattle.span_typing.specs.Kinds.{agreed, agreed_with}
+use Rattle.span_typing.specs.Operators.{two_of, three_of}
+
+-- a refusal stays one
+pub refused_stays : (ks : List (Option Kind)) (why : Refusal) → agreed_with ks (Err why) ≡ Err why
+refused_stays [] why = refl
+refused_stays (k ∷ ks) why = refl
+
+-- a type that does not agree with those before it
+pub agreed_refused : {T : Type 0} (f : T → Option Kind) (ts : List T) (k : ℕ) (t : T) (j : Option Kind) (why : Refusal) → k < length ts → t ≡ get_or ts k t → agreed j (f t) ≡ Err why → agreed_with (map f (drop k ts)) (Ok j) ≡ Err why
+agreed_refused f ts k t j why below is differ =
+    ap (λ (l : List _). agreed_with (map f l) (Ok j)) (drop-cons ts k t below ∙ ap (λ (x : _). x ∷ drop (suc k) ts) (sym is))
+    ∙ ap (agreed_with (map f (drop (suc k) ts))) differ ∙ refused_stays (map f (drop (suc k) ts)) why
+
+pub ruleset kind_steps = (refused_stays)
+
+-- four or more are not three
+four_or_more : (x y w : Typed) (ws : List Typed) (z : Typed) → three_of (x ∷ y ∷ w ∷ (ws ++ (z ∷ []))) ≡ Err TypeMismatch
+four_or_more x y w [] z = refl
+four_or_more x y w (v ∷ vs) z = refl
+
+-- three are two and one behind them
+pub three_behind : (xs : List Typed) (z : Typed) → three_of (xs ++ (z ∷ [])) ≡ and_then (two_of xs) (λ p. Ok (p.0, p.1, z))
+three_behind [] z = refl
+three_behind (x ∷ []) z = refl
+three_behind (x ∷ y ∷ []) z = refl
+three_behind (x ∷ y ∷ w ∷ ws) z = four_or_more x y w ws z
+
+pub ruleset counting = (three_behind)

@@ -1,0 +1,5 @@
+pub mod Agreement
+pub mod Stepping
+pub mod Making
+pub mod Sizes
+pub mod Layers

@@ -1,0 +1,66 @@
+-- What is made of operands, by what functions answered of them.
+use Rattle.std.proofs.Common.{◌≡◌, ◌≢◌, ◌∷◌, [], List, map, Option, Some, None, Result, Ok, Err, sym, ap, subst, ◌∙◌}
+use Rattle.span_value.specs.declared.value.Kind.{Kind}
+use Rattle.span_value.specs.declared.refusal.Refusal.{Refusal}
+use Rattle.span_value.specs.declared.refusal.Refusal.TheVariants as refusal
+use Rattle.span_syntax.specs.declared.tree.Operator.{Operator}
+use Rattle.span_expr.specs.declared.expr.Expr.{Expr as TypedExpr}
+use Rattle.span_query.specs.declared.query.Aggregate.{Aggregate}
+use Rattle.span_query.specs.declared.query.Function.{Function}
+use Rattle.span_typing.specs.declared.typed.Typed.{Typed}
+use Rattle.span_typing.specs.declared.typed.TypedArm.{TypedArm}
+use Rattle.span_typing.specs.declared.typed.Chain.{Chain}
+use Rattle.span_typing.specs.declared.typed.Mode.{Mode}
+use Rattle.span_typing.specs.declared.typed.Mode.TheVariants.{Rows}
+use Rattle.span_typing.specs.declared.scope.Scope.{Scope}
+use Rattle.span_typing.specs.declared.function.Called.{Called}
+use Rattle.span_typing.specs.Steps.{and_then, ◌>>=◌, Step, Gives, Leaves}
+use Rattle.span_typing.specs.Operators.{among, case_of, match_of, applied}
+use Rattle.span_typing.specs.Typing.{Operand, each, conditions, links, arms, compared_arms, optional, kind_of, chained, of_one, of_two, of_three, membership, chain, junction, searched_case, simple_case, unknown_call, aggregate_call, function_call, aggregate}
+use Rattle.span_typing.proofs.Stepping.{made_of, made_of_two, made_of_three, made_step}
+
+pub one_made : (f : Typed → Result Typed Refusal) (a : Operand) (m : Mode) (g0 g1 : List Aggregate) (l r : Result Typed Refusal) → Leaves l g1 (a m g0) → Gives r (and_then l f) → Leaves r g1 (of_one f a m g0)
+unfolding of_one
+one_made f a m g0 g1 l r h e = made_of (a m) f g0 g1 l r h e
+
+pub two_made : (f : Typed → Typed → Result Typed Refusal) (a b : Operand) (m : Mode) (g0 g1 g2 : List Aggregate) (l n r : Result Typed Refusal) → Leaves l g1 (a m g0) → Leaves n g2 (b m g1) → Gives r (and_then l (λ x. and_then n (f x))) → Leaves r g2 (of_two f a b m g0)
+unfolding of_two
+two_made f a b m g0 g1 g2 l n r h k e = made_of_two (a m) (λ x. b m) f g0 g1 g2 l n r h (λ x q. k) e
+
+pub three_made : (f : Typed → Typed → Typed → Result Typed Refusal) (a b c : Operand) (m : Mode) (g0 g1 g2 g3 : List Aggregate) (l n o r : Result Typed Refusal) → Leaves l g1 (a m g0) → Leaves n g2 (b m g1) → Leaves o g3 (c m g2) → Gives r (and_then l (λ x. and_then n (λ y. and_then o (f x y)))) → Leaves r g3 (of_three f a b c m g0)
+unfolding of_three
+three_made f a b c m g0 g1 g2 g3 l n o r h k j e = made_of_three (a m) (λ x. b m) (λ x y. c m) f g0 g1 g2 g3 l n o r h (λ x q. k) (λ x y q p. j) e
+
+pub member_made : (a : Operand) (os : List Operand) (m : Mode) (g0 g1 g2 : List Aggregate) (l : Result Typed Refusal) (n : Result (List Typed) Refusal) (r : Result Typed Refusal) → Leaves l g1 (a m g0) → Leaves n g2 (each os m g1) → Gives r (and_then l (λ x. and_then n (among x))) → Leaves r g2 (membership a os m g0)
+unfolding membership
+member_made a os m g0 g1 g2 l n r h k e = made_of_two (a m) (λ x. each os m) among g0 g1 g2 l n r h (λ x q. k) e
+
+pub chain_made : (a : Operand) (ls : List (Operator × Operand)) (m : Mode) (g0 g1 g2 : List Aggregate) (l : Result Typed Refusal) (n : Result Chain Refusal) (r : Result Typed Refusal) → Leaves l g1 (a m g0) → Leaves n g2 (links (kind_of l) ls m g1) → Gives r (and_then l (λ x. and_then n (λ c. Ok (chained x c)))) → Leaves r g2 (chain a ls m g0)
+unfolding chain
+chain_made a ls m g0 g1 g2 l n r h k e = made_of_two (a m) (λ x. links x.kind ls m) (λ x c. Ok (chained x c)) g0 g1 g2 l n r h (λ x q. subst (λ (o : Option Kind). Leaves n g2 (links o ls m g1)) (ap kind_of q) k) e
+
+pub junction_made : (join : Typed → List TypedExpr → Typed) (a : Operand) (os : List Operand) (m : Mode) (g0 g1 g2 : List Aggregate) (l : Result Typed Refusal) (n : Result (List TypedExpr) Refusal) (r : Result Typed Refusal) → Leaves l g1 (a m g0) → Leaves n g2 (conditions (kind_of l) os m g1) → Gives r (and_then l (λ x. and_then n (λ es. Ok (join x es)))) → Leaves r g2 (junction join a os m g0)
+unfolding junction
+junction_made join a os m g0 g1 g2 l n r h k e = made_of_two (a m) (λ x. conditions x.kind os m) (λ x es. Ok (join x es)) g0 g1 g2 l n r h (λ x q. subst (λ (o : Option Kind). Leaves n g2 (conditions o os m g1)) (ap kind_of q) k) e
+
+pub searched_made : (os : List (Operand × Operand)) (other : Option Operand) (m : Mode) (g0 g1 g2 : List Aggregate) (l : Result (List TypedArm) Refusal) (n : Result (Option Typed) Refusal) (r : Result Typed Refusal) → Leaves l g1 (arms os m g0) → Leaves n g2 (optional other m g1) → Gives r (and_then l (λ xs. and_then n (λ y. case_of xs y))) → Leaves r g2 (searched_case os other m g0)
+unfolding searched_case
+searched_made os other m g0 g1 g2 l n r h k e = made_of_two (arms os m) (λ xs. optional other m) (λ xs y. case_of xs y) g0 g1 g2 l n r h (λ x q. k) e
+
+pub simple_made : (a : Operand) (os : List (Operand × Operand)) (other : Option Operand) (m : Mode) (g0 g1 g2 g3 : List Aggregate) (l : Result Typed Refusal) (n : Result (List TypedArm) Refusal) (o : Result (Option Typed) Refusal) (r : Result Typed Refusal) → Leaves l g1 (a m g0) → Leaves n g2 (compared_arms (kind_of l) os m g1) → Leaves o g3 (optional other m g2) → Gives r (and_then l (λ x. and_then n (λ xs. and_then o (λ y. match_of x xs y)))) → Leaves r g3 (simple_case a os other m g0)
+unfolding simple_case
+simple_made a os other m g0 g1 g2 g3 l n o r h k j e = made_of_three (a m) (λ x. compared_arms x.kind os m) (λ x xs. optional other m) (λ x xs y. match_of x xs y) g0 g1 g2 g3 l n o r h (λ x q. subst (λ (t : Option Kind). Leaves n g2 (compared_arms t os m g1)) (ap kind_of q) k) (λ x y q p. j) e
+
+pub unknown_made : (os : List Operand) (m : Mode) (g0 g1 : List Aggregate) (l : Result (List Typed) Refusal) (r : Result Typed Refusal) → Leaves l g1 (each os m g0) → Gives r (and_then l (λ xs. Err refusal.TypeMismatch)) → Leaves r g1 (unknown_call os m g0)
+unfolding unknown_call
+unknown_made os m g0 g1 l r h e = made_of (each os m) (λ xs. Err refusal.TypeMismatch) g0 g1 l r h e
+
+pub function_made : (f : Called) (os : List Operand) (m : Mode) (g0 g1 : List Aggregate) (l : Result (List Typed) Refusal) (r : Result Typed Refusal) → Leaves l g1 (each os m g0) → Gives r (and_then l (λ xs. applied f xs)) → Leaves r g1 (function_call f os m g0)
+unfolding function_call
+function_made f os m g0 g1 l r h e = made_of (each os m) (λ xs. applied f xs) g0 g1 l r h e
+
+pub aggregate_made : (scope : Scope) (f : Function) (os : List Operand) (m : Mode) (g0 g1 g2 : List Aggregate) (l : Result (List Typed) Refusal) (r : Result Typed Refusal) → Leaves l g1 (each os Rows g0) → Leaves r g2 (and_then l (λ xs. aggregate scope m f xs g1)) → Leaves r g2 (aggregate_call scope f os m g0)
+unfolding aggregate_call
+aggregate_made scope f os m g0 g1 g2 l r h e = made_step (each os Rows) (aggregate scope m f) g0 g1 g2 l r h e
+
+pub ruleset making = (one_made, two_made, three_made, member_made, chain_made, junction_made, searched_made, simple_made, unknown_made, function_made, aggregate_made)

@@ -1,0 +1,6 @@
+use Rattle.std.proofs.Common.{◌≡◌, map}
+use Rattle.span_typing.specs.Operators.{exprs_of, arm_of}
+use Rattle.span_typing.proofs.choice.exprs_of.Given as goal
+
+abbrev pub invariant-loop-operand : goal.invariant-loop-operand
+invariant-loop-operand l = l.exprs.items ≡ exprs_of l.yielded

@@ -1,0 +1,51 @@
+-- Steps along a text: each may be refused, and finds more of what is gathered on the way.
+use Rattle.std.specs.Prelude.{◌≡◌, ◌≢◌, List, [], ◌∷◌, ◌++◌, Result, Ok, Err}
+use Rattle.std.specs.List.{fold}
+use Rattle.span_value.specs.declared.refusal.Refusal.{Refusal}
+use Rattle.span_value.specs.declared.refusal.Refusal.TheVariants as refusal
+
+-- what comes of what was found; a refusal stays one
+abbrev pub and_then : {A B : Type 0} → Result A Refusal → (A → Result B Refusal) → Result B Refusal
+and_then (Ok x) next = next x
+and_then (Err why) next = Err why
+
+-- from what was found so far to what is found then
+abbrev pub Step : Type 0 → Type 0 → Type 0
+Step S A = S → Result (A × S) Refusal
+
+abbrev pub pure : {S A : Type 0} → A → Step S A
+pure x found = Ok (x, found)
+
+abbrev pub given : {S A : Type 0} → Result A Refusal → Step S A
+given r found = and_then r (λ x. Ok (x, found))
+
+infixl 10 ◌>>=◌
+abbrev pub ◌>>=◌ : {S A B : Type 0} → Step S A → (A → Step S B) → Step S B
+(step >>= next) found = and_then (step found) (λ p. next p.0 p.1)
+
+-- the step of one more item, behind the others
+abbrev pub next_of : {S X A : Type 0} → (A → X → Step S A) → Result (A × S) Refusal → X → Result (A × S) Refusal
+next_of step so_far x = and_then so_far (λ p. step p.0 x p.1)
+
+-- the steps of the items one after another, each from what the others made
+abbrev pub along : {S X A : Type 0} → (A → X → Step S A) → A → List X → Step S A
+along step a xs found = fold (next_of step) (Ok (a, found)) xs
+
+-- one more in a list
+abbrev pub behind : {S X A : Type 0} → (X → Step S A) → List A → X → Step S (List A)
+behind step os x = step x >>= (λ a. pure (os ++ (a ∷ [])))
+
+-- what the steps of the items give, one after another
+abbrev pub all_of : {S X A : Type 0} → (X → Step S A) → List X → Step S (List A)
+all_of step xs = along (behind step) [] xs
+
+-- ---- what a function answered, unless memory ran out
+
+abbrev pub Gives : {A : Type 0} → Result A Refusal → Result A Refusal → Type 0
+Gives (Ok x) o = o ≡ Ok x
+Gives (Err why) o = why ≢ refusal.OutOfMemory → o ≡ Err why
+
+-- the same of a step, behind which this is found
+abbrev pub Leaves : {S A : Type 0} → Result A Refusal → S → Result (A × S) Refusal → Type 0
+Leaves (Ok x) found o = o ≡ Ok (x, found)
+Leaves (Err why) found o = why ≢ refusal.OutOfMemory → o ≡ Err why

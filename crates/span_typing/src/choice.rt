@@ -1,0 +1,202 @@
+//! What lists of operands and choices come to.
+ghost use Rattle.std.specs.Prelude.{◌≡◌, ◌++◌, ◌∷◌, [], Ok, IfOk, map};
+ghost use Rattle.std.specs.List.{list_all};
+ghost use Rattle.span_typing.specs.Steps.{Gives, and_then};
+ghost use Rattle.span_typing.specs.Kinds.{all_agreed};
+ghost use Rattle.span_expr.specs.declared.expr.Expr.TheVariants as expr;
+ghost use Rattle.span_typing.specs.Operators as spec;
+
+use super::kind::{agreed, or_int, takes};
+use super::operator::{Bound, both, typed};
+use super::typed::{Typed, TypedArm};
+use span_expr::expr::{Arm, Expr};
+use span_value::refusal::Refusal;
+use span_value::seq::Seq;
+use span_value::value::Kind;
+use sqlite_items::{Boxed, Items};
+use std::alloc::{AllocError, Global};
+
+/// The one type of all operands.
+#[tactic(auto, using(crate::proofs::Agreement::kind_steps))]
+fn kind_of_all(operands: &[Typed], first: Option<Kind>) -> Result<Option<Kind>, Refusal>
+    ensures { result ≡ all_agreed (first ∷ spec.kinds_of operands.now) }
+{
+    let mut kind = agreed(None, first)?;
+    for operand in operands {
+        kind = agreed(kind, operand.kind)?;
+    }
+    Ok(kind)
+}
+
+/// The expressions, without their types.
+fn exprs_of(alloc: Global, operands: Seq<Typed>) -> Result<Items<Expr>, AllocError>
+    ensures { IfOk result (λ exprs. exprs ≡ spec.exprs_of operands) }
+{
+    let mut exprs = Vec::with_capacity(alloc, operands.len())?;
+    for operand in operands.into_vec() {
+        exprs.push(operand.expr)?;
+    }
+    Ok(Items::from_vec(exprs))
+}
+
+/// An IN.
+#[tactic(auto, unfolding(crate::specs::Operators::among))]
+pub(crate) fn among(alloc: Global, operand: Bound, members: Result<Seq<Typed>, Refusal>) -> Bound
+    ensures { Gives result (and_then operand (λ x. and_then members (λ ys. spec.among x ys))) }
+{
+    let operand = operand?;
+    let members = members?;
+    kind_of_all(members.as_slice(), operand.kind)?;
+    Ok(typed(
+        Expr::In(Boxed::new(alloc, operand.expr)?, exprs_of(alloc, members)?),
+        Kind::Bool,
+    ))
+}
+
+#[tactic(auto, unfolding(crate::specs::Operators::coalesced, crate::specs::Kinds::agreed))]
+pub(crate) fn coalesced(alloc: Global, operands: Seq<Typed>) -> Bound
+    ensures { Gives result (spec.coalesced operands) }
+{
+    let kind = kind_of_all(operands.as_slice(), None)?;
+    let exprs = exprs_of(alloc, operands)?;
+    Ok(typed(Expr::Coalesce(exprs), or_int(kind)))
+}
+
+fn have_conditions(arms: &[TypedArm]) -> bool
+    ensures { result ≡ list_all spec.has_condition arms.now }
+{
+    arms.iter().all(|arm| takes(Kind::Bool, arm.condition.kind))
+}
+
+/// The one type of what is of a type and of the values of arms.
+#[tactic(auto, using(crate::proofs::Agreement::kind_steps))]
+fn kind_of_values(arms: &[TypedArm], first: Option<Kind>) -> Result<Option<Kind>, Refusal>
+    ensures { result ≡ all_agreed (first ∷ map (λ a. a.value.kind) arms.now) }
+{
+    let mut kind = agreed(None, first)?;
+    for arm in arms {
+        kind = agreed(kind, arm.value.kind)?;
+    }
+    Ok(kind)
+}
+
+fn otherwise_kind(otherwise: &Option<Typed>) -> Option<Kind>
+    ensures { result ≡ spec.otherwise_kind otherwise.now }
+{
+    match otherwise {
+        Some(value) => value.kind,
+        None => None,
+    }
+}
+
+/// The one type of the values of all arms and of ELSE.
+fn value_kind(arms: &[TypedArm], otherwise: &Option<Typed>) -> Result<Kind, Refusal>
+    ensures { result ≡ spec.value_kind arms.now otherwise.now }
+{
+    Ok(or_int(kind_of_values(arms, otherwise_kind(otherwise))?))
+}
+
+/// The type of a CASE without an operand. That its conditions are BOOL is judged before the values.
+fn case_kind(arms: &[TypedArm], otherwise: &Option<Typed>) -> Result<Kind, Refusal>
+    ensures { result ≡ spec.case_kind arms.now otherwise.now }
+{
+    if have_conditions(arms) {
+        value_kind(arms, otherwise)
+    } else {
+        Err(Refusal::TypeMismatch)
+    }
+}
+
+/// The arms, without their types.
+fn arms_of(alloc: Global, typed: Seq<TypedArm>) -> Result<Items<Arm<Expr>>, AllocError>
+    ensures { IfOk result (λ arms. arms ≡ map spec.arm_of typed) }
+{
+    let mut arms = Vec::with_capacity(alloc, typed.len())?;
+    for arm in typed.into_vec() {
+        arms.push(Arm {
+            condition: arm.condition.expr,
+            value: arm.value.expr,
+        })?;
+    }
+    Ok(Items::from_vec(arms))
+}
+
+fn otherwise_of(alloc: Global, otherwise: Option<Typed>) -> Result<Option<Boxed<Expr>>, AllocError>
+    ensures { IfOk result (λ other. other ≡ spec.otherwise_of otherwise) }
+{
+    match otherwise {
+        Some(value) => Ok(Some(Boxed::new(alloc, value.expr)?)),
+        None => Ok(None),
+    }
+}
+
+fn searched(
+    alloc: Global,
+    arms: Seq<TypedArm>,
+    otherwise: Option<Typed>,
+) -> Result<Expr, AllocError>
+    ensures { IfOk result (λ e. e ≡ expr.Case (map spec.arm_of arms) (spec.otherwise_of otherwise)) }
+{
+    let arms = arms_of(alloc, arms)?;
+    Ok(Expr::Case(arms, otherwise_of(alloc, otherwise)?))
+}
+
+#[tactic(auto, unfolding(crate::specs::Operators::case_of))]
+pub(crate) fn case_of_arms(alloc: Global, arms: Seq<TypedArm>, otherwise: Option<Typed>) -> Bound
+    ensures { Gives result (spec.case_of arms otherwise) }
+{
+    let kind = case_kind(arms.as_slice(), &otherwise)?;
+    Ok(typed(searched(alloc, arms, otherwise)?, kind))
+}
+
+/// A CASE without an operand.
+pub(crate) fn case_of(
+    alloc: Global,
+    arms: Result<Seq<TypedArm>, Refusal>,
+    otherwise: Result<Option<Typed>, Refusal>,
+) -> Bound
+    ensures { Gives result (and_then arms (λ xs. and_then otherwise (λ y. spec.case_of xs y))) }
+{
+    let (arms, otherwise) = both(arms, otherwise)?;
+    case_of_arms(alloc, arms, otherwise)
+}
+
+fn matching(
+    alloc: Global,
+    operand: Expr,
+    arms: Seq<TypedArm>,
+    otherwise: Option<Typed>,
+) -> Result<Expr, AllocError>
+    ensures { IfOk result (λ e. e ≡ expr.Match operand (map spec.arm_of arms) (spec.otherwise_of otherwise)) }
+{
+    let operand = Boxed::new(alloc, operand)?;
+    let arms = arms_of(alloc, arms)?;
+    Ok(Expr::Match(operand, arms, otherwise_of(alloc, otherwise)?))
+}
+
+#[tactic(auto, unfolding(crate::specs::Operators::match_of))]
+fn match_of_arms(
+    alloc: Global,
+    operand: Typed,
+    arms: Seq<TypedArm>,
+    otherwise: Option<Typed>,
+) -> Bound
+    ensures { Gives result (spec.match_of operand arms otherwise) }
+{
+    let kind = value_kind(arms.as_slice(), &otherwise)?;
+    Ok(typed(matching(alloc, operand.expr, arms, otherwise)?, kind))
+}
+
+/// A CASE with an operand, to which the conditions were compared.
+pub(crate) fn match_of(
+    alloc: Global,
+    operand: Bound,
+    arms: Result<Seq<TypedArm>, Refusal>,
+    otherwise: Result<Option<Typed>, Refusal>,
+) -> Bound
+    ensures { Gives result (and_then operand (λ x. and_then arms (λ xs. and_then otherwise (λ y. spec.match_of x xs y)))) }
+{
+    let operand = operand?;
+    let (arms, otherwise) = both(arms, otherwise)?;
+    match_of_arms(alloc, operand, arms, otherwise)
+}

@@ -1,0 +1,13 @@
+//! Expressions of a block with their names and types.
+#![tactic(auto)]
+
+mod call;
+mod choice;
+pub mod function;
+mod kind;
+pub mod leaf;
+mod operand;
+mod operator;
+pub mod scope;
+pub mod typed;
+pub mod typing;

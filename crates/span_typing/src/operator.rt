@@ -1,0 +1,280 @@
+//! What operators and choices make of typed operands.
+//!
+//! Each takes what its operands came to, so that the first refusal among them is the one that is answered.
+ghost use Rattle.std.specs.Prelude.{◌≡◌, ◌∷◌, [], Ok, IfOk};
+ghost use Rattle.span_typing.specs.Steps.{Gives, and_then};
+ghost use Rattle.span_expr.specs.declared.expr.Expr.TheVariants as expr;
+ghost use Rattle.span_typing.specs.Kinds.{all_agreed};
+ghost use Rattle.span_typing.specs.Operators as spec;
+ghost use Rattle.span_typing.specs.Typing.{linked, chained};
+
+use super::kind::{agreed, takes, text_kind};
+use super::typed::{Chain, Typed};
+use span_expr::expr::{Comparison, Expr, Link, Operator};
+use span_expr::pattern::parts_of;
+use span_literal::literal::text_of;
+use span_syntax::tree;
+use span_value::refusal::Refusal;
+use span_value::value::{Kind, Value};
+use sqlite_items::Boxed;
+use std::alloc::{AllocError, Global};
+
+/// What a tree, or a part of one, came to.
+pub(crate) type Bound = Result<Typed, Refusal>;
+
+pub(crate) fn typed(expr: Expr, kind: Kind) -> Typed
+    ensures { result ≡ spec.typed expr kind }
+{
+    Typed {
+        expr,
+        kind: Some(kind),
+    }
+}
+
+/// Both of what was found, or the first refusal.
+pub(crate) fn both<A: Drop, B: Drop>(
+    first: Result<A, Refusal>,
+    second: Result<B, Refusal>,
+) -> Result<(A, B), Refusal>
+    ensures { result ≡ and_then first (λ x. and_then second (λ y. Ok (x, y))) }
+{
+    let first = first?;
+    Ok((first, second?))
+}
+
+/// The expression in a box.
+pub(crate) fn boxed(alloc: Global, operand: Typed) -> Result<Boxed<Expr>, AllocError>
+    ensures { IfOk result (λ e. e ≡ operand.expr) }
+{
+    Boxed::new(alloc, operand.expr)
+}
+
+/// An integer literal. The error is `BadToken` for one outside INT64, which no token is.
+#[tactic(auto, unfolding(crate::specs::Operators::integer))]
+pub(crate) fn integer(literal: tree::Integer) -> Bound
+    ensures { Gives result (spec.integer literal) }
+{
+    match i64::try_from(literal.value) {
+        Ok(value) => {
+            let value = if literal.is_negative { -value } else { value };
+            Ok(typed(Expr::Literal(Value::Int(value)), Kind::Int))
+        }
+        Err(_) => Err(Refusal::BadToken),
+    }
+}
+
+#[tactic(auto, unfolding(crate::specs::Operators::negative))]
+pub(crate) fn negative(alloc: Global, operand: Bound) -> Bound
+    ensures { Gives result (and_then operand spec.negative) }
+{
+    let Typed { expr, kind } = operand?;
+    if takes(Kind::Int, kind) {
+        Ok(typed(Expr::Negative(Boxed::new(alloc, expr)?), Kind::Int))
+    } else {
+        Err(Refusal::TypeMismatch)
+    }
+}
+
+#[tactic(auto, unfolding(crate::specs::Operators::denied))]
+pub(crate) fn denied(alloc: Global, operand: Bound) -> Bound
+    ensures { Gives result (and_then operand spec.denied) }
+{
+    let Typed { expr, kind } = operand?;
+    if takes(Kind::Bool, kind) {
+        Ok(typed(Expr::Not(Boxed::new(alloc, expr)?), Kind::Bool))
+    } else {
+        Err(Refusal::TypeMismatch)
+    }
+}
+
+#[tactic(auto, unfolding(crate::specs::Operators::null_test))]
+pub(crate) fn null_test(alloc: Global, operand: Bound) -> Bound
+    ensures { Gives result (and_then operand (λ x. Ok (spec.null_test x))) }
+{
+    let Typed { expr, .. } = operand?;
+    Ok(typed(Expr::IsNull(Boxed::new(alloc, expr)?), Kind::Bool))
+}
+
+#[tactic(auto, unfolding(crate::specs::Operators::comparison_of))]
+fn comparison_of(comparison: tree::Comparison) -> Comparison
+    ensures { result ≡ spec.comparison_of comparison }
+{
+    match comparison {
+        tree::Comparison::Equal => Comparison::Equal,
+        tree::Comparison::NotEqual => Comparison::NotEqual,
+        tree::Comparison::Less => Comparison::Less,
+        tree::Comparison::AtMost => Comparison::AtMost,
+        tree::Comparison::Greater => Comparison::Greater,
+        tree::Comparison::AtLeast => Comparison::AtLeast,
+    }
+}
+
+fn comparison_expr(
+    alloc: Global,
+    left: Expr,
+    comparison: Comparison,
+    right: Expr,
+) -> Result<Expr, AllocError>
+    ensures { IfOk result (λ e. e ≡ expr.Compare left comparison right) }
+{
+    let left = Boxed::new(alloc, left)?;
+    let right = Boxed::new(alloc, right)?;
+    Ok(Expr::Compare(left, comparison, right))
+}
+
+#[tactic(auto, unfolding(crate::specs::Operators::compared))]
+fn compared_operands(
+    alloc: Global,
+    left: Typed,
+    comparison: tree::Comparison,
+    right: Typed,
+) -> Bound
+    ensures { Gives result (spec.compared comparison left right) }
+{
+    let _ = agreed(left.kind, right.kind)?;
+    let comparison = comparison_of(comparison);
+    let compared = comparison_expr(alloc, left.expr, comparison, right.expr)?;
+    Ok(typed(compared, Kind::Bool))
+}
+
+pub(crate) fn compared(
+    alloc: Global,
+    left: Bound,
+    comparison: tree::Comparison,
+    right: Bound,
+) -> Bound
+    ensures { Gives result (and_then left (λ x. and_then right (λ y. spec.compared comparison x y))) }
+{
+    let left = left?;
+    compared_operands(alloc, left, comparison, right?)
+}
+
+fn range_test(alloc: Global, operand: Expr, low: Expr, high: Expr) -> Result<Expr, AllocError>
+    ensures { IfOk result (λ e. e ≡ expr.Between operand low high) }
+{
+    let operand = Boxed::new(alloc, operand)?;
+    let low = Boxed::new(alloc, low)?;
+    let high = Boxed::new(alloc, high)?;
+    Ok(Expr::Between(operand, low, high))
+}
+
+/// The one type of three operands.
+fn all_agreed(
+    first: Option<Kind>,
+    second: Option<Kind>,
+    third: Option<Kind>,
+) -> Result<Option<Kind>, Refusal>
+    ensures { result ≡ all_agreed (first ∷ second ∷ third ∷ []) }
+{
+    let kind = agreed(None, first)?;
+    let kind = agreed(kind, second)?;
+    agreed(kind, third)
+}
+
+/// The three operands of a BETWEEN are judged together.
+#[tactic(auto, unfolding(crate::specs::Operators::between))]
+fn between_operands(alloc: Global, operand: Typed, low: Typed, high: Typed) -> Bound
+    ensures { Gives result (spec.between operand low high) }
+{
+    let _ = all_agreed(operand.kind, low.kind, high.kind)?;
+    let test = range_test(alloc, operand.expr, low.expr, high.expr)?;
+    Ok(typed(test, Kind::Bool))
+}
+
+pub(crate) fn between(alloc: Global, operand: Bound, low: Bound, high: Bound) -> Bound
+    ensures { Gives result (and_then operand (λ x. and_then low (λ y. and_then high (λ z. spec.between x y z)))) }
+{
+    let operand = operand?;
+    let (low, high) = both(low, high)?;
+    between_operands(alloc, operand, low, high)
+}
+
+/// A LIKE, with its pattern as it is spelt.
+#[tactic(auto, unfolding(crate::specs::Operators::liked))]
+pub(crate) fn liked(alloc: Global, operand: Bound, pattern: &str) -> Bound
+    ensures { Gives result (and_then operand (spec.liked pattern.now)) }
+{
+    let Typed { expr, kind } = operand?;
+    if !takes(Kind::Str, kind) {
+        return Err(Refusal::TypeMismatch);
+    }
+    let pattern = text_of(alloc, pattern)?;
+    let parts = parts_of(alloc, pattern.as_str())?;
+    Ok(typed(Expr::Like(Boxed::new(alloc, expr)?, parts), Kind::Bool))
+}
+
+/// Whether both operands of an AND or an OR can be conditions.
+pub(crate) fn are_conditions(left: Option<Kind>, right: Option<Kind>) -> bool
+    ensures { result ≡ spec.are_conditions left right }
+{
+    takes(Kind::Bool, left) && takes(Kind::Bool, right)
+}
+
+#[tactic(auto, unfolding(crate::specs::Operators::operator_of))]
+pub(crate) fn operator_of(operator: tree::Operator) -> Operator
+    ensures { result ≡ spec.operator_of operator }
+{
+    match operator {
+        tree::Operator::Plus => Operator::Add,
+        tree::Operator::Minus => Operator::Subtract,
+        tree::Operator::Times => Operator::Multiply,
+        tree::Operator::Concat => Operator::Concatenate,
+    }
+}
+
+/// The type of a chain, one operator on.
+#[tactic(auto, unfolding(crate::specs::Operators::linked_kind))]
+pub(crate) fn linked_kind(
+    operator: tree::Operator,
+    left: Option<Kind>,
+    right: Option<Kind>,
+) -> Result<Kind, Refusal>
+    ensures { result ≡ spec.linked_kind operator left right }
+{
+    if operator == tree::Operator::Concat {
+        return text_kind(agreed(left, right)?);
+    }
+    if takes(Kind::Int, left) && takes(Kind::Int, right) {
+        Ok(Kind::Int)
+    } else {
+        Err(Refusal::TypeMismatch)
+    }
+}
+
+/// A chain, one operator on.
+#[tactic(auto, unfolding(crate::specs::Typing::linked))]
+pub(crate) fn linked(
+    chain: Chain,
+    operator: tree::Operator,
+    operand: Bound,
+) -> Result<Chain, Refusal>
+    ensures { Gives result (and_then operand (λ x. linked chain operator x)) }
+{
+    let Typed { expr, kind } = operand?;
+    let Chain {
+        kind: before,
+        mut links,
+    } = chain;
+    let kind = linked_kind(operator, before, kind)?;
+    links.push(Link {
+        operator: operator_of(operator),
+        operand: expr,
+    })?;
+    Ok(Chain {
+        kind: Some(kind),
+        links,
+    })
+}
+
+/// A chain behind its first operand.
+#[tactic(auto, unfolding(crate::specs::Typing::chained))]
+pub(crate) fn chained(alloc: Global, first: Bound, chain: Result<Chain, Refusal>) -> Bound
+    ensures { Gives result (and_then first (λ x. and_then chain (λ c. Ok (chained x c)))) }
+{
+    let first = first?;
+    let Chain { kind, links } = chain?;
+    Ok(Typed {
+        expr: Expr::Chain(Boxed::new(alloc, first.expr)?, links),
+        kind,
+    })
+}

@@ -1,0 +1,347 @@
+//! The typed expression that a tree of an expression stands for.
+//!
+//! Operands come before their operator, and the first fault is the refusal. Chains of operators are gone along by loops, so that the
+//! depth of the recursion is bounded by the nesting of the text.
+ghost use Rattle.std.specs.Prelude.{◌≡◌, ◌++◌, ◌∷◌, [], Ok, map};
+ghost use Rattle.std.specs.Option.{option_map};
+ghost use Rattle.span_typing.specs.Steps.{Gives, Leaves, and_then};
+ghost use Rattle.span_typing.specs.Functions as functions;
+ghost use Rattle.span_typing.specs.Operators as operators;
+ghost use Rattle.span_typing.specs.Typing as spec;
+
+use super::call::applied;
+use super::choice::{among, case_of, match_of};
+use super::function::{Called, function_named};
+use super::leaf::{aggregate, bytes, call_star, column, null, parameter, string, truth};
+use super::operand::{alike, all_true, arm_of, condition_of, kind_of, pushed, some_true, unknown};
+use super::operator::{
+    Bound, between, chained, compared, denied, integer, liked, linked, negative, null_test,
+};
+use super::scope::Scope;
+use super::typed::{Chain, Mode, Typed, TypedArm};
+use span_expr::expr::Expr;
+use span_params::params::Params;
+use span_query::query::Aggregate;
+use span_syntax::tree;
+use span_value::refusal::Refusal;
+use span_value::seq::Seq;
+use span_value::value::Kind;
+use sqlite_items::{Boxed, Items};
+use std::alloc::Global;
+
+/// The names of a block and the parameters of its query.
+#[derive(Clone, Copy, Debug)]
+pub struct Names<'a> {
+    pub alloc: Global,
+    pub scope: &'a Scope,
+    pub params: &'a Params,
+}
+
+impl Names<'_> {
+    /// The typed expression that a tree stands for, and behind it the aggregates of the block found so far.
+    ///
+    /// The error is the first of these in the tree, where operands come before their operator: `NoColumn`, `Ambiguous`,
+    /// `TypeMismatch`, `NotGrouped`, `BadPattern`, `NoParameter`; or want of memory. What is found then does not matter.
+    #[cycle(typing)]
+    pub fn bind(self, mode: Mode, tree: &tree::Expr, found: &mut Seq<Aggregate>) -> Bound
+        ensures { Leaves result found.new (spec.typing self.entry.scope.now self.entry.params.now tree.now mode found.old) }
+    {
+        match tree {
+            tree::Expr::Integer(literal) => integer(*literal),
+            tree::Expr::Str(literal) => string(self.alloc, literal.text.as_str()),
+            tree::Expr::Bytes(literal) => bytes(self.alloc, literal.text.as_str()),
+            tree::Expr::Truth(value, _) => Ok(truth(*value)),
+            tree::Expr::Null(_) => Ok(null()),
+            tree::Expr::Parameter(name) => parameter(self.alloc, self.params, name.text.as_str()),
+            tree::Expr::Column(name) => column(self.scope, mode, name),
+            tree::Expr::CallStar(name) => {
+                call_star(self.scope, mode, function_named(name.text.as_str()), found)
+            }
+            tree::Expr::Call(name, operands) => {
+                self.call(mode, name.text.as_str(), operands.as_slice(), found)
+            }
+            tree::Expr::Case(operand, arms, otherwise) => {
+                self.case(mode, operand, arms.as_slice(), otherwise, found)
+            }
+            tree::Expr::Negative(a) => negative(self.alloc, self.bind(mode, a.get(), found)),
+            tree::Expr::Chain(first, links) => {
+                self.chain(mode, first.get(), links.as_slice(), found)
+            }
+            tree::Expr::Compare(a, comparison, b) => {
+                self.comparison(mode, a.get(), *comparison, b.get(), found)
+            }
+            tree::Expr::IsNull(a) => null_test(self.alloc, self.bind(mode, a.get(), found)),
+            tree::Expr::Like(a, pattern) => liked(
+                self.alloc,
+                self.bind(mode, a.get(), found),
+                pattern.text.as_str(),
+            ),
+            tree::Expr::Between(a, low, high) => {
+                self.between(mode, a.get(), low.get(), high.get(), found)
+            }
+            tree::Expr::In(a, members) => {
+                self.membership(mode, a.get(), members.as_slice(), found)
+            }
+            tree::Expr::Not(a) => denied(self.alloc, self.bind(mode, a.get(), found)),
+            tree::Expr::And(first, more) => {
+                self.conjunction(mode, first.get(), more.as_slice(), found)
+            }
+            tree::Expr::Or(first, more) => {
+                self.disjunction(mode, first.get(), more.as_slice(), found)
+            }
+        }
+    }
+
+    #[cycle(typing)]
+    fn comparison(
+        self,
+        mode: Mode,
+        left: &tree::Expr,
+        comparison: tree::Comparison,
+        right: &tree::Expr,
+        found: &mut Seq<Aggregate>,
+    ) -> Bound
+        ensures { Leaves result found.new (spec.of_two (operators.compared comparison) (spec.typing self.entry.scope.now self.entry.params.now left.now) (spec.typing self.entry.scope.now self.entry.params.now right.now) mode found.old) }
+    {
+        let left = self.bind(mode, left, found);
+        let right = self.bind(mode, right, found);
+        compared(self.alloc, left, comparison, right)
+    }
+
+    #[cycle(typing)]
+    fn between(
+        self,
+        mode: Mode,
+        operand: &tree::Expr,
+        low: &tree::Expr,
+        high: &tree::Expr,
+        found: &mut Seq<Aggregate>,
+    ) -> Bound
+        ensures { Leaves result found.new (spec.of_three operators.between (spec.typing self.entry.scope.now self.entry.params.now operand.now) (spec.typing self.entry.scope.now self.entry.params.now low.now) (spec.typing self.entry.scope.now self.entry.params.now high.now) mode found.old) }
+    {
+        let operand = self.bind(mode, operand, found);
+        let low = self.bind(mode, low, found);
+        let high = self.bind(mode, high, found);
+        between(self.alloc, operand, low, high)
+    }
+
+    /// An IN.
+    #[cycle(typing)]
+    fn membership(
+        self,
+        mode: Mode,
+        operand: &tree::Expr,
+        members: &[tree::Expr],
+        found: &mut Seq<Aggregate>,
+    ) -> Bound
+        ensures { Leaves result found.new (spec.membership (spec.typing self.entry.scope.now self.entry.params.now operand.now) (map (spec.typing self.entry.scope.now self.entry.params.now) members.now) mode found.old) }
+    {
+        let operand = self.bind(mode, operand, found);
+        let members = self.each(mode, members, found);
+        among(self.alloc, operand, members)
+    }
+
+    #[cycle(typing)]
+    fn chain(
+        self,
+        mode: Mode,
+        first: &tree::Expr,
+        links: &[tree::Link],
+        found: &mut Seq<Aggregate>,
+    ) -> Bound
+        ensures { Leaves result found.new (spec.chain (spec.typing self.entry.scope.now self.entry.params.now first.now) (map (spec.link_typing self.entry.scope.now self.entry.params.now) links.now) mode found.old) }
+    {
+        let first = self.bind(mode, first, found);
+        let chain = self.links(mode, kind_of(&first), links, found);
+        chained(self.alloc, first, chain)
+    }
+
+    #[cycle(typing)]
+    fn conjunction(
+        self,
+        mode: Mode,
+        first: &tree::Expr,
+        more: &[tree::Expr],
+        found: &mut Seq<Aggregate>,
+    ) -> Bound
+        ensures { Leaves result found.new (spec.junction spec.all_true (spec.typing self.entry.scope.now self.entry.params.now first.now) (map (spec.typing self.entry.scope.now self.entry.params.now) more.now) mode found.old) }
+    {
+        let first = self.bind(mode, first, found);
+        let more = self.conditions(mode, kind_of(&first), more, found);
+        all_true(self.alloc, first, more)
+    }
+
+    #[cycle(typing)]
+    fn disjunction(
+        self,
+        mode: Mode,
+        first: &tree::Expr,
+        more: &[tree::Expr],
+        found: &mut Seq<Aggregate>,
+    ) -> Bound
+        ensures { Leaves result found.new (spec.junction spec.some_true (spec.typing self.entry.scope.now self.entry.params.now first.now) (map (spec.typing self.entry.scope.now self.entry.params.now) more.now) mode found.old) }
+    {
+        let first = self.bind(mode, first, found);
+        let more = self.conditions(mode, kind_of(&first), more, found);
+        some_true(self.alloc, first, more)
+    }
+
+    /// Operands, one after another.
+    #[cycle(typing)]
+    fn each(
+        self,
+        mode: Mode,
+        operands: &[tree::Expr],
+        found: &mut Seq<Aggregate>,
+    ) -> Result<Seq<Typed>, Refusal>
+        ensures { Leaves result found.new (spec.each (map (spec.typing self.entry.scope.now self.entry.params.now) operands.now) mode found.old) }
+    {
+        let mut all = Seq::new(self.alloc);
+        for operand in operands {
+            let next = self.bind(mode, operand, found);
+            all = pushed(all, next)?;
+        }
+        Ok(all)
+    }
+
+    /// The other operands of an AND or an OR. Each is judged as it comes.
+    #[cycle(typing)]
+    fn conditions(
+        self,
+        mode: Mode,
+        kind: Option<Kind>,
+        operands: &[tree::Expr],
+        found: &mut Seq<Aggregate>,
+    ) -> Result<Seq<Expr>, Refusal>
+        ensures { Leaves result found.new (spec.conditions kind (map (spec.typing self.entry.scope.now self.entry.params.now) operands.now) mode found.old) }
+    {
+        let mut all = Seq::new(self.alloc);
+        for operand in operands {
+            let next = condition_of(kind, self.bind(mode, operand, found));
+            all = pushed(all, next)?;
+        }
+        Ok(all)
+    }
+
+    /// A chain behind what is of this type. Each operator is judged as it comes.
+    #[cycle(typing)]
+    fn links(
+        self,
+        mode: Mode,
+        kind: Option<Kind>,
+        links: &[tree::Link],
+        found: &mut Seq<Aggregate>,
+    ) -> Result<Chain, Refusal>
+        ensures { Leaves result found.new (spec.links kind (map (spec.link_typing self.entry.scope.now self.entry.params.now) links.now) mode found.old) }
+    {
+        let mut chain = Chain {
+            kind,
+            links: Items::new(self.alloc),
+        };
+        for link in links {
+            let operand = self.bind(mode, &link.operand, found);
+            chain = linked(chain, link.operator, operand)?;
+        }
+        Ok(chain)
+    }
+
+    /// The arms of a CASE without an operand.
+    #[cycle(typing)]
+    fn arms(
+        self,
+        mode: Mode,
+        arms: &[tree::Arm],
+        found: &mut Seq<Aggregate>,
+    ) -> Result<Seq<TypedArm>, Refusal>
+        ensures { Leaves result found.new (spec.arms (map (spec.arm_typing self.entry.scope.now self.entry.params.now) arms.now) mode found.old) }
+    {
+        let mut all = Seq::new(self.alloc);
+        for arm in arms {
+            let condition = self.bind(mode, &arm.condition, found);
+            let value = self.bind(mode, &arm.value, found);
+            all = pushed(all, arm_of(condition, value))?;
+        }
+        Ok(all)
+    }
+
+    /// The arms of a CASE whose operand is of this type. Each WHEN is compared before its THEN.
+    #[cycle(typing)]
+    fn compared_arms(
+        self,
+        mode: Mode,
+        kind: Option<Kind>,
+        arms: &[tree::Arm],
+        found: &mut Seq<Aggregate>,
+    ) -> Result<Seq<TypedArm>, Refusal>
+        ensures { Leaves result found.new (spec.compared_arms kind (map (spec.arm_typing self.entry.scope.now self.entry.params.now) arms.now) mode found.old) }
+    {
+        let mut all = Seq::new(self.alloc);
+        for arm in arms {
+            let condition = alike(kind, self.bind(mode, &arm.condition, found));
+            let value = self.bind(mode, &arm.value, found);
+            all = pushed(all, arm_of(condition, value))?;
+        }
+        Ok(all)
+    }
+
+    #[cycle(typing)]
+    fn optional(
+        self,
+        mode: Mode,
+        operand: &Option<Boxed<tree::Expr>>,
+        found: &mut Seq<Aggregate>,
+    ) -> Result<Option<Typed>, Refusal>
+        ensures { Leaves result found.new (spec.optional (option_map (spec.typing self.entry.scope.now self.entry.params.now) operand.now) mode found.old) }
+    {
+        match operand {
+            Some(operand) => Ok(Some(self.bind(mode, operand.get(), found)?)),
+            None => Ok(None),
+        }
+    }
+
+    #[cycle(typing)]
+    fn call(
+        self,
+        mode: Mode,
+        name: &str,
+        operands: &[tree::Expr],
+        found: &mut Seq<Aggregate>,
+    ) -> Bound
+        ensures { Leaves result found.new (spec.call self.entry.scope.now (functions.function_named name.now) (map (spec.typing self.entry.scope.now self.entry.params.now) operands.now) mode found.old) }
+    {
+        match function_named(name) {
+            None => unknown(self.each(mode, operands, found)),
+            Some(Called::Aggregate(function)) => {
+                let operands = self.each(Mode::Rows, operands, found);
+                aggregate(self.scope, mode, function, operands, found)
+            }
+            Some(function) => applied(self.alloc, function, self.each(mode, operands, found)),
+        }
+    }
+
+    #[cycle(typing)]
+    fn case(
+        self,
+        mode: Mode,
+        operand: &Option<Boxed<tree::Expr>>,
+        arms: &[tree::Arm],
+        otherwise: &Option<Boxed<tree::Expr>>,
+        found: &mut Seq<Aggregate>,
+    ) -> Bound
+        ensures { Leaves result found.new (spec.case (option_map (spec.typing self.entry.scope.now self.entry.params.now) operand.now) (map (spec.arm_typing self.entry.scope.now self.entry.params.now) arms.now) (option_map (spec.typing self.entry.scope.now self.entry.params.now) otherwise.now) mode found.old) }
+    {
+        match operand {
+            None => {
+                let arms = self.arms(mode, arms, found);
+                let otherwise = self.optional(mode, otherwise, found);
+                case_of(self.alloc, arms, otherwise)
+            }
+            Some(operand) => {
+                let operand = self.bind(mode, operand.get(), found);
+                let arms = self.compared_arms(mode, kind_of(&operand), arms, found);
+                let otherwise = self.optional(mode, otherwise, found);
+                match_of(self.alloc, operand, arms, otherwise)
+            }
+        }
+    }
+}
