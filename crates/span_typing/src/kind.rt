@@ -6,7 +6,7 @@ use span_value::refusal::Refusal;
 use span_value::value::Kind;
 
 /// Whether an operand of a type can stand where a type is wanted.
-pub(crate) fn takes(wanted: Kind, kind: Option<Kind>) -> bool
+pub fn takes(wanted: Kind, kind: Option<Kind>) -> bool
     ensures { result ≡ spec.takes wanted kind }
 {
     match kind {
@@ -35,7 +35,7 @@ pub(crate) fn agreed(left: Option<Kind>, right: Option<Kind>) -> Result<Option<K
 
 /// INT64 where all operands are NULL literals.
 #[tactic(auto, unfolding(crate::specs::Kinds::or_int))]
-pub(crate) fn or_int(kind: Option<Kind>) -> Kind
+pub fn or_int(kind: Option<Kind>) -> Kind
     ensures { result ≡ spec.or_int kind }
 {
     match kind {

@@ -4,7 +4,7 @@
 mod call;
 mod choice;
 pub mod function;
-mod kind;
+pub mod kind;
 pub mod leaf;
 mod operand;
 mod operator;

@@ -1,0 +1,3 @@
+pub mod Giving
+pub mod Trees
+pub mod Leaves

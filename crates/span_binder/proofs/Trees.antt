@@ -1,0 +1,201 @@
+-- What trees of queries stand for, by what their parts stand for.
+use Rattle.std.proofs.Common.{◌≡◌, List, [], ◌∷◌, map, refl, sym, ap, ◌∙◌, ℕ, Option, Result, Ok, subst}
+use Rattle.span_value.specs.declared.refusal.Refusal.{Refusal}
+use Rattle.span_schema.specs.declared.table.Table.{Table}
+use Rattle.span_params.specs.declared.params.Parameter.{Parameter}
+use Rattle.span_syntax.specs.declared.tree.Spelling.{Spelling}
+use Rattle.span_syntax.specs.declared.tree.Expr.{Expr}
+use Rattle.span_parser.specs.declared.tree.Query.{Query}
+use Rattle.span_parser.specs.declared.tree.Block.{Block}
+use Rattle.span_parser.specs.declared.tree.Item.{Item}
+use Rattle.span_parser.specs.declared.tree.Item.TheVariants as item
+use Rattle.span_parser.specs.declared.tree.Item.TheVariants.{rolls-Table, rolls-Derived}
+use Rattle.span_parser.specs.declared.tree.Join.{Join}
+use Rattle.span_parser.specs.declared.tree.SortKey.{SortKey}
+use Rattle.span_parser.specs.declared.tree.Item.TheOpen.{Query-F, Block-F, Item-F, Join-F}
+use Rattle.span_parser.specs.declared.tree.Item.TheViews.{out-Query, out-Block}
+use Rattle.span_parser.specs.declared.tree.Item.TheFolds.{fold-Item, fold-Block, fold-Join, fold-Query, fold_out-Query, fold_out-Block, fold_out-Join, fold-roll-Item, map-Block, map-Query}
+use Rattle.span_typing.specs.Steps.{Gives, and_then}
+use Rattle.span_binder.specs.declared.bound.Bound.{Bound}
+use Rattle.span_binder.specs.declared.bound.BoundBlock.{BoundBlock}
+use Rattle.span_binder.specs.declared.bound.BoundBlocks.{BoundBlocks}
+use Rattle.span_binder.specs.declared.bound.FromItems.{FromItems}
+use Rattle.span_binder.specs.declared.bound.Source.{Source}
+use Rattle.span_binder.specs.Onward.{onward}
+use Rattle.span_binder.specs.Sources.{named_source, derived_source, started}
+use Rattle.span_binder.specs.Aggregating.{is_grouped}
+use Rattle.span_binder.specs.Blocks.{Behind, behind, behind_of, block_behind}
+use Rattle.span_binder.specs.Queries.{ItemStep, JoinStep, BlockStep, QueryStep, item_at, block_at, join_at, query_at, item_step, block_step, query_step, join_step, next_join, next_block, query_behind, only_block}
+use Rattle.span_binder.proofs.Giving.{gives_on}
+
+module _ (schema : List Table) (params : List Parameter) where
+  -- ---- a layer of a tree, where what its parts stand for stands in their place
+
+  pub table_is : (name : Spelling) (alias : Option Spelling) → item_step schema params (item.Table name alias) ≡ item_at schema (Item-F.Table name alias)
+  unfolding item_step
+  table_is name alias =
+      ap (item_step schema params) (sym (rolls-Table name alias))
+      ∙ fold-roll-Item ItemStep BlockStep JoinStep QueryStep (item_at schema) (block_at params) join_at query_at (Item-F.Table name alias)
+
+  pub derived_is : (q : Query) (name : Spelling) → item_step schema params (item.Derived q name) ≡ item_at schema (Item-F.Derived (query_step schema params q) name)
+  unfolding item_step query_step
+  derived_is q name =
+      ap (item_step schema params) (sym (rolls-Derived q name))
+      ∙ fold-roll-Item ItemStep BlockStep JoinStep QueryStep (item_at schema) (block_at params) join_at query_at (Item-F.Derived q name)
+
+  abbrev items : Item → ItemStep
+  items = fold-Item ItemStep BlockStep JoinStep QueryStep (item_at schema) (block_at params) join_at query_at
+
+  abbrev blocks : Block → BlockStep
+  blocks = fold-Block ItemStep BlockStep JoinStep QueryStep (item_at schema) (block_at params) join_at query_at
+
+  abbrev joins : Join → JoinStep
+  joins = fold-Join ItemStep BlockStep JoinStep QueryStep (item_at schema) (block_at params) join_at query_at
+
+  abbrev queries : Query → QueryStep
+  queries = fold-Query ItemStep BlockStep JoinStep QueryStep (item_at schema) (block_at params) join_at query_at
+
+  -- ---- blocks
+
+  abbrev block_layer : Block-F Item Block Join Query → Block-F ItemStep BlockStep JoinStep QueryStep
+  block_layer d =
+      record {
+        is_distinct = d.is_distinct;
+        outputs = d.outputs;
+        from = item_step schema params d.from;
+        joins = map (join_step schema params) d.joins;
+        filter = d.filter;
+        groups = d.groups;
+        having = d.having;
+      }
+
+  abbrev with_joins : Block-F Item Block Join Query → List Join → Block-F Item Block Join Query
+  with_joins d js =
+      record { is_distinct = d.is_distinct; outputs = d.outputs; from = d.from; joins = js; filter = d.filter; groups = d.groups; having = d.having }
+
+  abbrev block_mapped : Block-F Item Block Join Query → Block-F ItemStep BlockStep JoinStep QueryStep
+  block_mapped d = map-Block Item Block Join Query ItemStep BlockStep JoinStep QueryStep items blocks joins queries d
+
+  join_is : (j : Join) → joins j ≡ join_step schema params j
+  unfolding item_step
+  join_is j = fold_out-Join ItemStep BlockStep JoinStep QueryStep (item_at schema) (block_at params) join_at query_at j
+
+  joins_mapped : (d : Block-F Item Block Join Query) (js : List Join) → (block_mapped (with_joins d js)).joins ≡ map (join_step schema params) js
+  joins_mapped d [] = refl
+  joins_mapped d (j ∷ js) =
+      ap (λ (x : JoinStep). x ∷ (block_mapped (with_joins d js)).joins) (join_is j)
+      ∙ ap (λ (l : List JoinStep). join_step schema params j ∷ l) (joins_mapped d js)
+
+  block_layer_is : (d : Block-F Item Block Join Query) → block_mapped d ≡ block_layer d
+  unfolding item_step
+  block_layer_is d =
+      ap (λ (js : List JoinStep). record { is_distinct = d.is_distinct; outputs = d.outputs; from = items d.from; joins = js; filter = d.filter; groups = d.groups; having = d.having })
+      (joins_mapped d d.joins)
+
+  pub block_is : (b : Block) → block_step schema params b ≡ block_at params (block_layer (out-Block b))
+  unfolding block_step
+  block_is b =
+      fold_out-Block ItemStep BlockStep JoinStep QueryStep (item_at schema) (block_at params) join_at query_at b
+      ∙ ap (block_at params) (block_layer_is (out-Block b))
+
+  -- ---- queries
+
+  abbrev query_layer : Query-F Item Block Join Query → Query-F ItemStep BlockStep JoinStep QueryStep
+  query_layer d =
+      record {
+        first = block_step schema params d.first;
+        others = map (block_step schema params) d.others;
+        order = d.order;
+        limit = d.limit;
+      }
+
+  abbrev with_others : Query-F Item Block Join Query → List Block → Query-F Item Block Join Query
+  with_others d bs = record { first = d.first; others = bs; order = d.order; limit = d.limit }
+
+  abbrev query_mapped : Query-F Item Block Join Query → Query-F ItemStep BlockStep JoinStep QueryStep
+  query_mapped d = map-Query Item Block Join Query ItemStep BlockStep JoinStep QueryStep items blocks joins queries d
+
+  others_mapped : (d : Query-F Item Block Join Query) (bs : List Block) → (query_mapped (with_others d bs)).others ≡ map (block_step schema params) bs
+  unfolding block_step
+  others_mapped d [] = refl
+  others_mapped d (b ∷ bs) = ap (λ (l : List BlockStep). block_step schema params b ∷ l) (others_mapped d bs)
+
+  query_layer_is : (d : Query-F Item Block Join Query) → query_mapped d ≡ query_layer d
+  unfolding block_step
+  query_layer_is d =
+      ap (λ (bs : List BlockStep). record { first = blocks d.first; others = bs; order = d.order; limit = d.limit }) (others_mapped d d.others)
+
+  pub query_is : (q : Query) → query_step schema params q ≡ query_at (query_layer (out-Query q))
+  unfolding query_step
+  query_is q =
+      fold_out-Query ItemStep BlockStep JoinStep QueryStep (item_at schema) (block_at params) join_at query_at q
+      ∙ ap query_at (query_layer_is (out-Query q))
+
+  -- ---- what functions answered
+
+  ons_kept : (js : List Join) → map (λ (j : JoinStep). j.on) (map (join_step schema params) js) ≡ map (λ (j : Join). j.on) js
+  ons_kept [] = refl
+  ons_kept (j ∷ js) = ap (λ (l : List Expr). j.on ∷ l) (ons_kept js)
+
+  pub gives_table : (tree : Item) (name : Spelling) (alias : Option Spelling) (leaves : List ℕ) (r : Result (Source × List ℕ) Refusal) → tree ≡ item.Table name alias
+      → Gives r (named_source schema name alias leaves) → Gives r (item_step schema params tree leaves)
+  gives_table tree name alias leaves r is g =
+      subst (λ (i : Item). Gives r (item_step schema params i leaves)) (sym is)
+      (subst (λ (s : ItemStep). Gives r (s leaves)) (sym (table_is name alias)) g)
+
+  pub gives_derived : (tree : Item) (q read : Query) (name : Spelling) (leaves : List ℕ) (found : Result (Bound × List ℕ) Refusal) (r : Result (Source × List ℕ) Refusal)
+      → tree ≡ item.Derived q name → read ≡ q → Gives found (query_step schema params read leaves) → Gives r (and_then found (λ p. Ok (derived_source name p.0, p.1)))
+      → Gives r (item_step schema params tree leaves)
+  gives_derived tree q read name leaves found r is same f g =
+      let whole : Gives r (and_then (query_step schema params read leaves) (λ p. Ok (derived_source name p.0, p.1))) = gives_on found (query_step schema params read leaves) _ r f g in
+      subst (λ (i : Item). Gives r (item_step schema params i leaves)) (sym is)
+      (subst (λ (s : ItemStep). Gives r (s leaves)) (sym (derived_is q name))
+      (subst (λ (x : Query). Gives r (and_then (query_step schema params x leaves) (λ p. Ok (derived_source name p.0, p.1)))) same whole))
+
+  behind_kept : (d : Block-F Item Block Join Query) → behind_of (λ (j : JoinStep). j.on) (block_layer d) ≡ behind_of (λ (j : Join). j.on) d
+  behind_kept d =
+      ap (λ (ons : List Expr). record { is_grouped = is_grouped d.groups d.having d.filter d.outputs ons; is_distinct = d.is_distinct; outputs = d.outputs; filter = d.filter; groups = d.groups; having = d.having })
+      (ons_kept d.joins)
+
+  abbrev after_from : Block → List ℕ → List Join → Behind → Result (BoundBlock × List ℕ) Refusal
+  after_from b leaves js x =
+      and_then (and_then (and_then (item_step schema params (out-Block b).from leaves) (λ p. Ok (started p.0, p.1))) (onward (next_join params) (map (join_step schema params) js)))
+      (λ p. and_then (block_behind params x p.0) (λ y. Ok (y, p.1)))
+
+  abbrev after_blocks : Query → List ℕ → List Block → List SortKey → Result (Bound × List ℕ) Refusal
+  after_blocks q leaves bs order =
+      and_then (and_then (and_then (block_step schema params (out-Query q).first leaves) (λ p. Ok (only_block p.0, p.1))) (onward next_block (map (block_step schema params) bs)))
+      (λ p. and_then (query_behind p.0 order (out-Query q).limit) (λ y. Ok (y, p.1)))
+
+  pub gives_block : (b : Block) (leaves : List ℕ) (js : List Join) (first : Result (Source × List ℕ) Refusal) (one from : Result (FromItems × List ℕ) Refusal) (r : Result (BoundBlock × List ℕ) Refusal)
+      → js ≡ (out-Block b).joins
+      → Gives first (item_step schema params (out-Block b).from leaves)
+      → Gives one (and_then first (λ p. Ok (started p.0, p.1)))
+      → Gives from (and_then one (onward (next_join params) (map (join_step schema params) js)))
+      → Gives r (and_then from (λ p. and_then (block_behind params (behind b) p.0) (λ x. Ok (x, p.1))))
+      → Gives r (block_step schema params b leaves)
+  gives_block b leaves js first one from r same f g h k =
+      let d : Block-F Item Block Join Query = out-Block b in
+      let started_on : Gives one (and_then (item_step schema params d.from leaves) (λ p. Ok (started p.0, p.1))) = gives_on first (item_step schema params d.from leaves) _ one f g in
+      let joined_on : Gives from (and_then (and_then (item_step schema params d.from leaves) (λ p. Ok (started p.0, p.1))) (onward (next_join params) (map (join_step schema params) js))) = gives_on one _ _ from started_on h in
+      let whole : Gives r (after_from b leaves js (behind b)) = gives_on from _ _ r joined_on k in
+      subst (λ (s : BlockStep). Gives r (s leaves)) (sym (block_is b))
+      (subst (λ (x : Behind). Gives r (after_from b leaves d.joins x)) (sym (behind_kept d))
+      (subst (λ (l : List Join). Gives r (after_from b leaves l (behind b))) same whole))
+
+  pub gives_query : (q : Query) (leaves : List ℕ) (bs : List Block) (order : List SortKey) (first : Result (BoundBlock × List ℕ) Refusal) (one all : Result (BoundBlocks × List ℕ) Refusal) (r : Result (Bound × List ℕ) Refusal)
+      → bs ≡ (out-Query q).others
+      → order ≡ (out-Query q).order
+      → Gives first (block_step schema params (out-Query q).first leaves)
+      → Gives one (and_then first (λ p. Ok (only_block p.0, p.1)))
+      → Gives all (and_then one (onward next_block (map (block_step schema params) bs)))
+      → Gives r (and_then all (λ p. and_then (query_behind p.0 order (out-Query q).limit) (λ x. Ok (x, p.1))))
+      → Gives r (query_step schema params q leaves)
+  gives_query q leaves bs order first one all r same by f g h k =
+      let d : Query-F Item Block Join Query = out-Query q in
+      let first_on : Gives one (and_then (block_step schema params d.first leaves) (λ p. Ok (only_block p.0, p.1))) = gives_on first (block_step schema params d.first leaves) _ one f g in
+      let all_on : Gives all (and_then (and_then (block_step schema params d.first leaves) (λ p. Ok (only_block p.0, p.1))) (onward next_block (map (block_step schema params) bs))) = gives_on one _ _ all first_on h in
+      let whole : Gives r (after_blocks q leaves bs order) = gives_on all _ _ r all_on k in
+      subst (λ (s : QueryStep). Gives r (s leaves)) (sym (query_is q))
+      (subst (λ (l : List Block). Gives r (after_blocks q leaves l d.order)) same
+      (subst (λ (keys : List SortKey). Gives r (after_blocks q leaves bs keys)) by whole))

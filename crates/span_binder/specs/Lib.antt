@@ -1,0 +1,6 @@
+pub mod Onward
+pub mod Sources
+pub mod Aggregating
+pub mod Outputs
+pub mod Blocks
+pub mod Queries

@@ -1,0 +1,140 @@
+//! The typed query that a tree stands for.
+//!
+//! In a block faults are looked for in the items of the FROM with their ONs, from left to right, then in the select list, WHERE, GROUP BY
+//! and HAVING; behind all blocks of a query in the columns of its union, and then in its ORDER BY. The first fault is the refusal.
+ghost use Rattle.std.specs.Prelude.{◌≡◌, map, IfOk};
+ghost use Rattle.span_typing.specs.Steps.{Gives, and_then};
+ghost use Rattle.span_binder.specs.Onward.{onward};
+ghost use Rattle.span_binder.specs.Sources.{AreTables, HasTables};
+ghost use Rattle.span_binder.specs.Queries as spec;
+
+use super::block::block_of_found;
+use super::bound::{Bound, BoundBlock, BoundBlocks, FromItems, Source};
+use super::join::{extended_by, started};
+use super::order::{first_of, query_of_found, with_block};
+use super::source::{derived_source, named_source};
+use span_params::params::Params;
+use span_parser::tree;
+use span_query::query::Statement;
+use span_schema::schema::Schema;
+use span_value::refusal::Refusal;
+use span_value::seq::Seq;
+use std::alloc::Global;
+
+/// The tables and the parameters of a query.
+#[derive(Clone, Copy)]
+struct Binder<'a> {
+    alloc: Global,
+    schema: &'a Schema,
+    params: &'a Params,
+}
+
+impl Binder<'_> {
+    /// An item of a FROM, behind the leaves before it.
+    #[cycle(binding)]
+    fn item(self, tree: &tree::Item, leaves: Seq<usize>) -> Result<(Source, Seq<usize>), Refusal>
+        ensures meant { Gives result (spec.item_step self.entry.schema.now self.entry.params.now tree.now leaves) }
+        ensures tables { AreTables self.entry.schema.now leaves → HasTables self.entry.schema.now result }
+    {
+        match tree {
+            tree::Item::Table(name, alias) => {
+                named_source(self.alloc, self.schema, name, alias, leaves)
+            }
+            tree::Item::Derived(query, name) => {
+                derived_source(self.alloc, name, self.query(query.get(), leaves))
+            }
+        }
+    }
+
+    /// The further items of a FROM.
+    #[cycle(binding)]
+    fn joined(
+        self,
+        first: Result<(FromItems, Seq<usize>), Refusal>,
+        joins: &[tree::Join],
+    ) -> Result<(FromItems, Seq<usize>), Refusal>
+        ensures meant { Gives result (and_then first (onward (spec.next_join self.entry.params.now) (map (spec.join_step self.entry.schema.now self.entry.params.now) joins.now))) }
+        ensures tables { HasTables self.entry.schema.now first → HasTables self.entry.schema.now result }
+    {
+        let mut so_far = first?;
+        for join in joins {
+            let (from, leaves) = so_far;
+            let item = self.item(&join.item, leaves);
+            so_far = extended_by(self.alloc, self.params, from, join.is_left, item, &join.on)?;
+        }
+        Ok(so_far)
+    }
+
+    /// A block, behind the leaves before it.
+    #[cycle(binding)]
+    fn block(
+        self,
+        tree: &tree::Block,
+        leaves: Seq<usize>,
+    ) -> Result<(BoundBlock, Seq<usize>), Refusal>
+        ensures meant { Gives result (spec.block_step self.entry.schema.now self.entry.params.now tree.now leaves) }
+        ensures tables { AreTables self.entry.schema.now leaves → HasTables self.entry.schema.now result }
+    {
+        let first = started(self.alloc, self.item(&tree.from, leaves));
+        let from = self.joined(first, tree.joins.as_slice());
+        block_of_found(self.alloc, self.params, tree, from)
+    }
+
+    /// The further blocks of a query.
+    #[cycle(binding)]
+    fn others(
+        self,
+        first: Result<(BoundBlocks, Seq<usize>), Refusal>,
+        others: &[tree::Block],
+    ) -> Result<(BoundBlocks, Seq<usize>), Refusal>
+        ensures meant { Gives result (and_then first (onward spec.next_block (map (spec.block_step self.entry.schema.now self.entry.params.now) others.now))) }
+        ensures tables { HasTables self.entry.schema.now first → HasTables self.entry.schema.now result }
+    {
+        let mut so_far = first?;
+        for other in others {
+            let (blocks, leaves) = so_far;
+            so_far = with_block(blocks, self.block(other, leaves))?;
+        }
+        Ok(so_far)
+    }
+
+    /// A query, behind the leaves before it.
+    #[cycle(binding)]
+    fn query(self, tree: &tree::Query, leaves: Seq<usize>) -> Result<(Bound, Seq<usize>), Refusal>
+        ensures meant { Gives result (spec.query_step self.entry.schema.now self.entry.params.now tree.now leaves) }
+        ensures tables { AreTables self.entry.schema.now leaves → HasTables self.entry.schema.now result }
+    {
+        let first = first_of(self.alloc, self.block(&tree.first, leaves));
+        let blocks = self.others(first, tree.others.as_slice());
+        query_of_found(self.alloc, blocks, tree.order.as_slice(), &tree.limit)
+    }
+}
+
+/// The typed query that a tree stands for on these tables and with these parameters, and its leaves: the tables of all its FROMs.
+///
+/// The error is the first of these faults in the tree, or want of memory:
+/// `TooManyTables`, the ninth table name of the text; `NoTable`, a name that no table has; `DuplicateAlias`, two items of a FROM with one
+/// name; `NoColumn` and `Ambiguous`, a name that stands for no column, or for two; `TypeMismatch`, operands of types that their operator
+/// does not take; `NotGrouped`, a column of a grouped block that is not in its GROUP BY, or an aggregate where none may stand;
+/// `BadPattern`, a LIKE pattern with a wrong escape; `NoParameter`, a parameter that was given no value; `ColumnsDiffer`, blocks of a union
+/// that differ in the number or types of their columns; `BadOrdinal`, an ordinal in ORDER BY of 0 or past the last column.
+pub fn bind(
+    alloc: Global,
+    schema: &Schema,
+    tree: &tree::Query,
+    params: &Params,
+) -> Result<Statement, Refusal>
+    ensures statement { Gives result (spec.bound schema.now params.now tree.now) }
+    ensures leaves { IfOk result (λ statement. AreTables schema.now statement.leaves) }
+{
+    let binder = Binder {
+        alloc,
+        schema,
+        params,
+    };
+    let (bound, leaves) = binder.query(tree, Seq::new(alloc))?;
+    Ok(Statement {
+        query: bound.query,
+        leaves,
+    })
+}

@@ -1,0 +1,153 @@
+//! A block behind its FROM.
+ghost use Rattle.std.specs.Prelude.{◌≡◌, Ok, IfOk};
+ghost use Rattle.span_typing.specs.Steps.{Gives, and_then};
+ghost use Rattle.span_binder.specs.Blocks as spec;
+
+use super::aggregating::{is_grouped, mode_of};
+use super::bound::{BoundBlock, FromItems, OutputColumn, Parts, Shown};
+use super::grouping::{filter_of, group_places, grouping_of, groups_named, having_of, with_keys};
+use super::output::select_list;
+use span_expr::expr::Expr;
+use span_params::params::Params;
+use span_parser::tree;
+use span_query::query::{Block, BoundQuery, Item, Join};
+use span_typing::scope::Scope;
+use span_typing::typed::Mode;
+use span_typing::typing::Names;
+use span_value::refusal::Refusal;
+use span_value::seq::Seq;
+use sqlite_items::Items;
+use std::alloc::{AllocError, Global};
+
+/// The expressions and the columns of what is shown.
+fn parted(alloc: Global, shown: Seq<Shown>) -> Result<(Items<Expr>, Seq<OutputColumn>), AllocError>
+    ensures { IfOk result (λ parts. (parts.0 ≡ spec.exprs_shown shown) × (parts.1 ≡ spec.columns_shown shown)) }
+{
+    let mut exprs = Vec::new(alloc);
+    let mut columns = Vec::new(alloc);
+    for one in shown.into_vec() {
+        exprs.push(one.expr)?;
+        columns.push(one.column)?;
+    }
+    Ok((Items::from_vec(exprs), Seq::from_vec(columns)))
+}
+
+/// What is found of a block behind its FROM. The error is the first in its select list, WHERE, GROUP BY and HAVING.
+#[tactic(auto, unfolding(crate::specs::Blocks::parts_behind))]
+fn parts_behind(names: Names<'_>, mode: Mode, tree: &tree::Block) -> Result<Parts, Refusal>
+    ensures { Gives result (spec.parts_behind names.entry.scope.now names.entry.params.now mode (spec.behind tree.now)) }
+{
+    let (shown, found) = select_list(names, mode, tree.outputs.as_slice())?;
+    let filter = filter_of(names, &tree.filter)?;
+    groups_named(names.scope, tree.groups.as_slice())?;
+    let (having, aggregates) = having_of(names, &tree.having, found)?;
+    Ok(Parts {
+        shown,
+        filter,
+        having,
+        aggregates,
+    })
+}
+
+/// Whether a block is grouped.
+fn grouped(tree: &tree::Block) -> bool
+    ensures { result ≡ (spec.behind tree.now).is_grouped }
+{
+    is_grouped(
+        tree.groups.as_slice(),
+        &tree.having,
+        &tree.filter,
+        tree.outputs.as_slice(),
+        tree.joins.as_slice(),
+    )
+}
+
+/// A block of its parts.
+fn block_of(
+    alloc: Global,
+    first: Item<BoundQuery>,
+    joins: Items<Join<BoundQuery>>,
+    is_distinct: bool,
+    is_grouped: bool,
+    keys: Seq<usize>,
+    parts: Parts,
+) -> Result<BoundBlock, AllocError>
+    ensures { IfOk result (λ block. block ≡ spec.block_parted first joins is_distinct is_grouped keys parts) }
+{
+    let (outputs, columns) = parted(alloc, parts.shown)?;
+    Ok(BoundBlock {
+        block: Block {
+            from: first,
+            joins,
+            filter: parts.filter,
+            grouping: grouping_of(is_grouped, keys, parts.having, parts.aggregates),
+            outputs,
+            is_distinct,
+        },
+        columns,
+    })
+}
+
+/// A block behind its FROM.
+#[tactic(auto, unfolding(crate::specs::Blocks::block_in))]
+fn block_in(
+    alloc: Global,
+    params: &Params,
+    tree: &tree::Block,
+    from: FromItems,
+    keys: Seq<usize>,
+) -> Result<BoundBlock, Refusal>
+    ensures { Gives result (spec.block_in params.now (spec.behind tree.now) from keys) }
+{
+    let FromItems {
+        scope,
+        first,
+        joins,
+    } = from;
+    let scope = with_keys(scope, keys);
+    let names = Names {
+        alloc,
+        scope: &scope,
+        params,
+    };
+    let is_grouped = grouped(tree);
+    let parts = parts_behind(names, mode_of(is_grouped), tree)?;
+    let Scope { keys, .. } = scope;
+    Ok(block_of(
+        alloc,
+        first,
+        joins,
+        tree.is_distinct,
+        is_grouped,
+        keys,
+        parts,
+    )?)
+}
+
+/// A block behind its FROM.
+#[tactic(auto, unfolding(crate::specs::Blocks::block_behind))]
+fn block_behind(
+    alloc: Global,
+    params: &Params,
+    tree: &tree::Block,
+    from: FromItems,
+) -> Result<BoundBlock, Refusal>
+    ensures { Gives result (spec.block_behind params.now (spec.behind tree.now) from) }
+{
+    let keys = group_places(alloc, &from.scope, tree.groups.as_slice())?;
+    block_in(alloc, params, tree, from, keys)
+}
+
+/// A block behind its FROM, where that was found.
+pub(crate) fn block_of_found(
+    alloc: Global,
+    params: &Params,
+    tree: &tree::Block,
+    found: Result<(FromItems, Seq<usize>), Refusal>,
+) -> Result<(BoundBlock, Seq<usize>), Refusal>
+    ensures { Gives result (and_then found (λ p. and_then (spec.block_behind params.now (spec.behind tree.now) p.0) (λ b. Ok (b, p.1)))) }
+{
+    let (from, leaves) = found?;
+    let block = block_behind(alloc, params, tree, from)?;
+    Ok((block, leaves))
+}

@@ -1,0 +1,71 @@
+//! What the binder finds on its way.
+use span_expr::expr::Expr;
+use span_query::query::{Aggregate, Block, BoundQuery, Item, Join};
+use span_typing::scope::Scope;
+use span_value::seq::Seq;
+use span_value::text::Text;
+use span_value::value::Kind;
+use sqlite_items::Items;
+
+/// A column of what a query or a block gives.
+#[derive(Debug, Drop)]
+pub struct OutputColumn {
+    /// Its alias, or else the name of its column; others have none.
+    pub name: Option<Text>,
+    pub kind: Kind,
+}
+
+/// One of the things that a block shows.
+#[derive(Debug, Drop)]
+pub struct Shown {
+    pub expr: Expr,
+    pub column: OutputColumn,
+}
+
+/// An item of a FROM, by its name and with its columns.
+#[derive(Debug, Drop)]
+pub struct Source {
+    pub item: Item<BoundQuery>,
+    pub name: Text,
+    pub columns: Seq<OutputColumn>,
+}
+
+/// A FROM up to some item: its names, its first item and its joins.
+#[derive(Debug, Drop)]
+pub struct FromItems {
+    pub scope: Scope,
+    pub first: Item<BoundQuery>,
+    pub joins: Items<Join<BoundQuery>>,
+}
+
+/// What is found of a block behind its FROM.
+#[derive(Debug, Drop)]
+pub struct Parts {
+    pub shown: Seq<Shown>,
+    pub filter: Option<Expr>,
+    pub having: Option<Expr>,
+    /// The aggregates of the select list, and then those of HAVING.
+    pub aggregates: Seq<Aggregate>,
+}
+
+/// A typed block, and the columns that it gives.
+#[derive(Debug, Drop)]
+pub struct BoundBlock {
+    pub block: Block<BoundQuery>,
+    pub columns: Seq<OutputColumn>,
+}
+
+/// The typed blocks of a query, up to some block.
+#[derive(Debug, Drop)]
+pub struct BoundBlocks {
+    pub first: BoundBlock,
+    /// The blocks behind UNION ALL.
+    pub others: Seq<BoundBlock>,
+}
+
+/// A typed query, and the columns that it gives.
+#[derive(Debug, Drop)]
+pub struct Bound {
+    pub query: BoundQuery,
+    pub columns: Seq<OutputColumn>,
+}

@@ -1,0 +1,203 @@
+//! FROM, item by item: the names up to each, and the conditions of the joins.
+ghost use Rattle.std.specs.Prelude.{◌≡◌, ◌++◌, ◌∷◌, [], Ok, IfOk, map};
+ghost use Rattle.span_typing.specs.Steps.{Gives, and_then};
+ghost use Rattle.span_binder.specs.Sources as spec;
+
+use super::bound::{FromItems, OutputColumn, Source};
+use span_expr::expr::Expr;
+use span_params::params::Params;
+use span_query::query::{BoundQuery, Join};
+use span_syntax::tree;
+use span_typing::kind::takes;
+use span_typing::scope::{Scope, ScopeColumn, item_named};
+use span_typing::typed::{Mode, Typed};
+use span_typing::typing::Names;
+use span_value::refusal::Refusal;
+use span_value::seq::Seq;
+use span_value::text::Text;
+use span_value::value::Kind;
+use sqlite_items::Items;
+use std::alloc::{AllocError, Global};
+
+/// A copy of a name, if there is one.
+pub(crate) fn copied_name(alloc: Global, name: &Option<Text>) -> Result<Option<Text>, AllocError>
+    ensures { IfOk result (λ copy. copy ≡ name.now) }
+{
+    match name {
+        None => Ok(None),
+        Some(name) => Ok(Some(Text::from_str(alloc, name.as_str())?)),
+    }
+}
+
+fn with_columns(
+    alloc: Global,
+    before: Seq<ScopeColumn>,
+    item: usize,
+    columns: &[OutputColumn],
+) -> Result<Seq<ScopeColumn>, AllocError>
+    ensures { IfOk result (λ all. all ≡ before ++ map (spec.scope_column item) columns.now) }
+{
+    let mut all = before;
+    for column in columns {
+        all.push(ScopeColumn {
+            item,
+            name: copied_name(alloc, &column.name)?,
+            kind: column.kind,
+        })?;
+    }
+    Ok(all)
+}
+
+/// The names of one more item.
+fn with_names(alloc: Global, scope: Scope, source: &Source) -> Result<Scope, AllocError>
+    ensures { IfOk result (λ all. all ≡ spec.with_names scope source.now) }
+{
+    let Scope {
+        items: before,
+        columns,
+        keys,
+    } = scope;
+    let columns = with_columns(alloc, columns, before.len(), source.columns.as_slice())?;
+    let mut items = before;
+    items.push(Text::from_str(alloc, source.name.as_str())?)?;
+    Ok(Scope {
+        items,
+        columns,
+        keys,
+    })
+}
+
+fn no_names(alloc: Global) -> Scope
+    ensures { result ≡ spec.no_names }
+{
+    Scope {
+        items: Seq::new(alloc),
+        columns: Seq::new(alloc),
+        keys: Seq::new(alloc),
+    }
+}
+
+/// A FROM of its first item.
+fn from_source(alloc: Global, source: Source) -> Result<FromItems, AllocError>
+    ensures { IfOk result (λ from. from ≡ spec.started source) }
+{
+    let scope = with_names(alloc, no_names(alloc), &source)?;
+    Ok(FromItems {
+        scope,
+        first: source.item,
+        joins: Items::new(alloc),
+    })
+}
+
+/// A FROM of its first item, where that was found.
+pub(crate) fn started(
+    alloc: Global,
+    found: Result<(Source, Seq<usize>), Refusal>,
+) -> Result<(FromItems, Seq<usize>), Refusal>
+    ensures { Gives result (and_then found (λ p. Ok (spec.started p.0, p.1))) }
+{
+    let (source, leaves) = found?;
+    Ok((from_source(alloc, source)?, leaves))
+}
+
+/// A condition. The error is `TypeMismatch` where it is not BOOL.
+pub(crate) fn judged(typed: Typed) -> Result<Expr, Refusal>
+    ensures { result ≡ spec.judged typed }
+{
+    if takes(Kind::Bool, typed.kind) {
+        Ok(typed.expr)
+    } else {
+        Err(Refusal::TypeMismatch)
+    }
+}
+
+/// A condition at rows of the FROM.
+#[tactic(auto, unfolding(crate::specs::Sources::condition))]
+pub(crate) fn condition(
+    alloc: Global,
+    scope: &Scope,
+    params: &Params,
+    tree: &tree::Expr,
+) -> Result<Expr, Refusal>
+    ensures { Gives result (spec.condition scope.now params.now tree.now) }
+{
+    let names = Names {
+        alloc,
+        scope,
+        params,
+    };
+    let mut found = Seq::new(alloc);
+    let typed = names.bind(Mode::Rows, tree, &mut found)?;
+    judged(typed)
+}
+
+/// One more join, behind those before it.
+fn with_join(
+    joins: Items<Join<BoundQuery>>,
+    is_left: bool,
+    source: Source,
+    on: Expr,
+) -> Result<Items<Join<BoundQuery>>, AllocError>
+    ensures { IfOk result (λ all. all ≡ joins ++ spec.join_of is_left source on ∷ []) }
+{
+    let mut joins = joins;
+    joins.push(Join {
+        is_left,
+        item: source.item,
+        width: source.columns.len(),
+        on,
+    })?;
+    Ok(joins)
+}
+
+fn has_item(scope: &Scope, name: &str) -> bool
+    ensures { result ≡ spec.has_item scope.now name.now }
+{
+    item_named(scope, name).is_some()
+}
+
+/// One more item of a FROM: its name is judged, and then its ON, which speaks of the items up to it. The error is `DuplicateAlias`
+/// where an item before has the name, or else one of the ON.
+fn extended(
+    alloc: Global,
+    params: &Params,
+    from: FromItems,
+    is_left: bool,
+    source: Source,
+    on: &tree::Expr,
+) -> Result<FromItems, Refusal>
+    ensures { Gives result (spec.extended params.now from is_left source on.now) }
+{
+    if has_item(&from.scope, source.name.as_str()) {
+        return Err(Refusal::DuplicateAlias);
+    }
+    let FromItems {
+        scope,
+        first,
+        joins,
+    } = from;
+    let scope = with_names(alloc, scope, &source)?;
+    let on = condition(alloc, &scope, params, on)?;
+    let joins = with_join(joins, is_left, source, on)?;
+    Ok(FromItems {
+        scope,
+        first,
+        joins,
+    })
+}
+
+/// A FROM with one more item, where that was found.
+pub(crate) fn extended_by(
+    alloc: Global,
+    params: &Params,
+    from: FromItems,
+    is_left: bool,
+    found: Result<(Source, Seq<usize>), Refusal>,
+    on: &tree::Expr,
+) -> Result<(FromItems, Seq<usize>), Refusal>
+    ensures { Gives result (and_then found (λ p. and_then (spec.extended params.now from is_left p.0 on.now) (λ f. Ok (f, p.1)))) }
+{
+    let (source, leaves) = found?;
+    let from = extended(alloc, params, from, is_left, source, on)?;
+    Ok((from, leaves))
+}

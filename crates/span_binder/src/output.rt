@@ -1,0 +1,244 @@
+//! What a block shows: the typed expressions of its select list, and their columns.
+ghost use Rattle.std.specs.Prelude.{◌≡◌, ◌++◌, ◌∷◌, [], Ok, IfOk, length, slice_get};
+ghost use Rattle.span_typing.specs.Steps.{Gives, and_then};
+ghost use Rattle.span_typing.specs.Scopes.{item_named as named};
+ghost use Rattle.span_typing.specs.Typing.{typing};
+ghost use Rattle.span_binder.specs.Outputs as spec;
+
+use super::bound::{OutputColumn, Shown};
+use super::join::copied_name;
+use span_parser::tree::Output;
+use span_query::query::Aggregate;
+use span_syntax::tree::{Expr, Spelling};
+use span_typing::kind::or_int;
+use span_typing::leaf::column_at;
+use span_typing::scope::{Scope, ScopeColumn, item_named};
+use span_typing::typed::{Mode, Typed};
+use span_typing::typing::Names;
+use span_value::refusal::Refusal;
+use span_value::seq::Seq;
+use span_value::text::Text;
+use std::alloc::{AllocError, Global};
+
+/// What a select list shows so far, and the aggregates of the block so far.
+pub(crate) type ShownSoFar = (Seq<Shown>, Seq<Aggregate>);
+
+/// Something that is shown, with the name of its column. A NULL literal is INT64.
+fn shown(name: Option<Text>, typed: Typed) -> Shown
+    ensures { result ≡ spec.shown name typed }
+{
+    Shown {
+        expr: typed.expr,
+        column: OutputColumn {
+            name,
+            kind: or_int(typed.kind),
+        },
+    }
+}
+
+/// The name of the column at a place of the FROM.
+fn name_at(alloc: Global, scope: &Scope, place: usize) -> Result<Option<Text>, AllocError>
+    ensures { IfOk result (λ name. name ≡ spec.or_nameless (slice_get scope.now.columns place)) }
+{
+    match scope.columns.as_slice().get(place) {
+        None => Ok(None),
+        Some(column) => copied_name(alloc, &column.name),
+    }
+}
+
+/// The column at a place of the FROM. The error is `NotGrouped` where the block is grouped and it is no grouped column.
+fn column_shown(alloc: Global, scope: &Scope, mode: Mode, place: usize) -> Result<Shown, Refusal>
+    ensures { Gives result (spec.column_shown scope.now mode place) }
+{
+    let typed = column_at(scope, mode, place)?;
+    let name = name_at(alloc, scope, place)?;
+    Ok(shown(name, typed))
+}
+
+/// What was found before, and one more behind it.
+pub(crate) fn with_one<T: Drop>(
+    before: Seq<T>,
+    found: Result<T, Refusal>,
+) -> Result<Seq<T>, Refusal>
+    ensures { Gives result (and_then found (λ x. Ok (before ++ x ∷ []))) }
+{
+    let one = found?;
+    let mut all = before;
+    all.push(one)?;
+    Ok(all)
+}
+
+#[tactic(auto, unfolding(crate::specs::Outputs::columns_shown))]
+fn columns_shown(
+    alloc: Global,
+    scope: &Scope,
+    mode: Mode,
+    places: &[usize],
+) -> Result<Seq<Shown>, Refusal>
+    ensures { Gives result (spec.columns_shown scope.now mode places.now) }
+{
+    let mut all = Seq::new(alloc);
+    for place in places {
+        all = with_one(all, column_shown(alloc, scope, mode, *place))?;
+    }
+    Ok(all)
+}
+
+fn all_places(alloc: Global, scope: &Scope) -> Result<Seq<usize>, AllocError>
+    ensures { IfOk result (λ places. places ≡ spec.all_places scope.now) }
+{
+    let mut places = Seq::new(alloc);
+    for place in 0..scope.columns.len() {
+        places.push(place)?;
+    }
+    Ok(places)
+}
+
+/// The places of the columns of an item.
+fn places_of(alloc: Global, item: usize, columns: &[ScopeColumn]) -> Result<Seq<usize>, AllocError>
+    ensures { IfOk result (λ places. places ≡ spec.places_of item 0 columns.now) }
+{
+    let mut places = Seq::new(alloc);
+    for (place, column) in columns.iter().enumerate() {
+        if column.item == item {
+            places.push(place)?;
+        }
+    }
+    Ok(places)
+}
+
+/// The places of the columns of the item with a name. The error is `NoColumn` where no item has it.
+fn item_places(alloc: Global, scope: &Scope, name: &str) -> Result<Seq<usize>, Refusal>
+    ensures { Gives result (spec.item_places scope.now (named scope.now name.now)) }
+{
+    match item_named(scope, name) {
+        None => Err(Refusal::NoColumn),
+        Some(item) => Ok(places_of(alloc, item, scope.columns.as_slice())?),
+    }
+}
+
+/// The name of the column that is shown: its alias, or else the name of a bare column.
+fn name_shown(
+    alloc: Global,
+    tree: &Expr,
+    alias: &Option<Spelling>,
+) -> Result<Option<Text>, AllocError>
+    ensures { IfOk result (λ name. name ≡ spec.name_shown tree.now alias.now) }
+{
+    match alias {
+        Some(alias) => Ok(Some(Text::from_str(alloc, alias.text.as_str())?)),
+        None => match tree {
+            Expr::Column(column) => Ok(Some(Text::from_str(alloc, column.name.text.as_str())?)),
+            _ => Ok(None),
+        },
+    }
+}
+
+/// An expression, behind the aggregates before it.
+pub(crate) fn typed_behind(
+    names: Names<'_>,
+    mode: Mode,
+    tree: &Expr,
+    found: Seq<Aggregate>,
+) -> Result<(Typed, Seq<Aggregate>), Refusal>
+    ensures { Gives result (typing names.entry.scope.now names.entry.params.now tree.now mode found) }
+{
+    let mut found = found;
+    let typed = names.bind(mode, tree, &mut found)?;
+    Ok((typed, found))
+}
+
+/// `*`
+#[tactic(auto, unfolding(crate::specs::Outputs::all_shown))]
+fn all_shown(alloc: Global, scope: &Scope, mode: Mode) -> Result<Seq<Shown>, Refusal>
+    ensures { Gives result (spec.all_shown scope.now mode) }
+{
+    let places = all_places(alloc, scope)?;
+    columns_shown(alloc, scope, mode, places.as_slice())
+}
+
+/// `item.*`
+#[tactic(auto, unfolding(crate::specs::Outputs::item_shown))]
+fn item_shown(alloc: Global, scope: &Scope, mode: Mode, name: &str) -> Result<Seq<Shown>, Refusal>
+    ensures { Gives result (spec.item_shown scope.now mode name.now) }
+{
+    let places = item_places(alloc, scope, name)?;
+    columns_shown(alloc, scope, mode, places.as_slice())
+}
+
+#[tactic(auto, unfolding(crate::specs::Outputs::value_shown))]
+fn value_shown(
+    names: Names<'_>,
+    mode: Mode,
+    tree: &Expr,
+    alias: &Option<Spelling>,
+    found: Seq<Aggregate>,
+) -> Result<ShownSoFar, Refusal>
+    ensures { Gives result (spec.value_shown names.entry.scope.now names.entry.params.now mode tree.now alias.now found) }
+{
+    let (typed, found) = typed_behind(names, mode, tree, found)?;
+    let name = name_shown(names.alloc, tree, alias)?;
+    let mut all = Seq::new(names.alloc);
+    all.push(shown(name, typed))?;
+    Ok((all, found))
+}
+
+/// What is shown, where no aggregate was found.
+fn beside(shown: Result<Seq<Shown>, Refusal>, found: Seq<Aggregate>) -> Result<ShownSoFar, Refusal>
+    ensures { Gives result (and_then shown (λ x. Ok (x, found))) }
+{
+    Ok((shown?, found))
+}
+
+#[tactic(auto, using(crate::proofs::Giving::gives_on))]
+fn output_shown(
+    names: Names<'_>,
+    mode: Mode,
+    output: &Output,
+    found: Seq<Aggregate>,
+) -> Result<ShownSoFar, Refusal>
+    ensures { Gives result (spec.output_shown names.entry.scope.now names.entry.params.now mode output.now found) }
+{
+    match output {
+        Output::All => beside(all_shown(names.alloc, names.scope, mode), found),
+        Output::AllOf(item) => beside(
+            item_shown(names.alloc, names.scope, mode, item.text.as_str()),
+            found,
+        ),
+        Output::Value(tree, alias) => value_shown(names, mode, tree, alias, found),
+    }
+}
+
+/// One more thing of a select list, behind those before it.
+fn next_shown(
+    names: Names<'_>,
+    mode: Mode,
+    so_far: ShownSoFar,
+    output: &Output,
+) -> Result<ShownSoFar, Refusal>
+    ensures { Gives result (spec.next_shown names.entry.scope.now names.entry.params.now mode so_far output.now) }
+{
+    let (shown, found) = so_far;
+    let (more, found) = output_shown(names, mode, output, found)?;
+    let mut all = shown.into_vec();
+    let mut more = more.into_vec();
+    all.append(&mut more)?;
+    Ok((Seq::from_vec(all), found))
+}
+
+/// What a select list shows, and the aggregates in it. The error is the first of its faults: `NoColumn`, `Ambiguous`, `TypeMismatch`,
+/// `NotGrouped`, `BadPattern` or `NoParameter`; or want of memory.
+#[tactic(auto, unfolding(crate::specs::Outputs::select_list))]
+pub(crate) fn select_list(
+    names: Names<'_>,
+    mode: Mode,
+    outputs: &[Output],
+) -> Result<ShownSoFar, Refusal>
+    ensures { Gives result (spec.select_list names.entry.scope.now names.entry.params.now mode outputs.now) }
+{
+    let mut so_far = (Seq::new(names.alloc), Seq::new(names.alloc));
+    for output in outputs {
+        so_far = next_shown(names, mode, so_far, output)?;
+    }
+    Ok(so_far)
+}
