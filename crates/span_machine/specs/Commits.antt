@@ -1,7 +1,7 @@
 use Rattle.std.specs.Prelude.{ℕ, ◌==◌, List, [], ◌∷◌, ◌++◌, Option, Some, None, find}
 use Rattle.span_mutate.specs.declared.mutation.CheckedMutation.{CheckedMutation}
+use Rattle.span_params.specs.declared.params.Parameter.{Parameter}
 use Rattle.span_machine.specs.declared.transaction.Commit.{Commit}
-use Rattle.span_machine.specs.declared.query.Params.{Params}
 use Rattle.span_machine.specs.declared.step.Step.{Step}
 use Rattle.span_machine.specs.declared.step.Step.TheVariants.{Begin, Decide, Open}
 use Rattle.span_machine.specs.declared.step.Reply.{Reply}
@@ -40,7 +40,7 @@ commits_of steps replies = commits_after [] steps replies
 pub record Asked : Type 0 where
   pub number : ℕ
   pub text : List ℕ
-  pub params : Params
+  pub params : List Parameter
   pub s : ℕ
 
 -- what an Open that was answered Opened asks

@@ -1,6 +1,5 @@
-use Rattle.std.specs.Prelude.{◌≡◌, ℕ, ◌+◌, ◌^◌, ◌-◌, max, Bool, true, false, ◌==◌, ◌&&◌, ◌||◌, not, nat_lt, nat_le, List, [], ◌∷◌, ◌++◌, length, filter, find, count_by, slice_get, slice_set, Option, Some, None, Result, Ok, Err, if◌then◌else◌, ◌⊎◌}
+use Rattle.std.specs.Prelude.{◌≡◌, ℕ, ◌+◌, ◌^◌, ◌-◌, max, Bool, true, false, ◌==◌, ◌&&◌, ◌||◌, not, nat_lt, nat_le, List, [], ◌∷◌, ◌++◌, length, map, filter, find, count_by, slice_get, slice_set, Option, Some, None, Result, Ok, Err, if◌then◌else◌, ◌⊎◌}
 use Rattle.std.specs.List.{list_any, list_all}
-use Rattle.std.specs.Option.{option_or}
 use Rattle.span_schema.specs.declared.table.Table.{Table}
 use Rattle.span_mutate.specs.declared.mutation.CheckedMutation.{CheckedMutation}
 use Rattle.span_machine.specs.declared.transaction.Commit.{Commit}
@@ -14,7 +13,10 @@ use Rattle.span_machine.specs.declared.step.Reply.TheVariants.{Refused}
 use Rattle.span_machine.specs.declared.step.Verdict.{Verdict}
 use Rattle.span_machine.specs.declared.step.Verdict.TheVariants as verdict
 use Rattle.span_truetime.specs.declared.bound.Bound.{Bound}
-use Rattle.span_machine.specs.declared.query.Params.{Params}
+use Rattle.span_params.specs.declared.params.Parameter.{Parameter}
+use Rattle.span_query.specs.declared.query.BoundQuery.{BoundQuery}
+use Rattle.span_query.specs.declared.query.Statement.{Statement}
+use Rattle.span_query.specs.Rows.{Row, Rows}
 use Rattle.span_truetime.specs.Time.{timestamp_end, timestamp_of}
 use Rattle.span_truetime.specs.declared.interval.Interval.{Interval}
 use Rattle.span_machine.specs.declared.transaction.Prepared.{Prepared}
@@ -23,14 +25,14 @@ use Rattle.span_machine.specs.declared.transaction.Outcome.TheVariants as outcom
 use Rattle.span_machine.specs.declared.transaction.Outcome.TheVariants.{Undecided, Committed}
 use Rattle.span_machine.specs.declared.transaction.OpenTransaction.{OpenTransaction}
 use Rattle.span_machine.specs.declared.slot.Book.{Book}
+use Rattle.span_machine.specs.declared.query.Leaf.{Leaf}
 use Rattle.span_machine.specs.declared.query.OpenQuery.{OpenQuery}
 use Rattle.span_mutate.specs.Checking.{and_then}
 use Rattle.span_mutate.specs.Database.{apply}
 use Rattle.span_mutate.specs.Directories.{Root, is_of, root_row}
 use Rattle.span_machine.specs.Tables.{tables}
-use Rattle.span_machine.specs.Meaning.{table_asked, means}
+use Rattle.span_machine.specs.Meaning.{means}
 use Rattle.span_machine.specs.Kept as kept
-use Rattle.span_value.specs.declared.value.Value.{Value}
 
 -- what the journal knows: no versions and no rows
 pub record Machine : Type 0 where
@@ -334,23 +336,28 @@ trim_found schema m slot h book = unless_refused m (trim_refusal m slot h book) 
 abbrev pub trim : List Table → Machine → ℕ → ℕ → Answer
 trim schema m slot h = for_slot m slot (trim_found schema m slot h)
 
-abbrev pub open_refusal : List Table → Machine → List ℕ → ℕ → Option Refusal
-open_refusal schema m text s = option_or (fault_of (table_asked schema text)) (first_cause (
+abbrev pub open_refusal : Machine → ℕ → Option Refusal
+open_refusal m s = first_cause (
     (nat_le timestamp_end s, refusal.TimestampRange)
-    ∷ (nat_le 64 (length m.queries) || nat_le (2 ^ 63) m.next_query, refusal.QueryTableFull) ∷ []))
+    ∷ (nat_le 64 (length m.queries) || nat_le (2 ^ 63) m.next_query, refusal.QueryTableFull) ∷ [])
 
-abbrev pub opened : Machine → List ℕ → Params → ℕ → Answer
-opened m text params s = (
-  reply.Opened m.next_query s 1,
+-- a leaf that no piece covers
+abbrev pub uncovered : ℕ → Leaf
+uncovered table = record { table = table; covered = false }
+
+abbrev pub opened : Machine → Statement → ℕ → Answer
+opened m q s = (
+  reply.Opened m.next_query s (length q.leaves),
   record m {
-    queries = m.queries ++ (record { number = m.next_query; text = text; params = params; s = s; covered = false }) ∷ [];
+    queries = m.queries ++ (record { number = m.next_query; query = q.query; s = s; leaves = map uncovered q.leaves }) ∷ [];
     next_query = m.next_query + 1;
   },
 )
 
-abbrev pub open_query : List Table → Machine → List ℕ → Params → Bound → Interval → Answer
-open_query schema m text params bound interval =
-    unless_refused m (open_refusal schema m text (timestamp_of bound interval)) (opened m text params (timestamp_of bound interval))
+-- where the text is understood as this; the refusal of a text comes first
+abbrev pub open_query : Machine → Result Statement Refusal → Bound → Interval → Answer
+open_query m (Err why) bound interval = refused m why
+open_query m (Ok q) bound interval = unless_refused m (open_refusal m (timestamp_of bound interval)) (opened m q (timestamp_of bound interval))
 
 -- the floor rises to s where the clock has passed it
 abbrev pub risen : Book → ℕ → Interval → Book
@@ -359,43 +366,60 @@ risen book s interval = if nat_lt book.floor s && nat_le s interval.latest then 
 abbrev pub with_book : Machine → ℕ → Book → Machine
 with_book m slot book = record m { books = slice_set m.books slot book }
 
-abbrev pub cover : OpenQuery → OpenQuery
-cover q = record q { covered = true }
+abbrev pub is_covered : Leaf → Bool
+is_covered l = l.covered
+
+abbrev pub with_covered : List Leaf → ℕ → List Leaf
+with_covered leaves leaf = if_some (slice_get leaves leaf) leaves (λ l. slice_set leaves leaf (record l { covered = true }))
+
+-- with the leaf at a place covered, and no other
+abbrev pub cover : ℕ → OpenQuery → OpenQuery
+cover leaf q = record q { leaves = with_covered q.leaves leaf }
 
 -- with the floor risen
-abbrev pub scanned : Machine → ℕ → ℕ → Book → ℕ → Answer
-scanned m query slot book s =
+abbrev pub scanned : Machine → ℕ → ℕ → ℕ → Book → ℕ → Answer
+scanned m query leaf slot book s =
     if is_safe m slot book s
-    then (reply.Scanned, record (with_book m slot book) { queries = changed_first (is_query query) cover m.queries })
+    then (reply.Scanned, record (with_book m slot book) { queries = changed_first (is_query query) (cover leaf) m.queries })
     else (Refused refusal.NotYet, with_book m slot book)
 
 -- below the horizon nothing is read, and the floor stays
-abbrev pub scan_gap : Machine → ℕ → ℕ → Interval → OpenQuery → Book → Answer
-scan_gap m query slot interval q book =
-    if nat_lt q.s book.horizon then refused m refusal.Trimmed else scanned m query slot (risen book q.s interval) q.s
+abbrev pub scan_gap : Machine → ℕ → ℕ → ℕ → Interval → OpenQuery → Book → Answer
+scan_gap m query leaf slot interval q book =
+    if nat_lt q.s book.horizon then refused m refusal.Trimmed else scanned m query leaf slot (risen book q.s interval) q.s
 
-abbrev pub scan_at : Machine → ℕ → ℕ → Interval → OpenQuery → Book → Answer
-scan_at m query slot interval q book =
-    if q.covered then (reply.Nothing, m) else scan_gap m query slot interval q book
+abbrev pub scan_at : Machine → ℕ → ℕ → ℕ → Interval → OpenQuery → Leaf → Book → Answer
+scan_at m query leaf slot interval q l book =
+    if l.covered then (reply.Nothing, m) else scan_gap m query leaf slot interval q book
 
+-- leaves are counted from 0
 abbrev pub scan_found : Machine → ℕ → ℕ → ℕ → Interval → OpenQuery → Answer
 scan_found m query leaf slot interval q =
-    if leaf == 0 then for_slot m slot (scan_at m query slot interval q) else refused m refusal.UnknownQuery
+    if_some (slice_get q.leaves leaf) (refused m refusal.UnknownQuery) (λ l. for_slot m slot (scan_at m query leaf slot interval q l))
 
 abbrev pub scan : Machine → ℕ → ℕ → ℕ → Interval → Answer
 scan m query leaf slot interval = for_query m query (scan_found m query leaf slot interval)
 
 -- the rows at s, or why there are none
-abbrev pub answer_on : ℕ → Result (List (List Value)) Refusal → Reply
+abbrev pub answer_on : ℕ → Result (List Row) Refusal → Reply
 answer_on s (Ok rows) = reply.Rows s rows
 answer_on s (Err why) = Refused why
 
+-- rows, or the refusal that the fault is
+abbrev pub or_refusal : Rows → Result (List Row) Refusal
+or_refusal None = Err refusal.ArithmeticFault
+or_refusal (Some rows) = Ok rows
+
+-- the tables of leaves, by their numbers
+abbrev pub tables_of : List Leaf → List ℕ
+tables_of leaves = map (λ (l : Leaf). l.table) leaves
+
 -- what the query means on the tables at its timestamp, by the log so far
-abbrev pub meaning : List Table → Machine → OpenQuery → Result (List (List Value)) Refusal
-meaning schema m q = and_then (tables schema m.log q.s) (means schema q.text q.params)
+abbrev pub meaning : List Table → Machine → OpenQuery → Result (List Row) Refusal
+meaning schema m q = and_then (tables schema m.log q.s) (λ db. or_refusal (means schema q.query (tables_of q.leaves) db))
 
 abbrev pub finish_found : List Table → Machine → OpenQuery → Answer
-finish_found schema m q = if q.covered then (answer_on q.s (meaning schema m q), m) else refused m refusal.Incomplete
+finish_found schema m q = if list_all is_covered q.leaves then (answer_on q.s (meaning schema m q), m) else refused m refusal.Incomplete
 
 abbrev pub finish : List Table → Machine → ℕ → Answer
 finish schema m query = for_query m query (finish_found schema m)
@@ -406,18 +430,18 @@ closed m query q = (reply.Closed, record m { queries = without_first (is_query q
 abbrev pub close : Machine → ℕ → Answer
 close m query = for_query m query (closed m query)
 
--- the reply where memory suffices, and the machine after it
-abbrev pub answer : List Table → Machine → Step → Answer
-answer schema m (Begin owner transaction) = begin m owner transaction
-answer schema m (Prepare owner txn slot) = prepare schema m owner txn slot
-answer schema m (Decide owner txn v interval) = decide schema m owner txn v interval
-answer schema m (Apply owner txn slot interval) = apply_step m owner txn slot interval
-answer schema m (Advance slot interval) = advance m slot interval
-answer schema m (Trim slot h) = trim schema m slot h
-answer schema m (Open text params bound interval) = open_query schema m text params bound interval
-answer schema m (Scan query leaf slot interval) = scan m query leaf slot interval
-answer schema m (Finish query) = finish schema m query
-answer schema m (Close query) = close m query
+-- the reply where memory suffices, and the machine after it, where an Open's text is understood as u
+abbrev pub answer : List Table → Machine → Result Statement Refusal → Step → Answer
+answer schema m u (Begin owner transaction) = begin m owner transaction
+answer schema m u (Prepare owner txn slot) = prepare schema m owner txn slot
+answer schema m u (Decide owner txn v interval) = decide schema m owner txn v interval
+answer schema m u (Apply owner txn slot interval) = apply_step m owner txn slot interval
+answer schema m u (Advance slot interval) = advance m slot interval
+answer schema m u (Trim slot h) = trim schema m slot h
+answer schema m u (Open text params bound interval) = open_query m u bound interval
+answer schema m u (Scan query leaf slot interval) = scan m query leaf slot interval
+answer schema m u (Finish query) = finish schema m query
+answer schema m u (Close query) = close m query
 
 -- the step may want memory
 abbrev pub may_grow : Step → Bool
@@ -432,11 +456,29 @@ may_grow (Scan query leaf slot interval) = true
 may_grow (Finish query) = true
 may_grow (Close query) = false
 
--- From m, the reply to the step and the machine after it. Want of memory may stand in place of the reply, and changes nothing
-abbrev pub Steps : List Table → Machine → Step → Reply → Machine → Type 0
-Steps schema m s r next =
-    ((r ≡ (answer schema m s).0) × (next ≡ (answer schema m s).1))
-    ⊎ ((may_grow s ≡ true) × (r ≡ Refused refusal.OutOfMemory) × (next ≡ m))
+-- Which texts, with which parameters, are understood as which statements, and which are refused for what. The definitions below are for
+-- any such relation.
+abbrev pub Understanding : Type 1
+Understanding = List ℕ → List Parameter → Result Statement Refusal → Type 0
+
+-- the text of an Open is understood as u; no other step has a text
+abbrev pub IsUnderstood : Understanding → Step → Result Statement Refusal → Type 0
+IsUnderstood understands (Open text params bound interval) u = understands text params u
+IsUnderstood understands _ u = Unit {0}
+
+-- the reply and the machine after it are those of the answer
+abbrev pub IsAnswer : Answer → Reply → Machine → Type 0
+IsAnswer a r next = (r ≡ a.0) × (next ≡ a.1)
+
+-- want of memory stands in place of a reply, and changes nothing
+abbrev pub WantsMemory : Machine → Reply → Machine → Type 0
+WantsMemory m r next = (r ≡ Refused refusal.OutOfMemory) × (next ≡ m)
+
+-- from m, the reply to the step and the machine after it: the machine's answer, or want of memory where the step may want some
+abbrev pub Steps : Understanding → List Table → Machine → Step → Reply → Machine → Type 0
+Steps understands schema m s r next =
+    ((u : Result Statement Refusal) × IsUnderstood understands s u × IsAnswer (answer schema m u s) r next)
+    ⊎ ((may_grow s ≡ true) × WantsMemory m r next)
 
 abbrev pub start : Machine
 start = record { books = (record { last = 0; floor = 0; horizon = 0 }) ∷ []; transactions = []; log = []; queries = []; next_transaction = 1; next_query = 1 }

@@ -1,17 +1,17 @@
 use Rattle.std.specs.Prelude.{ℕ, List, map}
-use Rattle.span_value.specs.declared.value.Value.{Value}
+use Rattle.span_query.specs.Rows.{Row}
 use Rattle.span_machine.specs.declared.slot.Book.{Book}
 use Rattle.span_machine.specs.declared.transaction.OpenTransaction.{OpenTransaction}
 use Rattle.span_machine.specs.declared.transaction.Commit.{Commit}
 use Rattle.span_machine.specs.declared.query.OpenQuery.{OpenQuery}
 use Rattle.span_machine.specs.Machine.{Machine}
 
--- an open query, and the rows of the piece that covers it
+-- an open query, and the rows of its pieces: for each leaf those of the piece that covers it, none before
 pub record Pieced : Type 0 where
   pub query : OpenQuery
-  pub rows : List (List Value)
+  pub pieces : List (List Row)
 
--- what a journal keeps: the machine's state, with the piece of each open query
+-- what a journal keeps: the machine's state, with the pieces of each open query
 pub record Journaled : Type 0 where
   pub books : List Book
   pub transactions : List OpenTransaction

@@ -1,18 +1,24 @@
 //! Open queries.
-use span_value::text::Text;
+use span_query::query::BoundQuery;
+use span_value::seq::Seq;
 
-/// The values of a query's parameters. There are none yet.
+/// A leaf of an open query: a table of one of its FROMs.
 #[derive(Clone, Copy, Debug, PartialEq, Eq)]
-pub struct Params {}
+pub struct Leaf {
+    /// The number of its table.
+    pub table: usize,
+    /// Whether a piece covers its range.
+    pub covered: bool,
+}
 
 /// A query from its Open to its Close.
-#[derive(Debug, Drop, PartialEq, Eq)]
+#[derive(Debug, Drop)]
 pub struct OpenQuery {
     pub number: u64,
-    pub text: Text,
-    pub params: Params,
+    /// What the text asks of the leaves.
+    pub query: BoundQuery,
     /// The timestamp that it reads at.
     pub s: u64,
-    /// Whether a piece covers the range of its one leaf.
-    pub covered: bool,
+    /// Its leaves, in the order of the text.
+    pub leaves: Seq<Leaf>,
 }

@@ -1,6 +1,6 @@
 //! Steps, and the replies to them.
-use super::query::Params;
 use span_mutate::transaction::Transaction;
+use span_params::params::Params;
 use span_truetime::bound::Bound;
 use span_truetime::interval::Interval;
 use span_value::refusal::Refusal;
