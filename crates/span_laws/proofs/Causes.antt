@@ -1,10 +1,9 @@
-use Rattle.std.proofs.Common.{◌≡◌, ℕ, Result, Ok, Err, Bool, true, false, not, ◌||◌, [], ◌∷◌, None, refl}
-use Rattle.std.specs.Option.{option_or}
+use Rattle.std.proofs.Common.{◌≡◌, Bool, true, false, not, ◌||◌, [], ◌∷◌, None, refl}
 use Rattle.span_value.specs.declared.refusal.Refusal.{Refusal}
 use Rattle.span_value.specs.declared.refusal.Refusal.TheVariants as refusal
 use Rattle.span_machine.specs.declared.transaction.Outcome.{Outcome}
 use Rattle.span_machine.specs.declared.transaction.Outcome.TheVariants as outcome
-use Rattle.span_machine.specs.Machine.{first_cause, fault_of, undecided}
+use Rattle.span_machine.specs.Machine.{first_cause, undecided}
 
 -- what a step that is not refused has found
 
@@ -39,13 +38,6 @@ may_apply false true false e = (refl, refl, refl)
 may_apply false true true e = absurd (cc)
 may_apply false false early e = absurd (cc)
 may_apply true p early e = absurd (cc)
-
-pub may_open : (asked : Result ℕ Refusal) (late full : Bool) → option_or (fault_of asked) (first_cause ((late, refusal.TimestampRange) ∷ (full, refusal.QueryTableFull) ∷ [])) ≡ None
-    → ((n : ℕ) × (asked ≡ Ok n)) × (late ≡ false) × (full ≡ false)
-may_open (Ok n) false false e = ((n, refl), refl, refl)
-may_open (Ok n) false true e = absurd (cc)
-may_open (Ok n) true full e = absurd (cc)
-may_open (Err why) late full e = absurd (cc)
 
 pub is_undecided_outcome : (o : Outcome) → undecided o ≡ true → o ≡ outcome.Undecided
 is_undecided_outcome outcome.Undecided e = refl

@@ -1,84 +1,105 @@
-use Rattle.std.proofs.Common.{◌≡◌, ℕ, List, [], ◌∷◌, ◌++◌, Ok, ap, sym, ◌∙◌, subst, append_assoc}
+use Rattle.std.proofs.Common.{◌≡◌, ℕ, List, [], ◌∷◌, ◌++◌, Ok, ap, sym, ◌∙◌, subst, inl, inr, ◌⊎◌, append_assoc}
 use Rattle.std.proofs.lemmas.List.{append-nil}
-use Rattle.span_value.specs.declared.value.Value.{Value}
+use Rattle.span_value.specs.declared.refusal.Refusal.TheVariants as refusal
+use Rattle.span_query.specs.Rows as rows
 use Rattle.span_mutate.specs.declared.row.TableRow.{TableRow}
 use Rattle.span_mutate.specs.Directories.{Root}
 use Rattle.span_machine.specs.declared.step.Step.{Step}
 use Rattle.span_machine.specs.declared.step.Step.TheVariants.{Finish}
 use Rattle.span_machine.specs.declared.step.Reply.{Reply}
-use Rattle.span_machine.specs.declared.step.Reply.TheVariants.{Rows}
+use Rattle.span_machine.specs.declared.step.Reply.TheVariants.{Rows, Refused}
 use Rattle.span_machine.specs.declared.transaction.Commit.{Commit}
 use Rattle.span_machine.specs.Tables.{tables, upto, mutations_of}
+use Rattle.span_machine.specs.Meaning.{means}
 use Rattle.span_machine.specs.Commits.{Begun, begun_by, committed_by, commits_after, commits_of, Asked, asked_by}
 use Rattle.span_machine.specs.Run.{Run, AreOfSchema, IsMeant, IsRight, AreRight, IsHistory}
-use Rattle.span_machine.specs.Machine.{Machine, start}
+use Rattle.span_machine.specs.Machine.{Machine, Understanding, start}
 use Rattle.span_laws.proofs.Locality.{IsRoot, apply_alike, empty_database}
 use Rattle.span_laws.proofs.Sealed.{IsSealed}
-use Rattle.span_laws.proofs.Schemas.{IsBySchema, step_by_schema, start_by_schema, keyed_upto}
-use Rattle.span_laws.proofs.Reached.{reached_tables, run_reached, start_reached}
-use Rattle.span_laws.proofs.Sound.{IsSound, step_sound, run_keeps, start_sound}
-use Rattle.span_laws.proofs.Known.{IsKnown, IsRightNow, step_tells, start_known}
+use Rattle.span_laws.proofs.Schemas.{keyed_upto}
+use Rattle.span_laws.proofs.Reached.{IsReached, reached_tables, step_reached, run_reached, start_reached}
+use Rattle.span_laws.proofs.Sound.{run_keeps}
+use Rattle.span_laws.proofs.Known.{IsKnown, IsMeantNow, IsRightNow, step_tells, start_known}
 use Rattle.span_schema.specs.declared.table.Table.{Table}
 use Rattle.span_schema.specs.Lineages.{MeetsRules}
 
--- the log grows by just what the replies commit
-pub run_log : (schema : List Table) (begun : List Begun) (asked : List Asked) (m : Machine) (steps : List Step) (replies : List Reply) (last : Machine) → Run schema m steps replies last → IsSound schema m → IsKnown schema begun asked m
-    → last.log ≡ m.log ++ commits_after begun steps replies
-run_log schema begun asked m [] [] last run sound known = ap (λ (n : Machine). n.log) run ∙ sym (append-nil m.log)
-run_log schema begun asked m [] (r ∷ rs) last run sound known = absurd run
-run_log schema begun asked m (x ∷ xs) [] last run sound known = absurd run
-run_log schema begun asked m (x ∷ xs) (r ∷ rs) last run sound known =
-    let one = step_tells schema begun asked m x r run.0 run.1 sound known in
-    run_log schema (begun_by x r ++ begun) (asked_by x r ++ asked) run.0 xs rs last run.2 (step_sound schema m x r run.0 run.1 sound) one.known
-    ∙ ap (λ l. l ++ commits_after (begun_by x r ++ begun) xs rs) one.log
-    ∙ append_assoc {A = Commit} m.log (committed_by begun x r) (commits_after (begun_by x r ++ begun) xs rs)
+module _ (understands : Understanding) (schema : List Table) (rules : MeetsRules schema) where
+  -- the log grows by just what the replies commit
+  pub run_log : (begun : List Begun) (asked : List Asked) (m : Machine) (steps : List Step) (replies : List Reply) (last : Machine) → Run understands schema m steps replies last → AreOfSchema schema steps → IsReached schema m → IsKnown understands begun asked m
+      → last.log ≡ m.log ++ commits_after begun steps replies
+  run_log begun asked m [] [] last run of reached known = ap (λ (n : Machine). n.log) run ∙ sym (append-nil m.log)
+  run_log begun asked m [] (r ∷ rs) last run of reached known = absurd run
+  run_log begun asked m (x ∷ xs) [] last run of reached known = absurd run
+  run_log begun asked m (x ∷ xs) (r ∷ rs) last run of reached known =
+      let one = step_tells understands schema begun asked m x r run.0 run.1 reached.sound known (λ s. reached_tables schema rules m s reached) in
+      run_log (begun_by x r ++ begun) (asked_by x r ++ asked) run.0 xs rs last run.2 of.1 (step_reached schema rules understands m x r run.0 run.1 of.0 reached) one.known
+      ∙ ap (λ l. l ++ commits_after (begun_by x r ++ begun) xs rs) one.log
+      ∙ append_assoc {A = Commit} m.log (committed_by begun x r) (commits_after (begun_by x r ++ begun) xs rs)
 
--- rows that the log so far means are meant by all that the run commits, where they are sealed
-meant_at_end : (schema : List Table) → MeetsRules schema → (asked : List Asked) (m : Machine) (steps : List Step) (replies : List Reply) (last : Machine) (query s : ℕ) (rows : List (List Value)) → Run schema m steps replies last
-    → IsBySchema schema m → IsBySchema schema last → IsMeant schema m.log asked query s rows → ((root : Root) → IsRoot schema root → IsSealed root s m) → IsMeant schema last.log asked query s rows
-meant_at_end schema rules asked m steps replies last query s rows run by by_last now sealed = record {
-  question = now.question;
-  opened = now.opened;
-  at = now.at;
-  db = now.db;
-  made = apply_alike schema rules (mutations_of (upto m.log s)) (mutations_of (upto last.log s)) [] now.db (empty_database schema) (keyed_upto schema m.log s by.log) (keyed_upto schema last.log s by_last.log) now.made
-      (λ root is. run_keeps schema root is s m steps replies last run (sealed root is));
-  rows_meant = now.rows_meant;
-}
+  -- what is meant by the log so far, and is sealed, is meant by all that the run commits
+  meant_sealed : (asked : List Asked) (m : Machine) (steps : List Step) (replies : List Reply) (last : Machine) (query s : ℕ) (meant : rows.Rows) → Run understands schema m steps replies last
+      → IsReached schema m → IsReached schema last → IsMeant understands schema m.log asked query s meant → ((root : Root) → IsRoot schema root → IsSealed root s m) → IsMeant understands schema last.log asked query s meant
+  meant_sealed asked m steps replies last query s meant run reached reached_last now sealed = record {
+    question = now.question;
+    opened = now.opened;
+    at = now.at;
+    statement = now.statement;
+    understood = now.understood;
+    db = now.db;
+    made = apply_alike schema rules (mutations_of (upto m.log s)) (mutations_of (upto last.log s)) [] now.db (empty_database schema) (keyed_upto schema m.log s reached.by_schema.log) (keyed_upto schema last.log s reached_last.by_schema.log) now.made
+        (λ root is. run_keeps understands schema root is s m steps replies last run (sealed root is));
+    is = now.is;
+  }
 
--- an answer that is right now is right by all that the run commits
-right_at_end : (schema : List Table) → MeetsRules schema → (asked : List Asked) (m : Machine) (steps : List Step) (replies : List Reply) (last : Machine) (x : Step) (r : Reply) → Run schema m steps replies last
-    → IsBySchema schema m → IsBySchema schema last → IsRightNow schema m asked x r → IsRight schema last.log asked x r
-right_at_end schema rules asked m steps replies last (Finish query) (Rows s rows) run by by_last right = meant_at_end schema rules asked m steps replies last query s rows run by by_last right.0 right.1
-right_at_end schema rules asked m steps replies last _ _ run by by_last right = tt
+  -- what is meant without a leaf is meant on any tables
+  meant_leafless : (asked : List Asked) (m last : Machine) (query s : ℕ) (meant : rows.Rows) → IsReached schema last → (now : IsMeant understands schema m.log asked query s meant) → now.statement.leaves ≡ [] → IsMeant understands schema last.log asked query s meant
+  meant_leafless asked m last query s meant reached_last now none =
+      let there = reached_tables schema rules last s reached_last in
+      record {
+        question = now.question;
+        opened = now.opened;
+        at = now.at;
+        statement = now.statement;
+        understood = now.understood;
+        db = there.0;
+        made = there.1;
+        is = now.is ∙ ap (λ l. means schema now.statement.query l now.db) none ∙ ap (λ l. means schema now.statement.query l there.0) (sym none);
+      }
 
--- a run keeps to the schema
-run_by_schema : (schema : List Table) (m : Machine) (steps : List Step) (replies : List Reply) (last : Machine) → Run schema m steps replies last → AreOfSchema schema steps → IsBySchema schema m → IsBySchema schema last
-run_by_schema schema m [] [] last run of by = subst (IsBySchema schema) (sym run) by
-run_by_schema schema m [] (r ∷ rs) last run of by = absurd run
-run_by_schema schema m (x ∷ xs) [] last run of by = absurd run
-run_by_schema schema m (x ∷ xs) (r ∷ rs) last run of by = run_by_schema schema run.0 xs rs last run.2 of.1 (step_by_schema schema m x r run.0 run.1 of.0 by)
+  meant_at_end : (asked : List Asked) (m : Machine) (steps : List Step) (replies : List Reply) (last : Machine) (query s : ℕ) (meant : rows.Rows) → Run understands schema m steps replies last
+      → IsReached schema m → IsReached schema last → IsMeantNow understands schema m asked query s meant → IsMeant understands schema last.log asked query s meant
+  meant_at_end asked m steps replies last query s meant run reached reached_last is = elim is.stays [
+    | inl sealed ↦ meant_sealed asked m steps replies last query s meant run reached reached_last is.now sealed
+    | inr none ↦ meant_leafless asked m last query s meant reached_last is.now none
+  ]
 
--- every answer of a run is right by all that it commits
-pub run_right : (schema : List Table) → MeetsRules schema → (begun : List Begun) (asked : List Asked) (m : Machine) (steps : List Step) (replies : List Reply) (last : Machine) → Run schema m steps replies last → AreOfSchema schema steps
-    → IsBySchema schema m → IsSound schema m → IsKnown schema begun asked m → AreRight schema last.log asked steps replies
-run_right schema rules begun asked m [] [] last run of by sound known = tt
-run_right schema rules begun asked m [] (r ∷ rs) last run of by sound known = absurd run
-run_right schema rules begun asked m (x ∷ xs) [] last run of by sound known = absurd run
-run_right schema rules begun asked m (x ∷ xs) (r ∷ rs) last run of by sound known =
-    let one = step_tells schema begun asked m x r run.0 run.1 sound known in (
-      right_at_end schema rules asked m (x ∷ xs) (r ∷ rs) last x r run by (run_by_schema schema m (x ∷ xs) (r ∷ rs) last run of by) one.right,
-      run_right schema rules (begun_by x r ++ begun) (asked_by x r ++ asked) run.0 xs rs last run.2 of.1 (step_by_schema schema m x r run.0 run.1 of.0 by) (step_sound schema m x r run.0 run.1 sound) one.known,
-    )
+  -- an answer that is right now is right by all that the run commits
+  right_at_end : (asked : List Asked) (m : Machine) (steps : List Step) (replies : List Reply) (last : Machine) (x : Step) (r : Reply) → Run understands schema m steps replies last
+      → IsReached schema m → IsReached schema last → IsRightNow understands schema m asked x r → IsRight understands schema last.log asked x r
+  right_at_end asked m steps replies last (Finish query) (Rows s found) run reached reached_last right = meant_at_end asked m steps replies last query s _ run reached reached_last right
+  right_at_end asked m steps replies last (Finish query) (Refused why) run reached reached_last right = λ e. let fault = right e in (fault.0, meant_at_end asked m steps replies last query fault.0 _ run reached reached_last fault.1)
+  right_at_end asked m steps replies last _ _ run reached reached_last right = tt
+
+  -- every answer of a run is right by all that it commits
+  pub run_right : (begun : List Begun) (asked : List Asked) (m : Machine) (steps : List Step) (replies : List Reply) (last : Machine) → Run understands schema m steps replies last → AreOfSchema schema steps
+      → IsReached schema m → IsKnown understands begun asked m → AreRight understands schema last.log asked steps replies
+  run_right begun asked m [] [] last run of reached known = tt
+  run_right begun asked m [] (r ∷ rs) last run of reached known = absurd run
+  run_right begun asked m (x ∷ xs) [] last run of reached known = absurd run
+  run_right begun asked m (x ∷ xs) (r ∷ rs) last run of reached known =
+      let one = step_tells understands schema begun asked m x r run.0 run.1 reached.sound known (λ s. reached_tables schema rules m s reached) in (
+        right_at_end asked m (x ∷ xs) (r ∷ rs) last x r run reached (run_reached schema rules understands m (x ∷ xs) (r ∷ rs) last run of reached) one.right,
+        run_right (begun_by x r ++ begun) (asked_by x r ++ asked) run.0 xs rs last run.2 of.1 (step_reached schema rules understands m x r run.0 run.1 of.0 reached) one.known,
+      )
 
 -- the headline
-pub run_history : (schema : List Table) → MeetsRules schema → (steps : List Step) (replies : List Reply) (last : Machine) → AreOfSchema schema steps → Run schema start steps replies last → IsHistory schema steps replies
-run_history schema rules steps replies last of run =
-    let log : last.log ≡ commits_of steps replies = run_log schema [] [] start steps replies last run (start_sound schema) (start_known schema) in
+pub run_history : (understands : Understanding) (schema : List Table) → MeetsRules schema → (steps : List Step) (replies : List Reply) (last : Machine) → AreOfSchema schema steps → Run understands schema start steps replies last → IsHistory understands schema steps replies
+run_history understands schema rules steps replies last of run =
+    let log : last.log ≡ commits_of steps replies = run_log understands schema rules [] [] start steps replies last run of (start_reached schema) (start_known understands) in
     record {
       last = last;
       run = run;
       log = log;
-      applies = λ s. subst (λ l. (db : List TableRow) × (tables schema l s ≡ Ok db)) log (reached_tables schema rules last s (run_reached schema rules start steps replies last run of (start_reached schema)));
-      right = subst (λ l. AreRight schema l [] steps replies) log (run_right schema rules [] [] start steps replies last run of (start_by_schema schema) (start_sound schema) (start_known schema));
+      applies = λ s. subst (λ l. (db : List TableRow) × (tables schema l s ≡ Ok db)) log (reached_tables schema rules last s (run_reached schema rules understands start steps replies last run of (start_reached schema)));
+      right = subst (λ l. AreRight understands schema l [] steps replies) log (run_right understands schema rules [] [] start steps replies last run of (start_reached schema) (start_known understands));
     }

@@ -16,6 +16,9 @@ use Rattle.span_laws.proofs.Tests.{first_none, second_none}
 use Rattle.span_laws.proofs.Lists.{IsIn, all_push, all_changed, all_without, all_found, all_in, all_weaker, all_changed_found, all_filtered}
 use Rattle.span_laws.proofs.Walks.{Ends, answer_by}
 use Rattle.span_schema.specs.declared.table.Table.{Table}
+use Rattle.span_value.specs.declared.refusal.Refusal.{Refusal}
+use Rattle.span_query.specs.declared.query.Statement.{Statement}
+use Rattle.std.specs.Prelude.{Result}
 
 -- ---- how many slots there are
 
@@ -30,9 +33,9 @@ slots_applied m outcome.Undecided owner txn slot t = refl
 slots_applied m outcome.Aborted owner txn slot t = refl
 slots_applied m (outcome.Committed ts) owner txn slot t = last_length m.books slot ts
 
-slots_ends : (schema : List Table) (m : Machine) → Ends schema m (λ step a. length a.1.books ≡ length m.books)
-slots_ends schema m = record {
-  refuses = λ step why. refl;
+slots_ends : (schema : List Table) (m : Machine) (u : Result Statement Refusal) → Ends schema m u (λ step a. length a.1.books ≡ length m.books)
+slots_ends schema m u = record {
+  refuses = λ step why may. refl;
   begins = λ owner ms accepted. refl;
   prepares = λ owner txn slot t book found here accepted well room low. length-set m.books slot _;
   commits = λ owner txn interval t found accepted. last_length m.books (coordinator_of t.prepared) (commit_timestamp m t interval);
@@ -40,7 +43,7 @@ slots_ends schema m = record {
   applies = λ owner txn slot interval t book found here accepted. slots_applied m t.outcome owner txn slot t;
   advances = λ slot interval book here. length-set m.books slot _;
   trims = λ slot h book here accepted. length-set m.books slot _;
-  opens = λ text params bound interval accepted. refl;
+  opens = λ text params bound interval asked is accepted. refl;
   finds_nothing = λ query leaf slot interval. refl;
   scans = λ query leaf slot interval q book found here above safe. length-set m.books slot _;
   waits = λ query leaf slot interval q book found here. length-set m.books slot _;
@@ -49,8 +52,8 @@ slots_ends schema m = record {
 }
 
 -- no step makes or removes a slot
-pub answer_slots : (schema : List Table) (m : Machine) (step : Step) → length (answer schema m step).1.books ≡ length m.books
-answer_slots schema m step = answer_by schema m (λ s a. length a.1.books ≡ length m.books) (slots_ends schema m) step
+pub answer_slots : (schema : List Table) (m : Machine) (u : Result Statement Refusal) (step : Step) → length (answer schema m u step).1.books ≡ length m.books
+answer_slots schema m u step = answer_by schema m u (λ s a. length a.1.books ≡ length m.books) (slots_ends schema m u) step
 
 -- ---- where a transaction is prepared
 
@@ -135,9 +138,9 @@ module _ (schema : List Table) (m : Machine) (holding : AreHolding m) where
   holding_applied outcome.Aborted owner txn slot t = one_of (length (without_prepared slot t).prepared == 0) (is_transaction owner txn) (without_prepared slot) (left_holding slot)
   holding_applied (outcome.Committed ts) owner txn slot t = one_of (length (without_prepared slot t).prepared == 0) (is_transaction owner txn) (without_prepared slot) (left_holding slot)
 
-  holding_ends : Ends schema m Holds
-  holding_ends = record {
-    refuses = λ step why. holding;
+  holding_ends : (u : Result Statement Refusal) → Ends schema m u Holds
+  holding_ends u = record {
+    refuses = λ step why may. holding;
     begins = λ owner ms accepted. all_push (IsHolding (length m.books)) m.transactions (record { owner = owner; number = m.next_transaction; mutations = ms; outcome = outcome.Undecided; prepared = [] }) holding (record { timely = tt; apart = tt; within = tt });
     prepares = λ owner txn slot t book found here accepted well room low.
         let may = may_prepare (is_undecided t) (is_prepared_at slot t) (length (mutations_in schema book t.mutations) == 0) (conflicts schema m slot (mutations_in schema book t.mutations)) accepted in
@@ -159,7 +162,7 @@ module _ (schema : List Table) (m : Machine) (holding : AreHolding m) where
     applies = λ owner txn slot interval t book found here accepted. holding_applied t.outcome owner txn slot t;
     advances = λ slot interval book here. holding;
     trims = λ slot h book here accepted. holding;
-    opens = λ text params bound interval accepted. holding;
+    opens = λ text params bound interval asked is accepted. holding;
     finds_nothing = λ query leaf slot interval. holding;
     scans = λ query leaf slot interval q book found here above safe. holding;
     waits = λ query leaf slot interval q book found here. holding;
@@ -168,9 +171,9 @@ module _ (schema : List Table) (m : Machine) (holding : AreHolding m) where
   }
 
 -- every step keeps where transactions are prepared
-pub answer_holding : (schema : List Table) (m : Machine) → AreHolding m → (step : Step) → AreHolding (answer schema m step).1
-answer_holding schema m holding step =
-    subst (λ n. AllByRecursion (IsHolding n) (answer schema m step).1.transactions) (sym (answer_slots schema m step)) (answer_by schema m (λ s a. AllByRecursion (IsHolding (length m.books)) a.1.transactions) (holding_ends schema m holding) step)
+pub answer_holding : (schema : List Table) (m : Machine) (u : Result Statement Refusal) → AreHolding m → (step : Step) → AreHolding (answer schema m u step).1
+answer_holding schema m u holding step =
+    subst (λ n. AllByRecursion (IsHolding n) (answer schema m u step).1.transactions) (sym (answer_slots schema m u step)) (answer_by schema m u (λ s a. AllByRecursion (IsHolding (length m.books)) a.1.transactions) (holding_ends schema m holding u) step)
 
 pub start_holding : AreHolding start
 start_holding = tt

@@ -16,6 +16,9 @@ use Rattle.span_laws.proofs.Sealed.{IsSealed, answer_keeps}
 use Rattle.span_laws.proofs.Sound.{IsSound, sealed_when_safe}
 use Rattle.span_laws.proofs.Locality.{IsRoot}
 use Rattle.span_laws.proofs.Walks.{Ends, answer_by}
+use Rattle.span_value.specs.declared.refusal.Refusal.{Refusal}
+use Rattle.span_query.specs.declared.query.Statement.{Statement}
+use Rattle.std.specs.Prelude.{Result}
 
 -- a book in the place of another: its horizon is that one's, or one that is safe
 abbrev pub IsLeft : Machine → ℕ → Book → Book → Type 0
@@ -50,9 +53,9 @@ horizons_applied m outcome.Undecided owner txn slot t = horizons_same m
 horizons_applied m outcome.Aborted owner txn slot t = horizons_same m
 horizons_applied m (outcome.Committed ts) owner txn slot t = horizons_last m slot ts
 
-horizon_ends : (schema : List Table) (m : Machine) → Ends schema m (λ step a. KeepsHorizons m a.1.books)
-horizon_ends schema m = record {
-  refuses = λ step why. horizons_same m;
+horizon_ends : (schema : List Table) (m : Machine) (u : Result Statement Refusal) → Ends schema m u (λ step a. KeepsHorizons m a.1.books)
+horizon_ends schema m u = record {
+  refuses = λ step why may. horizons_same m;
   begins = λ owner ms accepted. horizons_same m;
   prepares = λ owner txn slot t book found here accepted well room low. horizons_set m slot book _ here (inl refl);
   commits = λ owner txn interval t found accepted. horizons_last m (coordinator_of t.prepared) (commit_timestamp m t interval);
@@ -60,7 +63,7 @@ horizon_ends schema m = record {
   applies = λ owner txn slot interval t book found here accepted. horizons_applied m t.outcome owner txn slot t;
   advances = λ slot interval book here. horizons_set m slot book _ here (inl refl);
   trims = λ slot h book here accepted. horizons_set m slot book (record book { horizon = h }) here (inr (may_trim (nat_lt h book.horizon) (is_safe m slot book h) accepted).1);
-  opens = λ text params bound interval accepted. horizons_same m;
+  opens = λ text params bound interval asked is accepted. horizons_same m;
   finds_nothing = λ query leaf slot interval. horizons_same m;
   scans = λ query leaf slot interval q book found here above safe. horizons_risen m slot q.s interval book here;
   waits = λ query leaf slot interval q book found here. horizons_risen m slot q.s interval book here;
@@ -71,15 +74,15 @@ horizon_ends schema m = record {
 pub record HasHorizons (schema : List Table) (m : Machine) : Type 0 where
   pub sealed : (i : ℕ) (b : Book) → slice_get m.books i ≡ Some b → (root : Root) → IsRoot schema root → IsSealed root b.horizon m
 
-pub answer_horizons : (schema : List Table) (m : Machine) → IsSound schema m → HasHorizons schema m → (step : Step) → HasHorizons schema (answer schema m step).1
-answer_horizons schema m sound has step = record {
+pub answer_horizons : (schema : List Table) (m : Machine) (u : Result Statement Refusal) → IsSound schema m → HasHorizons schema m → (step : Step) → HasHorizons schema (answer schema m u step).1
+answer_horizons schema m u sound has step = record {
   sealed = λ i b h root is.
-      let old = answer_by schema m (λ x a. KeepsHorizons m a.1.books) (horizon_ends schema m) step i b h in
+      let old = answer_by schema m u (λ x a. KeepsHorizons m a.1.books) (horizon_ends schema m u) step i b h in
       let sealed : IsSealed root b.horizon m = elim old.2 [
         | inl e ↦ subst (λ (s : ℕ). IsSealed root s m) (sym e) (has.sealed i old.0 old.1 root is)
         | inr e ↦ sealed_when_safe schema m sound i b.horizon old.0 root old.1 e
       ] in
-      (answer_keeps schema root is b.horizon m sealed step).seal;
+      (answer_keeps schema root is b.horizon m sealed u step).seal;
 }
 
 abbrev horizon_or : Option Book → ℕ

@@ -14,7 +14,6 @@ pub mod Numbers
 pub mod Holdings
 pub mod Sound
 pub mod Horizons
-pub mod Queries
 pub mod Known
 pub mod Reached
 pub mod History

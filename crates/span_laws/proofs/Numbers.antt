@@ -9,6 +9,9 @@ use Rattle.span_machine.specs.Machine.{Machine, answer, start, changed_first, wi
 use Rattle.span_laws.proofs.Lists.{IsIn, all_push, all_changed, all_without, all_at, all_weaker}
 use Rattle.span_laws.proofs.Walks.{Ends, answer_by}
 use Rattle.span_schema.specs.declared.table.Table.{Table}
+use Rattle.span_value.specs.declared.refusal.Refusal.{Refusal}
+use Rattle.span_query.specs.declared.query.Statement.{Statement}
+use Rattle.std.specs.Prelude.{Result}
 
 -- ---- numbers that rise
 
@@ -103,9 +106,9 @@ module _ (schema : List Table) (m : Machine) (numbered : IsNumbered m) where
   numbered_applied outcome.Aborted owner txn slot t = numbered_either (length (without_prepared slot t).prepared == 0) (applied_at outcome.Aborted m owner txn slot t).1 (is_transaction owner txn) (without_prepared slot) (λ _. refl) refl refl
   numbered_applied (outcome.Committed ts) owner txn slot t = numbered_either (length (without_prepared slot t).prepared == 0) (applied_at (outcome.Committed ts) m owner txn slot t).1 (is_transaction owner txn) (without_prepared slot) (λ _. refl) refl refl
 
-  numbered_ends : Ends schema m (λ step a. IsNumbered a.1)
-  numbered_ends = record {
-    refuses = λ step why. numbered;
+  numbered_ends : (u : Result Statement Refusal) → Ends schema m u (λ step a. IsNumbered a.1)
+  numbered_ends u = record {
+    refuses = λ step why may. numbered;
     begins = λ owner ms accepted. record {
       rising = rising_numbers_push m.next_transaction m.transactions (record { owner = owner; number = m.next_transaction; mutations = ms; outcome = outcome.Undecided; prepared = [] }) refl numbered.rising numbered.below;
       below = all_push (λ t. t.number < m.next_transaction + 1) m.transactions (record { owner = owner; number = m.next_transaction; mutations = ms; outcome = outcome.Undecided; prepared = [] })
@@ -117,7 +120,7 @@ module _ (schema : List Table) (m : Machine) (numbered : IsNumbered m) where
     applies = λ owner txn slot interval t book found here accepted. numbered_applied t.outcome owner txn slot t;
     advances = λ slot interval book here. numbered_same _ refl refl;
     trims = λ slot h book here accepted. numbered_same _ refl refl;
-    opens = λ text params bound interval accepted. numbered_same _ refl refl;
+    opens = λ text params bound interval asked is accepted. numbered_same _ refl refl;
     finds_nothing = λ query leaf slot interval. numbered;
     scans = λ query leaf slot interval q book found here above safe. numbered_same _ refl refl;
     waits = λ query leaf slot interval q book found here. numbered_same _ refl refl;
@@ -126,8 +129,8 @@ module _ (schema : List Table) (m : Machine) (numbered : IsNumbered m) where
   }
 
 -- every step keeps the numbers
-pub answer_numbered : (schema : List Table) (m : Machine) → IsNumbered m → (step : Step) → IsNumbered (answer schema m step).1
-answer_numbered schema m numbered step = answer_by schema m (λ s a. IsNumbered a.1) (numbered_ends schema m numbered) step
+pub answer_numbered : (schema : List Table) (m : Machine) (u : Result Statement Refusal) → IsNumbered m → (step : Step) → IsNumbered (answer schema m u step).1
+answer_numbered schema m u numbered step = answer_by schema m u (λ s a. IsNumbered a.1) (numbered_ends schema m numbered u) step
 
 pub start_numbered : IsNumbered start
 start_numbered = record { rising = tt; below = tt }

@@ -27,6 +27,9 @@ use Rattle.span_schema.specs.Lineages.{MeetsRules}
 use Rattle.span_laws.proofs.Locality.{IsRoot}
 use Rattle.span_laws.proofs.Lists.{all_found}
 use Rattle.span_laws.proofs.Schemas.{IsBegunBy, IsBySchema, keyed_upto, keyed_in}
+use Rattle.span_value.specs.declared.refusal.Refusal.{Refusal}
+use Rattle.span_query.specs.declared.query.Statement.{Statement}
+use Rattle.std.specs.Prelude.{Result}
 
 -- ---- the steps
 
@@ -241,9 +244,9 @@ module _ (schema : List Table) (rules : MeetsRules schema) (root : Root) (is : I
     | false ↦ lifts_set m.books i book book here (omega arith) (λ _. refl)
   ]
 
-  placed_ends : Ends schema m (λ step a. IsInPlace schema root slot a.1)
-  placed_ends = record {
-    refuses = λ step why. o;
+  placed_ends : (u : Result Statement Refusal) → Ends schema m u (λ step a. IsInPlace schema root slot a.1)
+  placed_ends u = record {
+    refuses = λ step why may. o;
     begins = λ owner ms accepted. begin_placed owner ms;
     prepares = λ owner txn i t book found here accepted well room low. prepare_there owner txn i t book found here accepted well;
     commits = λ owner txn interval t found accepted.
@@ -253,19 +256,19 @@ module _ (schema : List Table) (rules : MeetsRules schema) (root : Root) (is : I
     applies = λ owner txn i interval t book found here accepted. apply_there owner txn i t found;
     advances = λ i interval book here. books_placed (advanced m i interval book).1 (lifts_set m.books i book (record book { floor = max book.floor interval.latest }) here (omega arith) (λ _. refl)) refl refl;
     trims = λ i h book here accepted. books_placed (trimmed schema m i h book).1 (lifts_set m.books i book (record book { horizon = h }) here (omega arith) (λ _. refl)) refl refl;
-    opens = λ text params bound interval accepted. books_placed (opened m text params (timestamp_of bound interval)).1 (lifts_same m.books) refl refl;
+    opens = λ text params bound interval asked is accepted. books_placed (opened m asked (timestamp_of bound interval)).1 (lifts_same m.books) refl refl;
     finds_nothing = λ query leaf i interval. o;
     scans = λ query leaf i interval q book found here above safe.
-        books_placed (record (with_book m i (risen book q.s interval)) { queries = changed_first (is_query query) cover m.queries }) (lifts_risen i q.s interval book here) refl refl;
+        books_placed (record (with_book m i (risen book q.s interval)) { queries = changed_first (is_query query) (cover leaf) m.queries }) (lifts_risen i q.s interval book here) refl refl;
     waits = λ query leaf i interval q book found here. books_placed (with_book m i (risen book q.s interval)) (lifts_risen i q.s interval book here) refl refl;
     finishes = λ query q found covered. o;
     closes = λ query q found. books_placed (closed m query q).1 (lifts_same m.books) refl refl;
   }
 
 -- every step keeps the directory in place
-pub answer_placed : (schema : List Table) → MeetsRules schema → (root : Root) → IsRoot schema root → (slot : ℕ) (m : Machine) → IsBySchema schema m → IsInPlace schema root slot m → (step : Step)
-    → IsInPlace schema root slot (answer schema m step).1
-answer_placed schema rules root is slot m by o step = answer_by schema m (λ x a. IsInPlace schema root slot a.1) (placed_ends schema rules root is slot m by o) step
+pub answer_placed : (schema : List Table) → MeetsRules schema → (root : Root) → IsRoot schema root → (slot : ℕ) (m : Machine) (u : Result Statement Refusal) → IsBySchema schema m → IsInPlace schema root slot m → (step : Step)
+    → IsInPlace schema root slot (answer schema m u step).1
+answer_placed schema rules root is slot m u by o step = answer_by schema m u (λ x a. IsInPlace schema root slot a.1) (placed_ends schema rules root is slot m by o u) step
 
 pub only_one : (book b : Book) (i : ℕ) → slice_get (book ∷ []) i ≡ Some b → i ≡ 0
 only_one book b zero e = refl

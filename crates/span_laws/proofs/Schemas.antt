@@ -19,10 +19,13 @@ use Rattle.span_machine.specs.declared.transaction.Outcome.{Outcome}
 use Rattle.span_machine.specs.declared.transaction.Outcome.TheVariants as outcome
 use Rattle.span_machine.specs.Sorting.{placed, in_order}
 use Rattle.span_machine.specs.Tables.{is_before, upto, mutations_of}
-use Rattle.span_machine.specs.Machine.{Machine, Steps, answer, start, is_transaction, root_at, holds, mutations_in, changed_first, without_first, with_outcome, add_prepared, prepare_timestamp, commit_timestamp, commit_of, without_prepared, applied_at}
+use Rattle.span_machine.specs.Machine.{Machine, Understanding, Steps, answer, start, is_transaction, root_at, holds, mutations_in, changed_first, without_first, with_outcome, add_prepared, prepare_timestamp, commit_timestamp, commit_of, without_prepared, applied_at}
 use Rattle.span_machine.specs.Run.{IsOfSchema}
 use Rattle.span_laws.proofs.Lists.{all_push, all_changed, all_without, all_found, all_filtered, one_or_other}
 use Rattle.span_laws.proofs.Walks.{Ends, answer_by}
+use Rattle.span_value.specs.declared.refusal.Refusal.{Refusal}
+use Rattle.span_query.specs.declared.query.Statement.{Statement}
+use Rattle.std.specs.Prelude.{Result}
 
 abbrev pub IsBegunBy : List Table → OpenTransaction → Type 0
 IsBegunBy schema t = AreTypedMutations schema t.mutations
@@ -95,9 +98,9 @@ module _ (schema : List Table) (m : Machine) (by : IsBySchema schema m) where
   applied_by outcome.Aborted owner txn slot t = either_by (length (without_prepared slot t).prepared == 0) _ (is_transaction owner txn) (without_prepared slot) (λ t k. k) refl refl
   applied_by (outcome.Committed ts) owner txn slot t = either_by (length (without_prepared slot t).prepared == 0) _ (is_transaction owner txn) (without_prepared slot) (λ t k. k) refl refl
 
-  by_ends : Ends schema m (λ step a. IsOfSchema schema step → IsBySchema schema a.1)
-  by_ends = record {
-    refuses = λ step why of. by;
+  by_ends : (u : Result Statement Refusal) → Ends schema m u (λ step a. IsOfSchema schema step → IsBySchema schema a.1)
+  by_ends u = record {
+    refuses = λ step why may of. by;
     begins = λ owner ms accepted of. record {
       transactions = all_push (IsBegunBy schema) m.transactions (record { owner = owner; number = m.next_transaction; mutations = ms; outcome = outcome.Undecided; prepared = [] }) by.transactions of;
       log = by.log;
@@ -111,7 +114,7 @@ module _ (schema : List Table) (m : Machine) (by : IsBySchema schema m) where
     applies = λ owner txn slot interval t book found here accepted of. applied_by t.outcome owner txn slot t;
     advances = λ slot interval book here of. same_by _ refl refl;
     trims = λ slot h book here accepted of. same_by _ refl refl;
-    opens = λ text params bound interval accepted of. same_by _ refl refl;
+    opens = λ text params bound interval asked is accepted of. same_by _ refl refl;
     finds_nothing = λ query leaf slot interval of. by;
     scans = λ query leaf slot interval q book found here above safe of. same_by _ refl refl;
     waits = λ query leaf slot interval q book found here of. same_by _ refl refl;
@@ -120,13 +123,13 @@ module _ (schema : List Table) (m : Machine) (by : IsBySchema schema m) where
   }
 
 -- every step keeps to the schema
-pub answer_by_schema : (schema : List Table) (m : Machine) → IsBySchema schema m → (step : Step) → IsOfSchema schema step → IsBySchema schema (answer schema m step).1
-answer_by_schema schema m by step of = answer_by schema m (λ s a. IsOfSchema schema s → IsBySchema schema a.1) (by_ends schema m by) step of
+pub answer_by_schema : (schema : List Table) (m : Machine) (u : Result Statement Refusal) → IsBySchema schema m → (step : Step) → IsOfSchema schema step → IsBySchema schema (answer schema m u step).1
+answer_by_schema schema m u by step of = answer_by schema m u (λ s a. IsOfSchema schema s → IsBySchema schema a.1) (by_ends schema m by u) step of
 
 -- one step, want of memory included
-pub step_by_schema : (schema : List Table) (m : Machine) (step : Step) (r : Reply) (next : Machine) → Steps schema m step r next → IsOfSchema schema step → IsBySchema schema m → IsBySchema schema next
-step_by_schema schema m step r next (inl e) of by = subst (IsBySchema schema) (sym e.1) (answer_by_schema schema m by step of)
-step_by_schema schema m step r next (inr e) of by = subst (IsBySchema schema) (sym e.2) by
+pub step_by_schema : (understands : Understanding) (schema : List Table) (m : Machine) (step : Step) (r : Reply) (next : Machine) → Steps understands schema m step r next → IsOfSchema schema step → IsBySchema schema m → IsBySchema schema next
+step_by_schema understands schema m step r next (inl e) of by = subst (IsBySchema schema) (sym e.2.1) (answer_by_schema schema m e.0 by step of)
+step_by_schema understands schema m step r next (inr e) of by = subst (IsBySchema schema) (sym e.1.1) by
 
 pub start_by_schema : (schema : List Table) → IsBySchema schema start
 start_by_schema schema = record { transactions = tt; log = tt }

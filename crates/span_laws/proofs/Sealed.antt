@@ -25,6 +25,9 @@ use Rattle.span_laws.proofs.Lists.{slice_get-set, all_push, all_changed, all_wit
 use Rattle.span_laws.proofs.Walks.{Ends, answer_by}
 use Rattle.span_laws.proofs.Stability.{changes_at, touches, is_some_of, changes_at-more}
 use Rattle.span_laws.proofs.Locality.{IsRoot, own_root}
+use Rattle.span_value.specs.declared.refusal.Refusal.{Refusal}
+use Rattle.span_query.specs.declared.query.Statement.{Statement}
+use Rattle.std.specs.Prelude.{Result}
 
 -- ---- lists
 
@@ -151,9 +154,9 @@ module _ (schema : List Table) (root : Root) (is : IsRoot schema root) (s : ℕ)
     | false ↦ λ e. rises_set m.books slot book book here (omega arith) (λ _ k. k)
   ] refl
 
-  keeps_ends : Ends schema m (λ step a. Keeps schema root s m a)
-  keeps_ends = record {
-    refuses = λ step why. kept_as_is (refused m why) refl;
+  keeps_ends : (u : Result Statement Refusal) → Ends schema m u (λ step a. Keeps schema root s m a)
+  keeps_ends u = record {
+    refuses = λ step why may. kept_as_is (refused m why) refl;
     begins = λ owner ms accepted. kept_by (begun m owner ms) (rises_same m.books)
         (λ i b h k all. all_push (IsAbove s i) m.transactions (record { owner = owner; number = m.next_transaction; mutations = ms; outcome = outcome.Undecided; prepared = [] }) all tt) refl;
     prepares = λ owner txn slot t book found here accepted well room low. kept_by (prepared m owner txn slot book) (rises_set m.books slot book (record book { last = prepare_timestamp book }) here (omega arith) (λ _ k. k))
@@ -170,15 +173,15 @@ module _ (schema : List Table) (root : Root) (is : IsRoot schema root) (s : ℕ)
     applies = λ owner txn slot interval t book found here accepted. applied_keeps t.outcome owner txn slot t;
     advances = λ slot interval book here. kept_by (advanced m slot interval book) (rises_set m.books slot book (record book { floor = max book.floor interval.latest }) here (omega arith) (λ _ k. k)) (λ i b h k all. all) refl;
     trims = λ slot horizon book here accepted. kept_by (trimmed schema m slot horizon book) (rises_set m.books slot book (record book { horizon = horizon }) here (omega arith) (λ _ k. k)) (λ i b h k all. all) refl;
-    opens = λ text params bound interval accepted. kept_by (opened m text params (timestamp_of bound interval)) (rises_same m.books) (λ i b h k all. all) refl;
+    opens = λ text params bound interval asked is accepted. kept_by (opened m asked (timestamp_of bound interval)) (rises_same m.books) (λ i b h k all. all) refl;
     finds_nothing = λ query leaf slot interval. kept_as_is (reply.Nothing, m) refl;
     scans = λ query leaf slot interval q book found here above safe.
-        kept_by (reply.Scanned, record (with_book m slot (risen book q.s interval)) { queries = changed_first (is_query query) cover m.queries }) (rises_risen slot q.s interval book here) (λ i b h k all. all) refl;
+        kept_by (reply.Scanned, record (with_book m slot (risen book q.s interval)) { queries = changed_first (is_query query) (cover leaf) m.queries }) (rises_risen slot q.s interval book here) (λ i b h k all. all) refl;
     waits = λ query leaf slot interval q book found here. kept_by (Refused refusal.NotYet, with_book m slot (risen book q.s interval)) (rises_risen slot q.s interval book here) (λ i b h k all. all) refl;
     finishes = λ query q found covered. kept_as_is (answer_on q.s (meaning schema m q), m) refl;
     closes = λ query q found. kept_by (closed m query q) (rises_same m.books) (λ i b h k all. all) refl;
   }
 
   -- no step changes what is sealed
-  pub answer_keeps : (step : Step) → Keeps schema root s m (answer schema m step)
-  answer_keeps step = answer_by schema m (λ x a. Keeps schema root s m a) keeps_ends step
+  pub answer_keeps : (u : Result Statement Refusal) (step : Step) → Keeps schema root s m (answer schema m u step)
+  answer_keeps u step = answer_by schema m u (λ x a. Keeps schema root s m a) (keeps_ends u) step

@@ -1,9 +1,9 @@
 use Rattle.std.proofs.Common.{◌≡◌, ℕ, ◌<◌, ◌≤◌, true, false, not, ◌||◌, ◌==◌, nat_lt, nat_le, List, [], ◌∷◌, length, Some, refl, ap, sym, ◌∙◌, subst, inl, inr, arith}
-use Rattle.std.specs.Prelude.{slice_get, slice_set}
+use Rattle.std.specs.Prelude.{slice_get, slice_set, map}
 use Rattle.std.proofs.lemmas.Bool.Decides.{nat_tests}
 use Rattle.std.proofs.lemmas.Option.{slice_get_within}
 use Rattle.std.proofs.lemmas.List.{length-set}
-use Rattle.std.specs.List.{AllByRecursion, list_all}
+use Rattle.std.specs.List.{AllByRecursion, list_all, list_any}
 use Rattle.span_truetime.specs.Time.{timestamp_of}
 use Rattle.span_machine.specs.declared.slot.Book.{Book}
 use Rattle.span_machine.specs.declared.query.OpenQuery.{OpenQuery}
@@ -13,8 +13,9 @@ use Rattle.span_machine.specs.declared.transaction.Outcome.TheVariants as outcom
 use Rattle.span_machine.specs.declared.step.Step.{Step}
 use Rattle.span_machine.specs.declared.step.Reply.{Reply}
 use Rattle.span_machine.specs.Tables.{upto}
-use Rattle.span_machine.specs.Machine.{Machine, Steps, answer, start, risen, with_book, cover, changed_first, is_query, is_safe, applied_at}
+use Rattle.span_machine.specs.Machine.{Machine, Understanding, Steps, answer, start, risen, with_book, uncovered, is_covered, cover, changed_first, is_query, is_safe, applied_at}
 use Rattle.span_machine.specs.Run.{Run}
+use Rattle.span_machine.proofs.Leaves.{none_covered}
 use Rattle.span_laws.proofs.Tests.{first_true, second_true}
 use Rattle.span_laws.proofs.Lists.{set_here, all_push, all_without, all_true, all_weaker, all_changed_found}
 use Rattle.span_laws.proofs.Stability.{changes_at}
@@ -24,12 +25,15 @@ use Rattle.span_laws.proofs.Holdings.{answer_slots}
 use Rattle.span_schema.specs.declared.table.Table.{Table}
 use Rattle.span_mutate.specs.Directories.{Root}
 use Rattle.span_laws.proofs.Locality.{IsRoot}
+use Rattle.span_value.specs.declared.refusal.Refusal.{Refusal}
+use Rattle.span_query.specs.declared.query.Statement.{Statement}
+use Rattle.std.specs.Prelude.{Result}
 
 -- ---- the invariant
 
--- what a covered query is to see is sealed
+-- what a query with a covered leaf is to see is sealed
 abbrev pub IsCoveredSealed : List Table → Machine → OpenQuery → Type 0
-IsCoveredSealed schema m q = q.covered ≡ true → (root : Root) → IsRoot schema root → IsSealed root q.s m
+IsCoveredSealed schema m q = list_any is_covered q.leaves ≡ true → (root : Root) → IsRoot schema root → IsSealed root q.s m
 
 pub record IsSound (schema : List Table) (m : Machine) : Type 0 where
   pub one_slot : length m.books ≡ 1
@@ -91,9 +95,9 @@ module _ (schema : List Table) (m : Machine) (sound : IsSound schema m) where
   goes_applied outcome.Aborted owner txn slot t = goes_same (applied_at outcome.Aborted m owner txn slot t).1 refl
   goes_applied (outcome.Committed ts) owner txn slot t = goes_same (applied_at (outcome.Committed ts) m owner txn slot t).1 refl
 
-  sound_ends : Ends schema m (λ step a. GoesSound schema m a.1)
-  sound_ends = record {
-    refuses = λ step why. goes_same m refl;
+  sound_ends : (u : Result Statement Refusal) → Ends schema m u (λ step a. GoesSound schema m a.1)
+  sound_ends u = record {
+    refuses = λ step why may. goes_same m refl;
     begins = λ owner ms accepted. goes_same _ refl;
     prepares = λ owner txn slot t book found here accepted well room low. goes_same _ refl;
     commits = λ owner txn interval t found accepted. goes_same _ refl;
@@ -101,12 +105,12 @@ module _ (schema : List Table) (m : Machine) (sound : IsSound schema m) where
     applies = λ owner txn slot interval t book found here accepted. goes_applied t.outcome owner txn slot t;
     advances = λ slot interval book here. goes_same _ refl;
     trims = λ slot h book here accepted. goes_same _ refl;
-    opens = λ text params bound interval accepted w. all_push (IsCoveredSealed schema _) m.queries (record { number = m.next_query; text = text; params = params; s = timestamp_of bound interval; covered = false })
-        (all_weaker (IsCoveredSealed schema m) (IsCoveredSealed schema _) w m.queries sound.queries) (λ bad. cc);
+    opens = λ text params bound interval asked is accepted w. all_push (IsCoveredSealed schema _) m.queries (record { number = m.next_query; query = asked.query; s = timestamp_of bound interval; leaves = map uncovered asked.leaves })
+        (all_weaker (IsCoveredSealed schema m) (IsCoveredSealed schema _) w m.queries sound.queries) (λ bad. absurd (let none = none_covered asked.leaves in cc));
     finds_nothing = λ query leaf slot interval. goes_same m refl;
     scans = λ query leaf slot interval q book found here above safe w.
-        let after : Machine = record (with_book m slot (risen book q.s interval)) { queries = changed_first (is_query query) cover m.queries } in
-        all_changed_found (IsCoveredSealed schema after) (is_query query) cover m.queries q found (λ _ root is. sealed_by_scan slot q.s book (risen book q.s interval) (changed_first (is_query query) cover m.queries) root here safe)
+        let after : Machine = record (with_book m slot (risen book q.s interval)) { queries = changed_first (is_query query) (cover leaf) m.queries } in
+        all_changed_found (IsCoveredSealed schema after) (is_query query) (cover leaf) m.queries q found (λ _ root is. sealed_by_scan slot q.s book (risen book q.s interval) (changed_first (is_query query) (cover leaf) m.queries) root here safe)
         (all_weaker (IsCoveredSealed schema m) (IsCoveredSealed schema after) w m.queries sound.queries);
     waits = λ query leaf slot interval q book found here. goes_same _ refl;
     finishes = λ query q found covered. goes_same m refl;
@@ -114,10 +118,10 @@ module _ (schema : List Table) (m : Machine) (sound : IsSound schema m) where
   }
 
 -- every step leaves the machine sound
-pub answer_sound : (schema : List Table) (m : Machine) → IsSound schema m → (step : Step) → IsSound schema (answer schema m step).1
-answer_sound schema m sound step = record {
-  one_slot = answer_slots schema m step ∙ sound.one_slot;
-  queries = answer_by schema m (λ s a. GoesSound schema m a.1) (sound_ends schema m sound) step (λ q seals covered root is. (answer_keeps schema root is q.s m (seals covered root is) step).seal);
+pub answer_sound : (schema : List Table) (m : Machine) (u : Result Statement Refusal) → IsSound schema m → (step : Step) → IsSound schema (answer schema m u step).1
+answer_sound schema m u sound step = record {
+  one_slot = answer_slots schema m u step ∙ sound.one_slot;
+  queries = answer_by schema m u (λ s a. GoesSound schema m a.1) (sound_ends schema m sound u) step (λ q seals covered root is. (answer_keeps schema root is q.s m (seals covered root is) u step).seal);
 }
 
 pub start_sound : (schema : List Table) → IsSound schema start
@@ -126,23 +130,23 @@ start_sound schema = record { one_slot = refl; queries = tt }
 -- ---- whole runs
 
 -- one step, want of memory included
-pub step_sound : (schema : List Table) (m : Machine) (step : Step) (r : Reply) (next : Machine) → Steps schema m step r next → IsSound schema m → IsSound schema next
-step_sound schema m step r next (inl e) sound = subst (IsSound schema) (sym e.1) (answer_sound schema m sound step)
-step_sound schema m step r next (inr e) sound = subst (IsSound schema) (sym e.2) sound
+pub step_sound : (understands : Understanding) (schema : List Table) (m : Machine) (step : Step) (r : Reply) (next : Machine) → Steps understands schema m step r next → IsSound schema m → IsSound schema next
+step_sound understands schema m step r next (inl e) sound = subst (IsSound schema) (sym e.2.1) (answer_sound schema m e.0 sound step)
+step_sound understands schema m step r next (inr e) sound = subst (IsSound schema) (sym e.1.1) sound
 
-pub step_keeps : (schema : List Table) (root : Root) → IsRoot schema root → (s : ℕ) (m : Machine) (step : Step) (r : Reply) (next : Machine) → Steps schema m step r next → IsSealed root s m
+pub step_keeps : (understands : Understanding) (schema : List Table) (root : Root) → IsRoot schema root → (s : ℕ) (m : Machine) (step : Step) (r : Reply) (next : Machine) → Steps understands schema m step r next → IsSealed root s m
     → IsSealed root s next × (changes_at schema root (upto next.log s) ≡ changes_at schema root (upto m.log s))
-step_keeps schema root is s m step r next (inl e) sealed =
-    let k = answer_keeps schema root is s m sealed step in
-    (subst (IsSealed root s) (sym e.1) k.seal, ap (λ (n : Machine). changes_at schema root (upto n.log s)) e.1 ∙ k.same)
-step_keeps schema root is s m step r next (inr e) sealed = (subst (IsSealed root s) (sym e.2) sealed, ap (λ (n : Machine). changes_at schema root (upto n.log s)) e.2)
+step_keeps understands schema root is s m step r next (inl e) sealed =
+    let k = answer_keeps schema root is s m sealed e.0 step in
+    (subst (IsSealed root s) (sym e.2.1) k.seal, ap (λ (n : Machine). changes_at schema root (upto n.log s)) e.2.1 ∙ k.same)
+step_keeps understands schema root is s m step r next (inr e) sealed = (subst (IsSealed root s) (sym e.1.1) sealed, ap (λ (n : Machine). changes_at schema root (upto n.log s)) e.1.1)
 
 -- a run leaves the changes of a sealed directory
-pub run_keeps : (schema : List Table) (root : Root) → IsRoot schema root → (s : ℕ) (m : Machine) (steps : List Step) (replies : List Reply) (last : Machine) → Run schema m steps replies last → IsSealed root s m
+pub run_keeps : (understands : Understanding) (schema : List Table) (root : Root) → IsRoot schema root → (s : ℕ) (m : Machine) (steps : List Step) (replies : List Reply) (last : Machine) → Run understands schema m steps replies last → IsSealed root s m
     → changes_at schema root (upto last.log s) ≡ changes_at schema root (upto m.log s)
-run_keeps schema root is s m [] [] last run sealed = ap (λ (n : Machine). changes_at schema root (upto n.log s)) run
-run_keeps schema root is s m [] (r ∷ rs) last run sealed = absurd run
-run_keeps schema root is s m (x ∷ xs) [] last run sealed = absurd run
-run_keeps schema root is s m (x ∷ xs) (r ∷ rs) last run sealed =
-    let one = step_keeps schema root is s m x r run.0 run.1 sealed in
-    run_keeps schema root is s run.0 xs rs last run.2 one.0 ∙ one.1
+run_keeps understands schema root is s m [] [] last run sealed = ap (λ (n : Machine). changes_at schema root (upto n.log s)) run
+run_keeps understands schema root is s m [] (r ∷ rs) last run sealed = absurd run
+run_keeps understands schema root is s m (x ∷ xs) [] last run sealed = absurd run
+run_keeps understands schema root is s m (x ∷ xs) (r ∷ rs) last run sealed =
+    let one = step_keeps understands schema root is s m x r run.0 run.1 sealed in
+    run_keeps understands schema root is s run.0 xs rs last run.2 one.0 ∙ one.1
