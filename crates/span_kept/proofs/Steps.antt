@@ -1,9 +1,10 @@
-use Rattle.std.proofs.Common.{◌≡◌, ℕ, zero, suc, max, Bool, true, false, cond, not, ◌==◌, ◌&&◌, nat_lt, nat_le, List, [], ◌∷◌, ◌++◌, length, Option, Some, None, refl, ap, sym, ◌∙◌, subst}
+use Rattle.std.proofs.Common.{◌≡◌, ℕ, zero, suc, max, Result, Bool, true, false, cond, not, ◌==◌, ◌&&◌, nat_lt, nat_le, List, [], ◌∷◌, ◌++◌, length, Option, Some, None, Err, refl, ap, sym, ◌∙◌, subst}
 use Rattle.std.specs.Prelude.{find, filter, slice_get, slice_set}
 use Rattle.std.specs.List.{list_all}
 use Rattle.std.proofs.lemmas.List.{append-nil}
 use Rattle.std.proofs.lemmas.List.Elements.{filter-append}
 use Rattle.span_value.specs.declared.refusal.Refusal.{Refusal}
+use Rattle.span_value.specs.declared.refusal.Refusal.TheVariants as refusal
 use Rattle.span_truetime.specs.declared.bound.Bound.{Bound}
 use Rattle.span_truetime.specs.declared.interval.Interval.{Interval}
 use Rattle.span_truetime.specs.Time.{timestamp_end}
@@ -14,7 +15,7 @@ use Rattle.span_machine.specs.Machine.{is_at}
 use Rattle.span_shard.specs.KeyVersions.{KeyVersions}
 use Rattle.span_shard.specs.Shard.{versions_at, prepared_at}
 use Rattle.span_shard.proofs.Undo.{IsOpenFor}
-use Rattle.span_machine.specs.declared.query.Params.{Params}
+use Rattle.span_query.specs.declared.query.Statement.{Statement}
 use Rattle.span_machine.specs.declared.slot.Book.{Book}
 use Rattle.span_machine.specs.declared.step.Step.{Step}
 use Rattle.span_machine.specs.declared.step.Step.TheVariants.{Begin, Prepare, Decide, Apply, Advance, Trim, Open, Scan, Finish, Close}
@@ -29,7 +30,7 @@ use Rattle.span_laws.proofs.Tests.{second_true, both_of}
 use Rattle.span_laws.proofs.Stability.{is_some_of}
 use Rattle.span_laws.proofs.InPlace.{commits_at, claims}
 use Rattle.span_laws.proofs.Claims.{commits_at-push, prepared_root, none_left}
-use Rattle.span_laws.proofs.Walks.{Ends, answer_by}
+use Rattle.span_laws.proofs.Walks.{MayRefuse, Ends, answer_by}
 use Rattle.span_laws.proofs.Reached.{IsReached}
 use Rattle.span_kept.specs.Kept.{IsCodedRoot, is_under, IsPut, IsPending, IsKeptUnder, IsKeptBy, AreKept, horizon_in, horizon_of}
 use Rattle.span_kept.proofs.Claimers.{and_false, false_and, claimers_of}
@@ -172,20 +173,20 @@ module _ (schema : List Table) (m : Machine) (reached : IsReached schema m) (cs 
   kept_abandoned : (owner txn : ℕ) (t : OpenTransaction) → find (is_transaction owner txn) m.transactions ≡ Some t → is_undecided t ≡ true → AreKept schema (aborted m owner txn t).1 cs
   kept_abandoned owner txn t found open_still = record { keys = kept.keys; used = kept.used; coded = kept.coded; kept = λ root is_root k under. abort_at root is_root k under owner txn t found open_still }
 
-  kept_refused : (step : Step) (why : Refusal) → KeepsVersions schema cs step (refused m why)
-  kept_refused (Prepare owner txn slot) why = tt
-  kept_refused (Apply owner txn slot interval) why = tt
-  kept_refused (Begin owner ms) why = kept
-  kept_refused (Decide owner txn v interval) why = kept
-  kept_refused (Advance slot interval) why = kept
-  kept_refused (Trim slot h) why = tt
-  kept_refused (Open text params bound interval) why = kept
-  kept_refused (Scan query leaf slot interval) why = kept
-  kept_refused (Finish query) why = kept
-  kept_refused (Close query) why = kept
+  kept_refused : (step : Step) (why : Refusal) → MayRefuse step why → KeepsVersions schema cs step (refused m why)
+  kept_refused (Prepare owner txn slot) why may = tt
+  kept_refused (Apply owner txn slot interval) why may = tt
+  kept_refused (Begin owner ms) why may = kept
+  kept_refused (Decide owner txn v interval) why may = kept
+  kept_refused (Advance slot interval) why may = kept
+  kept_refused (Trim slot h) why may = tt
+  kept_refused (Open text params bound interval) why may = kept
+  kept_refused (Scan query leaf slot interval) why may = kept
+  kept_refused (Finish query) why may = kept
+  kept_refused (Close query) why may = kept
 
-  kept_ends : Ends schema m (KeepsVersions schema cs)
-  kept_ends = record {
+  kept_ends : (u : Result Statement Refusal) → Ends schema m u (KeepsVersions schema cs)
+  kept_ends u = record {
     refuses = kept_refused;
     begins = λ owner ms accepted. kept_begun owner ms;
     prepares = λ owner txn slot t book found here accepted well room low. tt;
@@ -196,7 +197,7 @@ module _ (schema : List Table) (m : Machine) (reached : IsReached schema m) (cs 
     applies = λ owner txn slot interval t book found here accepted. tt;
     advances = λ slot interval book here. kept_same schema m _ cs kept refl refl (horizon_set m.books slot book _ here refl);
     trims = λ slot h book here accepted. tt;
-    opens = λ text params bound interval accepted. kept_same schema m _ cs kept refl refl refl;
+    opens = λ text params bound interval asked is accepted. kept_same schema m _ cs kept refl refl refl;
     finds_nothing = λ query leaf slot interval. kept;
     scans = λ query leaf slot interval q book found here above safe. kept_same schema m _ cs kept refl refl (horizon_risen m.books slot q.s interval book here);
     waits = λ query leaf slot interval q book found here. kept_same schema m _ cs kept refl refl (horizon_risen m.books slot q.s interval book here);
@@ -205,27 +206,31 @@ module _ (schema : List Table) (m : Machine) (reached : IsReached schema m) (cs 
   }
 
   -- every step but a Prepare, an Apply and a Trim keeps what is kept, its refusals included
-  pub kept_by_step : (step : Step) → KeepsVersions schema cs step (answer schema m step)
-  kept_by_step step = answer_by schema m (KeepsVersions schema cs) kept_ends step
+  pub kept_by_step : (u : Result Statement Refusal) (step : Step) → KeepsVersions schema cs step (answer schema m u step)
+  kept_by_step u step = answer_by schema m u (KeepsVersions schema cs) (kept_ends u) step
+
+  -- what is understood of a text where there is none
+  abbrev no_text : Result Statement Refusal
+  no_text = Err refusal.Syntax
 
   -- step by step
   pub kept_begin : (owner : ℕ) (ms : List CheckedMutation) → AreKept schema (begin m owner ms).1 cs
-  kept_begin owner ms = kept_by_step (Begin owner ms)
+  kept_begin owner ms = kept_by_step no_text (Begin owner ms)
 
   pub kept_decide : (owner txn : ℕ) (v : Verdict) (interval : Interval) → AreKept schema (decide schema m owner txn v interval).1 cs
-  kept_decide owner txn v interval = kept_by_step (Decide owner txn v interval)
+  kept_decide owner txn v interval = kept_by_step no_text (Decide owner txn v interval)
 
   pub kept_advance : (slot : ℕ) (interval : Interval) → AreKept schema (advance m slot interval).1 cs
-  kept_advance slot interval = kept_by_step (Advance slot interval)
+  kept_advance slot interval = kept_by_step no_text (Advance slot interval)
 
-  pub kept_open : (text : List ℕ) (params : Params) (bound : Bound) (interval : Interval) → AreKept schema (open_query schema m text params bound interval).1 cs
-  kept_open text params bound interval = kept_by_step (Open text params bound interval)
+  pub kept_open : (u : Result Statement Refusal) (bound : Bound) (interval : Interval) → AreKept schema (open_query m u bound interval).1 cs
+  kept_open u bound interval = kept_by_step u (Open [] [] bound interval)
 
   pub kept_scan : (query leaf slot : ℕ) (interval : Interval) → AreKept schema (scan m query leaf slot interval).1 cs
-  kept_scan query leaf slot interval = kept_by_step (Scan query leaf slot interval)
+  kept_scan query leaf slot interval = kept_by_step no_text (Scan query leaf slot interval)
 
   pub kept_finish : (query : ℕ) → AreKept schema (finish schema m query).1 cs
-  kept_finish query = kept_by_step (Finish query)
+  kept_finish query = kept_by_step no_text (Finish query)
 
   pub kept_close : (query : ℕ) → AreKept schema (close m query).1 cs
-  kept_close query = kept_by_step (Close query)
+  kept_close query = kept_by_step no_text (Close query)

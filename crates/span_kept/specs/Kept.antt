@@ -5,7 +5,7 @@ use Rattle.std.specs.Prelude.{filter, map, slice_get}
 use Rattle.std.specs.List.{AllByRecursion}
 use Rattle.span_value.specs.declared.value.Value.{Value}
 use Rattle.span_schema.specs.declared.table.Table.{Table}
-use Rattle.span_schema.specs.Numbers.{root_of}
+use Rattle.span_schema.specs.Numbers.{IsTable, root_of}
 use Rattle.span_keycode.specs.Keys.{IsCodedKey, key_code}
 use Rattle.span_keycode.specs.Roots.{IsCoding}
 use Rattle.span_keycode.specs.declared.key.TheConstants.{MOST_BYTES}
@@ -23,12 +23,14 @@ use Rattle.span_shard.specs.Rows.{begins_with, code_of, row_coded}
 use Rattle.span_shard.specs.Reading.{is_same_row}
 use Rattle.span_shard.specs.Versions.{row_at, kept_upto}
 use Rattle.span_shard.specs.Shard.{KeyRow, versions_at, prepared_at, AreInOrder, IsInUse}
+use Rattle.span_query.specs.Rows.{Row}
+use Rattle.span_machine.specs.declared.query.Leaf.{Leaf}
 use Rattle.span_machine.specs.declared.slot.Book.{Book}
 use Rattle.span_machine.specs.declared.transaction.Commit.{Commit}
 use Rattle.span_machine.specs.declared.transaction.OpenTransaction.{OpenTransaction}
 use Rattle.span_machine.specs.declared.transaction.Outcome.{Outcome}
 use Rattle.span_machine.specs.declared.transaction.Outcome.TheVariants as outcome
-use Rattle.span_machine.specs.Meaning.{table_asked, declared_row, whole_table}
+use Rattle.span_machine.specs.Meaning.{declared_row, whole_table}
 use Rattle.span_machine.specs.Tables.{tables}
 use Rattle.span_machine.specs.Kept.{after_mutations}
 use Rattle.span_machine.specs.Machine.{Machine, if_some, is_at, commit_of}
@@ -126,16 +128,26 @@ pub record AreKept (schema : List Table) (m : Machine) (cs : List KeyVersions) :
   pub coded : AllByRecursion (λ c. IsCodedCoding schema c.key) cs
   pub kept : (root : Root) → IsCodedRoot schema root → (k : List ℕ) → is_under schema root k ≡ true → IsKeptAt schema m cs root k
 
--- a piece that covers its query has the rows of the table that it asks for
-pub record HasTable (schema : List Table) (log : List Commit) (p : Pieced) : Type 0 where
-  pub table : ℕ
-  pub asked : table_asked schema p.query.text ≡ Ok table
+-- the rows are those of a table of the schema, at s
+pub record HasTable (schema : List Table) (log : List Commit) (s table : ℕ) (rows : List Row) : Type 0 where
   pub db : List TableRow
-  pub made : tables schema log p.query.s ≡ Ok db
-  pub rows : p.rows ≡ whole_table schema db table
+  pub made : tables schema log s ≡ Ok db
+  pub whole : rows ≡ whole_table schema db table
+
+-- a leaf is of a table of the schema, and where a piece covers it, the piece has the rows of that table
+pub record IsLeafPiece (schema : List Table) (log : List Commit) (s : ℕ) (leaf : Leaf) (rows : List Row) : Type 0 where
+  pub of_schema : IsTable schema leaf.table
+  pub read : leaf.covered ≡ true → HasTable schema log s leaf.table rows
+
+-- each leaf and its piece
+abbrev pub AreLeafPieces : List Table → List Commit → ℕ → List Leaf → List (List Row) → Type 0
+AreLeafPieces schema log s [] [] = Unit {0}
+AreLeafPieces schema log s [] (rows ∷ ps) = ⊥
+AreLeafPieces schema log s (l ∷ ls) [] = ⊥
+AreLeafPieces schema log s (l ∷ ls) (rows ∷ ps) = IsLeafPiece schema log s l rows × AreLeafPieces schema log s ls ps
 
 abbrev pub IsPieced : List Table → List Commit → Pieced → Type 0
-IsPieced schema log p = p.query.covered ≡ true → HasTable schema log p
+IsPieced schema log p = AreLeafPieces schema log p.query.s p.query.leaves p.pieces
 
 abbrev pub ArePieced : List Table → Machine → List Pieced → Type 0
 ArePieced schema m ps = AllByRecursion (IsPieced schema m.log) ps

@@ -1,5 +1,5 @@
 use Rattle.std.proofs.Common.{◌≡◌, ℕ, ◌<◌, ◌+◌, ◌^◌, Bool, true, false, cond, ◌||◌, ◌==◌, nat_le, List, [], ◌∷◌, ◌++◌, length, Some, None, Result, Ok, Err, refl, ap, sym, ◌∙◌, subst, inl, inr, ◌⊎◌, arith}
-use Rattle.std.specs.Prelude.{find, map}
+use Rattle.std.specs.Prelude.{find}
 use Rattle.std.proofs.lemmas.Bool.Decides.{nat_tests}
 use Rattle.std.proofs.lemmas.List.{append-nil}
 use Rattle.std.specs.List.{AllByRecursion, list_all}
@@ -31,7 +31,7 @@ use Rattle.span_machine.specs.Meaning.{means}
 use Rattle.span_machine.specs.Commits.{Begun, begun_by, commit_by, committed_by, Asked, asked_by}
 use Rattle.span_machine.specs.Run.{IsMeant}
 use Rattle.span_machine.specs.Machine as machine
-use Rattle.span_machine.specs.Machine.{Machine, Understanding, IsUnderstood, committed, opened, uncovered, is_covered, tables_of, or_refusal, Answer, Steps, answer, start, is_transaction, is_query, changed_first, without_first, add_prepared, prepare_timestamp, commit_timestamp, commit_of, with_outcome, without_prepared, applied_at, cover, answer_on, meaning}
+use Rattle.span_machine.specs.Machine.{Machine, Understanding, IsUnderstood, committed, opened, as_opened, is_covered, tables_of, or_refusal, Answer, Steps, answer, start, is_transaction, is_query, changed_first, without_first, add_prepared, prepare_timestamp, commit_timestamp, commit_of, with_outcome, without_prepared, applied_at, cover, answer_on, meaning}
 use Rattle.span_laws.proofs.Tests.{first_true, second_true, number_same}
 use Rattle.span_laws.proofs.Lists.{found_passes, all_push, all_changed, all_without, all_found, all_weaker}
 use Rattle.span_laws.proofs.Sealed.{IsSealed}
@@ -241,7 +241,7 @@ module _ (understands : Understanding) (schema : List Table) (begun : List Begun
         known = record {
           transactions = known.transactions;
           begun_below = known.begun_below;
-          queries = all_push (IsAsked understands (a ∷ asked)) m.queries (record { number = m.next_query; query = q.query; s = s; leaves = map uncovered q.leaves })
+          queries = all_push (IsAsked understands (a ∷ asked)) m.queries (as_opened m.next_query s q)
               (all_weaker (IsAsked understands asked) (IsAsked understands (a ∷ asked)) (λ o is. asked_still understands asked a m.next_query o refl (asked_low understands asked m.next_query o known.asked_below is) is) m.queries known.queries)
               (record {
                 question = a;

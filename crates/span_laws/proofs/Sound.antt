@@ -1,5 +1,5 @@
 use Rattle.std.proofs.Common.{◌≡◌, ℕ, ◌<◌, ◌≤◌, true, false, not, ◌||◌, ◌==◌, nat_lt, nat_le, List, [], ◌∷◌, length, Some, refl, ap, sym, ◌∙◌, subst, inl, inr, arith}
-use Rattle.std.specs.Prelude.{slice_get, slice_set, map}
+use Rattle.std.specs.Prelude.{slice_get, slice_set}
 use Rattle.std.proofs.lemmas.Bool.Decides.{nat_tests}
 use Rattle.std.proofs.lemmas.Option.{slice_get_within}
 use Rattle.std.proofs.lemmas.List.{length-set}
@@ -13,7 +13,7 @@ use Rattle.span_machine.specs.declared.transaction.Outcome.TheVariants as outcom
 use Rattle.span_machine.specs.declared.step.Step.{Step}
 use Rattle.span_machine.specs.declared.step.Reply.{Reply}
 use Rattle.span_machine.specs.Tables.{upto}
-use Rattle.span_machine.specs.Machine.{Machine, Understanding, Steps, answer, start, risen, with_book, uncovered, is_covered, cover, changed_first, is_query, is_safe, applied_at}
+use Rattle.span_machine.specs.Machine.{Machine, Understanding, Steps, answer, start, risen, with_book, is_covered, as_opened, cover, changed_first, is_query, is_safe, applied_at}
 use Rattle.span_machine.specs.Run.{Run}
 use Rattle.span_machine.proofs.Leaves.{none_covered}
 use Rattle.span_laws.proofs.Tests.{first_true, second_true}
@@ -105,7 +105,7 @@ module _ (schema : List Table) (m : Machine) (sound : IsSound schema m) where
     applies = λ owner txn slot interval t book found here accepted. goes_applied t.outcome owner txn slot t;
     advances = λ slot interval book here. goes_same _ refl;
     trims = λ slot h book here accepted. goes_same _ refl;
-    opens = λ text params bound interval asked is accepted w. all_push (IsCoveredSealed schema _) m.queries (record { number = m.next_query; query = asked.query; s = timestamp_of bound interval; leaves = map uncovered asked.leaves })
+    opens = λ text params bound interval asked is accepted w. all_push (IsCoveredSealed schema _) m.queries (as_opened m.next_query (timestamp_of bound interval) asked)
         (all_weaker (IsCoveredSealed schema m) (IsCoveredSealed schema _) w m.queries sound.queries) (λ bad. absurd (let none = none_covered asked.leaves in cc));
     finds_nothing = λ query leaf slot interval. goes_same m refl;
     scans = λ query leaf slot interval q book found here above safe w.

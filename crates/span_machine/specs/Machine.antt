@@ -345,11 +345,15 @@ open_refusal m s = first_cause (
 abbrev pub uncovered : ℕ → Leaf
 uncovered table = record { table = table; covered = false }
 
+-- a statement as an open query
+abbrev pub as_opened : ℕ → ℕ → Statement → OpenQuery
+as_opened number s q = record { number = number; query = q.query; s = s; leaves = map uncovered q.leaves }
+
 abbrev pub opened : Machine → Statement → ℕ → Answer
 opened m q s = (
   reply.Opened m.next_query s (length q.leaves),
   record m {
-    queries = m.queries ++ (record { number = m.next_query; query = q.query; s = s; leaves = map uncovered q.leaves }) ∷ [];
+    queries = m.queries ++ as_opened m.next_query s q ∷ [];
     next_query = m.next_query + 1;
   },
 )
