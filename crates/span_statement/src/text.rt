@@ -3,7 +3,7 @@ ghost use Rattle.std.specs.Prelude.{◌≡◌, ◌<◌, length, if◌then◌else
 ghost use Rattle.span_schema.specs.Numbers.{IsTable};
 ghost use Rattle.std.specs.List.{list_all};
 ghost use Rattle.span_lexer.specs.Characters.{is_word, begins, is_letter};
-ghost use Rattle.span_machine.specs.Meaning.{is_name, table_spelt, table_or, table_asked};
+ghost use Rattle.span_statement.specs.Understands.{is_name, table_spelt, table_or, table_asked};
 
 use span_lexer::character::{is_letter, is_word};
 use span_lexer::word::reserved_word;
