@@ -1,19 +1,20 @@
-use Rattle.std.proofs.Common.{◌≡◌, nat_lt, ℕ, ◌≤◌, ◌<◌, ◌^◌, ◌==◌, cond, subst, length, true, false, List, Option, Some, None, Result, Ok, Err, refl, ap, sym, ◌∙◌, inr, arith}
+use Rattle.std.proofs.Common.{◌≡◌, ◌≢◌, nat_lt, ℕ, ◌≤◌, ◌<◌, ◌^◌, ◌==◌, cond, subst, length, true, false, List, Option, Some, None, Result, Ok, Err, refl, ap, sym, ◌∙◌, inr, arith}
 use Rattle.std.proofs.lemmas.Bool.Decides.{nat_tests}
-use Rattle.std.specs.Prelude.{IfOk, IfErr, find, option_map, slice_get, slice_set, remove}
+use Rattle.std.specs.List.{list_all}
+use Rattle.std.specs.Prelude.{find, option_map, slice_get, slice_set, remove}
 use Rattle.span_truetime.specs.declared.interval.Interval.{Interval}
 use Rattle.span_schema.specs.declared.table.Table.{Table}
 use Rattle.span_machine.specs.declared.slot.Book.{Book}
 use Rattle.span_machine.specs.declared.transaction.OpenTransaction.{OpenTransaction}
-use Rattle.span_machine.specs.Meaning.{table_asked}
 use Rattle.span_machine.specs.Place.{IsPlace}
-use Rattle.span_journal.specs.Judged.{IsNoted, IsApplied, MayScan, IsAskedBy, IsUnasked, outcome_of}
+use Rattle.span_journal.specs.Judged.{IsNoted, IsApplied, MayScan, outcome_of}
 use Rattle.span_journal.proofs.Preparing.{a_stamp}
 use Rattle.span_value.specs.declared.refusal.Refusal.{Refusal}
 use Rattle.span_value.specs.declared.refusal.Refusal.TheVariants as refusal
+use Rattle.span_machine.specs.declared.query.Leaf.{Leaf}
 use Rattle.span_machine.specs.declared.query.OpenQuery.{OpenQuery}
 use Rattle.span_machine.specs.declared.step.Reply.TheVariants as reply
-use Rattle.span_machine.specs.Machine.{Machine, refused, if_some, is_query, is_transaction, without_first, closed, close, add_prepared, without_prepared, prepare_timestamp, with_last, apply_refusal, applied, applied_at, scan, scan_found, scan_at, scan_gap, scanned, is_safe, risen, with_book, changed_first, cover, finish, finish_found, for_slot}
+use Rattle.span_machine.specs.Machine.{Machine, Answer, refused, if_some, is_query, is_transaction, without_first, closed, close, add_prepared, without_prepared, prepare_timestamp, with_last, apply_refusal, applied, applied_at, scan, scan_found, scan_at, scan_gap, scanned, is_safe, risen, with_book, changed_first, cover, finish, finish_found, for_slot, is_covered, answer_on, meaning}
 use Rattle.span_machine.specs.Pieces.{Pieced, Journaled, machine_of, queries_of}
 use Rattle.span_machine.proofs.PiecedLists.{find-map, without_first-map}
 
@@ -95,50 +96,57 @@ module _ (j : Journaled) (query leaf slot : ℕ) (interval : Interval) (p : Piec
   scan_is : scan (machine_of j) query leaf slot interval ≡ scan_found (machine_of j) query leaf slot interval p.query
   scan_is = ap (λ (o : Option OpenQuery). if_some o (refused (machine_of j) refusal.UnknownQuery) (scan_found (machine_of j) query leaf slot interval)) (found_query j.queries query (Some p) found)
 
-  -- there is one leaf
-  pub scan_leaf : (leaf == 0) ≡ false → scan (machine_of j) query leaf slot interval ≡ refused (machine_of j) refusal.UnknownQuery
-  scan_leaf e = scan_is ∙ ap (λ b. cond b (for_slot (machine_of j) slot (scan_at (machine_of j) query slot interval p.query)) (refused (machine_of j) refusal.UnknownQuery)) e
+  -- what is left of a scan once its leaf is looked for
+  abbrev scan_part : Option Leaf → Answer
+  scan_part o = if_some o (refused (machine_of j) refusal.UnknownQuery) (λ l. for_slot (machine_of j) slot (scan_at (machine_of j) query leaf slot interval p.query l))
 
-  scan_of_leaf : (leaf == 0) ≡ true → scan (machine_of j) query leaf slot interval ≡ for_slot (machine_of j) slot (scan_at (machine_of j) query slot interval p.query)
-  scan_of_leaf e = scan_is ∙ ap (λ b. cond b (for_slot (machine_of j) slot (scan_at (machine_of j) query slot interval p.query)) (refused (machine_of j) refusal.UnknownQuery)) e
+  -- there is no such leaf
+  pub scan_no_leaf : slice_get p.query.leaves leaf ≡ None → scan (machine_of j) query leaf slot interval ≡ refused (machine_of j) refusal.UnknownQuery
+  scan_no_leaf none = scan_is ∙ ap scan_part none
 
-  pub scan_no_slot : (leaf == 0) ≡ true → slice_get j.books slot ≡ None → scan (machine_of j) query leaf slot interval ≡ refused (machine_of j) refusal.NoSlot
-  scan_no_slot e none = scan_of_leaf e ∙ ap (λ (o : Option Book). if_some o (refused (machine_of j) refusal.NoSlot) (scan_at (machine_of j) query slot interval p.query)) none
+  module _ (l : Leaf) (there : slice_get p.query.leaves leaf ≡ Some l) where
+    scan_of_leaf : scan (machine_of j) query leaf slot interval ≡ for_slot (machine_of j) slot (scan_at (machine_of j) query leaf slot interval p.query l)
+    scan_of_leaf = scan_is ∙ ap scan_part there
 
-  scan_in : (book : Book) → (leaf == 0) ≡ true → slice_get j.books slot ≡ Some book → scan (machine_of j) query leaf slot interval ≡ scan_at (machine_of j) query slot interval p.query book
-  scan_in book e here = scan_of_leaf e ∙ ap (λ (o : Option Book). if_some o (refused (machine_of j) refusal.NoSlot) (scan_at (machine_of j) query slot interval p.query)) here
+    pub scan_no_slot : slice_get j.books slot ≡ None → scan (machine_of j) query leaf slot interval ≡ refused (machine_of j) refusal.NoSlot
+    scan_no_slot none = scan_of_leaf ∙ ap (λ (o : Option Book). if_some o (refused (machine_of j) refusal.NoSlot) (scan_at (machine_of j) query leaf slot interval p.query l)) none
 
-  pub scan_nothing : (book : Book) → (leaf == 0) ≡ true → slice_get j.books slot ≡ Some book → p.query.covered ≡ true → scan (machine_of j) query leaf slot interval ≡ (reply.Nothing, machine_of j)
-  scan_nothing book e here covered = scan_in book e here
-      ∙ ap (λ b. cond b (reply.Nothing, machine_of j) (scan_gap (machine_of j) query slot interval p.query book)) covered
+    module _ (book : Book) (here : slice_get j.books slot ≡ Some book) where
+      scan_in : scan (machine_of j) query leaf slot interval ≡ scan_at (machine_of j) query leaf slot interval p.query l book
+      scan_in = scan_of_leaf ∙ ap (λ (o : Option Book). if_some o (refused (machine_of j) refusal.NoSlot) (scan_at (machine_of j) query leaf slot interval p.query l)) here
 
-  -- below the horizon nothing is read
-  pub scan_trimmed : (book : Book) → (leaf == 0) ≡ true → slice_get j.books slot ≡ Some book → p.query.covered ≡ false → nat_lt p.query.s book.horizon ≡ true → scan (machine_of j) query leaf slot interval ≡ refused (machine_of j) refusal.Trimmed
-  scan_trimmed book e here uncovered below = scan_in book e here
-      ∙ ap (λ b. cond b (reply.Nothing, machine_of j) (scan_gap (machine_of j) query slot interval p.query book)) uncovered
-      ∙ ap (λ b. cond b (refused (machine_of j) refusal.Trimmed) (scanned (machine_of j) query slot (risen book p.query.s interval) p.query.s)) below
+      pub scan_nothing : l.covered ≡ true → scan (machine_of j) query leaf slot interval ≡ (reply.Nothing, machine_of j)
+      scan_nothing covered = scan_in ∙ ap (λ b. cond b (reply.Nothing, machine_of j) (scan_gap (machine_of j) query leaf slot interval p.query book)) covered
 
-  pub scan_waits : (book : Book) → (leaf == 0) ≡ true → slice_get j.books slot ≡ Some book → p.query.covered ≡ false → nat_lt p.query.s book.horizon ≡ false → is_safe (machine_of j) slot (risen book p.query.s interval) p.query.s ≡ false
-      → (bs : List Book) → bs ≡ slice_set j.books slot (risen book p.query.s interval) → scan (machine_of j) query leaf slot interval ≡ (reply.Refused refusal.NotYet, machine_of (record j { books = bs }))
-  scan_waits book e here uncovered above unsafe bs books_are = scan_in book e here
-      ∙ ap (λ b. cond b (reply.Nothing, machine_of j) (scan_gap (machine_of j) query slot interval p.query book)) uncovered
-      ∙ ap (λ b. cond b (refused (machine_of j) refusal.Trimmed) (scanned (machine_of j) query slot (risen book p.query.s interval) p.query.s)) above
-      ∙ ap (λ b. cond b (reply.Scanned, record (with_book (machine_of j) slot (risen book p.query.s interval)) { queries = changed_first (is_query query) cover (machine_of j).queries })
-      (reply.Refused refusal.NotYet, with_book (machine_of j) slot (risen book p.query.s interval))) unsafe
-      ∙ ap (λ (l : List Book). (reply.Refused refusal.NotYet, machine_of (record j { books = l }))) (sym books_are)
+      -- below the horizon nothing is read
+      pub scan_trimmed : l.covered ≡ false → nat_lt p.query.s book.horizon ≡ true → scan (machine_of j) query leaf slot interval ≡ refused (machine_of j) refusal.Trimmed
+      scan_trimmed uncovered below = scan_in
+          ∙ ap (λ b. cond b (reply.Nothing, machine_of j) (scan_gap (machine_of j) query leaf slot interval p.query book)) uncovered
+          ∙ ap (λ b. cond b (refused (machine_of j) refusal.Trimmed) (scanned (machine_of j) query leaf slot (risen book p.query.s interval) p.query.s)) below
 
-  pub may_scan : (book : Book) → leaf ≡ 0 → slice_get j.books slot ≡ Some book → p.query.covered ≡ false → nat_lt p.query.s book.horizon ≡ false → is_safe (machine_of j) slot (risen book p.query.s interval) p.query.s ≡ true → MayScan (machine_of j) query leaf slot interval p.query.s
-  may_scan book first here uncovered above safe = record {
-    question = p.query;
-    book = book;
-    found = found_query j.queries query (Some p) found;
-    here = here;
-    first_leaf = first;
-    uncovered = uncovered;
-    at = refl;
-    above = above;
-    safe = safe;
-  }
+      pub scan_waits : l.covered ≡ false → nat_lt p.query.s book.horizon ≡ false → is_safe (machine_of j) slot (risen book p.query.s interval) p.query.s ≡ false
+          → (bs : List Book) → bs ≡ slice_set j.books slot (risen book p.query.s interval) → scan (machine_of j) query leaf slot interval ≡ (reply.Refused refusal.NotYet, machine_of (record j { books = bs }))
+      scan_waits uncovered above unsafe bs books_are = scan_in
+          ∙ ap (λ b. cond b (reply.Nothing, machine_of j) (scan_gap (machine_of j) query leaf slot interval p.query book)) uncovered
+          ∙ ap (λ b. cond b (refused (machine_of j) refusal.Trimmed) (scanned (machine_of j) query leaf slot (risen book p.query.s interval) p.query.s)) above
+          ∙ ap (λ b. cond b (reply.Scanned, record (with_book (machine_of j) slot (risen book p.query.s interval)) { queries = changed_first (is_query query) (cover leaf) (machine_of j).queries })
+          (reply.Refused refusal.NotYet, with_book (machine_of j) slot (risen book p.query.s interval))) unsafe
+          ∙ ap (λ (bks : List Book). (reply.Refused refusal.NotYet, machine_of (record j { books = bks }))) (sym books_are)
+
+      pub may_scan : l.covered ≡ false → nat_lt p.query.s book.horizon ≡ false → is_safe (machine_of j) slot (risen book p.query.s interval) p.query.s ≡ true → MayScan (machine_of j) query leaf slot interval l.table p.query.s
+      may_scan uncovered above safe = record {
+        question = p.query;
+        gap = l;
+        book = book;
+        found = found_query j.queries query (Some p) found;
+        there = there;
+        here = here;
+        uncovered = uncovered;
+        of_table = refl;
+        at = refl;
+        above = above;
+        safe = safe;
+      }
 
 -- a query that is not there has no answer
 pub finish_none : (schema : List Table) (j : Journaled) (query : ℕ) → find (λ p. is_query query p.query) j.queries ≡ None → finish schema (machine_of j) query ≡ refused (machine_of j) refusal.UnknownQuery
@@ -147,11 +155,9 @@ finish_none schema j query e = ap (λ (o : Option OpenQuery). if_some o (refused
 pub finish_some : (schema : List Table) (j : Journaled) (query : ℕ) (p : Pieced) → find (λ p. is_query query p.query) j.queries ≡ Some p → finish schema (machine_of j) query ≡ finish_found schema (machine_of j) p.query
 finish_some schema j query p e = ap (λ (o : Option OpenQuery). if_some o (refused (machine_of j) refusal.UnknownQuery) (finish_found schema (machine_of j))) (found_query j.queries query (Some p) e)
 
--- the table that an open query asks for
-pub asked_by : (schema : List Table) (m : Machine) (query : ℕ) (q : OpenQuery) (text : List ℕ) → find (is_query query) m.queries ≡ Some q → text ≡ q.text → (r : Result ℕ Refusal) → r ≡ table_asked schema text → IfOk r (λ n. IsAskedBy schema m query n)
-asked_by schema m query q text found same (Ok n) e = record { question = q; found = found; asked = ap (table_asked schema) (sym same) ∙ sym e }
-asked_by schema m query q text found same (Err why) e = tt
+pub finish_uncovered : (schema : List Table) (j : Journaled) (query : ℕ) (p : Pieced) → find (λ p. is_query query p.query) j.queries ≡ Some p → list_all is_covered p.query.leaves ≡ false → finish schema (machine_of j) query ≡ refused (machine_of j) refusal.Incomplete
+finish_uncovered schema j query p found uncovered =
+    finish_some schema j query p found ∙ ap (λ b. cond b (answer_on p.query.s (meaning schema (machine_of j) p.query), machine_of j) (refused (machine_of j) refusal.Incomplete)) uncovered
 
-pub unasked_by : (schema : List Table) (m : Machine) (query : ℕ) (q : OpenQuery) (text : List ℕ) → find (is_query query) m.queries ≡ Some q → text ≡ q.text → (r : Result ℕ Refusal) → r ≡ table_asked schema text → IfErr r (λ why. IsUnasked schema m query why)
-unasked_by schema m query q text found same (Ok n) e = tt
-unasked_by schema m query q text found same (Err why) e = inr (q, found, ap (table_asked schema) (sym same) ∙ sym e)
+pub not_none : {A : Type 0} (o : Option A) (x : A) → o ≡ Some x → o ≢ None
+not_none o x e f = cc

@@ -1,5 +1,7 @@
+use Rattle.std.specs.List.{list_all}
 use Rattle.std.specs.Prelude.{◌≡◌, ◌≢◌, ℕ, false, true, nat_le, nat_lt, List, [], ◌∷◌, find, slice_get, slice_set, Option, Some, None, Result, Ok, Err, ◌⊎◌}
-use Rattle.span_value.specs.declared.value.Value.{Value}
+use Rattle.span_query.specs.Rows.{Row}
+use Rattle.span_query.specs.declared.query.BoundQuery.{BoundQuery}
 use Rattle.span_value.specs.declared.refusal.Refusal.{Refusal}
 use Rattle.span_value.specs.declared.refusal.Refusal.TheVariants.{OutOfMemory, TimestampRange, UnknownQuery, NoSlot, Incomplete}
 use Rattle.span_schema.specs.declared.table.Table.{Table}
@@ -9,13 +11,14 @@ use Rattle.span_truetime.specs.Time.{timestamp_end}
 use Rattle.span_machine.specs.declared.step.Reply.{Reply}
 use Rattle.span_machine.specs.declared.step.Reply.TheVariants as reply
 use Rattle.span_machine.specs.declared.slot.Book.{Book}
+use Rattle.span_machine.specs.declared.query.Leaf.{Leaf}
 use Rattle.span_machine.specs.declared.query.OpenQuery.{OpenQuery}
 use Rattle.span_machine.specs.declared.transaction.OpenTransaction.{OpenTransaction}
 use Rattle.span_machine.specs.declared.transaction.Outcome.{Outcome}
 use Rattle.span_machine.specs.declared.transaction.Outcome.TheVariants as outcome
-use Rattle.span_machine.specs.Machine.{trim_refusal, Machine, first_cause, is_transaction, is_query, mutations_in, prepare_refusal, prepare_timestamp, prepared, apply_refusal, applied_at, changed_first, cover, is_safe, risen, scan, with_book}
-use Rattle.span_machine.specs.Meaning.{table_asked}
-use Rattle.span_machine.specs.Pieces.{Pieced, Journaled, machine_of}
+use Rattle.span_machine.specs.Machine.{trim_refusal, Machine, first_cause, is_transaction, is_query, mutations_in, prepare_refusal, prepare_timestamp, prepared, apply_refusal, applied_at, changed_first, is_covered, is_safe, risen, scan, with_book}
+use Rattle.span_machine.specs.Pieces.{Pieced, Journaled, covered_by, machine_of}
+use Rattle.span_journal.specs.declared.journal.Gap.{Gap}
 
 -- the reply that a call's result stands for
 abbrev pub replied : {A : Type 0} → (A → Reply) → Result A Refusal → Reply
@@ -67,14 +70,17 @@ pub record IsApplied (old : Machine) (owner txn slot : ℕ) (interval : Interval
   pub outcome : transaction.outcome ≡ outcome_of committed
   pub after : new ≡ (applied_at (outcome_of committed) old owner txn slot transaction).1
 
--- the query's one leaf is uncovered, its timestamp s is not below the slot's horizon, and safe time reaches it once the floor has risen
-pub record MayScan (m : Machine) (query leaf slot : ℕ) (interval : Interval) (s : ℕ) : Type 0 where
+-- the leaf of the query is uncovered, the query's timestamp s is not below the slot's horizon, and safe time reaches it once the floor
+-- has risen; the leaf is of this table
+pub record MayScan (m : Machine) (query leaf slot : ℕ) (interval : Interval) (table s : ℕ) : Type 0 where
   pub question : OpenQuery
+  pub gap : Leaf
   pub book : Book
   pub found : find (is_query query) m.queries ≡ Some question
+  pub there : slice_get question.leaves leaf ≡ Some gap
   pub here : slice_get m.books slot ≡ Some book
-  pub first_leaf : leaf ≡ 0
-  pub uncovered : question.covered ≡ false
+  pub uncovered : gap.covered ≡ false
+  pub of_table : table ≡ gap.table
   pub at : s ≡ question.s
   pub above : nat_lt question.s book.horizon ≡ false
   pub safe : is_safe m slot (risen book question.s interval) question.s ≡ true
@@ -86,47 +92,38 @@ pub record IsRaised (old : Machine) (slot h : ℕ) (new : Machine) : Type 0 wher
   pub accepted : trim_refusal old slot h book ≡ None
   pub after : new ≡ record old { books = slice_set old.books slot (record book { horizon = h }) }
 
--- what a scan finds: nothing uncovered, or the timestamp at which the leaf may be read
-abbrev pub IsGap : Machine → ℕ → ℕ → ℕ → Interval → Option ℕ → Type 0
+-- what a scan finds: nothing uncovered, or what may be read of which table
+abbrev pub IsGap : Machine → ℕ → ℕ → ℕ → Interval → Option Gap → Type 0
 IsGap m query leaf slot interval None = scan m query leaf slot interval ≡ (reply.Nothing, m)
-IsGap m query leaf slot interval (Some s) = MayScan m query leaf slot interval s
+IsGap m query leaf slot interval (Some gap) = MayScan m query leaf slot interval gap.table gap.s
 
--- the query's piece covers it
-pub record IsPiece (j : Journaled) (query s : ℕ) (rows : List (List Value)) : Type 0 where
+-- what a query asks at s, with the pieces that cover its leaves
+pub record IsCovered (j : Journaled) (query s : ℕ) (asked : BoundQuery) (pieces : List (List Row)) : Type 0 where
   pub question : Pieced
   pub found : find (λ p. is_query query p.query) j.queries ≡ Some question
-  pub covered : question.query.covered ≡ true
+  pub covered : list_all is_covered question.query.leaves ≡ true
   pub at : s ≡ question.query.s
-  pub rows_are : rows ≡ question.rows
+  pub asked_is : asked ≡ question.query.query
+  pub pieces_are : pieces ≡ question.pieces
 
-abbrev pub covered_by : List (List Value) → Pieced → Pieced
-covered_by rows p = record { query = cover p.query; rows = rows }
-
--- the piece with these rows covers the query, and the slot's floor has risen to its timestamp
-pub record IsRegistered (old : Journaled) (query slot : ℕ) (interval : Interval) (rows : List (List Value)) (new : Journaled) : Type 0 where
+-- the piece with these rows covers the leaf of the query, and the slot's floor has risen to its timestamp
+pub record IsRegistered (old : Journaled) (query leaf slot : ℕ) (interval : Interval) (rows : List Row) (new : Journaled) : Type 0 where
   pub question : Pieced
+  pub gap : Leaf
   pub book : Book
   pub found : find (λ p. is_query query p.query) old.queries ≡ Some question
+  pub there : slice_get question.query.leaves leaf ≡ Some gap
   pub here : slice_get old.books slot ≡ Some book
-  pub uncovered : question.query.covered ≡ false
+  pub uncovered : gap.covered ≡ false
   pub after : new ≡ record old {
     books = (with_book (machine_of old) slot (risen book question.query.s interval)).books;
-    queries = changed_first (λ p. is_query query p.query) (covered_by rows) old.queries;
+    queries = changed_first (λ p. is_query query p.query) (covered_by leaf rows) old.queries;
   }
 
--- why a piece is not registered: no such query, then no such slot, then a query that is covered
-abbrev pub IsUnregistered : Journaled → ℕ → ℕ → Refusal → Type 0
-IsUnregistered j query slot why =
+-- why a piece is not registered: no such query, or no such leaf of it; then no such slot; then a leaf that is covered
+abbrev pub IsUnregistered : Journaled → ℕ → ℕ → ℕ → Refusal → Type 0
+IsUnregistered j query leaf slot why =
     ((find (λ p. is_query query p.query) j.queries ≡ None) × (why ≡ UnknownQuery))
-    ⊎ (((p : Pieced) × (find (λ p. is_query query p.query) j.queries ≡ Some p) × (slice_get j.books slot ≡ None) × (why ≡ NoSlot))
-    ⊎ ((p : Pieced) × (find (λ p. is_query query p.query) j.queries ≡ Some p) × (slice_get j.books slot ≢ None) × (p.query.covered ≡ true) × (why ≡ Incomplete)))
-
--- the open query asks for the table
-pub record IsAskedBy (schema : List Table) (m : Machine) (query n : ℕ) : Type 0 where
-  pub question : OpenQuery
-  pub found : find (is_query query) m.queries ≡ Some question
-  pub asked : table_asked schema question.text ≡ Ok n
-
--- why there is no table: no such query, or a text that asks for none
-abbrev pub IsUnasked : List Table → Machine → ℕ → Refusal → Type 0
-IsUnasked schema m query why = (find (is_query query) m.queries ≡ None) ⊎ ((q : OpenQuery) × (find (is_query query) m.queries ≡ Some q) × (table_asked schema q.text ≡ Err why))
+    ⊎ (((p : Pieced) × (find (λ p. is_query query p.query) j.queries ≡ Some p) × (slice_get p.query.leaves leaf ≡ None) × (why ≡ UnknownQuery))
+    ⊎ (((p : Pieced) × (find (λ p. is_query query p.query) j.queries ≡ Some p) × (slice_get p.query.leaves leaf ≢ None) × (slice_get j.books slot ≡ None) × (why ≡ NoSlot))
+    ⊎ ((p : Pieced) × (l : Leaf) × (find (λ p. is_query query p.query) j.queries ≡ Some p) × (slice_get p.query.leaves leaf ≡ Some l) × (slice_get j.books slot ≢ None) × (l.covered ≡ true) × (why ≡ Incomplete))))

@@ -1,14 +1,11 @@
 //! The journal and its calls.
-ghost use Rattle.std.specs.Prelude.{◌≡◌, ℕ, List, ◌<◌, ◌+◌, ◌^◌, [], ◌∷◌, ◌++◌, length, count_by, IfOk, IfErr, OnOk, OnErr, Some, None, true, false};
-ghost use Rattle.span_machine.specs.Machine.{Steps, start, is_undecided, is_query, commit_refusal, commit_timestamp, prepare, apply_step, scan, finish, open_refusal, begun, refused, trim, trim_refusal, without_first};
+ghost use Rattle.std.specs.Prelude.{◌≡◌, ℕ, List, ◌<◌, ◌+◌, ◌^◌, [], ◌∷◌, ◌++◌, length, count_by, IfOk, IfErr, OnOk, OnErr, Some, None, Ok, true};
+ghost use Rattle.span_machine.specs.Machine.{Answers, IsAnswer, start, is_undecided, is_query, commit_refusal, commit_timestamp, begin, begun, prepare, decide, apply_step, advance, trim, trim_refusal, open_query, open_refusal, scan, finish, close, refused, without_first};
 ghost use Rattle.span_truetime.specs.Time.{timestamp_of};
 ghost use Rattle.span_schema.specs.declared.table.Table.{Table};
-ghost use Rattle.span_machine.specs.Pieces.{machine_of};
-ghost use Rattle.span_machine.specs.declared.step.Step.TheVariants as step_of;
+ghost use Rattle.span_machine.specs.Pieces.{machine_of, unread};
 ghost use Rattle.span_machine.specs.declared.step.Reply.TheVariants as reply_of;
-ghost use Rattle.span_machine.specs.declared.query.OpenQuery.{OpenQuery};
-ghost use Rattle.span_journal.specs.Judged.{replied, decided, MayPrepare, IsNoted, IsUnnoted, IsApplied, IsGap, IsRaised, IsRegistered, IsUnregistered, IsPiece, IsAskedBy, IsUnasked};
-ghost use Rattle.span_schema.specs.Numbers.{IsTable};
+ghost use Rattle.span_journal.specs.Judged.{replied, decided, MayPrepare, IsNoted, IsUnnoted, IsApplied, IsGap, IsRaised, IsRegistered, IsUnregistered, IsCovered};
 
 use super::queries::{cover_at, find_query};
 use super::query::KeptQuery;
@@ -16,24 +13,22 @@ use super::slots::{
     book_at, coordinator_slot, decision, is_ready, is_safe_at, prepare_timestamp, raise_last,
     risen_floor, set_floor, set_horizon, set_last,
 };
-use super::text::table_asked;
 use super::transaction::KeptTransaction;
 use super::transactions::{
     abort_at, commit_at, copies_of, count_undecided, end_at, find_transaction, has_conflict,
     judge_apply, may_prepare, note_at, remove_at,
 };
-use span_machine::query::{OpenQuery, Params};
 use span_machine::slot::Book;
 use span_machine::step::Verdict;
 use span_machine::transaction::{Commit, OpenTransaction, Outcome, Prepared};
 use span_mutate::mutation::CheckedMutation;
 use span_mutate::transaction::Transaction;
+use span_query::query::{BoundQuery, Statement};
 use span_schema::schema::Schema;
 use span_truetime::bound::{Bound, choose};
 use span_truetime::interval::{Interval, TIMESTAMP_END};
 use span_value::refusal::Refusal;
 use span_value::seq::Seq;
-use span_value::text::Text;
 use span_value::value::Row;
 use std::alloc::{AllocError, Global};
 use std::marker::Model;
@@ -49,6 +44,15 @@ pub const MOST_QUERIES: usize = 64;
 
 /// Numbers of transactions and of queries are below this.
 pub const NUMBER_END: u64 = 1 << 63;
+
+/// What is to be read for a leaf of a query.
+#[derive(Clone, Copy, Debug, PartialEq, Eq)]
+pub struct Gap {
+    /// The number of the leaf's table.
+    pub table: usize,
+    /// The timestamp that the query reads at.
+    pub s: u64,
+}
 
 /// What is known of slots, transactions and queries.
 #[derive(Debug, Drop)]
@@ -66,8 +70,12 @@ impl Model for Journal {
     ghost use Rattle.std.specs.Prelude.{◌+◌, ◌≤◌, count_by, vec_len, vec_capacity};
     ghost use Rattle.span_machine.specs.Machine.{is_undecided};
     ghost use Rattle.span_machine.specs.Pieces.{Journaled};
+    ghost use Rattle.span_query.specs.contracts.query.BoundQuery as bound_query;
+    ghost use Rattle.std.specs.Coded.{codes};
 
     ghost Value = { Journaled };
+
+    ghost coded = { Prim.hlevel (codes, bound_query.the_row.coded) };
 
     ghost view = { λ a. record {
       books = a.books.items;
@@ -114,7 +122,7 @@ impl Journal {
         owner: u64,
         transaction: Transaction,
     ) -> Result<u64, Refusal>
-        ensures step { (schema : List Table) → Steps schema (machine_of self.old) (step_of.Begin owner transaction) (replied reply_of.Began result) (machine_of self.new) }
+        ensures step { Answers (machine_of self.old) (begin (machine_of self.old) owner transaction) (replied reply_of.Began result) (machine_of self.new) }
         ensures pieces { self.new.queries ≡ self.old.queries }
     {
         if self.transactions.len() >= MOST_TRANSACTIONS || self.next_transaction >= NUMBER_END {
@@ -169,7 +177,7 @@ impl Journal {
         verdict: Verdict,
         interval: Interval,
     ) -> Result<Option<u64>, Refusal>
-        ensures step { Steps schema.now (machine_of self.old) (step_of.Decide owner txn verdict interval) (replied decided result) (machine_of self.new) }
+        ensures step { IsAnswer (decide schema.now (machine_of self.old) owner txn verdict interval) (replied decided result) (machine_of self.new) }
         ensures pieces { self.new.queries ≡ self.old.queries }
     {
         match verdict {
@@ -216,7 +224,7 @@ impl Journal {
         txn: u64,
         interval: Interval,
     ) -> Result<u64, Refusal>
-        ensures step { Steps schema.now (machine_of self.old) (step_of.Decide owner txn Verdict.Commit interval) (replied reply_of.Decided result) (machine_of self.new) }
+        ensures step { IsAnswer (decide schema.now (machine_of self.old) owner txn Verdict.Commit interval) (replied reply_of.Decided result) (machine_of self.new) }
         ensures pieces { self.new.queries ≡ self.old.queries }
     {
         let Some((at, transaction)) = find_transaction(self.transactions.as_slice(), owner, txn)
@@ -242,7 +250,7 @@ impl Journal {
         txn: u64,
         interval: Interval,
     ) -> Result<(), Refusal>
-        ensures step { Steps schema.now (machine_of self.old) (step_of.Decide owner txn Verdict.Abort interval) (replied (λ _. reply_of.Aborted) result) (machine_of self.new) }
+        ensures step { IsAnswer (decide schema.now (machine_of self.old) owner txn Verdict.Abort interval) (replied (λ _. reply_of.Aborted) result) (machine_of self.new) }
         ensures pieces { self.new.queries ≡ self.old.queries }
     {
         let Some((at, transaction)) = find_transaction(self.transactions.as_slice(), owner, txn)
@@ -342,7 +350,7 @@ impl Journal {
 
     /// Raises the floor of the slot to the latest time that it may be now, and answers it. It takes no memory. `NoSlot`.
     pub fn advance(&mut self, slot: usize, interval: Interval) -> Result<u64, Refusal>
-        ensures step { (schema : List Table) → Steps schema (machine_of self.old) (step_of.Advance slot interval) (replied reply_of.Floor result) (machine_of self.new) }
+        ensures step { IsAnswer (advance (machine_of self.old) slot interval) (replied reply_of.Floor result) (machine_of self.new) }
         ensures pieces { self.new.queries ≡ self.old.queries }
     {
         let Some(book) = book_at(self.books.as_slice(), slot) else {
@@ -384,18 +392,11 @@ impl Journal {
     }
 
     /// The timestamp that a query is to read at, or why it is not opened.
-    fn judge_open(
-        &self,
-        schema: &Schema,
-        text: &str,
-        bound: Bound,
-        interval: Interval,
-    ) -> Result<u64, Refusal>
-        ensures accepted { IfOk result (λ s. (open_refusal schema.now (machine_of self.now) text.now s ≡ None) × (s ≡ timestamp_of bound interval)) }
-        ensures refused { IfErr result (λ why. open_refusal schema.now (machine_of self.now) text.now (timestamp_of bound interval) ≡ Some why) }
+    fn judge_open(&self, bound: Bound, interval: Interval) -> Result<u64, Refusal>
+        ensures accepted { IfOk result (λ s. (open_refusal (machine_of self.now) s ≡ None) × (s ≡ timestamp_of bound interval)) }
+        ensures refused { IfErr result (λ why. open_refusal (machine_of self.now) (timestamp_of bound interval) ≡ Some why) }
         ensures few { OnOk result (self.now.next_query < 2 ^ 63) }
     {
-        let _table = table_asked(schema, text)?;
         match choose(bound, interval) {
             Ok(s) => {
                 if self.queries.len() >= MOST_QUERIES || self.next_query >= NUMBER_END {
@@ -407,45 +408,37 @@ impl Journal {
         }
     }
 
-    /// Opens a query, and answers its number and the timestamp that it reads at. `Syntax` or `NoTable`, then `TimestampRange`, then
-    /// `QueryTableFull`, then `OutOfMemory`; a refusal leaves all as it was.
+    /// Opens a query, and answers its number and the timestamp that it reads at. `TimestampRange`, then `QueryTableFull`, then
+    /// `OutOfMemory`; a refusal leaves all as it was.
     pub fn open(
         &mut self,
         alloc: Global,
-        schema: &Schema,
-        text: Text,
-        params: Params,
+        statement: Statement,
         bound: Bound,
         interval: Interval,
     ) -> Result<(u64, u64), Refusal>
-        ensures step { Steps schema.now (machine_of self.old) (step_of.Open text params bound interval) (replied (λ r. reply_of.Opened r.0 r.1 1) result) (machine_of self.new) }
-        ensures pieces { OnOk result ((q : OpenQuery) × (q.covered ≡ false) × (self.new.queries ≡ self.old.queries ++ (record { query = q; rows = [] }) ∷ [])) }
+        ensures step { Answers (machine_of self.old) (open_query (machine_of self.old) (Ok statement) bound interval) (replied (λ r. reply_of.Opened r.0 r.1 (length statement.leaves)) result) (machine_of self.new) }
+        ensures pieces { IfOk result (λ r. self.new.queries ≡ self.old.queries ++ unread r.0 r.1 statement ∷ []) }
         ensures err { OnErr result (self.new.queries ≡ self.old.queries) }
     {
-        let s = self.judge_open(schema, text.as_str(), bound, interval)?;
+        let s = self.judge_open(bound, interval)?;
         let number = self.next_query;
-        let query = OpenQuery {
-            number,
-            text,
-            params,
-            s,
-            covered: false,
-        };
-        self.queries.push(KeptQuery::new(alloc, query))?;
+        let query = KeptQuery::new(alloc, number, s, statement)?;
+        self.queries.push(query)?;
         self.next_query += 1;
         Ok((number, s))
     }
 
-    /// Judges a scan of the query's leaf in the slot: the timestamp to read at where a part of the leaf's range is uncovered there and
-    /// safe time has reached it, or None where nothing is uncovered. `UnknownQuery`, then `NoSlot`, then `Trimmed` below the horizon,
-    /// then `NotYet`, after which alone the slot's floor may have risen.
+    /// Judges a scan of a leaf of the query in the slot: what may be read where the leaf's range is uncovered there and safe time has
+    /// reached the query's timestamp, or None where nothing is uncovered. `UnknownQuery`, also where the query has no such leaf, then
+    /// `NoSlot`, then `Trimmed` below the horizon, then `NotYet`, after which alone the slot's floor may have risen.
     pub fn claim_gap(
         &mut self,
         query: u64,
         leaf: usize,
         slot: usize,
         interval: Interval,
-    ) -> Result<Option<u64>, Refusal>
+    ) -> Result<Option<Gap>, Refusal>
         ensures gap { IfOk result (λ gap. IsGap (machine_of self.old) query leaf slot interval gap) }
         ensures refused { IfErr result (λ why. scan (machine_of self.old) query leaf slot interval ≡ (reply_of.Refused why, machine_of self.new)) }
         ensures ok { OnOk result (machine_of self.new ≡ machine_of self.old) }
@@ -454,13 +447,13 @@ impl Journal {
         let Some((_, question)) = find_query(self.queries.as_slice(), query) else {
             return Err(Refusal::UnknownQuery);
         };
-        if leaf != 0 {
+        let Some(part) = question.leaf(leaf) else {
             return Err(Refusal::UnknownQuery);
-        }
+        };
         let Some(book) = book_at(self.books.as_slice(), slot) else {
             return Err(Refusal::NoSlot);
         };
-        if question.is_covered() {
+        if part.covered {
             return Ok(None);
         }
         let s = question.timestamp();
@@ -469,56 +462,52 @@ impl Journal {
         }
         let floor = risen_floor(book, s, interval);
         if is_safe_at(self.transactions.as_slice(), floor, slot, s) {
-            return Ok(Some(s));
+            return Ok(Some(Gap {
+                table: part.table,
+                s,
+            }));
         }
         set_floor(&mut self.books, slot, floor);
         Err(Refusal::NotYet)
     }
 
-    /// Covers the query by a piece with these rows, and raises the slot's floor to its timestamp where the clock has passed it. It
-    /// takes no memory. `UnknownQuery`, then `NoSlot`, then `Incomplete` where the query is covered; a refusal leaves all as it was.
+    /// Covers a leaf of the query by a piece with these rows, and raises the slot's floor to its timestamp where the clock has passed
+    /// it. It takes no memory. `UnknownQuery`, also where the query has no such leaf, then `NoSlot`, then `Incomplete` where the leaf
+    /// is covered; a refusal leaves all as it was.
     pub fn register(
         &mut self,
         query: u64,
+        leaf: usize,
         slot: usize,
         interval: Interval,
         rows: Seq<Row>,
     ) -> Result<(), Refusal>
-        ensures ok { OnOk result (IsRegistered self.old query slot interval rows self.new) }
-        ensures why { IfErr result (λ why. IsUnregistered self.old query slot why) }
+        ensures ok { OnOk result (IsRegistered self.old query leaf slot interval rows self.new) }
+        ensures why { IfErr result (λ why. IsUnregistered self.old query leaf slot why) }
         ensures err { OnErr result (self.new ≡ self.old) }
     {
         let Some((at, question)) = find_query(self.queries.as_slice(), query) else {
             return Err(Refusal::UnknownQuery);
         };
+        let Some(part) = question.leaf(leaf) else {
+            return Err(Refusal::UnknownQuery);
+        };
         let Some(book) = book_at(self.books.as_slice(), slot) else {
             return Err(Refusal::NoSlot);
         };
-        if question.is_covered() {
+        if part.covered {
             return Err(Refusal::Incomplete);
         }
         let floor = risen_floor(book, question.timestamp(), interval);
         set_floor(&mut self.books, slot, floor);
-        cover_at(&mut self.queries, at, rows);
+        cover_at(&mut self.queries, at, leaf, rows);
         Ok(())
     }
 
-    /// The number of the table that an open query asks for. `UnknownQuery`; no other refusal for a query that was opened with this
-    /// schema.
-    pub fn table_of(&self, schema: &Schema, query: u64) -> Result<usize, Refusal>
-        ensures ok { IfOk result (λ n. IsAskedBy schema.now (machine_of self.now) query n) }
-        ensures table { IfOk result (λ n. IsTable schema.now n) }
-        ensures refused { IfErr result (λ why. IsUnasked schema.now (machine_of self.now) query why) }
-    {
-        let Some((_, question)) = find_query(self.queries.as_slice(), query) else {
-            return Err(Refusal::UnknownQuery);
-        };
-        table_asked(schema, question.text())
-    }
-
-    /// The timestamp that the query reads at, and the rows of its piece. `UnknownQuery`, then `Incomplete` where no piece covers it.
-    pub fn piece(&self, query: u64) -> Result<(u64, &[Row]), Refusal>
-        ensures ok { IfOk result (λ r. IsPiece self.now query r.0 r.1.now) }
+    /// The timestamp that the query reads at, what it asks of its leaves, and the rows of the pieces that cover them, in their order.
+    /// `UnknownQuery`, then `Incomplete` where no piece covers a leaf.
+    pub fn pieces(&self, query: u64) -> Result<(u64, &BoundQuery, &[Seq<Row>]), Refusal>
+        ensures ok { IfOk result (λ r. IsCovered self.now query r.0 r.1.now r.2.now) }
         ensures refused { IfErr result (λ why. (schema : List Table) → finish schema (machine_of self.now) query ≡ refused (machine_of self.now) why) }
     {
         let Some((_, question)) = find_query(self.queries.as_slice(), query) else {
@@ -527,12 +516,12 @@ impl Journal {
         if !question.is_covered() {
             return Err(Refusal::Incomplete);
         }
-        Ok((question.timestamp(), question.rows()))
+        Ok((question.timestamp(), question.query(), question.pieces()))
     }
 
     /// Closes a query. It takes no memory. `UnknownQuery`.
     pub fn close(&mut self, query: u64) -> Result<(), Refusal>
-        ensures step { (schema : List Table) → Steps schema (machine_of self.old) (step_of.Close query) (replied (λ _. reply_of.Closed) result) (machine_of self.new) }
+        ensures step { IsAnswer (close (machine_of self.old) query) (replied (λ _. reply_of.Closed) result) (machine_of self.new) }
         ensures pieces { OnOk result (self.new.queries ≡ without_first (λ p. is_query query p.query) self.old.queries) }
         ensures err { OnErr result (self.new.queries ≡ self.old.queries) }
     {

@@ -7,6 +7,5 @@ pub mod journal;
 mod queries;
 mod query;
 mod slots;
-mod text;
 mod transaction;
 mod transactions;

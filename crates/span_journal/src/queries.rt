@@ -2,7 +2,7 @@
 ghost use Rattle.std.specs.Prelude.{◌≡◌, ◌<◌, None, length, slice_get, slice_set, position, find, IfSome, IfNone};
 ghost use Rattle.span_machine.specs.Machine.{is_query};
 ghost use Rattle.span_machine.specs.Place.{IsPlace};
-ghost use Rattle.span_journal.specs.Judged.{covered_by};
+ghost use Rattle.span_machine.specs.Pieces.{covered_by};
 
 use super::query::KeptQuery;
 use span_value::seq::Seq;
@@ -25,10 +25,11 @@ pub(crate) fn find_query(queries: &[KeptQuery], number: u64) -> Option<(usize, &
     }
 }
 
-/// Covers the query at a place by a piece with these rows.
-pub(crate) fn cover_at(queries: &mut Vec<KeptQuery>, at: usize, rows: Seq<Row>)
-    requires { at < length queries.old.items }
-    ensures { IfSome (slice_get queries.old.items at) (λ p. queries.new.items ≡ slice_set queries.old.items at (covered_by rows p)) }
+/// Covers a leaf of the query at a place by a piece with these rows.
+pub(crate) fn cover_at(queries: &mut Vec<KeptQuery>, at: usize, leaf: usize, rows: Seq<Row>)
+    requires within { at < length queries.old.items }
+    requires leaf { IfSome (slice_get queries.old.items at) (λ p. leaf < length p.query.leaves) }
+    ensures { IfSome (slice_get queries.old.items at) (λ p. queries.new.items ≡ slice_set queries.old.items at (covered_by leaf rows p)) }
 {
-    queries[at].cover(rows);
+    queries[at].cover(leaf, rows);
 }

@@ -478,6 +478,10 @@ IsAnswer a r next = (r ≡ a.0) × (next ≡ a.1)
 abbrev pub WantsMemory : Machine → Reply → Machine → Type 0
 WantsMemory m r next = (r ≡ Refused refusal.OutOfMemory) × (next ≡ m)
 
+-- the answer, or want of memory in its place
+abbrev pub Answers : Machine → Answer → Reply → Machine → Type 0
+Answers m a r next = IsAnswer a r next ⊎ WantsMemory m r next
+
 -- from m, the reply to the step and the machine after it: the machine's answer, or want of memory where the step may want some
 abbrev pub Steps : Understanding → List Table → Machine → Step → Reply → Machine → Type 0
 Steps understands schema m s r next =

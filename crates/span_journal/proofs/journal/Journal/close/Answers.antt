@@ -1,9 +1,8 @@
-use Rattle.std.proofs.Common.{◌≡◌, List, None, sym, ap, ◌∙◌, subst, inl}
+use Rattle.std.proofs.Common.{◌≡◌, List, None, sym, ap, ◌∙◌, subst}
 use Rattle.std.specs.Prelude.{find}
-use Rattle.span_machine.specs.Machine.{Steps, is_query, without_first}
+use Rattle.span_machine.specs.Machine.{IsAnswer, close, is_query, without_first}
 use Rattle.span_machine.specs.Place.{IsPlace}
 use Rattle.span_machine.specs.Pieces.{Pieced, Journaled, machine_of}
-use Rattle.span_machine.specs.declared.step.Step.TheVariants as step
 use Rattle.span_machine.specs.declared.step.Reply.TheVariants as reply
 use Rattle.span_journal.proofs.Stepping.{close_none, close_some}
 use Rattle.span_journal.proofs.journal.Journal.close.Goals as goal
@@ -13,7 +12,7 @@ returns-in_default-clause-step c =
     let none : find (λ (p : Pieced). is_query c.args.query p.query) c.args.self.now.queries ≡ None =
     subst (λ (l : List Pieced). find (λ (p : Pieced). is_query c.args.query p.query) l ≡ None) (c.as_slice.ensures.value ∙ ap (λ (j : Journaled). j.queries) c.self.view_is) c.in_default.ensures.none in
     let e = close_none c.args.self.now c.args.query none in
-    λ schema. inl (ap (λ a. a.0) (sym e), ap (λ a. a.1) (sym e))
+    (ap (λ a. a.0) (sym e), ap (λ a. a.1) (sym e))
 
 pub returns-clause-step : goal.returns-clause-step
 returns-clause-step c =
@@ -23,5 +22,5 @@ returns-clause-step c =
     subst (λ (l : List Pieced). IsPlace (λ (p : Pieced). is_query c.args.query p.query) l c.in-Some.at p) c.as_slice.ensures.value c.in-Some.ensures.some in
     let left : without_first (λ (p : Pieced). is_query c.args.query p.query) j.queries ≡ c.remove.new.self.items = place.without ∙ sym c.remove.ensures.items in
     let e = close_some j c.args.query p place.found in
-    λ schema. subst (λ (k : Journaled). Steps schema (machine_of k) (step.Close c.args.query) reply.Closed (machine_of (record j { queries = c.remove.new.self.items }))) c.self.view_is
-    (inl (ap (λ a. a.0) (sym e), ap (λ (l : List Pieced). machine_of (record j { queries = l })) (sym left) ∙ ap (λ a. a.1) (sym e)))
+    subst (λ (k : Journaled). IsAnswer (close (machine_of k) c.args.query) reply.Closed (machine_of (record j { queries = c.remove.new.self.items }))) c.self.view_is
+    (ap (λ a. a.0) (sym e), ap (λ (l : List Pieced). machine_of (record j { queries = l })) (sym left) ∙ ap (λ a. a.1) (sym e))
