@@ -11,7 +11,8 @@ use Rattle.span_machine.specs.declared.step.Step.TheVariants as step
 use Rattle.span_machine.specs.declared.step.Reply.TheVariants as reply
 use Rattle.span_machine.specs.declared.slot.Book.{Book}
 use Rattle.span_machine.specs.declared.transaction.OpenTransaction.{OpenTransaction}
-use Rattle.span_machine.specs.Machine.{Machine, Answer, Steps, refused, unless_refused, if_some, for_slot, mutations_in, faults, prepare, prepare_found, prepare_refusal, room_refusal, first_cause, prepared}
+use Rattle.span_core.specs.Histories.{Steps}
+use Rattle.span_machine.specs.Machine.{Machine, Answer, refused, unless_refused, if_some, for_slot, mutations_in, faults, prepare, prepare_found, prepare_refusal, room_refusal, first_cause, prepared}
 use Rattle.span_machine.specs.Kept.{most, live_with}
 use Rattle.span_kept.proofs.Trims.{horizon_here}
 use Rattle.span_machine.specs.Pieces.{Journaled, machine_of}
@@ -22,6 +23,7 @@ use Rattle.span_kept.proofs.Covers.{pieced_by_step}
 use Rattle.span_kept.proofs.Preparing.{its_typed, prepare_free, prepare_new, prepare_fault, prepare_well, kept_prepared, live_prepared}
 use Rattle.span_journal.specs.Judged.{MayPrepare, IsNoted, IsUnnoted, stamp_refusal}
 use Rattle.span_core.specs.Whole.{IsWhole}
+use Rattle.span_core.proofs.Wholes.{no_text}
 use Rattle.span_schema.specs.declared.table.Table.{Table}
 use Rattle.span_mutate.specs.declared.row.TableRow.{TableRow}
 use Rattle.span_mutate.specs.Database.{apply}
@@ -79,10 +81,10 @@ module _ (schema : List Table) (j : Journaled) (cs : List KeyVersions) (w : IsWh
   pub fault_steps : (why : Refusal) → OfEach ms (λ db. (why ≡ refusal.OutOfMemory) ⊎ (apply schema db ms ≡ Err why)) → Steps schema (machine_of j) (step.Prepare owner txn slot) (reply.Refused why) (machine_of j)
   fault_steps why says = elim (prepare_fault schema w.rules (machine_of j) w.reached cs w.kept owner txn may.transaction may.book may.found here_zero accepted_zero why
       (subst (λ (l : List CheckedMutation). OfEach l (λ db. (why ≡ refusal.OutOfMemory) ⊎ (apply schema db l ≡ Err why))) may.mutations says)) [
-        | inl memory ↦ inr (refl, ap reply.Refused memory, refl)
+        | inl memory ↦ inr (refl, (ap reply.Refused memory, refl))
         | inr is ↦
             let e = prepare_is ∙ ap (λ (o : Option Refusal). unless_refused (machine_of j) o tail) is in
-            inl (sym (ap (λ (a : Answer). a.0) e), sym (ap (λ (a : Answer). a.1) e))
+            inl (no_text, tt, (sym (ap (λ (a : Answer). a.0) e), sym (ap (λ (a : Answer). a.1) e)))
       ]
 
   abbrev pub Changes : List CheckedMutation → List Write → Type 0
@@ -109,7 +111,7 @@ module _ (schema : List Table) (j : Journaled) (cs : List KeyVersions) (w : IsWh
     pub full_steps : most < live (with_writes txn ws cs) → Steps schema (machine_of j) (step.Prepare owner txn slot) (reply.Refused refusal.ShardFull) (machine_of j)
     full_steps many =
         let e = to_room ∙ ap (λ (b : Bool). unless_refused (machine_of j) (first_cause ((b, refusal.ShardFull) ∷ [])) stamped) (above (live (with_writes txn ws cs)) _ number many) in
-        inl (sym (ap (λ (a : Answer). a.0) e), sym (ap (λ (a : Answer). a.1) e))
+        inl (no_text, tt, (sym (ap (λ (a : Answer). a.0) e), sym (ap (λ (a : Answer). a.1) e)))
 
   module _ (ws : List Write) (are : Changes ms ws) (few : live (with_writes txn ws cs) ≤ most) where
     judged : prepare schema (machine_of j) owner txn slot ≡ stamped
@@ -125,7 +127,7 @@ module _ (schema : List Table) (j : Journaled) (cs : List KeyVersions) (w : IsWh
     pub noted_steps : (ts : ℕ) (n : Machine) → IsNoted (machine_of j) owner txn slot ts n → Steps schema (machine_of j) (step.Prepare owner txn slot) (reply.Prepared ts) n
     noted_steps ts n d =
         let e = prepared_is ts n d in
-        inl (ap reply.Prepared d.at ∙ sym (ap (λ (a : Answer). a.0) e), d.after ∙ sym (ap (λ (a : Answer). a.1) e))
+        inl (no_text, tt, (ap reply.Prepared d.at ∙ sym (ap (λ (a : Answer). a.0) e), d.after ∙ sym (ap (λ (a : Answer). a.1) e)))
 
     pub noted_whole : (ts : ℕ) (k : Journaled) → IsNoted (machine_of j) owner txn slot ts (machine_of k) → k.queries ≡ j.queries → IsWhole schema k (with_writes txn ws cs)
     noted_whole ts k d queries =
@@ -136,19 +138,19 @@ module _ (schema : List Table) (j : Journaled) (cs : List KeyVersions) (w : IsWh
         let kept = kept_prepared schema w.rules m w.reached cs w.kept owner txn may.transaction may.book may.found here_zero accepted_zero ws (are_in ws are) in
         record {
           rules = w.rules;
-          reached = subst (IsReached schema) (sym is) (answer_reached schema w.rules m w.reached (step.Prepare owner txn slot) tt);
+          reached = subst (IsReached schema) (sym is) (answer_reached schema w.rules m w.reached no_text (step.Prepare owner txn slot) tt);
           kept = subst (λ (n : Machine). AreKept schema n (with_writes txn ws cs)) (sym d.after)
               (subst (λ (b : Book). AreKept schema (prepared m owner txn slot b).1 (with_writes txn ws cs)) same (subst (λ i. AreKept schema (prepared m owner txn i may.book).1 (with_writes txn ws cs)) (sym zero_slot) kept));
-          pieced = subst (ArePieced schema (machine_of k)) (sym queries) (subst (λ (n : Machine). ArePieced schema n j.queries) (sym is) (pieced_by_step schema w.rules m w.reached j.queries refl w.pieced (step.Prepare owner txn slot) tt));
+          pieced = subst (ArePieced schema (machine_of k)) (sym queries) (subst (λ (n : Machine). ArePieced schema n j.queries) (sym is) (pieced_by_step schema w.rules m w.reached j.queries refl w.pieced no_text (step.Prepare owner txn slot) tt));
         }
 
     -- why it is not noted is the reply
     pub unnoted_steps : (why : Refusal) → IsUnnoted (machine_of j) owner txn slot why → Steps schema (machine_of j) (step.Prepare owner txn slot) (reply.Refused why) (machine_of j)
-    unnoted_steps why (inl memory) = inr (refl, ap reply.Refused memory, refl)
+    unnoted_steps why (inl memory) = inr (refl, (ap reply.Refused memory, refl))
     unnoted_steps why (inr (inl none)) = absurd (let f = may.found in cc)
     unnoted_steps why (inr (inr (inl none))) = absurd (let f = may.here in cc)
     unnoted_steps why (inr (inr (inr g))) =
         let same : may.book ≡ g.0 = some_same may.book g.0 (sym may.here ∙ g.1) in
         let e = judged ∙ ap (λ (b : Book). unless_refused (machine_of j) (stamp_refusal b) (prepared (machine_of j) owner txn slot b)) same
         ∙ ap (λ (o : Option Refusal). unless_refused (machine_of j) o (prepared (machine_of j) owner txn slot g.0)) g.2 in
-        inl (sym (ap (λ (a : Answer). a.0) e), sym (ap (λ (a : Answer). a.1) e))
+        inl (no_text, tt, (sym (ap (λ (a : Answer). a.0) e), sym (ap (λ (a : Answer). a.1) e)))

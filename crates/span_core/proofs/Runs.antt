@@ -1,8 +1,8 @@
 use Rattle.std.proofs.Common.{List, [], ◌∷◌, ◌++◌, refl, subst}
 use Rattle.span_machine.specs.declared.step.Step.{Step}
 use Rattle.span_machine.specs.declared.step.Reply.{Reply}
-use Rattle.span_machine.specs.Machine.{Machine, Steps}
-use Rattle.span_machine.specs.Run.{Run}
+use Rattle.span_machine.specs.Machine.{Machine}
+use Rattle.span_core.specs.Histories.{Steps, Run}
 use Rattle.span_schema.specs.declared.table.Table.{Table}
 
 -- a run goes on by one step

@@ -1,9 +1,15 @@
-use Rattle.std.proofs.Common.{◌≡◌, ℕ, ◌≤◌, arith, nat_lt, cond, true, false, List, [], ◌∷◌, ◌++◌, Option, Some, None, Result, Ok, Err, refl, ap, sym, ◌∙◌, subst, inl, inr}
-use Rattle.std.specs.Prelude.{find, slice_get, slice_set, OnOk, OnErr, option_map}
+use Rattle.std.proofs.Common.{◌≡◌, ℕ, ◌≤◌, ◌⊎◌, arith, nat_lt, cond, true, false, List, [], ◌∷◌, ◌++◌, Option, Some, None, Result, Ok, Err, refl, ap, sym, ◌∙◌, subst, inl, inr}
+use Rattle.std.specs.Prelude.{find, slice_get, slice_set, IfOk, OnOk, OnErr, option_map, map}
+use Rattle.std.specs.List.{AllByRecursion, list_all}
 use Rattle.std.proofs.lemmas.Bool.Decides.{nat_tests}
 use Rattle.span_value.specs.declared.refusal.Refusal.{Refusal}
 use Rattle.span_value.specs.declared.refusal.Refusal.TheVariants as refusal
-use Rattle.span_value.specs.declared.value.Value.{Value}
+use Rattle.span_params.specs.declared.params.Parameter.{Parameter}
+use Rattle.span_query.specs.declared.query.BoundQuery.{BoundQuery}
+use Rattle.span_query.specs.declared.query.Statement.{Statement}
+use Rattle.span_query.specs.Rows.{Row, Rows}
+use Rattle.span_query.specs.Meaning as meant
+use Rattle.span_truetime.specs.declared.bound.Bound.{Bound}
 use Rattle.span_truetime.specs.declared.interval.Interval.{Interval}
 use Rattle.span_shard.specs.KeyVersions.{KeyVersions}
 use Rattle.span_shard.specs.Shard.{snapshot}
@@ -13,13 +19,14 @@ use Rattle.span_machine.specs.declared.step.Step.TheVariants as step
 use Rattle.span_machine.specs.declared.step.Reply.{Reply}
 use Rattle.span_machine.specs.declared.step.Reply.TheVariants as reply
 use Rattle.span_machine.specs.declared.slot.Book.{Book}
+use Rattle.span_machine.specs.declared.query.Leaf.{Leaf}
 use Rattle.span_machine.specs.declared.query.OpenQuery.{OpenQuery}
 use Rattle.span_machine.specs.declared.transaction.Outcome.{Outcome}
 use Rattle.span_machine.specs.declared.transaction.Outcome.TheVariants as outcome
 use Rattle.span_machine.specs.declared.transaction.OpenTransaction.{OpenTransaction}
-use Rattle.span_machine.specs.Machine.{Machine, Answer, Steps, answer, start, refused, unless_refused, if_some, for_slot, is_query, is_transaction, is_safe, risen, with_book, cover, changed_first, without_first, scan, scan_found, scan_at, scan_gap, scanned, trim, trim_found, trimmed, applied_at, apply_step, apply_found, finish_found, answer_on, meaning}
-use Rattle.span_machine.specs.Pieces.{Pieced, Journaled, machine_of, queries_of}
-use Rattle.span_laws.proofs.Reached.{IsReached, start_reached, answer_reached, reached_tables, reached_meaning}
+use Rattle.span_machine.specs.Machine.{Machine, IsUnderstood, Answer, Answers, answer, start, refused, unless_refused, if_some, for_slot, is_query, is_transaction, is_safe, risen, with_book, cover, changed_first, without_first, scan, scan_found, scan_at, scan_gap, scanned, trim, trim_found, trimmed, applied_at, apply_step, apply_found, begin, open_query, answer_on, or_refusal, is_covered}
+use Rattle.span_machine.specs.Pieces.{Pieced, Journaled, unread, covered_by, machine_of, queries_of}
+use Rattle.span_laws.proofs.Reached.{IsReached, start_reached, answer_reached, reached_tables}
 use Rattle.span_kept.specs.Kept.{AreKept, ArePieced, IsReading, family, horizon_in, horizon_of}
 use Rattle.span_kept.proofs.Trims.{kept_trimmed, horizon_here, horizon_put}
 use Rattle.span_kept.proofs.Live.{live_is_kept}
@@ -29,14 +36,16 @@ use Rattle.span_laws.proofs.Causes.{may_trim}
 use Rattle.span_kept.proofs.Steps.{start_kept, kept_scan}
 use Rattle.span_kept.proofs.Applying.{kept_committed, kept_aborted}
 use Rattle.span_kept.proofs.Claimers.{only_slot}
-use Rattle.span_kept.proofs.Covers.{no_pieces, pieced_push, pieced_without, pieced_by_step, pieced_scanned, pieced_finish, covered-queries, find-queries, found_query}
-use Rattle.span_journal.specs.Judged.{IsApplied, IsRaised, MayScan, IsRegistered, IsUnregistered, IsPiece, IsUnasked, covered_by, outcome_of}
+use Rattle.span_kept.proofs.Covers.{no_pieces, pieced_push, pieced_without, pieced_by_step, pieced_table, pieced_scanned, pieced_finish, covered-queries, find-queries, found_query}
+use Rattle.span_journal.specs.Judged.{IsApplied, IsRaised, MayScan, IsRegistered, IsUnregistered, IsCovered, outcome_of}
 use Rattle.span_core.specs.Whole.{IsWhole, IsRead, IsUnread}
+use Rattle.span_core.specs.Histories.{Steps}
+use Rattle.span_statement.specs.Understands.{Understands}
 use Rattle.span_kept.proofs.Snapshots.{snapshot_when_safe}
+use Rattle.span_mutate.specs.declared.mutation.CheckedMutation.{CheckedMutation}
 use Rattle.span_schema.specs.declared.table.Table.{Table}
 use Rattle.span_schema.specs.Lineages.{MeetsRules}
-use Rattle.span_schema.specs.Numbers.{root_of}
-use Rattle.span_machine.specs.Meaning.{table_asked}
+use Rattle.span_schema.specs.Numbers.{IsTable, root_of}
 use Rattle.span_machine.specs.Run.{IsOfSchema}
 
 -- an empty database
@@ -48,20 +57,45 @@ start_whole schema rules j is none = record {
   pieced = subst (ArePieced schema (machine_of j)) (sym none) (no_pieces schema (machine_of j));
 }
 
+-- what is understood of a text where a step has none
+abbrev pub no_text : Result Statement Refusal
+no_text = Err refusal.Syntax
+
+-- a step that has no text, by the machine's answer
+pub answered : (schema : List Table) (m : Machine) (s : Step) (r : Reply) (n : Machine) → IsUnderstood (Understands schema) s no_text → answer schema m no_text s ≡ (r, n) → Steps schema m s r n
+answered schema m s r n none e = inl (no_text, none, (sym (ap (λ (a : Answer). a.0) e), sym (ap (λ (a : Answer). a.1) e)))
+
+-- a transaction that is begun, or memory that lacks
+pub begun_steps : (schema : List Table) (m : Machine) (owner : ℕ) (ms : List CheckedMutation) (r : Reply) (n : Machine) → Answers m (begin m owner ms) r n → Steps schema m (step.Begin owner ms) r n
+begun_steps schema m owner ms r n (inl e) = inl (no_text, tt, e)
+begun_steps schema m owner ms r n (inr e) = inr (refl, e)
+
+-- a statement that is opened, or memory that lacks
+pub opened_steps : (schema : List Table) (m : Machine) (text : List ℕ) (params : List Parameter) (bound : Bound) (interval : Interval) (q : Statement) (r : Reply) (n : Machine) → Understands schema text params (Ok q)
+    → Answers m (open_query m (Ok q) bound interval) r n → Steps schema m (step.Open text params bound interval) r n
+opened_steps schema m text params bound interval q r n understood (inl e) = inl (Ok q, understood, e)
+opened_steps schema m text params bound interval q r n understood (inr e) = inr (refl, e)
+
+-- a text that is refused, or memory that lacks
+pub refused_steps : (schema : List Table) (m : Machine) (text : List ℕ) (params : List Parameter) (bound : Bound) (interval : Interval) (why : Refusal) → (why ≡ refusal.OutOfMemory) ⊎ Understands schema text params (Err why)
+    → Steps schema m (step.Open text params bound interval) (reply.Refused why) m
+refused_steps schema m text params bound interval why (inl memory) = inr (refl, (ap reply.Refused memory, refl))
+refused_steps schema m text params bound interval why (inr understood) = inl (Err why, understood, (refl, refl))
+
 -- a step that leaves the versions
-pub whole_step : (schema : List Table) (j k : Journaled) (cs : List KeyVersions) (s : Step) (r : Reply) → IsWhole schema j cs → Steps schema (machine_of j) s r (machine_of k) → IsOfSchema schema s → AreKept schema (answer schema (machine_of j) s).1 cs
+pub whole_step : (schema : List Table) (j k : Journaled) (cs : List KeyVersions) (s : Step) (r : Reply) → IsWhole schema j cs → Steps schema (machine_of j) s r (machine_of k) → IsOfSchema schema s → ((u : Result Statement Refusal) → AreKept schema (answer schema (machine_of j) u s).1 cs)
     → ((n : Machine) → ArePieced schema n j.queries → ArePieced schema n k.queries) → IsWhole schema k cs
 whole_step schema j k cs s r w (inl e) of kept pieces = record {
   rules = w.rules;
-  reached = subst (IsReached schema) (sym e.1) (answer_reached schema w.rules (machine_of j) w.reached s of);
-  kept = subst (λ (m : Machine). AreKept schema m cs) (sym e.1) kept;
-  pieced = pieces (machine_of k) (subst (λ (m : Machine). ArePieced schema m j.queries) (sym e.1) (pieced_by_step schema w.rules (machine_of j) w.reached j.queries refl w.pieced s of));
+  reached = subst (IsReached schema) (sym e.2.1) (answer_reached schema w.rules (machine_of j) w.reached e.0 s of);
+  kept = subst (λ (m : Machine). AreKept schema m cs) (sym e.2.1) (kept e.0);
+  pieced = pieces (machine_of k) (subst (λ (m : Machine). ArePieced schema m j.queries) (sym e.2.1) (pieced_by_step schema w.rules (machine_of j) w.reached j.queries refl w.pieced e.0 s of));
 }
 whole_step schema j k cs s r w (inr e) of kept pieces = record {
   rules = w.rules;
-  reached = subst (IsReached schema) (sym e.2) w.reached;
-  kept = subst (λ (m : Machine). AreKept schema m cs) (sym e.2) w.kept;
-  pieced = pieces (machine_of k) (subst (λ (m : Machine). ArePieced schema m j.queries) (sym e.2) w.pieced);
+  reached = subst (IsReached schema) (sym e.1.1) w.reached;
+  kept = subst (λ (m : Machine). AreKept schema m cs) (sym e.1.1) w.kept;
+  pieced = pieces (machine_of k) (subst (λ (m : Machine). ArePieced schema m j.queries) (sym e.1.1) w.pieced);
 }
 
 -- nothing has changed
@@ -75,10 +109,10 @@ whole_same schema j k cs ds w is queries same = record {
 
 -- ---- pieces
 
-pub pieces_opened : (schema : List Table) → {A : Type 0} (r : Result A Refusal) (ps qs : List Pieced) → OnOk r ((q : OpenQuery) × (q.covered ≡ false) × (qs ≡ ps ++ (record { query = q; rows = [] }) ∷ [])) → OnErr r (qs ≡ ps)
+pub pieces_opened : (schema : List Table) (r : Result (ℕ × ℕ) Refusal) (q : Statement) (ps qs : List Pieced) → AllByRecursion (IsTable schema) q.leaves → IfOk r (λ n. qs ≡ ps ++ unread n.0 n.1 q ∷ []) → OnErr r (qs ≡ ps)
     → (n : Machine) → ArePieced schema n ps → ArePieced schema n qs
-pieces_opened schema (Ok x) ps qs ok err n all = subst (ArePieced schema n) (sym ok.2) (pieced_push schema n ps (record { query = ok.0; rows = [] }) ok.1 all)
-pieces_opened schema (Err why) ps qs ok err n all = subst (ArePieced schema n) (sym err) all
+pieces_opened schema (Ok x) q ps qs tables ok err n all = subst (ArePieced schema n) (sym ok) (pieced_push schema n ps x.0 x.1 q tables all)
+pieces_opened schema (Err why) q ps qs tables ok err n all = subst (ArePieced schema n) (sym err) all
 
 pub pieces_closed : (schema : List Table) → {A : Type 0} (r : Result A Refusal) (query : ℕ) (ps qs : List Pieced) → OnOk r (qs ≡ without_first (λ p. is_query query p.query) ps) → OnErr r (qs ≡ ps)
     → (n : Machine) → ArePieced schema n ps → ArePieced schema n qs
@@ -101,7 +135,7 @@ applied_reply (Some ts) m owner txn slot t = refl
 pub applied_steps : (schema : List Table) (m : Machine) (owner txn slot : ℕ) (interval : Interval) (committed : Option ℕ) (n : Machine) → IsApplied m owner txn slot interval committed n → Steps schema m (step.Apply owner txn slot interval) reply.Applied n
 applied_steps schema m owner txn slot interval committed n d =
     let e = apply_is m owner txn slot interval committed n d in
-    inl (sym (ap (λ (a : Answer). a.0) e ∙ applied_reply committed m owner txn slot d.transaction), d.after ∙ sym (ap (λ (a : Answer). a.1) e))
+    inl (no_text, tt, (sym (ap (λ (a : Answer). a.0) e ∙ applied_reply committed m owner txn slot d.transaction), d.after ∙ sym (ap (λ (a : Answer). a.1) e)))
 
 kept_applied : (schema : List Table) (m : Machine) (cs : List KeyVersions) (owner txn slot : ℕ) (committed : Option ℕ) (t : OpenTransaction) → IsReached schema m → AreKept schema m cs → find (is_transaction owner txn) m.transactions ≡ Some t → slot ≡ 0 → t.outcome ≡ outcome_of committed
     → AreKept schema (applied_at (outcome_of committed) m owner txn slot t).1 (shard.applied txn committed cs)
@@ -118,9 +152,9 @@ whole_applied schema j k cs owner txn slot interval committed w d queries =
     let is : machine_of k ≡ (apply_step m owner txn slot interval).1 = d.after ∙ sym (ap (λ (a : Answer). a.1) e) in
     record {
       rules = w.rules;
-      reached = subst (IsReached schema) (sym is) (answer_reached schema w.rules m w.reached (step.Apply owner txn slot interval) tt);
+      reached = subst (IsReached schema) (sym is) (answer_reached schema w.rules m w.reached no_text (step.Apply owner txn slot interval) tt);
       kept = subst (λ (n : Machine). AreKept schema n (shard.applied txn committed cs)) (sym d.after) (kept_applied schema m cs owner txn slot committed d.transaction w.reached w.kept d.found zero d.outcome);
-      pieced = subst (ArePieced schema (machine_of k)) (sym queries) (subst (λ (n : Machine). ArePieced schema n j.queries) (sym is) (pieced_by_step schema w.rules m w.reached j.queries refl w.pieced (step.Apply owner txn slot interval) tt));
+      pieced = subst (ArePieced schema (machine_of k)) (sym queries) (subst (λ (n : Machine). ArePieced schema n j.queries) (sym is) (pieced_by_step schema w.rules m w.reached j.queries refl w.pieced no_text (step.Apply owner txn slot interval) tt));
     }
 
 some_same : {A : Type 0} (x y : A) → Some x ≡ Some y → x ≡ y
@@ -130,8 +164,8 @@ not_below : (s h : ℕ) → nat_lt s h ≡ false → h ≤ s
 not_below s h e = grind (arith, nat_tests)
 
 -- what may be scanned is not below the horizon
-above_horizon : (schema : List Table) (m : Machine) → IsReached schema m → (query leaf slot : ℕ) (interval : Interval) (s : ℕ) (d : MayScan m query leaf slot interval s) → horizon_of m ≤ d.question.s
-above_horizon schema m reached query leaf slot interval s d =
+above_horizon : (schema : List Table) (m : Machine) → IsReached schema m → (query leaf slot : ℕ) (interval : Interval) (table s : ℕ) (d : MayScan m query leaf slot interval table s) → horizon_of m ≤ d.question.s
+above_horizon schema m reached query leaf slot interval table s d =
     let here : slice_get m.books 0 ≡ Some d.book = subst (λ (i : ℕ). slice_get m.books i ≡ Some d.book) (only_slot schema m reached slot d.book d.here) d.here in
     subst (λ (h : ℕ). h ≤ d.question.s) (sym (horizon_here m.books d.book here)) (not_below d.question.s d.book.horizon d.above)
 
@@ -152,10 +186,10 @@ whole_trimmed schema j k cs slot h w d queries =
     let high : d.book.horizon ≤ h = not_below h d.book.horizon (may_trim (nat_lt h d.book.horizon) (is_safe m slot d.book h) d.accepted).0 in
     record {
       rules = w.rules;
-      reached = subst (IsReached schema) (sym is) (answer_reached schema w.rules m w.reached (step.Trim slot h) tt);
+      reached = subst (IsReached schema) (sym is) (answer_reached schema w.rules m w.reached no_text (step.Trim slot h) tt);
       kept = subst (λ (n : Machine). AreKept schema n (shard.trimmed h cs)) (sym d.after)
           (subst (λ (i : ℕ). AreKept schema (trimmed schema m i h d.book).1 (shard.trimmed h cs)) (sym zero) (kept_trimmed schema m cs w.kept h d.book here high));
-      pieced = subst (ArePieced schema (machine_of k)) (sym queries) (subst (λ (n : Machine). ArePieced schema n j.queries) (sym is) (pieced_by_step schema w.rules m w.reached j.queries refl w.pieced (step.Trim slot h) tt));
+      pieced = subst (ArePieced schema (machine_of k)) (sym queries) (subst (λ (n : Machine). ArePieced schema n j.queries) (sym is) (pieced_by_step schema w.rules m w.reached j.queries refl w.pieced no_text (step.Trim slot h) tt));
     }
 
 -- what is left in the shard is what the machine answers
@@ -177,13 +211,13 @@ trimmed_steps schema j k cs slot h w d queries =
     ∙ ap (λ (ts : List OpenTransaction). kept.live schema m.log ts 0 (horizon_of (machine_of k))) open_still
     ∙ ap (kept.live schema m.log m.transactions 0) horizon
     ∙ ap (λ (i : ℕ). kept.live schema m.log m.transactions i h) (sym zero) in
-    inl (ap reply.Trimmed number ∙ sym (ap (λ (a : Answer). a.0) e), d.after ∙ sym (ap (λ (a : Answer). a.1) e))
+    inl (no_text, tt, (ap reply.Trimmed number ∙ sym (ap (λ (a : Answer). a.0) e), d.after ∙ sym (ap (λ (a : Answer). a.1) e)))
 
 -- ---- scan
 
--- the answer of a scan that covers its query
-abbrev covers : Machine → ℕ → ℕ → Book → Answer
-covers m query slot book = (reply.Scanned, record (with_book m slot book) { queries = changed_first (is_query query) cover m.queries })
+-- the answer of a scan that covers a leaf
+abbrev covers : Machine → ℕ → ℕ → ℕ → Book → Answer
+covers m query leaf slot book = (reply.Scanned, record (with_book m slot book) { queries = changed_first (is_query query) (cover leaf) m.queries })
 
 abbrev waits : Machine → ℕ → Book → Answer
 waits m slot book = (reply.Refused refusal.NotYet, with_book m slot book)
@@ -191,22 +225,38 @@ waits m slot book = (reply.Refused refusal.NotYet, with_book m slot book)
 abbrev nothing : Machine → Answer
 nothing m = (reply.Nothing, m)
 
-scan_is : (m : Machine) (query leaf slot : ℕ) (interval : Interval) (s : ℕ) (d : MayScan m query leaf slot interval s) → scan m query leaf slot interval ≡ covers m query slot (risen d.book d.question.s interval)
-scan_is m query leaf slot interval s d =
+scan_is : (m : Machine) (query leaf slot : ℕ) (interval : Interval) (table s : ℕ) (d : MayScan m query leaf slot interval table s) → scan m query leaf slot interval ≡ covers m query leaf slot (risen d.book d.question.s interval)
+scan_is m query leaf slot interval table s d =
     ap (λ (o : Option OpenQuery). if_some o (refused m refusal.UnknownQuery) (scan_found m query leaf slot interval)) d.found
-    ∙ ap (λ i. scan_found m query i slot interval d.question) d.first_leaf
-    ∙ ap (λ (o : Option Book). if_some o (refused m refusal.NoSlot) (scan_at m query slot interval d.question)) d.here
-    ∙ ap (λ b. cond b (nothing m) (scan_gap m query slot interval d.question d.book)) d.uncovered
-    ∙ ap (λ b. cond b (refused m refusal.Trimmed) (scanned m query slot (risen d.book d.question.s interval) d.question.s)) d.above
-    ∙ ap (λ b. cond b (covers m query slot (risen d.book d.question.s interval)) (waits m slot (risen d.book d.question.s interval))) d.safe
+    ∙ ap (λ (o : Option Leaf). if_some o (refused m refusal.UnknownQuery) (λ l. for_slot m slot (scan_at m query leaf slot interval d.question l))) d.there
+    ∙ ap (λ (o : Option Book). if_some o (refused m refusal.NoSlot) (scan_at m query leaf slot interval d.question d.gap)) d.here
+    ∙ ap (λ b. cond b (nothing m) (scan_gap m query leaf slot interval d.question d.book)) d.uncovered
+    ∙ ap (λ b. cond b (refused m refusal.Trimmed) (scanned m query leaf slot (risen d.book d.question.s interval) d.question.s)) d.above
+    ∙ ap (λ b. cond b (covers m query leaf slot (risen d.book d.question.s interval)) (waits m slot (risen d.book d.question.s interval))) d.safe
 
--- a piece that may be read and is registered is the scan: what was read of the family of the query's table covers it
-pub scanned_whole : (schema : List Table) (j k : Journaled) (cs : List KeyVersions) (query leaf slot : ℕ) (interval : Interval) (s n : ℕ) (shown : List (List Value)) → IsWhole schema j cs → (d : MayScan (machine_of j) query leaf slot interval s)
-    → table_asked schema d.question.text ≡ Ok n → IsReading schema n (snapshot (family (root_of schema n)) s cs) shown
-    → IsRegistered j query slot interval shown k → IsWhole schema k cs × Steps schema (machine_of j) (step.Scan query leaf slot interval) reply.Scanned (machine_of k)
-scanned_whole schema j k cs query leaf slot interval s n shown w d asked reading g =
+-- the pieces of an open query
+piece_of : (ps : List Pieced) (query : ℕ) (q : OpenQuery) → find (is_query query) (queries_of ps) ≡ Some q → (p : Pieced) × (find (λ (x : Pieced). is_query query x.query) ps ≡ Some p) × (p.query ≡ q)
+piece_of ps query q found = elim (find (λ (x : Pieced). is_query query x.query) ps) as (λ o. find (λ (x : Pieced). is_query query x.query) ps ≡ o → (p : Pieced) × (o ≡ Some p) × (p.query ≡ q)) [
+  | None ↦ λ e. absurd (none_found (sym found ∙ find-queries (is_query query) ps ∙ ap (option_map (λ (x : Pieced). x.query)) e))
+  | Some p ↦ λ e. (p, refl, some_same p.query q (sym (ap (option_map (λ (x : Pieced). x.query)) e) ∙ sym (find-queries (is_query query) ps) ∙ found))
+] refl
+  where
+    none_found : Some q ≡ None → ⊥
+    none_found e = cc
+
+-- the table of a leaf that may be scanned is one of the schema
+pub scanned_table : (schema : List Table) (j : Journaled) (cs : List KeyVersions) (query leaf slot : ℕ) (interval : Interval) (table s : ℕ) → IsWhole schema j cs → MayScan (machine_of j) query leaf slot interval table s → IsTable schema table
+scanned_table schema j cs query leaf slot interval table s w d =
+    let p = piece_of j.queries query d.question d.found in
+    let there : slice_get p.0.query.leaves leaf ≡ Some d.gap = ap (λ (q : OpenQuery). slice_get q.leaves leaf) p.2 ∙ d.there in
+    subst (IsTable schema) (sym d.of_table) (pieced_table schema (machine_of j) j.queries query p.0 leaf d.gap w.pieced p.1 there)
+
+-- a piece that may be read and is registered is the scan: what was read of the family of the leaf's table covers it
+pub scanned_whole : (schema : List Table) (j k : Journaled) (cs : List KeyVersions) (query leaf slot : ℕ) (interval : Interval) (table s : ℕ) (shown : List Row) → IsWhole schema j cs → (d : MayScan (machine_of j) query leaf slot interval table s)
+    → IsRead schema cs table s shown → IsRegistered j query leaf slot interval shown k → IsWhole schema k cs × Steps schema (machine_of j) (step.Scan query leaf slot interval) reply.Scanned (machine_of k)
+scanned_whole schema j k cs query leaf slot interval table s shown w d reading g =
     let m = machine_of j in
-    let ps = changed_first (λ (p : Pieced). is_query query p.query) (covered_by shown) j.queries in
+    let ps = changed_first (λ (p : Pieced). is_query query p.query) (covered_by leaf shown) j.queries in
     let same : g.question.query ≡ d.question = some_same _ _ (sym (found_query query j.queries g.question g.found) ∙ d.found) in
     let book_same : g.book ≡ d.book = some_same _ _ (sym g.here ∙ d.here) in
     let risen_same : risen g.book g.question.query.s interval ≡ risen d.book d.question.s interval =
@@ -215,73 +265,76 @@ scanned_whole schema j k cs query leaf slot interval s n shown w d asked reading
     let is : machine_of k ≡ (scan m query leaf slot interval).1 =
     ap machine_of g.after
     ∙ ap (λ (b : Book). machine_of (record j { books = (with_book m slot b).books; queries = ps })) risen_same
-    ∙ ap (λ (qs : List OpenQuery). record (with_book m slot (risen d.book d.question.s interval)) { queries = qs }) (sym (covered-queries (is_query query) shown j.queries))
-    ∙ sym (ap (λ (a : Answer). a.1) (scan_is m query leaf slot interval s d)) in
+    ∙ ap (λ (qs : List OpenQuery). record (with_book m slot (risen d.book d.question.s interval)) { queries = qs }) (sym (covered-queries (is_query query) leaf shown j.queries))
+    ∙ sym (ap (λ (a : Answer). a.1) (scan_is m query leaf slot interval table s d)) in
     let zero = only_slot schema m w.reached slot d.book d.here in
     let safe : is_safe m 0 (risen d.book d.question.s interval) g.question.query.s ≡ true =
     ap (λ (q : OpenQuery). is_safe m 0 (risen d.book d.question.s interval) q.s) same ∙ subst (λ i. is_safe m i (risen d.book d.question.s interval) d.question.s ≡ true) zero d.safe in
-    let high : horizon_of m ≤ g.question.query.s = subst (λ (q : OpenQuery). horizon_of m ≤ q.s) (sym same) (above_horizon schema m w.reached query leaf slot interval s d) in
-    let asked_there : table_asked schema g.question.query.text ≡ Ok n = ap (λ (q : OpenQuery). table_asked schema q.text) same ∙ asked in
-    let reading_there : IsReading schema n (snapshot (family (root_of schema n)) g.question.query.s cs) shown = subst (λ i. IsReading schema n (snapshot (family (root_of schema n)) i cs) shown) read_at reading in
-    let pieced = pieced_scanned schema w.rules m cs j.queries w.reached w.kept w.pieced query g.question (risen d.book d.question.s interval) g.found safe high n asked_there shown reading_there in (
+    let high : horizon_of m ≤ g.question.query.s = subst (λ (q : OpenQuery). horizon_of m ≤ q.s) (sym same) (above_horizon schema m w.reached query leaf slot interval table s d) in
+    let there : slice_get g.question.query.leaves leaf ≡ Some d.gap = ap (λ (q : OpenQuery). slice_get q.leaves leaf) same ∙ d.there in
+    let reading_there : IsReading schema d.gap.table (snapshot (family (root_of schema d.gap.table)) g.question.query.s cs) shown =
+    subst (λ n. IsReading schema n (snapshot (family (root_of schema n)) g.question.query.s cs) shown) d.of_table (subst (λ i. IsReading schema table (snapshot (family (root_of schema table)) i cs) shown) read_at reading) in
+    let pieced = pieced_scanned schema w.rules m cs j.queries w.reached w.kept w.pieced query g.question (risen d.book d.question.s interval) g.found safe high leaf d.gap there shown reading_there in (
       record {
         rules = w.rules;
-        reached = subst (IsReached schema) (sym is) (answer_reached schema w.rules m w.reached (step.Scan query leaf slot interval) tt);
+        reached = subst (IsReached schema) (sym is) (answer_reached schema w.rules m w.reached no_text (step.Scan query leaf slot interval) tt);
         kept = subst (λ (n : Machine). AreKept schema n cs) (sym is) (kept_scan schema m w.reached cs w.kept query leaf slot interval);
         pieced = subst (λ (l : Journaled). ArePieced schema (machine_of l) l.queries) (sym g.after) pieced;
       },
-      inl (sym (ap (λ (a : Answer). a.0) (scan_is m query leaf slot interval s d)), is),
+      inl (no_text, tt, (sym (ap (λ (a : Answer). a.0) (scan_is m query leaf slot interval table s d)), is)),
     )
 
 -- a piece that may be read is registered
-pub registers : (j : Journaled) (query leaf slot : ℕ) (interval : Interval) (s : ℕ) (why : Refusal) → MayScan (machine_of j) query leaf slot interval s → IsUnregistered j query slot why → ⊥
-registers j query leaf slot interval s why d (inl none) =
+pub registers : (j : Journaled) (query leaf slot : ℕ) (interval : Interval) (table s : ℕ) (why : Refusal) → MayScan (machine_of j) query leaf slot interval table s → IsUnregistered j query leaf slot why → ⊥
+registers j query leaf slot interval table s why d (inl none) =
     let e : find (is_query query) (queries_of j.queries) ≡ None = find-queries (is_query query) j.queries ∙ ap (λ (o : Option Pieced). option_map (λ (p : Pieced). p.query) o) none.0 in
     let f = d.found in cc
-registers j query leaf slot interval s why d (inr (inl g)) = let f = d.here in let e = g.2 in cc
-registers j query leaf slot interval s why d (inr (inr g)) =
+registers j query leaf slot interval table s why d (inr (inl g)) =
     let same : g.0.query ≡ d.question = some_same _ _ (sym (found_query query j.queries g.0 g.1) ∙ d.found) in
-    let e : d.question.covered ≡ true = ap (λ (q : OpenQuery). q.covered) (sym same) ∙ g.3 in
+    let e : slice_get d.question.leaves leaf ≡ None = ap (λ (q : OpenQuery). slice_get q.leaves leaf) (sym same) ∙ g.2 in
+    let f = d.there in cc
+registers j query leaf slot interval table s why d (inr (inr (inl g))) = let f = d.here in let e = g.3 in cc
+registers j query leaf slot interval table s why d (inr (inr (inr g))) =
+    let same : g.0.query ≡ d.question = some_same _ _ (sym (found_query query j.queries g.0 g.2) ∙ d.found) in
+    let one : g.1 ≡ d.gap = some_same _ _ (sym g.3 ∙ ap (λ (q : OpenQuery). slice_get q.leaves leaf) same ∙ d.there) in
+    let e : d.gap.covered ≡ true = ap (λ (l : Leaf). l.covered) (sym one) ∙ g.5 in
     let f = d.uncovered in cc
 
--- ---- finish
-
-abbrev answers : List Table → Machine → OpenQuery → Answer
-answers schema m q = (answer_on q.s (meaning schema m q), m)
-
--- the rows of the piece are the answer
-pub finished : (schema : List Table) (j : Journaled) (cs : List KeyVersions) (query s : ℕ) (rows : List (List Value)) → IsWhole schema j cs → IsPiece j query s rows → Steps schema (machine_of j) (step.Finish query) (reply.Rows s rows) (machine_of j)
-finished schema j cs query s rows w p =
-    let m = machine_of j in
-    let right : (answer schema m (step.Finish query)).0 ≡ reply.Rows p.question.query.s p.question.rows = pieced_finish schema w.rules m w.reached j.queries refl w.pieced query p.question p.found p.covered in
-    let leaves : (answer schema m (step.Finish query)).1 ≡ m =
-    ap (λ (a : Answer). a.1) (ap (λ (o : Option OpenQuery). if_some o (refused m refusal.UnknownQuery) (finish_found schema m)) (found_query query j.queries p.question p.found))
-    ∙ ap (λ b. (cond b (answers schema m p.question.query) (refused m refusal.Incomplete)).1) p.covered in
-    inl (ap (λ n. reply.Rows n rows) p.at ∙ ap (reply.Rows p.question.query.s) p.rows_are ∙ sym right, sym leaves)
-
--- what was read of the family of the query's table, and is registered, is the scan
-pub scanned_read : (schema : List Table) (j k : Journaled) (cs : List KeyVersions) (query leaf slot : ℕ) (interval : Interval) (s : ℕ) (shown : List (List Value)) → IsWhole schema j cs → (d : MayScan (machine_of j) query leaf slot interval s)
-    → (r : IsRead schema (machine_of j) cs query s shown) → IsRegistered j query slot interval shown k → IsWhole schema k cs × Steps schema (machine_of j) (step.Scan query leaf slot interval) reply.Scanned (machine_of k)
-scanned_read schema j k cs query leaf slot interval s shown w d r g =
-    let same : r.asked.question ≡ d.question = some_same _ _ (sym r.asked.found ∙ d.found) in
-    scanned_whole schema j k cs query leaf slot interval s r.table shown w d (ap (λ (q : OpenQuery). table_asked schema q.text) (sym same) ∙ r.asked.asked) r.reading g
-
--- a query that may be scanned is open, and asks for a table
-asked_one : (schema : List Table) (m : Machine) (query leaf slot : ℕ) (interval : Interval) (s : ℕ) (why : Refusal) → MeetsRules schema → IsReached schema m → MayScan m query leaf slot interval s → IsUnasked schema m query why → ⊥
-asked_one schema m query leaf slot interval s why rules reached d (inl none) = let f = d.found in cc
-asked_one schema m query leaf slot interval s why rules reached d (inr (q, found, refused)) =
-    let meant = reached_meaning schema rules m query q reached found in
-    let asked = meant.2 in cc
-
--- where a query may be scanned, only memory can lack
-pub reads : (schema : List Table) (j : Journaled) (cs : List KeyVersions) (query leaf slot : ℕ) (interval : Interval) (s : ℕ) (why : Refusal) → IsWhole schema j cs → (d : MayScan (machine_of j) query leaf slot interval s) → IsUnread schema (machine_of j) cs query s why
+-- where a leaf may be scanned, only memory can lack
+pub reads : (schema : List Table) (j : Journaled) (cs : List KeyVersions) (query leaf slot : ℕ) (interval : Interval) (table s : ℕ) (why : Refusal) → IsWhole schema j cs → (d : MayScan (machine_of j) query leaf slot interval table s) → IsUnread schema cs table s why
     → why ≡ refusal.OutOfMemory
-reads schema j cs query leaf slot interval s why w d (inl memory) = memory
-reads schema j cs query leaf slot interval s why w d (inr (inl unasked)) = absurd (asked_one schema (machine_of j) query leaf slot interval s why w.rules w.reached d unasked)
-reads schema j cs query leaf slot interval s why w d (inr (inr (n, asked, none))) =
+reads schema j cs query leaf slot interval table s why w d (inl memory) = memory
+reads schema j cs query leaf slot interval table s why w d (inr none) =
     let m = machine_of j in
     let zero = only_slot schema m w.reached slot d.book d.here in
     let safe : is_safe m 0 (risen d.book d.question.s interval) d.question.s ≡ true = subst (λ i. is_safe m i (risen d.book d.question.s interval) d.question.s ≡ true) zero d.safe in
     let made = reached_tables schema w.rules m d.question.s w.reached in
-    let seen = snapshot_when_safe schema w.rules m cs d.question.s (risen d.book d.question.s interval) w.reached w.kept safe (above_horizon schema m w.reached query leaf slot interval s d) made.0 made.1 n in
-    absurd (none seen.rows seen.typed (ap (λ i. snapshot (family (root_of schema n)) i cs) d.at ∙ seen.entries_are))
+    let seen = snapshot_when_safe schema w.rules m cs d.question.s (risen d.book d.question.s interval) w.reached w.kept safe (above_horizon schema m w.reached query leaf slot interval table s d) made.0 made.1 table in
+    absurd (none seen.rows seen.typed (ap (λ i. snapshot (family (root_of schema table)) i cs) d.at ∙ seen.entries_are))
+
+-- ---- finish
+
+-- what the query means on its pieces is the answer
+finish_is : (schema : List Table) (j : Journaled) (cs : List KeyVersions) (query s : ℕ) (asked : BoundQuery) (pieces : List (List Row)) (means : Rows) → IsWhole schema j cs → IsCovered j query s asked pieces → meant.meaning pieces asked ≡ means
+    → answer schema (machine_of j) no_text (step.Finish query) ≡ (answer_on s (or_refusal means), machine_of j)
+finish_is schema j cs query s asked pieces means w p is =
+    pieced_finish schema w.rules (machine_of j) w.reached j.queries refl w.pieced no_text query p.question p.found p.covered
+    ∙ ap (λ (n : ℕ). (answer_on n (or_refusal (meant.meaning p.question.pieces p.question.query.query)), machine_of j)) (sym p.at)
+    ∙ ap (λ (q : BoundQuery). (answer_on s (or_refusal (meant.meaning p.question.pieces q)), machine_of j)) (sym p.asked_is)
+    ∙ ap (λ (ts : List (List Row)). (answer_on s (or_refusal (meant.meaning ts asked)), machine_of j)) (sym p.pieces_are)
+    ∙ ap (λ (r : Rows). (answer_on s (or_refusal r), machine_of j)) is
+
+-- it means rows
+pub finished : (schema : List Table) (j : Journaled) (cs : List KeyVersions) (query s : ℕ) (asked : BoundQuery) (pieces : List (List Row)) (rows : List Row) → IsWhole schema j cs → IsCovered j query s asked pieces → meant.meaning pieces asked ≡ Some rows
+    → Steps schema (machine_of j) (step.Finish query) (reply.Rows s rows) (machine_of j)
+finished schema j cs query s asked pieces rows w p is =
+    let e = finish_is schema j cs query s asked pieces (Some rows) w p is in
+    inl (no_text, tt, (sym (ap (λ (a : Answer). a.0) e), sym (ap (λ (a : Answer). a.1) e)))
+
+-- it means the fault, or memory lacks
+pub unfinished : (schema : List Table) (j : Journaled) (cs : List KeyVersions) (query s : ℕ) (asked : BoundQuery) (pieces : List (List Row)) (why : Refusal) → IsWhole schema j cs → IsCovered j query s asked pieces
+    → ((why ≡ refusal.ArithmeticFault) × (meant.meaning pieces asked ≡ None)) ⊎ (why ≡ refusal.OutOfMemory) → Steps schema (machine_of j) (step.Finish query) (reply.Refused why) (machine_of j)
+unfinished schema j cs query s asked pieces why w p (inl fault) =
+    let e = finish_is schema j cs query s asked pieces None w p fault.1 in
+    inl (no_text, tt, (ap reply.Refused fault.0 ∙ sym (ap (λ (a : Answer). a.0) e), sym (ap (λ (a : Answer). a.1) e)))
+unfinished schema j cs query s asked pieces why w p (inr memory) = inr (refl, (ap reply.Refused memory, refl))

@@ -1,6 +1,7 @@
 //! The core and its steps.
 ghost use Rattle.std.specs.Prelude.{◌≡◌, IfOk, IfErr};
-ghost use Rattle.span_machine.specs.Machine.{Steps, start};
+ghost use Rattle.span_core.specs.Histories.{Steps};
+ghost use Rattle.span_machine.specs.Machine.{start};
 ghost use Rattle.span_machine.specs.Run.{IsOfSchema};
 ghost use Rattle.span_mutate.specs.Typed.{AreTypedMutations};
 ghost use Rattle.span_machine.specs.declared.step.Step.TheVariants as step_of;
@@ -8,13 +9,14 @@ ghost use Rattle.span_machine.specs.declared.step.Reply.TheVariants as reply_of;
 ghost use Rattle.span_journal.specs.Judged.{replied};
 
 use super::reading::read;
-use super::rows::copies_of;
+use span_algebra::plain::eval_plain;
 use span_journal::journal::Journal;
-use span_machine::query::Params;
 use span_machine::step::{Reply, Step, Verdict};
 use span_mutate::transaction::Transaction;
+use span_params::params::Params;
 use span_schema::schema::Schema;
 use span_shard::shard::Shard;
+use span_statement::understand::understand;
 use span_truetime::bound::Bound;
 use span_truetime::interval::Interval;
 use span_value::refusal::Refusal;
@@ -33,8 +35,12 @@ pub struct Core {
 
 impl Model for Core {
     ghost use Rattle.span_core.specs.Whole.{State};
+    ghost use Rattle.span_query.specs.contracts.query.BoundQuery as bound_query;
+    ghost use Rattle.std.specs.Coded.{codes};
 
     ghost Value = { State };
+
+    ghost coded = { Prim.hlevel (codes, bound_query.the_row.coded) };
 
     ghost use Rattle.span_machine.specs.Pieces.{machine_of};
 
@@ -231,15 +237,14 @@ impl Core {
         ensures steps { Steps self.old.schema self.old.machine (step_of.Open text params bound interval) result self.new.machine }
         ensures schema { self.new.schema ≡ self.old.schema }
     {
-        match self
-            .journal
-            .open(alloc, &self.schema, text, params, bound, interval)
-        {
-            Ok((query, s)) => Reply::Opened {
-                query,
-                s,
-                leaves: 1,
-            },
+        match understand(alloc, &self.schema, text.as_str(), &params) {
+            Ok(statement) => {
+                let leaves = statement.leaves.len();
+                match self.journal.open(alloc, statement, bound, interval) {
+                    Ok((query, s)) => Reply::Opened { query, s, leaves },
+                    Err(why) => Reply::Refused(why),
+                }
+            }
             Err(why) => Reply::Refused(why),
         }
     }
@@ -256,8 +261,8 @@ impl Core {
         ensures schema { self.new.schema ≡ self.old.schema }
     {
         match self.journal.claim_gap(query, leaf, slot, interval) {
-            Ok(Some(s)) => match read(alloc, &self.schema, &self.journal, &self.shard, query, s) {
-                Ok(rows) => match self.journal.register(query, slot, interval, rows) {
+            Ok(Some(gap)) => match read(alloc, &self.schema, &self.shard, gap.table, gap.s) {
+                Ok(rows) => match self.journal.register(query, leaf, slot, interval, rows) {
                     Ok(()) => Reply::Scanned,
                     Err(why) => Reply::Refused(why),
                 },
@@ -272,8 +277,8 @@ impl Core {
         ensures steps { Steps self.old.schema self.old.machine (step_of.Finish query) result self.new.machine }
         ensures schema { self.new.schema ≡ self.old.schema }
     {
-        match self.journal.piece(query) {
-            Ok((s, rows)) => match copies_of(alloc, rows) {
+        match self.journal.pieces(query) {
+            Ok((s, asked, pieces)) => match eval_plain(alloc, asked, pieces) {
                 Ok(rows) => Reply::Rows { s, rows },
                 Err(why) => Reply::Refused(why),
             },

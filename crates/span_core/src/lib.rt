@@ -6,15 +6,14 @@
 
 pub mod database;
 mod reading;
-mod rows;
 pub mod run;
 #[cfg(test)]
 mod tests;
 
-pub use span_machine::query::Params;
 pub use span_machine::step::{Reply, Step, Verdict};
 pub use span_mutate::mutation::{Cell, CheckedMutation, Mutation, MutationKind};
 pub use span_mutate::transaction::Transaction;
+pub use span_params::params::{Parameter, Params};
 pub use span_schema::schema::Schema;
 pub use span_schema::table::{Column, KeyColumn, Parent, Table};
 pub use span_truetime::bound::Bound;

@@ -6,9 +6,7 @@ ghost use Rattle.span_machine.specs.Meaning.{value_for, value_at, declared_row};
 ghost use Rattle.span_shard.specs.Reading.{shown};
 ghost use Rattle.span_kept.specs.Kept.{IsReading, family};
 ghost use Rattle.span_core.specs.Whole.{AreNoRows, IsRead, IsUnread};
-ghost use Rattle.span_machine.specs.Pieces.{machine_of};
 
-use span_journal::journal::Journal;
 use span_keycode::key::Key;
 use span_keycode::range::KeyRange;
 use span_mutate::row::TableRow;
@@ -20,19 +18,17 @@ use span_value::seq::Seq;
 use span_value::value::{Row, Value};
 use std::alloc::{AllocError, Global};
 
-/// The rows at s of the table that an open query asks for. `OutOfMemory`, where the shard has the rows of the schema's tables and the
-/// query was opened with the schema.
+/// The rows of a table at s. `OutOfMemory`, where the shard has the rows of the schema's tables.
 pub(crate) fn read(
     alloc: Global,
     schema: &Schema,
-    journal: &Journal,
     shard: &Shard,
-    query: u64,
+    table: usize,
     s: u64,
 ) -> Result<Seq<Row>, Refusal>
-    ensures { MatchResult result (IsRead schema.now (machine_of journal.now) shard.now query s) (IsUnread schema.now (machine_of journal.now) shard.now query s) }
+    requires { IsTable schema.now table }
+    ensures { MatchResult result (IsRead schema.now shard.now table s) (IsUnread schema.now shard.now table s) }
 {
-    let table = journal.table_of(schema, query)?;
     let range = family_of(alloc, schema, table)?;
     let entries = shard.snapshot(alloc, &range, s)?;
     rows_of(alloc, schema, table, entries.as_slice())

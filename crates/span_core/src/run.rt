@@ -1,6 +1,7 @@
 //! Whole runs.
 ghost use Rattle.std.specs.Prelude.{◌≡◌, IfOk, IfErr};
-ghost use Rattle.span_machine.specs.Run.{AreOfSchema, IsHistory};
+ghost use Rattle.span_core.specs.Histories.{IsHistory};
+ghost use Rattle.span_machine.specs.Run.{AreOfSchema};
 
 use super::database::Core;
 use span_machine::step::{Reply, Step};
@@ -11,7 +12,7 @@ use std::alloc::Global;
 /// The replies to the steps, in order, from an empty database. Whatever the steps are, in whatever order prepares, decisions, applies
 /// and scans fall: every reply is the machine's, and a query that is answered at timestamp s gets exactly the rows, in order, that
 /// its text means on the tables made by running, in the order of their timestamps, every transaction that the whole list commits at s
-/// or earlier. The transactions that are begun were checked against the schema. `OutOfMemory`, before the first step, is the only
+/// or earlier; where one is refused for an arithmetic fault, its text means the fault there. The transactions that are begun were checked against the schema. `OutOfMemory`, before the first step, is the only
 /// refusal.
 pub fn run(alloc: Global, schema: Schema, steps: Vec<Step>) -> Result<Vec<Reply>, Refusal>
     requires { AreOfSchema schema steps.items }

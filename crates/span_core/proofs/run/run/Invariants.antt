@@ -2,7 +2,8 @@ use Rattle.std.proofs.Common.{◌≡◌, ◌++◌, ◌+◌, ◌≤◌, length, v
 use Rattle.std.specs.Prelude.{vec_capacity}
 use Rattle.std.specs.Vec.Iter.{into_iter_items, into_iter_len}
 use Rattle.span_machine.specs.Machine.{start}
-use Rattle.span_machine.specs.Run.{AreOfSchema, Run}
+use Rattle.span_machine.specs.Run.{AreOfSchema}
+use Rattle.span_core.specs.Histories.{Run}
 use Rattle.span_core.proofs.run.run.Given as goal
 
 -- the replies so far are the machine's, and there is room for one to each step that is left

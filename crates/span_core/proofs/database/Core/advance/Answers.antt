@@ -1,11 +1,11 @@
-use Rattle.std.proofs.Common.{sym, subst}
+use Rattle.std.proofs.Common.{sym, subst, inl}
 use Rattle.span_machine.specs.Pieces.{machine_of}
 use Rattle.span_machine.specs.declared.step.Step.TheVariants as step
 use Rattle.span_kept.specs.Kept.{ArePieced}
 use Rattle.span_kept.proofs.Steps.{kept_advance}
-use Rattle.span_core.proofs.Wholes.{whole_step}
+use Rattle.span_core.proofs.Wholes.{whole_step, no_text}
 use Rattle.span_core.proofs.database.Core.advance.Goals as goal
-use Rattle.span_machine.specs.Machine.{Steps}
+use Rattle.span_core.specs.Histories.{Steps}
 use Rattle.span_machine.specs.declared.step.Reply.{Reply}
 use Rattle.span_machine.specs.declared.step.Reply.TheVariants as reply
 use Rattle.span_journal.specs.Judged.{replied}
@@ -18,15 +18,16 @@ invariant_of-self c =
     let j = c.self.inside.journal in
     let m = machine_of j in
     let cs = c.self.inside.shard in
-    whole_step c.self.inside.schema j c.advance.new.self cs (step.Advance c.args.slot c.args.interval) _ w (c.advance.ensures.step c.self.inside.schema) tt (kept_advance c.self.inside.schema m w.reached cs w.kept c.args.slot c.args.interval) (λ n all. subst (ArePieced c.self.inside.schema n) (sym c.advance.ensures.pieces) all)
+    whole_step c.self.inside.schema j c.advance.new.self cs (step.Advance c.args.slot c.args.interval) _ w (inl (no_text, tt, c.advance.ensures.step)) tt (λ u. kept_advance c.self.inside.schema m w.reached cs w.kept c.args.slot c.args.interval) (λ n all. subst (ArePieced c.self.inside.schema n) (sym c.advance.ensures.pieces) all)
 
 pub returns-clause-steps : goal.returns-clause-steps
 returns-clause-steps c =
     let m = machine_of c.self.inside.journal in
     let n = machine_of c.advance.new.self in
+    let all : Steps c.self.inside.schema m (step.Advance c.args.slot c.args.interval) (replied reply.Floor c.advance.result) n = inl (no_text, tt, c.advance.ensures.step) in
     let right : Steps c.self.inside.schema m (step.Advance c.args.slot c.args.interval) c.match-advance.result n =
     elim c.match-advance.branch [
-      | in-Ok w ↦ subst (λ (r : Reply). Steps c.self.inside.schema m (step.Advance c.args.slot c.args.interval) r n) (sym w.result-is) (subst (λ o. Steps c.self.inside.schema m (step.Advance c.args.slot c.args.interval) (replied reply.Floor o) n) w.in-Ok.is (c.advance.ensures.step c.self.inside.schema))
-      | in-Err w ↦ subst (λ (r : Reply). Steps c.self.inside.schema m (step.Advance c.args.slot c.args.interval) r n) (sym w.result-is) (subst (λ o. Steps c.self.inside.schema m (step.Advance c.args.slot c.args.interval) (replied reply.Floor o) n) w.in-Err.is (c.advance.ensures.step c.self.inside.schema))
+      | in-Ok w ↦ subst (λ (r : Reply). Steps c.self.inside.schema m (step.Advance c.args.slot c.args.interval) r n) (sym w.result-is) (subst (λ o. Steps c.self.inside.schema m (step.Advance c.args.slot c.args.interval) (replied reply.Floor o) n) w.in-Ok.is all)
+      | in-Err w ↦ subst (λ (r : Reply). Steps c.self.inside.schema m (step.Advance c.args.slot c.args.interval) r n) (sym w.result-is) (subst (λ o. Steps c.self.inside.schema m (step.Advance c.args.slot c.args.interval) (replied reply.Floor o) n) w.in-Err.is all)
     ] in
     subst (λ (st : State). Steps st.schema st.machine (step.Advance c.args.slot c.args.interval) c.match-advance.result n) c.self.view_is right

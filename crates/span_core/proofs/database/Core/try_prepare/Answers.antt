@@ -3,7 +3,7 @@ use Rattle.span_value.specs.declared.refusal.Refusal.{Refusal}
 use Rattle.span_shard.specs.KeyVersions.{KeyVersions}
 use Rattle.span_machine.specs.Kept.{most}
 use Rattle.span_machine.specs.Pieces.{machine_of}
-use Rattle.span_machine.specs.Machine.{Steps}
+use Rattle.span_core.specs.Histories.{Steps}
 use Rattle.span_machine.specs.declared.step.Step.TheVariants as step
 use Rattle.span_machine.specs.declared.step.Reply.TheVariants as reply
 use Rattle.span_shard.specs.Shard.{applied, with_writes, live}
