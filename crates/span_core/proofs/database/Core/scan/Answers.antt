@@ -9,7 +9,7 @@ use Rattle.span_kept.specs.Kept.{ArePieced}
 use Rattle.span_journal.specs.Judged.{IsGap, MayScan, IsRegistered}
 use Rattle.span_core.specs.Whole.{State, IsWhole}
 use Rattle.span_kept.proofs.Steps.{kept_scan}
-use Rattle.span_core.proofs.Wholes.{whole_same, whole_step, no_text, scanned_table, scanned_whole, registers, reads}
+use Rattle.span_core.proofs.Wholes.{answered, whole_same, whole_step, no_text, scanned_table, scanned_whole, registers, reads}
 use Rattle.span_core.proofs.database.Core.scan.Goals as goal
 use Rattle.span_core.proofs.database.Core.scan.Goals.{in-Ok-register, in-Err-register}
 
@@ -84,3 +84,17 @@ read-requires c =
     let whole : IsWhole schema k cs = whole_same schema j k cs cs c.self.invariant c.in-Ok-Some.ensures.ok c.in-Ok-Some.ensures.pieces refl in
     let may : MayScan (machine_of k) c.args.query c.args.leaf c.args.slot c.args.interval gap.table gap.s = subst (λ (m : Machine). MayScan m c.args.query c.args.leaf c.args.slot c.args.interval gap.table gap.s) (sym c.in-Ok-Some.ensures.ok) (subst (IsGap (machine_of j) c.args.query c.args.leaf c.args.slot c.args.interval) c.in-Ok-Some.field-0-is c.in-Ok-Some.ensures.gap) in
     scanned_table schema k cs c.args.query c.args.leaf c.args.slot c.args.interval gap.table gap.s whole may
+
+pub returns-in-Ok-None-clause-steps : goal.returns-in-Ok-None-clause-steps
+returns-in-Ok-None-clause-steps c =
+    let schema = c.self.inside.schema in
+    let m = machine_of c.self.inside.journal in
+    let none = subst (IsGap m c.args.query c.args.leaf c.args.slot c.args.interval) c.in-Ok-None.field-0-is c.in-Ok-None.ensures.gap in
+    let right : Steps schema m (step.Scan c.args.query c.args.leaf c.args.slot c.args.interval) reply.Nothing m = answered schema m (step.Scan c.args.query c.args.leaf c.args.slot c.args.interval) reply.Nothing m tt none in
+    subst (λ (st : State). Steps st.schema st.machine (step.Scan c.args.query c.args.leaf c.args.slot c.args.interval) reply.Nothing (machine_of c.claim_gap.new.self)) c.self.view_is
+    (subst (Steps schema m (step.Scan c.args.query c.args.leaf c.args.slot c.args.interval) reply.Nothing) (sym c.in-Ok-None.ensures.ok) right)
+
+pub returns-in-Err-clause-steps : goal.returns-in-Err-clause-steps
+returns-in-Err-clause-steps c =
+    subst (λ (st : State). Steps st.schema st.machine (step.Scan c.args.query c.args.leaf c.args.slot c.args.interval) (reply.Refused c.in-Err.why) (machine_of c.claim_gap.new.self)) c.self.view_is
+    (answered c.self.inside.schema (machine_of c.self.inside.journal) (step.Scan c.args.query c.args.leaf c.args.slot c.args.interval) (reply.Refused c.in-Err.why) (machine_of c.claim_gap.new.self) tt c.in-Err.ensures.refused)

@@ -10,7 +10,7 @@ use Rattle.span_shard.specs.Shard.{applied, with_writes, live}
 use Rattle.span_journal.specs.Judged.{MayPrepare}
 use Rattle.span_shard.proofs.Undo.{given_back}
 use Rattle.span_core.specs.Whole.{State, IsWhole}
-use Rattle.span_core.proofs.Wholes.{whole_same}
+use Rattle.span_core.proofs.Wholes.{answered, whole_same}
 use Rattle.span_core.proofs.Preparing.{free, new, fault_steps, full_steps, noted_steps, noted_whole, unnoted_steps, typed}
 use Rattle.span_core.proofs.database.Core.try_prepare.Goals as goal
 
@@ -92,3 +92,11 @@ prepare-requires-clause-typed c =
     let cs = c.self.inside.shard in
     let may : MayPrepare c.self.inside.schema (machine_of j) c.args.owner c.args.txn c.args.slot c.in-Ok.mutations.now = c.in-Ok.ensures.accepted in
     typed c.self.inside.schema j cs c.self.invariant c.args.owner c.args.txn c.args.slot c.in-Ok.mutations.now may
+
+pub returns-in-Err-clause-steps : goal.returns-in-Err-clause-steps
+returns-in-Err-clause-steps c =
+    let schema = c.self.inside.schema in
+    let m = machine_of c.self.inside.journal in
+    let s = (step.Prepare c.args.owner c.args.txn c.args.slot) in
+    let right : Steps schema m s (reply.Refused c.in-Err.why) m = answered schema m s (reply.Refused c.in-Err.why) m tt c.in-Err.ensures.refused in
+    subst (λ (st : State). Steps st.schema st.machine (step.Prepare c.args.owner c.args.txn c.args.slot) (reply.Refused c.in-Err.why) st.machine) c.self.view_is right
