@@ -182,7 +182,7 @@ fn open(
 ) -> Result<Reply, Fail> {
     let step = Step::Open {
         text: Text::from_str(alloc, text)?,
-        params: Params {},
+        params: Params::new(alloc),
         bound,
         interval: interval(clock)?,
     };

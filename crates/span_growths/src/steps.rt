@@ -161,7 +161,7 @@ fn apply(alloc: Global, core: &mut Core, txn: u64, earliest: u64) -> Result<Repl
 fn open(alloc: Global, core: &mut Core, text: &str, bound: Bound) -> Result<Reply, Fault> {
     let step = Step::Open {
         text: Text::from_str(alloc, text)?,
-        params: Params {},
+        params: Params::new(alloc),
         bound,
         interval: interval_from(300)?,
     };

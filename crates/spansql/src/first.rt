@@ -106,7 +106,7 @@ fn steps(alloc: Global, transaction: Transaction, text: &str) -> Result<Vec<Step
     })?;
     steps.push(Step::Open {
         text: Text::from_str(alloc, text)?,
-        params: Params {},
+        params: Params::new(alloc),
         bound: Bound::At(111),
         interval: applied,
     })?;
