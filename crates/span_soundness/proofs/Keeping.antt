@@ -29,7 +29,7 @@ use Rattle.span_expr.specs.Outcomes.{and_then, strict, is_null, null_test, condi
 use Rattle.span_expr.specs.Operators.{number, is_int64, applied, calculated, concatenated, text_with, bytes_with, of_numbers, opposite, compared, holds, measured, begun_by, column_of}
 use Rattle.span_expr.specs.Patterns.{like}
 use Rattle.span_expr.specs.Meaning.{linked, chosen, matched, at_operands, val, link_val, arm_val, between, among, and_also, or_else, or_equal, all_of, any_of}
-use Rattle.span_soundness.specs.Types.{IsOutcomeOf, IsRowOf, are_same, is_text, is_operand, Typing, is_some, is_link_of, has_value, all_conditions_are, all_values_are, all_are, has_type, typing_at, is_of}
+use Rattle.span_soundness.specs.Types.{IsOutcomeOf, IsRowOf, are_same, is_text, is_operand, Typing, is_some, is_link_of, has_value, has_condition, is_compared_with, are_conditions, all_values_are, all_are, has_type, typing_at, is_of}
 use Rattle.span_soundness.specs.Laws.{ExpressionsKeepTypes}
 use Rattle.span_soundness.proofs.Sameness.{not_true, both_true, same_kind}
 
@@ -282,25 +282,23 @@ module _ (types : List Kind) (row : List Value) (row_is : IsRowOf types row) whe
   layer_kept (Expr-F.IsNull a) k t = of_same kind.Bool k (has_type (is_of types a.0)) (and_then (val row a.0) null_test) t (then_kept kind.Bool (val row a.0) null_test (λ v. refl))
   layer_kept (Expr-F.Not a) k t = of_same kind.Bool k (is_of types a.0 kind.Bool) (and_then (val row a.0) denied) t (then_kept kind.Bool (val row a.0) denied denied_kept)
   layer_kept (Expr-F.And first more) k t =
-      let parts : ((are_same kind.Bool k && is_of types first.0 kind.Bool) ≡ true) × (all_are (map (is_of types) (map expr_of more)) kind.Bool ≡ true) = both_true (are_same kind.Bool k && is_of types first.0 kind.Bool) (all_are (map (is_of types) (map expr_of more)) kind.Bool) t in
-      of_same kind.Bool k (is_of types first.0 kind.Bool) (all_of (val row first.0) (map (val row) (map expr_of more))) parts.0 (condition_kept (fold and_also (condition_of (val row first.0)) (map (val row) (map expr_of more))))
+      of_same kind.Bool k (are_conditions (is_of types first.0) (map (is_of types) (map expr_of more))) (all_of (val row first.0) (map (val row) (map expr_of more))) t (condition_kept (fold and_also (condition_of (val row first.0)) (map (val row) (map expr_of more))))
   layer_kept (Expr-F.Or first more) k t =
-      let parts : ((are_same kind.Bool k && is_of types first.0 kind.Bool) ≡ true) × (all_are (map (is_of types) (map expr_of more)) kind.Bool ≡ true) = both_true (are_same kind.Bool k && is_of types first.0 kind.Bool) (all_are (map (is_of types) (map expr_of more)) kind.Bool) t in
-      of_same kind.Bool k (is_of types first.0 kind.Bool) (any_of (val row first.0) (map (val row) (map expr_of more))) parts.0 (condition_kept (fold or_else (condition_of (val row first.0)) (map (val row) (map expr_of more))))
+      of_same kind.Bool k (are_conditions (is_of types first.0) (map (is_of types) (map expr_of more))) (any_of (val row first.0) (map (val row) (map expr_of more))) t (condition_kept (fold or_else (condition_of (val row first.0)) (map (val row) (map expr_of more))))
   layer_kept (Expr-F.Case arms None) k t =
-      let parts : (all_conditions_are (map arm_type (map of_arm arms)) kind.Bool ≡ true) × (all_values_are (map arm_type (map of_arm arms)) None k ≡ true) = both_true (all_conditions_are (map arm_type (map of_arm arms)) kind.Bool) (all_values_are (map arm_type (map of_arm arms)) None k) t in
+      let parts : (list_all has_condition (map arm_type (map of_arm arms)) ≡ true) × (all_values_are (map arm_type (map of_arm arms)) None k ≡ true) = both_true (list_all has_condition (map arm_type (map of_arm arms))) (all_values_are (map arm_type (map of_arm arms)) None k) t in
       let values : (list_all (has_value k) (map arm_type (map of_arm arms)) ≡ true) × (true ≡ true) = both_true (list_all (has_value k) (map arm_type (map of_arm arms))) true parts.1 in
       chosen_kept k (map (arm_val row) (map of_arm arms)) (Val value.Null) (arms_kept k arms values.0) (null_of k)
   layer_kept (Expr-F.Case arms (Some other)) k t =
-      let parts : (all_conditions_are (map arm_type (map of_arm arms)) kind.Bool ≡ true) × (all_values_are (map arm_type (map of_arm arms)) (Some (is_of types other.0)) k ≡ true) = both_true (all_conditions_are (map arm_type (map of_arm arms)) kind.Bool) (all_values_are (map arm_type (map of_arm arms)) (Some (is_of types other.0)) k) t in
+      let parts : (list_all has_condition (map arm_type (map of_arm arms)) ≡ true) × (all_values_are (map arm_type (map of_arm arms)) (Some (is_of types other.0)) k ≡ true) = both_true (list_all has_condition (map arm_type (map of_arm arms))) (all_values_are (map arm_type (map of_arm arms)) (Some (is_of types other.0)) k) t in
       let values : (list_all (has_value k) (map arm_type (map of_arm arms)) ≡ true) × (is_of types other.0 k ≡ true) = both_true (list_all (has_value k) (map arm_type (map of_arm arms))) (is_of types other.0 k) parts.1 in
       chosen_kept k (map (arm_val row) (map of_arm arms)) (val row other.0) (arms_kept k arms values.0) (other.1 k values.1)
   layer_kept (Expr-F.Match a arms None) k t =
-      let parts : (has_type (λ j. is_of types a.0 j && all_conditions_are (map arm_type (map of_arm arms)) j) ≡ true) × (all_values_are (map arm_type (map of_arm arms)) None k ≡ true) = both_true (has_type (λ j. is_of types a.0 j && all_conditions_are (map arm_type (map of_arm arms)) j)) (all_values_are (map arm_type (map of_arm arms)) None k) t in
+      let parts : ((has_type (is_of types a.0) && list_all (is_compared_with (is_of types a.0)) (map arm_type (map of_arm arms))) ≡ true) × (all_values_are (map arm_type (map of_arm arms)) None k ≡ true) = both_true ((has_type (is_of types a.0) && list_all (is_compared_with (is_of types a.0)) (map arm_type (map of_arm arms)))) (all_values_are (map arm_type (map of_arm arms)) None k) t in
       let values : (list_all (has_value k) (map arm_type (map of_arm arms)) ≡ true) × (true ≡ true) = both_true (list_all (has_value k) (map arm_type (map of_arm arms))) true parts.1 in
       matched_kept k (val row a.0) (map (arm_val row) (map of_arm arms)) (Val value.Null) (arms_kept k arms values.0) (null_of k)
   layer_kept (Expr-F.Match a arms (Some other)) k t =
-      let parts : (has_type (λ j. is_of types a.0 j && all_conditions_are (map arm_type (map of_arm arms)) j) ≡ true) × (all_values_are (map arm_type (map of_arm arms)) (Some (is_of types other.0)) k ≡ true) = both_true (has_type (λ j. is_of types a.0 j && all_conditions_are (map arm_type (map of_arm arms)) j)) (all_values_are (map arm_type (map of_arm arms)) (Some (is_of types other.0)) k) t in
+      let parts : ((has_type (is_of types a.0) && list_all (is_compared_with (is_of types a.0)) (map arm_type (map of_arm arms))) ≡ true) × (all_values_are (map arm_type (map of_arm arms)) (Some (is_of types other.0)) k ≡ true) = both_true ((has_type (is_of types a.0) && list_all (is_compared_with (is_of types a.0)) (map arm_type (map of_arm arms)))) (all_values_are (map arm_type (map of_arm arms)) (Some (is_of types other.0)) k) t in
       let values : (list_all (has_value k) (map arm_type (map of_arm arms)) ≡ true) × (is_of types other.0 k ≡ true) = both_true (list_all (has_value k) (map arm_type (map of_arm arms))) (is_of types other.0 k) parts.1 in
       matched_kept k (val row a.0) (map (arm_val row) (map of_arm arms)) (val row other.0) (arms_kept k arms values.0) (other.1 k values.1)
   layer_kept (Expr-F.Coalesce operands) k t = first_kept k (map (val row) (map expr_of operands)) (operands_kept k operands t)

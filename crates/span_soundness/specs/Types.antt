@@ -53,10 +53,15 @@ Typing = Kind → Bool
 
 -- of some type
 abbrev pub has_type : Typing → Bool
-has_type is_of = is_of kind.Int || is_of kind.Str || is_of kind.Bytes || is_of kind.Bool
+has_type operand = operand kind.Int || operand kind.Str || operand kind.Bytes || operand kind.Bool
 
 abbrev pub all_are : List Typing → Kind → Bool
-all_are operands k = list_all (λ (is_of : Typing). is_of k) operands
+all_are operands k = list_all (λ (operand : Typing). operand k) operands
+
+-- the operands of an AND or an OR; one alone may be of any type
+abbrev pub are_conditions : Typing → List Typing → Bool
+are_conditions first [] = has_type first
+are_conditions first (second ∷ more) = first kind.Bool && all_are (second ∷ more) kind.Bool
 
 abbrev pub is_some : Option Kind → Kind → Bool
 is_some None k = false
@@ -65,18 +70,19 @@ is_some (Some j) k = are_same j k
 abbrev pub is_link_of : Kind → Link Typing → Bool
 is_link_of k link = is_operand link.operator k && link.operand k
 
-abbrev pub has_condition : Kind → Arm Typing → Bool
-has_condition k arm = arm.condition k
+abbrev pub has_condition : Arm Typing → Bool
+has_condition arm = arm.condition kind.Bool
+
+-- a type that the arm's condition has with the operand of the CASE
+abbrev pub is_compared_with : Typing → Arm Typing → Bool
+is_compared_with operand arm = has_type (λ j. operand j && arm.condition j)
 
 abbrev pub has_value : Kind → Arm Typing → Bool
 has_value k arm = arm.value k
 
-abbrev pub all_conditions_are : List (Arm Typing) → Kind → Bool
-all_conditions_are arms k = list_all (has_condition k) arms
-
 abbrev pub is_else_of : Kind → Option Typing → Bool
 is_else_of k None = true
-is_else_of k (Some is_of) = is_of k
+is_else_of k (Some operand) = operand k
 
 abbrev pub all_values_are : List (Arm Typing) → Option Typing → Kind → Bool
 all_values_are arms otherwise k = list_all (has_value k) arms && is_else_of k otherwise
@@ -95,10 +101,10 @@ typing_at types (Expr-F.StartsWith a front) k = are_same kind.Bool k && has_type
 typing_at types (Expr-F.Length a) k = are_same kind.Int k && has_type (λ j. is_text j && a j)
 typing_at types (Expr-F.IsNull a) k = are_same kind.Bool k && has_type a
 typing_at types (Expr-F.Not a) k = are_same kind.Bool k && a kind.Bool
-typing_at types (Expr-F.And first more) k = are_same kind.Bool k && first kind.Bool && all_are more kind.Bool
-typing_at types (Expr-F.Or first more) k = are_same kind.Bool k && first kind.Bool && all_are more kind.Bool
-typing_at types (Expr-F.Case arms otherwise) k = all_conditions_are arms kind.Bool && all_values_are arms otherwise k
-typing_at types (Expr-F.Match a arms otherwise) k = has_type (λ j. a j && all_conditions_are arms j) && all_values_are arms otherwise k
+typing_at types (Expr-F.And first more) k = are_same kind.Bool k && are_conditions first more
+typing_at types (Expr-F.Or first more) k = are_same kind.Bool k && are_conditions first more
+typing_at types (Expr-F.Case arms otherwise) k = list_all has_condition arms && all_values_are arms otherwise k
+typing_at types (Expr-F.Match a arms otherwise) k = has_type a && list_all (is_compared_with a) arms && all_values_are arms otherwise k
 typing_at types (Expr-F.Coalesce operands) k = all_are operands k
 
 -- whether an expression is of a type at rows of these types
