@@ -40,7 +40,7 @@ of_same : (j k : Kind) (b : Bool) (o : Outcome) → (are_same j k && b) ≡ true
 of_same j k b o is outcome = subst (λ (t : Kind). IsOutcomeOf t o) (same_kind j k (both_true (are_same j k) b is).0) outcome
 
 -- NULL is of each type
-null_of : (k : Kind) → is_of_kind k value.Null ≡ true
+pub null_of : (k : Kind) → is_of_kind k value.Null ≡ true
 null_of kind.Int = refl
 null_of kind.Str = refl
 null_of kind.Bytes = refl
@@ -52,7 +52,7 @@ condition_kept (Known False) = refl
 condition_kept (Known Unknown) = refl
 condition_kept Faulted = tt {0}
 
-number_kept : (z : ℤ) → IsOutcomeOf kind.Int (number z)
+pub number_kept : (z : ℤ) → IsOutcomeOf kind.Int (number z)
 number_kept z = of_test (is_int64 z) where
   of_test : (b : Bool) → IsOutcomeOf kind.Int (if b then Val (value.Int z) else Fault)
   of_test true = refl

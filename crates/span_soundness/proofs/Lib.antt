@@ -6,3 +6,5 @@ pub mod Making
 pub mod Going
 pub mod Places
 pub mod Binding
+pub mod Selecting
+pub mod Blocks

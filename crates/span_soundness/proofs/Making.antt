@@ -43,7 +43,7 @@ module _ (types : List Kind) where
   pub typed_right : (e : Expr) (k : Kind) → is_of types e k ≡ true → IsTyped types (typed e k)
   typed_right e k is = λ wanted t. subst (λ (z : Kind). is_of types e z ≡ true) (same_kind k wanted t) is
 
-  own_right : (x : Typed) → IsTyped types x → is_of types x.expr (or_int x.kind) ≡ true
+  pub own_right : (x : Typed) → IsTyped types x → is_of types x.expr (or_int x.kind) ≡ true
   own_right x is = is (or_int x.kind) (takes_own x.kind)
 
   pub has_right : (x : Typed) → IsTyped types x → has_type (is_of types x.expr) ≡ true

@@ -15,6 +15,7 @@ use Rattle.span_typing.specs.declared.typed.Mode.{Mode}
 use Rattle.span_typing.specs.declared.typed.Mode.TheVariants.{Rows, Groups}
 use Rattle.span_typing.specs.Kinds.{takes}
 use Rattle.span_typing.specs.Typing.{kind_at}
+use Rattle.span_binder.specs.declared.bound.OutputColumn.{OutputColumn}
 use Rattle.span_soundness.specs.Types.{Typing, are_same, has_type, is_of}
 
 -- ---- rows
@@ -31,6 +32,10 @@ key_types scope = map (kind_at scope) scope.keys
 abbrev pub row_types : Scope → Mode → List Kind → List Kind
 row_types scope Rows aggregates = column_types scope
 row_types scope Groups aggregates = key_types scope ++ aggregates
+
+-- the types of the columns that a block or a query gives
+abbrev pub output_types : List OutputColumn → List Kind
+output_types columns = map (λ (c : OutputColumn). c.kind) columns
 
 -- ---- aggregates
 

@@ -1,0 +1,75 @@
+-- Which queries give rows of which types. What a derived table gives is handed in, so that a query is typed layer by layer.
+use Rattle.std.specs.Prelude.{◌≡◌, ℕ, zero, suc, Bool, true, List, [], ◌∷◌, ◌++◌, length, map, Option, Some, None, slice_get}
+use Rattle.std.specs.Option.{unwrap_or}
+use Rattle.span_value.specs.declared.value.Kind.{Kind}
+use Rattle.span_value.specs.declared.value.Kind.TheVariants as kind
+use Rattle.span_expr.specs.declared.expr.Expr.{Expr}
+use Rattle.span_query.specs.declared.query.BoundQuery.TheOpen.{BoundQuery-F}
+use Rattle.span_query.specs.declared.query.Block.{Block}
+use Rattle.span_query.specs.declared.query.Item.{Item}
+use Rattle.span_query.specs.declared.query.Item.TheVariants as item
+use Rattle.span_query.specs.declared.query.Join.{Join}
+use Rattle.span_query.specs.declared.query.Grouping.{Grouping}
+use Rattle.span_soundness.specs.Types.{is_of}
+use Rattle.span_soundness.specs.Bindings.{AreAggregatesOf}
+
+-- that something which stands for a query gives rows of these types
+abbrev pub GivesTypes : Type 0 → Type 1
+GivesTypes Q = Q → List Kind → Type 0
+
+-- ---- FROM
+
+-- the types of the columns of a leaf, by its number, the first of which is 1
+abbrev pub leaf_types : List (List Kind) → ℕ → List Kind
+leaf_types leaves zero = []
+leaf_types leaves (suc n) = unwrap_or (slice_get leaves n) []
+
+abbrev pub IsItemOf : {Q : Type 0} → (Q → List Kind → Type 0) → List (List Kind) → Item Q → List Kind → Type 0
+IsItemOf gives leaves (item.Table n) types = leaf_types leaves n ≡ types
+IsItemOf gives leaves (item.Derived q) types = gives q types
+
+-- each ON is a condition at rows of the items up to its own
+abbrev pub AreJoinsOf : {Q : Type 0} → (Q → List Kind → Type 0) → List (List Kind) → List Kind → List (Join Q) → List Kind → Type 0
+AreJoinsOf gives leaves left [] types = left ≡ types
+AreJoinsOf gives leaves left (j ∷ joins) types =
+    (right : List Kind) × IsItemOf gives leaves j.item right × (length right ≡ j.width) × (is_of (left ++ right) j.on kind.Bool ≡ true) × AreJoinsOf gives leaves (left ++ right) joins types
+
+abbrev pub IsFromOf : {Q : Type 0} → (Q → List Kind → Type 0) → List (List Kind) → Item Q → List (Join Q) → List Kind → Type 0
+IsFromOf gives leaves first joins types = (left : List Kind) × IsItemOf gives leaves first left × AreJoinsOf gives leaves left joins types
+
+-- ---- conditions and groups
+
+-- a WHERE or a HAVING, if there is one
+abbrev pub is_condition : List Kind → Option Expr → Bool
+is_condition types None = true
+is_condition types (Some e) = is_of types e kind.Bool
+
+-- the type of the column at a place; past the last one there is NULL
+abbrev pub type_at : List Kind → ℕ → Kind
+type_at types place = unwrap_or (slice_get types place) kind.Int
+
+-- the rows of the groups: the keys, and then the aggregates of rows of the FROM
+abbrev pub IsGroupedOf : List Kind → Option Grouping → List Kind → Type 0
+IsGroupedOf from None types = from ≡ types
+IsGroupedOf from (Some g) types =
+    (aggregates : List Kind) × AreAggregatesOf from g.aggregates aggregates × (map (type_at from) g.keys ++ aggregates ≡ types) × (is_condition types g.having ≡ true)
+
+-- ---- blocks and queries
+
+-- as many expressions as types, each of its type
+abbrev pub AreOutputsOf : List Kind → List Expr → List Kind → Type 0
+AreOutputsOf types [] [] = Unit {0}
+AreOutputsOf types (e ∷ es) (k ∷ ks) = (is_of types e k ≡ true) × AreOutputsOf types es ks
+AreOutputsOf types es ks = ⊥
+
+abbrev pub IsBlockOf : {Q : Type 0} → (Q → List Kind → Type 0) → List (List Kind) → Block Q → List Kind → Type 0
+IsBlockOf gives leaves b types =
+    (from : List Kind) × (shown : List Kind) × IsFromOf gives leaves b.from b.joins from × (is_condition from b.filter ≡ true) × IsGroupedOf from b.grouping shown × AreOutputsOf shown b.outputs types
+
+abbrev pub AreBlocksOf : {Q : Type 0} → (Q → List Kind → Type 0) → List (List Kind) → List (Block Q) → List Kind → Type 0
+AreBlocksOf gives leaves [] types = Unit {0}
+AreBlocksOf gives leaves (b ∷ blocks) types = IsBlockOf gives leaves b types × AreBlocksOf gives leaves blocks types
+
+-- all blocks of a union give rows of the same types
+abbrev pub IsLayerOf : {Q : Type 0} → (Q → List Kind → Type 0) → List (List Kind) → BoundQuery-F Q → List Kind → Type 0
+IsLayerOf gives leaves q types = AreBlocksOf gives leaves (q.first ∷ q.others) types
