@@ -1,7 +1,7 @@
 -- What the binder makes of a FROM and of what stands behind it is well typed.
-use Rattle.std.proofs.Common.{◌≡◌, ◌∙◌, sym, ap, refl, subst, ℕ, zero, suc, ◌+◌, ◌<◌, ◌≤◌, ◌==◌, true, false, Bool, ◌&&◌, if◌then◌else◌, List, [], ◌∷◌, ◌++◌, length, map, Option, Some, None, Result, Ok, Err, arith, append_assoc}
+use Rattle.std.proofs.Common.{◌≡◌, ◌∙◌, sym, ap, refl, subst, ℕ, zero, suc, ◌+◌, ◌<◌, ◌≤◌, ◌==◌, true, false, Bool, if◌then◌else◌, List, [], ◌∷◌, ◌++◌, length, map, Option, Some, None, Result, Ok, Err, arith}
 use Rattle.std.specs.Prelude.{slice_get}
-use Rattle.std.specs.Option.{unwrap_or, option_map}
+use Rattle.std.specs.Option.{option_map}
 use Rattle.std.specs.List.{range_with_len, list_all, zip}
 use Rattle.std.proofs.lemmas.List.{append-nil, length-map, map-append}
 use Rattle.std.proofs.lemmas.Bool.{eqb-true}
@@ -19,7 +19,6 @@ use Rattle.span_expr.specs.declared.expr.Expr.{Expr}
 use Rattle.span_query.specs.declared.query.BoundQuery.{BoundQuery}
 use Rattle.span_query.specs.declared.query.BoundQuery.TheOpen.{BoundQuery-F}
 use Rattle.span_query.specs.declared.query.BoundQuery.TheViews.{roll-BoundQuery}
-use Rattle.span_query.specs.declared.query.Block.{Block}
 use Rattle.span_query.specs.declared.query.Join.{Join}
 use Rattle.span_query.specs.declared.query.SortKey.{SortKey as BoundKey}
 use Rattle.span_query.specs.declared.query.Aggregate.{Aggregate}
@@ -29,9 +28,9 @@ use Rattle.span_typing.specs.declared.scope.ScopeColumn.{ScopeColumn}
 use Rattle.span_typing.specs.declared.typed.Typed.{Typed}
 use Rattle.span_typing.specs.declared.typed.Mode.{Mode}
 use Rattle.span_typing.specs.declared.typed.Mode.TheVariants.{Rows, Groups}
-use Rattle.span_typing.specs.Kinds.{takes, or_int}
+use Rattle.span_typing.specs.Kinds.{takes}
 use Rattle.span_typing.specs.Scopes.{item_named}
-use Rattle.span_typing.specs.Steps.{and_then, pure, given, ◌>>=◌}
+use Rattle.span_typing.specs.Steps.{and_then, pure, ◌>>=◌}
 use Rattle.span_typing.specs.Typing.{Finds, typing, kind_at, or_number, column_at}
 use Rattle.span_binder.specs.declared.bound.OutputColumn.{OutputColumn}
 use Rattle.span_binder.specs.declared.bound.Source.{Source}
@@ -42,7 +41,7 @@ use Rattle.span_binder.specs.declared.bound.Bound.{Bound}
 use Rattle.span_binder.specs.declared.bound.BoundBlock.{BoundBlock}
 use Rattle.span_binder.specs.declared.bound.BoundBlocks.{BoundBlocks}
 use Rattle.span_binder.specs.Onward.{onward}
-use Rattle.span_binder.specs.Onward.{behind as one_behind, each_of}
+use Rattle.span_binder.specs.Onward.{behind as one_behind}
 use Rattle.span_binder.specs.Sources.{no_names, scope_column, with_names, has_item, judged, condition, started, join_of, with_join, extended}
 use Rattle.span_binder.specs.Outputs.{shown, or_nameless, column_shown, columns_shown, all_places, places_of, item_places, name_shown, all_shown, item_shown, value_shown, output_shown, next_shown, select_list}
 use Rattle.span_binder.specs.Aggregating.{mode_of}
@@ -50,13 +49,13 @@ use Rattle.span_binder.specs.Blocks.{with_keys, group_places, groups_named, filt
 use Rattle.span_binder.specs.Blocks.{columns_shown as columns_of_shown}
 use Rattle.span_binder.specs.Queries.{have_same_kind, same_kinds, united, sort_keys, blocks_of, limit_of, query_of, query_behind}
 use Rattle.span_soundness.specs.Types.{are_same, is_of}
-use Rattle.span_soundness.specs.Bindings.{column_types, key_types, row_types, output_types, AreAggregatesOf, AreTyped, IsTyped}
+use Rattle.span_soundness.specs.Bindings.{column_types, row_types, output_types, AreAggregatesOf, AreTyped, IsTyped}
 use Rattle.span_soundness.specs.WellTyped.{IsItemOf, AreJoinsOf, IsFromOf, is_condition, type_at, AreOutputsOf, IsBlockOf, AreBlocksOf, IsLayerOf}
 use Rattle.span_soundness.proofs.Sameness.{both_true, same_kind}
-use Rattle.span_soundness.proofs.Agreeing.{Made, then_made, made_so, made_if, AllOf}
+use Rattle.span_soundness.proofs.Agreeing.{Made, then_made, made_if, AllOf}
 use Rattle.span_soundness.proofs.Making.{own_right}
 use Rattle.span_soundness.proofs.Places.{column_at_right}
-use Rattle.span_soundness.proofs.Going.{Always, later_on, Leads, Keeps, then_keeps, given_keeps, Each, both_are_of}
+use Rattle.span_soundness.proofs.Going.{Always, later_on, Leads, Keeps, then_keeps, given_keeps, both_are_of}
 use Rattle.span_soundness.proofs.Binding.{sound}
 
 any_made : {A : Type 0} (r : Result A Refusal) → Made (λ (x : A). Unit {0}) r

@@ -8,3 +8,6 @@ pub mod Places
 pub mod Binding
 pub mod Selecting
 pub mod Blocks
+pub mod Nesting
+pub mod Layering
+pub mod Soundness

@@ -1,7 +1,7 @@
 -- Rows of types stay so: what is gathered, kept, joined, grouped, shown and put in order.
-use Rattle.std.proofs.Common.{◌≡◌, ◌∙◌, sym, ap, refl, subst, ℕ, zero, suc, ◌+◌, true, false, Bool, not, if◌then◌else◌, List, [], ◌∷◌, ◌++◌, length, map, take, drop, Option, Some, None}
-use Rattle.std.specs.Prelude.{slice_get, pos, replicate, filter}
-use Rattle.std.specs.Option.{unwrap_or, option_map}
+use Rattle.std.proofs.Common.{◌≡◌, refl, subst, ℕ, zero, suc, true, false, Bool, not, if◌then◌else◌, List, [], ◌∷◌, ◌++◌, length, map, take, drop, Option, Some, None}
+use Rattle.std.specs.Prelude.{pos, replicate, filter}
+use Rattle.std.specs.Option.{option_map}
 use Rattle.std.specs.List.{fold}
 use Rattle.std.specs.Ordering.{is_lt, is_gt}
 use Rattle.span_value.specs.declared.value.Kind.{Kind}
@@ -21,11 +21,9 @@ use Rattle.span_query.specs.declared.query.Item.TheVariants as item
 use Rattle.span_query.specs.declared.query.Block.{Block}
 use Rattle.span_query.specs.declared.query.Join.{Join}
 use Rattle.span_query.specs.declared.query.Limit.{Limit}
-use Rattle.span_query.specs.declared.query.SortKey.{SortKey}
 use Rattle.span_query.specs.declared.query.Grouping.{Grouping}
 use Rattle.span_query.specs.declared.query.Aggregate.{Aggregate}
 use Rattle.span_query.specs.declared.query.Aggregate.TheVariants.{CountRows, Of}
-use Rattle.span_query.specs.declared.query.Function.{Function}
 use Rattle.span_query.specs.declared.query.Function.TheVariants.{Count, Sum, Min, Max}
 use Rattle.span_query.specs.declared.query.BoundQuery.TheOpen.{BoundQuery-F}
 use Rattle.span_query.specs.Rows.{Row, OrFault, Rows, ◌>>=◌, value_of, followed, gathered, only, each, only_if, holds, kept, kept_where, values, selected}
@@ -33,10 +31,10 @@ use Rattle.span_query.specs.Groups.{are_alike, distinct, columns_at, group_keys,
 use Rattle.span_query.specs.Sorting.{placed, in_order, sorted, comes_before}
 use Rattle.span_query.specs.Meaning.{table_rows, item_rows, or_alone, pairs_of, joined, join_next, from, distinct_if, block_rows, limited, query_rows}
 use Rattle.span_soundness.specs.Types.{IsOutcomeOf, IsRowOf, are_same, has_type, is_of}
-use Rattle.span_soundness.specs.Bindings.{is_function_of, is_aggregate_of, AreAggregatesOf}
-use Rattle.span_soundness.specs.WellTyped.{leaf_types, IsItemOf, AreJoinsOf, IsFromOf, is_condition, type_at, IsGroupedOf, AreOutputsOf, IsBlockOf, AreBlocksOf, IsLayerOf}
+use Rattle.span_soundness.specs.Bindings.{is_aggregate_of, AreAggregatesOf}
+use Rattle.span_soundness.specs.WellTyped.{leaf_types, IsItemOf, AreJoinsOf, IsFromOf, type_at, IsGroupedOf, AreOutputsOf, IsBlockOf, AreBlocksOf, IsLayerOf}
 use Rattle.span_soundness.specs.Results.{AreRowsOf, AreResultsOf, AreTablesOf}
-use Rattle.span_soundness.proofs.Sameness.{not_true, both_true, same_kind}
+use Rattle.span_soundness.proofs.Sameness.{both_true, same_kind}
 use Rattle.span_soundness.proofs.Keeping.{null_of, number_kept, kept as keeps_type}
 
 -- ---- rows

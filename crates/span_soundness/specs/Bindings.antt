@@ -1,7 +1,8 @@
 -- The types of the rows that a block's expressions speak of, and what it is that the binder's types are right.
-use Rattle.std.specs.Prelude.{◌≡◌, Bool, true, ◌&&◌, List, [], ◌∷◌, ◌++◌, map}
+use Rattle.std.specs.Prelude.{◌≡◌, ℕ, Bool, true, ◌&&◌, List, [], ◌∷◌, ◌++◌, map}
 use Rattle.span_value.specs.declared.value.Kind.{Kind}
 use Rattle.span_value.specs.declared.value.Kind.TheVariants as kind
+use Rattle.span_schema.specs.declared.table.Table.{Table}
 use Rattle.span_schema.specs.Fitting.{is_of_kind}
 use Rattle.span_query.specs.declared.query.Aggregate.{Aggregate}
 use Rattle.span_query.specs.declared.query.Aggregate.TheVariants.{CountRows, Of}
@@ -16,6 +17,7 @@ use Rattle.span_typing.specs.declared.typed.Mode.TheVariants.{Rows, Groups}
 use Rattle.span_typing.specs.Kinds.{takes}
 use Rattle.span_typing.specs.Typing.{kind_at}
 use Rattle.span_binder.specs.declared.bound.OutputColumn.{OutputColumn}
+use Rattle.span_binder.specs.Sources.{table_columns}
 use Rattle.span_soundness.specs.Types.{Typing, are_same, has_type, is_of}
 
 -- ---- rows
@@ -36,6 +38,10 @@ row_types scope Groups aggregates = key_types scope ++ aggregates
 -- the types of the columns that a block or a query gives
 abbrev pub output_types : List OutputColumn → List Kind
 output_types columns = map (λ (c : OutputColumn). c.kind) columns
+
+-- the types of the columns of a table of the schema, by its number
+abbrev pub table_types : List Table → ℕ → List Kind
+table_types schema n = output_types (table_columns schema n)
 
 -- ---- aggregates
 

@@ -4,7 +4,9 @@ use Rattle.std.specs.Option.{unwrap_or}
 use Rattle.span_value.specs.declared.value.Kind.{Kind}
 use Rattle.span_value.specs.declared.value.Kind.TheVariants as kind
 use Rattle.span_expr.specs.declared.expr.Expr.{Expr}
+use Rattle.span_query.specs.declared.query.BoundQuery.{BoundQuery}
 use Rattle.span_query.specs.declared.query.BoundQuery.TheOpen.{BoundQuery-F}
+use Rattle.span_query.specs.declared.query.BoundQuery.TheFolds.{rec-BoundQuery}
 use Rattle.span_query.specs.declared.query.Block.{Block}
 use Rattle.span_query.specs.declared.query.Item.{Item}
 use Rattle.span_query.specs.declared.query.Item.TheVariants as item
@@ -73,3 +75,11 @@ AreBlocksOf gives leaves (b ∷ blocks) types = IsBlockOf gives leaves b types �
 -- all blocks of a union give rows of the same types
 abbrev pub IsLayerOf : {Q : Type 0} → (Q → List Kind → Type 0) → List (List Kind) → BoundQuery-F Q → List Kind → Type 0
 IsLayerOf gives leaves q types = AreBlocksOf gives leaves (q.first ∷ q.others) types
+
+-- What a derived table gives is what its query gives.
+abbrev pub layer_of : List (List Kind) → (Q : Type 0) → (Q → BoundQuery) → (Q → List Kind → Type 0) → BoundQuery-F Q → List Kind → Type 0
+layer_of leaves Q query gives layer types = IsLayerOf gives leaves layer types
+
+-- a query gives rows of these types, where its leaves have columns of those
+abbrev pub IsQueryOf : List (List Kind) → BoundQuery → List Kind → Type 0
+IsQueryOf leaves = rec-BoundQuery (List Kind → Type 0) (layer_of leaves)

@@ -1,5 +1,5 @@
 //! The laws of types, each as the contract of a function that does nothing.
-ghost use Rattle.span_soundness.specs.Laws.{ExpressionsKeepTypes, ParametersStayTyped, TypesAreRight};
+ghost use Rattle.span_soundness.specs.Laws.{ExpressionsKeepTypes, ParametersStayTyped, TypesAreRight, LayersAreTyped, QueriesAreTyped, StatementsAreTyped, QueriesKeepTypes, ResultsAreTyped};
 
 /// Where an expression is of a type at rows of these types, its value at each such row is of that type or NULL, or the fault.
 pub fn expressions_keep_types()
@@ -15,4 +15,30 @@ pub fn parameters_stay_typed()
 /// type. So are the aggregates that are found in it.
 pub fn types_are_right()
     ensures { TypesAreRight }
+{}
+
+/// A query is well typed where each of its blocks is: its items give the types of its names, its conditions are BOOL, what it shows
+/// is of the types of its columns, and these are the same in all blocks. A derived table gives the types that its query does.
+pub fn layers_are_typed()
+    ensures { LayersAreTyped }
+{}
+
+/// What the binder makes of a query is well typed, with the types of the columns that the binder names.
+pub fn queries_are_typed()
+    ensures { QueriesAreTyped }
+{}
+
+/// Each statement that the binder makes of a text is well typed.
+pub fn statements_are_typed()
+    ensures { StatementsAreTyped }
+{}
+
+/// What a well typed query means on tables of its leaves' types is rows of its types, or the fault.
+pub fn queries_keep_types()
+    ensures { QueriesKeepTypes }
+{}
+
+/// What a bound query means on tables with rows of their types is rows of the types of its columns, or the fault.
+pub fn results_are_typed()
+    ensures { ResultsAreTyped }
 {}
