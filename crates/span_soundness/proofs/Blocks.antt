@@ -1,6 +1,7 @@
 -- What the binder makes of a FROM and of what stands behind it is well typed.
 use Rattle.std.proofs.Common.{◌≡◌, ◌∙◌, sym, ap, refl, subst, ℕ, zero, suc, ◌+◌, ◌<◌, ◌≤◌, ◌==◌, true, false, Bool, if◌then◌else◌, List, [], ◌∷◌, ◌++◌, length, map, Option, Some, None, Result, Ok, Err, arith}
-use Rattle.std.specs.Prelude.{slice_get}
+use Rattle.std.specs.Prelude.{slice_get, ◌-◌, ◌||◌, nat_lt}
+use Rattle.std.proofs.lemmas.Bool.Decides.{nat_tests}
 use Rattle.std.specs.Option.{option_map}
 use Rattle.std.specs.List.{range_with_len, list_all, zip}
 use Rattle.std.proofs.lemmas.List.{append-nil, length-map, map-append}
@@ -8,12 +9,15 @@ use Rattle.std.proofs.lemmas.Bool.{eqb-true}
 use Rattle.span_value.specs.declared.value.Kind.{Kind}
 use Rattle.span_value.specs.declared.value.Kind.TheVariants as kind
 use Rattle.span_value.specs.declared.refusal.Refusal.{Refusal}
-use Rattle.span_value.specs.declared.refusal.Refusal.TheVariants.{TypeMismatch, DuplicateAlias, ColumnsDiffer}
+use Rattle.span_value.specs.declared.refusal.Refusal.TheVariants.{TypeMismatch, DuplicateAlias, ColumnsDiffer, BadOrdinal}
 use Rattle.span_syntax.specs.declared.tree.Spelling.{Spelling}
+use Rattle.span_syntax.specs.declared.tree.Column.{Column}
 use Rattle.span_syntax.specs.declared.tree.Expr.{Expr as Tree}
 use Rattle.span_parser.specs.declared.tree.Output.{Output}
 use Rattle.span_parser.specs.declared.tree.Output.TheVariants as output
 use Rattle.span_parser.specs.declared.tree.SortKey.{SortKey}
+use Rattle.span_parser.specs.declared.tree.SortColumn.{SortColumn}
+use Rattle.span_parser.specs.declared.tree.SortColumn.TheVariants as sort
 use Rattle.span_parser.specs.declared.tree.Limit.{Limit}
 use Rattle.span_expr.specs.declared.expr.Expr.{Expr}
 use Rattle.span_query.specs.declared.query.BoundQuery.{BoundQuery}
@@ -29,9 +33,9 @@ use Rattle.span_typing.specs.declared.typed.Typed.{Typed}
 use Rattle.span_typing.specs.declared.typed.Mode.{Mode}
 use Rattle.span_typing.specs.declared.typed.Mode.TheVariants.{Rows, Groups}
 use Rattle.span_typing.specs.Kinds.{takes}
-use Rattle.span_typing.specs.Scopes.{item_named}
+use Rattle.span_typing.specs.Scopes.{item_named, column_place}
 use Rattle.span_typing.specs.Steps.{and_then, pure, ◌>>=◌}
-use Rattle.span_typing.specs.Typing.{Finds, typing, kind_at, or_number, column_at}
+use Rattle.span_typing.specs.Typing.{Finds, typing, kind_at, column_at}
 use Rattle.span_binder.specs.declared.bound.OutputColumn.{OutputColumn}
 use Rattle.span_binder.specs.declared.bound.Source.{Source}
 use Rattle.span_binder.specs.declared.bound.FromItems.{FromItems}
@@ -45,16 +49,16 @@ use Rattle.span_binder.specs.Onward.{behind as one_behind}
 use Rattle.span_binder.specs.Sources.{no_names, scope_column, with_names, has_item, judged, condition, started, join_of, with_join, extended}
 use Rattle.span_binder.specs.Outputs.{shown, or_nameless, column_shown, columns_shown, all_places, places_of, item_places, name_shown, all_shown, item_shown, value_shown, output_shown, next_shown, select_list}
 use Rattle.span_binder.specs.Aggregating.{mode_of}
-use Rattle.span_binder.specs.Blocks.{with_keys, group_places, groups_named, filter_of, having_of, exprs_shown, Behind, parts_behind, block_parted, block_in, block_behind}
+use Rattle.span_binder.specs.Blocks.{with_keys, group_places, place_in, groups_named, filter_of, having_of, exprs_shown, Behind, parts_behind, block_parted, block_in, block_behind}
 use Rattle.span_binder.specs.Blocks.{columns_shown as columns_of_shown}
-use Rattle.span_binder.specs.Queries.{have_same_kind, same_kinds, united, sort_keys, blocks_of, limit_of, query_of, query_behind}
+use Rattle.span_binder.specs.Queries.{have_same_kind, same_kinds, united, ordinal, is_column_named, sort_place, sort_key, sort_keys, blocks_of, limit_of, query_of, query_behind}
 use Rattle.span_soundness.specs.Types.{are_same, is_of}
 use Rattle.span_soundness.specs.Bindings.{column_types, row_types, output_types, AreAggregatesOf, AreTyped, IsTyped}
-use Rattle.span_soundness.specs.WellTyped.{IsItemOf, AreJoinsOf, IsFromOf, is_condition, type_at, AreOutputsOf, IsBlockOf, AreBlocksOf, IsLayerOf}
+use Rattle.span_soundness.specs.WellTyped.{IsItemOf, AreJoinsOf, IsFromOf, is_condition, AreColumnsOf, AreOutputsOf, IsBlockOf, AreBlocksOf, AreKeysOf, IsLayerOf}
 use Rattle.span_soundness.proofs.Sameness.{both_true, same_kind}
 use Rattle.span_soundness.proofs.Agreeing.{Made, then_made, made_if, AllOf}
 use Rattle.span_soundness.proofs.Making.{own_right}
-use Rattle.span_soundness.proofs.Places.{column_at_right}
+use Rattle.span_soundness.proofs.Places.{Within, column_within, place_within, column_there, column_at_right}
 use Rattle.span_soundness.proofs.Going.{Always, later_on, Leads, Keeps, then_keeps, given_keeps, both_are_of}
 use Rattle.span_soundness.proofs.Binding.{sound}
 
@@ -79,14 +83,9 @@ names_types scope s =
     map-append type_of scope.columns (map (scope_column (length scope.items)) s.columns)
     ∙ ap (λ (ks : List Kind). column_types scope ++ ks) (scoped_types (length scope.items) s.columns)
 
-number_is : (columns : List ScopeColumn) (place : ℕ) → type_at (map type_of columns) place ≡ or_number (slice_get columns place)
-number_is [] place = refl
-number_is (c ∷ columns) zero = refl
-number_is (c ∷ columns) (suc n) = number_is columns n
-
-keys_types : (scope : Scope) (keys : List ℕ) → map (type_at (column_types scope)) keys ≡ map (kind_at scope) keys
-keys_types scope [] = refl
-keys_types scope (p ∷ keys) = ap (λ (k : Kind). k ∷ map (type_at (column_types scope)) keys) (number_is scope.columns p) ∙ ap (λ (ks : List Kind). kind_at scope p ∷ ks) (keys_types scope keys)
+keys_types : (scope : Scope) (keys : List ℕ) → AllOf (Within scope.columns) keys → AreColumnsOf (column_types scope) keys (map (kind_at scope) keys)
+keys_types scope [] all = tt {0}
+keys_types scope (p ∷ keys) all = (column_there scope.columns p all.0, keys_types scope keys all.1)
 
 -- ---- conditions
 
@@ -259,6 +258,15 @@ module _ (params : List Parameter) (params_are : AreTyped params) where
 
   -- ---- blocks
 
+  place_in_within : (scope : Scope) (r : Result ℕ Refusal) → Made (Within scope.columns) r → AllOf (Within scope.columns) (place_in r)
+  place_in_within scope (Ok p) is = (is, tt {0})
+  place_in_within scope (Err why) is = tt {0}
+
+  groups_within : (scope : Scope) (cs : List Column) → AllOf (Within scope.columns) (group_places scope cs)
+  unfolding group_places
+  groups_within scope [] = tt {0}
+  groups_within scope (c ∷ cs) = all_both (Within scope.columns) (place_in (column_place scope c)) (group_places scope cs) (place_in_within scope (column_place scope c) (column_within scope c)) (groups_within scope cs)
+
   outputs_right : (types : List Kind) (ss : List Shown) → AllOf (λ (s : Shown). is_of types s.expr s.column.kind ≡ true) ss → AreOutputsOf types (exprs_shown ss) (output_types (columns_of_shown ss))
   outputs_right types [] all = tt {0}
   outputs_right types (s ∷ ss) all = (all.0, outputs_right types ss all.1)
@@ -300,16 +308,16 @@ module _ (params : List Parameter) (params_are : AreTyped params) where
       go true = tt {0}
       go false = then_made (IsBool (column_types (with_names f.scope s))) IsFrom (condition (with_names f.scope s) params on) (λ e. Ok (with_join f is_left s e)) (condition_is (with_names f.scope s) on) (λ e e_is. with_join_is f is_left s e f_is s_is e_is)
 
-    parted_is : (f : FromItems) (is_distinct is_grouped : Bool) (keys : List ℕ) (parts : Parts) → IsFrom f → PartsAre (with_keys f.scope keys) (mode_of is_grouped) parts → IsBlock (block_parted f.first f.joins is_distinct is_grouped keys parts)
-    parted_is f is_distinct true keys parts f_is are = (
+    parted_is : (f : FromItems) (is_distinct is_grouped : Bool) (keys : List ℕ) (parts : Parts) → AllOf (Within f.scope.columns) keys → IsFrom f → PartsAre (with_keys f.scope keys) (mode_of is_grouped) parts → IsBlock (block_parted f.first f.joins is_distinct is_grouped keys parts)
+    parted_is f is_distinct true keys parts within f_is are = (
       column_types f.scope,
       row_types (with_keys f.scope keys) Groups are.0,
       f_is,
       are.2,
-      (are.0, are.1, ap (λ (ks : List Kind). ks ++ are.0) (keys_types (with_keys f.scope keys) keys), are.3),
+      (map (kind_at (with_keys f.scope keys)) keys, are.0, keys_types (with_keys f.scope keys) keys within, are.1, refl, are.3),
       outputs_right (row_types (with_keys f.scope keys) Groups are.0) parts.shown are.4,
     )
-    parted_is f is_distinct false keys parts f_is are =
+    parted_is f is_distinct false keys parts within f_is are =
         (column_types f.scope, column_types f.scope, f_is, are.2, refl, outputs_right (column_types f.scope) parts.shown are.4)
 
     pub block_is : (b : Behind) (f : FromItems) → IsFrom f → Made IsBlock (block_behind params b f)
@@ -317,7 +325,7 @@ module _ (params : List Parameter) (params_are : AreTyped params) where
     block_is b f f_is =
         then_made (PartsAre (with_keys f.scope (group_places f.scope b.groups)) (mode_of b.is_grouped)) IsBlock (parts_behind (with_keys f.scope (group_places f.scope b.groups)) params (mode_of b.is_grouped) b)
         (λ parts. Ok (block_parted f.first f.joins b.is_distinct b.is_grouped (group_places f.scope b.groups) parts)) (parts_are (with_keys f.scope (group_places f.scope b.groups)) (mode_of b.is_grouped) b)
-        (λ parts are. parted_is f b.is_distinct b.is_grouped (group_places f.scope b.groups) parts f_is are)
+        (λ parts are. parted_is f b.is_distinct b.is_grouped (group_places f.scope b.groups) parts (groups_within f.scope b.groups) f_is are)
 
     -- ---- unions
 
@@ -345,11 +353,44 @@ module _ (params : List Parameter) (params_are : AreTyped params) where
           others_are columns others all.1 parts.1,
         )
 
+    nameless : OutputColumn
+    nameless = record { name = None; kind = kind.Int }
+
+    ordinal_within : (columns : List OutputColumn) (n : ℕ) → Made (Within columns) (ordinal columns n)
+    ordinal_within columns n = go (n == 0) (nat_lt (length columns) n) refl refl where
+      go : (a b : Bool) → (n == 0) ≡ a → nat_lt (length columns) n ≡ b → Made (Within columns) (if a || b then Err BadOrdinal else Ok (n - 1))
+      go true b is past = tt {0}
+      go false true is past = tt {0}
+      go false false is past = grind (arith, nat_tests)
+
+    sort_within : (columns : List OutputColumn) (c : SortColumn) → Made (Within columns) (sort_place columns c)
+    unfolding sort_place
+    sort_within columns (sort.Name name) = place_within nameless (is_column_named name.text) columns
+    sort_within columns (sort.Place n) = ordinal_within columns n.value
+
+    abbrev IsKeyOf : List OutputColumn → BoundKey → Type 0
+    IsKeyOf columns key = key.column < length columns
+
+    key_within : (columns : List OutputColumn) (k : SortKey) → Made (IsKeyOf columns) (sort_key columns k)
+    key_within columns k = then_made (Within columns) (IsKeyOf columns) (sort_place columns k.column) (λ p. Ok (record { column = p; is_descending = k.is_descending })) (sort_within columns k.column) (λ p is. is)
+
+    all_keys : (ks : List SortKey) → AllOf (λ (k : SortKey). Unit {0}) ks
+    all_keys [] = tt {0}
+    all_keys (k ∷ ks) = (tt {0}, all_keys ks)
+
+    keys_within : (columns : List OutputColumn) (ks : List SortKey) → Made (AllOf (IsKeyOf columns)) (sort_keys columns ks)
+    unfolding sort_keys
+    keys_within columns ks = each_made (IsKeyOf columns) (λ (k : SortKey). Unit {0}) (sort_key columns) (λ k t. key_within columns k) ks [] (all_keys ks) (tt {0})
+
+    keys_are : (columns : List OutputColumn) (keys : List BoundKey) → AllOf (IsKeyOf columns) keys → AreKeysOf (output_types columns) keys
+    keys_are columns [] all = tt {0}
+    keys_are columns (key ∷ keys) all = (subst (λ (n : ℕ). key.column < n) (sym (length-map columns output_type)) all.0, keys_are columns keys all.1)
+
     pub query_behind_is : ((d : BoundQuery-F BoundQuery) (types : List Kind) → IsLayerOf gives leaves d types → gives (roll-BoundQuery d) types) → (b : BoundBlocks) (order : List SortKey) (limit : Option Limit) → AreBound b → Made IsBound (query_behind b order limit)
     unfolding query_behind united
     query_behind_is makes b order limit are = go (list_all (λ (other : BoundBlock). same_kinds b.first.columns other.columns) b.others) (others_are b.first.columns b.others are.1) where
       go : (same : Bool) → (same ≡ true → AreBlocksOf gives leaves (blocks_of b.others) (output_types b.first.columns)) → Made IsBound (if same then and_then (sort_keys b.first.columns order) (λ keys. Ok (query_of b keys limit)) else Err ColumnsDiffer)
       go false others = tt {0}
       go true others =
-          then_made (λ (keys : List BoundKey). Unit {0}) IsBound (sort_keys b.first.columns order) (λ keys. Ok (query_of b keys limit)) (any_made (sort_keys b.first.columns order))
-          (λ keys t. makes (layer_of b keys limit) (output_types b.first.columns) (are.0, others refl))
+          then_made (AllOf (IsKeyOf b.first.columns)) IsBound (sort_keys b.first.columns order) (λ keys. Ok (query_of b keys limit)) (keys_within b.first.columns order)
+          (λ keys keys_right. makes (layer_of b keys limit) (output_types b.first.columns) ((are.0, others refl), keys_are b.first.columns keys keys_right))

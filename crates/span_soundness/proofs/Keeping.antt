@@ -211,7 +211,7 @@ matched_kept k x (arm ∷ arms) o all is = if_kept k (strict (compared Equal) x 
 
 -- ---- columns
 
-column_kept : (types : List Kind) (row : List Value) (place : ℕ) (k : Kind) → IsRowOf types row → is_some (slice_get types place) k ≡ true → is_of_kind k (column_of row place) ≡ true
+pub column_kept : (types : List Kind) (row : List Value) (place : ℕ) (k : Kind) → IsRowOf types row → is_some (slice_get types place) k ≡ true → is_of_kind k (column_of row place) ≡ true
 column_kept [] [] place k row_is is = not_true is
 column_kept [] (v ∷ vs) place k row_is is = absurd row_is
 column_kept (j ∷ js) [] place k row_is is = absurd row_is

@@ -14,7 +14,7 @@ use Rattle.span_query.specs.declared.query.Join.{Join}
 use Rattle.span_query.specs.Rows.{Row, Rows}
 use Rattle.span_query.specs.Meaning.{query_rows, meaning}
 use Rattle.span_soundness.specs.Types.{is_of}
-use Rattle.span_soundness.specs.WellTyped.{IsItemOf, AreJoinsOf, IsFromOf, is_condition, IsGroupedOf, AreOutputsOf, IsBlockOf, AreBlocksOf, IsLayerOf, layer_of, IsQueryOf}
+use Rattle.span_soundness.specs.WellTyped.{IsItemOf, AreJoinsOf, IsFromOf, is_condition, IsGroupedOf, AreOutputsOf, IsBlockOf, AreBlocksOf, AreKeysOf, IsLayerOf, layer_of, IsQueryOf}
 use Rattle.span_soundness.specs.Results.{AreResultsOf, AreTablesOf}
 use Rattle.span_soundness.proofs.Selecting.{Gives, layer_is}
 
@@ -94,7 +94,7 @@ module _ {X Y : Type 0} (f : X → Y) where
     blocks_moved (b ∷ bs) types are = (block_moved b types are.0, blocks_moved bs types are.1)
 
     pub layer_moved : (d : BoundQuery-F X) (types : List Kind) → IsLayerOf gives leaves d types → IsLayerOf gives_too leaves (mapped d) types
-    layer_moved d types is = subst (λ (l : BoundQuery-F Y). IsLayerOf gives_too leaves l types) (sym (layer_mapped d)) (blocks_moved (d.first ∷ d.others) types is)
+    layer_moved d types is = subst (λ (l : BoundQuery-F Y). IsLayerOf gives_too leaves l types) (sym (layer_mapped d)) (blocks_moved (d.first ∷ d.others) types is.0, is.1)
 
   -- ---- the same types exactly
 
@@ -121,7 +121,7 @@ module _ {X Y : Type 0} (f : X → Y) where
     blocks_path (b ∷ bs) types = λ i. block_path b types i × blocks_path bs types i
 
     layer_path : (d : BoundQuery-F X) → ◌≡◌ {A = List Kind → Type 0} (λ types. IsLayerOf through leaves d types) (λ types. IsLayerOf gives leaves (mapped d) types)
-    layer_path d = (λ i types. blocks_path (d.first ∷ d.others) types i) ∙ ap {B = List Kind → Type 0} (λ (l : BoundQuery-F Y). λ (types : List Kind). IsLayerOf gives leaves l types) (sym (layer_mapped d))
+    layer_path d = (λ i types. blocks_path (d.first ∷ d.others) types i × AreKeysOf types d.order) ∙ ap {B = List Kind → Type 0} (λ (l : BoundQuery-F Y). λ (types : List Kind). IsLayerOf gives leaves l types) (sym (layer_mapped d))
 
 -- ---- queries
 

@@ -28,18 +28,18 @@ use Rattle.span_soundness.proofs.Making.{typed_right}
 abbrev no_column : ScopeColumn
 no_column = record { item = 0; name = None; kind = kind.Int }
 
-abbrev Within : List ScopeColumn → ℕ → Type 0
-Within columns place = place < length columns
+abbrev pub Within : {A : Type 0} → List A → ℕ → Type 0
+Within xs place = place < length xs
 
-alone_within : (columns : List ScopeColumn) (b : Bool) (p : ℕ) → Within columns p → Made (Within columns) (alone b p)
-alone_within columns true p is = tt {0}
-alone_within columns false p is = is
+alone_within : {A : Type 0} (xs : List A) (b : Bool) (p : ℕ) → Within xs p → Made (Within xs) (alone b p)
+alone_within xs true p is = tt {0}
+alone_within xs false p is = is
 
-place_within : (test : ScopeColumn → Bool) (columns : List ScopeColumn) → Made (Within columns) (one_place test columns)
-place_within test columns = go (position test columns) refl where
-  go : (o : Option ℕ) → position test columns ≡ o → Made (Within columns) (only_place test columns o)
+pub place_within : {A : Type 0} (default : A) (test : A → Bool) (xs : List A) → Made (Within xs) (one_place test xs)
+place_within default test xs = go (position test xs) refl where
+  go : (o : Option ℕ) → position test xs ≡ o → Made (Within xs) (only_place test xs o)
   go None is = tt {0}
-  go (Some p) is = alone_within columns (list_any test (drop (p + 1) columns)) p (position-Some test columns p no_column is).0
+  go (Some p) is = alone_within xs (list_any test (drop (p + 1) xs)) p (position-Some test xs p default is).0
 
 any_made : {A : Type 0} (r : Result A Refusal) → Made (λ (x : A). Unit {0}) r
 any_made (Ok x) = tt {0}
@@ -47,14 +47,14 @@ any_made (Err why) = tt {0}
 
 pub column_within : (scope : Scope) (c : Column) → Made (Within scope.columns) (column_place scope c)
 unfolding column_place
-column_within scope c = then_made (λ (item : Option ℕ). Unit {0}) (Within scope.columns) (item_of scope c.table) (λ item. one_place (fits item c.name.text) scope.columns) (any_made (item_of scope c.table)) (λ item t. place_within (fits item c.name.text) scope.columns)
+column_within scope c = then_made (λ (item : Option ℕ). Unit {0}) (Within scope.columns) (item_of scope c.table) (λ item. one_place (fits item c.name.text) scope.columns) (any_made (item_of scope c.table)) (λ item t. place_within no_column (fits item c.name.text) scope.columns)
 
 -- ---- its type
 
 abbrev type_of : ScopeColumn → Kind
 type_of c = c.kind
 
-column_there : (columns : List ScopeColumn) (place : ℕ) → place < length columns → is_some (slice_get (map type_of columns) place) (or_number (slice_get columns place)) ≡ true
+pub column_there : (columns : List ScopeColumn) (place : ℕ) → place < length columns → is_some (slice_get (map type_of columns) place) (or_number (slice_get columns place)) ≡ true
 column_there [] place within = absurd (omega arith)
 column_there (c ∷ columns) zero within = is_same c.kind
 column_there (c ∷ columns) (suc n) within = column_there columns n (omega arith)

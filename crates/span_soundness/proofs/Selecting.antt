@@ -14,7 +14,7 @@ use Rattle.span_value.specs.Orders.{value_order}
 use Rattle.span_schema.specs.Fitting.{is_of_kind}
 use Rattle.span_expr.specs.declared.expr.Expr.{Expr}
 use Rattle.span_expr.specs.Outcomes.{is_null}
-use Rattle.span_expr.specs.Operators.{number, column_of}
+use Rattle.span_expr.specs.Operators.{number}
 use Rattle.span_expr.specs.Meaning.{val}
 use Rattle.span_query.specs.declared.query.Item.{Item}
 use Rattle.span_query.specs.declared.query.Item.TheVariants as item
@@ -32,10 +32,10 @@ use Rattle.span_query.specs.Sorting.{placed, in_order, sorted, comes_before}
 use Rattle.span_query.specs.Meaning.{table_rows, item_rows, or_alone, pairs_of, joined, join_next, from, distinct_if, block_rows, limited, query_rows}
 use Rattle.span_soundness.specs.Types.{IsOutcomeOf, IsRowOf, are_same, has_type, is_of}
 use Rattle.span_soundness.specs.Bindings.{is_aggregate_of, AreAggregatesOf}
-use Rattle.span_soundness.specs.WellTyped.{leaf_types, IsItemOf, AreJoinsOf, IsFromOf, type_at, IsGroupedOf, AreOutputsOf, IsBlockOf, AreBlocksOf, IsLayerOf}
+use Rattle.span_soundness.specs.WellTyped.{leaf_types, IsItemOf, AreJoinsOf, IsFromOf, AreColumnsOf, IsGroupedOf, AreOutputsOf, IsBlockOf, AreBlocksOf, IsLayerOf}
 use Rattle.span_soundness.specs.Results.{AreRowsOf, AreResultsOf, AreTablesOf}
 use Rattle.span_soundness.proofs.Sameness.{both_true, same_kind}
-use Rattle.span_soundness.proofs.Keeping.{null_of, number_kept, kept as keeps_type}
+use Rattle.span_soundness.proofs.Keeping.{null_of, number_kept, column_kept, kept as keeps_type}
 
 -- ---- rows
 
@@ -255,40 +255,36 @@ distinct_rows : (types : List Kind) (rows : List Row) → AreRowsOf types rows �
 distinct_rows types [] are = tt {0}
 distinct_rows types (row ∷ rows) are = (are.0, filtered_rows types (λ (y : Row). not (are_alike row y)) (distinct rows) (distinct_rows types rows are.1))
 
-column_is : (types : List Kind) (row : Row) (place : ℕ) → IsRowOf types row → is_of_kind (type_at types place) (column_of row place) ≡ true
-column_is [] [] place is = refl
-column_is [] (v ∷ vs) place is = absurd is
-column_is (k ∷ ks) [] place is = absurd is
-column_is (k ∷ ks) (v ∷ vs) zero is = is.0
-column_is (k ∷ ks) (v ∷ vs) (suc n) is = column_is ks vs n is.1
+key_is : (types : List Kind) (places : List ℕ) (keys : List Kind) (row : Row) → AreColumnsOf types places keys → IsRowOf types row → IsRowOf keys (columns_at places row)
+key_is types [] [] row are is = tt {0}
+key_is types [] (k ∷ ks) row are is = absurd are
+key_is types (p ∷ ps) [] row are is = absurd are
+key_is types (p ∷ ps) (k ∷ ks) row are is = (column_kept types row p k is are.0, key_is types ps ks row are.1 is)
 
-key_is : (types : List Kind) (places : List ℕ) (row : Row) → IsRowOf types row → IsRowOf (map (type_at types) places) (columns_at places row)
-key_is types [] row is = tt {0}
-key_is types (p ∷ ps) row is = (column_is types row p is, key_is types ps row is)
+keys_are : (types : List Kind) (places : List ℕ) (keys : List Kind) (rows : List Row) → AreColumnsOf types places keys → AreRowsOf types rows → AreRowsOf keys (map (columns_at places) rows)
+keys_are types places keys [] are rows_are = tt {0}
+keys_are types places keys (row ∷ rows) are rows_are = (key_is types places keys row are rows_are.0, keys_are types places keys rows are rows_are.1)
 
-keys_are : (types : List Kind) (places : List ℕ) (rows : List Row) → AreRowsOf types rows → AreRowsOf (map (type_at types) places) (map (columns_at places) rows)
-keys_are types places [] are = tt {0}
-keys_are types places (row ∷ rows) are = (key_is types places row are.0, keys_are types places rows are.1)
-
-group_keys_are : (types : List Kind) (places : List ℕ) (rows : List Row) → AreRowsOf types rows → AreRowsOf (map (type_at types) places) (group_keys places rows)
-group_keys_are types [] rows are = (tt {0}, tt {0})
-group_keys_are types (p ∷ ps) rows are = distinct_rows (map (type_at types) (p ∷ ps)) (map (columns_at (p ∷ ps)) rows) (keys_are types (p ∷ ps) rows are)
+group_keys_are : (types : List Kind) (places : List ℕ) (keys : List Kind) (rows : List Row) → AreColumnsOf types places keys → AreRowsOf types rows → AreRowsOf keys (group_keys places rows)
+group_keys_are types [] [] rows are rows_are = (tt {0}, tt {0})
+group_keys_are types [] (k ∷ ks) rows are rows_are = absurd are
+group_keys_are types (p ∷ ps) keys rows are rows_are = distinct_rows keys (map (columns_at (p ∷ ps)) rows) (keys_are types (p ∷ ps) keys rows are rows_are)
 
 behind_key : (keys kinds : List Kind) (key : Row) (o : OrFault Row) → IsRowOf keys key → IsRowOrFault kinds o → IsRowOrFault (keys ++ kinds) (o >>= (λ vs. Some (key ++ vs)))
 behind_key keys kinds key (Some vs) key_is is = both_row keys kinds key vs key_is is
 behind_key keys kinds key None key_is is = tt {0}
 
-groups_are : (types : List Kind) (g : Grouping) (kinds : List Kind) (rows : List Row) → AreAggregatesOf types g.aggregates kinds → AreRowsOf types rows → AreResultsOf (map (type_at types) g.keys ++ kinds) (groups g rows)
-groups_are types g kinds rows is are = gathered_rows (map (type_at types) g.keys) (map (type_at types) g.keys ++ kinds) (λ key. option_map only (group_row g rows key)) (group_keys g.keys rows)
-    (λ key key_is. only_row (map (type_at types) g.keys ++ kinds) (group_row g rows key)
-    (behind_key (map (type_at types) g.keys) kinds key (each (aggregate (rows_with g.keys key rows)) g.aggregates) key_is
+groups_are : (types : List Kind) (g : Grouping) (keys kinds : List Kind) (rows : List Row) → AreColumnsOf types g.keys keys → AreAggregatesOf types g.aggregates kinds → AreRowsOf types rows → AreResultsOf (keys ++ kinds) (groups g rows)
+groups_are types g keys kinds rows columns is are = gathered_rows keys (keys ++ kinds) (λ key. option_map only (group_row g rows key)) (group_keys g.keys rows)
+    (λ key key_is. only_row (keys ++ kinds) (group_row g rows key)
+    (behind_key keys kinds key (each (aggregate (rows_with g.keys key rows)) g.aggregates) key_is
     (aggregates_are types (rows_with g.keys key rows) g.aggregates kinds is (filtered_rows types (λ (row : Row). are_alike key (columns_at g.keys row)) rows are))))
-    (group_keys_are types g.keys rows are)
+    (group_keys_are types g.keys keys rows columns are)
 
 grouped_rows : (types : List Kind) (g : Option Grouping) (shown : List Kind) (rows : List Row) → IsGroupedOf types g shown → AreRowsOf types rows → AreResultsOf shown (grouped g rows)
 grouped_rows types None shown rows is are = subst (λ (ts : List Kind). AreRowsOf ts rows) is are
 grouped_rows types (Some g) shown rows is are =
-    then_rows shown shown (groups g rows) (kept_where g.having) (subst (λ (ts : List Kind). AreResultsOf ts (groups g rows)) is.2 (groups_are types g is.0 rows is.1 are)) (λ found found_are. kept_where_rows shown g.having found found_are)
+    then_rows shown shown (groups g rows) (kept_where g.having) (subst (λ (ts : List Kind). AreResultsOf ts (groups g rows)) is.4 (groups_are types g is.0 is.1 rows is.2 is.3 are)) (λ found found_are. kept_where_rows shown g.having found found_are)
 
 -- ---- blocks and queries
 
@@ -337,5 +333,5 @@ limited_rows types (Some l) rows are = taken_rows types l.rows (drop l.skip rows
 
 pub layer_is : (leaves : List (List Kind)) (tables : List (List Row)) (q : BoundQuery-F Rows) (types : List Kind) → AreTablesOf leaves tables → IsLayerOf Gives leaves q types → AreResultsOf types (query_rows tables q)
 layer_is leaves tables q types are is =
-    then_rows types types (gathered (block_rows tables) (q.first ∷ q.others)) (λ rows. Some (limited q.limit (sorted q.order rows))) (blocks_are leaves tables (q.first ∷ q.others) types are is)
+    then_rows types types (gathered (block_rows tables) (q.first ∷ q.others)) (λ rows. Some (limited q.limit (sorted q.order rows))) (blocks_are leaves tables (q.first ∷ q.others) types are is.0)
     (λ rows rows_are. limited_rows types q.limit (sorted q.order rows) (ordered_rows types (comes_before q.order) rows rows_are))

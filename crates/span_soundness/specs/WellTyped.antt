@@ -1,5 +1,5 @@
 -- Which queries give rows of which types. What a derived table gives is handed in, so that a query is typed layer by layer.
-use Rattle.std.specs.Prelude.{◌≡◌, ℕ, zero, suc, Bool, true, List, [], ◌∷◌, ◌++◌, length, map, Option, Some, None, slice_get}
+use Rattle.std.specs.Prelude.{◌≡◌, ◌<◌, ℕ, zero, suc, Bool, true, List, [], ◌∷◌, ◌++◌, length, Option, Some, None, slice_get}
 use Rattle.std.specs.Option.{unwrap_or}
 use Rattle.span_value.specs.declared.value.Kind.{Kind}
 use Rattle.span_value.specs.declared.value.Kind.TheVariants as kind
@@ -12,12 +12,9 @@ use Rattle.span_query.specs.declared.query.Item.{Item}
 use Rattle.span_query.specs.declared.query.Item.TheVariants as item
 use Rattle.span_query.specs.declared.query.Join.{Join}
 use Rattle.span_query.specs.declared.query.Grouping.{Grouping}
-use Rattle.span_soundness.specs.Types.{is_of}
+use Rattle.span_query.specs.declared.query.SortKey.{SortKey}
+use Rattle.span_soundness.specs.Types.{is_some, is_of}
 use Rattle.span_soundness.specs.Bindings.{AreAggregatesOf}
-
--- that something which stands for a query gives rows of these types
-abbrev pub GivesTypes : Type 0 → Type 1
-GivesTypes Q = Q → List Kind → Type 0
 
 -- ---- FROM
 
@@ -46,15 +43,17 @@ abbrev pub is_condition : List Kind → Option Expr → Bool
 is_condition types None = true
 is_condition types (Some e) = is_of types e kind.Bool
 
--- the type of the column at a place; past the last one there is NULL
-abbrev pub type_at : List Kind → ℕ → Kind
-type_at types place = unwrap_or (slice_get types place) kind.Int
+-- as many places as types, each that of a column of its type
+abbrev pub AreColumnsOf : List Kind → List ℕ → List Kind → Type 0
+AreColumnsOf types [] [] = Unit {0}
+AreColumnsOf types (place ∷ places) (k ∷ ks) = (is_some (slice_get types place) k ≡ true) × AreColumnsOf types places ks
+AreColumnsOf types places ks = ⊥
 
 -- the rows of the groups: the keys, and then the aggregates of rows of the FROM
 abbrev pub IsGroupedOf : List Kind → Option Grouping → List Kind → Type 0
 IsGroupedOf from None types = from ≡ types
 IsGroupedOf from (Some g) types =
-    (aggregates : List Kind) × AreAggregatesOf from g.aggregates aggregates × (map (type_at from) g.keys ++ aggregates ≡ types) × (is_condition types g.having ≡ true)
+    (keys : List Kind) × (aggregates : List Kind) × AreColumnsOf from g.keys keys × AreAggregatesOf from g.aggregates aggregates × (keys ++ aggregates ≡ types) × (is_condition types g.having ≡ true)
 
 -- ---- blocks and queries
 
@@ -72,9 +71,14 @@ abbrev pub AreBlocksOf : {Q : Type 0} → (Q → List Kind → Type 0) → List 
 AreBlocksOf gives leaves [] types = Unit {0}
 AreBlocksOf gives leaves (b ∷ blocks) types = IsBlockOf gives leaves b types × AreBlocksOf gives leaves blocks types
 
+-- ORDER BY speaks of columns of the result
+abbrev pub AreKeysOf : List Kind → List SortKey → Type 0
+AreKeysOf types [] = Unit {0}
+AreKeysOf types (key ∷ keys) = (key.column < length types) × AreKeysOf types keys
+
 -- all blocks of a union give rows of the same types
 abbrev pub IsLayerOf : {Q : Type 0} → (Q → List Kind → Type 0) → List (List Kind) → BoundQuery-F Q → List Kind → Type 0
-IsLayerOf gives leaves q types = AreBlocksOf gives leaves (q.first ∷ q.others) types
+IsLayerOf gives leaves q types = AreBlocksOf gives leaves (q.first ∷ q.others) types × AreKeysOf types q.order
 
 -- What a derived table gives is what its query gives.
 abbrev pub layer_of : List (List Kind) → (Q : Type 0) → (Q → BoundQuery) → (Q → List Kind → Type 0) → BoundQuery-F Q → List Kind → Type 0
