@@ -1,5 +1,6 @@
 pub mod Sameness
 pub mod Keeping
+pub mod Nulls
 pub mod Forms
 pub mod Agreeing
 pub mod Making

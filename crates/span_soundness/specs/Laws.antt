@@ -1,12 +1,20 @@
 -- The laws of types.
-use Rattle.std.specs.Prelude.{◌≡◌, true, ℕ, List, [], ◌++◌, map, Ok}
+use Rattle.std.specs.Prelude.{◌≡◌, true, ◌||◌, ℕ, List, [], ◌++◌, map, Ok}
 use Rattle.span_value.specs.declared.value.Kind.{Kind}
+use Rattle.span_value.specs.declared.value.Kind.TheVariants as kind
 use Rattle.span_value.specs.declared.value.Value.{Value}
+use Rattle.span_value.specs.declared.truth.Outcome.TheVariants.{Val}
 use Rattle.span_schema.specs.declared.table.Table.{Table}
 use Rattle.span_schema.specs.Fitting.{is_of_kind}
 use Rattle.span_syntax.specs.declared.tree.Expr.{Expr as Tree}
 use Rattle.span_parser.specs.declared.tree.Query.{Query}
 use Rattle.span_expr.specs.declared.expr.Expr.{Expr}
+use Rattle.span_expr.specs.declared.expr.Operator.{Operator}
+use Rattle.span_expr.specs.declared.expr.Comparison.{Comparison}
+use Rattle.span_expr.specs.declared.expr.PatternPart.{PatternPart}
+use Rattle.span_expr.specs.Outcomes.{is_null, condition_of, outcome_of}
+use Rattle.span_expr.specs.Operators.{applied, opposite, compared, begun_by, measured}
+use Rattle.span_expr.specs.Patterns.{like}
 use Rattle.span_expr.specs.Meaning.{val}
 use Rattle.span_query.specs.declared.query.Aggregate.{Aggregate}
 use Rattle.span_query.specs.declared.query.BoundQuery.{BoundQuery}
@@ -23,7 +31,7 @@ use Rattle.span_typing.specs.declared.typed.Mode.{Mode}
 use Rattle.span_typing.specs.Typing.{typing}
 use Rattle.span_binder.specs.declared.bound.Bound.{Bound}
 use Rattle.span_binder.specs.Queries.{query_step, bound}
-use Rattle.span_soundness.specs.Types.{IsOutcomeOf, IsRowOf, is_of}
+use Rattle.span_soundness.specs.Types.{IsOutcomeOf, IsNullOnlyIf, IsRowOf, is_text, is_operand, is_of}
 use Rattle.span_soundness.specs.Bindings.{column_types, output_types, table_types, AreAggregatesOf, AreTyped, StaysTyped}
 use Rattle.span_soundness.specs.WellTyped.{IsLayerOf, IsQueryOf}
 use Rattle.span_soundness.specs.Results.{AreResultsOf, AreTablesOf}
@@ -32,6 +40,18 @@ use Rattle.span_soundness.specs.Results.{AreResultsOf, AreTablesOf}
 
 abbrev pub ExpressionsKeepTypes : Type 0
 ExpressionsKeepTypes = (types : List Kind) (row : List Value) (e : Expr) (k : Kind) → IsRowOf types row → is_of types e k ≡ true → IsOutcomeOf k (val row e)
+
+-- On operands of its types an operator answers NULL only where one of them is NULL: a well typed expression never comes to an
+-- operand of a wrong type, for which NULL is answered too. A comparison is of any type, and so is IS NULL.
+abbrev pub NullComesOfNull : Type 0
+NullComesOfNull =
+    ((op : Operator) (k : Kind) (v w : Value) → is_operand op k ≡ true → is_of_kind k v ≡ true → is_of_kind k w ≡ true → IsNullOnlyIf (is_null v || is_null w) (applied op v w))
+    × ((v : Value) → is_of_kind kind.Int v ≡ true → IsNullOnlyIf (is_null v) (opposite v))
+    × ((c : Comparison) (v w : Value) → IsNullOnlyIf (is_null v || is_null w) (compared c v w))
+    × ((pattern : List PatternPart) (v : Value) → is_of_kind kind.Str v ≡ true → IsNullOnlyIf (is_null v) (like pattern v))
+    × ((k : Kind) (v w : Value) → is_text k ≡ true → is_of_kind k v ≡ true → is_of_kind k w ≡ true → IsNullOnlyIf (is_null v || is_null w) (begun_by v w))
+    × ((k : Kind) (v : Value) → is_text k ≡ true → is_of_kind k v ≡ true → IsNullOnlyIf (is_null v) (measured v))
+    × ((v : Value) → is_of_kind kind.Bool v ≡ true → IsNullOnlyIf (is_null v) (outcome_of (condition_of (Val v))))
 
 -- there are none at first
 abbrev pub ParametersStayTyped : Type 0

@@ -6,6 +6,7 @@ use Rattle.span_value.specs.contracts.value.Kind.{the_type as kind_type}
 use Rattle.span_value.specs.declared.value.Kind.{Kind}
 use Rattle.span_value.specs.declared.value.Kind.TheVariants as kind
 use Rattle.span_value.specs.declared.value.Value.{Value}
+use Rattle.span_value.specs.declared.value.Value.TheVariants as value
 use Rattle.span_value.specs.declared.truth.Outcome.{Outcome}
 use Rattle.span_value.specs.declared.truth.Outcome.TheVariants.{Val, Fault}
 use Rattle.span_schema.specs.Fitting.{is_of_kind}
@@ -23,6 +24,11 @@ use Rattle.span_expr.specs.declared.expr.Expr.TheFolds.{fold-Expr}
 abbrev pub IsOutcomeOf : Kind → Outcome → Type 0
 IsOutcomeOf k (Val v) = is_of_kind k v ≡ true
 IsOutcomeOf k Fault = Unit {0}
+
+-- NULL is answered only where this is so
+abbrev pub IsNullOnlyIf : Bool → Outcome → Type 0
+IsNullOnlyIf b (Val value.Null) = b ≡ true
+IsNullOnlyIf b o = Unit {0}
 
 -- as many values as types, each NULL or of its type
 abbrev pub IsRowOf : List Kind → List Value → Type 0

@@ -1,9 +1,14 @@
 //! The laws of types, each as the contract of a function that does nothing.
-ghost use Rattle.span_soundness.specs.Laws.{ExpressionsKeepTypes, ParametersStayTyped, TypesAreRight, LayersAreTyped, QueriesAreTyped, StatementsAreTyped, QueriesKeepTypes, ResultsAreTyped};
+ghost use Rattle.span_soundness.specs.Laws.{ExpressionsKeepTypes, NullComesOfNull, ParametersStayTyped, TypesAreRight, LayersAreTyped, QueriesAreTyped, StatementsAreTyped, QueriesKeepTypes, ResultsAreTyped};
 
 /// Where an expression is of a type at rows of these types, its value at each such row is of that type or NULL, or the fault.
 pub fn expressions_keep_types()
     ensures { ExpressionsKeepTypes }
+{}
+
+/// On operands of its types an operator answers NULL only where one of them is NULL.
+pub fn null_comes_of_null()
+    ensures { NullComesOfNull }
 {}
 
 /// Where a parameter with a value of its type is added, each parameter still has a value of its type.
