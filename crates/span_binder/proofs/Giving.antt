@@ -1,9 +1,8 @@
 -- What functions answered of what was found by others.
-use Rattle.std.proofs.Common.{◌≡◌, ◌≢◌, ℕ, suc, ◌+◌, ◌<◌, List, [], ◌∷◌, length, map, drop, get_or, Result, Ok, Err, refl, sym, ap, subst, ◌∙◌, arith}
+use Rattle.std.proofs.Common.{◌≡◌, ℕ, suc, ◌+◌, ◌<◌, List, ◌∷◌, length, map, drop, get_or, Result, Ok, Err, sym, ap, subst, ◌∙◌, arith}
 use Rattle.std.proofs.Math.Seq.{drop-cons}
 use Rattle.span_binder.specs.Onward.{onward}
 use Rattle.span_value.specs.declared.refusal.Refusal.{Refusal}
-use Rattle.span_value.specs.declared.refusal.Refusal.TheVariants as refusal
 use Rattle.span_typing.specs.Steps.{and_then, Gives}
 
 same_err : {X : Type 0} (v w : Refusal) → (let o : Result X Refusal = Err v in o) ≡ Err w → v ≡ w

@@ -12,7 +12,7 @@ use Rattle.span_parser.specs.declared.tree.Item.TheVariants as item
 use Rattle.span_parser.specs.declared.tree.Item.TheVariants.{rolls-Table, rolls-Derived}
 use Rattle.span_parser.specs.declared.tree.Join.{Join}
 use Rattle.span_parser.specs.declared.tree.SortKey.{SortKey}
-use Rattle.span_parser.specs.declared.tree.Item.TheOpen.{Query-F, Block-F, Item-F, Join-F}
+use Rattle.span_parser.specs.declared.tree.Item.TheOpen.{Query-F, Block-F, Item-F}
 use Rattle.span_parser.specs.declared.tree.Item.TheViews.{out-Query, out-Block}
 use Rattle.span_parser.specs.declared.tree.Item.TheFolds.{fold-Item, fold-Block, fold-Join, fold-Query, fold_out-Query, fold_out-Block, fold_out-Join, fold-roll-Item, map-Block, map-Query}
 use Rattle.span_typing.specs.Steps.{Gives, and_then}

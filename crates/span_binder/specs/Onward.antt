@@ -1,5 +1,5 @@
 -- Along a list, from what was found before to what is found then; the first refusal ends it.
-use Rattle.std.specs.Prelude.{List, [], ◌∷◌, ◌++◌, Result, Ok, Err}
+use Rattle.std.specs.Prelude.{List, [], ◌∷◌, ◌++◌, Result, Ok}
 use Rattle.span_value.specs.declared.refusal.Refusal.{Refusal}
 use Rattle.span_typing.specs.Steps.{and_then}
 

@@ -2,7 +2,7 @@
 -- their ONs, the select list, WHERE, GROUP BY and HAVING; behind all blocks in the columns of the union; then in ORDER BY.
 use Rattle.std.specs.List.{list_all, zip}
 use Rattle.std.specs.Option.{option_map}
-use Rattle.std.specs.Prelude.{ℕ, pred, ◌-◌, ◌==◌, nat_lt, Bool, true, false, ◌||◌, ◌&&◌, List, [], ◌∷◌, ◌++◌, length, map, Option, Some, None, Result, Ok, Err, if◌then◌else◌}
+use Rattle.std.specs.Prelude.{ℕ, ◌-◌, ◌==◌, nat_lt, Bool, ◌||◌, ◌&&◌, List, [], ◌∷◌, ◌++◌, length, map, Option, Result, Ok, Err, if◌then◌else◌}
 use denote.Enum.Bare.{sameb}
 use Rattle.span_value.specs.contracts.value.Kind.{the_type as kind_type}
 use Rattle.span_value.specs.declared.refusal.Refusal.{Refusal}
@@ -27,7 +27,7 @@ use Rattle.span_query.specs.declared.query.BoundQuery.TheViews.{roll-BoundQuery}
 use Rattle.span_query.specs.declared.query.Statement.{Statement}
 use Rattle.span_params.specs.declared.params.Parameter.{Parameter}
 use Rattle.span_typing.specs.Scopes.{one_place, is_named}
-use Rattle.span_typing.specs.Steps.{and_then, given, ◌>>=◌}
+use Rattle.span_typing.specs.Steps.{and_then}
 use Rattle.span_binder.specs.declared.bound.OutputColumn.{OutputColumn}
 use Rattle.span_binder.specs.declared.bound.Source.{Source}
 use Rattle.span_binder.specs.declared.bound.FromItems.{FromItems}
@@ -36,7 +36,6 @@ use Rattle.span_binder.specs.declared.bound.BoundBlock.{BoundBlock}
 use Rattle.span_binder.specs.declared.bound.BoundBlocks.{BoundBlocks}
 use Rattle.span_binder.specs.Onward.{onward, each_of}
 use Rattle.span_binder.specs.Sources.{Naming, named_source, derived_source, started, extended}
-use Rattle.span_binder.specs.Aggregating.{is_grouped}
 use Rattle.span_binder.specs.Blocks.{behind_of, block_behind}
 
 -- ---- unions

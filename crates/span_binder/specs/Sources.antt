@@ -22,7 +22,7 @@ use Rattle.span_typing.specs.declared.typed.Typed.{Typed}
 use Rattle.span_typing.specs.declared.typed.Mode.TheVariants.{Rows}
 use Rattle.span_typing.specs.Kinds.{takes}
 use Rattle.span_typing.specs.Scopes.{item_named}
-use Rattle.span_typing.specs.Steps.{and_then, Step, given, ◌>>=◌}
+use Rattle.span_typing.specs.Steps.{and_then, Step}
 use Rattle.span_typing.specs.Typing.{typing}
 use Rattle.span_binder.specs.declared.bound.OutputColumn.{OutputColumn}
 use Rattle.span_binder.specs.declared.bound.Source.{Source}

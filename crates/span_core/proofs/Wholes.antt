@@ -1,6 +1,6 @@
 use Rattle.std.proofs.Common.{◌≡◌, ℕ, ◌≤◌, ◌⊎◌, arith, nat_lt, cond, true, false, List, [], ◌∷◌, ◌++◌, Option, Some, None, Result, Ok, Err, refl, ap, sym, ◌∙◌, subst, inl, inr}
-use Rattle.std.specs.Prelude.{find, slice_get, slice_set, IfOk, OnOk, OnErr, option_map, map}
-use Rattle.std.specs.List.{AllByRecursion, list_all}
+use Rattle.std.specs.Prelude.{find, slice_get, slice_set, IfOk, OnOk, OnErr, option_map}
+use Rattle.std.specs.List.{AllByRecursion}
 use Rattle.std.proofs.lemmas.Bool.Decides.{nat_tests}
 use Rattle.span_value.specs.declared.refusal.Refusal.{Refusal}
 use Rattle.span_value.specs.declared.refusal.Refusal.TheVariants as refusal
@@ -24,7 +24,7 @@ use Rattle.span_machine.specs.declared.query.OpenQuery.{OpenQuery}
 use Rattle.span_machine.specs.declared.transaction.Outcome.{Outcome}
 use Rattle.span_machine.specs.declared.transaction.Outcome.TheVariants as outcome
 use Rattle.span_machine.specs.declared.transaction.OpenTransaction.{OpenTransaction}
-use Rattle.span_machine.specs.Machine.{Machine, IsUnderstood, Answer, Answers, answer, start, refused, unless_refused, if_some, for_slot, is_query, is_transaction, is_safe, risen, with_book, cover, changed_first, without_first, scan, scan_found, scan_at, scan_gap, scanned, trim, trim_found, trimmed, applied_at, apply_step, apply_found, begin, open_query, answer_on, or_refusal, is_covered}
+use Rattle.span_machine.specs.Machine.{Machine, IsUnderstood, Answer, Answers, answer, start, refused, unless_refused, if_some, for_slot, is_query, is_transaction, is_safe, risen, with_book, cover, changed_first, without_first, scan, scan_found, scan_at, scan_gap, scanned, trim, trim_found, trimmed, applied_at, apply_step, apply_found, begin, open_query, answer_on, or_refusal}
 use Rattle.span_machine.specs.Pieces.{Pieced, Journaled, unread, covered_by, machine_of, queries_of}
 use Rattle.span_laws.proofs.Reached.{IsReached, start_reached, answer_reached, reached_tables}
 use Rattle.span_kept.specs.Kept.{AreKept, ArePieced, IsReading, family, horizon_in, horizon_of}

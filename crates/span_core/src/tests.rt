@@ -24,7 +24,8 @@ enum Call<'a> {
     Advance(usize, Clock),
     Trim(usize, u64),
     Open(&'a str, Bound, Clock),
-    Scan(u64, Clock),
+    /// Of a query, a leaf.
+    Scan(u64, usize, Clock),
     Finish(u64),
     Close(u64),
 }
@@ -113,7 +114,7 @@ fn interval(clock: Clock) -> Result<Interval, Fail> {
 
 /// Takes the step.
 fn reply_to(alloc: Global, core: &mut Core, call: &Call<'_>) -> Result<Reply, Fail> {
-    let (owner, slot, leaf) = (0, 0, 0);
+    let (owner, slot) = (0, 0);
     Ok(match *call {
         Call::Begin(asked) => begin(alloc, core, asked)?,
         Call::Prepare(txn) => core.step(alloc, Step::Prepare { owner, txn, slot }),
@@ -147,7 +148,7 @@ fn reply_to(alloc: Global, core: &mut Core, call: &Call<'_>) -> Result<Reply, Fa
         }
         Call::Trim(slot, h) => core.step(alloc, Step::Trim { slot, h }),
         Call::Open(text, bound, clock) => open(alloc, core, text, bound, clock)?,
-        Call::Scan(query, clock) => {
+        Call::Scan(query, leaf, clock) => {
             let interval = interval(clock)?;
             core.step(
                 alloc,
@@ -244,12 +245,12 @@ const BOUNDARY: [Call<'static>; 16] = [
     Call::Decide(1, COMMIT, (100, 110)),
     Call::Apply(1, NOW),
     Call::Open(TEXT, Bound::At(110), NOW),
-    Call::Scan(1, NOW),
+    Call::Scan(1, 0, NOW),
     Call::Finish(1),
     Call::Open(TEXT, Bound::At(111), NOW),
     Call::Finish(2),
-    Call::Scan(2, NOW),
-    Call::Scan(2, NOW),
+    Call::Scan(2, 0, NOW),
+    Call::Scan(2, 0, NOW),
     Call::Finish(2),
     Call::Close(2),
     Call::Close(2),
@@ -288,21 +289,66 @@ fn boundary(rt: HostRuntime) -> Result<(), Fail> {
     Ok(())
 }
 
+const PAIRS: [Call<'static>; 11] = [
+    Call::Begin(&[INSERT_A, INSERT_B]),
+    Call::Prepare(1),
+    Call::Decide(1, COMMIT, (100, 110)),
+    Call::Apply(1, NOW),
+    Call::Open(
+        "SELECT a.uid, b.email FROM Users a JOIN Users b ON a.uid < b.uid",
+        Bound::Strong,
+        NOW,
+    ),
+    Call::Scan(1, 1, NOW),
+    Call::Scan(1, 1, NOW),
+    Call::Finish(1),
+    Call::Scan(1, 2, NOW),
+    Call::Scan(1, 0, NOW),
+    Call::Finish(1),
+];
+
+/// A query of two leaves is covered leaf by leaf, and is answered once both are.
+#[test]
+fn pairs(rt: HostRuntime) -> Result<(), Fail> {
+    let alloc = rt.alloc();
+    let mut rows = Seq::new(alloc);
+    rows.push(row(alloc, 1, "b")?)?;
+    let expected = vec![in alloc;
+        Reply::Began(1),
+        Reply::Prepared(1),
+        Reply::Decided(111),
+        Reply::Applied,
+        Reply::Opened {
+            query: 1,
+            s: 210,
+            leaves: 2,
+        },
+        Reply::Scanned,
+        Reply::Nothing,
+        Reply::Refused(Refusal::Incomplete),
+        Reply::Refused(Refusal::UnknownQuery),
+        Reply::Scanned,
+        Reply::Rows { s: 210, rows },
+    ]?;
+    assert_eq!(rt; replies_to(alloc, &PAIRS)?.as_slice(), expected.as_slice());
+    Ok(())
+}
+
 const EARLY: Clock = (100, 110);
 
 const ABORTED: [Call<'static>; 14] = [
     Call::Begin(&[INSERT_A]),
     Call::Prepare(1),
     Call::Open(TEXT, Bound::At(50), EARLY),
-    Call::Scan(1, EARLY),
+    Call::Scan(1, 0, EARLY),
     Call::Decide(1, Verdict::Abort, EARLY),
-    Call::Scan(1, EARLY),
+    Call::Scan(1, 0, EARLY),
     Call::Apply(1, EARLY),
-    Call::Scan(1, EARLY),
+    Call::Scan(1, 0, EARLY),
     Call::Finish(1),
     Call::Trim(0, 50),
     Call::Apply(1, EARLY),
-    Call::Open("SELECT * FROM users", Bound::Strong, EARLY),
+    Call::Open("SELECT * FROM Others", Bound::Strong, EARLY),
     Call::Open("SELECT *, FROM Users", Bound::Strong, EARLY),
     Call::Open(TEXT, Bound::At(4611686018427387904), EARLY),
 ];
@@ -342,7 +388,7 @@ const COMMIT_WAIT: [Call<'static>; 13] = [
     Call::Decide(2, COMMIT, (111, 130)),
     Call::Decide(1, COMMIT, EARLY),
     Call::Open(TEXT, Bound::At(111), NOW),
-    Call::Scan(1, NOW),
+    Call::Scan(1, 0, NOW),
     Call::Apply(1, (111, 130)),
     Call::Apply(1, (112, 130)),
     Call::Begin(&[INSERT_A]),
@@ -445,15 +491,15 @@ const TRIM: [Call<'static>; 17] = [
     Call::Decide(1, COMMIT, EARLY),
     Call::Apply(1, NOW),
     Call::Open(TEXT, Bound::At(150), NOW),
-    Call::Scan(1, NOW),
+    Call::Scan(1, 0, NOW),
     Call::Trim(0, 160),
     Call::Advance(0, NOW),
     Call::Trim(0, 160),
     Call::Finish(1),
     Call::Open(TEXT, Bound::At(150), NOW),
-    Call::Scan(2, NOW),
+    Call::Scan(2, 0, NOW),
     Call::Open(TEXT, Bound::At(160), NOW),
-    Call::Scan(3, NOW),
+    Call::Scan(3, 0, NOW),
     Call::Finish(3),
     Call::Trim(0, 159),
     Call::Trim(1, 160),

@@ -1,4 +1,4 @@
-use Rattle.std.proofs.Common.{◌≡◌, ◌≢◌, nat_lt, ℕ, ◌≤◌, ◌<◌, ◌^◌, ◌==◌, cond, subst, length, true, false, List, Option, Some, None, Result, Ok, Err, refl, ap, sym, ◌∙◌, inr, arith}
+use Rattle.std.proofs.Common.{◌≡◌, ◌≢◌, nat_lt, ℕ, ◌≤◌, ◌<◌, ◌^◌, ◌==◌, cond, subst, length, true, false, List, Option, Some, None, refl, ap, sym, ◌∙◌, arith}
 use Rattle.std.proofs.lemmas.Bool.Decides.{nat_tests}
 use Rattle.std.specs.List.{list_all}
 use Rattle.std.specs.Prelude.{find, option_map, slice_get, slice_set, remove}
@@ -9,12 +9,11 @@ use Rattle.span_machine.specs.declared.transaction.OpenTransaction.{OpenTransact
 use Rattle.span_machine.specs.Place.{IsPlace}
 use Rattle.span_journal.specs.Judged.{IsNoted, IsApplied, MayScan, outcome_of}
 use Rattle.span_journal.proofs.Preparing.{a_stamp}
-use Rattle.span_value.specs.declared.refusal.Refusal.{Refusal}
 use Rattle.span_value.specs.declared.refusal.Refusal.TheVariants as refusal
 use Rattle.span_machine.specs.declared.query.Leaf.{Leaf}
 use Rattle.span_machine.specs.declared.query.OpenQuery.{OpenQuery}
 use Rattle.span_machine.specs.declared.step.Reply.TheVariants as reply
-use Rattle.span_machine.specs.Machine.{Machine, Answer, refused, if_some, is_query, is_transaction, without_first, closed, close, add_prepared, without_prepared, prepare_timestamp, with_last, apply_refusal, applied, applied_at, scan, scan_found, scan_at, scan_gap, scanned, is_safe, risen, with_book, changed_first, cover, finish, finish_found, for_slot, is_covered, answer_on, meaning}
+use Rattle.span_machine.specs.Machine.{Answer, refused, if_some, is_query, is_transaction, without_first, closed, close, add_prepared, without_prepared, prepare_timestamp, with_last, apply_refusal, applied, applied_at, scan, scan_found, scan_at, scan_gap, scanned, is_safe, risen, with_book, changed_first, cover, finish, finish_found, for_slot, is_covered, answer_on, meaning}
 use Rattle.span_machine.specs.Pieces.{Pieced, Journaled, machine_of, queries_of}
 use Rattle.span_machine.proofs.PiecedLists.{find-map, without_first-map}
 

@@ -1,4 +1,4 @@
-use Rattle.std.proofs.Common.{◌≡◌, ◌≤◌, ℕ, zero, suc, Bool, true, false, cond, List, [], ◌∷◌, ◌++◌, length, Option, Some, None, Result, Ok, refl, ap, sym, ◌∙◌, subst}
+use Rattle.std.proofs.Common.{◌≡◌, ◌≤◌, ℕ, zero, suc, Bool, true, false, cond, List, [], ◌∷◌, ◌++◌, length, Option, Some, Result, Ok, refl, ap, sym, ◌∙◌, subst}
 use Rattle.std.specs.Prelude.{find, map, option_map, slice_get, slice_set}
 use Rattle.std.specs.List.{AllByRecursion, list_all, list_any}
 use Rattle.span_value.specs.declared.refusal.Refusal.{Refusal}
@@ -14,7 +14,7 @@ use Rattle.span_machine.specs.declared.step.Step.{Step}
 use Rattle.span_machine.specs.declared.step.Step.TheVariants.{Finish}
 use Rattle.span_machine.specs.declared.transaction.Commit.{Commit}
 use Rattle.span_machine.specs.Tables.{tables, upto, mutations_of}
-use Rattle.span_machine.specs.Machine.{Machine, Answer, answer, answer_on, or_refusal, if_some, is_query, is_safe, is_covered, uncovered, with_covered, cover, tables_of, changed_first, without_first}
+use Rattle.span_machine.specs.Machine.{Machine, answer, answer_on, or_refusal, if_some, is_query, is_safe, is_covered, uncovered, with_covered, cover, tables_of, changed_first, without_first}
 use Rattle.span_machine.specs.Pieces.{Pieced, no_rows, unread, covered_by, queries_of}
 use Rattle.span_laws.proofs.Lists.{all_push, all_without, all_changed_found, all_found}
 use Rattle.span_laws.proofs.Locality.{apply_alike, empty_database, ok_same}
@@ -22,7 +22,7 @@ use Rattle.span_laws.proofs.Sealed.{answer_keeps}
 use Rattle.span_laws.proofs.Sound.{IsCoveredSealed}
 use Rattle.span_laws.proofs.Reached.{IsReached, reached_tables, finish_meant}
 use Rattle.span_laws.proofs.Tests.{first_true, second_true, first_or, second_or}
-use Rattle.span_kept.specs.Kept.{AreKept, IsReading, HasTable, IsLeafPiece, AreLeafPieces, IsPieced, ArePieced, family, horizon_of}
+use Rattle.span_kept.specs.Kept.{AreKept, IsReading, HasTable, AreLeafPieces, IsPieced, ArePieced, family, horizon_of}
 use Rattle.span_kept.proofs.Snapshots.{snapshot_when_safe}
 use Rattle.span_schema.specs.declared.table.Table.{Table}
 use Rattle.span_schema.specs.Lineages.{MeetsRules}

@@ -1,4 +1,4 @@
-use Rattle.std.proofs.Common.{◌≡◌, ℕ, ◌<◌, ◌+◌, ◌^◌, Bool, true, false, cond, ◌||◌, ◌==◌, nat_le, List, [], ◌∷◌, ◌++◌, length, Some, None, Result, Ok, Err, refl, ap, sym, ◌∙◌, subst, inl, inr, ◌⊎◌, arith}
+use Rattle.std.proofs.Common.{◌≡◌, ℕ, ◌<◌, ◌+◌, Bool, true, false, cond, ◌==◌, List, [], ◌∷◌, ◌++◌, length, Some, None, Result, Ok, Err, refl, ap, sym, ◌∙◌, subst, inl, inr, ◌⊎◌, arith}
 use Rattle.std.specs.Prelude.{find}
 use Rattle.std.proofs.lemmas.Bool.Decides.{nat_tests}
 use Rattle.std.proofs.lemmas.List.{append-nil}
@@ -12,7 +12,7 @@ use Rattle.span_mutate.specs.declared.row.TableRow.{TableRow}
 use Rattle.span_mutate.specs.Directories.{Root}
 use Rattle.span_truetime.specs.declared.bound.Bound.{Bound}
 use Rattle.span_truetime.specs.declared.interval.Interval.{Interval}
-use Rattle.span_truetime.specs.Time.{timestamp_end, timestamp_of}
+use Rattle.span_truetime.specs.Time.{timestamp_of}
 use Rattle.span_machine.specs.declared.query.OpenQuery.{OpenQuery}
 use Rattle.span_params.specs.declared.params.Parameter.{Parameter}
 use Rattle.span_query.specs.declared.query.Statement.{Statement}

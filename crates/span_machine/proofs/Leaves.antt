@@ -1,5 +1,5 @@
 -- The leaves of an open query.
-use Rattle.std.proofs.Common.{◌≡◌, ℕ, zero, suc, Bool, true, false, ◌&&◌, ◌||◌, List, [], ◌∷◌, length, Option, Some, None, refl, ap, inl, inr, ◌⊎◌}
+use Rattle.std.proofs.Common.{◌≡◌, ℕ, zero, suc, Bool, true, false, ◌&&◌, ◌||◌, List, [], ◌∷◌, Option, Some, None, refl, ap, inl, inr, ◌⊎◌}
 use Rattle.std.specs.Prelude.{map, slice_get, slice_set}
 use Rattle.std.specs.List.{list_all, list_any}
 use Rattle.span_machine.specs.declared.query.Leaf.{Leaf}

@@ -14,7 +14,6 @@ use Rattle.span_machine.specs.declared.step.Verdict.{Verdict}
 use Rattle.span_machine.specs.declared.step.Verdict.TheVariants as verdict
 use Rattle.span_truetime.specs.declared.bound.Bound.{Bound}
 use Rattle.span_params.specs.declared.params.Parameter.{Parameter}
-use Rattle.span_query.specs.declared.query.BoundQuery.{BoundQuery}
 use Rattle.span_query.specs.declared.query.Statement.{Statement}
 use Rattle.span_query.specs.Rows.{Row, Rows}
 use Rattle.span_truetime.specs.Time.{timestamp_end, timestamp_of}

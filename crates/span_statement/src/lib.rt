@@ -4,5 +4,4 @@
 //! [`understand::understand`] is held to it.
 #![tactic(auto)]
 
-mod text;
 pub mod understand;

@@ -1,24 +1,23 @@
 //! From a text to a statement.
-ghost use Rattle.std.specs.Prelude.{◌≡◌, ◌⊎◌, Result, Ok, Err, IfOk, IfErr, map};
-ghost use Rattle.std.specs.List.{AllByRecursion, range_with_len};
-ghost use Rattle.span_expr.specs.declared.expr.Expr.TheVariants.{Column};
+ghost use Rattle.std.specs.Prelude.{◌≡◌, ◌⊎◌, Result, Ok, Err, IfOk, IfErr};
+ghost use Rattle.std.specs.List.{AllByRecursion};
 ghost use Rattle.span_query.specs.declared.query.Statement.{Statement};
 ghost use Rattle.span_schema.specs.Numbers.{IsTable};
 ghost use Rattle.span_value.specs.declared.refusal.Refusal.{Refusal};
-ghost use Rattle.span_statement.specs.Understands.{all_of, Understands};
+ghost use Rattle.span_statement.specs.Understands.{Understands};
 
-use super::text::table_asked;
-use span_expr::expr::Expr;
+use span_binder::binding::bind;
 use span_params::params::Params;
-use span_query::query::{Block, BoundQuery, Item, Statement};
+use span_parser::parse::parse_select;
+use span_query::query::Statement;
 use span_schema::schema::Schema;
 use span_value::refusal::Refusal;
-use span_value::seq::Seq;
-use sqlite_items::Items;
-use std::alloc::{AllocError, Global};
+use std::alloc::Global;
 
-/// The statement that a text is with these parameters, or why it is none: the refusal that the definition has for it, or want of
-/// memory.
+/// The statement that a text is with these parameters.
+///
+/// The error is the first of these, or want of memory: `TextTooLong`, `BadToken`, `Syntax` or `TooDeep` where the text is no query of the
+/// grammar, as [`parse_select`] judges it; then the first fault in its tree, as [`bind`] judges it.
 pub fn understand(
     alloc: Global,
     schema: &Schema,
@@ -29,47 +28,11 @@ pub fn understand(
     ensures understood { IfOk result (λ q. Understands schema.now text.now params.now (Ok q)) }
     ensures refused { IfErr result (λ why. (why ≡ Refusal.OutOfMemory) ⊎ Understands schema.now text.now params.now (Err why)) }
     ensures all { (u : Result Statement Refusal) → Understands schema.now text.now params.now u → (result ≡ u) ⊎ (result ≡ Err Refusal.OutOfMemory) }
-
+    // The leaves are tables of the schema.
     ensures leaves { IfOk result (λ q. AllByRecursion (IsTable schema.now) q.leaves) }
 {
-    let _ = params;
-    match table_asked(schema, text) {
-        Ok(table) => Ok(all_of(alloc, schema, table)?),
-        Err(why) => Err(why),
+    match parse_select(alloc, text) {
+        Ok(tree) => bind(alloc, schema, &tree, params),
+        Err(fault) => Err(fault.refusal),
     }
-}
-
-/// The statement that asks for all rows of a table.
-fn all_of(alloc: Global, schema: &Schema, table: usize) -> Result<Statement, AllocError>
-    requires { IsTable schema.now table }
-    ensures { IfOk result (λ q. q ≡ all_of schema.now table) }
-{
-    let mut leaves = Seq::new(alloc);
-    leaves.push(table)?;
-    let block = Block {
-        from: Item::Table(1),
-        joins: Items::new(alloc),
-        filter: None,
-        grouping: None,
-        outputs: columns(alloc, schema.table(table).columns.len())?,
-        is_distinct: false,
-    };
-    let query = BoundQuery {
-        first: block,
-        others: Items::new(alloc),
-        order: Items::new(alloc),
-        limit: None,
-    };
-    Ok(Statement { query, leaves })
-}
-
-/// The columns at all places below a number.
-fn columns(alloc: Global, count: usize) -> Result<Items<Expr>, AllocError>
-    ensures { IfOk result (λ columns. columns ≡ map Column (range_with_len 0 count)) }
-{
-    let mut columns = Items::new(alloc);
-    for place in 0..count {
-        columns.push(Expr::Column(place))?;
-    }
-    Ok(columns)
 }

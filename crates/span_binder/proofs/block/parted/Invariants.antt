@@ -1,4 +1,4 @@
-use Rattle.std.proofs.Common.{◌≡◌, map}
+use Rattle.std.proofs.Common.{◌≡◌}
 use Rattle.span_binder.specs.Blocks as spec
 use Rattle.span_binder.proofs.block.parted.Given as goal
 

@@ -1,4 +1,4 @@
-use Rattle.std.proofs.Common.{◌≡◌, ◌++◌, length, drop}
+use Rattle.std.proofs.Common.{◌≡◌, ◌++◌, drop}
 use Rattle.span_binder.specs.Outputs as spec
 use Rattle.span_binder.proofs.output.places_of.Given as goal
 

@@ -6,7 +6,6 @@ use Rattle.span_kept.proofs.Steps.{kept_decide}
 use Rattle.span_core.proofs.Wholes.{whole_step, no_text}
 use Rattle.span_core.proofs.database.Core.decide.Goals as goal
 use Rattle.span_core.specs.Histories.{Steps}
-use Rattle.span_machine.specs.declared.step.Reply.TheVariants as reply
 use Rattle.span_machine.specs.declared.step.Reply.{Reply}
 use Rattle.span_journal.specs.Judged.{replied, decided}
 use Rattle.span_core.specs.Whole.{State}

@@ -4,7 +4,6 @@ use Rattle.span_machine.specs.Machine.{Answer}
 use Rattle.span_core.specs.Histories.{Steps}
 use Rattle.span_machine.specs.declared.step.Step.TheVariants as step
 use Rattle.span_machine.specs.declared.step.Reply.{Reply}
-use Rattle.span_machine.specs.declared.step.Reply.TheVariants as reply
 use Rattle.span_core.specs.Whole.{State}
 use Rattle.span_core.proofs.Wholes.{no_text, finished, unfinished}
 use Rattle.span_core.proofs.database.Core.finish.Goals as goal

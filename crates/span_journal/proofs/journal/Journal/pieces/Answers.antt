@@ -1,12 +1,12 @@
-use Rattle.std.proofs.Common.{◌≡◌, cond, List, None, Bool, true, false, not, sym, ap, ◌∙◌, subst}
+use Rattle.std.proofs.Common.{◌≡◌, List, None, false, sym, ap, ◌∙◌, subst}
 use Rattle.std.specs.Prelude.{find}
 use Rattle.std.specs.List.{list_all}
-use Rattle.span_machine.specs.Machine.{is_query, is_covered, refused, finish, answer_on, meaning}
+use Rattle.span_machine.specs.Machine.{is_query, is_covered, refused, finish}
 use Rattle.span_machine.specs.Place.{IsPlace}
 use Rattle.span_machine.specs.Pieces.{Pieced, Journaled, machine_of}
 use Rattle.span_value.specs.declared.refusal.Refusal.TheVariants as refusal
 use Rattle.span_journal.specs.Judged.{IsCovered}
-use Rattle.span_journal.proofs.Stepping.{finish_none, finish_some, finish_uncovered}
+use Rattle.span_journal.proofs.Stepping.{finish_none, finish_uncovered}
 use Rattle.span_journal.proofs.journal.Journal.pieces.Goals as goal
 
 pub returns-in_default-clause-refused : goal.returns-in_default-clause-refused
