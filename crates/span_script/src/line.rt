@@ -1,0 +1,138 @@
+//! The lines of a script, from an input, with one buffer.
+use super::device::Input;
+use memchr::memchr;
+use span_value::refusal::Refusal;
+use std::alloc::Global;
+
+/// How many bytes a line may have, without the LF that ends it.
+pub const LONGEST_LINE: usize = 2_097_152;
+
+/// How many bytes the buffer has at first.
+const FIRST_ROOM: usize = 65_536;
+
+/// A line, without the LF that ends it.
+#[derive(Clone, Copy, Debug, PartialEq, Eq)]
+pub enum Line<'a> {
+    Text(&'a str),
+    /// It is too long, or not in UTF-8.
+    Unreadable,
+}
+
+/// The lines of a script that were read and not taken yet.
+#[derive(Drop)]
+pub struct Lines {
+    buffer: Vec<u8>,
+    /// Where the bytes begin that belong to no line that was taken.
+    start: usize,
+    /// Up to here they have no LF.
+    searched: usize,
+    /// Where they end.
+    end: usize,
+    /// The place of the first LF, once it is found.
+    newline: Option<usize>,
+    /// Whether the input has ended.
+    has_ended: bool,
+    /// Whether the line that begins at `start` had more bytes than a line may have, which are gone.
+    is_cut: bool,
+}
+
+impl Lines {
+    /// No lines. It takes no memory.
+    pub fn new(alloc: Global) -> Lines {
+        Lines {
+            buffer: Vec::new(alloc),
+            start: 0,
+            searched: 0,
+            end: 0,
+            newline: None,
+            has_ended: false,
+            is_cut: false,
+        }
+    }
+
+    /// Whether `take` answers without a further read: a whole line was read, or the script to its end.
+    pub fn is_ready(&mut self) -> bool {
+        if self.newline.is_none() {
+            self.search();
+        }
+        self.newline.is_some() || self.has_ended
+    }
+
+    /// Looks for the end of the first line in what was not searched yet.
+    fn search(&mut self) {
+        let unsearched = &self.buffer.as_slice()[self.searched..self.end];
+        match memchr(b'\n', unsearched) {
+            Some(at) => self.newline = Some(self.searched + at),
+            None => self.searched = self.end,
+        }
+    }
+
+    /// Reads once more. `InputFault` where the device failed, `OutOfMemory` where the buffer can't grow.
+    pub fn read(&mut self, input: &mut impl Input) -> Result<(), Refusal> {
+        self.make_room()?;
+        let count = input.read(&mut self.buffer.as_mut_slice()[self.end..])?;
+        if count == 0 {
+            self.has_ended = true;
+        }
+        self.end += count;
+        Ok(())
+    }
+
+    /// Makes room behind the bytes that are there. Those of a line that is too long go.
+    fn make_room(&mut self) -> Result<(), Refusal> {
+        if self.end - self.start > LONGEST_LINE {
+            self.is_cut = true;
+            self.start = self.end;
+        }
+        if self.start > 0 {
+            self.buffer.copy_within(self.start..self.end, 0);
+            self.end -= self.start;
+            self.searched = self.end;
+            self.start = 0;
+        }
+        if self.end == self.buffer.len() {
+            let room = self
+                .end
+                .saturating_mul(2)
+                .clamp(FIRST_ROOM, LONGEST_LINE + 1);
+            self.buffer.resize(room, 0)?;
+        }
+        Ok(())
+    }
+
+    /// The next line; None where there is none any more.
+    pub fn take(&mut self) -> Option<Line<'_>> {
+        let (from, is_cut) = (self.start, self.is_cut);
+        let to = match self.newline {
+            Some(at) => {
+                self.start = at + 1;
+                at
+            }
+            None => {
+                if self.start == self.end && !is_cut {
+                    return None;
+                }
+                self.start = self.end;
+                self.end
+            }
+        };
+        self.searched = self.start;
+        self.newline = None;
+        self.is_cut = false;
+        if is_cut {
+            return Some(Line::Unreadable);
+        }
+        Some(line_of(&self.buffer.as_slice()[from..to]))
+    }
+}
+
+/// The line that the bytes are.
+fn line_of(bytes: &[u8]) -> Line<'_> {
+    if bytes.len() > LONGEST_LINE {
+        return Line::Unreadable;
+    }
+    match str::from_utf8(bytes) {
+        Ok(text) => Line::Text(text),
+        Err(_) => Line::Unreadable,
+    }
+}
