@@ -1,4 +1,7 @@
 //! Answers, as they stand in a script's output.
+ghost use Rattle.std.specs.Prelude.{◌≡◌, IfErr, OnOk, IsOkUnless};
+ghost use Rattle.span_script.specs.Device.{risen};
+
 use super::device::Output;
 use csv::Writer;
 use itoa::Buffer;
@@ -23,7 +26,9 @@ pub struct Answers {
 
 impl Answers {
     /// No answers, and room for some. `OutOfMemory` is the only refusal.
-    pub fn new(alloc: Global) -> Result<Answers, Refusal> {
+    pub fn new(alloc: Global) -> Result<Answers, Refusal>
+        ensures { IsOkUnless result Refusal.OutOfMemory }
+    {
         Ok(Answers {
             bytes: Vec::with_capacity(alloc, MOST_KEPT + ROOM)?,
         })
@@ -45,7 +50,10 @@ impl Answers {
     }
 
     /// Writes the answers out. `OutputFault` where the device failed: then a beginning of them was written.
-    pub fn write_to(&mut self, output: &mut impl Output) -> Result<(), Refusal> {
+    pub fn write_to<O: Output>(&mut self, output: &mut O) -> Result<(), Refusal>
+        ensures ok { OnOk result (O.failures output.new ≡ O.failures output.old) }
+        ensures err { IfErr result (λ why. (why ≡ Refusal.OutputFault) × (O.failures output.new ≡ risen (O.failures output.old))) }
+    {
         let mut rest = self.bytes.as_slice();
         while !rest.is_empty() {
             let count = output.write(rest)?;
@@ -55,41 +63,55 @@ impl Answers {
         Ok(())
     }
 
-    fn text(&mut self, text: &str) -> Result<(), Refusal> {
+    fn text(&mut self, text: &str) -> Result<(), Refusal>
+        ensures { IsOkUnless result Refusal.OutOfMemory }
+    {
         self.bytes.extend_from_slice(text.as_bytes())?;
         Ok(())
     }
 
-    fn number(&mut self, number: u64) -> Result<(), Refusal> {
+    fn number(&mut self, number: u64) -> Result<(), Refusal>
+        ensures { IsOkUnless result Refusal.OutOfMemory }
+    {
         self.text(Buffer::new().format(number))
     }
 
     /// A word and a number.
-    fn numbered(&mut self, word: &str, number: u64) -> Result<(), Refusal> {
+    fn numbered(&mut self, word: &str, number: u64) -> Result<(), Refusal>
+        ensures { IsOkUnless result Refusal.OutOfMemory }
+    {
         self.text(word)?;
         self.text(" ")?;
         self.number(number)
     }
 
     /// A line of one word.
-    pub fn word_line(&mut self, word: &str) -> Result<(), Refusal> {
+    pub fn word_line(&mut self, word: &str) -> Result<(), Refusal>
+        ensures { IsOkUnless result Refusal.OutOfMemory }
+    {
         self.text(word)?;
         self.text("\n")
     }
 
     /// A line of a word and a number.
-    pub fn number_line(&mut self, word: &str, number: u64) -> Result<(), Refusal> {
+    pub fn number_line(&mut self, word: &str, number: u64) -> Result<(), Refusal>
+        ensures { IsOkUnless result Refusal.OutOfMemory }
+    {
         self.numbered(word, number)?;
         self.text("\n")
     }
 
     /// The answer to a refused command.
-    pub fn refused(&mut self, why: Refusal) -> Result<(), Refusal> {
+    pub fn refused(&mut self, why: Refusal) -> Result<(), Refusal>
+        ensures { IsOkUnless result Refusal.OutOfMemory }
+    {
         self.number_line("refused", why.number() as u64)
     }
 
     /// The answer that a reply is.
-    pub fn reply(&mut self, alloc: Global, reply: &Reply) -> Result<(), Refusal> {
+    pub fn reply(&mut self, alloc: Global, reply: &Reply) -> Result<(), Refusal>
+        ensures { IsOkUnless result Refusal.OutOfMemory }
+    {
         match reply {
             Reply::Began(number) => self.number_line("txn", *number),
             Reply::Prepared(timestamp) => self.number_line("prepared", *timestamp),
@@ -107,14 +129,18 @@ impl Answers {
         }
     }
 
-    fn opened(&mut self, query: u64, s: u64, leaves: usize) -> Result<(), Refusal> {
+    fn opened(&mut self, query: u64, s: u64, leaves: usize) -> Result<(), Refusal>
+        ensures { IsOkUnless result Refusal.OutOfMemory }
+    {
         self.numbered("query", query)?;
         self.numbered(" at", s)?;
         self.number_line(" leaves", leaves as u64)
     }
 
     /// How many rows there are, and each as a record of its cells.
-    fn rows(&mut self, alloc: Global, s: u64, rows: &[Row]) -> Result<(), Refusal> {
+    fn rows(&mut self, alloc: Global, s: u64, rows: &[Row]) -> Result<(), Refusal>
+        ensures { IsOkUnless result Refusal.OutOfMemory }
+    {
         self.numbered("rows", rows.len() as u64)?;
         self.number_line(" at", s)?;
         let mut records = Writer::from_writer(&mut self.bytes);
@@ -128,7 +154,9 @@ impl Answers {
     }
 
     /// How many slots are in use, and a line for each.
-    pub fn slots(&mut self, core: &Core) -> Result<(), Refusal> {
+    pub fn slots(&mut self, core: &Core) -> Result<(), Refusal>
+        ensures { IsOkUnless result Refusal.OutOfMemory }
+    {
         self.number_line("shards", core.slots() as u64)?;
         for slot in 0..core.slots() {
             if let Some(state) = core.slot_state(slot) {
@@ -138,7 +166,9 @@ impl Answers {
         Ok(())
     }
 
-    fn slot(&mut self, slot: usize, state: SlotState) -> Result<(), Refusal> {
+    fn slot(&mut self, slot: usize, state: SlotState) -> Result<(), Refusal>
+        ensures { IsOkUnless result Refusal.OutOfMemory }
+    {
         self.numbered("shard", slot as u64)?;
         self.numbered(" [-,-) last", state.last)?;
         self.numbered(" floor", state.floor)?;
@@ -153,7 +183,9 @@ fn write_row<W: io::Write + Drop>(
     alloc: Global,
     records: &mut Writer<W>,
     row: &[Value],
-) -> Result<(), Refusal> {
+) -> Result<(), Refusal>
+    ensures { IsOkUnless result Refusal.OutOfMemory }
+{
     for value in row {
         write_cell(alloc, records, value)?;
     }
@@ -168,7 +200,9 @@ fn write_cell<W: io::Write + Drop>(
     alloc: Global,
     records: &mut Writer<W>,
     value: &Value,
-) -> Result<(), Refusal> {
+) -> Result<(), Refusal>
+    ensures { IsOkUnless result Refusal.OutOfMemory }
+{
     let written = match value {
         Value::Int(number) => records.write_field(Buffer::new().format(*number).as_bytes()),
         value => records.write_field(cell_text(alloc, value)?.as_bytes()),

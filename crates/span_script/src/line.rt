@@ -1,4 +1,6 @@
 //! The lines of a script, from an input, with one buffer.
+ghost use Rattle.std.specs.Prelude.{◌≤◌, ◌<◌, vec_len, ForSome};
+
 use super::device::Input;
 use memchr::memchr;
 use span_value::refusal::Refusal;
@@ -34,6 +36,10 @@ pub struct Lines {
     has_ended: bool,
     /// Whether the line that begins at `start` had more bytes than a line may have, which are gone.
     is_cut: bool,
+    ghost in_order: { start ≤ searched },
+    ghost searched_within: { searched ≤ end },
+    ghost within: { end ≤ vec_len buffer },
+    ghost newline_within: { ForSome newline (λ at. (searched ≤ at) × (at < end)) },
 }
 
 impl Lines {
@@ -69,6 +75,7 @@ impl Lines {
 
     /// Reads once more. `InputFault` where the device failed, `OutOfMemory` where the buffer can't grow.
     pub fn read(&mut self, input: &mut impl Input) -> Result<(), Refusal> {
+        self.move_to_front();
         self.make_room()?;
         let count = input.read(&mut self.buffer.as_mut_slice()[self.end..])?;
         if count == 0 {
@@ -78,23 +85,26 @@ impl Lines {
         Ok(())
     }
 
-    /// Makes room behind the bytes that are there. Those of a line that is too long go.
-    fn make_room(&mut self) -> Result<(), Refusal> {
+    /// Moves what was not taken to the front of the buffer. The bytes of a line that is too long go.
+    fn move_to_front(&mut self) {
+        self.newline = None;
         if self.end - self.start > LONGEST_LINE {
             self.is_cut = true;
             self.start = self.end;
+            self.searched = self.end;
         }
         if self.start > 0 {
             self.buffer.copy_within(self.start..self.end, 0);
             self.end -= self.start;
-            self.searched = self.end;
+            self.searched -= self.start;
             self.start = 0;
         }
+    }
+
+    /// Makes room behind the bytes that are there, where there is none. `OutOfMemory` is the only refusal.
+    fn make_room(&mut self) -> Result<(), Refusal> {
         if self.end == self.buffer.len() {
-            let room = self
-                .end
-                .saturating_mul(2)
-                .clamp(FIRST_ROOM, LONGEST_LINE + 1);
+            let room = self.end.saturating_mul(2).max(FIRST_ROOM);
             self.buffer.resize(room, 0)?;
         }
         Ok(())

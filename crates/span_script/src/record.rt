@@ -1,4 +1,7 @@
 //! Records: the fields of a text.
+ghost use Rattle.std.specs.Prelude.{◌≡◌, ◌<◌, [], ◌∷◌, length, map, IfOk, IfSome, MatchOption};
+ghost use Rattle.span_script.specs.Words.{pieces};
+
 use csv::{ReaderBuilder, StringRecord};
 use memchr::memchr2;
 use span_value::refusal::Refusal;
@@ -34,13 +37,26 @@ fn is_plain(text: &str) -> bool {
     memchr2(b'"', b'\r', text.as_bytes()).is_none() && !text.starts_with('\u{feff}')
 }
 
-/// The pieces of the text between its commas.
-pub fn pieces_of(alloc: Global, text: &str) -> Result<Vec<&str>, AllocError> {
-    let mut pieces = Vec::new(alloc);
-    for piece in text.split(',') {
-        pieces.push(piece)?;
+/// The pieces of the text between its commas: one more than it has commas.
+pub fn pieces_of(alloc: Global, text: &str) -> Result<Vec<&str>, AllocError>
+    ensures { IfOk result (λ found. map (λ piece. piece.now) found.items ≡ pieces text.now) }
+{
+    let mut found = Vec::new(alloc);
+    let mut rest = text;
+    while let Some((piece, behind)) = at_comma(rest) {
+        found.push(piece)?;
+        rest = behind;
     }
-    Ok(pieces)
+    found.push(rest)?;
+    Ok(found)
+}
+
+/// What stands before the first comma and behind it.
+fn at_comma(text: &str) -> Option<(&str, &str)>
+    ensures cut { MatchOption result (pieces text.now ≡ text.now ∷ []) (λ x. pieces text.now ≡ x.0.now ∷ pieces x.1.now) }
+    ensures shorter { IfSome result (λ x. length x.1.now < length text.now) }
+{
+    text.split_once(',')
 }
 
 /// Reads the text's first record; whether it is the only one.

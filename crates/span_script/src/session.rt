@@ -1,4 +1,8 @@
 //! What a script has set and gathered, and its commands done one after another.
+ghost use Rattle.std.specs.Prelude.{List, IfSome};
+ghost use Rattle.span_schema.specs.declared.table.Table.{Table};
+ghost use Rattle.span_machine.specs.Run.{IsOfSchema};
+
 use super::answer::Answers;
 use super::command::{Command, read_command};
 use super::draft::Layout;
@@ -342,7 +346,9 @@ impl Session {
 }
 
 /// The step of a command that is one step of numbers alone.
-fn step_of(command: Command<'_>, clock: Interval) -> Option<Step> {
+fn step_of(command: Command<'_>, clock: Interval) -> Option<Step>
+    ensures { IfSome result (λ step. (schema : List Table) → IsOfSchema schema step) }
+{
     match command {
         Command::Prepare { txn, slot } => Some(Step::Prepare {
             owner: OWNER,
