@@ -1,5 +1,7 @@
 //! The lines of a script, from an input, with one buffer.
-ghost use Rattle.std.specs.Prelude.{◌≤◌, ◌<◌, vec_len, ForSome};
+ghost use Rattle.std.specs.Prelude.{◌≡◌, ◌⊎◌, ◌≤◌, ◌<◌, vec_len, IfErr, OnOk, IsOkUnless};
+ghost use Rattle.span_script.specs.Device.{risen};
+ghost use Rattle.std.specs.Option.{ForSome};
 
 use super::device::Input;
 use memchr::memchr;
@@ -69,12 +71,18 @@ impl Lines {
         let unsearched = &self.buffer.as_slice()[self.searched..self.end];
         match memchr(b'\n', unsearched) {
             Some(at) => self.newline = Some(self.searched + at),
-            None => self.searched = self.end,
+            None => {
+                self.newline = None;
+                self.searched = self.end;
+            }
         }
     }
 
     /// Reads once more. `InputFault` where the device failed, `OutOfMemory` where the buffer can't grow.
-    pub fn read(&mut self, input: &mut impl Input) -> Result<(), Refusal> {
+    pub fn read<I: Input>(&mut self, input: &mut I) -> Result<(), Refusal>
+        ensures ok { OnOk result (I.failures input.new ≡ I.failures input.old) }
+        ensures err { IfErr result (λ why. (why ≡ Refusal.OutOfMemory) ⊎ ((why ≡ Refusal.InputFault) × (I.failures input.new ≡ risen (I.failures input.old)))) }
+    {
         self.move_to_front();
         self.make_room()?;
         let count = input.read(&mut self.buffer.as_mut_slice()[self.end..])?;
@@ -102,7 +110,9 @@ impl Lines {
     }
 
     /// Makes room behind the bytes that are there, where there is none. `OutOfMemory` is the only refusal.
-    fn make_room(&mut self) -> Result<(), Refusal> {
+    fn make_room(&mut self) -> Result<(), Refusal>
+        ensures { IsOkUnless result Refusal.OutOfMemory }
+    {
         if self.end == self.buffer.len() {
             let room = self.end.saturating_mul(2).max(FIRST_ROOM);
             self.buffer.resize(room, 0)?;

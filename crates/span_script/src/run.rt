@@ -1,4 +1,7 @@
 //! Whole scripts.
+ghost use Rattle.std.specs.Prelude.{◌≡◌, ◌⊎◌, IfErr, OnOk};
+ghost use Rattle.span_script.specs.Device.{risen};
+
 use super::answer::Answers;
 use super::device::{Input, Output};
 use super::line::Lines;
@@ -17,7 +20,12 @@ pub fn run<I: Input, O: Output>(
     input: &mut I,
     output: &mut O,
     core: &mut Core,
-) -> Result<(), Refusal> {
+) -> Result<(), Refusal>
+    ensures ok { OnOk result ((I.failures input.new ≡ I.failures input.old) × (O.failures output.new ≡ O.failures output.old)) }
+    ensures err { IfErr result (λ why. (why ≡ Refusal.OutOfMemory)
+        ⊎ ((why ≡ Refusal.InputFault) × (I.failures input.new ≡ risen (I.failures input.old)))
+        ⊎ ((why ≡ Refusal.OutputFault) × (O.failures output.new ≡ risen (O.failures output.old)))) }
+{
     let mut lines = Lines::new(alloc);
     let mut session = Session::new(alloc);
     let mut answers = Answers::new(alloc)?;

@@ -1,5 +1,5 @@
 //! What a script has set and gathered, and its commands done one after another.
-ghost use Rattle.std.specs.Prelude.{List, IfSome};
+ghost use Rattle.std.specs.Prelude.{List, IfSome, IsOkUnless};
 ghost use Rattle.span_schema.specs.declared.table.Table.{Table};
 ghost use Rattle.span_machine.specs.Run.{IsOfSchema};
 
@@ -64,7 +64,9 @@ impl Session {
         core: &mut Core,
         line: Line<'_>,
         answers: &mut Answers,
-    ) -> Result<(), Refusal> {
+    ) -> Result<(), Refusal>
+        ensures { IsOkUnless result Refusal.OutOfMemory }
+    {
         let before = answers.len();
         match self.answer_line(alloc, core, line, answers) {
             Ok(()) => Ok(()),
@@ -76,7 +78,9 @@ impl Session {
     }
 
     /// The end of the script: a load without its `end` is refused.
-    pub fn finish(&mut self, answers: &mut Answers) -> Result<(), Refusal> {
+    pub fn finish(&mut self, answers: &mut Answers) -> Result<(), Refusal>
+        ensures { IsOkUnless result Refusal.OutOfMemory }
+    {
         match self.load.take() {
             Some(load) => {
                 self.gathered.truncate(load.before);
