@@ -3,13 +3,14 @@
 
     tests/run_rows.py                 every row
     tests/run_rows.py --growths       and, for each row, each growth of memory refused in turn
+    tests/run_rows.py --devices       and, for each row, each read and each write failing in turn
     tests/run_rows.py NAME ..         these rows alone
 
 A row is NAME.script, NAME.expected, NAME.schema where it has a schema of its own (else default.schema), and NAME.status where its exit
 status is not 0. A file that ends in .gz is packed.
 
 With a growth refused, the answers before the line that met it are the row's, and that line is answered `refused 90`; or the program
-ends with status 1 after a beginning of the row's answers.
+ends with status 1 after a beginning of the row's answers. With a device that fails it ends with status 1 after a beginning of them.
 """
 import gzip
 import os
@@ -92,9 +93,10 @@ def first_difference(written, wanted):
     return f"{len(written)} bytes, wanted {len(wanted)}"
 
 
-def refuse_library(folder):
-    library = os.path.join(folder, "refuse_growth.so")
-    source = os.path.join(TOP, "tests", "refuse_growth.c")
+def built_library(folder, name):
+    """The library of a C file of the tests."""
+    library = os.path.join(folder, name + ".so")
+    source = os.path.join(TOP, "tests", name + ".c")
     subprocess.run(["cc", "-shared", "-fPIC", "-O2", "-o", library, source, "-ldl"], check=True)
     return library
 
@@ -121,6 +123,19 @@ def check_growths(row, library):
     return refused, None
 
 
+def check_devices(row, library):
+    """Lets the row's reads, then its writes, fail in turn: how many failed, and what is wrong, None where nothing is."""
+    environment = dict(os.environ, LD_PRELOAD=library)
+    _, errors, _ = row.run(environment)
+    reads, writes = re.search(rb"^reads (\d+) writes (\d+)$", errors, re.M).groups()
+    for word, most in (("FAIL_READ", int(reads)), ("FAIL_WRITE", int(writes))):
+        for number in range(1, most + 1):
+            written, _, status = row.run({**environment, word: str(number)})
+            if status != 1 or not row.expected.startswith(written):
+                return 0, f"{word}={number}: status {status}, or no beginning of the answers"
+    return int(reads) + int(writes), None
+
+
 def judge_refusal(row, written, status):
     """What is wrong with a run in which one growth was refused; None where nothing is."""
     if status == 1:
@@ -136,26 +151,30 @@ def judge_refusal(row, written, status):
 
 
 def main(words):
-    with_growths = "--growths" in words
     names = [word for word in words if not word.startswith("--")] or names_of_rows()
     build()
     passed, failed = 0, 0
     with tempfile.TemporaryDirectory() as folder:
-        library = refuse_library(folder) if with_growths else None
-        total = 0
+        faults = []
+        if "--growths" in words:
+            faults.append((check_growths, built_library(folder, "refuse_growth")))
+        if "--devices" in words:
+            faults.append((check_devices, built_library(folder, "fail_device")))
+        runs = 0
         for name in names:
             row = Row(name, folder)
             wrong = check_row(row)
-            if wrong is None and with_growths:
-                refused, wrong = check_growths(row, library)
-                total += refused
+            for check, library in faults:
+                if wrong is None:
+                    count, wrong = check(row, library)
+                    runs += count
             if wrong is None:
                 passed += 1
             else:
                 failed += 1
                 print(f"rows: {name}: {wrong}")
-    if with_growths:
-        print(f"rows: {total} growths refused in turn")
+    if faults:
+        print(f"rows: {runs} faults in turn")
     print(f"rows: {passed} passed, {failed} failed")
     return 0 if failed == 0 else 1
 

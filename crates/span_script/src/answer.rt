@@ -1,5 +1,8 @@
 //! Answers, as they stand in a script's output.
-ghost use Rattle.std.specs.Prelude.{◌≡◌, IfErr, OnOk, IsOkUnless};
+ghost use Rattle.std.specs.Prelude.{◌≡◌, ◌++◌, [], codes, IfErr, OnOk, IfOk, IsOkUnless};
+ghost use Rattle.std.specs.Fmt.{decimal};
+ghost use Rattle.span_value.specs.Refusals.{number_of};
+ghost use Rattle.span_script.specs.Lines.{numbered, number_line, word_line, opened_line, slot_line};
 ghost use Rattle.span_script.specs.Device.{risen};
 
 use super::device::Output;
@@ -11,6 +14,7 @@ use span_core::{Refusal, Reply, Row, Value};
 use span_value::cell::cell_text;
 use std::alloc::Global;
 use std::io;
+use std::marker::Model;
 
 /// Once there are so many bytes of answers, they are written.
 const MOST_KEPT: usize = 65_536;
@@ -24,10 +28,19 @@ pub struct Answers {
     bytes: Vec<u8>,
 }
 
+impl Model for Answers {
+    ghost use Rattle.std.specs.Prelude.{List, ℕ};
+
+    ghost Value = { List ℕ };
+
+    ghost view = { λ a. a.bytes.items };
+}
+
 impl Answers {
     /// No answers, and room for some. `OutOfMemory` is the only refusal.
     pub fn new(alloc: Global) -> Result<Answers, Refusal>
-        ensures { IsOkUnless result Refusal.OutOfMemory }
+        ensures none { IfOk result (λ answers. answers ≡ []) }
+        ensures memory { IsOkUnless result Refusal.OutOfMemory }
     {
         Ok(Answers {
             bytes: Vec::with_capacity(alloc, MOST_KEPT + ROOM)?,
@@ -64,21 +77,24 @@ impl Answers {
     }
 
     fn text(&mut self, text: &str) -> Result<(), Refusal>
-        ensures { IsOkUnless result Refusal.OutOfMemory }
+        ensures added { OnOk result (self.new ≡ self.old ++ text.now) }
+        ensures memory { IsOkUnless result Refusal.OutOfMemory }
     {
         self.bytes.extend_from_slice(text.as_bytes())?;
         Ok(())
     }
 
     fn number(&mut self, number: u64) -> Result<(), Refusal>
-        ensures { IsOkUnless result Refusal.OutOfMemory }
+        ensures added { OnOk result (self.new ≡ self.old ++ decimal number) }
+        ensures memory { IsOkUnless result Refusal.OutOfMemory }
     {
         self.text(Buffer::new().format(number))
     }
 
     /// A word and a number.
     fn numbered(&mut self, word: &str, number: u64) -> Result<(), Refusal>
-        ensures { IsOkUnless result Refusal.OutOfMemory }
+        ensures added { OnOk result (self.new ≡ self.old ++ numbered word.now number) }
+        ensures memory { IsOkUnless result Refusal.OutOfMemory }
     {
         self.text(word)?;
         self.text(" ")?;
@@ -87,7 +103,8 @@ impl Answers {
 
     /// A line of one word.
     pub fn word_line(&mut self, word: &str) -> Result<(), Refusal>
-        ensures { IsOkUnless result Refusal.OutOfMemory }
+        ensures added { OnOk result (self.new ≡ self.old ++ word_line word.now) }
+        ensures memory { IsOkUnless result Refusal.OutOfMemory }
     {
         self.text(word)?;
         self.text("\n")
@@ -95,7 +112,8 @@ impl Answers {
 
     /// A line of a word and a number.
     pub fn number_line(&mut self, word: &str, number: u64) -> Result<(), Refusal>
-        ensures { IsOkUnless result Refusal.OutOfMemory }
+        ensures added { OnOk result (self.new ≡ self.old ++ number_line word.now number) }
+        ensures memory { IsOkUnless result Refusal.OutOfMemory }
     {
         self.numbered(word, number)?;
         self.text("\n")
@@ -103,7 +121,8 @@ impl Answers {
 
     /// The answer to a refused command.
     pub fn refused(&mut self, why: Refusal) -> Result<(), Refusal>
-        ensures { IsOkUnless result Refusal.OutOfMemory }
+        ensures added { OnOk result (self.new ≡ self.old ++ number_line (codes "refused") (number_of why)) }
+        ensures memory { IsOkUnless result Refusal.OutOfMemory }
     {
         self.number_line("refused", why.number() as u64)
     }
@@ -130,7 +149,8 @@ impl Answers {
     }
 
     fn opened(&mut self, query: u64, s: u64, leaves: usize) -> Result<(), Refusal>
-        ensures { IsOkUnless result Refusal.OutOfMemory }
+        ensures added { OnOk result (self.new ≡ self.old ++ opened_line query s leaves) }
+        ensures memory { IsOkUnless result Refusal.OutOfMemory }
     {
         self.numbered("query", query)?;
         self.numbered(" at", s)?;
@@ -167,7 +187,8 @@ impl Answers {
     }
 
     fn slot(&mut self, slot: usize, state: SlotState) -> Result<(), Refusal>
-        ensures { IsOkUnless result Refusal.OutOfMemory }
+        ensures added { OnOk result (self.new ≡ self.old ++ slot_line slot state) }
+        ensures memory { IsOkUnless result Refusal.OutOfMemory }
     {
         self.numbered("shard", slot as u64)?;
         self.numbered(" [-,-) last", state.last)?;
