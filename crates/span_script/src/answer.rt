@@ -1,8 +1,8 @@
 //! Answers, as they stand in a script's output.
-ghost use Rattle.std.specs.Prelude.{◌≡◌, ◌++◌, [], codes, IfErr, OnOk, IfOk, IsOkUnless};
+ghost use Rattle.std.specs.Prelude.{◌≡◌, ◌++◌, [], codes, IfErr, IfSome, OnOk, IfOk, IsOkUnless};
 ghost use Rattle.std.specs.Fmt.{decimal};
 ghost use Rattle.span_value.specs.Refusals.{number_of};
-ghost use Rattle.span_script.specs.Lines.{numbered, number_line, word_line, opened_line, slot_line};
+ghost use Rattle.span_script.specs.Lines.{numbered, number_line, word_line, opened_line, slot_range, slot_times, slot_counts, slot_line, reply_line};
 ghost use Rattle.span_script.specs.Device.{risen};
 
 use super::device::Output;
@@ -129,7 +129,8 @@ impl Answers {
 
     /// The answer that a reply is.
     pub fn reply(&mut self, alloc: Global, reply: &Reply) -> Result<(), Refusal>
-        ensures { IsOkUnless result Refusal.OutOfMemory }
+        ensures added { OnOk result (IfSome (reply_line reply.now) (λ line. self.new ≡ self.old ++ line)) }
+        ensures memory { IsOkUnless result Refusal.OutOfMemory }
     {
         match reply {
             Reply::Began(number) => self.number_line("txn", *number),
@@ -186,14 +187,38 @@ impl Answers {
         Ok(())
     }
 
+    /// The line of a slot.
     fn slot(&mut self, slot: usize, state: SlotState) -> Result<(), Refusal>
         ensures added { OnOk result (self.new ≡ self.old ++ slot_line slot state) }
         ensures memory { IsOkUnless result Refusal.OutOfMemory }
     {
+        self.slot_range(slot)?;
+        self.slot_times(state)?;
+        self.slot_counts(state)
+    }
+
+    /// A slot's number, and its range: the whole one.
+    fn slot_range(&mut self, slot: usize) -> Result<(), Refusal>
+        ensures added { OnOk result (self.new ≡ self.old ++ slot_range slot) }
+        ensures memory { IsOkUnless result Refusal.OutOfMemory }
+    {
         self.numbered("shard", slot as u64)?;
-        self.numbered(" [-,-) last", state.last)?;
+        self.text(" [-,-)")
+    }
+
+    fn slot_times(&mut self, state: SlotState) -> Result<(), Refusal>
+        ensures added { OnOk result (self.new ≡ self.old ++ slot_times state) }
+        ensures memory { IsOkUnless result Refusal.OutOfMemory }
+    {
+        self.numbered(" last", state.last)?;
         self.numbered(" floor", state.floor)?;
-        self.numbered(" horizon", state.horizon)?;
+        self.numbered(" horizon", state.horizon)
+    }
+
+    fn slot_counts(&mut self, state: SlotState) -> Result<(), Refusal>
+        ensures added { OnOk result (self.new ≡ self.old ++ slot_counts state) }
+        ensures memory { IsOkUnless result Refusal.OutOfMemory }
+    {
         self.numbered(" live", state.live as u64)?;
         self.number_line(" prepared", state.prepared as u64)
     }
