@@ -1,7 +1,7 @@
 //! The core and its steps.
-ghost use Rattle.std.specs.Prelude.{◌≡◌, IfOk, IfErr};
+ghost use Rattle.std.specs.Prelude.{◌≡◌, IfOk, IfErr, Some, None, MatchOption, IfSome, length, slice_get, count_by};
 ghost use Rattle.span_core.specs.Histories.{Steps};
-ghost use Rattle.span_machine.specs.Machine.{start};
+ghost use Rattle.span_machine.specs.Machine.{start, is_prepared_at};
 ghost use Rattle.span_machine.specs.Run.{IsOfSchema};
 ghost use Rattle.span_mutate.specs.Typed.{AreTypedMutations};
 ghost use Rattle.span_machine.specs.declared.step.Step.TheVariants as step_of;
@@ -9,6 +9,7 @@ ghost use Rattle.span_machine.specs.declared.step.Reply.TheVariants as reply_of;
 ghost use Rattle.span_journal.specs.Judged.{replied};
 
 use super::reading::read;
+use super::slot::SlotState;
 use span_algebra::plain::eval_plain;
 use span_journal::journal::Journal;
 use span_machine::step::{Reply, Step, Verdict};
@@ -70,6 +71,28 @@ impl Core {
         ensures { result.now ≡ self.now.schema }
     {
         &self.schema
+    }
+
+    /// How many slots are in use. Their numbers, counted from 0, are below this.
+    pub fn slots(&self) -> usize
+        ensures { result ≡ length self.now.machine.books }
+    {
+        self.journal.books().len()
+    }
+
+    /// What is told of a slot; None where it is not in use.
+    pub fn slot_state(&self, slot: usize) -> Option<SlotState>
+        ensures book { MatchOption result (slice_get self.now.machine.books slot ≡ None) (λ s. slice_get self.now.machine.books slot ≡ Some (record { last = s.last; floor = s.floor; horizon = s.horizon })) }
+        ensures prepared { IfSome result (λ s. s.prepared ≡ count_by (is_prepared_at slot) self.now.machine.transactions) }
+    {
+        let book = self.journal.books().get(slot)?;
+        Some(SlotState {
+            last: book.last,
+            floor: book.floor,
+            horizon: book.horizon,
+            live: self.shard.live(),
+            prepared: self.journal.count_prepared(slot),
+        })
     }
 
     /// Takes one step, and answers the machine's reply. `Refused(OutOfMemory)` may stand in its place for a step that may take memory,

@@ -7,6 +7,7 @@
 pub mod database;
 mod reading;
 pub mod run;
+pub mod slot;
 #[cfg(test)]
 mod tests;
 

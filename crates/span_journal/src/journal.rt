@@ -1,6 +1,6 @@
 //! The journal and its calls.
 ghost use Rattle.std.specs.Prelude.{◌≡◌, ℕ, List, ◌<◌, ◌+◌, ◌^◌, [], ◌∷◌, ◌++◌, length, count_by, IfOk, IfErr, OnOk, OnErr, Some, None, Ok, true};
-ghost use Rattle.span_machine.specs.Machine.{Answers, IsAnswer, start, is_undecided, is_query, commit_refusal, commit_timestamp, begin, begun, prepare, decide, apply_step, advance, trim, trim_refusal, open_query, open_refusal, scan, finish, close, refused, without_first};
+ghost use Rattle.span_machine.specs.Machine.{Answers, IsAnswer, start, is_undecided, is_query, commit_refusal, commit_timestamp, begin, begun, prepare, decide, apply_step, advance, trim, trim_refusal, open_query, open_refusal, scan, finish, close, refused, without_first, is_prepared_at};
 ghost use Rattle.span_truetime.specs.Time.{timestamp_of};
 ghost use Rattle.span_schema.specs.declared.table.Table.{Table};
 ghost use Rattle.span_machine.specs.Pieces.{machine_of, unread};
@@ -15,7 +15,7 @@ use super::slots::{
 };
 use super::transaction::KeptTransaction;
 use super::transactions::{
-    abort_at, commit_at, copies_of, count_undecided, end_at, find_transaction, has_conflict,
+    abort_at, commit_at, copies_of, count_prepared, count_undecided, end_at, find_transaction, has_conflict,
     judge_apply, may_prepare, note_at, remove_at,
 };
 use span_machine::slot::Book;
@@ -112,6 +112,20 @@ impl Journal {
             next_transaction: 1,
             next_query: 1,
         })
+    }
+
+    /// What is known of the slots in use, in their order.
+    pub fn books(&self) -> &[Book]
+        ensures { result.now ≡ self.now.books }
+    {
+        self.books.as_slice()
+    }
+
+    /// How many transactions are prepared at the slot. A decided one is prepared until it is applied there.
+    pub fn count_prepared(&self, slot: usize) -> usize
+        ensures { result ≡ count_by (is_prepared_at slot) (machine_of self.now).transactions }
+    {
+        count_prepared(self.transactions.as_slice(), slot)
     }
 
     /// Begins a transaction, and answers its number. It makes the room in the log and the mutations of the log's entry, which the

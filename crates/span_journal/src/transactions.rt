@@ -59,6 +59,20 @@ pub(crate) fn is_prepared(transaction: &KeptTransaction, slot: usize) -> bool
     transaction.prepared().iter().any(|p| p.slot == slot)
 }
 
+/// How many transactions are prepared at the slot.
+#[tactic(auto, using(std::proofs::lemmas::List::Sums::count_by_more_yes, std::proofs::lemmas::List::Sums::count_by_more_no))]
+pub(crate) fn count_prepared(transactions: &[KeptTransaction], slot: usize) -> usize
+    ensures { result ≡ count_by (is_prepared_at slot) transactions.now }
+{
+    let mut prepared = 0;
+    for kept in transactions {
+        if is_prepared(kept, slot) {
+            prepared += 1;
+        }
+    }
+    prepared
+}
+
 /// Commits the transaction at a place.
 pub(crate) fn commit_at(
     alloc: Global,

@@ -1,0 +1,260 @@
+//! Answers, as they stand in a script's output.
+ghost use Rattle.std.specs.Prelude.{◌≡◌, ◌++◌, [], codes, IfErr, IfSome, OnOk, IfOk, IsOkUnless};
+ghost use Rattle.std.specs.Fmt.{decimal};
+ghost use Rattle.span_value.specs.Refusals.{number_of};
+ghost use Rattle.span_script.specs.Lines.{numbered, number_line, word_line, opened_line, slot_range, slot_times, slot_counts, slot_line, reply_line};
+ghost use Rattle.span_script.specs.Device.{risen};
+
+use super::device::Output;
+use csv::Writer;
+use itoa::Buffer;
+use span_core::database::Core;
+use span_core::slot::SlotState;
+use span_core::{Refusal, Reply, Row, Value};
+use span_value::cell::cell_text;
+use std::alloc::Global;
+use std::io;
+use std::marker::Model;
+
+/// Once there are so many bytes of answers, they are written.
+const MOST_KEPT: usize = 65_536;
+
+/// Room for answers of one line.
+const ROOM: usize = 4_096;
+
+/// The answers that are not written yet.
+#[derive(Drop)]
+pub struct Answers {
+    bytes: Vec<u8>,
+}
+
+impl Model for Answers {
+    ghost use Rattle.std.specs.Prelude.{List, ℕ};
+
+    ghost Value = { List ℕ };
+
+    ghost view = { λ a. a.bytes.items };
+}
+
+impl Answers {
+    /// No answers, and room for some. `OutOfMemory` is the only refusal.
+    pub fn new(alloc: Global) -> Result<Answers, Refusal>
+        ensures none { IfOk result (λ answers. answers ≡ []) }
+        ensures memory { IsOkUnless result Refusal.OutOfMemory }
+    {
+        Ok(Answers {
+            bytes: Vec::with_capacity(alloc, MOST_KEPT + ROOM)?,
+        })
+    }
+
+    /// How many bytes there are.
+    pub fn len(&self) -> usize {
+        self.bytes.len()
+    }
+
+    /// Whether it is time to write them.
+    pub fn are_many(&self) -> bool {
+        self.bytes.len() >= MOST_KEPT
+    }
+
+    /// Takes back what stands behind the first `len` bytes.
+    pub fn cut(&mut self, len: usize) {
+        self.bytes.truncate(len);
+    }
+
+    /// Writes the answers out. `OutputFault` where the device failed: then a beginning of them was written.
+    pub fn write_to<O: Output>(&mut self, output: &mut O) -> Result<(), Refusal>
+        ensures ok { OnOk result (O.failures output.new ≡ O.failures output.old) }
+        ensures err { IfErr result (λ why. (why ≡ Refusal.OutputFault) × (O.failures output.new ≡ risen (O.failures output.old))) }
+    {
+        let mut rest = self.bytes.as_slice();
+        while !rest.is_empty() {
+            let count = output.write(rest)?;
+            rest = &rest[count..];
+        }
+        self.bytes.clear();
+        Ok(())
+    }
+
+    fn text(&mut self, text: &str) -> Result<(), Refusal>
+        ensures added { OnOk result (self.new ≡ self.old ++ text.now) }
+        ensures memory { IsOkUnless result Refusal.OutOfMemory }
+    {
+        self.bytes.extend_from_slice(text.as_bytes())?;
+        Ok(())
+    }
+
+    fn number(&mut self, number: u64) -> Result<(), Refusal>
+        ensures added { OnOk result (self.new ≡ self.old ++ decimal number) }
+        ensures memory { IsOkUnless result Refusal.OutOfMemory }
+    {
+        self.text(Buffer::new().format(number))
+    }
+
+    /// A word and a number.
+    fn numbered(&mut self, word: &str, number: u64) -> Result<(), Refusal>
+        ensures added { OnOk result (self.new ≡ self.old ++ numbered word.now number) }
+        ensures memory { IsOkUnless result Refusal.OutOfMemory }
+    {
+        self.text(word)?;
+        self.text(" ")?;
+        self.number(number)
+    }
+
+    /// A line of one word.
+    pub fn word_line(&mut self, word: &str) -> Result<(), Refusal>
+        ensures added { OnOk result (self.new ≡ self.old ++ word_line word.now) }
+        ensures memory { IsOkUnless result Refusal.OutOfMemory }
+    {
+        self.text(word)?;
+        self.text("\n")
+    }
+
+    /// A line of a word and a number.
+    pub fn number_line(&mut self, word: &str, number: u64) -> Result<(), Refusal>
+        ensures added { OnOk result (self.new ≡ self.old ++ number_line word.now number) }
+        ensures memory { IsOkUnless result Refusal.OutOfMemory }
+    {
+        self.numbered(word, number)?;
+        self.text("\n")
+    }
+
+    /// The answer to a refused command.
+    pub fn refused(&mut self, why: Refusal) -> Result<(), Refusal>
+        ensures added { OnOk result (self.new ≡ self.old ++ number_line (codes "refused") (number_of why)) }
+        ensures memory { IsOkUnless result Refusal.OutOfMemory }
+    {
+        self.number_line("refused", why.number() as u64)
+    }
+
+    /// The answer that a reply is.
+    pub fn reply(&mut self, alloc: Global, reply: &Reply) -> Result<(), Refusal>
+        ensures added { OnOk result (IfSome (reply_line reply.now) (λ line. self.new ≡ self.old ++ line)) }
+        ensures memory { IsOkUnless result Refusal.OutOfMemory }
+    {
+        match reply {
+            Reply::Began(number) => self.number_line("txn", *number),
+            Reply::Prepared(timestamp) => self.number_line("prepared", *timestamp),
+            Reply::Decided(timestamp) => self.number_line("decided", *timestamp),
+            Reply::Aborted => self.word_line("aborted"),
+            Reply::Applied => self.word_line("applied"),
+            Reply::Floor(floor) => self.number_line("floor", *floor),
+            Reply::Trimmed(live) => self.number_line("trimmed", *live as u64),
+            Reply::Opened { query, s, leaves } => self.opened(*query, *s, *leaves),
+            Reply::Scanned => self.word_line("scanned"),
+            Reply::Nothing => self.word_line("nothing"),
+            Reply::Rows { s, rows } => self.rows(alloc, *s, rows.as_slice()),
+            Reply::Closed => self.word_line("closed"),
+            Reply::Refused(why) => self.refused(*why),
+        }
+    }
+
+    fn opened(&mut self, query: u64, s: u64, leaves: usize) -> Result<(), Refusal>
+        ensures added { OnOk result (self.new ≡ self.old ++ opened_line query s leaves) }
+        ensures memory { IsOkUnless result Refusal.OutOfMemory }
+    {
+        self.numbered("query", query)?;
+        self.numbered(" at", s)?;
+        self.number_line(" leaves", leaves as u64)
+    }
+
+    /// How many rows there are, and each as a record of its cells.
+    fn rows(&mut self, alloc: Global, s: u64, rows: &[Row]) -> Result<(), Refusal>
+        ensures { IsOkUnless result Refusal.OutOfMemory }
+    {
+        self.numbered("rows", rows.len() as u64)?;
+        self.number_line(" at", s)?;
+        let mut records = Writer::from_writer(&mut self.bytes);
+        for row in rows {
+            write_row(alloc, &mut records, row.as_slice())?;
+        }
+        match records.flush() {
+            Ok(()) => Ok(()),
+            Err(_) => Err(Refusal::OutOfMemory),
+        }
+    }
+
+    /// How many slots are in use, and a line for each.
+    pub fn slots(&mut self, core: &Core) -> Result<(), Refusal>
+        ensures { IsOkUnless result Refusal.OutOfMemory }
+    {
+        self.number_line("shards", core.slots() as u64)?;
+        for slot in 0..core.slots() {
+            if let Some(state) = core.slot_state(slot) {
+                self.slot(slot, state)?;
+            }
+        }
+        Ok(())
+    }
+
+    /// The line of a slot.
+    fn slot(&mut self, slot: usize, state: SlotState) -> Result<(), Refusal>
+        ensures added { OnOk result (self.new ≡ self.old ++ slot_line slot state) }
+        ensures memory { IsOkUnless result Refusal.OutOfMemory }
+    {
+        self.slot_range(slot)?;
+        self.slot_times(state)?;
+        self.slot_counts(state)
+    }
+
+    /// A slot's number, and its range: the whole one.
+    fn slot_range(&mut self, slot: usize) -> Result<(), Refusal>
+        ensures added { OnOk result (self.new ≡ self.old ++ slot_range slot) }
+        ensures memory { IsOkUnless result Refusal.OutOfMemory }
+    {
+        self.numbered("shard", slot as u64)?;
+        self.text(" [-,-)")
+    }
+
+    fn slot_times(&mut self, state: SlotState) -> Result<(), Refusal>
+        ensures added { OnOk result (self.new ≡ self.old ++ slot_times state) }
+        ensures memory { IsOkUnless result Refusal.OutOfMemory }
+    {
+        self.numbered(" last", state.last)?;
+        self.numbered(" floor", state.floor)?;
+        self.numbered(" horizon", state.horizon)
+    }
+
+    fn slot_counts(&mut self, state: SlotState) -> Result<(), Refusal>
+        ensures added { OnOk result (self.new ≡ self.old ++ slot_counts state) }
+        ensures memory { IsOkUnless result Refusal.OutOfMemory }
+    {
+        self.numbered(" live", state.live as u64)?;
+        self.number_line(" prepared", state.prepared as u64)
+    }
+}
+
+/// Writes a row as a record of its cells. `OutOfMemory` is the only refusal of a writer that has its bytes in memory.
+fn write_row<W: io::Write + Drop>(
+    alloc: Global,
+    records: &mut Writer<W>,
+    row: &[Value],
+) -> Result<(), Refusal>
+    ensures { IsOkUnless result Refusal.OutOfMemory }
+{
+    for value in row {
+        write_cell(alloc, records, value)?;
+    }
+    match records.end_record() {
+        Ok(()) => Ok(()),
+        Err(_) => Err(Refusal::OutOfMemory),
+    }
+}
+
+/// Writes the cell of a value as a field.
+fn write_cell<W: io::Write + Drop>(
+    alloc: Global,
+    records: &mut Writer<W>,
+    value: &Value,
+) -> Result<(), Refusal>
+    ensures { IsOkUnless result Refusal.OutOfMemory }
+{
+    let written = match value {
+        Value::Int(number) => records.write_field(Buffer::new().format(*number).as_bytes()),
+        value => records.write_field(cell_text(alloc, value)?.as_bytes()),
+    };
+    match written {
+        Ok(()) => Ok(()),
+        Err(_) => Err(Refusal::OutOfMemory),
+    }
+}

@@ -1,0 +1,389 @@
+//! What a script has set and gathered, and its commands done one after another.
+ghost use Rattle.std.specs.Prelude.{List, IfSome, IsOkUnless};
+ghost use Rattle.span_schema.specs.declared.table.Table.{Table};
+ghost use Rattle.span_machine.specs.Run.{IsOfSchema};
+
+use super::answer::Answers;
+use super::command::{Command, read_command};
+use super::draft::Layout;
+use super::line::Line;
+use super::record::fields_of;
+use csv::StringRecord;
+use span_core::database::Core;
+use span_core::{
+    Bound, Interval, Kind, Mutation, MutationKind, Params, Refusal, Reply, Step, Text, Transaction,
+};
+use span_value::cell::read_cell;
+use std::alloc::Global;
+use std::mem;
+
+/// The owner of every transaction of a script.
+const OWNER: u64 = 0;
+
+/// A script between two lines.
+#[derive(Drop)]
+pub struct Session {
+    clock: Interval,
+    params: Params,
+    /// The mutations of the next transaction.
+    gathered: Vec<Mutation>,
+    /// The load whose lines are read.
+    load: Option<Load>,
+    /// Where records with quotes are read into.
+    quoted: StringRecord,
+}
+
+/// A load between its first line and its `end`.
+#[derive(Drop)]
+struct Load {
+    /// How its records are read, or why it will be refused.
+    layout: Result<Layout, Refusal>,
+    /// How many mutations were gathered before it.
+    before: usize,
+}
+
+impl Session {
+    /// The beginning of a script: the clock is at 0, nothing is set and nothing gathered. It takes no memory.
+    pub fn new(alloc: Global) -> Session {
+        Session {
+            clock: Interval {
+                earliest: 0,
+                latest: 0,
+            },
+            params: Params::new(alloc),
+            gathered: Vec::new(alloc),
+            load: None,
+            quoted: StringRecord::new(alloc),
+        }
+    }
+
+    /// Does what a line asks for, and adds its answer. `OutOfMemory` where the answer finds no room.
+    pub fn take_line(
+        &mut self,
+        alloc: Global,
+        core: &mut Core,
+        line: Line<'_>,
+        answers: &mut Answers,
+    ) -> Result<(), Refusal>
+        ensures { IsOkUnless result Refusal.OutOfMemory }
+    {
+        let before = answers.len();
+        match self.answer_line(alloc, core, line, answers) {
+            Ok(()) => Ok(()),
+            Err(why) => {
+                answers.cut(before);
+                answers.refused(why)
+            }
+        }
+    }
+
+    /// The end of the script: a load without its `end` is refused.
+    pub fn finish(&mut self, answers: &mut Answers) -> Result<(), Refusal>
+        ensures { IsOkUnless result Refusal.OutOfMemory }
+    {
+        match self.load.take() {
+            Some(load) => {
+                self.gathered.truncate(load.before);
+                answers.refused(Refusal::BadCommand)
+            }
+            None => Ok(()),
+        }
+    }
+
+    fn answer_line(
+        &mut self,
+        alloc: Global,
+        core: &mut Core,
+        line: Line<'_>,
+        answers: &mut Answers,
+    ) -> Result<(), Refusal> {
+        match self.load.take() {
+            Some(load) => self.load_line(alloc, load, line, answers),
+            None => match line {
+                Line::Text(text) => self.answer_text(alloc, core, text, answers),
+                Line::Unreadable => Err(Refusal::BadCommand),
+            },
+        }
+    }
+
+    /// Does the command of a line; empty lines and remarks have none.
+    fn answer_text(
+        &mut self,
+        alloc: Global,
+        core: &mut Core,
+        text: &str,
+        answers: &mut Answers,
+    ) -> Result<(), Refusal> {
+        if text.is_empty() || text.starts_with('#') {
+            return Ok(());
+        }
+        match read_command(text) {
+            Some(command) => self.answer(alloc, core, command, answers),
+            None => Err(Refusal::BadCommand),
+        }
+    }
+
+    /// Does a command, and adds its answer.
+    fn answer(
+        &mut self,
+        alloc: Global,
+        core: &mut Core,
+        command: Command<'_>,
+        answers: &mut Answers,
+    ) -> Result<(), Refusal> {
+        match command {
+            Command::Clock { earliest, latest } => {
+                self.clock = Interval::new(earliest, latest)?;
+                answers.word_line("ok")
+            }
+            Command::Param { name, kind, cell } => {
+                self.set_param(alloc, name, kind, cell)?;
+                answers.word_line("ok")
+            }
+            Command::Write {
+                kind,
+                table,
+                columns,
+                record,
+            } => {
+                let layout = Layout::of_columns(alloc, core.schema(), table, columns)?;
+                self.gather(alloc, &layout, kind, record)?;
+                answers.word_line("ok")
+            }
+            Command::Delete { table, record } => {
+                let layout = Layout::of_key(alloc, core.schema(), table)?;
+                self.gather(alloc, &layout, MutationKind::Delete, record)?;
+                answers.word_line("ok")
+            }
+            Command::Load { table, columns } => {
+                self.load = Some(Load {
+                    layout: Layout::of_columns(alloc, core.schema(), table, columns),
+                    before: self.gathered.len(),
+                });
+                Ok(())
+            }
+            Command::Begin => self.begin(alloc, core, answers),
+            Command::Open { bound, text } => {
+                let reply = self.open(alloc, core, bound, text)?;
+                answers.reply(alloc, &reply)
+            }
+            Command::Query { bound, text } => {
+                let reply = self.query(alloc, core, bound, text)?;
+                answers.reply(alloc, &reply)
+            }
+            Command::Shards => answers.slots(core),
+            command => self.answer_numbered(alloc, core, command, answers),
+        }
+    }
+
+    /// Does a command that is one step of numbers alone.
+    fn answer_numbered(
+        &mut self,
+        alloc: Global,
+        core: &mut Core,
+        command: Command<'_>,
+        answers: &mut Answers,
+    ) -> Result<(), Refusal> {
+        match step_of(command, self.clock) {
+            Some(step) => {
+                let reply = core.step(alloc, step);
+                answers.reply(alloc, &reply)
+            }
+            None => Err(Refusal::BadCommand),
+        }
+    }
+
+    /// Gives a parameter its value. `WrongType`: the cell is none of the type.
+    fn set_param(
+        &mut self,
+        alloc: Global,
+        name: &str,
+        kind: Kind,
+        cell: &str,
+    ) -> Result<(), Refusal> {
+        let value = read_cell(alloc, kind, cell)?;
+        self.params.add(Text::from_str(alloc, name)?, kind, value)
+    }
+
+    /// Gathers the mutation of a record. `WrongType`: a wrong number of fields, or a field that is no cell of its column's type.
+    fn gather(
+        &mut self,
+        alloc: Global,
+        layout: &Layout,
+        kind: MutationKind,
+        record: &str,
+    ) -> Result<(), Refusal> {
+        let fields = fields_of(alloc, record, &mut self.quoted)?;
+        let mutation = layout.mutation(alloc, kind, fields.as_slice())?;
+        self.gathered.push(mutation)?;
+        Ok(())
+    }
+
+    /// Takes a line of a load. Its answer comes with its `end`.
+    fn load_line(
+        &mut self,
+        alloc: Global,
+        load: Load,
+        line: Line<'_>,
+        answers: &mut Answers,
+    ) -> Result<(), Refusal> {
+        match line {
+            Line::Text("end") => self.end_load(load, answers),
+            Line::Text(record) => {
+                self.load_record(alloc, load, record);
+                Ok(())
+            }
+            Line::Unreadable => {
+                self.refuse_load(load.before, Refusal::BadCommand);
+                Ok(())
+            }
+        }
+    }
+
+    /// Gathers the insert of a record of a load that is not refused yet.
+    fn load_record(&mut self, alloc: Global, load: Load, record: &str) {
+        let Load { layout, before } = load;
+        match layout {
+            Ok(layout) => match self.gather(alloc, &layout, MutationKind::Insert, record) {
+                Ok(()) => {
+                    self.load = Some(Load {
+                        layout: Ok(layout),
+                        before,
+                    });
+                }
+                Err(why) => self.refuse_load(before, why),
+            },
+            Err(why) => self.refuse_load(before, why),
+        }
+    }
+
+    /// Lets go what a load has gathered. The load will be refused.
+    fn refuse_load(&mut self, before: usize, why: Refusal) {
+        self.gathered.truncate(before);
+        self.load = Some(Load {
+            layout: Err(why),
+            before,
+        });
+    }
+
+    /// Answers a load.
+    fn end_load(&mut self, load: Load, answers: &mut Answers) -> Result<(), Refusal> {
+        match load.layout {
+            Ok(_) => {
+                let loaded = self.gathered.len().saturating_sub(load.before);
+                answers.number_line("loaded", loaded as u64)
+            }
+            Err(why) => Err(why),
+        }
+    }
+
+    /// Begins a transaction of what was gathered, which is gathered no more whatever the answer is.
+    fn begin(
+        &mut self,
+        alloc: Global,
+        core: &mut Core,
+        answers: &mut Answers,
+    ) -> Result<(), Refusal> {
+        let gathered = mem::replace(&mut self.gathered, Vec::new(alloc));
+        let transaction = Transaction::new(alloc, core.schema(), gathered)?;
+        let step = Step::Begin {
+            owner: OWNER,
+            transaction,
+        };
+        let reply = core.step(alloc, step);
+        answers.reply(alloc, &reply)
+    }
+
+    /// Opens a query with the parameters that are set. `OutOfMemory` is the refusal; others are replies.
+    fn open(
+        &self,
+        alloc: Global,
+        core: &mut Core,
+        bound: Bound,
+        text: &str,
+    ) -> Result<Reply, Refusal> {
+        let step = Step::Open {
+            text: Text::from_str(alloc, text)?,
+            params: self.params.copy(alloc)?,
+            bound,
+            interval: self.clock,
+        };
+        Ok(core.step(alloc, step))
+    }
+
+    /// Opens a query, scans its leaves, finishes and closes it: the reply of the first step that is refused, else the rows.
+    fn query(
+        &self,
+        alloc: Global,
+        core: &mut Core,
+        bound: Bound,
+        text: &str,
+    ) -> Result<Reply, Refusal> {
+        match self.open(alloc, core, bound, text)? {
+            Reply::Opened { query, leaves, .. } => {
+                let reply = self.read(alloc, core, query, leaves);
+                let _closed = core.step(alloc, Step::Close { query });
+                Ok(reply)
+            }
+            reply => Ok(reply),
+        }
+    }
+
+    /// Scans the leaves of an open query in every slot, and finishes it.
+    fn read(&self, alloc: Global, core: &mut Core, query: u64, leaves: usize) -> Reply {
+        for leaf in 0..leaves {
+            for slot in 0..core.slots() {
+                let step = Step::Scan {
+                    query,
+                    leaf,
+                    slot,
+                    interval: self.clock,
+                };
+                match core.step(alloc, step) {
+                    Reply::Refused(why) => return Reply::Refused(why),
+                    _ => {}
+                }
+            }
+        }
+        core.step(alloc, Step::Finish { query })
+    }
+}
+
+/// The step of a command that is one step of numbers alone.
+fn step_of(command: Command<'_>, clock: Interval) -> Option<Step>
+    ensures { IfSome result (λ step. (schema : List Table) → IsOfSchema schema step) }
+{
+    match command {
+        Command::Prepare { txn, slot } => Some(Step::Prepare {
+            owner: OWNER,
+            txn,
+            slot,
+        }),
+        Command::Decide { txn, verdict } => Some(Step::Decide {
+            owner: OWNER,
+            txn,
+            verdict,
+            interval: clock,
+        }),
+        Command::Apply { txn, slot } => Some(Step::Apply {
+            owner: OWNER,
+            txn,
+            slot,
+            interval: clock,
+        }),
+        Command::Advance { slot } => Some(Step::Advance {
+            slot,
+            interval: clock,
+        }),
+        Command::Scan { query, leaf, slot } => Some(Step::Scan {
+            query,
+            leaf,
+            slot,
+            interval: clock,
+        }),
+        Command::Finish { query } => Some(Step::Finish { query }),
+        Command::Close { query } => Some(Step::Close { query }),
+        Command::Trim { slot, horizon } => Some(Step::Trim { slot, h: horizon }),
+        _ => None,
+    }
+}
