@@ -15,8 +15,8 @@ use super::slots::{
 };
 use super::transaction::KeptTransaction;
 use super::transactions::{
-    abort_at, commit_at, copies_of, count_prepared, count_undecided, end_at, find_transaction, has_conflict,
-    judge_apply, may_prepare, note_at, remove_at,
+    abort_at, commit_at, copies_of, count_prepared, count_undecided, end_at, find_transaction,
+    has_conflict, judge_apply, may_prepare, note_at, remove_at,
 };
 use span_machine::slot::Book;
 use span_machine::step::Verdict;
