@@ -238,8 +238,8 @@ def runs(goal, text):
 
 
 TESTS = [
-    ("statement", "crates/span_parser/src/answer_tests.rt"),
-    ("schema", "crates/span_schematext/src/answer_tests.rt"),
+    ("statement", "crates/span_language_tests/src/parser_answers.rt"),
+    ("schema", "crates/span_language_tests/src/schematext_answers.rt"),
 ]
 TABLE = re.compile(r"(const ANSWERS: \[[^]]*; )\d+(\] =\s*)\[.*?\];", re.DOTALL)
 

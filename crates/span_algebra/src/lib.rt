@@ -13,5 +13,3 @@ pub mod sort;
 mod source;
 mod states;
 mod sum;
-#[cfg(test)]
-mod tests;

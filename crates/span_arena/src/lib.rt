@@ -7,7 +7,5 @@
 pub mod arena;
 mod cut;
 mod record;
-#[cfg(test)]
-mod tests;
 pub mod token;
 pub mod version;

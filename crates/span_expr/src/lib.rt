@@ -7,6 +7,4 @@ pub mod eval;
 pub mod expr;
 mod operator;
 pub mod pattern;
-#[cfg(test)]
-mod tests;
 pub mod total;

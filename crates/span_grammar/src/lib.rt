@@ -6,6 +6,4 @@ pub mod classify;
 pub mod grammar;
 pub mod judge;
 pub mod reader;
-#[cfg(test)]
-mod tests;
 pub mod text;

@@ -8,8 +8,6 @@ pub mod key;
 pub mod laws;
 pub mod range;
 pub mod root;
-#[cfg(test)]
-mod tests;
 mod text;
 mod tuple;
 mod value;

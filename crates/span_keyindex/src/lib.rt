@@ -7,6 +7,4 @@
 pub mod entry;
 pub mod index;
 mod place;
-#[cfg(test)]
-mod tests;
 pub mod walk;

@@ -3,5 +3,3 @@
 
 pub mod laws;
 pub mod literal;
-#[cfg(test)]
-mod tests;

@@ -10,6 +10,4 @@ pub mod mutation;
 pub mod order;
 pub mod root;
 pub mod row;
-#[cfg(test)]
-mod tests;
 pub mod transaction;

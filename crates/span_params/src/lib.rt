@@ -3,5 +3,3 @@
 
 pub mod laws;
 pub mod params;
-#[cfg(test)]
-mod tests;

@@ -4,6 +4,4 @@
 mod cell;
 pub mod laws;
 pub mod pack;
-#[cfg(test)]
-mod tests;
 pub mod unpack;

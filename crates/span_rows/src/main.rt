@@ -10,7 +10,7 @@ use fault::Fault;
 use span_core::database::Core;
 use span_core::{Refusal, Schema};
 use span_schematext::text::parse_schema;
-use span_script::device::Counted;
+use span_script::Counted;
 use span_script::run::run as run_script;
 use std::fs::File;
 use std::process::ExitCode;

@@ -7,5 +7,3 @@ mod lineage;
 mod rules;
 pub mod schema;
 pub mod table;
-#[cfg(test)]
-mod tests;

@@ -1,9 +1,5 @@
 //! Schemas, read from texts.
 #![tactic(auto)]
 
-#[cfg(test)]
-mod answer_tests;
 mod declaration;
-#[cfg(test)]
-mod tests;
 pub mod text;

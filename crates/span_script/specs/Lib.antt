@@ -1,3 +1,1 @@
-pub mod Device
 pub mod Lines
-pub mod Words

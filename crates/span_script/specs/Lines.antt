@@ -1,9 +1,12 @@
 -- The lines of answers.
-use Rattle.std.specs.Prelude.{ℕ, List, [], ◌∷◌, ◌++◌, Option, Some, None, codes}
+use Rattle.std.specs.Prelude.{◌≡◌, ◌+◌, Some, slice_get, count_by, ⊤, ℕ, List, [], ◌∷◌, ◌++◌, codes, length}
 use Rattle.std.specs.Fmt.{decimal}
+use Rattle.span_machine.specs.Machine.{Machine, is_prepared_at}
 use Rattle.span_value.specs.Refusals.{number_of}
 use Rattle.span_machine.specs.declared.step.Reply.{Reply}
 use Rattle.span_machine.specs.declared.step.Reply.TheVariants as reply
+use Rattle.span_value.specs.declared.value.Value.{Value}
+use Rattle.span_record.specs.Record.{row_records}
 use Rattle.span_core.specs.declared.slot.SlotState.{SlotState}
 
 -- a word and a number
@@ -36,18 +39,44 @@ slot_counts state = numbered (codes " live") state.live ++ number_line (codes " 
 abbrev pub slot_line : ℕ → SlotState → List ℕ
 slot_line slot state = slot_range slot ++ slot_times state ++ slot_counts state
 
--- the line that a reply is answered by; rows have more than a line
-abbrev pub reply_line : Reply → Option (List ℕ)
-reply_line (reply.Began number) = Some (number_line (codes "txn") number)
-reply_line (reply.Prepared timestamp) = Some (number_line (codes "prepared") timestamp)
-reply_line (reply.Decided timestamp) = Some (number_line (codes "decided") timestamp)
-reply_line reply.Aborted = Some (word_line (codes "aborted"))
-reply_line reply.Applied = Some (word_line (codes "applied"))
-reply_line (reply.Floor floor) = Some (number_line (codes "floor") floor)
-reply_line (reply.Trimmed live) = Some (number_line (codes "trimmed") live)
-reply_line (reply.Opened query s leaves) = Some (opened_line query s leaves)
-reply_line reply.Scanned = Some (word_line (codes "scanned"))
-reply_line reply.Nothing = Some (word_line (codes "nothing"))
-reply_line (reply.Rows s rows) = None
-reply_line reply.Closed = Some (word_line (codes "closed"))
-reply_line (reply.Refused why) = Some (number_line (codes "refused") (number_of why))
+-- how many rows there are, and their records
+abbrev pub rows_lines : ℕ → List (List Value) → List ℕ
+rows_lines s rows = numbered (codes "rows") (length rows) ++ number_line (codes " at") s ++ row_records rows
+
+-- the lines that a reply is answered by
+abbrev pub reply_text : Reply → List ℕ
+reply_text (reply.Began number) = number_line (codes "txn") number
+reply_text (reply.Prepared timestamp) = number_line (codes "prepared") timestamp
+reply_text (reply.Decided timestamp) = number_line (codes "decided") timestamp
+reply_text reply.Aborted = word_line (codes "aborted")
+reply_text reply.Applied = word_line (codes "applied")
+reply_text (reply.Floor floor) = number_line (codes "floor") floor
+reply_text (reply.Trimmed live) = number_line (codes "trimmed") live
+reply_text (reply.Opened query s leaves) = opened_line query s leaves
+reply_text reply.Scanned = word_line (codes "scanned")
+reply_text reply.Nothing = word_line (codes "nothing")
+reply_text (reply.Rows s rows) = rows_lines s rows
+reply_text reply.Closed = word_line (codes "closed")
+reply_text (reply.Refused why) = number_line (codes "refused") (number_of why)
+
+-- what is told of a slot is its book's, and how many transactions are prepared there
+abbrev pub IsState : Machine → ℕ → SlotState → Type 0
+IsState m slot state =
+    (slice_get m.books slot ≡ Some (record { last = state.last; floor = state.floor; horizon = state.horizon }))
+    × (state.prepared ≡ count_by (is_prepared_at slot) m.transactions)
+
+-- the states are those of the slots from this one on, in order
+abbrev pub AreStates : Machine → ℕ → List SlotState → Type 0
+AreStates m slot [] = ⊤
+AreStates m slot (state ∷ states) = IsState m slot state × AreStates m (slot + 1) states
+
+-- the lines of the slots from this one on
+abbrev pub slot_lines : ℕ → List SlotState → List ℕ
+slot_lines slot [] = []
+slot_lines slot (state ∷ states) = slot_line slot state ++ slot_lines (slot + 1) states
+
+-- how many slots are in use, and the line of each
+abbrev pub AreShards : Machine → List ℕ → Type 0
+AreShards m lines =
+    (states : List SlotState) × (length states ≡ length m.books) × AreStates m 0 states
+    × (lines ≡ number_line (codes "shards") (length m.books) ++ slot_lines 0 states)

@@ -1,19 +1,17 @@
 //! Answers, as they stand in a script's output.
-ghost use Rattle.std.specs.Prelude.{◌≡◌, ◌++◌, [], codes, IfErr, IfSome, OnOk, IfOk, IsOkUnless};
+ghost use Rattle.std.specs.Prelude.{◌≡◌, ◌++◌, ℕ, List, [], codes, length, nat_le, take, IfErr, OnOk, IfOk, IsOkUnless};
 ghost use Rattle.std.specs.Fmt.{decimal};
 ghost use Rattle.span_value.specs.Refusals.{number_of};
-ghost use Rattle.span_script.specs.Lines.{numbered, number_line, word_line, opened_line, slot_range, slot_times, slot_counts, slot_line, reply_line};
-ghost use Rattle.span_script.specs.Device.{risen};
+ghost use Rattle.span_script.specs.Lines.{numbered, number_line, word_line, opened_line, slot_range, slot_times, slot_counts, slot_line, rows_lines, reply_text, AreShards};
+ghost use Rattle.span_command.specs.Device.{risen};
 
-use super::device::Output;
-use csv::Writer;
 use itoa::Buffer;
+use span_command::device::Output;
 use span_core::database::Core;
 use span_core::slot::SlotState;
-use span_core::{Refusal, Reply, Row, Value};
-use span_value::cell::cell_text;
+use span_core::{Refusal, Reply, Row};
+use span_record::write::rows_text;
 use std::alloc::Global;
-use std::io;
 use std::marker::Model;
 
 /// Once there are so many bytes of answers, they are written.
@@ -48,17 +46,23 @@ impl Answers {
     }
 
     /// How many bytes there are.
-    pub fn len(&self) -> usize {
+    pub fn len(&self) -> usize
+        ensures { result ≡ length self.now }
+    {
         self.bytes.len()
     }
 
     /// Whether it is time to write them.
-    pub fn are_many(&self) -> bool {
+    pub fn are_many(&self) -> bool
+        ensures { result ≡ nat_le 65536 (length self.now) }
+    {
         self.bytes.len() >= MOST_KEPT
     }
 
     /// Takes back what stands behind the first `len` bytes.
-    pub fn cut(&mut self, len: usize) {
+    pub fn cut(&mut self, len: usize)
+        ensures { self.new ≡ take len self.old }
+    {
         self.bytes.truncate(len);
     }
 
@@ -129,7 +133,7 @@ impl Answers {
 
     /// The answer that a reply is.
     pub fn reply(&mut self, alloc: Global, reply: &Reply) -> Result<(), Refusal>
-        ensures added { OnOk result (IfSome (reply_line reply.now) (λ line. self.new ≡ self.old ++ line)) }
+        ensures added { OnOk result (self.new ≡ self.old ++ reply_text reply.now) }
         ensures memory { IsOkUnless result Refusal.OutOfMemory }
     {
         match reply {
@@ -160,23 +164,20 @@ impl Answers {
 
     /// How many rows there are, and each as a record of its cells.
     fn rows(&mut self, alloc: Global, s: u64, rows: &[Row]) -> Result<(), Refusal>
-        ensures { IsOkUnless result Refusal.OutOfMemory }
+        ensures added { OnOk result (self.new ≡ self.old ++ rows_lines s rows.now) }
+        ensures memory { IsOkUnless result Refusal.OutOfMemory }
     {
         self.numbered("rows", rows.len() as u64)?;
         self.number_line(" at", s)?;
-        let mut records = Writer::from_writer(&mut self.bytes);
-        for row in rows {
-            write_row(alloc, &mut records, row.as_slice())?;
-        }
-        match records.flush() {
-            Ok(()) => Ok(()),
-            Err(_) => Err(Refusal::OutOfMemory),
-        }
+        let text = rows_text(alloc, rows)?;
+        self.bytes.extend_from_slice(text.as_slice())?;
+        Ok(())
     }
 
     /// How many slots are in use, and a line for each.
     pub fn slots(&mut self, core: &Core) -> Result<(), Refusal>
-        ensures { IsOkUnless result Refusal.OutOfMemory }
+        ensures added { OnOk result ((lines : List ℕ) × AreShards core.now.machine lines × (self.new ≡ self.old ++ lines)) }
+        ensures memory { IsOkUnless result Refusal.OutOfMemory }
     {
         self.number_line("shards", core.slots() as u64)?;
         for slot in 0..core.slots() {
@@ -221,40 +222,5 @@ impl Answers {
     {
         self.numbered(" live", state.live as u64)?;
         self.number_line(" prepared", state.prepared as u64)
-    }
-}
-
-/// Writes a row as a record of its cells. `OutOfMemory` is the only refusal of a writer that has its bytes in memory.
-fn write_row<W: io::Write + Drop>(
-    alloc: Global,
-    records: &mut Writer<W>,
-    row: &[Value],
-) -> Result<(), Refusal>
-    ensures { IsOkUnless result Refusal.OutOfMemory }
-{
-    for value in row {
-        write_cell(alloc, records, value)?;
-    }
-    match records.end_record() {
-        Ok(()) => Ok(()),
-        Err(_) => Err(Refusal::OutOfMemory),
-    }
-}
-
-/// Writes the cell of a value as a field.
-fn write_cell<W: io::Write + Drop>(
-    alloc: Global,
-    records: &mut Writer<W>,
-    value: &Value,
-) -> Result<(), Refusal>
-    ensures { IsOkUnless result Refusal.OutOfMemory }
-{
-    let written = match value {
-        Value::Int(number) => records.write_field(Buffer::new().format(*number).as_bytes()),
-        value => records.write_field(cell_text(alloc, value)?.as_bytes()),
-    };
-    match written {
-        Ok(()) => Ok(()),
-        Err(_) => Err(Refusal::OutOfMemory),
     }
 }

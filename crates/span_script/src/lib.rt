@@ -1,15 +1,11 @@
-//! Scripts: lines of commands, and the answer to each.
+//! Scripts: commands done one after another, and the answer to each.
 //!
-//! [`run::run`] reads a script from an [`device::Input`], does its commands on a core, and writes the answers to an
-//! [`device::Output`]. `docs/FORMATS.md` has the commands and their answers.
+//! [`run::run`] reads a script from an [`Input`], does its commands on a core, and writes the answers to an [`Output`]. How a line is read as
+//! a command is `span_command`'s. `docs/FORMATS.md` has the commands and their answers.
 #![tactic(auto)]
 
 pub mod answer;
-pub mod command;
-pub mod device;
-mod draft;
-pub mod line;
-pub mod record;
 pub mod run;
 mod session;
-pub mod word;
+
+pub use span_command::device::{Counted, Input, Output};

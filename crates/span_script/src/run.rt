@@ -1,11 +1,11 @@
 //! Whole scripts.
 ghost use Rattle.std.specs.Prelude.{◌≡◌, ◌⊎◌, IfErr, OnOk};
-ghost use Rattle.span_script.specs.Device.{risen};
+ghost use Rattle.span_command.specs.Device.{risen};
 
 use super::answer::Answers;
-use super::device::{Input, Output};
-use super::line::Lines;
 use super::session::Session;
+use span_command::device::{Input, Output};
+use span_command::line::Lines;
 use span_core::database::Core;
 use span_value::refusal::Refusal;
 use std::alloc::Global;

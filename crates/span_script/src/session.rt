@@ -4,15 +4,16 @@ ghost use Rattle.span_schema.specs.declared.table.Table.{Table};
 ghost use Rattle.span_machine.specs.Run.{IsOfSchema};
 
 use super::answer::Answers;
-use super::command::{Command, read_command};
-use super::draft::Layout;
-use super::line::Line;
-use super::record::fields_of;
 use csv::StringRecord;
+use span_command::command::{Command, read_command};
+use span_command::layout::Layout;
+use span_command::line::Line;
 use span_core::database::Core;
 use span_core::{
     Bound, Interval, Kind, Mutation, MutationKind, Params, Refusal, Reply, Step, Text, Transaction,
+    Verdict,
 };
+use span_record::read::read_fields;
 use span_value::cell::read_cell;
 use std::alloc::Global;
 use std::mem;
@@ -29,8 +30,8 @@ pub struct Session {
     gathered: Vec<Mutation>,
     /// The load whose lines are read.
     load: Option<Load>,
-    /// Where records with quotes are read into.
-    quoted: StringRecord,
+    /// The fields of the last record.
+    fields: StringRecord,
 }
 
 /// A load between its first line and its `end`.
@@ -53,7 +54,7 @@ impl Session {
             params: Params::new(alloc),
             gathered: Vec::new(alloc),
             load: None,
-            quoted: StringRecord::new(alloc),
+            fields: StringRecord::new(alloc),
         }
     }
 
@@ -213,8 +214,8 @@ impl Session {
         kind: MutationKind,
         record: &str,
     ) -> Result<(), Refusal> {
-        let fields = fields_of(alloc, record, &mut self.quoted)?;
-        let mutation = layout.mutation(alloc, kind, fields.as_slice())?;
+        read_fields(alloc, record, &mut self.fields)?;
+        let mutation = layout.mutation(alloc, kind, &self.fields)?;
         self.gathered.push(mutation)?;
         Ok(())
     }
@@ -357,33 +358,44 @@ fn step_of(command: Command<'_>, clock: Interval) -> Option<Step>
         Command::Prepare { txn, slot } => Some(Step::Prepare {
             owner: OWNER,
             txn,
-            slot,
+            slot: slot as usize,
         }),
-        Command::Decide { txn, verdict } => Some(Step::Decide {
-            owner: OWNER,
-            txn,
-            verdict,
-            interval: clock,
-        }),
+        Command::Decide { txn } => Some(decision(txn, Verdict::Commit, clock)),
+        Command::Abort { txn } => Some(decision(txn, Verdict::Abort, clock)),
         Command::Apply { txn, slot } => Some(Step::Apply {
             owner: OWNER,
             txn,
-            slot,
+            slot: slot as usize,
             interval: clock,
         }),
         Command::Advance { slot } => Some(Step::Advance {
-            slot,
+            slot: slot as usize,
             interval: clock,
         }),
         Command::Scan { query, leaf, slot } => Some(Step::Scan {
             query,
-            leaf,
-            slot,
+            leaf: leaf as usize,
+            slot: slot as usize,
             interval: clock,
         }),
         Command::Finish { query } => Some(Step::Finish { query }),
         Command::Close { query } => Some(Step::Close { query }),
-        Command::Trim { slot, horizon } => Some(Step::Trim { slot, h: horizon }),
+        Command::Trim { slot, horizon } => Some(Step::Trim {
+            slot: slot as usize,
+            h: horizon,
+        }),
         _ => None,
+    }
+}
+
+/// The step that decides a transaction.
+fn decision(txn: u64, verdict: Verdict, clock: Interval) -> Step
+    ensures { (schema : List Table) → IsOfSchema schema result }
+{
+    Step::Decide {
+        owner: OWNER,
+        txn,
+        verdict,
+        interval: clock,
     }
 }

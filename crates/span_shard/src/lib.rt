@@ -11,7 +11,5 @@ pub mod read;
 mod root;
 pub mod shard;
 mod store;
-#[cfg(test)]
-mod tests;
 mod trim;
 mod write;

@@ -7,5 +7,3 @@
 pub mod bound;
 pub mod clock;
 pub mod interval;
-#[cfg(test)]
-mod tests;

@@ -5,8 +5,6 @@ pub mod cell;
 pub mod order;
 pub mod refusal;
 pub mod seq;
-#[cfg(test)]
-mod tests;
 pub mod text;
 pub mod truth;
 pub mod value;

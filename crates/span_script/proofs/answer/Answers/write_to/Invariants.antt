@@ -1,4 +1,4 @@
-use Rattle.std.proofs.Common.{◌≡◌, ℕ, length}
+use Rattle.std.proofs.Common.{◌≡◌, length}
 use Rattle.span_script.proofs.answer.Answers.write_to.Given as goal
 
 -- no write failed so far

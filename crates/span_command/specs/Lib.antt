@@ -1,0 +1,4 @@
+pub mod Columns
+pub mod Commands
+pub mod Device
+pub mod Words

@@ -1,0 +1,104 @@
+//! What literals stand for, worked out by hand.
+use span_literal::literal::{bytes_of, text_of};
+use std::alloc::AllocError;
+
+/// A spelling, with the text that it stands for.
+const TEXTS: [(&str, &str); 27] = [
+    ("''", ""),
+    ("\"\"", ""),
+    ("'a'", "a"),
+    ("\"it's\"", "it's"),
+    ("'say \"no\"'", "say \"no\""),
+    // A character that stands for itself, also where an escape would have its letter.
+    ("'nrtxu'", "nrtxu"),
+    ("'\\\\'", "\\"),
+    ("'\\''", "'"),
+    ("\"\\\"\"", "\""),
+    ("'\\n'", "\u{a}"),
+    ("'\\r'", "\u{d}"),
+    ("'\\t'", "\u{9}"),
+    ("'a\\\\nb'", "a\\nb"),
+    ("'\\\\\\n'", "\\\u{a}"),
+    ("'\\x41'", "A"),
+    ("'\\x00'", "\0"),
+    ("'\\x7f'", "\u{7f}"),
+    ("'\\x7F'", "\u{7f}"),
+    ("'\\x4a\\x4A4'", "JJ4"),
+    ("'\\u0041b'", "Ab"),
+    ("'\\u00e9'", "é"),
+    ("'\\uAbCd'", "\u{abcd}"),
+    ("'\\uD7FF\\ue000'", "\u{d7ff}\u{e000}"),
+    ("'\\uffff'", "\u{ffff}"),
+    ("'é€😀'", "é€😀"),
+    ("'é\\u20ac😀\\n'", "é€😀\n"),
+    // Behind the code of four digits a fifth stands for itself.
+    ("'\\u00410'", "A0"),
+];
+
+#[test]
+fn texts(rt: HostRuntime) -> Result<(), AllocError> {
+    for (spelled, wanted) in TEXTS {
+        let text = text_of(rt.alloc(), spelled)?;
+        assert_eq!(rt; text.as_str(), wanted, "at {spelled}");
+    }
+    Ok(())
+}
+
+/// A spelling, with the bytes that it stands for.
+const BYTES: [(&str, &[u8]); 13] = [
+    ("b''", &[]),
+    ("B\"\"", &[]),
+    ("b'a'", &[97]),
+    ("B'ab'", &[97, 98]),
+    ("b\"'\"", &[39]),
+    ("b'\\\\\\'\\\"'", &[92, 39, 34]),
+    ("b'\\n\\r\\t'", &[10, 13, 9]),
+    ("b'\\x00\\x01'", &[0, 1]),
+    ("b'\\x7f\\x80'", &[127, 128]),
+    ("b'\\xff\\xFE'", &[255, 254]),
+    ("b'\\xc3\\xa9'", &[195, 169]),
+    ("b'\\x1ff'", &[31, 102]),
+    ("b'b'", &[98]),
+];
+
+#[test]
+fn bytes(rt: HostRuntime) -> Result<(), AllocError> {
+    for (spelled, wanted) in BYTES {
+        let bytes = bytes_of(rt.alloc(), spelled)?;
+        assert_eq!(rt; bytes.as_slice(), wanted, "at {spelled}");
+    }
+    Ok(())
+}
+
+#[test]
+fn each_byte_by_its_digits(rt: HostRuntime) -> Result<(), AllocError> {
+    let digits = "0123456789abcdef";
+    for (high, h) in digits.chars().enumerate() {
+        for (low, l) in digits.chars().enumerate() {
+            let spelled = format!(in rt.alloc(); "b'\\x{h}{l}'")?;
+            let bytes = bytes_of(rt.alloc(), spelled.as_str())?;
+            assert_eq!(rt; bytes.len(), 1);
+            assert_eq!(rt; bytes.as_slice()[0] as usize, high * 16 + low, "at {h}{l}");
+        }
+    }
+    Ok(())
+}
+
+#[test]
+fn spellings_of_no_literal(rt: HostRuntime) -> Result<(), AllocError> {
+    // No literal has these. The definition says what they stand for, so that every text stands for something.
+    let cases = [
+        ("", ""),
+        ("'", ""),
+        ("'\\'", "\\"),
+        ("'\\q'", "q"),
+        ("'\\x4'", "x4"),
+        ("'\\u004'", "u004"),
+        ("'\\ud800'", "\u{fffd}"),
+    ];
+    for (spelled, wanted) in cases {
+        let text = text_of(rt.alloc(), spelled)?;
+        assert_eq!(rt; text.as_str(), wanted, "at {spelled}");
+    }
+    Ok(())
+}

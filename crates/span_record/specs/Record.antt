@@ -1,0 +1,53 @@
+-- The fields of the record that a text is, and the text of a row, as `csv` reads and writes them with its default settings.
+use Rattle.std.specs.Prelude.{◌≡◌, ℕ, ◌==◌, ◌||◌, Bool, true, false, List, [], map, Option, Some, None}
+use Rattle.std.specs.List.{All, flat_map, slice_split}
+use Rattle.csv.specs.Machine.{Read, next_record}
+use Rattle.csv.specs.Reading.{default_config, strip_bom}
+use Rattle.csv.specs.Writing.{default_writer, with_flexible, row_text}
+use Rattle.csv.specs.declared.parser.State.{State}
+use Rattle.csv.specs.declared.parser.State.TheVariants as state
+use Rattle.csv.specs.declared.writer.WriterBuilder.{WriterBuilder}
+use Rattle.span_value.specs.declared.value.Value.{Value}
+use Rattle.span_value.specs.Cells.{cell_of}
+
+-- the pieces of a text between its commas
+abbrev pub pieces : List ℕ → List (List ℕ)
+pieces text = slice_split (λ b. b == 44) text
+
+-- the next record of what is left of a text
+abbrev pub next : State → List ℕ → Option Read
+next s text = next_record default_config s [] [] text
+
+-- the fields of a record, where no other is read behind it
+abbrev pub fields_unless : List (List ℕ) → Option Read → List (List ℕ)
+fields_unless fields None = fields
+fields_unless fields (Some another) = []
+
+-- the fields of the first record, where it is the only one
+abbrev pub fields_alone : Option Read → List (List ℕ)
+fields_alone None = []
+fields_alone (Some (fields, s, rest)) = fields_unless fields (next s rest)
+
+-- The fields of the record that a text is. It has none where the text reads as no record, or as more than one.
+abbrev pub record_fields : List ℕ → List (List ℕ)
+record_fields text = fields_alone (next state.StartRecord (strip_bom text))
+
+-- the byte is a quote, a CR or an LF
+abbrev pub is_mark : ℕ → Bool
+is_mark b = (b == 34) || (b == 13) || (b == 10)
+
+-- none of these stands in the text, and no byte order mark at its front
+abbrev pub IsPlain : List ℕ → Type 0
+IsPlain text = All (λ b. is_mark b ≡ false) text × (strip_bom text ≡ text)
+
+-- the settings of `csv`, by which rows of any length are written
+abbrev pub settings : WriterBuilder
+settings = with_flexible default_writer true
+
+-- the record of a row's cells
+abbrev pub row_record : List Value → List ℕ
+row_record row = row_text settings (map cell_of row)
+
+-- the records of rows, one after another
+abbrev pub row_records : List (List Value) → List ℕ
+row_records rows = flat_map row_record rows

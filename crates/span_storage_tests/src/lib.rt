@@ -1,0 +1,23 @@
+//! Tests of the crates of values, keys, rows and versions: calls whose answers were worked out by hand.
+//!
+//! They stand in a crate of their own since a crate with tests is proved a second time for them.
+#![tactic(auto)]
+
+#[cfg(test)]
+mod arena;
+#[cfg(test)]
+mod keycode;
+#[cfg(test)]
+mod keyindex;
+#[cfg(test)]
+mod mutate;
+#[cfg(test)]
+mod rowcode;
+#[cfg(test)]
+mod schema;
+#[cfg(test)]
+mod shard;
+#[cfg(test)]
+mod truetime;
+#[cfg(test)]
+mod value;
