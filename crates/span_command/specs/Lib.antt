@@ -1,4 +1,7 @@
 pub mod Columns
 pub mod Commands
 pub mod Device
+pub mod Layouts
+pub mod Texts
+pub mod Unread
 pub mod Words

@@ -1,6 +1,7 @@
 //! Where scripts come from and answers go: devices that count their failures.
-ghost use Rattle.std.specs.Prelude.{◌≡◌, ◌≤◌, ◌<◌, ℕ, length, IfOk, IfErr, IfSome, OnOk};
-ghost use Rattle.span_command.specs.Device.{risen, failures_of};
+ghost use Rattle.std.specs.Prelude.{◌≡◌, ◌≤◌, ◌<◌, ℕ, List, Option, None, length, take, IfOk, IfErr, IfSome, IfNone, OnOk};
+ghost use Rattle.std.specs.Io.KnownBytes.{Consumes, IsAtEnd, Keeps, ReadConsumes};
+ghost use Rattle.span_command.specs.Device.{risen, failures_of, given};
 
 use span_value::refusal::Refusal;
 use std::io;
@@ -14,10 +15,14 @@ pub trait Input {
     // How often a read failed.
     ghost failures: { Self → ℕ };
 
+    // The bytes that reads will give from here on, where they are known.
+    ghost remaining: { Self → Option (List ℕ) } = { λ _. None };
+
     /// Reads bytes into the front of the buffer, and answers how many. None are read only at the end of the input, or where the
     /// buffer is empty. `InputFault` where the device failed: one more failure is counted.
     fn read(&mut self, buffer: &mut [u8]) -> Result<usize, Refusal>
         ensures bound { IfOk result (λ n. n ≤ length buffer.new) }
+        ensures bytes { ReadConsumes (remaining self.old) (remaining self.new) result buffer.new }
         ensures ok { OnOk result (failures self.new ≡ failures self.old) }
         ensures err { IfErr result (λ why. (why ≡ Refusal.InputFault) × (failures self.new ≡ risen (failures self.old))) };
 }
@@ -68,6 +73,8 @@ impl<R> Counted<R> {
 impl<R: Read> Input for Counted<R> {
     ghost failures = { λ c. c.failures };
 
+    ghost remaining = { λ c. given c.bytes (R.remaining c.device) };
+
     fn read(&mut self, buffer: &mut [u8]) -> Result<usize, Refusal> {
         if let Some(count) = read_some(&mut self.device, buffer) {
             let bytes = self.bytes.saturating_add(count as u64);
@@ -97,7 +104,10 @@ impl<W: Write> Output for Counted<W> {
 
 /// One read, taken again where a signal interrupts it; None where the device failed.
 fn read_some<R: Read>(device: &mut R, buffer: &mut [u8]) -> Option<usize>
-    ensures { IfSome result (λ n. n ≤ length buffer.new) }
+    ensures bound { IfSome result (λ n. n ≤ length buffer.new) }
+    ensures some { IfSome result (λ n. Consumes (R.remaining device.old) (R.remaining device.new) (take n buffer.new)) }
+    ensures end { IfSome result (λ n. n ≡ 0 → 0 < length buffer.new → IsAtEnd (R.remaining device.new)) }
+    ensures none { IfNone result (Keeps (R.remaining device.old) (R.remaining device.new)) }
 {
     for _ in 0..u64::MAX {
         match device.read(buffer) {

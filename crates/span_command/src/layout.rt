@@ -1,11 +1,14 @@
 //! The layout of a record: which field is for which column, and the mutation that its fields make.
-ghost use Rattle.std.specs.Prelude.{◌≡◌, ◌⊎◌, ◌==◌, ℕ, List, Some, false, IfOk, IfErr, IfSome};
-ghost use Rattle.std.specs.List.{list_any};
-ghost use Rattle.csv.specs.Records.{field_at, fields_of};
-ghost use Rattle.span_value.specs.Cells.{IsCell};
+ghost use Rattle.std.specs.Prelude.{◌≡◌, ◌⊎◌, ◌==◌, ℕ, ◌<◌, List, Some, None, false, length, IfOk, IfErr};
+ghost use Rattle.std.specs.List.{list_any, position, AllZip};
+ghost use Rattle.csv.specs.Records.{fields_of};
+ghost use Rattle.span_value.specs.declared.value.Value.{Value};
+ghost use Rattle.span_mutate.specs.declared.mutation.Cell.{Cell};
+ghost use Rattle.span_mutate.specs.declared.mutation.Mutation.{Mutation};
 ghost use Rattle.span_record.specs.Record.{pieces};
-ghost use Rattle.span_schema.specs.Numbers.{IsTable, columns_of, column_named};
+ghost use Rattle.span_schema.specs.Numbers.{IsTable, columns_of, column_named, number_named, key_places};
 ghost use Rattle.span_command.specs.Columns.{AreBelow, ArePlaces, AreNamed, IsUnplaced, NamesNone};
+ghost use Rattle.span_command.specs.Layouts.{IsFieldCell, IsKeyCell, IsColumnCell, IsOfRecord, IsKeyField, IsCellField, outside_key, AreWithin, IsLayout, IsLayoutOf, IsKeyLayoutOf, LacksKey, HasNoLayout};
 
 use csv::StringRecord;
 use span_mutate::mutation::{Cell, Mutation, MutationKind};
@@ -59,40 +62,27 @@ impl Layout {
         schema: &Schema,
         table: &str,
         columns: &str,
-    ) -> Result<Layout, Refusal> {
+    ) -> Result<Layout, Refusal>
+        ensures read { IfOk result (λ layout. IsLayoutOf schema.now table.now columns.now layout) }
+        ensures refusals { IfErr result (λ why. (why ≡ Refusal.OutOfMemory) ⊎ HasNoLayout schema.now table.now columns.now why) }
+    {
         let Some(number) = schema.find(table) else {
             return Err(Refusal::NoTable);
         };
         let places = places_of(alloc, schema, number, columns)?;
-        let declared = schema.table(number).columns.as_slice();
-        let key_places = schema.key_places(number);
-        let mut cells = Vec::new(alloc);
-        for (at, place) in places.iter().enumerate() {
-            if !key_places.contains(place) {
-                cells.push(cell_field(alloc, declared, at, *place)?)?;
-            }
-        }
-        Ok(Layout {
-            table: Text::from_str(alloc, table)?,
-            fields: places.len(),
-            key: key_fields(alloc, declared, places.as_slice(), key_places)?,
-            cells,
-        })
+        layout_at(alloc, schema, number, table, places.as_slice())
     }
 
     /// The fields of the key's columns alone, in the order of the key. `NoTable`: no such table.
-    pub fn of_key(alloc: Global, schema: &Schema, table: &str) -> Result<Layout, Refusal> {
+    #[tactic(auto, using(crate::proofs::Within::key_within, crate::proofs::Within::lacks_nothing))]
+    pub fn of_key(alloc: Global, schema: &Schema, table: &str) -> Result<Layout, Refusal>
+        ensures read { IfOk result (λ layout. IsKeyLayoutOf schema.now table.now layout) }
+        ensures refusals { IfErr result (λ why. (why ≡ Refusal.OutOfMemory) ⊎ ((why ≡ Refusal.NoTable) × (number_named schema.now table.now ≡ None))) }
+    {
         let Some(number) = schema.find(table) else {
             return Err(Refusal::NoTable);
         };
-        let declared = schema.table(number).columns.as_slice();
-        let key_places = schema.key_places(number);
-        Ok(Layout {
-            table: Text::from_str(alloc, table)?,
-            fields: key_places.len(),
-            key: key_fields(alloc, declared, key_places, key_places)?,
-            cells: Vec::new(alloc),
-        })
+        layout_at(alloc, schema, number, table, schema.key_places(number))
     }
 
     /// The mutation of a record. `WrongType`: a wrong number of fields, or a field that is no cell of its column's type.
@@ -101,32 +91,64 @@ impl Layout {
         alloc: Global,
         kind: MutationKind,
         fields: &StringRecord,
-    ) -> Result<Mutation, Refusal> {
+    ) -> Result<Mutation, Refusal>
+        ensures read { IfOk result (λ m. IsOfRecord self.now kind (fields_of fields.now) m) }
+        ensures refusals { IfErr result (λ why. (why ≡ Refusal.OutOfMemory) ⊎ ((why ≡ Refusal.WrongType) × ((m : Mutation) → ¬ IsOfRecord self.now kind (fields_of fields.now) m))) }
+    {
         if fields.len() != self.fields {
             return Err(Refusal::WrongType);
         }
-        let mut key = Seq::new(alloc);
-        for field in self.key.iter() {
-            key.push(value_at(alloc, fields, field.at, field.kind)?)?;
-        }
-        let mut cells = Seq::new(alloc);
-        for field in self.cells.iter() {
-            cells.push(Cell {
-                column: Text::from_str(alloc, field.column.as_str())?,
-                value: value_at(alloc, fields, field.at, field.kind)?,
-            })?;
-        }
+        let key = key_of(alloc, self.key.as_slice(), fields)?;
+        let cells = cells_of(alloc, self.cells.as_slice(), fields)?;
+        let table = Text::from_str(alloc, self.table.as_str())?;
         Ok(Mutation {
             kind,
-            table: Text::from_str(alloc, self.table.as_str())?,
+            table,
             key,
             cells,
         })
     }
 }
 
+/// The values of the key. `WrongType`: a field is no cell of its column's type.
+fn key_of(alloc: Global, parts: &[KeyField], fields: &StringRecord) -> Result<Seq<Value>, Refusal>
+    ensures read { IfOk result (λ key. AllZip (IsKeyCell (fields_of fields.now)) parts.now key) }
+    ensures refusals { IfErr result (λ why. (why ≡ Refusal.OutOfMemory) ⊎ ((why ≡ Refusal.WrongType) × ((key : List Value) → ¬ AllZip (IsKeyCell (fields_of fields.now)) parts.now key))) }
+{
+    let mut key = Seq::new(alloc);
+    for part in parts {
+        key.push(value_at(alloc, fields, part.at, part.kind)?)?;
+    }
+    Ok(key)
+}
+
+/// The cells of the columns outside the key. `WrongType`: a field is no cell of its column's type.
+fn cells_of(alloc: Global, parts: &[CellField], fields: &StringRecord) -> Result<Seq<Cell>, Refusal>
+    ensures read { IfOk result (λ cells. AllZip (IsColumnCell (fields_of fields.now)) parts.now cells) }
+    ensures refusals { IfErr result (λ why. (why ≡ Refusal.OutOfMemory) ⊎ ((why ≡ Refusal.WrongType) × ((cells : List Cell) → ¬ AllZip (IsColumnCell (fields_of fields.now)) parts.now cells))) }
+{
+    let mut cells = Seq::new(alloc);
+    for part in parts {
+        cells.push(cell_of(alloc, part, fields)?)?;
+    }
+    Ok(cells)
+}
+
+/// The cell of a column outside the key. `WrongType`: its field is no cell of its type.
+fn cell_of(alloc: Global, part: &CellField, fields: &StringRecord) -> Result<Cell, Refusal>
+    ensures read { IfOk result (λ cell. IsColumnCell (fields_of fields.now) part.now cell) }
+    ensures refusals { IfErr result (λ why. (why ≡ Refusal.OutOfMemory) ⊎ ((why ≡ Refusal.WrongType) × ((cell : Cell) → ¬ IsColumnCell (fields_of fields.now) part.now cell))) }
+{
+    let value = value_at(alloc, fields, part.at, part.kind)?;
+    Ok(Cell {
+        column: Text::from_str(alloc, part.column.as_str())?,
+        value,
+    })
+}
+
 /// The places of the columns that are named, counted from 0: all of the table in order where `columns` is `*`, else those whose names stand
 /// between its commas. `NoColumn`: no such column, or one named twice.
+#[tactic(auto, using(crate::proofs::Within::named_within, crate::proofs::Within::below_within))]
 fn places_of(
     alloc: Global,
     schema: &Schema,
@@ -135,6 +157,7 @@ fn places_of(
 ) -> Result<Vec<usize>, Refusal>
     requires { IsTable schema.now table }
     ensures places { IfOk result (λ places. ArePlaces (columns_of schema.now table) columns.now places.items) }
+    ensures within { IfOk result (λ places. AreWithin (columns_of schema.now table) places.items) }
     ensures refusals { IfErr result (λ why. (why ≡ Refusal.OutOfMemory) ⊎ ((why ≡ Refusal.NoColumn) × NamesNone (columns_of schema.now table) columns.now)) }
 {
     if columns == "*" {
@@ -194,6 +217,33 @@ fn has_place(places: &[usize], place: usize) -> bool
     places.iter().any(|other| *other == place)
 }
 
+/// The layout of records of a table whose fields are for the columns at these places. `WrongType`: a column of the key has no field.
+#[tactic(auto, using(crate::proofs::Within::key_within))]
+fn layout_at(
+    alloc: Global,
+    schema: &Schema,
+    number: usize,
+    table: &str,
+    places: &[usize],
+) -> Result<Layout, Refusal>
+    requires table { IsTable schema.now number }
+    requires within { AreWithin (columns_of schema.now number) places.now }
+    ensures table { IfOk result (λ layout. layout.table ≡ table.now) }
+    ensures read { IfOk result (λ layout. IsLayout schema.now number places.now layout) }
+    ensures refusals { IfErr result (λ why. (why ≡ Refusal.OutOfMemory) ⊎ ((why ≡ Refusal.WrongType) × LacksKey (key_places schema.now number) places.now)) }
+{
+    let declared = schema.table(number).columns.as_slice();
+    let key_places = schema.key_places(number);
+    let key = key_fields(alloc, declared, places, key_places)?;
+    let cells = cell_fields(alloc, declared, places, key_places)?;
+    Ok(Layout {
+        table: Text::from_str(alloc, table)?,
+        fields: places.len(),
+        key,
+        cells,
+    })
+}
+
 /// The fields of the key's columns, in its order, where a record has a field for the column at each of `places`. `WrongType`: a column of
 /// the key has none.
 fn key_fields(
@@ -201,7 +251,11 @@ fn key_fields(
     declared: &[Column],
     places: &[usize],
     key_places: &[usize],
-) -> Result<Vec<KeyField>, Refusal> {
+) -> Result<Vec<KeyField>, Refusal>
+    requires { AreWithin declared.now key_places.now }
+    ensures read { IfOk result (λ key. AllZip (IsKeyField declared.now places.now) key_places.now key.items) }
+    ensures refusals { IfErr result (λ why. (why ≡ Refusal.OutOfMemory) ⊎ ((why ≡ Refusal.WrongType) × LacksKey key_places.now places.now)) }
+{
     let mut key = Vec::new(alloc);
     for place in key_places {
         key.push(key_field(declared, places, *place)?)?;
@@ -210,14 +264,44 @@ fn key_fields(
 }
 
 /// The field of the key's column at a place. `WrongType`: no field is for it.
-fn key_field(columns: &[Column], places: &[usize], place: usize) -> Result<KeyField, Refusal> {
-    match (places.iter().position(|p| *p == place), columns.get(place)) {
-        (Some(at), Some(column)) => Ok(KeyField {
+fn key_field(columns: &[Column], places: &[usize], place: usize) -> Result<KeyField, Refusal>
+    requires { place < length columns.now }
+    ensures read { IfOk result (λ part. IsKeyField columns.now places.now place part) }
+    ensures refusals { IfErr result (λ why. (why ≡ Refusal.WrongType) × (position (λ p. p == place) places.now ≡ None)) }
+{
+    match field_of(places, place) {
+        Some(at) => Ok(KeyField {
             at,
-            kind: kind_of_type(column.kind),
+            kind: kind_of_type(columns[place].kind),
         }),
-        _ => Err(Refusal::WrongType),
+        None => Err(Refusal::WrongType),
     }
+}
+
+/// The first field that is for the column at a place.
+fn field_of(places: &[usize], place: usize) -> Option<usize>
+    ensures { result ≡ position (λ p. p == place) places.now }
+{
+    places.iter().position(|p| *p == place)
+}
+
+/// The fields of the columns outside the key, where a record has a field for the column at each of `places`.
+fn cell_fields(
+    alloc: Global,
+    declared: &[Column],
+    places: &[usize],
+    key_places: &[usize],
+) -> Result<Vec<CellField>, AllocError>
+    requires { AreWithin declared.now places.now }
+    ensures { IfOk result (λ cells. AllZip (IsCellField declared.now) (outside_key key_places.now places.now) cells.items) }
+{
+    let mut cells = Vec::new(alloc);
+    for (at, place) in places.iter().enumerate() {
+        if !has_place(key_places, *place) {
+            cells.push(cell_field(alloc, declared, at, *place)?)?;
+        }
+    }
+    Ok(cells)
 }
 
 /// The field at `at`, for the column at a place.
@@ -226,10 +310,11 @@ fn cell_field(
     columns: &[Column],
     at: usize,
     place: usize,
-) -> Result<CellField, Refusal> {
-    let Some(column) = columns.get(place) else {
-        return Err(Refusal::NoColumn);
-    };
+) -> Result<CellField, AllocError>
+    requires { place < length columns.now }
+    ensures { IfOk result (λ part. IsCellField columns.now (at, place) part) }
+{
+    let column = &columns[place];
     Ok(CellField {
         at,
         kind: kind_of_type(column.kind),
@@ -239,8 +324,8 @@ fn cell_field(
 
 /// The value of the field at a place. `WrongType`: it is no cell of the type, or there is no such field.
 fn value_at(alloc: Global, fields: &StringRecord, at: usize, kind: Kind) -> Result<Value, Refusal>
-    ensures value { IfOk result (λ value. IfSome (field_at (fields_of fields.now) at) (λ text. IsCell kind value text)) }
-    ensures refusals { IfErr result (λ why. (why ≡ Refusal.WrongType) ⊎ (why ≡ Refusal.OutOfMemory)) }
+    ensures read { IfOk result (λ value. IsFieldCell (fields_of fields.now) at kind value) }
+    ensures refusals { IfErr result (λ why. (why ≡ Refusal.OutOfMemory) ⊎ ((why ≡ Refusal.WrongType) × ((value : Value) → ¬ IsFieldCell (fields_of fields.now) at kind value))) }
 {
     match fields.get(at) {
         Some(field) => read_cell(alloc, kind, field),

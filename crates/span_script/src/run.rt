@@ -31,10 +31,10 @@ pub fn run<I: Input, O: Output>(
     let mut answers = Answers::new(alloc)?;
     for _ in 0..u64::MAX {
         if lines.is_ready() {
-            let Some(line) = lines.take() else {
+            if !lines.take() {
                 break;
-            };
-            session.take_line(alloc, core, line, &mut answers)?;
+            }
+            session.take_line(alloc, core, lines.line(), &mut answers)?;
             if answers.are_many() {
                 answers.write_to(output)?;
             }

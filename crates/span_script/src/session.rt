@@ -2,6 +2,7 @@
 ghost use Rattle.std.specs.Prelude.{List, IfSome, IsOkUnless};
 ghost use Rattle.span_schema.specs.declared.table.Table.{Table};
 ghost use Rattle.span_machine.specs.Run.{IsOfSchema};
+ghost use Rattle.span_script.specs.Sessions.{IsFresh};
 
 use super::answer::Answers;
 use csv::StringRecord;
@@ -45,7 +46,9 @@ struct Load {
 
 impl Session {
     /// The beginning of a script: the clock is at 0, nothing is set and nothing gathered. It takes no memory.
-    pub fn new(alloc: Global) -> Session {
+    pub fn new(alloc: Global) -> Session
+        ensures { IsFresh result }
+    {
         Session {
             clock: Interval {
                 earliest: 0,

@@ -1,0 +1,25 @@
+use Rattle.std.proofs.Common.{◌≡◌, ◌⊎◌, ◌++◌, ◌∷◌, [], inl, inr, List, get_or, refl}
+use Rattle.std.specs.List.{AllZip}
+use Rattle.std.proofs.lemmas.Result.{err_from_is_err_and}
+use Rattle.csv.specs.Records.{fields_of}
+use Rattle.span_value.specs.declared.refusal.Refusal.TheVariants as refusal
+use Rattle.span_value.specs.declared.value.Kind.TheVariants as kind
+use Rattle.span_value.specs.declared.value.Value.{Value}
+use Rattle.span_command.specs.Layouts.{IsKeyCell}
+use Rattle.span_command.proofs.Zips.{one_more, none_at}
+use Rattle.span_command.proofs.layout.key_of.Goals as goal
+
+pub loop-part-preserved : goal.loop-part-preserved
+loop-part-preserved c =
+    let grown : c.push.new.self ≡ c.loop-part.key ++ c.in_ok-value_at.field-0 ∷ [] = c.in_ok-push.ensures.ok in
+    rw grown (one_more (IsKeyCell (fields_of c.args.fields.now)) c.args.parts.now c.loop-part.key c.loop-part.part-index (record { at = 0; kind = kind.Int }) (get_or c.args.parts.now c.loop-part.part-index (record { at = 0; kind = kind.Int })) c.in_ok-value_at.field-0 c.loop-part-test.true refl c.loop-part.invariant c.in_ok-value_at.ensures.read)
+
+pub returns-in_err-value_at-clause-refusals : goal.returns-in_err-value_at-clause-refusals
+returns-in_err-value_at-clause-refusals c =
+    let told = err_from_is_err_and c.from_residual.result c.from_residual.ensures.1 in
+    rw (told.1, told.2) (by c.in_err-value_at.ensures.refusals)
+  where
+    by : (c.in_err-value_at.field-0.0 ≡ refusal.OutOfMemory) ⊎ ((c.in_err-value_at.field-0.0 ≡ refusal.WrongType) × ((x : Value) → IsKeyCell (fields_of c.args.fields.now) (get_or c.args.parts.now c.loop-part.part-index (record { at = 0; kind = kind.Int })) x → ⊥))
+        → (c.in_err-value_at.field-0.0 ≡ refusal.OutOfMemory) ⊎ ((c.in_err-value_at.field-0.0 ≡ refusal.WrongType) × ((xs : List Value) → AllZip (IsKeyCell (fields_of c.args.fields.now)) c.args.parts.now xs → ⊥))
+    by (inl want) = inl want
+    by (inr none) = inr (none.0, none_at (IsKeyCell (fields_of c.args.fields.now)) c.args.parts.now c.loop-part.part-index (record { at = 0; kind = kind.Int }) (get_or c.args.parts.now c.loop-part.part-index (record { at = 0; kind = kind.Int })) c.loop-part-test.true refl none.1)
