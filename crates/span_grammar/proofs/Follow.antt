@@ -44,9 +44,9 @@ apart_at : (b : Bool) → (b ≡ true → ⊥) → b ≡ false
 apart_at true h = absurd (h refl)
 apart_at false h = refl
 
--- ---- a grammar of which one token tells the way
+-- ---- a grammar in which one token decides the way
 
--- with which tokens a tree of the rule may go on, where it could end; stretch says it of the places
+-- with which tokens a tree of the rule may go on, where it could end; stretch says the same of the places
 abbrev pub goes_on : (Place → Lexeme → Bool) → Rule → Lexeme → Bool
 goes_on st Empty t = false
 goes_on st (One s) t = false
@@ -112,7 +112,7 @@ past_bind r (Read x k) f all h = omega (arith, all x k)
 past_bind r (Wrong k) f all h = h
 past_bind r (Deep k) f all h = h
 
--- The token h with mark e stands before r: a shallow one is passed, a deep one is answered.
+-- The token h with mark e comes before r: a shallow one is passed, a deep one is answered.
 pub record Meets (e : ℕ) (h : Lexeme) (r : List Lexeme) (s : Answer) : Type 0 where
   pub passes : e ≤ limit → Past r s
   pub stops : limit < e → s ≡ Deep (h ∷ r)
@@ -244,7 +244,7 @@ module _ (inside : Place → Rule) (st : Place → Lexeme → Bool) where
   go_in_reads d No r p t x h s k stop = absurd (omega (arith, s.0))
   go_in_reads d (Yes f) r p t x h s k stop = ap (λ (w : Answer). bind w (λ y k2. Read (Nest t y) k2)) (r p x h s.1 k stop)
 
-  -- what is said of the places
+  -- what holds of the places
   abbrev pub Stretches : Type 0
   Stretches = (p : Place) (t : Lexeme) → goes_on st (inside p) t ≡ true → st p t ≡ true
 

@@ -1,4 +1,4 @@
--- What the reading of tokens says of the text.
+-- What the result of reading the tokens implies of the text.
 use Rattle.std.proofs.Common.{◌≡◌, ◌≢◌, inl, inr, ℕ, List, Result, Ok, Err, refl, sym, ap, subst, ◌∙◌, arith}
 use Rattle.std.specs.Prelude.{IfErr}
 use Rattle.span_value.specs.declared.refusal.Refusal.{Refusal}

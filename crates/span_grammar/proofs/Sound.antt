@@ -1,4 +1,4 @@
--- What is read is a tree of the rule; a fault stands where a tree still went on up to it.
+-- What is read is a tree of the rule; up to an error, some tree still goes on.
 use Rattle.std.proofs.Common.{◌≡◌, ℕ, zero, suc, ◌+◌, ◌<◌, ◌≤◌, Bool, true, false, List, [], ◌∷◌, ◌++◌, length, refl, sym, ap, subst, ◌∙◌, append_assoc, arith}
 use Rattle.std.specs.Prelude.{if◌then◌else◌}
 use Rattle.span_grammar.specs.declared.class.Lexeme.{Lexeme}

@@ -117,7 +117,7 @@ one_outcome s (t ∷ ts) = elim (is_of s t) as (λ v. outcome (if v then Read (L
 pub read_one : (n : ℕ) (p : Part) (s : Sort) (ts : List Lexeme) → shape.One s ≡ shape_of p → part_read n p ts ≡ sort_read s ts
 read_one n p s ts h = by_rule n p (One s) ts (rule_is p (shape.One s) h) ∙ one_outcome s ts
 
--- what is made of what was read does not change what is behind it
+-- what is built from what was read does not change the rest
 kept : (mk : Tree → Tree) (s : Answer) → outcome (bind s (λ y k. Read (mk y) k)) ≡ outcome s
 kept mk (Read x k) = refl
 kept mk (Wrong k) = refl

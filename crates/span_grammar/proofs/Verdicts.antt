@@ -1,4 +1,4 @@
--- All the tokens are answered as the grammar says, both ways.
+-- The result for all the tokens is the one that the grammar defines, both ways.
 use Rattle.std.proofs.Common.{◌≡◌, ◌≢◌, List, [], ◌∷◌, length, Result, Ok, Err, refl, sym, ap, ◌∙◌, arith}
 use Rattle.span_grammar.specs.declared.class.Lexeme.{Lexeme}
 use Rattle.span_grammar.specs.declared.grammar.Part.{Part}

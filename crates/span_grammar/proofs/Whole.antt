@@ -1,4 +1,4 @@
--- A whole text is answered as the grammar says, both ways.
+-- The result for a whole text is the one that the grammar defines, both ways.
 use Rattle.std.proofs.Common.{◌≡◌, ℕ, zero, suc, ◌<◌, ◌≤◌, ◌⊎◌, inl, inr, Bool, List, [], ◌∷◌, ◌++◌, length, refl, sym, ap, subst, ◌∙◌, append_assoc, arith, length-append}
 use Rattle.std.proofs.lemmas.Bool.{cases_lt}
 use Rattle.span_grammar.specs.declared.class.Lexeme.{Lexeme}
@@ -72,7 +72,7 @@ append-marks : (a : Marks) → a ++ [] ≡ a
 append-marks [] = refl
 append-marks (t ∷ a) = ap (λ (w : Marks). t ∷ w) (append-marks a)
 
--- the marks of a text that begins with a front and a token
+-- the marks of a text that begins with some tokens and then a token
 record MarkAt (ms : Marks) (front : List Lexeme) (t : Lexeme) : Type 0 where
   pub p : Marks
   pub m : Lexeme × ℕ
@@ -91,7 +91,7 @@ mark_at (f ∷ front) t more (m ∷ ms) e =
     let h = mark_at front t more ms j in
     record { p = m ∷ h.p; m = h.m; q = h.q; parts = ap (λ (w : Marks). m ∷ w) h.parts; same = ap (λ (w : List Lexeme). m.0 ∷ w) h.same ∙ ap (λ (y : Lexeme). y ∷ front) i; here = h.here }
 
--- a longer front goes on as the shorter one
+-- a longer beginning goes on as the shorter one
 goes_along : (b a : List Lexeme) (x y : Lexeme) (c c2 c3 : List Lexeme) → a ++ (x ∷ c) ≡ b ++ (y ∷ c2) → length b ≤ length a → (more : List Lexeme) × (a ++ (x ∷ c3) ≡ b ++ (y ∷ more))
 goes_along [] [] x y c c2 c3 e le = let i : x ≡ y = cc in (c3, ap (λ (t : Lexeme). t ∷ c3) i)
 goes_along [] (z ∷ a) x y c c2 c3 e le = let i : z ≡ y = cc in (a ++ (x ∷ c3), ap (λ (t : Lexeme). t ∷ (a ++ (x ∷ c3))) i)
@@ -122,7 +122,7 @@ module _ (inside : Place → Rule) (st : Place → Lexeme → Bool) (wide : Stre
       let m = all_meets y h d.p d.m (d.q ++ q) e2 d.shallow (words d.q ++ r) in
       (d.m.0 ∷ (words d.q ++ r), ap run (ap (λ (w : Marks). words w ++ r) d.parts ∙ words_at d.p d.m d.q r) ∙ m.stops d.over)
 
-  -- a tree's token is passed, unless a deep one stands at or before it
+  -- a tree's token is passed, unless it is deep or comes after a deep one
   no_stop : (y : Tree) → Fits inside y a → (p : Marks) (m : Lexeme × ℕ) (q : Marks) → marks 0 y ≡ p ++ (m ∷ q) → (r : List Lexeme) → Past r (run (words p ++ (m.0 ∷ r))) ⊎ ((k : List Lexeme) × (run (words p ++ (m.0 ∷ r)) ≡ Deep k))
   no_stop y h p m q e r =
       elim (first_deep p) [

@@ -19,7 +19,7 @@ abbrev pub is_star : TokenKind → Bool
 is_star (kind.Sign sign.Star) = true
 is_star _ = false
 
--- . and * stand first
+-- the first tokens are . and *
 abbrev pub starts_all_of : List Token → Bool
 starts_all_of [] = false
 starts_all_of (s ∷ []) = false
@@ -34,7 +34,7 @@ name_class (Some w) = class.Context w
 abbrev pub spelled : List ℕ → Token → List ℕ
 spelled text t = take (t.end - t.start) (drop t.start text)
 
--- a semicolon, by what stands behind it
+-- a semicolon, by the tokens after it
 abbrev pub semicolon_class : List Token → Class
 semicolon_class [] = class.LastSemicolon
 semicolon_class (t ∷ ts) = class.Sign sign.Semicolon
@@ -52,7 +52,7 @@ kind_class kind.Str bytes behind = class.Str
 kind_class kind.Bytes bytes behind = class.Bytes
 kind_class (kind.Sign s) bytes behind = sign_class s behind
 
--- the class of a token of a text, before the tokens behind it
+-- the class of a token of a text, by the tokens after it
 abbrev pub class_at : List ℕ → Token → List Token → Class
 class_at text t behind = kind_class t.kind (spelled text t) behind
 

@@ -1,4 +1,4 @@
--- What a text is to be.
+-- What a text must be.
 use Rattle.span_grammar.specs.declared.judge.Goal.{Goal}
 use Rattle.span_grammar.specs.declared.judge.Goal.TheVariants as goal
 use Rattle.span_grammar.specs.declared.grammar.Part.{Part}

@@ -12,7 +12,7 @@ use Rattle.span_grammar.specs.Grammar.{inside}
 use Rattle.span_grammar.specs.Goals.{goal_rule}
 use Rattle.span_grammar.specs.Classes.{lexemes_of}
 
--- the text is made of these items, and is not too long
+-- the text consists of these items, and is not too long
 pub record IsMadeOf (text : List ℕ) (items : List Item) : Type 0 where
   pub are : AreItems items
   pub spells : text ≡ text_of items
@@ -29,15 +29,15 @@ pub record IsText (goal : Goal) (text : List ℕ) : Type 0 where
   pub tree : Tree
   pub has : HasTree inside (goal_rule goal) (lexemes_in text items) tree
 
--- what a refusal says of a list of tokens
+-- what a refusal implies of a list of tokens
 abbrev pub IsJudged : Goal → List Lexeme → Refusal → Type 0
 IsJudged goal tokens refusal.Syntax = IsWrong inside (goal_rule goal) tokens
 IsJudged goal tokens refusal.TooDeep = IsTooDeep inside (goal_rule goal) tokens
 IsJudged goal tokens refusal.OutOfMemory = Unit {0}
 IsJudged goal tokens other = ⊥
 
--- what a refusal says of a text: it is too long; else it is made of no items; else no tree goes on at a token, or a token is an
--- opening that is too deep, whichever stands first; or memory ran out
+-- what a refusal implies of a text: it is too long; else it does not consist of items; else no tree goes on at a token, or a token is an
+-- opening that is too deep, whichever comes first; or memory ran out
 abbrev pub IsRefused : Goal → List ℕ → Refusal → Type 0
 IsRefused goal text refusal.TextTooLong = LONGEST_TEXT < length text
 IsRefused goal text refusal.BadToken = (length text ≤ LONGEST_TEXT) × ((items : List Item) → AreItems items → text ≡ text_of items → ⊥)
@@ -46,6 +46,6 @@ IsRefused goal text refusal.TooDeep = (items : List Item) × IsMadeOf text items
 IsRefused goal text refusal.OutOfMemory = Unit {0}
 IsRefused goal text other = ⊥
 
--- this, unless memory ran out
+-- the wanted result, or out of memory
 abbrev pub OrNoMemory : Result (Unit {0}) Refusal → Result (Unit {0}) Refusal → Type 0
 OrNoMemory result wanted = (result ≡ wanted) ⊎ (result ≡ Err refusal.OutOfMemory)

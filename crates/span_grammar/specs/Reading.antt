@@ -1,4 +1,4 @@
--- What reading gives: what is behind a part, or why it stops.
+-- The result of reading a part: the tokens after it, or why reading stops.
 use Rattle.std.specs.Prelude.{◌≡◌, ℕ, List, [], ◌∷◌, Result, Ok, Err, if◌then◌else◌}
 use denote.Ref.{Bor}
 use Rattle.span_grammar.specs.declared.class.Lexeme.{Lexeme}

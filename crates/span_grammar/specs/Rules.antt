@@ -51,7 +51,7 @@ pub data Rule : Type 0 where
   Or : (a b : Rule) → Rule
   -- {a}
   Many : (a : Rule) → Rule
-  -- an opening token, and what stands at the place behind it, one deeper
+  -- an opening token, and what is at the place after it, one level deeper
   Open : Sort → Place → Rule
 
 -- A derivation: which alternative was taken, how often a repeated part came, and the tokens.

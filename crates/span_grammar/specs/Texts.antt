@@ -1,4 +1,4 @@
--- Which texts are in a grammar, and where the fault of another stands.
+-- Which texts are in a grammar, and where the error of another is.
 use Rattle.std.specs.Prelude.{◌≡◌, ℕ, ◌<◌, List, [], ◌∷◌, ◌++◌}
 use Rattle.span_grammar.specs.declared.class.Lexeme.{Lexeme}
 use Rattle.span_grammar.specs.declared.grammar.Place.{Place}
@@ -11,7 +11,7 @@ module _ (inside : Place → Rule) (a : Rule) where
     pub spells : text ≡ words (marks 0 x)
     pub shallow : Shallow (marks 0 x)
 
-  -- No tree goes on from the front with what comes next, a token or the end.
+  -- No tree begins with these tokens and goes on with what comes next, a token or the end.
   abbrev pub NoneGoesOn : List Lexeme → List Lexeme → Type 0
   NoneGoesOn front [] = (x : Tree) → Fits inside x a → words (marks 0 x) ≡ front → ⊥
   NoneGoesOn front (t ∷ ts) = (x : Tree) (more : List Lexeme) → Fits inside x a → words (marks 0 x) ≡ front ++ (t ∷ more) → ⊥

@@ -1,4 +1,4 @@
-//! A text's tokens with their classes.
+//! The tokens of a query or schema text, with their classes.
 ghost use Rattle.std.specs.Prelude.{◌≡◌, ◌-◌, take, drop, IfOk};
 ghost use Rattle.span_grammar.specs.Contexts.{context_named, spelled_by};
 ghost use Rattle.span_grammar.specs.Classes as spec;
@@ -24,7 +24,7 @@ pub fn lexemes(alloc: Global, text: &[u8], tokens: &[Token]) -> Result<Vec<Lexem
     Ok(found)
 }
 
-/// The class of a token, by the tokens behind it.
+/// The class of a token, by the tokens after it.
 fn class_at(text: &[u8], token: &Token, behind: &[Token]) -> Class
     ensures { result ≡ spec.class_at text.now token.now behind.now }
 {
@@ -52,7 +52,7 @@ fn class_at(text: &[u8], token: &Token, behind: &[Token]) -> Class
     }
 }
 
-/// Whether `.` and `*` stand first.
+/// Whether the first tokens are `.` and `*`.
 fn starts_all_of(tokens: &[Token]) -> bool
     ensures { result ≡ spec.starts_all_of tokens.now }
 {
@@ -106,7 +106,7 @@ pub fn spelled<'a>(text: &'a [u8], token: &Token) -> &'a [u8]
     )
 }
 
-/// The bytes from a place on, as far as there are.
+/// The bytes from a place on; none if there are fewer.
 fn behind(bytes: &[u8], place: usize) -> &[u8]
     ensures { result.now ≡ drop place bytes.now }
 {
@@ -117,7 +117,7 @@ fn behind(bytes: &[u8], place: usize) -> &[u8]
     }
 }
 
-/// So many bytes, as far as there are.
+/// The first `count` bytes, or all if there are fewer.
 fn front(bytes: &[u8], count: usize) -> &[u8]
     ensures { result.now ≡ take count bytes.now }
 {

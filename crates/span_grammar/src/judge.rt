@@ -1,4 +1,4 @@
-//! Whether the tokens of a text are in the grammar, all of them.
+//! Checks whether all the tokens of a text together are in the grammar.
 ghost use Rattle.std.specs.Prelude.{◌≡◌};
 ghost use Rattle.span_grammar.specs.Rules.{Tree, limit};
 ghost use Rattle.span_grammar.specs.Grammar.{inside};
@@ -10,12 +10,12 @@ use super::class::Lexeme;
 use super::grammar::Part;
 use super::reader::{DEEPEST, Stop, read};
 
-/// What a text is to be.
+/// What a text must be.
 #[derive(Clone, Copy, Debug, PartialEq, Eq)]
 pub enum Goal {
-    /// A query, with a semicolon behind it or none.
+    /// A query, with or without a semicolon at its end.
     Statement,
-    /// The tables of a schema, parted by semicolons.
+    /// The tables of a schema, separated by semicolons.
     Schema,
 }
 
@@ -40,15 +40,15 @@ fn read_all(part: Part, tokens: &[Lexeme]) -> Result<(), Stop>
     }
 }
 
-/// Whether the tokens are in the grammar.
+/// Checks whether the tokens are in the grammar.
 ///
-/// The error is `Syntax` where there is a token, or the end, with which no tree goes on, and `TooDeep` where the 33rd nested
-/// opening stands, whichever stands first.
+/// The error is `Syntax` where there is a token, or the end, with which no tree goes on, and `TooDeep` where there is a 33rd nested
+/// opening, whichever comes first.
 pub fn judge(goal: Goal, tokens: &[Lexeme]) -> Result<(), Stop>
-    // What is taken has a tree, and what has a tree is taken.
+    // What is accepted has a tree, and what has a tree is accepted.
     ensures read { result ≡ Ok tt → (x : Tree) × HasTree inside (goal_rule goal) tokens.now x }
     ensures read_all { (x : Tree) → HasTree inside (goal_rule goal) tokens.now x → result ≡ Ok tt }
-    // An error stands where no tree goes on, before any opening that is too deep.
+    // A syntax error is where no tree goes on, before any opening that is too deep.
     ensures wrong { result ≡ Err Stop.Syntax → IsWrong inside (goal_rule goal) tokens.now }
     ensures wrong_all { IsWrong inside (goal_rule goal) tokens.now → result ≡ Err Stop.Syntax }
     // An opening is too deep, and up to it some tree goes on.

@@ -1,7 +1,7 @@
-//! Reading the classes of a text's tokens by the grammar.
+//! Reading tokens, by their classes, as the grammar says.
 //!
 //! One token decides each choice, so that no token is read twice. What recurses goes down the grammar, and begins again at its
-//! top only behind an opening, of which at most `DEEPEST` are nested.
+//! top only after an opening, of which at most `DEEPEST` are nested.
 ghost use Rattle.std.specs.Prelude.{◌≡◌, ◌≤◌, List};
 ghost use Rattle.span_grammar.specs.Rules.{limit, is_class, of_class, nullable, first, starts};
 ghost use Rattle.span_grammar.specs.Grammar.{rule_of};
@@ -11,7 +11,7 @@ use super::class::{Class, Lexeme, Sort};
 use super::grammar::{Part, Shape, inside, made_of};
 use span_lexer::token::Sign;
 
-/// How many openings may be nested.
+/// The greatest number of nested openings.
 pub const DEEPEST: usize = 32;
 
 /// Why tokens are not read.
@@ -88,7 +88,7 @@ pub fn goes_on(part: Part, tokens: &[Lexeme]) -> bool
     }
 }
 
-/// What is behind a token of a sort.
+/// Reads a token of a sort and returns the rest.
 #[tactic(auto, unfolding(crate::specs::Reading::sort_read))]
 fn token(sort: Sort, tokens: &[Lexeme]) -> Result<&[Lexeme], Stop>
     ensures { Follows result (sort_read sort tokens.now) }
@@ -99,7 +99,7 @@ fn token(sort: Sort, tokens: &[Lexeme]) -> Result<&[Lexeme], Stop>
     }
 }
 
-/// What is behind a part, with so many openings left.
+/// Reads a part, with `left` openings left, and returns the rest.
 #[tactic(auto, using(crate::proofs::Steps::read_steps))]
 pub(crate) fn read(part: Part, left: usize, tokens: &[Lexeme]) -> Result<&[Lexeme], Stop>
     requires { left ≤ limit }

@@ -1,4 +1,4 @@
-//! Whether a text is in the grammar.
+//! Checks whether a query or schema text is in the grammar.
 ghost use Rattle.std.specs.Prelude.{◌≡◌, ◌≢◌, IfErr};
 ghost use Rattle.span_grammar.specs.Rules.{Tree};
 ghost use Rattle.span_grammar.specs.Grammar.{inside};
@@ -31,11 +31,11 @@ fn judge_tokens(alloc: Global, goal: Goal, text: &[u8], tokens: &[Token]) -> Res
     }
 }
 
-/// Whether a text is a query, or a schema.
+/// Checks whether a text is a query, or a schema.
 ///
-/// The error is `TextTooLong` for a text of more than 65,536 bytes; else `BadToken` where no token stands somewhere; else
-/// `Syntax` where there is a token, or the end, with which no tree goes on, or `TooDeep` where the 33rd nested opening stands,
-/// whichever stands first; or want of memory.
+/// The error is `TextTooLong` for a text of more than 65,536 bytes; else `BadToken` where there is a place without a token; else
+/// `Syntax` where there is a token, or the end, with which no tree goes on, or `TooDeep` where there is a 33rd nested opening,
+/// whichever comes first; or `OutOfMemory`.
 pub fn judge_text(alloc: Global, goal: Goal, text: &str) -> Result<(), Refusal>
     ensures read { result ≡ Ok tt → IsText goal text.now }
     ensures read_all { IsText goal text.now → OrNoMemory result (Ok tt) }

@@ -1,4 +1,4 @@
--- What the reading of a text says of the text.
+-- What the result of reading implies of the text.
 use Rattle.std.proofs.Common.{◌≡◌, ◌⊎◌, inl, inr, ℕ, ◌≤◌, length, List, Some, None, sym, ap, subst, ◌∙◌}
 use Rattle.span_value.specs.declared.refusal.Refusal.{Refusal}
 use Rattle.span_value.specs.declared.refusal.Refusal.TheVariants as refusal

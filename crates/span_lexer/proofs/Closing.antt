@@ -36,7 +36,7 @@ pub with_with : (j k : ℕ) (o : Option ℕ) → with_more j (with_more k o) ≡
 with_with j k None = refl
 with_with j k (Some n) = ap Some (omega arith)
 
--- what belongs to the piece before is passed over
+-- the bytes of the piece before are skipped
 pub skipped : (t : Literal) (q k : ℕ) (bs : List ℕ) → closed t q k bs ≡ with_more k (closed t q 0 (drop k bs))
 skipped t q zero bs = sym (with_zero (closed t q 0 bs))
 skipped t q (suc k) [] = closed_nil t q (suc k) ∙ sym (ap (with_more (suc k)) (closed_nil t q 0))

@@ -1,4 +1,4 @@
--- Each item is read, whatever follows it, and a text of items is read whole.
+-- Each item is read, whatever follows it, and a text of items is read to its end.
 use Rattle.std.proofs.Common.{◌≡◌, ◌⊎◌, inl, inr, ℕ, zero, suc, ◌+◌, ◌-◌, ◌*◌, ◌<◌, ◌≤◌, ◌==◌, nat_lt, Bool, true, false, not, ◌&&◌, ◌||◌, List, [], ◌∷◌, ◌++◌, length, drop, take, Option, Some, None, if◌then◌else◌, refl, sym, ap, subst, ◌∙◌, arith, eqb-true}
 use Rattle.std.proofs.lemmas.Grind.{common_steps}
 use Rattle.std.proofs.lemmas.List.{take-append-drop}
@@ -53,7 +53,7 @@ quote_is q e = elim (q == 39) as (λ v. (q == 39) ≡ v → (v || (q == 34)) ≡
   | false ↦ λ h i. inr (eqb-true q 34 i)
 ] refl e
 
--- ---- the front, stage by stage
+-- ---- what a text begins with, case by case
 
 to_word : (b : ℕ) (bs : List ℕ) → is_letter b ≡ true → (is_mark b && begins is_quote bs) ≡ false → front_of (b ∷ bs) ≡ word_front (b ∷ bs)
 unfolding front_of

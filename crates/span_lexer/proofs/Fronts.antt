@@ -1,4 +1,4 @@
--- What stands at the front is an item.
+-- What the lexer finds first in a text is an item.
 use Rattle.std.proofs.Common.{◌≡◌, ℕ, zero, suc, ◌+◌, ◌-◌, ◌*◌, ◌<◌, ◌≤◌, ◌==◌, nat_lt, Bool, true, false, not, ◌&&◌, ◌||◌, List, [], ◌∷◌, ◌++◌, length, drop, take, get_or, Option, Some, None, if◌then◌else◌, refl, sym, ap, subst, ◌∙◌, arith, eqb-true, lit≤}
 use Rattle.std.specs.List.{prefix_len}
 use Rattle.std.proofs.lemmas.Grind.{common_steps}
@@ -54,7 +54,7 @@ pub digit_is_word : (c : ℕ) → is_digit c ≡ true → is_word c ≡ true
 unfolding is_word
 digit_is_word c e = elim (is_letter c) as (λ v. (v || is_digit c) ≡ true) [ true ↦ refl | false ↦ e ]
 
--- ---- what holds of a front
+-- ---- what holds of it
 
 abbrev pub IsGap : Item → Type 0
 IsGap (Blank b) = Unit {0}
@@ -247,7 +247,7 @@ sign_holds b bs m =
     (λ e. choose (Holds (b ∷ bs)) (begins (λ c. c == 124) bs) _ front.Wrong (λ f. two_bytes b 124 124 sgn.Concat bs e f refl) (λ f. tt))
     (λ e13. tt)))))))))))))
 
--- ---- the whole front
+-- ---- all cases together
 
 and_both : (a b : Bool) → (a && b) ≡ true → (a ≡ true) × (b ≡ true)
 and_both true b e = (refl, e)

@@ -10,7 +10,7 @@ use Rattle.span_lexer.proofs.Closing.{piece_then, no_piece, closed_here, closed_
 
 -- ---- what is read is a piece
 
--- o is the length of a piece at the front of the bytes, if it is a length
+-- o is the length of a piece that the bytes begin with, if it is a length
 abbrev Reads : Literal → ℕ → List ℕ → Option ℕ → Type 0
 Reads t q bs None = Unit {0}
 Reads t q bs (Some n) = (p : Piece) × IsPiece t q p × (take n bs ≡ piece_bytes p) × (0 < n) × (n ≤ length bs)

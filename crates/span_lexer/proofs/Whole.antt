@@ -1,4 +1,4 @@
--- The tokens of a whole text, front by front.
+-- The tokens of a whole text, item by item.
 use Rattle.std.proofs.Common.{◌≡◌, ℕ, zero, suc, ◌+◌, ◌-◌, ◌<◌, ◌≤◌, List, [], ◌∷◌, ◌++◌, length, drop, get_or, Option, Some, None, refl, sym, ap, ◌∙◌, append_assoc, arith}
 use Rattle.std.specs.Option.{option_map}
 use Rattle.std.proofs.lemmas.Grind.{common_steps}
@@ -27,7 +27,7 @@ lexed_at : (at b : ℕ) (bs : List ℕ) → lexed 0 at (b ∷ bs) ≡ going at b
 unfolding lexed
 lexed_at at b bs = refl
 
--- what belongs to the front before is passed over
+-- the bytes of the item before are skipped
 pub skipped : (k at : ℕ) (bs : List ℕ) → lexed k at bs ≡ lexed 0 (at + k) (drop k bs)
 skipped zero at bs = ap (λ (n : ℕ). lexed 0 n bs) (omega arith)
 skipped (suc k) at [] = lexed_nil (suc k) at ∙ sym (lexed_nil 0 (at + suc k))

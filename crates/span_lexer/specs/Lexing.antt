@@ -1,4 +1,4 @@
--- What stands at the front of a text, and the tokens of a whole text.
+-- What a text begins with, and the tokens of a whole text.
 use Rattle.std.specs.Prelude.{ℕ, zero, suc, ◌+◌, ◌-◌, ◌*◌, ◌<◌, ◌≤◌, ◌==◌, nat_lt, Bool, not, ◌&&◌, ◌||◌, List, [], ◌∷◌, take, Option, Some, None, if◌then◌else◌}
 use Rattle.std.specs.Option.{option_map}
 use Rattle.std.specs.List.{prefix_len}
@@ -21,7 +21,7 @@ greatest_integer = 9223372036854775807
 abbrev pub longest_word : ℕ
 longest_word = 128
 
--- how many letters, digits and _ stand at the front
+-- the number of letters, digits and _ that the bytes begin with
 abbrev pub run : List ℕ → ℕ
 run bs = prefix_len is_word bs
 
@@ -37,7 +37,7 @@ word_front bs = if nat_lt longest_word (run bs) then front.Wrong else front.Lexe
 unfoldable pub next_integer : ℕ → ℕ → Option ℕ
 next_integer n c = if is_digit c then (if nat_lt greatest_integer (n * 10 + (c - 48)) then None else Some (n * 10 + (c - 48))) else None
 
--- the number that the digits write behind n
+-- the number that the digits write, when n was written before them
 unfoldable pub integer : ℕ → List ℕ → Option ℕ
 integer n [] = Some n
 integer n (c ∷ cs) = elim (next_integer n c) [ None ↦ None | Some v ↦ integer v cs ]
@@ -53,7 +53,7 @@ abbrev pub name_or_wrong : ℕ → Option Word → Front
 name_or_wrong n None = front.Lexeme kind.Parameter (n + 1)
 name_or_wrong n (Some w) = front.Wrong
 
--- what stands behind @
+-- a parameter: what is after @
 unfoldable pub parameter_front : List ℕ → Front
 parameter_front bs =
     if not (begins is_letter bs) || nat_lt longest_word (run bs) then front.Wrong else name_or_wrong (run bs) (reserved (take (run bs) bs))
@@ -62,7 +62,7 @@ abbrev pub literal_or_wrong : TokenKind → ℕ → Option ℕ → Front
 literal_or_wrong k before None = front.Wrong
 literal_or_wrong k before (Some n) = front.Lexeme k (before + n)
 
--- the sign at the front, by its first byte and the bytes behind it; the longest is taken
+-- the longest sign that begins with a byte and goes on in the rest
 unfoldable pub sign_front : ℕ → List ℕ → Front
 sign_front b bs =
     if b == 40 then front.Lexeme (kind.Sign sign.Open) 1
@@ -88,7 +88,7 @@ unfoldable pub bytes_front : List ℕ → Front
 bytes_front [] = front.Wrong
 bytes_front (q ∷ bs) = literal_or_wrong kind.Bytes 2 (closed literal.Bytes q 0 bs)
 
--- what stands at the front of a text
+-- what a text begins with
 unfoldable pub front_of : List ℕ → Front
 front_of [] = front.Wrong
 front_of (b ∷ bs) =
@@ -101,7 +101,7 @@ front_of (b ∷ bs) =
     else (if b == 45 && begins (λ c. c == 45) bs then front.Gap (1 + prefix_len on_line bs)
     else sign_front b bs))))))
 
--- a front is not empty, and ends within so many bytes
+-- it is not empty, and no longer than a number of bytes
 abbrev pub Reaches : ℕ → Front → Type 0
 Reaches most (front.Gap n) = (0 < n) × (n ≤ most)
 Reaches most (front.Lexeme k n) = (0 < n) × (n ≤ most)
@@ -110,7 +110,7 @@ Reaches most front.Wrong = Unit {0}
 abbrev pub with_token : Token → Option (List Token) → Option (List Token)
 with_token t o = option_map (λ ts. t ∷ ts) o
 
--- The tokens of a text that begins at a place. The first `skip` bytes belong to what stands before.
+-- The tokens of a text that begins at a place. The first `skip` bytes belong to the item before.
 unfoldable pub lexed : ℕ → ℕ → List ℕ → Option (List Token)
 lexed skip at [] = Some []
 lexed (suc skip) at (b ∷ bs) = lexed skip (at + 1) bs

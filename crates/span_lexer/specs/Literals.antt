@@ -27,13 +27,13 @@ unicode_end (a ∷ b ∷ []) = None
 unicode_end (a ∷ b ∷ c ∷ []) = None
 unicode_end (a ∷ b ∷ c ∷ d ∷ bs) = if ((is_hex a && is_hex b) && (is_hex c && is_hex d)) && not (is_d a && not (is_below_8 b)) then Some 6 else None
 
--- how long the escape is whose letter and digits stand there, its backslash counted
+-- the length of an escape with its backslash, by its letter and digits
 unfoldable pub escape_end : Literal → List ℕ → Option ℕ
 escape_end t [] = None
 escape_end t (e ∷ bs) =
     if is_escape e then Some 2 else (if e == 120 then hex_end t bs else (if e == 117 then (if is_bytes t then None else unicode_end bs) else None))
 
--- how long the character or escape at the front is; LF is none, and in bytes only ASCII is one
+-- the length of the first character or escape; LF is none, and in bytes only ASCII is one
 unfoldable pub piece_end : Literal → List ℕ → Option ℕ
 piece_end t [] = None
 piece_end t (b ∷ bs) = if b == 92 then escape_end t bs else (if b == 10 || (is_bytes t && nat_lt 127 b) then None else Some 1)
@@ -44,7 +44,7 @@ one_more o = option_map (λ n. n + 1) o
 abbrev pub with_more : ℕ → Option ℕ → Option ℕ
 with_more k o = option_map (λ n. k + n) o
 
--- How many bytes there are up to the closing quote, itself counted. The first `skip` of them belong to the piece before.
+-- The number of bytes up to and with the closing quote. The first `skip` of them belong to the piece before.
 unfoldable pub closed : Literal → ℕ → ℕ → List ℕ → Option ℕ
 closed t q skip [] = None
 closed t q zero (b ∷ bs) = if b == q then Some 1 else elim (piece_end t (b ∷ bs)) [ None ↦ None | Some n ↦ one_more (closed t q (n - 1) bs) ]

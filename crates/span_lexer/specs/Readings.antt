@@ -1,4 +1,4 @@
--- What reading a text gives.
+-- The result of reading a text.
 use Rattle.std.specs.Prelude.{◌≡◌, ℕ, ◌<◌, ◌≤◌, length, List, Result, Ok, Err}
 use Rattle.span_value.specs.declared.refusal.Refusal.{Refusal}
 use Rattle.span_value.specs.declared.refusal.Refusal.TheVariants as refusal
@@ -12,7 +12,7 @@ abbrev pub ReadsOrNoMemory : List Token → Result (List Token) Misread → Type
 ReadsOrNoMemory ts (Ok found) = found ≡ ts
 ReadsOrNoMemory ts (Err e) = e.refusal ≡ refusal.OutOfMemory
 
--- the refusal of a text: it is too long, or not and made of no items, or memory ran out
+-- the refusal of a text: it is too long; or it is not, and does not consist of items; or memory ran out
 abbrev pub IsMisread : List ℕ → Refusal → Type 0
 IsMisread text refusal.TextTooLong = LONGEST_TEXT < length text
 IsMisread text refusal.BadToken = (length text ≤ LONGEST_TEXT) × ((is : List Item) → AreItems is → text ≡ text_of is → ⊥)

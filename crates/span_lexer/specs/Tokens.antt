@@ -1,4 +1,4 @@
--- What a text is made of, apart from how it is read: items, one behind the other, and the tokens among them.
+-- What a text consists of, independent of how it is read: a sequence of items, and the tokens among them.
 use Rattle.std.specs.Prelude.{◌≡◌, ℕ, ◌+◌, ◌*◌, ◌-◌, ◌<◌, ◌≤◌, ◌==◌, nat_lt, Bool, true, false, not, ◌||◌, ◌&&◌, List, [], ◌∷◌, ◌++◌, length, Some, None}
 use Rattle.span_lexer.specs.declared.token.TokenKind.{TokenKind}
 use Rattle.span_lexer.specs.declared.token.TokenKind.TheVariants as kind
@@ -36,8 +36,8 @@ piece_bytes (Escaped e) = 92 ∷ e ∷ []
 piece_bytes (Hex h l) = 92 ∷ 120 ∷ h ∷ l ∷ []
 piece_bytes (Unicode a b c d) = 92 ∷ 117 ∷ a ∷ b ∷ c ∷ d ∷ []
 
--- A plain byte is neither the quote nor a backslash nor LF, and in bytes it is ASCII. \x stands for any byte in bytes and for 00 to 7f
--- in a string; \u stands in strings alone, and for no surrogate.
+-- A plain byte is neither the quote nor a backslash nor LF, and in bytes it is ASCII. \x is any byte in bytes and 00 to 7f
+-- in a string; \u is allowed in strings only, and is no surrogate.
 abbrev pub IsPiece : Literal → ℕ → Piece → Type 0
 IsPiece t q (Plain b) = ((b == q) ≡ false) × ((b == 92) ≡ false) × ((b == 10 || (is_bytes t && nat_lt 127 b)) ≡ false)
 IsPiece t q (Escaped e) = is_escape e ≡ true
@@ -52,7 +52,7 @@ abbrev pub pieces_bytes : List Piece → List ℕ
 pieces_bytes [] = []
 pieces_bytes (p ∷ ps) = piece_bytes p ++ pieces_bytes ps
 
--- the bytes behind a quote, up to the closing one
+-- the bytes after a quote, up to the closing one
 pub record IsBody (t : Literal) (q : ℕ) (bytes : List ℕ) : Type 0 where
   pub pieces : List Piece
   pub fits : ArePieces t q pieces
@@ -71,7 +71,7 @@ pub record IsName (bytes rest : List ℕ) : Type 0 where
 abbrev pub NoMark : List ℕ → List ℕ → Type 0
 NoMark bytes rest = (m : ℕ) → bytes ≡ m ∷ [] → is_mark m ≡ true → begins is_quote rest ≡ true → ⊥
 
--- the number that decimal digits write behind n
+-- the number that decimal digits write, when n was written before them
 abbrev pub number_behind : ℕ → List ℕ → ℕ
 number_behind n [] = n
 number_behind n (c ∷ cs) = number_behind (n * 10 + (c - 48)) cs
@@ -89,13 +89,13 @@ pub record IsInteger (bytes : List ℕ) (value : ℕ) (rest : List ℕ) : Type 0
 unfoldable pub is_pair : ℕ → ℕ → Bool
 is_pair a b = ((a == 60 && (b == 61 || b == 62)) || (a == 62 && b == 61)) || ((a == 33 && b == 61) || ((a == 124 && b == 124) || (a == 45 && b == 45)))
 
--- a sign of one byte does not stand before a byte with which it is one of two, or a comment
+-- a sign of one byte is not followed by a byte with which it is a sign of two bytes or begins a comment
 abbrev pub NoPair : List ℕ → List ℕ → Type 0
 NoPair bytes rest = (a b : ℕ) (more : List ℕ) → bytes ≡ a ∷ [] → rest ≡ b ∷ more → is_pair a b ≡ false
 
 -- ---- tokens
 
--- the bytes are a token of the kind, with the rest behind them
+-- the bytes are a token of the kind, followed by the rest
 abbrev pub IsToken : TokenKind → List ℕ → List ℕ → Type 0
 IsToken (kind.Word w) bytes rest = IsName bytes rest × NoMark bytes rest × (reserved bytes ≡ Some w)
 IsToken kind.Name bytes rest = IsName bytes rest × NoMark bytes rest × (reserved bytes ≡ None)
@@ -109,7 +109,7 @@ IsToken (kind.Sign s) bytes rest = (bytes ≡ sign s) × NoPair bytes rest
 
 pub data Item : Type 0 where
   Blank : ℕ → Item
-  -- the bytes behind --
+  -- the bytes after --
   Comment : List ℕ → Item
   Lexeme : TokenKind → List ℕ → Item
 

@@ -56,7 +56,7 @@ pub(crate) fn is_mark(byte: u8) -> bool
     matches!(byte, b'b' | b'B')
 }
 
-/// Whether the byte behind a backslash is an escape of one letter.
+/// Whether the byte after a backslash is an escape of one letter.
 #[tactic(auto, unfolding(crate::specs::Characters::is_escape))]
 pub(crate) fn is_escape(byte: u8) -> bool
     ensures { result ≡ character.is_escape byte }

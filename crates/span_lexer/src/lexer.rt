@@ -1,6 +1,6 @@
-//! The tokens of a text.
+//! The tokens of a query or schema text.
 //!
-//! A text is read front by front: a blank or a comment, or the one token that stands there.
+//! A text is read from left to right, each time one blank, one comment or one token.
 ghost use Rattle.std.specs.Prelude.{◌≡◌, ◌==◌, ◌⊎◌, ◌+◌, ◌<◌, ◌≤◌, ◌-◌, length, drop, List, IfSome, IfOk, OnOk, IfErr};
 ghost use Rattle.std.specs.List.{prefix_len};
 ghost use Rattle.span_lexer.specs.Characters as character;
@@ -18,26 +18,26 @@ use span_value::seq::Seq;
 use std::alloc::{AllocError, AllocFailed, Global};
 use std::fmt;
 
-/// What stands at the front of a text, with its length in bytes.
+/// What a text begins with, and its length in bytes.
 #[derive(Clone, Copy, Debug, PartialEq, Eq)]
 pub(crate) enum Front {
     /// A blank or a comment.
     Gap(usize),
     Lexeme(TokenKind, usize),
-    /// No token stands here.
+    /// There is no token here.
     Wrong,
 }
 
-/// The greatest length of a text in bytes.
+/// The greatest length of a query or schema text in bytes.
 pub const LONGEST_TEXT: usize = 65536;
 
-/// The greatest integer of a text.
+/// The greatest integer that a text may contain.
 pub const GREATEST_INTEGER: u64 = 9223372036854775807;
 
 /// The greatest length of a name in bytes.
 pub const LONGEST_WORD: usize = 128;
 
-/// Why a text was not read, and the byte from which on it was not.
+/// Why a text was refused, and the byte where the error is.
 #[derive(Clone, Copy, Debug, PartialEq, Eq)]
 pub struct Misread {
     pub refusal: Refusal,
@@ -78,7 +78,7 @@ impl<T: Drop> From<AllocFailed<T>> for Misread {
     }
 }
 
-/// How many letters, digits and `_` stand at the front.
+/// The number of letters, digits and `_` that the bytes begin with.
 fn run(bytes: &[u8]) -> usize
     ensures count { result ≡ spec.run bytes.now }
     ensures within { result ≤ length bytes.now }
@@ -86,7 +86,7 @@ fn run(bytes: &[u8]) -> usize
     bytes.iter().take_while(|byte| is_word(**byte)).count()
 }
 
-/// How many bytes there are up to an LF or the end.
+/// The number of bytes before the first LF, or before the end.
 fn line_length(bytes: &[u8]) -> usize
     ensures count { result ≡ prefix_len spec.on_line bytes.now }
     ensures within { result ≤ length bytes.now }
@@ -155,7 +155,7 @@ fn integer_front(bytes: &[u8]) -> Front
     }
 }
 
-/// What stands behind `@`.
+/// A parameter: what is after its `@`.
 #[tactic(auto, unfolding(crate::specs::Lexing::parameter_front))]
 fn parameter_front(bytes: &[u8]) -> Front
     ensures { result ≡ spec.parameter_front bytes.now }
@@ -197,7 +197,7 @@ fn starts_with(bytes: &[u8], byte: u8) -> bool
     }
 }
 
-/// The bytes literal whose quote stands first, behind its mark.
+/// A bytes literal, whose mark was read: its quote comes first.
 #[tactic(auto, unfolding(crate::specs::Lexing::bytes_front))]
 fn bytes_front(bytes: &[u8]) -> Front
     requires { length bytes.now ≤ LONGEST_TEXT }
@@ -212,7 +212,7 @@ fn bytes_front(bytes: &[u8]) -> Front
     }
 }
 
-/// The string whose quote stands before the bytes.
+/// A string literal, whose quote was read: the bytes come after it.
 fn string_front(quote: u8, body: &[u8]) -> Front
     requires { length body.now ≤ LONGEST_TEXT }
     ensures { result ≡ spec.literal_or_wrong TokenKind.Str 1 (literal.closed Literal.Text quote 0 body.now) }
@@ -223,7 +223,7 @@ fn string_front(quote: u8, body: &[u8]) -> Front
     }
 }
 
-/// The sign that begins with a byte, before the bytes behind it; the longest is taken.
+/// The longest sign that begins with `first` and goes on in `rest`.
 #[tactic(auto, unfolding(crate::specs::Lexing::sign_front))]
 fn sign_front(first: u8, rest: &[u8]) -> Front
     ensures { result ≡ spec.sign_front first rest.now }
@@ -250,7 +250,7 @@ fn sign_front(first: u8, rest: &[u8]) -> Front
     Front::Lexeme(TokenKind::Sign(sign), length)
 }
 
-/// What stands at the front of a text.
+/// What a text begins with.
 #[tactic(auto, unfolding(crate::specs::Lexing::front_of))]
 fn front_of(bytes: &[u8]) -> Front
     requires { length bytes.now ≤ LONGEST_TEXT }
@@ -283,7 +283,7 @@ fn front_of(bytes: &[u8]) -> Front
     sign_front(*first, rest)
 }
 
-/// What stands at a place of a text, which reaches on and not past the end.
+/// What is at a place of a text: it is not empty and does not reach past the end.
 fn front_at(bytes: &[u8], place: usize) -> Front
     requires text { length bytes.now ≤ LONGEST_TEXT }
     requires inside { place < length bytes.now }
@@ -326,15 +326,15 @@ fn lexemes(alloc: Global, bytes: &[u8]) -> Result<Vec<Token>, Misread>
 
 /// The tokens of a text, in order, with the bytes at which they begin and end.
 ///
-/// The error is `TextTooLong` for a text of more than `LONGEST_TEXT` bytes; else `BadToken` where no token stands, at the
-/// first such byte; or want of memory.
+/// The error is `TextTooLong` for a text of more than `LONGEST_TEXT` bytes; else `BadToken` where there is no token, at the
+/// first such byte; or `OutOfMemory`.
 pub fn tokens(alloc: Global, text: &str) -> Result<Seq<Token>, Misread>
-    // What is read is the tokens of the items that the text is made of.
+    // The result is the tokens of the items that the text consists of.
     ensures read { IfOk result (λ found. (is : List Item) × AreItems is × (text.now ≡ text_of is) × (found ≡ tokens_of 0 is)) }
     ensures short { OnOk result (length text.now ≤ LONGEST_TEXT) }
-    // A text of items, if it is not too long, is read.
+    // A text that consists of items, and is not too long, is read.
     ensures read_all { (is : List Item) → AreItems is → text.now ≡ text_of is → length text.now ≤ LONGEST_TEXT → ReadsOrNoMemory (tokens_of 0 is) result }
-    // A text that is too long is told from one that is made of no items.
+    // The refusal distinguishes a text that is too long from one that does not consist of items.
     ensures refused { IfErr result (λ e. IsMisread text.now e.refusal) }
 {
     if text.len() > LONGEST_TEXT {

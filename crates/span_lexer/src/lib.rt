@@ -1,4 +1,4 @@
-//! Tokens of SQL texts and schema texts, with their places.
+//! The tokens of query and schema texts, with their places.
 #![tactic(auto)]
 
 pub mod character;

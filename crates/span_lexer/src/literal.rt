@@ -11,8 +11,8 @@ pub enum Literal {
     Bytes,
 }
 
-/// How many bytes there are up to the closing quote, itself counted; None where the literal is not closed on its line,
-/// or a wrong escape or character stands before the quote.
+/// The number of bytes up to and with the closing quote; None where the literal is not closed on its line,
+/// or there is a wrong escape or character before the quote.
 #[tactic(auto, using(crate::proofs::Closing::closing_rules))]
 pub(crate) fn closing_quote(literal: Literal, quote: u8, bytes: &[u8]) -> Option<usize>
     ensures end { result ≡ spec.closed literal quote 0 bytes.now }
@@ -29,7 +29,7 @@ pub(crate) fn closing_quote(literal: Literal, quote: u8, bytes: &[u8]) -> Option
     None
 }
 
-/// How long the character or escape at the front is.
+/// The length of the character or escape that the bytes begin with.
 #[tactic(auto, unfolding(crate::specs::Literals::piece_end))]
 fn piece_length(literal: Literal, bytes: &[u8]) -> Option<usize>
     ensures end { result ≡ spec.piece_end literal bytes.now }
@@ -45,7 +45,7 @@ fn piece_length(literal: Literal, bytes: &[u8]) -> Option<usize>
     Some(1)
 }
 
-/// How long an escape is, its backslash counted, whose letter and digits stand there.
+/// The length of an escape with its backslash, by its letter and digits.
 #[tactic(auto, unfolding(crate::specs::Literals::escape_end))]
 fn escape_length(literal: Literal, bytes: &[u8]) -> Option<usize>
     ensures end { result ≡ spec.escape_end literal bytes.now }

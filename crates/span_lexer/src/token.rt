@@ -120,7 +120,7 @@ pub enum Sign {
     Concat,
 }
 
-/// What a token is. A name, a parameter, a string and a bytes literal are told by the text of their span.
+/// What a token is. Of a name, a parameter, a string or a bytes literal, the span gives the spelling.
 #[derive(Clone, Copy, Debug, PartialEq, Eq)]
 pub enum TokenKind {
     Word(Word),
@@ -136,7 +136,7 @@ pub enum TokenKind {
     Sign(Sign),
 }
 
-/// A token, and where it stands: from the byte `start` up to the byte before `end`.
+/// A token and its place: from the byte `start` up to the byte before `end`.
 #[derive(Clone, Copy, Debug, PartialEq, Eq)]
 pub struct Token {
     pub kind: TokenKind,

@@ -1,4 +1,4 @@
--- What a literal stands for, piece by piece.
+-- The value of a literal, piece by piece.
 use Rattle.std.proofs.Common.{◌≡◌, ◌≢◌, ◌∙◌, sym, refl, ap, ℕ, ◌==◌, Bool, List, [], ◌∷◌, ◌++◌, map, drop, Option, None, if◌then◌else◌}
 use Rattle.std.specs.List.{AllByRecursion, flat_map}
 use Rattle.std.specs.Str.{encode_utf8_all}

@@ -45,7 +45,7 @@ both_digits cs h ds l es a b first second high low = ap two_digits (first ∙ ap
 
 pub ruleset digit_steps = (no_digit, one_digit, both_digits)
 
--- what is behind two digits, or fewer
+-- the rest after two digits, or fewer
 abbrev two_more : ℕ → Option (ℕ × List ℕ) → Option (ℕ × List ℕ)
 two_more n None = None
 two_more n (Some p) = Some (n * 256 + p.0, p.1)

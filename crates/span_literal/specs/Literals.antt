@@ -1,4 +1,4 @@
--- What a literal of a string or bytes stands for: its characters, each as it stands or by an escape.
+-- The value of a string or bytes literal: its characters, each written plainly or by an escape.
 use Rattle.std.specs.Prelude.{ℕ, zero, suc, ◌+◌, ◌-◌, ◌*◌, ◌%◌, ◌==◌, nat_lt, nat_le, ◌&&◌, List, [], ◌∷◌, length, take, drop, map, chars, Option, Some, None, if◌then◌else◌}
 use Rattle.std.specs.Str.{encode_utf8_all}
 
@@ -11,7 +11,7 @@ digit c = if nat_le 48 c && nat_lt c 58 then c - 48 else (if nat_le 65 c && nat_
 abbrev pub character : ℕ → ℕ
 character n = if nat_le 55296 n && nat_lt n 57344 then 65533 else n
 
--- the number that two digits are, and what is behind them; no literal has fewer
+-- the number that two digits write, and the rest; no literal has fewer
 unfoldable pub two_digits : List ℕ → Option (ℕ × List ℕ)
 two_digits [] = None
 two_digits (h ∷ []) = None
@@ -25,7 +25,7 @@ four_digits (a ∷ b ∷ []) = None
 four_digits (a ∷ b ∷ c ∷ []) = None
 four_digits (a ∷ b ∷ c ∷ d ∷ cs) = Some (((digit a * 16 + digit b) * 16 + digit c) * 16 + digit d, cs)
 
--- the code that an escape has by its letter and its digits, if it has one, and what is behind it
+-- the character code of an escape, by its letter and its digits, if it has one, and the rest
 abbrev pub code_of : ℕ → List ℕ → Option (ℕ × List ℕ)
 code_of c cs = if c == 120 then two_digits cs else (if c == 117 then four_digits cs else None)
 
@@ -33,7 +33,7 @@ code_of c cs = if c == 120 then two_digits cs else (if c == 117 then four_digits
 abbrev pub named : ℕ → ℕ
 named c = if c == 110 then 10 else (if c == 114 then 13 else (if c == 116 then 9 else c))
 
--- the character of an escape, whose letter and digits stand there, and what is behind it
+-- the character of an escape, by its letter and the characters after that, and the rest
 abbrev pub escaped_as : Option (ℕ × List ℕ) → ℕ → List ℕ → ℕ × List ℕ
 escaped_as None c cs = (named c, cs)
 escaped_as (Some p) c cs = (character p.0, p.1)
@@ -41,22 +41,22 @@ escaped_as (Some p) c cs = (character p.0, p.1)
 abbrev pub escaped : ℕ → List ℕ → ℕ × List ℕ
 escaped c cs = escaped_as (code_of c cs) c cs
 
--- the character that a backslash begins, and what is behind it; no literal ends by a backslash
+-- the character of the escape that a backslash begins, and the rest; no literal ends in a backslash
 abbrev pub behind_backslash : List ℕ → ℕ × List ℕ
 behind_backslash [] = (92, [])
 behind_backslash (c ∷ cs) = escaped c cs
 
--- the first character, and what is behind it
+-- the first character of the value, and the rest
 abbrev pub first_of : ℕ → List ℕ → ℕ × List ℕ
 first_of c cs = if c == 92 then behind_backslash cs else (c, cs)
 
--- at most so many characters
+-- at most n characters of the value
 unfoldable pub characters : ℕ → List ℕ → List ℕ
 characters zero cs = []
 characters (suc n) [] = []
 characters (suc n) (c ∷ cs) = (first_of c cs).0 ∷ characters n (first_of c cs).1
 
--- each character takes one at least
+-- all characters of the value: each is written with one character at least
 unfoldable pub meant : List ℕ → List ℕ
 meant cs = characters (length cs) cs
 
@@ -64,7 +64,7 @@ meant cs = characters (length cs) cs
 abbrev pub before_last : List ℕ → List ℕ
 before_last cs = take (length cs - 1) cs
 
--- what stands between the quotes, which are the first character and the last one
+-- what is between the quotes, which are the first character and the last one
 abbrev pub between_quotes : List ℕ → List ℕ
 between_quotes cs = before_last (drop 1 cs)
 

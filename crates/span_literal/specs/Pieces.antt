@@ -1,4 +1,4 @@
--- The inside of a literal as pieces, each a character as it stands or an escape.
+-- The inside of a literal as pieces, each a plain character or an escape.
 use Rattle.std.specs.Prelude.{◌≡◌, ◌≢◌, ℕ, ◌+◌, ◌*◌, true, List, [], ◌∷◌, ◌++◌, map}
 use Rattle.std.specs.List.{AllByRecursion, flat_map}
 use Rattle.std.specs.Str.{all_scalars, encode_utf8_all}
@@ -10,7 +10,7 @@ pub data Piece : Type 0 where
   Two : (h l : ℕ) → Piece
   Four : (a b c d : ℕ) → Piece
 
--- a character that stands for itself is no backslash, and the letters x and u come with digits
+-- a plain character is no backslash, and the letters x and u come with digits
 abbrev pub IsPiece : Piece → Type 0
 IsPiece (Itself c) = c ≢ 92
 IsPiece (Letter c) = (c ≢ 120) × (c ≢ 117)
@@ -33,10 +33,10 @@ stands_for (Four a b c d) = character (((digit a * 16 + digit b) * 16 + digit c)
 abbrev pub quoted : ℕ → List Piece → List ℕ
 quoted q pieces = q ∷ (flat_map spelling pieces ++ q ∷ [])
 
--- a string stands for what its pieces stand for, one after the other
+-- the value of a string is the values of its pieces, in order
 abbrev pub TextByPieces : Type 0
 TextByPieces = (q : ℕ) (pieces : List Piece) → AllByRecursion IsPiece pieces → all_scalars (quoted q pieces) ≡ true → text_of (encode_utf8_all (quoted q pieces)) ≡ encode_utf8_all (map stands_for pieces)
 
--- so do bytes, behind their mark
+-- so is that of bytes, after their mark
 abbrev pub BytesByPieces : Type 0
 BytesByPieces = (b q : ℕ) (pieces : List Piece) → AllByRecursion IsPiece pieces → all_scalars (b ∷ quoted q pieces) ≡ true → bytes_of (encode_utf8_all (b ∷ quoted q pieces)) ≡ as_bytes (map stands_for pieces)

@@ -1,12 +1,12 @@
 //! The laws of literals, each as the contract of a function that does nothing.
 ghost use Rattle.span_literal.specs.Pieces.{TextByPieces, BytesByPieces};
 
-/// A string that is spelt by pieces, each a character or an escape, stands for what they stand for, one after the other.
+/// The value of a string literal is the values of its pieces, each a character or an escape, in order.
 pub fn text_by_pieces()
     ensures { TextByPieces }
 {}
 
-/// So does a BYTES literal.
+/// So is the value of a BYTES literal.
 pub fn bytes_by_pieces()
     ensures { BytesByPieces }
 {}

@@ -1,4 +1,4 @@
-//! What literals of strings and bytes stand for.
+//! The values of string and bytes literals.
 #![tactic(auto)]
 
 pub mod laws;

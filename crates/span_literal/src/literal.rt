@@ -1,6 +1,6 @@
-//! What a literal stands for, by its spelling.
+//! The value of a literal, from its spelling.
 //!
-//! The lexer says which spellings are literals. Here any text is read: what no literal has stands for what the definition says.
+//! The lexer decides which spellings are literals. Here any string is decoded: the definition gives even a wrong spelling a value.
 ghost use Rattle.std.specs.Prelude.{◌≡◌, ◌∷◌, [], ◌<◌, ◌≤◌, ◌%◌, chars, drop, length, MatchOption, IfSome, IfOk};
 ghost use Rattle.span_literal.specs.Literals as spec;
 
@@ -8,7 +8,7 @@ use span_value::seq::Seq;
 use span_value::text::Text;
 use std::alloc::{AllocError, Global};
 
-/// The first character of a text, and the text behind it.
+/// The first character of a text, and the rest.
 #[tactic(auto, using(crate::proofs::Reading::reading_steps))]
 fn first_char(text: &str) -> Option<(char, &str)>
     ensures first { MatchOption result (chars text.now ≡ []) (λ p. chars text.now ≡ p.0 ∷ chars p.1.now) }
@@ -21,7 +21,7 @@ fn first_char(text: &str) -> Option<(char, &str)>
     }
 }
 
-/// The text behind the first character; none is behind the empty text.
+/// The text after the first character; empty for the empty text.
 fn behind_first(text: &str) -> &str
     ensures { chars result.now ≡ drop 1 (chars text.now) }
 {
@@ -31,7 +31,7 @@ fn behind_first(text: &str) -> &str
     }
 }
 
-/// The text before the last character; none is before the empty text.
+/// The text before the last character; empty for the empty text.
 #[tactic(auto, using(crate::proofs::Reading::last_steps))]
 fn before_last(text: &str) -> &str
     ensures { chars result.now ≡ spec.before_last (chars text.now) }
@@ -43,7 +43,7 @@ fn before_last(text: &str) -> &str
     }
 }
 
-/// What stands between the quotes.
+/// What is between the quotes.
 fn between_quotes(spelled: &str) -> &str
     ensures { chars result.now ≡ spec.between_quotes (chars spelled.now) }
 {
@@ -67,7 +67,7 @@ fn character(code: u32) -> char
     char::from_u32(code).unwrap_or(char::REPLACEMENT_CHARACTER)
 }
 
-/// The number that two digits at the front are, and what is behind them; none where there are fewer characters.
+/// The number that the first two digits write, and the rest; none where there are fewer characters.
 #[tactic(auto, using(crate::proofs::Reading::digit_steps))]
 fn two_digits(text: &str) -> Option<(u32, &str)>
     ensures value { MatchOption result (spec.two_digits (chars text.now) ≡ None) (λ p. spec.two_digits (chars text.now) ≡ Some (p.0, chars p.1.now)) }
@@ -89,7 +89,7 @@ fn four_digits(text: &str) -> Option<(u32, &str)>
     Some((high * 256 + low, rest))
 }
 
-/// The code that an escape has by its letter and its digits, and what is behind it; none where it has no digits.
+/// The character code of an escape, by its letter and its digits, and the rest; none where it has no digits.
 fn code_of(letter: char, text: &str) -> Option<(u32, &str)>
     ensures value { MatchOption result (spec.code_of letter (chars text.now) ≡ None) (λ p. spec.code_of letter (chars text.now) ≡ Some (p.0, chars p.1.now)) }
     ensures within { IfSome result (λ p. (p.0 < 65536) × (length p.1.now ≤ length text.now)) }
@@ -113,7 +113,7 @@ fn named(letter: char) -> char
     }
 }
 
-/// The character of an escape, whose letter and digits stand there, and what is behind it.
+/// The character of an escape, by its letter and the text after that, and the rest.
 fn escaped(letter: char, text: &str) -> (char, &str)
     ensures value { spec.escaped letter (chars text.now) ≡ (result.0, chars result.1.now) }
     ensures within { length result.1.now ≤ length text.now }
@@ -124,7 +124,7 @@ fn escaped(letter: char, text: &str) -> (char, &str)
     }
 }
 
-/// The character that a backslash begins, and what is behind it.
+/// The character of the escape that a backslash begins, and the rest.
 fn behind_backslash(text: &str) -> (char, &str)
     ensures value { spec.behind_backslash (chars text.now) ≡ (result.0, chars result.1.now) }
     ensures within { length result.1.now ≤ length text.now }
@@ -135,7 +135,7 @@ fn behind_backslash(text: &str) -> (char, &str)
     }
 }
 
-/// The first character that a literal's inside stands for, and what is behind it; none where nothing is left.
+/// The first character of a literal's value, and the rest of its inside; none where nothing is left.
 #[tactic(auto, using(crate::proofs::Meaning::meaning_steps))]
 fn read_char(text: &str) -> Option<(char, &str)>
     ensures first { MatchOption result (spec.meant (chars text.now) ≡ []) (λ p. spec.meant (chars text.now) ≡ p.0 ∷ spec.meant (chars p.1.now)) }
@@ -148,7 +148,7 @@ fn read_char(text: &str) -> Option<(char, &str)>
     Some((c, behind))
 }
 
-/// The text of a string literal, which is spelt with its quotes. An error is want of memory.
+/// The text of a string literal, which is spelt with its quotes. The only error is out of memory.
 #[tactic(auto, using(crate::proofs::Meaning::text_steps))]
 pub fn text_of(alloc: Global, spelled: &str) -> Result<Text, AllocError>
     ensures { IfOk result (λ text. text ≡ spec.text_of spelled.now) }
@@ -168,7 +168,7 @@ fn as_byte(c: char) -> u8
     (c as u32 % 256) as u8
 }
 
-/// The bytes of a BYTES literal, which is spelt with its `b` and its quotes. An error is want of memory.
+/// The bytes of a BYTES literal, which is spelt with its `b` and its quotes. The only error is out of memory.
 #[tactic(auto, using(crate::proofs::Meaning::bytes_steps))]
 pub fn bytes_of(alloc: Global, spelled: &str) -> Result<Seq<u8>, AllocError>
     ensures { IfOk result (λ bytes. bytes ≡ spec.bytes_of spelled.now) }

@@ -1,4 +1,4 @@
--- A query behind an opening is read with one opening fewer left.
+-- A query after an opening is read with one opening fewer left.
 use Rattle.std.proofs.Common.{◌≡◌, ℕ, zero, suc, ◌<◌, ◌-◌, List, Result, sym, ap, subst, ◌∙◌, arith}
 use denote.Ref.{Bor}
 use Rattle.span_grammar.specs.declared.class.Lexeme.{Lexeme}

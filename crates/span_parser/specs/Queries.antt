@@ -1,4 +1,4 @@
--- Queries: the query that each rule of the grammar stands for.
+-- Queries: the query that each rule of the grammar yields.
 use Rattle.std.specs.Prelude.{ℕ, zero, suc, Bool, true, false, List, [], ◌∷◌, Option, Some, None, Err}
 use Rattle.span_lexer.specs.declared.token.Word.TheVariants as word
 use Rattle.span_lexer.specs.declared.token.Sign.TheVariants as sign
@@ -152,7 +152,7 @@ query_of parts = roll-Query (record { first = parts.0; others = parts.1.0; order
 unfoldable pub ordered : List ℕ → Piece (List SortKey × Option Limit)
 ordered text = maybe_order_by text >>= (λ order. beside order maybe_limit)
 
--- ---- what has expressions in it; the text, and how many openings are left
+-- ---- what has expressions in it; the text, and the number of openings left
 
 module _ (text : List ℕ) (left : ℕ) where
   abbrev pub expr : Piece Expr
@@ -190,7 +190,7 @@ module _ (text : List ℕ) (left : ℕ) where
   unfoldable pub block_groups : Piece (List Column × Option Expr)
   block_groups = maybe_group_by text >>= (λ groups. beside groups maybe_having)
 
-  -- WHERE, and what is behind it
+  -- WHERE, and what is after it
   unfoldable pub block_filter : Piece Conditions
   block_filter = maybe_where >>= (λ filter. beside filter block_groups)
 
@@ -212,15 +212,15 @@ module _ (text : List ℕ) (left : ℕ) where
     unfoldable pub join : Piece Join
     join = join_kind >>= (λ is_left. item >>= (λ joined. (λ both. join_of is_left both.0 both.1) <$> beside joined join_on))
 
-    -- the joins, and what is behind them
+    -- the joins, and what is after them
     unfoldable pub block_joins : Piece (List Join × Conditions)
     block_joins = each part.Join join >>= (λ joins. beside joins block_filter)
 
-    -- FROM, and what is behind it
+    -- FROM, and what is after it
     unfoldable pub block_from : Piece (Item × (List Join × Conditions))
     block_from = token (sort.Word word.From) >> (item >>= (λ from. beside from block_joins))
 
-    -- behind SELECT
+    -- what is after SELECT
     unfoldable pub block_shown : Piece Block
     block_shown = quantifier >>= (λ is_distinct. outputs >>= (λ shows. block_of is_distinct <$> beside shows block_from))
 
@@ -230,7 +230,7 @@ module _ (text : List ℕ) (left : ℕ) where
     unfoldable pub union_more : Piece Block
     union_more = token (sort.Word word.Union) >> (token (sort.Word word.All) >> block)
 
-    -- the other blocks, and what is behind them
+    -- the other blocks, and what is after them
     unfoldable pub unions : Piece (List Block × (List SortKey × Option Limit))
     unions = each part.UnionMore union_more >>= (λ others. beside others (ordered text))
 
@@ -243,7 +243,7 @@ no_spelling = record { text = []; span = record { start = 0; end = 0 } }
 pub no_block : Block
 no_block = roll-Block (record { is_distinct = false; outputs = []; from = source.Table no_spelling None; joins = []; filter = None; groups = []; having = None })
 
--- behind an opening, of which so many are left
+-- a query after an opening, with a number of openings left
 unfoldable pub query_behind : List ℕ → ℕ → Piece Query
 query_behind text zero = record {
   of = λ x. roll-Query (record { first = no_block; others = []; order = []; limit = None });
@@ -255,6 +255,6 @@ query_behind text (suc n) = query text n (query_behind text n)
 unfoldable pub statement : List ℕ → ℕ → Piece Query
 statement text n = query text n (query_behind text n) >>= (λ q. (λ both. both.0) <$> beside q maybe_semicolon)
 
--- the text has a tree, which stands for the query
+-- the text has a tree, and the query is that of the tree
 abbrev pub IsQuery : List ℕ → Query → Type 0
 IsQuery text query = Stands goal.Statement (statement text limit).of text query

@@ -1,4 +1,4 @@
--- A function value that reads queries behind an opening, with one opening fewer left.
+-- A function value that reads queries after an opening, with one opening fewer left.
 use Rattle.std.specs.Prelude.{◌≡◌, ℕ, ◌<◌, ◌≤◌, ◌-◌, List, Result}
 use Rattle.std.specs.declared.alloc.Global.{Global}
 use denote.Ref.{Bor}

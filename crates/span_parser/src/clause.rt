@@ -216,7 +216,7 @@ pub(crate) fn skip(tokens: &[Lexeme]) -> Result<(u64, &[Lexeme]), Fault>
     Ok((integer_value(rows.token.kind), rest))
 }
 
-/// How many rows are passed over.
+/// The number of rows that are skipped.
 #[tactic(auto, unfolding(crate::specs::Queries::maybe_skip))]
 fn maybe_skip(tokens: &[Lexeme]) -> Result<(u64, &[Lexeme]), Fault>
     ensures { Gives result (spec.maybe_skip.read tokens.now) }
@@ -392,7 +392,7 @@ pub(crate) fn maybe_semicolon(tokens: &[Lexeme]) -> Result<(bool, &[Lexeme]), Fa
 /// The conditions of a block: WHERE, the columns of GROUP BY, and HAVING.
 pub(crate) type Conditions = (Option<Expr>, (Items<Column>, Option<Expr>));
 
-/// What reads what has expressions in it, where so many openings are left.
+/// Reads the clauses that have expressions, with `left` openings left.
 #[derive(Clone, Copy)]
 pub(crate) struct Clauses<'t> {
     pub alloc: Global,

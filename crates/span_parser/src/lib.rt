@@ -1,4 +1,4 @@
-//! Queries, read from texts as trees.
+//! The parser of queries: from a query text to its tree.
 #![tactic(auto)]
 
 mod clause;

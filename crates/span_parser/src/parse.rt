@@ -1,4 +1,4 @@
-//! Queries, read from texts.
+//! From a query text to its tree, or to the refusal and the place of the error.
 ghost use Rattle.std.specs.Prelude.{◌≡◌, ◌≢◌, IfOk, IfErr};
 ghost use Rattle.span_grammar.specs.Judged.{IsRefused};
 ghost use Rattle.span_grammar.specs.Rules.{limit};
@@ -29,7 +29,7 @@ fn read_statement(alloc: Global, text: &[u8], tokens: &[Lexeme]) -> Result<Query
     whole(query, rest)
 }
 
-/// Where a fault stands, in a text of these bytes and tokens; want of memory is an error.
+/// The place of an error, in a text of these bytes and tokens. The only error is out of memory.
 fn place_of(
     alloc: Global,
     text: &[u8],
@@ -60,13 +60,13 @@ fn query_of(alloc: Global, text: &[u8], tokens: &[Token]) -> Result<Query, Misre
     }
 }
 
-/// The query that a text is, with a semicolon behind it or none.
+/// Parses a query, with or without a semicolon at its end.
 ///
-/// The error is `TextTooLong` for a text of more than 65,536 bytes; else `BadToken` where no token stands somewhere; else
-/// `Syntax` where there is a token, or the end, with which no tree goes on, or `TooDeep` where the 33rd nested opening stands,
-/// whichever stands first; or want of memory. It tells the byte where that stands.
+/// The error is `TextTooLong` for a text of more than 65,536 bytes; else `BadToken` where there is a place without a token; else
+/// `Syntax` where there is a token, or the end, with which no tree goes on, or `TooDeep` where there is a 33rd nested opening,
+/// whichever comes first; or `OutOfMemory`. It also has the byte where the error is.
 pub fn parse_select(alloc: Global, text: &str) -> Result<Query, Misread>
-    // What is read is what the text's tree stands for, and a text that has a tree is read.
+    // The result is the query of the text's tree, and a text that has a tree is read.
     ensures read { IfOk result (λ query. IsQuery text.now query) }
     ensures read_all { (query : Query) → IsQuery text.now query → IsOrNoMemory result query }
     ensures refused { IfErr result (λ why. IsRefused Goal.Statement text.now why.refusal) }

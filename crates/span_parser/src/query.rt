@@ -1,6 +1,6 @@
 //! Queries, read from tokens: a function for each rule.
 //!
-//! As with expressions, a single function recurses, behind the parenthesis of a derived table.
+//! As with expressions, a single function recurses, after the parenthesis of a derived table.
 ghost use Rattle.std.specs.Prelude.{◌≡◌, ◌<◌, ◌≤◌, ◌-◌};
 ghost use Rattle.span_grammar.specs.Rules.{limit};
 ghost use Rattle.span_syntax.specs.Pieces.{Gives, each};
@@ -21,18 +21,18 @@ use span_syntax::token::{beside, closed, enter, spelling, take};
 use sqlite_items::{Boxed, Items};
 use std::alloc::Global;
 
-/// What reads queries, where so many openings are left.
+/// Reads queries, with `left` openings left.
 #[derive(Clone, Copy)]
 struct QueryReader<'t, F> {
     clauses: Clauses<'t>,
-    /// Reads behind an opening.
+    /// Reads what is after an opening.
     read: F,
 }
 
 impl<
     F: for<'a> Fn(Global, &[u8], usize, &'a [Lexeme]) -> Result<(Query, &'a [Lexeme]), Fault>,
 > QueryReader<'_, F> {
-    /// A query behind an opening.
+    /// A query after an opening.
     #[tactic(auto, using(crate::proofs::Sublevels::level_steps))]
     fn behind<'a>(&self, tokens: &'a [Lexeme]) -> Result<(Query, &'a [Lexeme]), Fault>
         requires nests { NestsQueries self.now.clauses.text.now self.now.clauses.left (F.pre self.now.read) (F.post self.now.read) }
@@ -131,7 +131,7 @@ impl<
         Ok((found, rest))
     }
 
-    /// The joins of a block, and what is behind them.
+    /// The joins of a block, and what is after them.
     #[tactic(auto, unfolding(crate::specs::Queries::block_joins))]
     fn block_joins<'a>(
         &self,
@@ -145,7 +145,7 @@ impl<
         beside(joins, self.clauses.block_filter(rest))
     }
 
-    /// FROM, and what is behind it.
+    /// FROM, and what is after it.
     #[tactic(auto, unfolding(crate::specs::Queries::block_from))]
     fn block_from<'a>(
         &self,
@@ -160,7 +160,7 @@ impl<
         beside(from, self.block_joins(rest))
     }
 
-    /// What is behind SELECT.
+    /// What is after SELECT.
     #[tactic(auto, unfolding(crate::specs::Queries::block_shown, crate::specs::Queries::block_of))]
     fn block_shown<'a>(&self, tokens: &'a [Lexeme]) -> Result<(Block, &'a [Lexeme]), Fault>
         requires nests { NestsQueries self.now.clauses.text.now self.now.clauses.left (F.pre self.now.read) (F.post self.now.read) }
@@ -226,7 +226,7 @@ impl<
         Ok((found, rest))
     }
 
-    /// The other blocks, and what is behind them.
+    /// The other blocks, and what is after them.
     #[tactic(auto, unfolding(crate::specs::Queries::unions))]
     fn unions<'a>(
         &self,
@@ -279,7 +279,7 @@ fn ordered<'a>(
     beside(order, maybe_limit(rest))
 }
 
-/// A query, where so many openings are left. This function alone recurses.
+/// A query, with `left` openings left. This function alone recurses.
 #[tactic(auto, using(crate::proofs::Sublevels::level_steps))]
 fn read_query<'a>(
     alloc: Global,
@@ -298,7 +298,7 @@ fn read_query<'a>(
     reader.query(tokens)
 }
 
-/// A query with a semicolon behind it or none.
+/// A query, with or without a semicolon at its end.
 #[tactic(auto, unfolding(crate::specs::Queries::statement))]
 pub(crate) fn statement<'a>(
     alloc: Global,

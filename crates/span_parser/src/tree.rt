@@ -2,7 +2,7 @@
 use span_syntax::tree::{Column, Expr, Integer, Spelling};
 use sqlite_items::{Boxed, Items};
 
-/// One of the things that a block shows.
+/// An item of the SELECT list of a block.
 #[derive(Debug, Drop)]
 pub enum Output {
     /// `*`
@@ -17,7 +17,7 @@ pub enum Output {
 #[derive(Debug, Drop)]
 pub struct Query {
     pub first: Block,
-    /// The blocks behind UNION ALL.
+    /// The blocks after UNION ALL.
     pub others: Items<Block>,
     pub order: Items<SortKey>,
     pub limit: Option<Limit>,
@@ -36,7 +36,7 @@ pub struct Block {
     pub having: Option<Expr>,
 }
 
-/// What stands in a FROM.
+/// An item of FROM.
 #[cycle(query)]
 #[derive(Debug, Drop)]
 pub enum Item {
@@ -71,6 +71,6 @@ pub enum SortColumn {
 #[derive(Clone, Copy, Debug, PartialEq, Eq)]
 pub struct Limit {
     pub rows: u64,
-    /// How many rows are passed over first.
+    /// The number of rows that are skipped first.
     pub skip: u64,
 }

@@ -1,4 +1,4 @@
--- Declarations: the tables that each rule of the schema grammar stands for.
+-- Declarations: the tables that each rule of the schema grammar yields.
 use Rattle.std.specs.Prelude.{ℕ, ◌-◌, Bool, true, false, List, [], ◌∷◌, Option, Some, None}
 use Rattle.std.specs.Str.Lossy.{utf8_lossy}
 use Rattle.span_value.specs.declared.value.ColumnType.{ColumnType}
@@ -73,7 +73,7 @@ maybe_on_delete = either part.OnDelete on_delete (nothing false)
 unfoldable pub maybe_last_semicolon : Piece Bool
 maybe_last_semicolon = either (part.Token sort.LastSemicolon) ((λ t. true) <$> token sort.LastSemicolon) (nothing false)
 
--- where so many openings are left
+-- with a number of openings left
 module _ (left : ℕ) where
   unfoldable pub length_parenthesis : Piece (Option ℕ)
   length_parenthesis = opening left (sort.Sign sign.Open) in_length
@@ -110,7 +110,7 @@ module _ (text : List ℕ) where
   unfoldable pub in_key_columns : Piece (List KeyColumn)
   in_key_columns = key_column >>= (λ first. each part.KeyColumnMore key_column_more >>= (λ more. (λ t. first ∷ more) <$> token (sort.Sign sign.Close)))
 
-  -- ---- tables, where so many openings are left
+  -- ---- tables, with a number of openings left
 
   module _ (left : ℕ) where
     unfoldable pub table_column : Piece Column
@@ -132,15 +132,15 @@ module _ (text : List ℕ) where
   table_columns left = opening left (sort.Sign sign.Open) (in_table_columns (left - 1))
 
   module _ (left : ℕ) where
-    -- behind PRIMARY KEY
+    -- what is after PRIMARY KEY
     unfoldable pub keyed : List ℕ → List Column → Piece Table
     keyed table columns = key_columns left >>= (λ key. (λ above. record { name = table; columns = columns; key = key; parent = above }) <$> maybe_interleave)
 
-    -- behind the columns
+    -- what is after the columns
     unfoldable pub with_key : List ℕ → List Column → Piece Table
     with_key table columns = token (sort.Context context.Primary) >> (token (sort.Context context.Key) >> keyed table columns)
 
-    -- behind CREATE TABLE
+    -- what is after CREATE TABLE
     unfoldable pub named_table : Piece Table
     named_table = name text >>= (λ table. table_columns left >>= with_key table)
 

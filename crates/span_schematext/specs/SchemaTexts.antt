@@ -10,7 +10,7 @@ use Rattle.span_grammar.specs.Judged.{IsRefused}
 use Rattle.span_syntax.specs.Parsed.{Stands}
 use Rattle.span_schematext.specs.Declarations.{tables}
 
--- the text has a tree, which stands for the tables
+-- the text has a tree, and the tables are those of the tree
 abbrev pub AreTables : List ℕ → List Table → Type 0
 AreTables text found = Stands goal.Schema (tables text limit).of text found
 

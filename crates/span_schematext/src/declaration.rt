@@ -28,7 +28,7 @@ fn name<'a>(alloc: Global, text: &[u8], tokens: &'a [Lexeme]) -> Result<(Text, &
     Ok((Text::from_string(spelling), rest))
 }
 
-/// The first, and the others behind it.
+/// A list: the first item, then the others.
 fn first_and<T: Drop>(alloc: Global, first: T, more: Seq<T>) -> Result<Seq<T>, AllocError>
     ensures { IfOk result (λ all. all ≡ first ∷ more) }
 {
@@ -408,7 +408,7 @@ fn table_columns<'a>(
     in_table_columns(alloc, text, left - 1, rest)
 }
 
-/// What is behind PRIMARY KEY.
+/// What is after PRIMARY KEY.
 #[tactic(auto, unfolding(crate::specs::Declarations::keyed))]
 fn keyed<'a>(
     alloc: Global,
@@ -433,7 +433,7 @@ fn keyed<'a>(
     ))
 }
 
-/// What is behind the columns of a table.
+/// What is after the columns of a table.
 #[tactic(auto, unfolding(crate::specs::Declarations::with_key))]
 fn with_key<'a>(
     alloc: Global,
@@ -450,7 +450,7 @@ fn with_key<'a>(
     keyed(alloc, text, left, name, columns, rest)
 }
 
-/// What is behind CREATE TABLE.
+/// What is after CREATE TABLE.
 #[tactic(auto, unfolding(crate::specs::Declarations::named_table))]
 fn named_table<'a>(
     alloc: Global,

@@ -1,4 +1,4 @@
-//! Schemas, read from texts.
+//! The parser of schemas: from a schema text to its tables.
 #![tactic(auto)]
 
 mod declaration;

@@ -1,4 +1,4 @@
-//! Schemas, read from texts.
+//! From a schema text to its tables, or to the refusal and the place of the error.
 ghost use Rattle.std.specs.Prelude.{◌≡◌, ◌≢◌, List, IfOk, IfErr};
 ghost use Rattle.span_grammar.specs.Classes.{lexemes_of};
 ghost use Rattle.span_grammar.specs.Judged.{IsRefused};
@@ -32,7 +32,7 @@ fn read_all(alloc: Global, text: &[u8], tokens: &[Lexeme]) -> Result<Seq<Table>,
     whole(found, rest)
 }
 
-/// Where a fault stands, in a text of these bytes and tokens; want of memory is an error.
+/// The place of an error, in a text of these bytes and tokens. The only error is out of memory.
 fn place_of(
     alloc: Global,
     text: &[u8],
@@ -65,9 +65,9 @@ fn tables_of(alloc: Global, text: &[u8], tokens: &[Token]) -> Result<Seq<Table>,
 
 /// The tables that a text declares, whatever rules they break.
 ///
-/// The error is `TextTooLong` for a text of more than 65,536 bytes; else `BadToken` where no token stands somewhere; else
-/// `Syntax` where there is a token, or the end, with which no tree goes on; or want of memory. It tells the byte where that
-/// stands.
+/// The error is `TextTooLong` for a text of more than 65,536 bytes; else `BadToken` where there is a place without a token; else
+/// `Syntax` where there is a token, or the end, with which no tree goes on; or `OutOfMemory`. It also has the byte where the
+/// error is.
 pub fn parse_tables(alloc: Global, text: &str) -> Result<Seq<Table>, Misread>
     ensures read { IfOk result (λ found. AreTables text.now found) }
     ensures read_all { (found : List Declared) → AreTables text.now found → IsOrNoMemory result found }
@@ -82,8 +82,8 @@ pub fn parse_tables(alloc: Global, text: &str) -> Result<Seq<Table>, Misread>
 
 /// The schema that a text declares.
 ///
-/// The error is the first of: what `parse_tables` refuses; a table that breaks a rule of schemas, as `Schema::new` judges them
-/// (`TooMany`, `DuplicateTable`, `BadColumn`, `NoParent`, `KeyNotPrefixed`, `HierarchyTooDeep`); or want of memory.
+/// The error is the first of: what `parse_tables` refuses; a table that breaks a rule of schemas, as `Schema::new` checks them
+/// (`TooMany`, `DuplicateTable`, `BadColumn`, `NoParent`, `KeyNotPrefixed`, `HierarchyTooDeep`); or `OutOfMemory`.
 pub fn parse_schema(alloc: Global, text: &str) -> Result<Schema, Refusal>
     ensures read { IfOk result (λ schema. IsSchemaText text.now schema) }
     ensures read_all { (found : List Declared) → IsSchemaText text.now found → IsSchemaOrNoMemory result found }

@@ -56,7 +56,7 @@ pub beside_good : {A B : Type 0} {n : ℕ} {r : Rule} (v : A) (x : Piece B) → 
 unfolding beside
 beside_good v x g = map_good (λ w. (v, w)) x g
 
--- ---- one behind the other
+-- ---- one after the other
 
 module _ {A B : Type 0} (n : ℕ) (a b : Rule) (x : Piece A) (f : A → Piece B) (gx : Good n a x) (gf : (v : A) → Good n b (f v)) where
   second_at : (t : Tree) (s : Answer) → given (f (x.of t)).of s ≡ given (x >>= f).of (bind s (λ y k2. Read (Pair t y) k2))
@@ -156,7 +156,7 @@ module _ {A : Type 0} (n : ℕ) (a : Part) (x : Piece A) (gx : Good n (rule_of a
 pub many_good : {A : Type 0} (n : ℕ) (p a : Part) → shape.Many a ≡ shape_of p → (x : Piece A) → Good n (rule_of a) x → Good n (rule_of p) (each a x)
 many_good n p a h x g = by_rule n p (Many (rule_of a)) (each a x) (rule_is p (shape.Many a) h) (each_is n a x g)
 
--- ---- behind an opening
+-- ---- after an opening
 
 nest_at : {A : Type 0} (of : Tree → A) (t : Lexeme) (s : Answer) → given of s ≡ given (λ v. of (behind_of v)) (bind s (λ x k. Read (Nest t x) k))
 unfolding given behind_of

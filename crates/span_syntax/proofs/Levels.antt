@@ -1,4 +1,4 @@
--- What stands behind an opening is read with one opening fewer left.
+-- What is after an opening is read with one opening fewer left.
 use Rattle.std.proofs.Common.{◌≡◌, ℕ, zero, suc, ◌<◌, ◌-◌, List, ap, subst, arith}
 use denote.Ref.{Bor}
 use Rattle.std.specs.Prelude.{Result}

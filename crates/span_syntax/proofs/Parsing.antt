@@ -1,4 +1,4 @@
--- What reading all the tokens says of the text.
+-- What the result of reading all the tokens implies of the text.
 use Rattle.std.proofs.Common.{◌≡◌, ◌≢◌, ◌⊎◌, inl, inr, ℕ, List, [], ◌∷◌, length, Result, Ok, Err, refl, sym, ap, subst, ◌∙◌, arith}
 use Rattle.std.specs.Prelude.{IfOk, IfErr}
 use Rattle.span_value.specs.declared.refusal.Refusal.{Refusal}
@@ -139,7 +139,7 @@ module _ {A : Type 0} (g : Goal) (piece : Piece A) (is_good : Good limit (goal_r
       let P : List Lexeme → Type 0 = λ w. HasTree inside (goal_rule g) w t.tree in
       value_all g piece is_good (lexemes_in text is) t.tree (subst P (same_lexemes text t.items is t.made made) t.has) ∙ ap (λ (v : A). let o : Result A Fault = Ok v in o) (sym t.is)
 
-  -- a text stands for one value at most
+  -- a text has one value at most
   pub one_value : (x y : A) → Stands g piece.of text x → Stands g piece.of text y → x ≡ y
   one_value x y s t = ok_is x y (sym (has_here x s) ∙ has_here y t)
 
@@ -173,7 +173,7 @@ module _ {A : Type 0} (g : Goal) (piece : Piece A) (is_good : Good limit (goal_r
   text_refused_all r h refusal.OutOfMemory n i = absurd (n refl)
   text_refused_all r h _ n i = absurd i
 
-  -- a text that stands for a value is not refused
+  -- a text that has a value is not refused
   pub value_not_refused : (v : A) → Stands g piece.of text v → (why : Refusal) → why ≢ refusal.OutOfMemory → IsRefused g text why → ⊥
   value_not_refused v t why n i = text_refused_all (Ok v) (has_here v t) why n i
 

@@ -1,4 +1,4 @@
--- Where a fault stands.
+-- The place of an error.
 use Rattle.std.proofs.Common.{◌≡◌, ℕ, ◌≤◌, ◌<◌, ◌-◌, nat_le, List, length, Option, None, true, false, slice_get, ◌∙◌, ap, arith}
 use Rattle.std.specs.Prelude.{option_map, take, drop}
 use Rattle.std.proofs.lemmas.Bool.Decides.{nat_tests}

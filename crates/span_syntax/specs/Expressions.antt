@@ -1,4 +1,4 @@
--- Expressions: the expression that each rule of the grammar stands for.
+-- Expressions: the expression that each rule of the grammar yields.
 use Rattle.std.specs.Prelude.{ℕ, zero, suc, Bool, true, false, List, [], ◌∷◌, Option, Some, None, Err}
 use Rattle.std.specs.Str.Lossy.{utf8_lossy}
 use Rattle.span_lexer.specs.declared.token.TokenKind.{TokenKind}
@@ -34,7 +34,7 @@ use Rattle.span_syntax.specs.Pieces.{Piece, token, nothing, ◌<$>◌, ◌>>=◌
 abbrev pub span_of : Token → Span
 span_of t = record { start = t.start; end = t.end }
 
--- the text of a token, and where it stands
+-- the spelling of a token, and its place
 abbrev pub spelling_of : List ℕ → Lexeme → Spelling
 spelling_of text t = record { text = utf8_lossy (spelled text t.token); span = span_of t.token }
 
@@ -48,11 +48,11 @@ integer_of is_negative t = record { is_negative = is_negative; value = value_of 
 unfoldable pub spelling : List ℕ → Sort → Piece Spelling
 spelling text s = spelling_of text <$> token s
 
--- what was found, and the parenthesis that closes it
+-- the parenthesis that ends what was read before
 unfoldable pub closing : {A : Type 0} → A → Piece A
 closing x = (λ t. x) <$> token (sort.Sign sign.Close)
 
--- a piece and the parenthesis that closes it
+-- a piece and the parenthesis that ends it
 abbrev pub closed : {A : Type 0} → Piece A → Piece A
 closed p = p >>= closing
 
@@ -65,7 +65,7 @@ abbrev pub column_of : Spelling → Option Spelling → Column
 column_of first None = record { table = None; name = first }
 column_of first (Some name) = record { table = Some first; name = name }
 
--- what may stand behind a column's name
+-- what may come after a column's name
 unfoldable pub qualified : List ℕ → Spelling → Piece Column
 qualified text first = column_of first <$> optional part.Qualifier (qualifier text)
 
@@ -138,7 +138,7 @@ maybe_not = either (part.Token (sort.Word word.Not)) ((λ t. true) <$> token (so
 unfoldable pub null_words : Piece Bool
 null_words = token (sort.Word word.Is) >> (maybe_not >>= (λ is_not. (λ t. is_not) <$> token (sort.Word word.Null)))
 
--- ---- what stands inside an opening, over the expressions there
+-- ---- what is inside an opening, over the expressions there
 
 unfoldable pub list_more : Piece Expr → Piece Expr
 list_more p = token (sort.Sign sign.Comma) >> p
@@ -182,13 +182,13 @@ argument_list p name =
 
 -- ---- expressions
 
--- what stands one opening deeper
+-- what is one opening deeper
 pub record Inner : Type 0 where
   pub expression : Piece Expr
   pub negated : Piece Expr
   pub signed : Piece Expr
 
--- the text, and how many openings are left
+-- the text, and the number of openings left
 module _ (text : List ℕ) (left : ℕ) (inner : Inner) where
   unfoldable pub parenthesis : Piece Expr
   parenthesis = opening left (sort.Sign sign.Open) (closed inner.expression)
@@ -243,7 +243,7 @@ module _ (text : List ℕ) (left : ℕ) (inner : Inner) where
   unfoldable pub other_unary : Piece Expr
   other_unary = either part.Opposite opposite other_primary
 
-  -- behind a minus: the minus directly before an integer belongs to it
+  -- after a minus: the minus directly before an integer belongs to it
   unfoldable pub signed : Piece Expr
   signed = either (part.Token sort.Int) ((λ t. e.Integer (integer_of true t)) <$> token sort.Int) (e.Negative <$> other_unary)
 
@@ -270,7 +270,7 @@ module _ (text : List ℕ) (left : ℕ) (inner : Inner) where
   unfoldable pub like : Piece Asked
   like = token (sort.Word word.Like) >> (asked.Like <$> spelling text sort.Str)
 
-  -- AND sum, behind the low end of a BETWEEN
+  -- AND sum, after the low end of a BETWEEN
   unfoldable pub high_end : Piece Expr
   high_end = token (sort.Word word.And) >> sum
 
@@ -311,7 +311,7 @@ module _ (text : List ℕ) (left : ℕ) (inner : Inner) where
 abbrev pub shut : Piece Expr
 shut = record { of = λ x. e.Null (record { start = 0; end = 0 }); read = λ ts. Err (fault.TooDeep 0) }
 
--- behind an opening, of which so many are left
+-- after an opening, with a number of openings left
 unfoldable pub behind : List ℕ → ℕ → Inner
 behind text zero = record { expression = shut; negated = shut; signed = shut }
 behind text (suc n) = record {

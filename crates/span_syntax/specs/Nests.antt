@@ -1,4 +1,4 @@
--- A function value that reads expressions behind an opening, with one opening fewer left.
+-- A function value that reads expressions after an opening, with one opening fewer left.
 use Rattle.std.specs.Prelude.{◌≡◌, ℕ, ◌<◌, ◌≤◌, ◌-◌, List, Result}
 use Rattle.std.specs.declared.alloc.Global.{Global}
 use denote.Ref.{Bor}
@@ -11,13 +11,13 @@ use Rattle.span_grammar.specs.Rules.{limit}
 use Rattle.span_syntax.specs.Pieces.{Piece, Gives}
 use Rattle.span_syntax.specs.Expressions.{Inner, behind, expression, negated, signed}
 
--- what stands behind an opening, by its level
+-- what is after an opening, by its level
 abbrev pub inner_at : Level → Inner → Piece Expr
 inner_at level.Expression inner = inner.expression
 inner_at level.Negated inner = inner.negated
 inner_at level.Signed inner = inner.signed
 
--- the same with so many openings left
+-- the same with n openings left
 abbrev pub at : Level → List ℕ → ℕ → Piece Expr
 at level.Expression text n = expression text n (behind text n)
 at level.Negated text n = negated text n (behind text n)

@@ -1,4 +1,4 @@
--- What a text stands for by its tree, and what reading it answers.
+-- The value of a text by its tree, and the result of reading it.
 use Rattle.std.specs.Prelude.{◌≡◌, ◌≢◌, ◌⊎◌, ℕ, ◌+◌, ◌-◌, nat_le, Bool, false, if◌then◌else◌, List, [], ◌∷◌, length, take, drop, slice_get, Option, Some, None, option_map, Result, Ok, Err, alloc_error}
 use denote.Ref.{Bor}
 use Rattle.std.specs.declared.alloc.AllocError.{AllocError}
@@ -19,7 +19,7 @@ use Rattle.span_grammar.specs.Goals.{goal_rule}
 use Rattle.span_grammar.specs.Judged.{IsMadeOf, lexemes_in}
 use Rattle.span_syntax.specs.Pieces.{Piece, Outcome}
 
--- the text has a tree, which stands for the value
+-- the text has a tree, and the value is that of the tree
 pub record Stands {A : Type 0} (g : Goal) (of : Tree → A) (text : List ℕ) (value : A) : Type 0 where
   pub items : List Item
   pub made : IsMadeOf text items
@@ -49,7 +49,7 @@ refusal_of fault.OutOfMemory = refusal.OutOfMemory
 refusal_of (fault.Syntax n) = refusal.Syntax
 refusal_of (fault.TooDeep n) = refusal.TooDeep
 
--- the same with the refusal of the fault, and some place
+-- the same, with the refusal of the error, and some place
 abbrev pub Reports : {A : Type 0} → Result A Misread → Result A Fault → Type 0
 Reports (Ok x) o = o ≡ Ok x
 Reports (Err e) o = (e.refusal ≡ refusal.OutOfMemory) ⊎ ((f : Fault) × (o ≡ Err f) × (e.refusal ≡ refusal_of f))
@@ -59,12 +59,12 @@ abbrev pub Refuses : {A : Type 0} → Result A Misread → Refusal → Type 0
 Refuses (Ok x) why = ⊥
 Refuses (Err e) why = (e.refusal ≡ why) ⊎ (e.refusal ≡ refusal.OutOfMemory)
 
--- this, unless memory ran out
+-- this value, or out of memory
 abbrev pub IsOrNoMemory : {A : Type 0} → Result A Misread → A → Type 0
 IsOrNoMemory (Ok x) y = x ≡ y
 IsOrNoMemory (Err e) y = e.refusal ≡ refusal.OutOfMemory
 
--- ---- where a fault stands
+-- ---- the place of an error
 
 -- the first of the last n tokens
 unfoldable pub token_at : ℕ → List Lexeme → Option Lexeme
@@ -80,7 +80,7 @@ place_of fault.OutOfMemory ts end = 0
 place_of (fault.Syntax n) ts end = start_or (token_at n ts) end
 place_of (fault.TooDeep n) ts end = start_or (token_at n ts) end
 
--- so many of the tokens, and where the one behind them starts
+-- the first n tokens, and where the next one starts
 unfoldable pub parted : ℕ → List Token → Option (List Token × ℕ)
 parted n ts = option_map (λ t. (take n ts, t.start)) (slice_get ts n)
 
@@ -92,13 +92,13 @@ unfoldable pub is_before_star : Option Lexeme → Bool
 is_before_star (Some t) = is_of sort.AllOf t
 is_before_star None = false
 
--- the tokens up to the dot behind a name that stands before `.*`, and where the star starts, where the fault is at such a name
+-- the tokens up to the dot of a name before `.*`, and where the star starts, if the error is at such a name
 abbrev pub before_star : Fault → List Lexeme → List Token → Option (List Token × ℕ)
 before_star (fault.Syntax n) found ts = if is_before_star (token_at n found) then parted ((length found - n) + 2) ts else None
 before_star fault.OutOfMemory found ts = None
 before_star (fault.TooDeep n) found ts = None
 
--- where the fault stands that reading the tokens told; behind them, where it told none
+-- the place of the error that reading the tokens returned; the place after them, where there was none
 abbrev pub place_told : {A : Type 0} → Result A Fault → List Lexeme → ℕ → Result ℕ AllocError
 place_told (Ok x) ts behind = Ok behind
 place_told (Err fault.OutOfMemory) ts behind = Err alloc_error

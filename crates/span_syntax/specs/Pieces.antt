@@ -1,4 +1,4 @@
--- Pieces of the grammar: what a derivation by a rule stands for, and how it is read, one token ahead.
+-- Pieces of the grammar: the value of a derivation by a rule, and how it is read, one token ahead.
 use Rattle.std.specs.Prelude.{◌≡◌, ◌≢◌, ℕ, zero, suc, ◌==◌, List, [], ◌∷◌, ◌++◌, length, Option, Some, None, Result, Ok, Err, if◌then◌else◌}
 use denote.Ref.{Bor}
 use Rattle.span_grammar.specs.declared.class.Lexeme.{Lexeme}
@@ -10,7 +10,7 @@ use Rattle.span_grammar.specs.declared.grammar.Part.{Part}
 use Rattle.span_grammar.specs.Grammar.{rule_of}
 use Rattle.span_grammar.specs.Rules.{is_of, of_class, Tree, Leaf, Pair, Left, Right, More, Nest, Answer, Read, Wrong, Deep, starts}
 
--- ---- the parts of a derivation; where there is no such part, it does not matter what is said
+-- ---- the parts of a derivation; where there is no such part, the value does not matter
 
 unfoldable pub token_of : Tree → Lexeme
 token_of (Leaf t) = t
@@ -38,7 +38,7 @@ unfoldable pub each_of : {A : Type 0} → (Tree → A) → Tree → List A
 each_of f (More x more) = f x ∷ each_of f more
 each_of f x = []
 
--- ---- what is read, and the tokens behind it
+-- ---- what is read, and the tokens after it
 
 abbrev pub Outcome : Type 0 → Type 0
 Outcome A = Result (A × List Lexeme) Fault
@@ -51,11 +51,11 @@ unfoldable pub token_read : Sort → List Lexeme → Outcome Lexeme
 token_read s [] = Err (fault.Syntax 0)
 token_read s (t ∷ ts) = if is_of s t then Ok (t, ts) else Err (fault.Syntax (length (t ∷ ts)))
 
--- an opening token, where so many openings are left
+-- an opening token, with `left` openings left
 unfoldable pub enter_read : ℕ → Sort → List Lexeme → Outcome Lexeme
 enter_read left s ts = and_then (token_read s ts) (λ t k. if left == 0 then Err (fault.TooDeep (length ts)) else Ok (t, k))
 
--- behind what was found: a piece, which is the part, as long as it can begin, at most so many times
+-- after what was read: a piece, which is the part, as long as it can begin, at most n times
 unfoldable pub turns : {A : Type 0} → (List Lexeme → Outcome A) → Part → ℕ → List A → List Lexeme → Outcome (List A)
 turns f a zero found ts = Ok (found, ts)
 turns f a (suc n) found ts = if starts (rule_of a) ts then and_then (f ts) (λ x k. turns f a n (found ++ (x ∷ [])) k) else Ok (found, ts)
@@ -100,15 +100,15 @@ optional a p = either a (Some <$> p) (nothing None)
 abbrev pub each : {A : Type 0} → Part → Piece A → Piece (List A)
 each a p = record { of = each_of p.of; read = λ ts. each_read p.read a [] ts }
 
--- what was found, and a piece behind it
+-- what was read before, and a piece after it
 unfoldable pub beside : {A B : Type 0} → A → Piece B → Piece (A × B)
 beside x p = record { of = λ t. (x, p.of t); read = λ ts. and_then (p.read ts) (λ y k. Ok ((x, y), k)) }
 
--- an opening, where so many are left, and what stands behind it
+-- an opening, with `left` openings left, and what is after it
 abbrev pub opening : {A : Type 0} → ℕ → Sort → Piece A → Piece A
 opening left s p = record { of = λ x. p.of (behind_of x); read = λ ts. and_then (enter_read left s ts) (λ t k. p.read k) }
 
--- ---- the theory's answer, as what was read
+-- ---- the result of the grammar's reading, as a result of a piece
 
 unfoldable pub given : {A : Type 0} → (Tree → A) → Answer → Outcome A
 given f (Read x k) = Ok (f x, k)

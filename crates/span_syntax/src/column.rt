@@ -12,7 +12,7 @@ use span_grammar::reader::goes_on;
 use span_lexer::token::{Sign, Word};
 use std::alloc::Global;
 
-/// A column by its name, and the table before it.
+/// A column, of which the first name was read, and the rest.
 #[tactic(auto, unfolding(crate::specs::Expressions::qualified, crate::specs::Expressions::qualifier))]
 pub(crate) fn qualified<'a>(
     alloc: Global,

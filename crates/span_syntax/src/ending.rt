@@ -1,4 +1,4 @@
-//! What was read to the end of the tokens, and where a fault stands.
+//! Reading to the end of the tokens, and the place of a syntax error.
 ghost use Rattle.std.specs.Prelude.{◌≡◌};
 ghost use Rattle.span_syntax.specs.Parsed as parsed;
 ghost use Rattle.span_syntax.specs.Parsed.{GivesWhole, used_all, refusal_of, start_or, GivesParted};
@@ -11,7 +11,7 @@ use span_lexer::token::Token;
 use span_value::refusal::Refusal;
 use std::alloc::AllocError;
 
-/// What was read, where no token is left.
+/// What was read, if no token is left; else a syntax error.
 #[tactic(auto, using(crate::proofs::Parsing::used_steps))]
 pub fn whole<T: Drop>(found: T, rest: &[Lexeme]) -> Result<T, Fault>
     ensures { GivesWhole result (used_all found rest.now) }
@@ -23,7 +23,7 @@ pub fn whole<T: Drop>(found: T, rest: &[Lexeme]) -> Result<T, Fault>
     }
 }
 
-/// The first of so many tokens at the end.
+/// The first of the last `left` tokens.
 #[tactic(auto, using(crate::proofs::Places::ending_steps))]
 fn token_at(left: usize, tokens: &[Lexeme]) -> Option<Lexeme>
     ensures { result ≡ parsed.token_at left tokens.now }
@@ -42,9 +42,9 @@ fn place_of(left: usize, tokens: &[Lexeme], end: usize) -> usize
     }
 }
 
-/// The refusal for a fault, and its place in the text of these tokens, which is so many bytes long.
+/// The refusal for an error, and its place in the text of these tokens, which is `end` bytes long.
 ///
-/// For want of memory the place is 0.
+/// When memory ran out, the place is 0.
 pub fn misread(fault: Fault, tokens: &[Lexeme], end: usize) -> Misread
     ensures refusal { result.refusal ≡ refusal_of fault }
     ensures place { result.place ≡ parsed.place_of fault tokens.now end }
@@ -65,7 +65,7 @@ pub fn misread(fault: Fault, tokens: &[Lexeme], end: usize) -> Misread
     }
 }
 
-/// So many of the tokens, and where the one behind them starts.
+/// The first `count` tokens, and where the next one starts.
 #[tactic(auto, using(crate::proofs::Places::ending_steps), unfolding(crate::specs::Parsed::parted))]
 fn parted(count: usize, tokens: &[Token]) -> Option<(&[Token], usize)>
     ensures { GivesParted result (parsed.parted count tokens.now) }
@@ -74,9 +74,9 @@ fn parted(count: usize, tokens: &[Token]) -> Option<(&[Token], usize)>
     Some((beginning, behind.first()?.start))
 }
 
-/// Where a name before `.` and `*` is at fault: the tokens up to that dot, and where the star stands.
+/// Where a name before `.` and `*` is the error: the tokens up to that dot, and where the star starts.
 ///
-/// Such a name is of a class of its own, but read without the star it is a name as any other. So these tokens tell where the fault
+/// Such a name is of a class of its own, but read without the star it is a name as any other. So reading these tokens shows where the error
 /// is: at the name, at the dot, or else at the star.
 #[tactic(auto, using(crate::proofs::Places::ending_steps), unfolding(crate::specs::Parsed::is_before_star))]
 pub fn before_star<'a>(
@@ -96,7 +96,7 @@ pub fn before_star<'a>(
     parted(found.len().checked_sub(left)?.checked_add(2)?, tokens)
 }
 
-/// Where the fault stands that reading tokens told; behind them, where it told none. The error is want of memory.
+/// The place of the error that reading tokens returned; the place after them, where there was none. The error is out of memory.
 pub fn place_told<T: Drop>(
     read: Result<T, Fault>,
     tokens: &[Lexeme],

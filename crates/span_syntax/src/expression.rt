@@ -1,6 +1,6 @@
 //! Expressions, read from tokens: a function for each rule.
 //!
-//! The functions stand at a number of openings left, and take what reads behind one: so a single function recurses, and no deeper
+//! Each function knows the number of openings left, and is given the function that reads after one: so only one recurses, no deeper
 //! than openings may be nested.
 ghost use Rattle.std.specs.Prelude.{◌≡◌, ◌<◌, ◌≤◌, ◌-◌};
 ghost use Rattle.span_grammar.specs.Rules.{limit};
@@ -38,7 +38,7 @@ impl<
         closed(inner, rest)
     }
 
-    /// A call, behind its name.
+    /// A call, after its name.
     #[tactic(auto, unfolding(crate::specs::Expressions::arguments))]
     fn arguments<'a>(
         &self,
@@ -100,7 +100,7 @@ impl<
         self.behind(Level::Signed, rest)
     }
 
-    /// A call or a column, behind its name.
+    /// A call or a column, after its name.
     #[tactic(auto, unfolding(crate::specs::Expressions::after_name))]
     fn after_name<'a>(
         &self,
@@ -243,7 +243,7 @@ impl<
         self.other_primary(tokens)
     }
 
-    /// What stands behind a minus. One directly before an integer belongs to it.
+    /// What is after a minus. One directly before an integer belongs to it.
     #[tactic(auto, unfolding(crate::specs::Expressions::signed))]
     fn signed<'a>(&self, tokens: &'a [Lexeme]) -> Result<(Expr, &'a [Lexeme]), Fault>
         requires nests { Nests self.now.text.now self.now.left (F.pre self.now.read) (F.post self.now.read) }
@@ -258,7 +258,7 @@ impl<
         Ok((Expr::Negative(Boxed::new(self.alloc, operand)?), rest))
     }
 
-    /// An operator and the operand behind it.
+    /// An operator and the operand after it.
     #[tactic(auto, unfolding(crate::specs::Expressions::term_more))]
     fn term_more<'a>(&self, tokens: &'a [Lexeme]) -> Result<(Link, &'a [Lexeme]), Fault>
         requires nests { Nests self.now.text.now self.now.left (F.pre self.now.read) (F.post self.now.read) }
@@ -299,7 +299,7 @@ impl<
         Ok((chained(self.alloc, first, more)?, rest))
     }
 
-    /// An operator and the operand behind it.
+    /// An operator and the operand after it.
     #[tactic(auto, unfolding(crate::specs::Expressions::sum_more))]
     fn sum_more<'a>(&self, tokens: &'a [Lexeme]) -> Result<(Link, &'a [Lexeme]), Fault>
         requires nests { Nests self.now.text.now self.now.left (F.pre self.now.read) (F.post self.now.read) }
@@ -375,7 +375,7 @@ impl<
         Ok((Asked::Like(pattern), rest))
     }
 
-    /// `AND sum`, behind the low end of a BETWEEN.
+    /// `AND sum`, after the low end of a BETWEEN.
     #[tactic(auto, unfolding(crate::specs::Expressions::high_end))]
     fn high_end<'a>(&self, tokens: &'a [Lexeme]) -> Result<(Expr, &'a [Lexeme]), Fault>
         requires nests { Nests self.now.text.now self.now.left (F.pre self.now.read) (F.post self.now.read) }
@@ -489,7 +489,7 @@ impl<
         self.predicate(tokens)
     }
 
-    /// AND and the operand behind it.
+    /// AND and the operand after it.
     #[tactic(auto, unfolding(crate::specs::Expressions::conjunction_more))]
     fn conjunction_more<'a>(&self, tokens: &'a [Lexeme]) -> Result<(Expr, &'a [Lexeme]), Fault>
         requires nests { Nests self.now.text.now self.now.left (F.pre self.now.read) (F.post self.now.read) }
@@ -532,7 +532,7 @@ impl<
         Ok((all_of(self.alloc, first, more)?, rest))
     }
 
-    /// OR and the operand behind it.
+    /// OR and the operand after it.
     #[tactic(auto, unfolding(crate::specs::Expressions::expression_more))]
     fn expression_more<'a>(&self, tokens: &'a [Lexeme]) -> Result<(Expr, &'a [Lexeme]), Fault>
         requires nests { Nests self.now.text.now self.now.left (F.pre self.now.read) (F.post self.now.read) }
@@ -576,7 +576,7 @@ impl<
     }
 }
 
-/// An expression, or what else stands at a level, where so many openings are left. This function alone recurses.
+/// An expression, or what else a level asks for, with `left` openings left. This function alone recurses.
 #[tactic(auto, using(crate::proofs::Levels::level_steps))]
 fn read<'a>(
     alloc: Global,
@@ -601,9 +601,9 @@ fn read<'a>(
     }
 }
 
-/// An expression, where so many openings are left, and what is behind it.
+/// An expression, with `left` openings left, and the rest.
 ///
-/// The error is the first token with which no expression goes on, an opening where none is left, or want of memory.
+/// The error is the first token with which no expression goes on, an opening where none is left, or out of memory.
 pub fn read_expression<'a>(
     alloc: Global,
     text: &[u8],

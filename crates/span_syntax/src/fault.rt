@@ -1,7 +1,7 @@
 //! Why tokens are not read.
 use std::alloc::{AllocError, AllocFailed};
 
-/// Why tokens are not read; where they are at fault, how many are left from there on.
+/// Why tokens are not read. The place of an error is given as the number of tokens that are left there, its own counted.
 #[derive(Clone, Copy, Debug, PartialEq, Eq)]
 pub enum Fault {
     OutOfMemory,

@@ -105,7 +105,7 @@ pub(crate) fn null_words(tokens: &[Lexeme]) -> Result<(bool, &[Lexeme]), Fault>
     Ok((is_not, rest))
 }
 
-/// An operand with the operators and operands behind it.
+/// An operand with the operators and operands after it.
 pub(crate) fn chained(alloc: Global, first: Expr, more: Items<Link>) -> Result<Expr, AllocError>
     ensures { IfOk result (λ x. x ≡ spec.chained first more) }
 {
@@ -228,7 +228,7 @@ pub(crate) fn tested(alloc: Global, x: Expr, question: (bool, Asked)) -> Result<
     denied(alloc, is_not, test)
 }
 
-/// The first, and the others behind it.
+/// A list: the first item, then the others.
 pub fn first_and<T: Drop>(alloc: Global, first: T, more: Items<T>) -> Result<Items<T>, AllocError>
     ensures { IfOk result (λ all. all ≡ first ∷ more) }
 {

@@ -1,4 +1,4 @@
-//! What reads expressions behind an opening, and what stands inside an opening.
+//! Readers of what is inside an opening: of expressions, of lists of them and of the arms of CASE.
 ghost use Rattle.std.specs.Prelude.{◌≡◌, ◌<◌, ◌≤◌, ◌-◌};
 ghost use Rattle.span_grammar.specs.Rules.{limit};
 ghost use Rattle.span_syntax.specs.Pieces.{Gives, each};
@@ -16,31 +16,31 @@ use span_lexer::token::{Sign, Word};
 use sqlite_items::{Boxed, Items};
 use std::alloc::Global;
 
-/// What may stand behind an opening.
+/// What may come after an opening.
 #[derive(Clone, Copy, Debug, PartialEq, Eq)]
 pub(crate) enum Level {
     Expression,
-    /// Behind NOT.
+    /// After NOT.
     Negated,
-    /// Behind a minus.
+    /// After a minus.
     Signed,
 }
 
-/// What reads expressions where so many openings are left.
+/// Reads expressions, with `left` openings left.
 #[derive(Clone, Copy)]
 pub(crate) struct Reader<'t, F> {
     pub alloc: Global,
     /// The bytes of the text.
     pub text: &'t [u8],
     pub left: usize,
-    /// Reads behind an opening.
+    /// Reads what is after an opening.
     pub read: F,
 }
 
 impl<
     F: for<'a> Fn(Global, &[u8], usize, Level, &'a [Lexeme]) -> Result<(Expr, &'a [Lexeme]), Fault>,
 > Reader<'_, F> {
-    /// What stands behind an opening.
+    /// What is after an opening.
     #[tactic(auto, using(crate::proofs::Levels::level_steps))]
     pub(crate) fn behind<'a>(
         &self,
@@ -85,7 +85,7 @@ impl<
         Ok((found, rest))
     }
 
-    /// Expressions, parted by commas.
+    /// Expressions, separated by commas.
     #[tactic(auto, unfolding(crate::specs::Expressions::list))]
     pub(crate) fn list<'a>(
         &self,
@@ -215,7 +215,7 @@ impl<
         beside(arms, self.case_end(rest))
     }
 
-    /// What stands behind CASE.
+    /// What is after CASE.
     #[tactic(auto, using(crate::specs::declared::tree::Expr::the_lemmas), unfolding(crate::specs::Expressions::in_case, crate::specs::Expressions::case_of))]
     pub(crate) fn in_case<'a>(&self, tokens: &'a [Lexeme]) -> Result<(Expr, &'a [Lexeme]), Fault>
         requires nests { Nests self.now.text.now self.now.left (F.pre self.now.read) (F.post self.now.read) }
@@ -228,7 +228,7 @@ impl<
         Ok((Expr::Case(operand, arms, otherwise), rest))
     }
 
-    /// What stands between the parentheses of a call.
+    /// What is between the parentheses of a call.
     #[tactic(auto, unfolding(crate::specs::Expressions::argument_list))]
     pub(crate) fn argument_list<'a>(
         &self,

@@ -25,7 +25,7 @@ pub fn next_is(sort: Sort, tokens: &[Lexeme]) -> bool
     goes_on(Part::Token(sort), tokens)
 }
 
-/// The token of a sort that comes next, and what is behind it.
+/// The next token, if it is of a sort, and the rest.
 #[tactic(auto, unfolding(crate::specs::Pieces::token_read))]
 pub fn take(sort: Sort, tokens: &[Lexeme]) -> Result<(Lexeme, &[Lexeme]), Fault>
     ensures { Gives result (token_read sort tokens.now) }
@@ -36,7 +36,7 @@ pub fn take(sort: Sort, tokens: &[Lexeme]) -> Result<(Lexeme, &[Lexeme]), Fault>
     }
 }
 
-/// The opening token that comes next, where so many openings are left, and what is behind it.
+/// The next token, if it is an opening of a sort and an opening is left, and the rest.
 #[tactic(auto, unfolding(crate::specs::Pieces::enter_read))]
 pub fn enter(left: usize, sort: Sort, tokens: &[Lexeme]) -> Result<(Lexeme, &[Lexeme]), Fault>
     ensures read { Gives result (enter_read left sort tokens.now) }
@@ -49,9 +49,9 @@ pub fn enter(left: usize, sort: Sort, tokens: &[Lexeme]) -> Result<(Lexeme, &[Le
     Ok((lexeme, rest))
 }
 
-/// What was found, and what was read behind it.
+/// Pairs what was read before with what was read after it.
 ///
-/// Where that wasn't read, what was found is dropped here, at any type: to prove that the drop of a tree is safe takes long, at
+/// If that was not read, `found` is dropped here, at any type: to prove that the drop of a tree is safe takes long, at
 /// each place where a tree may be dropped.
 #[tactic(auto, unfolding(crate::specs::Pieces::beside))]
 pub fn beside<'a, T: Drop, U>(
@@ -64,7 +64,7 @@ pub fn beside<'a, T: Drop, U>(
     Ok(((found, next), rest))
 }
 
-/// What was found, and the parenthesis that closes it.
+/// Reads the parenthesis that ends what was read before.
 #[tactic(auto, unfolding(crate::specs::Expressions::closing))]
 pub fn closed<T: Drop>(found: T, tokens: &[Lexeme]) -> Result<(T, &[Lexeme]), Fault>
     ensures { Gives result ((spec.closing found).read tokens.now) }
@@ -73,7 +73,7 @@ pub fn closed<T: Drop>(found: T, tokens: &[Lexeme]) -> Result<(T, &[Lexeme]), Fa
     Ok((found, rest))
 }
 
-/// Where a token stands.
+/// The place of a token.
 pub(crate) fn span_of(token: &Token) -> Span
     ensures { result ≡ spec.span_of token.now }
 {
@@ -83,7 +83,7 @@ pub(crate) fn span_of(token: &Token) -> Span
     }
 }
 
-/// The text of a token, and where it stands.
+/// The spelling of a token, and its place.
 fn spelling_of(alloc: Global, text: &[u8], lexeme: Lexeme) -> Result<Spelling, AllocError>
     ensures { IfOk result (λ x. x ≡ spec.spelling_of text.now lexeme) }
 {
@@ -94,7 +94,7 @@ fn spelling_of(alloc: Global, text: &[u8], lexeme: Lexeme) -> Result<Spelling, A
     })
 }
 
-/// A token's text, where it is of a sort, and what is behind it.
+/// The spelling of the next token, if it is of a sort, and the rest.
 #[tactic(auto, unfolding(crate::specs::Expressions::spelling))]
 pub fn spelling<'a>(
     alloc: Global,

@@ -5,14 +5,14 @@
 use span_value::text::Text;
 use sqlite_items::{Boxed, Items};
 
-/// A part of a text: from the byte `start` up to the byte before `end`.
+/// A part of the query text: from the byte `start` up to the byte before `end`.
 #[derive(Clone, Copy, Debug, PartialEq, Eq)]
 pub struct Span {
     pub start: usize,
     pub end: usize,
 }
 
-/// A name, a parameter with its `@`, or a literal of a string or bytes with its quotes, as it is spelt, and where it stands.
+/// A name, a parameter with its `@`, or a literal of a string or bytes with its quotes, as it is spelt, and its place.
 #[derive(Debug, Drop)]
 pub struct Spelling {
     pub text: Text,
@@ -31,7 +31,7 @@ pub struct Column {
 pub struct Integer {
     pub is_negative: bool,
     pub value: u64,
-    /// Where its digits stand.
+    /// The place of its digits.
     pub span: Span,
 }
 

@@ -39,11 +39,11 @@ double_nil : doubled [] ≡ []
 unfolding doubled
 double_nil = refl
 
--- a text without a backslash is its own double
+-- a text without a backslash is unchanged by doubling
 pub double_last : (xs : List ℕ) → IsClean xs → doubled xs ≡ xs
 double_last xs h = ap doubled (sym (append_nil xs)) ∙ double_clean xs [] h ∙ ap (λ (w : List ℕ). xs ++ w) double_nil ∙ append_nil xs
 
--- the front of the double, up to a backslash
+-- the beginning of the doubled text, up to a backslash
 pub double_step : (text out front behind rest : List ℕ) → out ++ doubled rest ≡ doubled text → rest ≡ front ++ (92 ∷ behind) → IsClean front
     → ((out ++ front) ++ (92 ∷ 92 ∷ [])) ++ doubled behind ≡ doubled text
 double_step text out front behind rest h e clean =

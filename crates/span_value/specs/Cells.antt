@@ -45,7 +45,7 @@ IsCell kind v text = IsOf kind v × (cell_of v ≡ text)
 
 -- ---- reading
 
--- the text that was doubled, if one was; `behind` says that a backslash stands before
+-- the text before its backslashes were doubled, if there is one; true: the byte before is the first backslash of a pair
 unfoldable pub halved_behind : Bool → List ℕ → Option (List ℕ)
 halved_behind false [] = Some []
 halved_behind true [] = None
@@ -55,7 +55,7 @@ halved_behind true (b ∷ bs) = if b == 92 then option_map (λ w. 92 ∷ w) (hal
 abbrev pub halved : List ℕ → Option (List ℕ)
 halved bs = halved_behind false bs
 
--- the number that a hexadecimal digit in lower case stands for
+-- the value of a hexadecimal digit in lower case
 unfoldable pub half_byte : ℕ → Option ℕ
 half_byte c = if nat_lt c 48 then None else (if nat_lt c 58 then Some (c - 48) else (if nat_lt c 97 then None else (if nat_lt c 103 then Some (c - 87) else None)))
 
@@ -63,12 +63,12 @@ abbrev pub byte_of : Option ℕ → Option ℕ → Option (List ℕ) → Option 
 byte_of (Some high) (Some low) (Some bytes) = Some ((high * 16 + low) ∷ bytes)
 byte_of high low bytes = None
 
--- the bytes that stand there as pairs of digits
+-- the bytes that the pairs of digits represent
 unfoldable pub unhexed : List ℕ → Option (List ℕ)
 unhexed [] = Some []
 unhexed (high ∷ []) = None
 unhexed (high ∷ low ∷ bs) = byte_of (half_byte high) (half_byte low) (unhexed bs)
 
--- no backslash stands in the text
+-- there is no backslash in the text
 abbrev pub IsClean : List ℕ → Type 0
 IsClean bs = (i : ℕ) → i < length bs → slice_index bs i ≢ 92

@@ -6,7 +6,7 @@ use Rattle.std.specs.Cmp.Lexicographic.{slice_cmp}
 use Rattle.span_value.specs.declared.value.Value.{Value}
 use Rattle.span_value.specs.declared.value.Value.TheVariants as value
 
--- where the kind of a value stands among the kinds: NULL is first
+-- the rank of the kind of a value among the kinds: NULL is first
 abbrev pub kind_rank : Value → ℕ
 kind_rank value.Null = 0
 kind_rank (value.Bool b) = 1

@@ -13,7 +13,7 @@ use super::value::{Kind, Value};
 use itoa::Buffer;
 use std::alloc::{AllocError, Global};
 
-/// The cell of a value. An error is want of memory.
+/// The cell of a value. The only error is `OutOfMemory`.
 pub fn cell_text(alloc: Global, value: &Value) -> Result<String, Refusal>
     ensures cell { IfOk result (λ text. string_bytes text ≡ cell_of value.now) }
     ensures memory { IsOkUnless result Refusal.OutOfMemory }
@@ -77,7 +77,7 @@ fn hex_digit(half: u8) -> char
 
 /// The value of a kind whose cell the text is. The text `\N` is NULL of every kind.
 ///
-/// The error is `WrongType` exactly where the text is no cell of the kind, or want of memory.
+/// The error is `WrongType`, only where the text is no cell of the kind, or `OutOfMemory`.
 pub fn read_cell(alloc: Global, kind: Kind, text: &str) -> Result<Value, Refusal>
     // What is read has this cell.
     ensures read { IfOk result (λ value. IsCell kind value text.now) }
@@ -124,14 +124,14 @@ fn read_bool(text: &str) -> Result<Value, Refusal>
     }
 }
 
-/// What stands before the first backslash and behind it.
+/// What is before the first backslash and what is after it.
 fn at_backslash(text: &str) -> Option<(&str, &str)>
     ensures { MatchOption result (IsClean text.now) (λ x. (text.now ≡ x.0.now ++ 92 ∷ x.1.now) × IsClean x.0.now) }
 {
     text.split_once('\\')
 }
 
-/// What stands behind a backslash at the front.
+/// What is after the backslash that the text begins with.
 fn behind_backslash(text: &str) -> Option<&str>
     ensures { MatchOption result ((rest : List ℕ) → text.now ≢ 92 ∷ rest) (λ rest. text.now ≡ 92 ∷ rest.now) }
 {
@@ -149,7 +149,7 @@ fn read_text(alloc: Global, text: &str) -> Result<Value, Refusal>
     }
 }
 
-/// The text whose doubled text this is, if there is one.
+/// The text that becomes this one when each backslash is doubled, if there is one.
 fn halved_text(alloc: Global, text: &str) -> Result<Option<String>, AllocError>
     ensures { IfOk result (λ o. MatchOption o (halved text.now ≡ None) (λ s. halved text.now ≡ Some (string_bytes s))) }
 {
@@ -181,7 +181,7 @@ fn read_bytes(alloc: Global, text: &str) -> Result<Value, Refusal>
     }
 }
 
-/// The bytes that stand there as pairs of hexadecimal digits, if nothing else does.
+/// The bytes that pairs of hexadecimal digits represent, if there are only such pairs.
 fn unhexed_bytes(alloc: Global, digits: &[u8]) -> Result<Option<Vec<u8>>, AllocError>
     ensures { IfOk result (λ o. MatchOption o (unhexed digits.now ≡ None) (λ v. unhexed digits.now ≡ Some v.items)) }
 {
@@ -208,7 +208,7 @@ fn byte_from(high: u8, low: u8) -> Option<u8>
     Some(high * 16 + low)
 }
 
-/// What a hexadecimal digit in lower case stands for.
+/// The value of a hexadecimal digit in lower case.
 #[tactic(auto, unfolding(crate::specs::Cells::half_byte))]
 fn half_byte_from(digit: u8) -> Option<u8>
     ensures value { result ≡ half_byte digit }

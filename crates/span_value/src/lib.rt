@@ -1,4 +1,4 @@
-//! Values, the lists and texts inside them, and refusals: what every other crate speaks of.
+//! Values, the lists and strings inside them, and refusals: the types that every other crate uses.
 #![tactic(auto)]
 
 pub mod cell;

@@ -7,8 +7,8 @@ ghost use Rattle.span_value.specs.Orders.{value_order, kind_rank};
 use super::value::Value;
 use std::cmp::Ordering;
 
-/// How two values stand to each other: NULL first, FALSE before TRUE, numbers by size, strings by code points (which is
-/// by the bytes of their UTF-8), bytes by bytes. Values of different kinds stand in the order NULL, BOOL, INT64, STRING, BYTES.
+/// Compares two values: NULL first, FALSE before TRUE, numbers by size, strings by code points (which is
+/// by the bytes of their UTF-8), bytes by bytes. Values of different kinds are in the order NULL, BOOL, INT64, STRING, BYTES.
 pub fn compare(left: &Value, right: &Value) -> Ordering
     ensures order { result ≡ value_order left.now right.now }
     ensures equal { (result ≡ Ordering.Equal) ↔ (left.now ≡ right.now) }

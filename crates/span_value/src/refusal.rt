@@ -11,9 +11,9 @@ use std::fmt;
 /// Why a call was refused. `docs/REFUSALS.md` says of each what it leaves.
 #[derive(Clone, Copy, Debug, PartialEq, Eq)]
 pub enum Refusal {
-    /// 1: a text of more than 65,536 bytes.
+    /// 1: a query or schema text of more than 65,536 bytes.
     TextTooLong,
-    /// 2: no token stands at the place.
+    /// 2: there is no token at the place.
     BadToken,
     /// 3: the tokens have no tree.
     Syntax,
@@ -27,7 +27,7 @@ pub enum Refusal {
     Ambiguous,
     /// 13: operands of types that the operator does not take.
     TypeMismatch,
-    /// 14: a column outside aggregates that is not in GROUP BY, or an aggregate where none may stand.
+    /// 14: a column outside aggregates that is not in GROUP BY, or an aggregate where none is allowed.
     NotGrouped,
     /// 15: a LIKE pattern with a wrong escape.
     BadPattern,
@@ -37,7 +37,7 @@ pub enum Refusal {
     NoParameter,
     /// 18: two items of a FROM with one name.
     DuplicateAlias,
-    /// 19: the ninth table name of a text.
+    /// 19: the ninth table name of a query.
     TooManyTables,
     /// 20: blocks of a union that differ in number or types of columns.
     ColumnsDiffer,
@@ -83,8 +83,8 @@ pub enum Refusal {
     WrongType,
     /// 50: 65,536 commits and undecided transactions.
     LogFull,
-    /// 51: a Prepare would bring the versions that a slot keeps, prepared ones included, over 2^24; of an arena, as many nodes are in
-    /// use as may be.
+    /// 51: a Prepare would bring the versions that a slot keeps, prepared ones included, over 2^24; of an arena, the greatest
+    /// number of nodes is in use.
     ShardFull,
     /// 52: the commit timestamp has not surely passed.
     TooEarly,
@@ -104,7 +104,7 @@ pub enum Refusal {
     QueryTableFull,
     /// 64: no open query has the number, or it has no such leaf.
     UnknownQuery,
-    /// 65: the pieces do not cover the query.
+    /// 65: the partial results do not cover the query.
     Incomplete,
     /// 70: no root key to split at.
     BadSplit,
@@ -130,7 +130,7 @@ pub enum Refusal {
     InputFault,
     /// 83: the output device failed.
     OutputFault,
-    /// 90: a growth of memory was refused.
+    /// 90: a memory allocation failed.
     OutOfMemory,
 }
 

@@ -1,6 +1,7 @@
 //! Lists that contracts see as lists.
 //!
-//! A `Vec` inside a value that definitions compare would show its allocator and its room. A `Seq` shows its items alone.
+//! The model of a `Vec` has its allocator and its capacity, so that two lists of the same items may differ. The model of a `Seq` is
+//! its items alone.
 ghost use Rattle.std.specs.Prelude.{◌≡◌, ◌<◌, [], ◌∷◌, ◌++◌, OnOk, OnErr, IfErr, length, slice_set, remove};
 
 use std::alloc::{AllocFailed, Global};
@@ -22,7 +23,7 @@ impl<T> Model for Seq<T> {
 }
 
 impl<T> Seq<T> {
-    /// An empty list. It takes no memory.
+    /// An empty list. It allocates nothing.
     pub fn new(alloc: Global) -> Self
         ensures { result ≡ [] }
     {
@@ -46,7 +47,7 @@ impl<T> Seq<T> {
         items
     }
 
-    /// How many items there are.
+    /// The number of items.
     pub fn len(&self) -> usize
         ensures { result ≡ length self.now }
     {

@@ -1,11 +1,11 @@
-//! Texts that contracts see as their bytes.
+//! Strings that contracts see as their UTF-8 bytes.
 ghost use Rattle.std.specs.Prelude.{◌≡◌, string_bytes, IfOk};
 
 use std::alloc::{AllocError, Global};
 use std::fmt;
 use std::marker::Model;
 
-/// A text in UTF-8, by its bytes.
+/// A string in UTF-8, whose model is its bytes.
 #[derive(Drop)]
 pub struct Text {
     text: String,
@@ -20,14 +20,14 @@ impl Model for Text {
 }
 
 impl Text {
-    /// The text of a string, as it is.
+    /// Wraps a string, without copying it.
     pub fn from_string(text: String) -> Text
         ensures { result ≡ string_bytes text }
     {
         Text { text }
     }
 
-    /// A copy of a text.
+    /// A copy of a string.
     pub fn from_str(alloc: Global, text: &str) -> Result<Text, AllocError>
         ensures { IfOk result (λ t. t ≡ text.now) }
     {
@@ -36,7 +36,7 @@ impl Text {
         })
     }
 
-    /// The text.
+    /// The string.
     pub fn as_str(&self) -> &str
         ensures { result.now ≡ self.now }
     {

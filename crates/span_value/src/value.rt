@@ -38,7 +38,7 @@ pub enum ColumnType {
 pub type Row = Seq<Value>;
 
 impl Value {
-    /// An equal value, or the refusal for want of memory.
+    /// A copy of the value. The only error is `OutOfMemory`.
     pub fn copy(&self, alloc: Global) -> Result<Value, Refusal>
         ensures ok { IfOk result (λ copy. copy ≡ self.now) }
         ensures memory { IsOkUnless result Refusal.OutOfMemory }
