@@ -1,6 +1,6 @@
 //! What an expression comes to at a row.
 //!
-//! Evaluating lends what it reads and goes along chains of operators by loops, so that the depth of the recursion is bounded by the
+//! Evaluating lends what it reads and walks chains of operators by loops, so that the depth of the recursion is bounded by the
 //! nesting of the query.
 ghost use Rattle.std.specs.Prelude.{◌≡◌, map, IfOk, IsOkUnless};
 ghost use Rattle.std.specs.List.{fold};

@@ -1,4 +1,4 @@
-//! What lists of operands and choices come to.
+//! The typed expressions of lists of operands and of choices.
 ghost use Rattle.std.specs.Prelude.{◌≡◌, ◌++◌, ◌∷◌, [], Ok, IfOk, map};
 ghost use Rattle.std.specs.List.{list_all};
 ghost use Rattle.span_typing.specs.Steps.{Gives, and_then};

@@ -1,6 +1,6 @@
 //! The typed expression of a syntax tree.
 //!
-//! Operands come before their operator, and the first fault is the refusal. Chains of operators are gone along by loops, so that the
+//! Operands come before their operator, and the first fault is the refusal. Chains of operators are walked by loops, so that the
 //! depth of the recursion is bounded by the nesting of the query.
 ghost use Rattle.std.specs.Prelude.{◌≡◌, ◌++◌, ◌∷◌, [], Ok, map};
 ghost use Rattle.std.specs.Option.{option_map};
