@@ -1,4 +1,4 @@
--- One more row: it is taken by the group of its key, or by a new one behind the others.
+-- One more row: it is taken by the group of its key, or by a new one after the others.
 use Rattle.std.proofs.Common.{◌≡◌, ◌≢◌, ℕ, zero, suc, ◌+◌, ◌<◌, ◌^◌, Bool, true, false, cond, List, [], ◌∷◌, ◌++◌, length, set, get_or, refl, sym, ap, ◌∙◌, subst, inl, inr, arith}
 use Rattle.std.proofs.lemmas.Bool.{cases_eq}
 use Rattle.std.proofs.lemmas.List.{length-map, length-set, length-append, get_or-map, get_or-set_same, get_or-set_other, map-append, append-nil}
@@ -28,7 +28,7 @@ keys-same [] at new within same = refl
 keys-same (x ∷ groups) zero new within same = ap (λ (k : Row). k ∷ keys_of groups) same
 keys-same (x ∷ groups) (suc at) new within same = ap (λ (ks : List Row). x.key ∷ ks) (keys-same groups at new (omega arith) same)
 
--- the states behind a row, whichever rows were taken before
+-- the states after a row, whichever rows were taken before
 abbrev pub TakesRow : List Aggregate → Row → List State → List State → Type 0
 TakesRow aggregates row old new = (rows : List Row) → AreStatesOf aggregates rows old → AreStatesOf aggregates (rows ++ row ∷ []) new
 

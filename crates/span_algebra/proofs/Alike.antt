@@ -1,4 +1,4 @@
--- Rows that are alike are the same row.
+-- Rows that are equal are the same row.
 use Rattle.std.proofs.Common.{◌≡◌, ◌≢◌, ℕ, suc, ◌+◌, ◌<◌, Bool, true, false, ◌&&◌, List, [], ◌∷◌, length, get_or, drop, refl, sym, ap, ◌∙◌, arith}
 use Rattle.std.proofs.Math.Seq.{drop-cons}
 use Rattle.std.specs.declared.cmp.Ordering.{Ordering}
@@ -56,7 +56,7 @@ are_alike-through x y z e f = ap (λ (w : Row). are_alike w z) (are_alike-same x
 pub unlike_lengths : (x y : Row) → length x ≢ length y → false ≡ are_alike x y
 unlike_lengths x y apart = either false (are_alike x y) (λ e. absurd cc) (λ e. absurd (apart (ap (λ (z : Row). length z) (are_alike-same x y e))))
 
--- what stands at a place, and what is behind it
+-- the item at a place, and the rest after it
 pub drop_at : {A : Type 0} (xs : List A) (k : ℕ) (x : A) → k < length xs → x ≡ get_or xs k x → drop k xs ≡ x ∷ drop (k + 1) xs
 drop_at xs k x below is =
     drop-cons xs k x below ∙ ap (λ y. y ∷ drop (suc k) xs) (sym is) ∙ ap (λ (n : ℕ). x ∷ drop n xs) {x = suc k} {y = k + 1} (omega arith)

@@ -1,4 +1,4 @@
--- A block is what it shows of the rows of its FROM, in the order in which the code goes.
+-- A block is its output from the rows of its FROM, in the order in which the code goes.
 use Rattle.std.proofs.Common.{◌≡◌, List, Option, Some, None, refl, ap}
 use Rattle.span_expr.specs.declared.expr.Expr.{Expr}
 use Rattle.span_query.specs.declared.query.Grouping.{Grouping}

@@ -78,7 +78,7 @@ pub joins-fail : (why : Failure) (tables : List (List Row)) (o : Rows) (js : Lis
 joins-fail Fault tables o js gives = ap (λ (p : Rows). fold (join_next tables) p js) gives ∙ joins-none tables js
 joins-fail OutOfMemory tables o js gives = tt {0}
 
--- the join at a place, and the joins behind it
+-- the join at a place, and the joins after it
 pub joins_at : (tables : List (List Row)) (js : List (Join BoundQuery)) (k : ℕ) (j : Join BoundQuery) (rows seen : List Row) → k < length js → j ≡ get_or js k j → seen ≡ rows → fold (join_next tables) (Some rows) (map (meant_join (meaning tables)) (drop k js)) ≡ fold (join_next tables) (item_rows tables (meant_item (meaning tables) j.item) >>= joined j seen) (map (meant_join (meaning tables)) (drop (k + 1) js))
 joins_at tables js k j rows seen below is same =
     ap (λ (l : List (Join BoundQuery)). fold (join_next tables) (Some rows) (map (meant_join (meaning tables)) l)) (drop_at js k j below is)

@@ -1,4 +1,4 @@
--- Each row once, where it stands first: one more row.
+-- Each row once, at its first place: one more row.
 use Rattle.std.proofs.Common.{◌≡◌, Bool, true, false, cond, not, ◌||◌, List, [], ◌∷◌, ◌++◌, refl, sym, ap, ◌∙◌}
 use Rattle.std.specs.List.{filter}
 use Rattle.std.proofs.lemmas.List.Elements.{filter-append}
@@ -19,7 +19,7 @@ has_alike-unlike x y e (z ∷ rows) = elim (are_alike x z) as (λ b. are_alike x
   | false ↦ λ apart. ap (λ b. are_alike z y || b) (has_alike-unlike x y e rows)
 ] refl
 
--- one more row behind those that are unlike another
+-- one more row after those that differ from another
 unlike-more : (x y : Row) (rows : List Row) (b : Bool) → are_alike x y ≡ b → filter (unlike x) (rows ++ y ∷ []) ≡ filter (unlike x) rows ++ cond (not b) (y ∷ []) []
 unlike-more x y rows b e = filter-append (unlike x) rows (y ∷ []) ∙ ap (λ c. filter (unlike x) rows ++ cond (not c) (y ∷ []) []) e
 
@@ -34,7 +34,7 @@ same_any : (x y : Row) (rows : List Row) (alike : Bool) → are_alike x y ≡ al
 same_any x y rows true e = refl
 same_any x y rows false e = sym (has_alike-unlike x y e rows)
 
--- ONE MORE ROW: it is added where none of those kept is alike
+-- ONE MORE ROW: it is added where none of those kept is equal to it
 pub distinct-more : (rows : List Row) (y : Row) → distinct (rows ++ y ∷ []) ≡ with_new (distinct rows) y
 distinct-more [] y = refl
 distinct-more (x ∷ rows) y =

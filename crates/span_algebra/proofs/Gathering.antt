@@ -24,7 +24,7 @@ pub gathered-append : {A B : Type 0} (f : A → OrFault (List B)) (xs ys : List 
 gathered-append f [] ys = sym (nil-followed (gathered f ys))
 gathered-append f (x ∷ xs) ys = ap (followed (f x)) (gathered-append f xs ys) ∙ sym (followed-assoc (f x) (gathered f xs) (gathered f ys))
 
--- what stands at a place, and what is behind it
+-- the item at a place, and the rest after it
 pub drop_at : {A : Type 0} (xs : List A) (k : ℕ) (x : A) → k < length xs → x ≡ get_or xs k x → drop k xs ≡ x ∷ drop (k + 1) xs
 drop_at xs k x below is =
     drop-cons xs k x below ∙ ap (λ y. y ∷ drop (suc k) xs) (sym is) ∙ ap (λ (n : ℕ). x ∷ drop n xs) {x = suc k} {y = k + 1} (omega arith)

@@ -1,4 +1,4 @@
--- Two lists in order in which ties stand alike are one list.
+-- Two lists in order, with the same order of ties, are one list.
 use Rattle.std.proofs.Common.{◌≡◌, Bool, true, false, cond, not, ◌&&◌, List, [], ◌∷◌, refl, ap, sym, ◌∙◌}
 use Rattle.std.specs.List.{AllByRecursion, filter}
 use Rattle.std.specs.List.Sorted.{ties}
@@ -25,7 +25,7 @@ module _ {A : Type 0} (lt : A → A → Bool) (o : IsStrictWeakOrder lt) where
       let moved : cond (ties lt x y) (y ∷ filter (ties lt x) ys) (filter (ties lt x) ys) ≡ cond (ties lt x y) (y ∷ filter (ties lt x) zs) (filter (ties lt x) zs) = same ∙ ap (λ w. cond (ties lt x w) (w ∷ filter (ties lt x) zs) (filter (ties lt x) zs)) (sym e) in
       elim (ties lt x y) as (λ b. cond b (y ∷ filter (ties lt x) ys) (filter (ties lt x) ys) ≡ cond b (y ∷ filter (ties lt x) zs) (filter (ties lt x) zs) → filter (ties lt x) ys ≡ filter (ties lt x) zs) [ true ↦ λ m. cc | false ↦ λ m. m ] moved
 
-  -- two lists in order, in which ties stand alike, are one
+  -- two lists in order, with the same order of ties, are one
   pub one_order : (ys zs : List A) → IsInOrder lt ys → IsInOrder lt zs → ((x : A) → filter (ties lt x) ys ≡ filter (ties lt x) zs) → ys ≡ zs
   one_order [] [] p q same = refl
   one_order [] (z ∷ zs) p q same = let e : [] ≡ cond (ties lt z z) (z ∷ filter (ties lt z) zs) (filter (ties lt z) zs) = same z in let f : [] ≡ z ∷ filter (ties lt z) zs = e ∙ ap (λ b. cond b (z ∷ filter (ties lt z) zs) (filter (ties lt z) zs)) (ties_itself z) in cc

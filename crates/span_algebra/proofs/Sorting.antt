@@ -32,7 +32,7 @@ module _ {A : Type 0} (lt : A → A → Bool) where
     | false ↦ (p, all)
   ]
 
-  -- a sort's clause by neighbours, as each against those behind it
+  -- a sort's clause by neighbours, as each against those after it
   behind_first : (x : A) (ys : List A) → ((k : ℕ) → k < length ys → lt (get_or ys k x) x ≡ false) → AllByRecursion (λ y. lt y x ≡ false) ys
   behind_first x [] h = tt
   behind_first x (y ∷ ys) h = (h 0 (omega arith), behind_first x ys (λ k below. h (suc k) (omega arith)))
@@ -76,11 +76,11 @@ module _ {A : Type 0} (lt : A → A → Bool) where
       | false ↦ λ e. refl
     ] refl
 
-    -- in `in_order`, ties stay as they stood
+    -- in `in_order`, ties keep their order
     pub keeps_ties : (xs : List A) → IsStableBy lt xs (in_order lt xs)
     keeps_ties [] z = refl
     keeps_ties (x ∷ xs) z = placed_ties z x (in_order lt xs) ∙ ap (λ (zs : List A). cond (ties lt z x) (x ∷ zs) zs) (keeps_ties xs z)
 
-    -- no other list is in order and has ties as they stood
+    -- no other list is in order and has ties in this order
     pub is_the_order : (xs ys : List A) → IsInOrder lt ys → IsStableBy lt xs ys → ys ≡ in_order lt xs
     is_the_order xs ys up stable = one_order lt o ys (in_order lt xs) up (is_in_order xs) (λ z. stable z ∙ sym (keeps_ties xs z))

@@ -1,4 +1,4 @@
--- Groups as they stand after some rows.
+-- The groups after some rows were taken.
 use Rattle.std.specs.Prelude.{◌≡◌, ℕ, ◌+◌, ◌<◌, ◌^◌, List, [], ◌∷◌, ◌++◌, length, map, slice_index_or}
 use Rattle.std.specs.List.{All}
 use Rattle.span_query.specs.declared.query.Grouping.{Grouping}
@@ -23,7 +23,7 @@ pub record AreGroups (g : Grouping) (keys : List Row) (rows : List Row) (groups 
 abbrev pub AreGroupsOf : Grouping → List Row → List Group → Type 0
 AreGroupsOf g rows groups = AreGroups g (group_keys g.keys rows) rows groups
 
--- they have taken so few rows that one more can be counted
+-- the number of rows taken is so small that one more can be counted
 pub record HaveRoomFor (g : Grouping) (groups : List Group) : Type 0 where
   pub rows : List Row
   pub are : AreGroupsOf g rows groups

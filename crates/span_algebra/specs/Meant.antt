@@ -1,4 +1,4 @@
--- Queries where something that is made of the queries of their derived tables, as what they mean, stands in their place.
+-- Queries where each derived table is replaced by something made of its query, such as what it means.
 use Rattle.std.specs.Prelude.{List, map, Some}
 use Rattle.span_query.specs.declared.query.BoundQuery.{BoundQuery}
 use Rattle.span_query.specs.declared.query.Block.{Block}

@@ -10,7 +10,7 @@ abbrev pub source_rows : Source → List Row
 source_rows (Lent rows) = rows.now
 source_rows (Made rows) = rows
 
--- These are the rows that are meant, or it is the fault; nothing is said of want of memory.
+-- These are the rows that are meant, or it is the fault; nothing is stated where memory ran out.
 abbrev pub GivesRows : Result Source Failure → Rows → Type 0
 GivesRows (Ok source) o = o ≡ Some (source_rows source)
 GivesRows (Err Fault) o = o ≡ None

@@ -1,4 +1,4 @@
--- What a state of an aggregate says of the rows that it has taken.
+-- What holds of a state of an aggregate after the rows that it has taken.
 use Rattle.std.specs.Prelude.{◌≡◌, ℕ, ◌+◌, ◌<◌, ◌^◌, List, [], ◌∷◌, length, slice_get, Option, Some, None}
 use Rattle.std.specs.List.{fold}
 use Rattle.span_value.specs.declared.value.Value.{Value}
@@ -13,7 +13,7 @@ use Rattle.span_query.specs.Groups.{lesser, greater, total, operands, without_nu
 use Rattle.span_algebra.specs.declared.aggregate.State.{State}
 use Rattle.span_algebra.specs.declared.aggregate.State.TheVariants as state
 
--- how many it has counted
+-- the number of values that it has counted
 abbrev pub counted : State → ℕ
 counted (state.Count n) = n
 counted (state.Sum s) = s.values
@@ -24,7 +24,7 @@ abbrev pub best : (Value → Value → Value) → List Value → Option Value
 best better [] = None
 best better (v ∷ vs) = Some (fold better v vs)
 
--- the best so far, or the value behind it where that is better
+-- the best so far, or the value after it where that is better
 abbrev pub or_better : (Value → Value → Value) → Option Value → Value → Value
 or_better better None v = v
 or_better better (Some w) v = better w v
@@ -61,7 +61,7 @@ pub record AreStatesOf (aggregates : List Aggregate) (rows : List Row) (states :
   pub long : length states ≡ length aggregates
   pub each : (k : ℕ) (a : Aggregate) (s : State) → slice_get aggregates k ≡ Some a → slice_get states k ≡ Some s → IsStateOf a rows s
 
--- they have taken so few rows that one more can be counted
+-- the number of rows taken is so small that one more can be counted
 pub record HaveRoom (aggregates : List Aggregate) (states : List State) : Type 0 where
   pub rows : List Row
   pub are : AreStatesOf aggregates rows states

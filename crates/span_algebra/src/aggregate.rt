@@ -139,7 +139,7 @@ impl State {
         Ok(())
     }
 
-    /// What the values that were taken come to.
+    /// The result for the values that were taken.
     fn value(&self, alloc: Global) -> Result<Value, Failure>
         ensures values { (f : Function) (vs : List Value) → HasTaken f vs self.now → Gives result (value_of (spec.of_values f vs)) }
         ensures rows { (n : ℕ) → HasCounted n self.now → Gives result (value_of (number (pos n))) }

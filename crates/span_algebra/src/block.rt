@@ -30,7 +30,7 @@ fn outputs_of(alloc: Global, block: &Block<BoundQuery>, rows: &[Row]) -> Result<
     }
 }
 
-/// The rows that a block shows, of the rows of its FROM.
+/// The output rows of a block, from the rows of its FROM.
 pub(crate) fn shown(
     alloc: Global,
     block: &Block<BoundQuery>,

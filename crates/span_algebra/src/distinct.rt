@@ -1,4 +1,4 @@
-//! Rows that are alike, and each row once.
+//! Rows that are equal, and each row once.
 ghost use Rattle.std.specs.Prelude.{◌≡◌, IfOk, Some};
 ghost use Rattle.span_expr.specs.Operators.{column_of};
 ghost use Rattle.span_query.specs.Groups.{is_like, are_alike, distinct, columns_at};
@@ -11,14 +11,14 @@ use span_value::seq::Seq;
 use span_value::value::{Row, Value};
 use std::alloc::{AllocError, Global};
 
-/// Whether the two are the same value; NULL is like NULL.
+/// Whether the two are the same value; NULL equals NULL.
 pub(crate) fn is_like(left: &Value, right: &Value) -> bool
     ensures { result ≡ is_like left.now right.now }
 {
     compare(left, right).is_eq()
 }
 
-/// Whether the rows have as many values, each like the one at its place.
+/// Whether the rows have the same number of values, each equal to the one at its place.
 fn are_alike(left: &[Value], right: &[Value]) -> bool
     ensures { result ≡ are_alike left.now right.now }
 {
@@ -57,7 +57,7 @@ fn first_ones(alloc: Global, rows: Vec<Row>) -> Result<Vec<Row>, AllocError>
     Ok(kept)
 }
 
-/// Each row once, where it stands first.
+/// Each row once, at its first place.
 pub(crate) fn distinct(alloc: Global, rows: Seq<Row>) -> Result<Seq<Row>, Failure>
     ensures { Gives result (Some (distinct rows)) }
 {

@@ -29,7 +29,7 @@ struct Group {
     states: Vec<State>,
 }
 
-/// Whether the value is like the row's at a place; NULL stands at a place that the row has not.
+/// Whether the value equals the row's at a place; a place that the row does not have counts as NULL.
 fn is_like_at(value: &Value, row: &[Value], place: usize) -> bool
     ensures { result ≡ spec.is_like value.now (column_of row.now place) }
 {
@@ -54,7 +54,7 @@ fn has_key(key: &[Value], places: &[usize], row: &[Value]) -> bool
     true
 }
 
-/// The place of the group of the row, or how many groups there are.
+/// The place of the group of the row, or the number of groups.
 fn place_of(groups: &[Group], places: &[usize], row: &[Value]) -> usize
     ensures { result ≡ keys.place_of (keys_of groups.now) (spec.columns_at places.now row.now) }
 {
@@ -112,7 +112,7 @@ impl Group {
     }
 }
 
-/// The place of the group of the row, which is added behind the others where there was none.
+/// The place of the group of the row, which is added after the others where there was none.
 fn group_of(
     alloc: Global,
     grouping: &Grouping,

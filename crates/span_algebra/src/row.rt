@@ -68,7 +68,7 @@ pub(crate) fn copied(alloc: Global, row: &[Value]) -> Result<Row, AllocError>
     Ok(Seq::from_vec(extended(alloc, room, row)?))
 }
 
-/// A row, and so many NULLs behind it.
+/// A row, and `width` NULLs after it.
 #[tactic(auto, using(crate::proofs::Gathering::row_steps))]
 pub(crate) fn padded(alloc: Global, left: &[Value], width: usize) -> Result<Row, AllocError>
     ensures { IfOk result (λ row. row ≡ left.now ++ replicate width Value.Null) }

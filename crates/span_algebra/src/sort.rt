@@ -16,7 +16,7 @@ use span_value::seq::Seq;
 use span_value::value::{Row, Value};
 use std::cmp::Ordering;
 
-/// How two rows stand to each other by one key; a place that a row does not have counts as NULL. Nothing is copied.
+/// The order of two rows by one key; a place that a row does not have counts as NULL. Nothing is copied.
 fn compare_by_key(key: &SortKey, left: &[Value], right: &[Value]) -> Ordering
     ensures { result ≡ spec.key_order key.now left.now right.now }
 {
@@ -32,7 +32,7 @@ fn compare_by_key(key: &SortKey, left: &[Value], right: &[Value]) -> Ordering
     }
 }
 
-/// How two rows stand to each other, by the first key that tells them apart.
+/// The order of two rows, by the first key at which they differ.
 pub(crate) fn compare_rows(keys: &[SortKey], left: &[Value], right: &[Value]) -> Ordering
     ensures { result ≡ spec.row_order keys.now left.now right.now }
 {
@@ -45,7 +45,7 @@ pub(crate) fn compare_rows(keys: &[SortKey], left: &[Value], right: &[Value]) ->
     Ordering::Equal
 }
 
-/// The rows in the order of the keys. Rows that no key tells apart stay as they stood. The only error is want of memory.
+/// The rows in the order of the keys. Rows with equal keys keep their order. The only error is out of memory.
 pub(crate) fn sort_rows(keys: &[SortKey], rows: Seq<Row>) -> Result<Seq<Row>, Failure>
     ensures { Gives result (Some (spec.sorted keys.now rows)) }
 {
@@ -72,8 +72,8 @@ pub(crate) fn limited(limit: Option<Limit>, rows: Seq<Row>) -> Seq<Row>
     Seq::from_vec(rows)
 }
 
-/// A law, which takes no time: the rows that sorting gives are in the order of the keys, rows that no key tells apart stay as they
-/// stood, and no other list is so.
+/// A law, which takes no time: the rows that sorting gives are in the order of the keys, rows with equal keys keep their order,
+/// and no other list is so.
 pub fn sorting_is_stable()
     ensures ranked { (keys : List SortKey) → IsStrictWeakOrder (spec.comes_before keys) }
     ensures sorted { (keys : List SortKey) (rows : List Row) → IsInOrder (spec.comes_before keys) (spec.sorted keys rows) }

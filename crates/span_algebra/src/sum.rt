@@ -11,7 +11,7 @@ ghost use Rattle.span_algebra.specs.Answers.{Gives};
 use span_expr::cell::Failure;
 use span_value::value::Value;
 
-/// An exact sum, and how many values went in: so it stays far inside its 128 bits.
+/// An exact sum, and the number of its values: so it stays far inside its 128 bits.
 #[derive(Clone, Copy)]
 pub(crate) struct Sum {
     values: u64,

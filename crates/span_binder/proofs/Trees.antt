@@ -1,4 +1,4 @@
--- What trees of queries stand for, by what their parts stand for.
+-- The typed forms of trees of queries, by those of their parts.
 use Rattle.std.proofs.Common.{◌≡◌, List, [], ◌∷◌, map, refl, sym, ap, ◌∙◌, ℕ, Option, Result, Ok, subst}
 use Rattle.span_value.specs.declared.refusal.Refusal.{Refusal}
 use Rattle.span_schema.specs.declared.table.Table.{Table}
@@ -29,7 +29,7 @@ use Rattle.span_binder.specs.Queries.{ItemStep, JoinStep, BlockStep, QueryStep, 
 use Rattle.span_binder.proofs.Giving.{gives_on}
 
 module _ (schema : List Table) (params : List Parameter) where
-  -- ---- a layer of a tree, where what its parts stand for stands in their place
+  -- ---- a layer of a tree, where its parts are replaced by their typed forms
 
   pub table_is : (name : Spelling) (alias : Option Spelling) → item_step schema params (item.Table name alias) ≡ item_at schema (Item-F.Table name alias)
   unfolding item_step

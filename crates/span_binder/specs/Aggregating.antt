@@ -38,7 +38,7 @@ arm_calls a = a.condition || a.value
 abbrev pub link_calls : Link-F Bool Bool Bool → Bool
 link_calls l = l.operand
 
--- One layer of a tree, where whether each operand calls an aggregate stands in the operand's place.
+-- One layer of a tree, where each operand is replaced by whether it calls an aggregate.
 abbrev pub calls_at : Expr-F Bool Bool Bool → Bool
 calls_at (Expr-F.Integer n) = false
 calls_at (Expr-F.Str s) = false

@@ -1,4 +1,4 @@
--- The typed block that a tree of a block stands for behind its FROM: faults are looked for in its select list, its WHERE, its GROUP BY and its
+-- The typed block of a syntax tree, once its FROM is bound: faults are looked for in its select list, its WHERE, its GROUP BY and its
 -- HAVING.
 use Rattle.std.specs.Prelude.{ℕ, Bool, true, false, List, [], ◌∷◌, ◌++◌, map, Option, Some, None, Result, Ok, Err}
 use Rattle.span_value.specs.declared.refusal.Refusal.{Refusal}
@@ -37,7 +37,7 @@ abbrev pub place_in : Result ℕ Refusal → List ℕ
 place_in (Ok p) = p ∷ []
 place_in (Err why) = []
 
--- the grouped columns; a name that stands for no column, or for two, groups nothing
+-- the grouped columns; a name of no column, or of two, groups nothing
 unfoldable pub group_places : Scope → List Column → List ℕ
 group_places scope [] = []
 group_places scope (c ∷ cs) = place_in (column_place scope c) ++ group_places scope cs
@@ -56,7 +56,7 @@ unfoldable pub filter_of : Scope → List Parameter → Option Expr → Result (
 filter_of scope params None = Ok None
 filter_of scope params (Some e) = and_then (condition scope params e) (λ x. Ok (Some x))
 
--- HAVING speaks of rows of the groups; its aggregates stand behind those of the select list
+-- HAVING is at rows of the groups; its aggregates follow those of the select list
 unfoldable pub having_of : Scope → List Parameter → Option Expr → Finds (Option TypedExpr)
 having_of scope params None found = Ok (None, found)
 having_of scope params (Some e) found = and_then (typing scope params e Groups found) (λ p. and_then (judged p.0) (λ x. Ok (Some x, p.1)))
@@ -73,7 +73,7 @@ exprs_shown shown = map (λ (s : Shown). s.expr) shown
 abbrev pub columns_shown : List Shown → List OutputColumn
 columns_shown shown = map (λ (s : Shown). s.column) shown
 
--- the parts of a block behind its FROM
+-- the clauses of a block after its FROM
 pub record Behind : Type 0 where
   pub is_grouped : Bool
   pub is_distinct : Bool
@@ -99,7 +99,7 @@ behind_of on b =
 abbrev pub behind : Block → Behind
 behind b = behind_of (λ (j : Join). j.on) (out-Block b)
 
--- what is found behind the FROM, in the order in which faults are looked for
+-- the typed clauses after the FROM, in the order in which faults are looked for
 unfoldable pub parts_behind : Scope → List Parameter → Mode → Behind → Result Parts Refusal
 parts_behind scope params m b =
     and_then (select_list scope params m b.outputs) (λ shown.

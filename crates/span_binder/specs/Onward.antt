@@ -7,7 +7,7 @@ abbrev pub onward : {A X : Type 0} → (A → X → Result A Refusal) → List X
 onward step [] found = Ok found
 onward step (x ∷ xs) found = and_then (step found x) (onward step xs)
 
--- what each gives, behind the others
+-- what each gives, after the others
 abbrev pub behind : {A X : Type 0} → (X → Result A Refusal) → List A → X → Result (List A) Refusal
 behind f found x = and_then (f x) (λ a. Ok (found ++ (a ∷ [])))
 

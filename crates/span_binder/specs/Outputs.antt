@@ -1,4 +1,4 @@
--- What a block shows: the typed expressions of its select list, and their columns.
+-- The output of a block: the typed expressions of its select list, and their columns.
 use Rattle.std.specs.List.{range_with_len}
 use Rattle.std.specs.Prelude.{ℕ, ◌+◌, ◌==◌, List, [], ◌∷◌, ◌++◌, length, slice_get, Option, Some, None, Result, Ok, Err, if◌then◌else◌}
 use Rattle.span_value.specs.declared.refusal.Refusal.{Refusal}
@@ -72,7 +72,7 @@ output_shown scope params m output.All = given (all_shown scope m)
 output_shown scope params m (output.AllOf item) = given (item_shown scope m item.text)
 output_shown scope params m (output.Value e alias) = value_shown scope params m e alias
 
--- what one more thing of a select list shows, behind what was shown and the aggregates found before
+-- the output of one more item of a select list, after the output and the aggregates found before
 abbrev pub next_shown : Scope → List Parameter → Mode → List Shown × List Aggregate → Output → Result (List Shown × List Aggregate) Refusal
 next_shown scope params m so_far o = and_then (output_shown scope params m o so_far.1) (λ p. Ok (so_far.0 ++ p.0, p.1))
 

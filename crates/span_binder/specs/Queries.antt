@@ -1,5 +1,5 @@
--- The typed query that a tree stands for, or the first fault in it. In a block faults are looked for in the items of the FROM with
--- their ONs, the select list, WHERE, GROUP BY and HAVING; behind all blocks in the columns of the union; then in ORDER BY.
+-- The typed query of a syntax tree, or the first fault in it. In a block faults are looked for in the items of the FROM with
+-- their ONs, the select list, WHERE, GROUP BY and HAVING; after all blocks in the columns of the union; then in ORDER BY.
 use Rattle.std.specs.List.{list_all, zip}
 use Rattle.std.specs.Option.{option_map}
 use Rattle.std.specs.Prelude.{ℕ, ◌-◌, ◌==◌, nat_lt, Bool, ◌||◌, ◌&&◌, List, [], ◌∷◌, ◌++◌, length, map, Option, Result, Ok, Err, if◌then◌else◌}
@@ -71,7 +71,7 @@ sort_key columns k = and_then (sort_place columns k.column) (λ p. Ok (record { 
 unfoldable pub sort_keys : List OutputColumn → List SortKey → Result (List BoundKey) Refusal
 sort_keys columns ks = each_of (sort_key columns) ks
 
--- ---- queries behind their blocks
+-- ---- queries from their blocks
 
 abbrev pub limit_of : Limit → BoundLimit
 limit_of l = record { rows = l.rows; skip = l.skip }
@@ -98,7 +98,7 @@ with_block blocks b = record { first = blocks.first; others = blocks.others ++ (
 
 -- ---- trees
 
--- what the parts of a tree stand for
+-- the typed forms of the parts of a tree
 abbrev pub ItemStep : Type 0
 ItemStep = Naming Source
 
@@ -140,7 +140,7 @@ blocks first others leaves = and_then (and_then (first leaves) (λ p. Ok (only_b
 abbrev pub query_at : Query-F ItemStep BlockStep JoinStep QueryStep → QueryStep
 query_at q leaves = and_then (blocks q.first q.others leaves) (λ p. and_then (query_behind p.0 q.order q.limit) (λ b. Ok (b, p.1)))
 
--- what the trees stand for on these tables and with these parameters
+-- the typed forms of the trees on these tables and with these parameters
 unfoldable pub item_step : List Table → List Parameter → Item → ItemStep
 item_step schema params = fold-Item ItemStep BlockStep JoinStep QueryStep (item_at schema) (block_at params) join_at query_at
 

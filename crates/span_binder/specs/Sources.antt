@@ -1,4 +1,4 @@
--- The items of a FROM: the columns of each, and what the names stand for up to it.
+-- The items of a FROM: the columns of each, and what the names up to it refer to.
 use Rattle.std.specs.List.{All}
 use Rattle.std.specs.Option.{is_some}
 use Rattle.std.specs.Prelude.{ℕ, ◌+◌, nat_le, Bool, List, [], ◌∷◌, ◌++◌, length, map, Option, Some, None, Result, Ok, Err, if◌then◌else◌}
@@ -29,7 +29,7 @@ use Rattle.span_binder.specs.declared.bound.Source.{Source}
 use Rattle.span_binder.specs.declared.bound.FromItems.{FromItems}
 use Rattle.span_binder.specs.declared.bound.Bound.{Bound}
 
--- The tables named so far in a text go along it, by their numbers in the schema: its leaves.
+-- The tables named so far in a query are passed along it, by their numbers in the schema: its leaves.
 abbrev pub Naming : Type 0 → Type 0
 Naming A = Step (List ℕ) A
 
@@ -62,11 +62,11 @@ abbrev pub numbered_source : List Table → List ℕ → Option ℕ → Naming S
 numbered_source schema name None leaves = Err NoTable
 numbered_source schema name (Some n) leaves = Ok (table_source schema name (length leaves + 1) n, leaves ++ (n ∷ []))
 
--- how many table names a text may have
+-- the most table names that a query may have
 abbrev pub most_tables : ℕ
 most_tables = 8
 
--- one more table name of the text
+-- one more table name of the query
 abbrev pub named_source : List Table → Spelling → Option Spelling → Naming Source
 named_source schema name alias leaves =
     if nat_le most_tables (length leaves) then Err TooManyTables else numbered_source schema (name_or_alias name alias) (number_named schema name.text) leaves
@@ -95,7 +95,7 @@ has_item scope name = is_some (item_named scope name)
 abbrev pub judged : Typed → Result TypedExpr Refusal
 judged x = if takes kind.Bool x.kind then Ok x.expr else Err TypeMismatch
 
--- at rows of the FROM, where no aggregates may stand
+-- at rows of the FROM, where no aggregate is allowed
 unfoldable pub condition : Scope → List Parameter → Expr → Result TypedExpr Refusal
 condition scope params e = and_then (typing scope params e Rows []) (λ p. judged p.0)
 
@@ -110,7 +110,7 @@ join_of is_left s on = record { is_left = is_left; item = s.item; width = length
 abbrev pub with_join : FromItems → Bool → Source → TypedExpr → FromItems
 with_join f is_left s on = record { scope = with_names f.scope s; first = f.first; joins = f.joins ++ (join_of is_left s on ∷ []) }
 
--- one more item: its name is judged, and then its ON, which speaks of the items up to it
+-- one more item: its name is checked, and then its ON, which may use the items up to it
 abbrev pub extended : List Parameter → FromItems → Bool → Source → Expr → Result FromItems Refusal
 extended params f is_left s on =
     if has_item f.scope s.name then Err DuplicateAlias else and_then (condition (with_names f.scope s) params on) (λ e. Ok (with_join f is_left s e))

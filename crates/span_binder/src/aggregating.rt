@@ -158,7 +158,7 @@ pub(crate) fn is_grouped(
         || joins_call(joins)
 }
 
-/// Of what rows the select list of a block speaks.
+/// Which rows the select list of a block is evaluated at.
 pub(crate) fn mode_of(is_grouped: bool) -> Mode
     ensures { result ≡ spec.mode_of is_grouped }
 {

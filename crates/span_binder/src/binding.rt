@@ -1,7 +1,7 @@
-//! The typed query that a tree stands for.
+//! The typed query of a syntax tree.
 //!
 //! In a block faults are looked for in the items of the FROM with their ONs, from left to right, then in the select list, WHERE, GROUP BY
-//! and HAVING; behind all blocks of a query in the columns of its union, and then in its ORDER BY. The first fault is the refusal.
+//! and HAVING; after all blocks of a query in the columns of its union, and then in its ORDER BY. The first fault is the refusal.
 ghost use Rattle.std.specs.Prelude.{◌≡◌, map, IfOk};
 ghost use Rattle.span_typing.specs.Steps.{Gives, and_then};
 ghost use Rattle.span_binder.specs.Onward.{onward};
@@ -30,7 +30,7 @@ struct Binder<'a> {
 }
 
 impl Binder<'_> {
-    /// An item of a FROM, behind the leaves before it.
+    /// An item of a FROM, after the leaves before it.
     #[cycle(binding)]
     fn item(self, tree: &tree::Item, leaves: Seq<usize>) -> Result<(Source, Seq<usize>), Refusal>
         ensures meant { Gives result (spec.item_step self.entry.schema.now self.entry.params.now tree.now leaves) }
@@ -65,7 +65,7 @@ impl Binder<'_> {
         Ok(so_far)
     }
 
-    /// A block, behind the leaves before it.
+    /// A block, after the leaves before it.
     #[cycle(binding)]
     fn block(
         self,
@@ -98,7 +98,7 @@ impl Binder<'_> {
         Ok(so_far)
     }
 
-    /// A query, behind the leaves before it.
+    /// A query, after the leaves before it.
     #[cycle(binding)]
     fn query(self, tree: &tree::Query, leaves: Seq<usize>) -> Result<(Bound, Seq<usize>), Refusal>
         ensures meant { Gives result (spec.query_step self.entry.schema.now self.entry.params.now tree.now leaves) }
@@ -110,12 +110,12 @@ impl Binder<'_> {
     }
 }
 
-/// The typed query that a tree stands for on these tables and with these parameters, and its leaves: the tables of all its FROMs.
+/// The typed query of a syntax tree on these tables and with these parameters, and its leaves: the tables of all its FROMs.
 ///
-/// The error is the first of these faults in the tree, or want of memory:
-/// `TooManyTables`, the ninth table name of the text; `NoTable`, a name that no table has; `DuplicateAlias`, two items of a FROM with one
-/// name; `NoColumn` and `Ambiguous`, a name that stands for no column, or for two; `TypeMismatch`, operands of types that their operator
-/// does not take; `NotGrouped`, a column of a grouped block that is not in its GROUP BY, or an aggregate where none may stand;
+/// The error is the first of these faults in the tree, or out of memory:
+/// `TooManyTables`, the ninth table name of the query; `NoTable`, a name that no table has; `DuplicateAlias`, two items of a FROM with one
+/// name; `NoColumn` and `Ambiguous`, a name of no column, or of two; `TypeMismatch`, operands of types that their operator
+/// does not take; `NotGrouped`, a column of a grouped block that is not in its GROUP BY, or an aggregate where none is allowed;
 /// `BadPattern`, a LIKE pattern with a wrong escape; `NoParameter`, a parameter that was given no value; `ColumnsDiffer`, blocks of a union
 /// that differ in the number or types of their columns; `BadOrdinal`, an ordinal in ORDER BY of 0 or past the last column.
 pub fn bind(

@@ -1,4 +1,4 @@
-//! A block behind its FROM.
+//! The clauses of a block after its FROM.
 ghost use Rattle.std.specs.Prelude.{◌≡◌, Ok, IfOk};
 ghost use Rattle.span_typing.specs.Steps.{Gives, and_then};
 ghost use Rattle.span_binder.specs.Blocks as spec;
@@ -19,7 +19,7 @@ use span_value::seq::Seq;
 use sqlite_items::Items;
 use std::alloc::{AllocError, Global};
 
-/// The expressions and the columns of what is shown.
+/// The expressions and the columns of a select list.
 fn parted(alloc: Global, shown: Seq<Shown>) -> Result<(Items<Expr>, Seq<OutputColumn>), AllocError>
     ensures { IfOk result (λ parts. (parts.0 ≡ spec.exprs_shown shown) × (parts.1 ≡ spec.columns_shown shown)) }
 {
@@ -32,7 +32,7 @@ fn parted(alloc: Global, shown: Seq<Shown>) -> Result<(Items<Expr>, Seq<OutputCo
     Ok((Items::from_vec(exprs), Seq::from_vec(columns)))
 }
 
-/// What is found of a block behind its FROM. The error is the first in its select list, WHERE, GROUP BY and HAVING.
+/// The typed clauses of a block after its FROM. The error is the first in its select list, WHERE, GROUP BY and HAVING.
 #[tactic(auto, unfolding(crate::specs::Blocks::parts_behind))]
 fn parts_behind(names: Names<'_>, mode: Mode, tree: &tree::Block) -> Result<Parts, Refusal>
     ensures { Gives result (spec.parts_behind names.entry.scope.now names.entry.params.now mode (spec.behind tree.now)) }
@@ -88,7 +88,7 @@ fn block_of(
     })
 }
 
-/// A block behind its FROM.
+/// A block from its FROM and the places of its grouped columns.
 #[tactic(auto, unfolding(crate::specs::Blocks::block_in))]
 fn block_in(
     alloc: Global,
@@ -124,7 +124,7 @@ fn block_in(
     )?)
 }
 
-/// A block behind its FROM.
+/// A block from its FROM.
 #[tactic(auto, unfolding(crate::specs::Blocks::block_behind))]
 fn block_behind(
     alloc: Global,
@@ -138,7 +138,7 @@ fn block_behind(
     block_in(alloc, params, tree, from, keys)
 }
 
-/// A block behind its FROM, where that was found.
+/// A block from its FROM, where that was found.
 pub(crate) fn block_of_found(
     alloc: Global,
     params: &Params,

@@ -1,4 +1,4 @@
-//! What the binder finds on its way.
+//! The intermediate results of the binder.
 use span_expr::expr::Expr;
 use span_query::query::{Aggregate, Block, BoundQuery, Item, Join};
 use span_typing::scope::Scope;
@@ -15,7 +15,7 @@ pub struct OutputColumn {
     pub kind: Kind,
 }
 
-/// One of the things that a block shows.
+/// One output of a block: an expression of its select list, and its column.
 #[derive(Debug, Drop)]
 pub struct Shown {
     pub expr: Expr,
@@ -38,7 +38,7 @@ pub struct FromItems {
     pub joins: Items<Join<BoundQuery>>,
 }
 
-/// What is found of a block behind its FROM.
+/// The typed clauses of a block after its FROM.
 #[derive(Debug, Drop)]
 pub struct Parts {
     pub shown: Seq<Shown>,
@@ -59,7 +59,7 @@ pub struct BoundBlock {
 #[derive(Debug, Drop)]
 pub struct BoundBlocks {
     pub first: BoundBlock,
-    /// The blocks behind UNION ALL.
+    /// The blocks after UNION ALL.
     pub others: Seq<BoundBlock>,
 }
 

@@ -17,7 +17,7 @@ use span_value::seq::Seq;
 use sqlite_items::Items;
 use std::alloc::{AllocError, Global};
 
-/// The grouped columns, by their places in the FROM. A name that stands for no column, or for two, groups nothing.
+/// The grouped columns, by their places in the FROM. A name of no column, or of two, groups nothing.
 #[tactic(auto, unfolding(crate::specs::Blocks::group_places))]
 pub(crate) fn group_places(
     alloc: Global,
@@ -35,7 +35,7 @@ pub(crate) fn group_places(
     Ok(places)
 }
 
-/// The error is the first of a GROUP BY: `NoColumn` or `Ambiguous` for a name that stands for no column, or for two.
+/// The error is the first of a GROUP BY: `NoColumn` or `Ambiguous` for a name of no column, or of two.
 #[tactic(auto, unfolding(crate::specs::Blocks::groups_named))]
 pub(crate) fn groups_named(scope: &Scope, groups: &[Column]) -> Result<(), Refusal>
     ensures { result ≡ spec.groups_named scope.now groups.now }

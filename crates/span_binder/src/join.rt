@@ -131,7 +131,7 @@ pub(crate) fn condition(
     judged(typed)
 }
 
-/// One more join, behind those before it.
+/// One more join, after those before it.
 fn with_join(
     joins: Items<Join<BoundQuery>>,
     is_left: bool,
@@ -156,7 +156,7 @@ fn has_item(scope: &Scope, name: &str) -> bool
     item_named(scope, name).is_some()
 }
 
-/// One more item of a FROM: its name is judged, and then its ON, which speaks of the items up to it. The error is `DuplicateAlias`
+/// One more item of a FROM: its name is checked, and then its ON, which may use the items up to it. The error is `DuplicateAlias`
 /// where an item before has the name, or else one of the ON.
 fn extended(
     alloc: Global,

@@ -1,4 +1,4 @@
-//! Names and types of a query: the typed query that a tree stands for.
+//! Names and types of a query: the typed query of a syntax tree.
 #![tactic(auto)]
 
 mod aggregating;

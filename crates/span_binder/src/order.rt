@@ -1,4 +1,4 @@
-//! What stands behind the blocks of a query: the columns of a union, ORDER BY and LIMIT.
+//! What follows the blocks of a query: the columns of a union, ORDER BY and LIMIT.
 ghost use Rattle.std.specs.Prelude.{◌≡◌, ◌<◌, IfSome, IfOk, Ok, length, position};
 ghost use Rattle.std.specs.List.{list_any, list_all, zip};
 ghost use Rattle.std.specs.Option.{option_map};
@@ -33,7 +33,7 @@ fn are_alike(columns: &[OutputColumn], others: &[OutputColumn]) -> bool
         .all(|(column, other)| is_alike(column, other))
 }
 
-/// Whether columns are as many and of the same types.
+/// Whether the columns are the same in number and types.
 fn have_same_kinds(columns: &[OutputColumn], others: &[OutputColumn]) -> bool
     ensures { result ≡ spec.same_kinds columns.now others.now }
 {
@@ -181,8 +181,8 @@ fn query_of(
     })
 }
 
-/// A query behind its blocks. The error is `ColumnsDiffer` where a block gives other columns than the first, or else the first of the
-/// ORDER BY: `NoColumn`, `Ambiguous` or `BadOrdinal`; or want of memory.
+/// A query from its blocks. The error is `ColumnsDiffer` where a block gives other columns than the first, or else the first of the
+/// ORDER BY: `NoColumn`, `Ambiguous` or `BadOrdinal`; or out of memory.
 #[tactic(auto, unfolding(crate::specs::Queries::query_behind))]
 fn query_behind(
     alloc: Global,
@@ -199,7 +199,7 @@ fn query_behind(
     Ok(query_of(alloc, blocks, keys, limit)?)
 }
 
-/// A query behind its blocks, where these were found.
+/// A query from its blocks, where these were found.
 pub(crate) fn query_of_found(
     alloc: Global,
     found: Result<(BoundBlocks, Seq<usize>), Refusal>,

@@ -1,4 +1,4 @@
-//! What a block shows: the typed expressions of its select list, and their columns.
+//! The output of a block: the typed expressions of its select list, and their columns.
 ghost use Rattle.std.specs.Prelude.{◌≡◌, ◌++◌, ◌∷◌, [], Ok, IfOk, length, slice_get};
 ghost use Rattle.span_typing.specs.Steps.{Gives, and_then};
 ghost use Rattle.span_typing.specs.Scopes.{item_named as named};
@@ -20,10 +20,10 @@ use span_value::seq::Seq;
 use span_value::text::Text;
 use std::alloc::{AllocError, Global};
 
-/// What a select list shows so far, and the aggregates of the block so far.
+/// The output of a select list so far, and the aggregates of the block so far.
 pub(crate) type ShownSoFar = (Seq<Shown>, Seq<Aggregate>);
 
-/// Something that is shown, with the name of its column. A NULL literal is INT64.
+/// An expression of the output, with the name of its column. A NULL literal is INT64.
 fn shown(name: Option<Text>, typed: Typed) -> Shown
     ensures { result ≡ spec.shown name typed }
 {
@@ -55,7 +55,7 @@ fn column_shown(alloc: Global, scope: &Scope, mode: Mode, place: usize) -> Resul
     Ok(shown(name, typed))
 }
 
-/// What was found before, and one more behind it.
+/// What was found before, and one more after it.
 pub(crate) fn with_one<T: Drop>(
     before: Seq<T>,
     found: Result<T, Refusal>,
@@ -117,7 +117,7 @@ fn item_places(alloc: Global, scope: &Scope, name: &str) -> Result<Seq<usize>, R
     }
 }
 
-/// The name of the column that is shown: its alias, or else the name of a bare column.
+/// The name of an output column: its alias, or else the name of a bare column.
 fn name_shown(
     alloc: Global,
     tree: &Expr,
@@ -134,7 +134,7 @@ fn name_shown(
     }
 }
 
-/// An expression, behind the aggregates before it.
+/// An expression, after the aggregates before it.
 pub(crate) fn typed_behind(
     names: Names<'_>,
     mode: Mode,
@@ -183,7 +183,7 @@ fn value_shown(
     Ok((all, found))
 }
 
-/// What is shown, where no aggregate was found.
+/// The output of a star, which has no aggregate.
 fn beside(shown: Result<Seq<Shown>, Refusal>, found: Seq<Aggregate>) -> Result<ShownSoFar, Refusal>
     ensures { Gives result (and_then shown (λ x. Ok (x, found))) }
 {
@@ -209,7 +209,7 @@ fn output_shown(
     }
 }
 
-/// One more thing of a select list, behind those before it.
+/// One more item of a select list, after those before it.
 fn next_shown(
     names: Names<'_>,
     mode: Mode,
@@ -226,8 +226,8 @@ fn next_shown(
     Ok((Seq::from_vec(all), found))
 }
 
-/// What a select list shows, and the aggregates in it. The error is the first of its faults: `NoColumn`, `Ambiguous`, `TypeMismatch`,
-/// `NotGrouped`, `BadPattern` or `NoParameter`; or want of memory.
+/// The output of a select list, and the aggregates in it. The error is the first of its faults: `NoColumn`, `Ambiguous`, `TypeMismatch`,
+/// `NotGrouped`, `BadPattern` or `NoParameter`; or out of memory.
 #[tactic(auto, unfolding(crate::specs::Outputs::select_list))]
 pub(crate) fn select_list(
     names: Names<'_>,

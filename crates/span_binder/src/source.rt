@@ -15,7 +15,7 @@ use span_value::text::Text;
 use sqlite_items::Boxed;
 use std::alloc::{AllocError, Global};
 
-/// How many table names a text may have.
+/// The most table names that a query may have.
 pub const MOST_TABLES: usize = 8;
 
 /// The alias of a table, or else its name.
@@ -59,8 +59,8 @@ fn table_source(
     })
 }
 
-/// One more table name of a text, behind the leaves before it. The error is `TooManyTables` where there are `MOST_TABLES` of them,
-/// `NoTable` where no table has the name, or want of memory.
+/// One more table name of a query, after the leaves before it. The error is `TooManyTables` where there are `MOST_TABLES` of them,
+/// `NoTable` where no table has the name, or out of memory.
 pub(crate) fn named_source(
     alloc: Global,
     schema: &Schema,

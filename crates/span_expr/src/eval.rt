@@ -1,7 +1,7 @@
 //! What an expression comes to at a row.
 //!
-//! Evaluating lends what it reads and goes along chains of operators by loops, so that the depth of the recursion is bounded by the
-//! nesting of the text.
+//! Evaluating lends what it reads and walks chains of operators by loops, so that the depth of the recursion is bounded by the
+//! nesting of the query.
 ghost use Rattle.std.specs.Prelude.{◌≡◌, map, IfOk, IsOkUnless};
 ghost use Rattle.std.specs.List.{fold};
 ghost use Rattle.std.specs.Option.{option_map};
@@ -25,7 +25,7 @@ use span_value::value::Value;
 use sqlite_items::Boxed;
 use std::alloc::Global;
 
-/// What an expression comes to: a value, or why there is none.
+/// The result of an expression: a value, or why there is none.
 pub type Found<'a> = Result<Cell<'a>, Failure>;
 
 /// What an operand comes to as a condition.
@@ -88,7 +88,7 @@ fn compared<'a>(comparison: Comparison, left: Found<'a>, right: Found<'a>) -> Fo
     Ok(compare(comparison, &left?, &right?))
 }
 
-/// A comparison with an operand that stays.
+/// A comparison with an operand that is only borrowed.
 fn compared_lent<'a>(comparison: Comparison, left: &Found<'a>, right: Found<'a>) -> Found<'a>
     ensures { (o p : Outcome) → Gives left.now o → Gives right.entry p → Gives result (outcomes.strict (operators.compared comparison) o p) }
 {
@@ -140,7 +140,7 @@ fn liked<'a>(operand: Found<'a>, pattern: &[PatternPart]) -> Found<'a>
     }
 }
 
-/// What an expression comes to at a row. The error is `Fault` for an arithmetic error, or want of memory for a text that `||` makes.
+/// What an expression comes to at a row. The error is `Fault` for an arithmetic error, or out of memory for a string that `||` makes.
 #[cycle(eval)]
 pub fn evaluate<'a>(alloc: Global, expr: &'a Expr, row: &'a [Value]) -> Found<'a>
     ensures { Gives result (spec.val row.now expr.now) }
@@ -210,14 +210,14 @@ pub fn evaluate<'a>(alloc: Global, expr: &'a Expr, row: &'a [Value]) -> Found<'a
     }
 }
 
-/// An operator at what stands before it and its operand.
+/// An operator applied to the value so far and its operand.
 fn linked<'a>(alloc: Global, operator: Operator, so_far: Cell<'a>, operand: Found<'a>) -> Found<'a>
     ensures { (o : Outcome) → Gives operand.entry o → Gives result (outcomes.strict (operators.applied operator) (outcome.Val (shown so_far.entry)) o) }
 {
     apply(alloc, operator, so_far, &operand?)
 }
 
-/// A chain, behind its first operand.
+/// A chain, after its first operand.
 #[cycle(eval)]
 #[tactic(auto, using(crate::proofs::Loops::loop_steps))]
 fn chained<'a>(
@@ -236,7 +236,7 @@ fn chained<'a>(
     Ok(so_far)
 }
 
-/// An AND, behind its first operand.
+/// An AND, after its first operand.
 #[cycle(eval)]
 #[tactic(auto, using(crate::proofs::Loops::loop_steps))]
 fn all_of<'a>(alloc: Global, first: Found<'a>, more: &'a [Expr], row: &'a [Value]) -> Found<'a>
@@ -252,7 +252,7 @@ fn all_of<'a>(alloc: Global, first: Found<'a>, more: &'a [Expr], row: &'a [Value
     outcome_of(so_far)
 }
 
-/// An OR, behind its first operand.
+/// An OR, after its first operand.
 #[cycle(eval)]
 #[tactic(auto, using(crate::proofs::Loops::loop_steps))]
 fn any_of<'a>(alloc: Global, first: Found<'a>, more: &'a [Expr], row: &'a [Value]) -> Found<'a>
@@ -268,7 +268,7 @@ fn any_of<'a>(alloc: Global, first: Found<'a>, more: &'a [Expr], row: &'a [Value
     outcome_of(so_far)
 }
 
-/// An IN, behind its operand.
+/// An IN, after its operand.
 #[cycle(eval)]
 fn among<'a>(alloc: Global, operand: &Found<'a>, members: &'a [Expr], row: &'a [Value]) -> Found<'a>
     ensures { (o : Outcome) → Gives operand.now o → Gives result (spec.among o (map (spec.val row.now) members.now)) }
@@ -349,7 +349,7 @@ fn first_known<'a>(alloc: Global, operands: &'a [Expr], row: &'a [Value]) -> Fou
     Ok(Cell::Null)
 }
 
-/// What an expression comes to at a row, as a value of its own. The error is want of memory.
+/// What an expression comes to at a row, as an owned value. The error is out of memory.
 pub fn eval(alloc: Global, expr: &Expr, row: &[Value]) -> Result<Outcome, Refusal>
     ensures value { IfOk result (λ o. o ≡ spec.val row.now expr.now) }
     ensures memory { IsOkUnless result Refusal.OutOfMemory }

@@ -1,4 +1,4 @@
-//! What queries come to, worked out by hand. Tables and answers are texts: each row ends with `|`, and `-` is NULL.
+//! What queries come to, worked out by hand. Tables and answers are strings: each row ends with `|`, and `-` is NULL.
 //!
 //! To drop a tree takes the prover many steps. So a tree is handed on as the `Result` that it came in, and what may fail while one is held
 //! is done by functions over any type.
@@ -232,7 +232,7 @@ fn rows_that_where_drops(rt: HostRuntime) -> Result<(), Refusal> {
 #[test]
 fn faults_behind_where(rt: HostRuntime) -> Result<(), Refusal> {
     let a = rt.alloc();
-    // Only the row that WHERE keeps is shown, and so can fault there.
+    // Only the row that WHERE keeps is in the output, and so can fault there.
     for (n, wanted) in [(5, "3 |"), (4, FAULT)] {
         let shown = only(a, quotient(a, 0));
         let kept = select_where(a, shown, 1, is_number(a, 1, n));
@@ -247,7 +247,7 @@ const LEFT: &str = "1 10 | 2 20 | 3 30 |";
 
 const RIGHT: &str = "1 100 | 1 101 | 3 300 |";
 
-/// An item of so many columns, to be joined where a condition holds.
+/// An item of `width` columns, to be joined where a condition holds.
 fn join(
     is_left: bool,
     item: Result<Item<BoundQuery>, Refusal>,
@@ -319,7 +319,7 @@ fn where_behind_a_left_join(rt: HostRuntime) -> Result<(), Refusal> {
 #[test]
 fn faults_of_an_on(rt: HostRuntime) -> Result<(), Refusal> {
     let a = rt.alloc();
-    // ON is judged at every pair, also at one that WHERE would refuse.
+    // ON is evaluated at every pair, also at one that WHERE would refuse.
     let second = join(false, Ok(Item::Table(2)), 1, is_null_quotient(a, 1));
     let refused = joined(a, &[0], only(a, second), is_number(a, 0, 9).map(Some));
     assert!(rt; gives(a, refused, &["1 |", "2 | 0 |"], FAULT)?);
@@ -365,7 +365,7 @@ fn derived_tables(rt: HostRuntime) -> Result<(), Refusal> {
 #[test]
 fn nulls_of_a_derived_table(rt: HostRuntime) -> Result<(), Refusal> {
     let a = rt.alloc();
-    // The row of NULLs has the width of the derived table, so that table 3 stands behind it.
+    // The row of NULLs has the width of the derived table, so that table 3 follows it.
     let second = join(true, those_with(a, 3), 2, are_equal(a, 0, 2));
     let third = join(false, Ok(Item::Table(3)), 1, is_number(a, 4, 7));
     let three = joined(a, &[0, 3, 4], with(only(a, second), third), Ok(None));
@@ -572,7 +572,7 @@ fn ordered(
 
 const MIXED: &str = "2 1 | - 2 | 1 3 | 2 4 | - 5 | 1 6 |";
 
-/// NULL is first, or last where the values descend. Rows that no key tells apart stay as they stood.
+/// NULL is first, or last where the values descend. Rows with equal keys keep their order.
 const ORDERS: [(&[SortKey], &str); 3] = [
     (&[RISING], "- 2 | - 5 | 1 3 | 1 6 | 2 1 | 2 4 |"),
     (&[FALLING], "2 1 | 2 4 | 1 3 | 1 6 | - 2 | - 5 |"),
@@ -593,7 +593,7 @@ fn orders(rt: HostRuntime) -> Result<(), Refusal> {
     Ok(())
 }
 
-/// How many rows, behind how many others, of 6 DIV the column of a table. What LIMIT hides is computed before.
+/// LIMIT, OFFSET, a table, and the rows of 6 DIV its column that remain. What LIMIT hides is computed before.
 const LIMITS: [(u64, u64, &str, &str); 5] = [
     (2, 1, "1 | 2 | 3 | 6 |", "3 | 2 |"),
     (0, 1, "1 | 2 | 3 | 6 |", ""),

@@ -1,4 +1,4 @@
-//! What no clause says: texts judged by hand, and that the stack holds the deepest ones.
+//! Cases beyond the contracts: query texts checked by hand, and that the stack holds the deepest ones.
 use span_grammar::judge::Goal;
 use span_grammar::text::judge_text;
 use span_value::refusal::Refusal;
@@ -160,7 +160,7 @@ fn nesting(rt: HostRuntime) -> Result<(), Refusal> {
             "at {part}"
         );
     }
-    // The 33rd opening is judged where it stands, and a fault before it first.
+    // The 33rd opening is refused at its place, and a fault before it first.
     assert_eq!(rt;
         judge_text(
             a,

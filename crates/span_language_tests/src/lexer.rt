@@ -1,11 +1,11 @@
-//! What no clause says: the tokens of texts worked out by hand, the places of faults, and that calls succeed.
+//! Cases beyond the contracts: tokens worked out by hand, the places of faults, and that calls succeed.
 use span_lexer::lexer::{LONGEST_TEXT, Misread, tokens};
 use span_lexer::token::{Sign, Token, TokenKind, WORDS, Word};
 use span_lexer::word::reserved_word;
 use span_value::refusal::Refusal;
 use std::alloc::Global;
 
-/// The kinds of a text's tokens.
+/// The kinds of the tokens of a query text.
 fn kinds(alloc: Global, text: &str) -> Result<Vec<TokenKind>, Misread> {
     let mut kinds = Vec::new(alloc);
     for token in tokens(alloc, text)?.as_slice() {

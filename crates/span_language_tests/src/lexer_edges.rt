@@ -4,7 +4,7 @@ use span_lexer::token::TokenKind;
 use span_value::refusal::Refusal;
 use std::alloc::{AllocError, Global};
 
-/// Whether a text is one token of this kind.
+/// Whether a query text is one token of this kind.
 fn is_one(alloc: Global, text: &str, kind: TokenKind) -> bool {
     match tokens(alloc, text) {
         Ok(found) => match found.as_slice() {
@@ -15,7 +15,7 @@ fn is_one(alloc: Global, text: &str, kind: TokenKind) -> bool {
     }
 }
 
-/// Whether what a backslash stands before is one string, and one literal of bytes, in quotes of both kinds.
+/// Whether a backslash and this are one string, and one literal of bytes, in quotes of both kinds.
 fn are_literals(alloc: Global, escape: &str) -> Result<(bool, bool), AllocError> {
     let string = format!(in alloc; "'\\{escape}'")?;
     let double = format!(in alloc; "\"\\{escape}\"")?;
@@ -76,7 +76,7 @@ fn each_coded_character(rt: HostRuntime) -> Result<(), AllocError> {
     Ok(())
 }
 
-/// How many tokens a text has; else where none stands.
+/// The number of tokens of a query text; else the refusal and its place.
 fn count(alloc: Global, text: &str) -> Result<usize, (Refusal, usize)> {
     match tokens(alloc, text) {
         Ok(found) => Ok(found.len()),

@@ -1,6 +1,6 @@
-//! Tests of the crates of the language: what no clause says, and calls whose answers were worked out by hand.
+//! Tests of the crates of the language: cases beyond the contracts, and calls whose answers were worked out by hand.
 //!
-//! They stand in a crate of their own since a crate with tests is proved a second time for them.
+//! They are in a crate of their own since a crate with tests is proved a second time for them.
 #![tactic(auto)]
 
 #[cfg(test)]

@@ -1,15 +1,15 @@
-//! What literals stand for, worked out by hand.
+//! The values of literals, worked out by hand.
 use span_literal::literal::{bytes_of, text_of};
 use std::alloc::AllocError;
 
-/// A spelling, with the text that it stands for.
+/// A spelling, with the string that it represents.
 const TEXTS: [(&str, &str); 27] = [
     ("''", ""),
     ("\"\"", ""),
     ("'a'", "a"),
     ("\"it's\"", "it's"),
     ("'say \"no\"'", "say \"no\""),
-    // A character that stands for itself, also where an escape would have its letter.
+    // A character that represents itself, also where an escape would have its letter.
     ("'nrtxu'", "nrtxu"),
     ("'\\\\'", "\\"),
     ("'\\''", "'"),
@@ -31,7 +31,7 @@ const TEXTS: [(&str, &str); 27] = [
     ("'\\uffff'", "\u{ffff}"),
     ("'é€😀'", "é€😀"),
     ("'é\\u20ac😀\\n'", "é€😀\n"),
-    // Behind the code of four digits a fifth stands for itself.
+    // After the code of four digits a fifth represents itself.
     ("'\\u00410'", "A0"),
 ];
 
@@ -44,7 +44,7 @@ fn texts(rt: HostRuntime) -> Result<(), AllocError> {
     Ok(())
 }
 
-/// A spelling, with the bytes that it stands for.
+/// A spelling, with the bytes that it represents.
 const BYTES: [(&str, &[u8]); 13] = [
     ("b''", &[]),
     ("B\"\"", &[]),
@@ -86,7 +86,7 @@ fn each_byte_by_its_digits(rt: HostRuntime) -> Result<(), AllocError> {
 
 #[test]
 fn spellings_of_no_literal(rt: HostRuntime) -> Result<(), AllocError> {
-    // No literal has these. The definition says what they stand for, so that every text stands for something.
+    // No literal is spelt so. The definition gives these a value too, so that every spelling has one.
     let cases = [
         ("", ""),
         ("'", ""),

@@ -34,7 +34,7 @@ fn names_of_either_case(rt: HostRuntime) -> Result<(), Refusal> {
     assert!(rt; has_number(&params, "Limit", Kind::Int, 3));
     assert!(rt; has_number(&params, "OTHER", Kind::Int, 2));
     assert!(rt; params.find("limi").is_none());
-    // Letters beyond ASCII are alike only where they are the same.
+    // Letters beyond ASCII are equal only where they are the same.
     params.add(text(a, "é")?, Kind::Int, Value::Int(4))?;
     assert!(rt; params.find("É").is_none());
     Ok(())

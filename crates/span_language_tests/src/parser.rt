@@ -1,4 +1,4 @@
-//! Queries read as trees, worked out by hand; where a refusal stands; that the stack holds the deepest tree.
+//! Queries read as trees, worked out by hand; the places of refusals; that the stack holds the deepest tree.
 use span_lexer::lexer::Misread;
 use span_parser::parse::parse_select;
 use span_parser::tree::{Item, Limit, Output, Query, SortColumn, SortKey};
@@ -9,7 +9,7 @@ use std::alloc::{AllocError, Global};
 /// Drops a value, out of the tests' own sight: to drop a tree takes many steps.
 fn discard<T: Drop>(_value: T) {}
 
-/// The refusal of a text and its place, if it is refused.
+/// The refusal of a query text and its place, if it is refused.
 fn refused(alloc: Global, text: &str) -> Option<(Refusal, usize)> {
     match parse_select(alloc, text).err() {
         Some(Misread { refusal, place }) => Some((refusal, place)),
@@ -32,7 +32,7 @@ fn repeated(
     Ok(text)
 }
 
-/// The expression that a query shows at a place, counted from 0.
+/// The output expression of a query at a place, counted from 0.
 fn shown(query: &Query, place: usize) -> Option<&Expr> {
     match query.first.outputs.as_slice().get(place) {
         Some(Output::Value(value, _)) => Some(value),
@@ -45,7 +45,7 @@ fn is_spelt(spelling: &Spelling, text: &str) -> bool {
     spelling.text.as_str() == text
 }
 
-/// Whether the first of FROM is this table with this alias, and where its name stands.
+/// Whether the first of FROM is this table with this alias, and its name has this span.
 fn is_from(query: &Query, table: &str, alias: &str, span: (usize, usize)) -> bool {
     match &query.first.from {
         Item::Table(name, Some(other)) => {
@@ -194,7 +194,7 @@ fn literals_and_columns(rt: HostRuntime) -> Result<(), Misread> {
     Ok(())
 }
 
-/// Whether it is a call of this name with so many operands.
+/// Whether it is a call of this name with `operands` operands.
 fn is_call(expr: Option<&Expr>, name: &str, operands: usize) -> bool {
     match expr {
         Some(Expr::Call(spelling, found)) => is_spelt(spelling, name) && found.len() == operands,
@@ -202,7 +202,7 @@ fn is_call(expr: Option<&Expr>, name: &str, operands: usize) -> bool {
     }
 }
 
-/// Whether it is a CASE with so many arms, with an operand and ELSE or with neither.
+/// Whether it is a CASE with `arms` arms, with an operand and ELSE or with neither.
 fn is_case(expr: Option<&Expr>, arms: usize, is_full: bool) -> bool {
     match expr {
         Some(Expr::Case(operand, found, otherwise)) => {

@@ -1,4 +1,4 @@
-//! The answers to whole texts: to each beginning of a text, to reserved words where a name may stand, to texts at a limit.
+//! The answers to whole query texts: to each beginning of one, to reserved words where a name is allowed, to queries at a limit.
 use span_parser::parse::parse_select;
 use span_parser::tree::Output;
 use span_syntax::tree::Expr;
@@ -11,7 +11,7 @@ const TEXT: &str =
 const END: usize = usize::MAX;
 
 /// The answers to the beginnings of the text, by what `tests/recogniser.py` makes of the grammar in docs/SQL.md: up to how many
-/// bytes, the number, and where it stands. `tests/recogniser.py write` writes them, `tests/recogniser.py check` compares.
+/// bytes, the number, and its place. `tests/recogniser.py write` writes them, `tests/recogniser.py check` compares.
 const ANSWERS: [(usize, u8, usize); 25] = [
     (0, 3, END),
     (5, 3, 0),
@@ -40,7 +40,7 @@ const ANSWERS: [(usize, u8, usize); 25] = [
     (84, 0, 0),
 ];
 
-/// The number that a text is answered and where it stands; 0 and 0 where it is read.
+/// The number that a query text is answered and its place; 0 and 0 where it is read.
 fn answer(alloc: Global, text: &str) -> (u8, usize) {
     match parse_select(alloc, text).err() {
         Some(why) if why.place == text.len() => (why.refusal.number(), END),
@@ -49,7 +49,7 @@ fn answer(alloc: Global, text: &str) -> (u8, usize) {
     }
 }
 
-/// What the table above has for the beginning of so many bytes.
+/// The answer in the table above for the beginning of `length` bytes.
 fn answer_in_table(length: usize) -> Option<(u8, usize)> {
     for (end, number, place) in ANSWERS {
         if length <= end {
@@ -78,7 +78,7 @@ const RESERVED: [&str; 36] = [
     "WHEN", "WHERE",
 ];
 
-/// What stands before a name and behind it, and the number by which a reserved word is refused there.
+/// The words before a name and after it, and the number by which a reserved word is refused there.
 const AROUND: [(&str, &str, u8); 8] = [
     ("SELECT a FROM ", "", 3),
     ("SELECT a FROM t JOIN ", " ON TRUE", 3),
@@ -94,7 +94,7 @@ const AROUND: [(&str, &str, u8); 8] = [
 fn reserved_words(rt: HostRuntime) -> Result<(), AllocError> {
     let a = rt.alloc();
     for (before, behind, number) in AROUND {
-        // A bad token stands at the `@`, one byte before the word.
+        // The bad token is at the `@`, one byte before the word.
         let place = if number == 2 {
             before.len() - 1
         } else {
@@ -130,9 +130,9 @@ fn ends_and_integers(rt: HostRuntime) {
         ),
         ("SELECT a FROM t LIMIT 9223372036854775808", 2, 22),
         ("SELECT a FROM t ORDER BY 18446744073709551616", 2, 25),
-        // A bad token is answered before what stands before it in the text.
+        // A bad token is reported before the faults that precede it.
         ("SELECT FROM 9223372036854775808", 2, 12),
-        // A name before `.*` is at fault only where no name may stand; else the dot or the star is.
+        // A name before `.*` is at fault only where no name is allowed; else the dot or the star is.
         ("SELECT -max.* FROM t", 3, 12),
         ("SELECT a b.* FROM t", 3, 10),
         ("SELECT a FROM t LIMIT 1 offset.*", 3, 30),
@@ -144,7 +144,7 @@ fn ends_and_integers(rt: HostRuntime) {
     }
 }
 
-/// So many times this, a part behind it, and so many times that.
+/// `before` repeated `times` times, the part, and `behind` repeated as often.
 fn within(
     alloc: Global,
     before: &str,

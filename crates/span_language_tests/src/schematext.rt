@@ -1,4 +1,4 @@
-//! Schemas read from texts, worked out by hand.
+//! Schemas read from their texts, worked out by hand.
 use span_lexer::lexer::Misread;
 use span_schema::table::Table;
 use span_schematext::text::{parse_schema, parse_tables};

@@ -1,4 +1,4 @@
-//! The answers to whole texts: to each beginning of a schema, and to reserved words where a name stands.
+//! The answers to whole schemas: to each beginning of one, and to reserved words in the place of a name.
 use span_schematext::text::{parse_schema, parse_tables};
 use std::alloc::{AllocError, Global};
 
@@ -9,7 +9,7 @@ const TEXT: &str =
 const END: usize = usize::MAX;
 
 /// The answers to the beginnings of the text, by what `tests/recogniser.py` makes of the grammar in docs/SQL.md and of the rules of
-/// schemas: up to how many bytes, the number, and where it stands. `tests/recogniser.py write` writes them,
+/// schemas: up to how many bytes, the number, and its place. `tests/recogniser.py write` writes them,
 /// `tests/recogniser.py check` compares.
 const ANSWERS: [(usize, u8, usize); 60] = [
     (0, 3, END),
@@ -74,7 +74,7 @@ const ANSWERS: [(usize, u8, usize); 60] = [
     (231, 0, 0),
 ];
 
-/// The number that a text is answered, 0 where it is a schema, and where it has no tree, 0 where it has one.
+/// The number that a schema text is answered, 0 where it is a schema, and where it has no tree, 0 where it has one.
 fn answer(alloc: Global, text: &str) -> (u8, usize) {
     let number = match parse_schema(alloc, text).err() {
         Some(why) => why.number(),
@@ -87,7 +87,7 @@ fn answer(alloc: Global, text: &str) -> (u8, usize) {
     }
 }
 
-/// What the table above has for the beginning of so many bytes.
+/// The answer in the table above for the beginning of `length` bytes.
 fn answer_in_table(length: usize) -> Option<(u8, usize)> {
     for (end, number, place) in ANSWERS {
         if length <= end {
@@ -116,7 +116,7 @@ const RESERVED: [&str; 36] = [
     "WHEN", "WHERE",
 ];
 
-/// What stands before a name and behind it, and the answer where the name is `a`.
+/// The words before a name and after it, and the answer where the name is `a`.
 const AROUND: [(&str, &str, u8); 4] = [
     ("CREATE TABLE ", " (a INT64) PRIMARY KEY (a)", 0),
     ("CREATE TABLE t (", " INT64) PRIMARY KEY (a)", 0),

@@ -1,4 +1,4 @@
--- A parameter is added in the place of the one with its name, or behind the others.
+-- A parameter is added in the place of the one with its name, or after the others.
 use Rattle.std.proofs.Common.{◌≡◌, ◌∙◌, sym, refl, ap, ℕ, zero, suc, ◌+◌, ◌<◌, Bool, true, false, if◌then◌else◌, List, [], ◌∷◌, ◌++◌, length, arith, Some, None}
 use Rattle.std.specs.Prelude.{slice_set}
 use Rattle.std.specs.List.{position_from}

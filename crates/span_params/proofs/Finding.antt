@@ -39,7 +39,7 @@ in_place : {A : Type 0} (new old behind : A) (t u : Bool) → u ≡ t → (if t 
 in_place new old behind true u is = refl
 in_place new old behind false u is = ap (λ (v : Bool). if v then old else behind) (sym is)
 
--- one stands before the other
+-- one is before the other
 apart : {A : Type 0} (new other behind : A) (t u : Bool) → (t ≡ true → u ≡ false) → (if u then other else (if t then new else behind)) ≡ (if t then new else (if u then other else behind))
 apart new other behind true u no_two = ap (λ (v : Bool). if v then other else new) (no_two refl)
 apart new other behind false u no_two = refl

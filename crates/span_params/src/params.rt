@@ -13,7 +13,7 @@ use span_value::value::{Kind, Value};
 use std::alloc::Global;
 use std::marker::Model;
 
-/// A parameter: its name, without the `@` that stands before it in a query, its type and its value.
+/// A parameter: its name, without the `@` that precedes it in a query, its type and its value.
 #[derive(Debug, Drop, PartialEq, Eq)]
 pub struct Parameter {
     pub name: Text,
@@ -21,7 +21,7 @@ pub struct Parameter {
     pub value: Value,
 }
 
-/// The parameters of a query. No two have one name; ASCII letters of either case are alike.
+/// The parameters of a query. No two have one name; ASCII letters of either case are equal.
 #[derive(Debug, Drop, PartialEq, Eq)]
 pub struct Params {
     parameters: Seq<Parameter>,
@@ -54,7 +54,7 @@ fn parameter_named<'a>(parameters: &'a [Parameter], name: &str) -> Option<&'a Pa
 }
 
 impl Parameter {
-    /// An equal parameter, or the refusal for want of memory.
+    /// An equal parameter, or the refusal where memory runs out.
     pub fn copy(&self, alloc: Global) -> Result<Parameter, Refusal>
         ensures ok { IfOk result (λ copy. copy ≡ self.now) }
         ensures memory { IsOkUnless result Refusal.OutOfMemory }
@@ -91,7 +91,7 @@ impl Params {
         parameter_named(self.parameters.as_slice(), name)
     }
 
-    /// Adds a parameter, in the place of the one with its name if there is one, else behind the others.
+    /// Adds a parameter, in the place of the one with its name if there is one, else after the others.
     ///
     /// `WrongType`: the value is neither NULL nor of the type. `OutOfMemory`: there is no memory for one more. A refusal leaves
     /// the parameters as they were.
@@ -114,7 +114,7 @@ impl Params {
         Ok(())
     }
 
-    /// An equal value, or the refusal for want of memory.
+    /// An equal value, or the refusal where memory runs out.
     pub fn copy(&self, alloc: Global) -> Result<Params, Refusal>
         ensures ok { IfOk result (λ copy. copy ≡ self.now) }
         ensures memory { IsOkUnless result Refusal.OutOfMemory }

@@ -1,4 +1,4 @@
--- Rows that are alike, groups by first appearance, and what is made of a group.
+-- Rows that are equal, groups by first appearance, and the row of a group with its aggregates.
 use Rattle.std.specs.Prelude.{ℕ, ℤ, pos, ◌+ℤ◌, Bool, true, false, not, ◌&&◌, List, [], ◌∷◌, ◌++◌, length, map, filter, Option, Some, None, if◌then◌else◌}
 use Rattle.std.specs.List.{fold}
 use Rattle.std.specs.Ordering.{is_lt, is_gt, is_eq}
@@ -18,9 +18,9 @@ use Rattle.span_query.specs.declared.query.Function.TheVariants.{Count, Sum, Min
 use Rattle.span_query.specs.declared.query.Grouping.{Grouping}
 use Rattle.span_query.specs.Rows.{Row, OrFault, Rows, ◌>>=◌, value_of, each, kept_where}
 
--- ---- rows that are alike
+-- ---- rows that are equal
 
--- NULL is like NULL
+-- NULL equals NULL
 abbrev pub is_like : Value → Value → Bool
 is_like v w = is_eq (value_order v w)
 
@@ -29,7 +29,7 @@ are_alike [] [] = true
 are_alike (v ∷ vs) (w ∷ ws) = is_like v w && are_alike vs ws
 are_alike vs ws = false
 
--- each once, where it stands first
+-- each once, at its first place
 abbrev pub distinct : List Row → List Row
 distinct [] = []
 distinct (x ∷ xs) = x ∷ filter (λ (y : Row). not (are_alike x y)) (distinct xs)

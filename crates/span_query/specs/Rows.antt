@@ -11,11 +11,11 @@ use Rattle.span_expr.specs.Meaning.{val}
 abbrev pub Row : Type 0
 Row = List Value
 
--- something, or the fault, which None stands for
+-- something, or the fault, which None represents
 abbrev pub OrFault : Type 0 → Type 0
 OrFault A = Option A
 
--- what comes of it; a fault stays one
+-- the next step at it; a fault stays a fault
 abbrev pub and_then : {A B : Type 0} → OrFault A → (A → OrFault B) → OrFault B
 and_then (Some x) next = next x
 and_then None next = None
@@ -64,7 +64,7 @@ only_if x false = []
 abbrev pub holds : Expr → Row → OrFault Bool
 holds e row = value_of (val row e) >>= (λ v. Some (is_true v))
 
--- the rows at which the condition is TRUE; it is judged at each
+-- the rows at which the condition is TRUE; it is evaluated at each
 abbrev pub kept : Expr → List Row → Rows
 kept e rows = gathered (λ row. holds e row >>= (λ b. Some (only_if row b))) rows
 

@@ -21,7 +21,7 @@ or_next o next = o
 abbrev pub key_order : SortKey → Row → Row → Ordering
 key_order key r s = turned key.is_descending (value_order (column_of r key.column) (column_of s key.column))
 
--- by the first key that tells them apart
+-- by the first key at which they differ
 abbrev pub row_order : List SortKey → Row → Row → Ordering
 row_order [] r s = Equal
 row_order (key ∷ keys) r s = or_next (key_order key r s) (row_order keys r s)
@@ -34,7 +34,7 @@ abbrev pub placed : {A : Type 0} → (A → A → Bool) → A → List A → Lis
 placed before x [] = x ∷ []
 placed before x (y ∷ ys) = if before y x then y ∷ placed before x ys else x ∷ y ∷ ys
 
--- the list in order; items of which neither comes before the other stay as they stood
+-- the list in order; items of which neither comes before the other keep their order
 abbrev pub in_order : {A : Type 0} → (A → A → Bool) → List A → List A
 in_order before [] = []
 in_order before (x ∷ xs) = placed before x (in_order before xs)

@@ -3,11 +3,11 @@ use span_expr::expr::Expr;
 use span_value::seq::Seq;
 use sqlite_items::{Boxed, Items};
 
-/// What a text asks: its query, and the tables that it reads.
+/// A statement: its query, and the tables that it reads.
 #[derive(Debug, Drop)]
 pub struct Statement {
     pub query: BoundQuery,
-    /// The leaves: the tables of all FROMs by their numbers in the schema, in the order of the text. A table that is named twice is
+    /// The leaves: the tables of all FROMs by their numbers in the schema, in the order of the query text. A table that is named twice is
     /// two leaves.
     pub leaves: Seq<usize>,
 }
@@ -16,7 +16,7 @@ pub struct Statement {
 #[derive(Debug, Drop)]
 pub struct BoundQuery {
     pub first: Block<BoundQuery>,
-    /// The blocks behind UNION ALL.
+    /// The blocks after UNION ALL.
     pub others: Items<Block<BoundQuery>>,
     pub order: Items<SortKey>,
     pub limit: Option<Limit>,
@@ -30,12 +30,12 @@ pub struct Block<Q> {
     /// WHERE, at a row of the FROM.
     pub filter: Option<Expr>,
     pub grouping: Option<Grouping>,
-    /// What is shown: at a row of the FROM or, of a grouped block, at a row of the groups.
+    /// The select list: at a row of the FROM or, of a grouped block, at a row of the groups.
     pub outputs: Items<Expr>,
     pub is_distinct: bool,
 }
 
-/// What stands in a FROM.
+/// An item of a FROM.
 #[derive(Debug, Drop)]
 pub enum Item<Q> {
     /// The leaf with this number; the first has number 1.
@@ -47,10 +47,10 @@ pub enum Item<Q> {
 /// A further item of a FROM, and how its rows join those to their left.
 #[derive(Debug, Drop)]
 pub struct Join<Q> {
-    /// Whether a row to the left that meets none stays, with NULLs.
+    /// Whether a row to the left that has no match is kept, with NULLs.
     pub is_left: bool,
     pub item: Item<Q>,
-    /// How many columns the item has.
+    /// The number of columns of the item.
     pub width: usize,
     /// The condition, at a row of the items up to this one.
     pub on: Expr,
@@ -66,10 +66,10 @@ pub struct Grouping {
     pub having: Option<Expr>,
 }
 
-/// What is made of the rows of a group. The operand is at a row of the FROM.
+/// An aggregate of the rows of a group. The operand is at a row of the FROM.
 #[derive(Debug, Drop)]
 pub enum Aggregate {
-    /// How many rows there are.
+    /// The number of rows.
     CountRows,
     /// Of a function of the operand's values that are not NULL.
     Of(Function, Expr),
@@ -91,11 +91,11 @@ pub struct SortKey {
     pub is_descending: bool,
 }
 
-/// Which rows are given.
+/// Which of the rows are returned.
 #[derive(Clone, Copy, Debug, PartialEq, Eq)]
 pub struct Limit {
-    /// How many, at most.
+    /// The number of rows, at most.
     pub rows: u64,
-    /// How many are passed over first.
+    /// The number of rows that are skipped first.
     pub skip: u64,
 }

@@ -1,4 +1,4 @@
--- What the one type of several operands says of each.
+-- What the one type of several operands implies for each.
 use Rattle.std.proofs.Common.{◌≡◌, refl, subst, true, false, Bool, if◌then◌else◌, List, [], ◌∷◌, Option, Some, None, Result, Ok, Err}
 use Rattle.span_value.specs.declared.value.Kind.{Kind}
 use Rattle.span_value.specs.declared.value.Kind.TheVariants as kind
@@ -27,7 +27,7 @@ pub made_if : {A : Type 0} (P : A → Type 0) (b : Bool) (x : A) (why : Refusal)
 made_if P true x why follows = follows refl
 made_if P false x why follows = tt {0}
 
--- an operand of the second type can stand wherever one of the first can
+-- an operand of the second type fits wherever one of the first does
 abbrev pub Covers : Option Kind → Option Kind → Type 0
 Covers j k = (wanted : Kind) → takes wanted j ≡ true → takes wanted k ≡ true
 
@@ -73,7 +73,7 @@ abbrev pub AllOf : {A : Type 0} → (A → Type 0) → List A → Type 0
 AllOf P [] = Unit {0}
 AllOf P (x ∷ xs) = P x × AllOf P xs
 
--- an operand of the type can stand where this is wanted
+-- an operand of the type fits where this is wanted
 abbrev pub Takes : Kind → Option Kind → Type 0
 Takes wanted k = takes wanted k ≡ true
 
@@ -81,7 +81,7 @@ pub all_take : (wanted : Kind) (j : Option Kind) (ks : List (Option Kind)) → t
 all_take wanted j [] is all = tt {0}
 all_take wanted j (k ∷ ks) is all = (all.0 wanted is, all_take wanted j ks is all.1)
 
--- one of its type can stand where its type is wanted
+-- one of its type fits where its type is wanted
 pub takes_own : (j : Option Kind) → takes (or_int j) j ≡ true
 unfolding or_int
 takes_own None = refl

@@ -1,4 +1,4 @@
--- The binder's types are right: what each form of a tree stands for is typed, where its operands are.
+-- The binder's types are right: the typed form of each form of a tree is typed, where its operands are.
 use Rattle.std.proofs.Common.{◌≡◌, ◌∙◌, sym, refl, subst, true, false, Bool, if◌then◌else◌, List, [], ◌∷◌, ◌++◌, length, map, drop, ℕ, ◌+◌, Option, Some, None, Result, Ok, Err}
 use Rattle.std.specs.Prelude.{find}
 use Rattle.span_value.specs.declared.value.Kind.{Kind}
@@ -113,7 +113,7 @@ module _ (scope : Scope) where
   abbrev At : Mode → List Kind → Typed → Type 0
   At m kinds x = IsTyped (row_types scope m kinds) x
 
-  -- what an operand stands for is typed, and so are the aggregates in it
+  -- the typed form of an operand is typed, and so are the aggregates in it
   abbrev Sound : Operand → Type 0
   Sound a = (m : Mode) (kinds : List Kind) → Keeps From (At m) kinds (a m)
 

@@ -1,4 +1,4 @@
--- Steps along a text that find typed things, and aggregates on their way.
+-- Steps along a query that find typed things, and aggregates on their way.
 use Rattle.std.proofs.Common.{◌≡◌, ◌∙◌, sym, ap, refl, subst, List, [], ◌∷◌, ◌++◌, Result, Ok, Err, append_assoc}
 use Rattle.std.proofs.lemmas.List.{append-nil}
 use Rattle.std.specs.List.{fold}
@@ -14,7 +14,7 @@ use Rattle.span_soundness.proofs.Agreeing.{Made, AllOf}
 abbrev pub Claim : Type 0 → Type 1
 Claim A = List Kind → A → Type 0
 
--- it holds whatever aggregates are found behind these
+-- it holds whatever aggregates are found after these
 abbrev pub Always : {A : Type 0} → (List Kind → A → Type 0) → List Kind → A → Type 0
 Always R kinds x = (later : List Kind) → R (kinds ++ later) x
 
@@ -28,7 +28,7 @@ module _ (types : List Kind) where
   both_are_of (a ∷ found) [] new more are news = absurd are
   both_are_of (a ∷ found) (k ∷ ks) new more are news = (are.0, both_are_of found ks new more are.1 news)
 
-  -- what a step leads to: typed aggregates behind those found before, and something of which this holds
+  -- what a step leads to: typed aggregates after those found before, and something of which this holds
   abbrev pub Leads : {A : Type 0} → (List Kind → A → Type 0) → List Aggregate → List Kind → Result (A × List Aggregate) Refusal → Type 0
   Leads R found kinds (Ok p) = (new : List Aggregate) × (more : List Kind) × (p.1 ≡ found ++ new) × AreAggregatesOf types new more × Always R (kinds ++ more) p.0
   Leads R found kinds (Err why) = Unit {0}
@@ -36,7 +36,7 @@ module _ (types : List Kind) where
   abbrev pub Keeps : {A : Type 0} → (List Kind → A → Type 0) → List Kind → Finds A → Type 0
   Keeps R kinds step = (found : List Aggregate) → AreAggregatesOf types found kinds → Leads R found kinds (step found)
 
-  -- from behind more aggregates
+  -- from after more aggregates
   further : {A : Type 0} (R : List Kind → A → Type 0) (found new g : List Aggregate) (kinds more : List Kind) (o : Result (A × List Aggregate) Refusal) → g ≡ found ++ new → AreAggregatesOf types new more → Leads R g (kinds ++ more) o → Leads R found kinds o
   further R found new g kinds more (Err why) is news leads = tt {0}
   further R found new g kinds more (Ok p) is news leads = (

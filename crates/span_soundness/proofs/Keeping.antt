@@ -159,7 +159,7 @@ applied_kept Multiply k v w operand is = number_applied Multiply k v w operand (
 applied_kept Divide k v w operand is = number_applied Divide k v w operand (calculated_kept Divide v w)
 applied_kept Modulo k v w operand is = number_applied Modulo k v w operand (calculated_kept Modulo v w)
 
--- what stands in a chain is of its type
+-- each operand of a chain is of its type
 abbrev AllLinks : Kind → List (Link Outcome) → Type 0
 AllLinks k [] = Unit {0}
 AllLinks k (link ∷ links) = (is_operand link.operator k ≡ true) × IsOutcomeOf k link.operand × AllLinks k links

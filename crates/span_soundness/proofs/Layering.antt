@@ -1,4 +1,4 @@
--- A layer of a query, where something else stands in the place of the queries of its derived tables.
+-- A layer of a query, where the queries of its derived tables are replaced by something else.
 use Rattle.std.proofs.Common.{◌≡◌, ◌∙◌, sym, ap, refl, subst, ℕ, Bool, true, List, [], ◌∷◌, ◌++◌, length, map}
 use Rattle.span_value.specs.declared.value.Kind.{Kind}
 use Rattle.span_value.specs.declared.value.Kind.TheVariants as kind

@@ -129,7 +129,7 @@ module _ (types : List Kind) where
       let parts : (is_link_of k (link_type types l) ≡ true) × (list_all (is_link_of k) (map (link_type types) links) ≡ true) = both_true (is_link_of k (link_type types l)) (list_all (is_link_of k) (map (link_type types) links)) all in
       both_are (is_link_of k (link_type types l)) (list_all (is_link_of k) (map (link_type types) (links ++ link ∷ []))) parts.0 (one_more k links link parts.1 is)
 
-  -- a chain so far, behind its first operand
+  -- a chain so far, after its first operand
   abbrev pub IsChain : Typed → Chain → Type 0
   IsChain x c = (wanted : Kind) → takes wanted c.kind ≡ true → is_of types (expr.Chain x.expr c.links) wanted ≡ true
 

@@ -43,7 +43,7 @@ module _ (schema : List Table) (all : List ℕ) where
   shorter_front : (found new whole : List ℕ) → whole ≡ found ++ new → IsFront whole → IsFront found
   shorter_front found new whole is front = (new ++ front.0, front.1 ∙ ap (λ (l : List ℕ). l ++ front.0) is ∙ append_assoc found new front.0)
 
-  -- what a step leads to: more leaves behind those found before, and something of which this holds, if they are the first of all
+  -- what a step leads to: more leaves after those found before, and something of which this holds, if they are the first of all
   abbrev LeadsTo : {A : Type 0} → (A → Type 0) → List ℕ → Result (A × List ℕ) Refusal → Type 0
   LeadsTo R found (Ok p) = (new : List ℕ) × (p.1 ≡ found ++ new) × (IsFront p.1 → R p.0)
   LeadsTo R found (Err why) = Unit {0}

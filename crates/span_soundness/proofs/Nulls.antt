@@ -76,7 +76,7 @@ opposite_null (value.Str s) is = not_true is
 opposite_null (value.Bytes s) is = not_true is
 opposite_null (value.Bool b) is = not_true is
 
--- ---- texts
+-- ---- strings
 
 -- what two strings or two BYTES answer
 module _ (f : Value → Value → Outcome) (strings : (a b : List ℕ) → IsNullOnlyIf false (f (value.Str a) (value.Str b))) (bytes : (a b : List ℕ) → IsNullOnlyIf false (f (value.Bytes a) (value.Bytes b))) where

@@ -1,4 +1,4 @@
--- Rows of types stay so: what is gathered, kept, joined, grouped, shown and put in order.
+-- Rows of types stay so: when concatenated, filtered, joined, grouped, projected and put in order.
 use Rattle.std.proofs.Common.{◌≡◌, refl, subst, ℕ, zero, suc, true, false, Bool, not, if◌then◌else◌, List, [], ◌∷◌, ◌++◌, length, map, take, drop, Option, Some, None}
 use Rattle.std.specs.Prelude.{pos, replicate, filter}
 use Rattle.std.specs.Option.{option_map}

@@ -74,6 +74,6 @@ AreTyped (p ∷ ps) = (is_of_kind p.kind p.value ≡ true) × AreTyped ps
 abbrev pub IsTyped : List Kind → Typed → Type 0
 IsTyped types x = (k : Kind) → takes k x.kind ≡ true → is_of types x.expr k ≡ true
 
--- the same where the aggregates found so far are of these types, whatever aggregates are found behind them
+-- the same where the aggregates found so far are of these types, whatever aggregates are found after them
 abbrev pub StaysTyped : Scope → Mode → List Kind → Typed → Type 0
 StaysTyped scope m aggregates x = (later : List Kind) → IsTyped (row_types scope m (aggregates ++ later)) x

@@ -57,7 +57,7 @@ NullComesOfNull =
 abbrev pub ParametersStayTyped : Type 0
 ParametersStayTyped = (p : Parameter) (ps : List Parameter) → is_of_kind p.kind p.value ≡ true → AreTyped ps → AreTyped (with_parameter p ps)
 
--- the aggregates that are found stand behind those found before
+-- the aggregates that are found follow those found before
 abbrev pub TypesAreRight : Type 0
 TypesAreRight = (scope : Scope) (params : List Parameter) (tree : Tree) (m : Mode) (found after : List Aggregate) (kinds : List Kind) (x : Typed)
     → AreTyped params → AreAggregatesOf (column_types scope) found kinds → typing scope params tree m found ≡ Ok (x, after)

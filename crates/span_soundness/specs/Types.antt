@@ -93,7 +93,7 @@ is_else_of k (Some operand) = operand k
 abbrev pub all_values_are : List (Arm Typing) → Option Typing → Kind → Bool
 all_values_are arms otherwise k = list_all (has_value k) arms && is_else_of k otherwise
 
--- One operator, where of which types each operand is stands in the operand's place.
+-- One operator, where each operand is replaced by its types.
 abbrev pub typing_at : List Kind → Expr-F Typing → Typing
 typing_at types (Expr-F.Literal v) k = is_of_kind k v
 typing_at types (Expr-F.Column place) k = is_some (slice_get types place) k

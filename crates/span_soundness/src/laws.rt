@@ -22,7 +22,7 @@ pub fn types_are_right()
     ensures { TypesAreRight }
 {}
 
-/// A query is well typed where each of its blocks is: its items give the types of its names, its conditions are BOOL, what it shows
+/// A query is well typed where each of its blocks is: its items give the types of its names, its conditions are BOOL, its output
 /// is of the types of its columns, and these are the same in all blocks. A derived table gives the types that its query does.
 pub fn layers_are_typed()
     ensures { LayersAreTyped }
@@ -33,7 +33,7 @@ pub fn queries_are_typed()
     ensures { QueriesAreTyped }
 {}
 
-/// Each statement that the binder makes of a text is well typed.
+/// Each statement that the binder makes of a query is well typed.
 pub fn statements_are_typed()
     ensures { StatementsAreTyped }
 {}

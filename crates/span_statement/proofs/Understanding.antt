@@ -1,4 +1,4 @@
--- What was read and bound of a text is what it is understood as.
+-- The statement read and bound from a query text is the one that it is understood as.
 use Rattle.std.proofs.Common.{rules, ◌≡◌, ◌≢◌, ◌⊎◌, inl, inr, ℕ, Bool, true, false, List, Result, Ok, Err, IfOk, IfErr, refl, sym, ap, subst, ◌∙◌}
 use Rattle.std.proofs.lemmas.Bool.{false≢true}
 use denote.Enum.Bare.{sameb, same_true}
@@ -42,7 +42,7 @@ unfolding IsBound IsNoText
 bound_answers schema text params tree (Ok q) is e = inl (tree, is, e)
 bound_answers schema text params tree (Err why) is e = refused_or_not schema text params why (λ n. inl (tree, is, e n)) (memory_or_not why)
 
--- the text is no query
+-- the query text has no tree
 pub no_text_answers : (schema : List Table) (text : List ℕ) (params : List Parameter) (why : Refusal) → IsRefused goal.Statement text why → (why ≡ OutOfMemory) ⊎ Understands schema text params (Err why)
 unfolding IsBound IsNoText
 no_text_answers schema text params why refused = refused_or_not schema text params why (λ n. inr (why, n, refused, refl)) (memory_or_not why)

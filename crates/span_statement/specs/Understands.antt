@@ -1,4 +1,4 @@
--- What a text is understood as: the statement that its tree stands for.
+-- The statement of a query text: the typed query of its syntax tree.
 use Rattle.std.specs.Prelude.{◌≡◌, ◌≢◌, ◌⊎◌, ℕ, List, Result, Err}
 use Rattle.span_value.specs.declared.refusal.Refusal.{Refusal}
 use Rattle.span_value.specs.declared.refusal.Refusal.TheVariants.{OutOfMemory}
@@ -11,14 +11,14 @@ use Rattle.span_params.specs.declared.params.Parameter.{Parameter}
 use Rattle.span_query.specs.declared.query.Statement.{Statement}
 use Rattle.span_binder.specs.Queries.{bound}
 
--- the text has a tree, which stands for this statement, or has this fault
+-- the query text has a tree, whose statement this is, or which has this fault
 unfoldable pub IsBound : List Table → List ℕ → List Parameter → Result Statement Refusal → Type 0
 IsBound schema text params u = (tree : Query) × IsQuery text tree × (bound schema params tree ≡ u)
 
--- the text has no tree
+-- the query text has no tree
 unfoldable pub IsNoText : List ℕ → Result Statement Refusal → Type 0
 IsNoText text u = (why : Refusal) × (why ≢ OutOfMemory) × IsRefused goal.Statement text why × (u ≡ Err why)
 
--- The text, with these parameters, is this statement on tables of this schema, or is refused so.
+-- The query text, with these parameters, is this statement on tables of this schema, or is refused so.
 abbrev pub Understands : List Table → List ℕ → List Parameter → Result Statement Refusal → Type 0
 Understands schema text params u = IsBound schema text params u ⊎ IsNoText text u

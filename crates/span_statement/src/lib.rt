@@ -1,6 +1,6 @@
-//! What texts are understood as.
+//! The statement of a query text.
 //!
-//! `specs/Understands.antt` says which statement a text is, with the parameters that come with it, and why it is none.
+//! `specs/Understands.antt` defines which statement a query text is, with the parameters that come with it, and why it is none.
 //! [`understand::understand`] is held to it.
 #![tactic(auto)]
 

@@ -1,4 +1,4 @@
-//! From a text to a statement.
+//! From a query text to a statement.
 ghost use Rattle.std.specs.Prelude.{◌≡◌, ◌⊎◌, Result, Ok, Err, IfOk, IfErr};
 ghost use Rattle.std.specs.List.{AllByRecursion};
 ghost use Rattle.span_query.specs.declared.query.Statement.{Statement};
@@ -14,9 +14,9 @@ use span_schema::schema::Schema;
 use span_value::refusal::Refusal;
 use std::alloc::Global;
 
-/// The statement that a text is with these parameters.
+/// The statement of a query text with these parameters.
 ///
-/// The error is the first of these, or want of memory: `TextTooLong`, `BadToken`, `Syntax` or `TooDeep` where the text is no query of the
+/// The error is the first of these, or out of memory: `TextTooLong`, `BadToken`, `Syntax` or `TooDeep` where the text is no query of the
 /// grammar, as [`parse_select`] judges it; then the first fault in its tree, as [`bind`] judges it.
 pub fn understand(
     alloc: Global,
@@ -24,7 +24,7 @@ pub fn understand(
     text: &str,
     params: &Params,
 ) -> Result<Statement, Refusal>
-    // What is answered is so, and what the text is understood as is answered.
+    // Sound and complete: the result is what the query text is understood as, or out of memory.
     ensures understood { IfOk result (λ q. Understands schema.now text.now params.now (Ok q)) }
     ensures refused { IfErr result (λ why. (why ≡ Refusal.OutOfMemory) ⊎ Understands schema.now text.now params.now (Err why)) }
     ensures all { (u : Result Statement Refusal) → Understands schema.now text.now params.now u → (result ≡ u) ⊎ (result ≡ Err Refusal.OutOfMemory) }

@@ -1,4 +1,4 @@
--- What stands on the lines of the files.
+-- The words on the lines of the files.
 use Rattle.std.specs.Prelude.{ℕ, List, ◌++◌, codes}
 use Rattle.span_value.specs.declared.value.Kind.{Kind}
 use Rattle.span_value.specs.declared.value.Kind.TheVariants.{Int, Str, Bytes, Bool}
@@ -10,7 +10,7 @@ type_name Str = codes "STRING"
 type_name Bytes = codes "BYTES"
 type_name Bool = codes "BOOL"
 
--- what stands behind `param ` on the line of a parameter
+-- the words after `param ` on the line of a parameter
 abbrev pub parameter_words : List ℕ → Kind → List ℕ → List ℕ
 parameter_words name kind cell = name ++ codes " " ++ type_name kind ++ codes " " ++ cell
 

@@ -1,4 +1,4 @@
-//! The database that texts are asked of.
+//! The database that the queries are asked of.
 use super::fault::Fault;
 use super::question::Question;
 use super::row::insert_of;
@@ -16,7 +16,7 @@ const SLOT: usize = 0;
 /// How far apart the two timestamps of a clock's answer are.
 const UNSURE: u64 = 10;
 
-/// When the commit is decided, when it is applied, and when the texts are asked: each has surely passed at the next.
+/// When the commit is decided, when it is applied, and when the queries are asked: each has surely passed at the next.
 const DECIDED: u64 = 100;
 
 const APPLIED: u64 = 200;
@@ -43,7 +43,7 @@ impl Database {
         Ok(Database { core })
     }
 
-    /// The rows that a text is answered with.
+    /// The rows that answer a query.
     pub fn ask(&mut self, alloc: Global, question: &Question<'_>) -> Result<Seq<Row>, Fault> {
         let step = Step::Open {
             text: Text::from_str(alloc, question.text)?,

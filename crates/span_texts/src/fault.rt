@@ -1,10 +1,10 @@
-//! Why a text has no rows, or the program ends early.
+//! Why a query has no rows, or the program ends early.
 use span_core::{Refusal, Reply};
 use std::alloc::{AllocError, AllocFailed};
 use std::io;
 use thiserror::Error;
 
-/// A refusal answers a text. All else ends the program with status 1, and so does the refusal of a schema or of rows.
+/// A refusal answers a query. All else ends the program with status 1, and so does the refusal of a schema or of rows.
 #[derive(Debug, Drop, Error)]
 pub enum Fault {
     #[error("refused {0}")]

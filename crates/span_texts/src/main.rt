@@ -1,8 +1,8 @@
-//! For tests alone: asks the texts of files, and writes their answers.
+//! For tests alone: asks the queries of files, and writes their answers.
 //!
 //! `span_texts NAME..` takes a set of files for each NAME, in turn: it makes a database of the schema in NAME.schema, commits the rows of
-//! NAME.rows in one transaction, and asks each text of NAME.sql. It writes NAME, and the answers in the form in which NAME.sql has
-//! them: `refused N`, or `rows K` and K records. `tests/sql/README.md` says what the files are made of.
+//! NAME.rows in one transaction, and asks each query of NAME.sql. It writes NAME, and the answers in the form in which NAME.sql has
+//! them: `refused N`, or `rows K` and K records. `tests/sql/README.md` describes the files.
 #![tactic(auto)]
 
 mod database;
@@ -38,7 +38,7 @@ fn run(rt: &(impl AllocGlobal + Print + Env + Files)) -> Result<(), Fault> {
     Ok(())
 }
 
-/// Writes the name of a set, and the answer to each of its texts.
+/// Writes the name of a set, and the answer to each of its queries.
 fn answer_set(rt: &(impl AllocGlobal + Print + Files), name: &str) -> Result<(), Fault> {
     let alloc = rt.alloc();
     println!(rt; "{name}")?;
@@ -57,7 +57,7 @@ fn answer_set(rt: &(impl AllocGlobal + Print + Files), name: &str) -> Result<(),
     Ok(())
 }
 
-/// The text of one of the files of a set.
+/// The content of one of the files of a set.
 fn read(rt: &(impl AllocGlobal + Files), name: &str, ending: &str) -> Result<String, Fault> {
     let path = format!(in rt.alloc(); "{name}.{ending}")?;
     Ok(fs::read_to_string(rt, path)?)

@@ -1,7 +1,7 @@
-//! The texts of a file, each with its parameters.
+//! The queries of a file, each with its parameters.
 //!
-//! A file is made of blocks, parted by empty lines. A block has remarks, which begin with `#`, lines `param NAME TYPE CELL`, the text, and
-//! its answer, which is not read here. One of remarks alone has no text.
+//! A file is made of blocks, separated by empty lines. A block has remarks, which begin with `#`, lines `param NAME TYPE CELL`, the query,
+//! and its answer, which is not read here. One of remarks alone has no query.
 ghost use Rattle.std.specs.Prelude.{◌≡◌, ◌≢◌, IfSome, MatchOption};
 ghost use Rattle.span_value.specs.declared.value.Kind.{Kind};
 ghost use Rattle.span_texts.specs.Lines.{type_name, parameter_words};
@@ -11,7 +11,7 @@ use span_core::{Kind, Params, Refusal, Text};
 use span_value::cell::read_cell;
 use std::alloc::Global;
 
-/// A text, and the parameters that it is asked with.
+/// A query text, and the parameters that it is asked with.
 #[derive(Drop)]
 pub struct Question<'a> {
     pub text: &'a str,
@@ -49,7 +49,7 @@ pub fn questions(alloc: Global, file: &str) -> Result<Vec<Question<'_>>, Fault> 
     Ok(questions)
 }
 
-/// The question of a block, if there is a text in it.
+/// The question of a block, if there is a query in it.
 fn question_of(alloc: Global, block: &str) -> Result<Option<Question<'_>>, Fault> {
     let mut parameters = Vec::new(alloc);
     for line in block.split('\n') {
@@ -68,7 +68,7 @@ fn question_of(alloc: Global, block: &str) -> Result<Option<Question<'_>>, Fault
     Ok(None)
 }
 
-/// The parameter of a line, by what stands behind its first word.
+/// The parameter of a line, by the words after its first.
 fn parameter_of(words: &str) -> Option<Given<'_>>
     ensures { IfSome result (λ given. words.now ≡ parameter_words given.name.now given.kind given.cell.now) }
 {

@@ -6,7 +6,7 @@ use span_value::cell::cell_text;
 use std::alloc::Global;
 use std::io;
 
-/// The fields of the record that a text is. It has none where it reads as no record, or as more than one.
+/// The fields of a line as a record of CSV. There are none where it reads as no record, or as more than one.
 pub fn fields_of(alloc: Global, text: &str) -> Result<StringRecord, csv::Error> {
     let mut reader = ReaderBuilder::new()
         .has_headers(false)

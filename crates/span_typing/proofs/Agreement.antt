@@ -27,7 +27,7 @@ four_or_more : (x y w : Typed) (ws : List Typed) (z : Typed) → three_of (x ∷
 four_or_more x y w [] z = refl
 four_or_more x y w (v ∷ vs) z = refl
 
--- three are two and one behind them
+-- three are two and one after them
 pub three_behind : (xs : List Typed) (z : Typed) → three_of (xs ++ (z ∷ [])) ≡ and_then (two_of xs) (λ p. Ok (p.0, p.1, z))
 three_behind [] z = refl
 three_behind (x ∷ []) z = refl

@@ -1,4 +1,4 @@
--- What a chain and a CASE stand for, by their parts.
+-- The typed forms of a chain and a CASE, by their parts.
 use Rattle.std.proofs.Common.{◌≡◌, ℕ, Ok, List, [], ◌∷◌, map, Option, Some, None, ap, sym, ◌∙◌, refl}
 use Rattle.std.specs.Option.{option_map}
 use Rattle.span_syntax.specs.declared.tree.Operator.{Operator}

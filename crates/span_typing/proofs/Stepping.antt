@@ -27,7 +27,7 @@ pub made_of : {S A B : Type 0} (s : Step S A) (f : A → Result B Refusal) (g0 g
 made_of s f g0 g1 (Ok x) r h e = subst (λ o. Leaves r g1 (and_then o (λ p. given (f p.0) p.1))) (sym h) (made (f x) r g1 e)
 made_of s f g0 g1 (Err v) r h e = failed v r (s g0) (λ p. given (f p.0) p.1) g1 h e
 
--- a step behind another
+-- a step after another
 pub made_step : {S A B : Type 0} (s : Step S A) (t : A → Step S B) (g0 g1 g2 : S) (l : Result A Refusal) (r : Result B Refusal) → Leaves l g1 (s g0) → Leaves r g2 (and_then l (λ x. t x g1)) → Leaves r g2 ((s >>= t) g0)
 made_step s t g0 g1 g2 (Ok x) r h e = subst (λ o. Leaves r g2 (and_then o (λ p. t p.0 p.1))) (sym h) e
 made_step s t g0 g1 g2 (Err v) (Ok y) h e = absurd (not_ok v (y, g2) e)

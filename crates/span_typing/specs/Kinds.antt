@@ -7,7 +7,7 @@ use Rattle.span_value.specs.declared.value.Kind.TheVariants.{Int, Str, Bytes, Bo
 use Rattle.span_value.specs.declared.refusal.Refusal.{Refusal}
 use Rattle.span_value.specs.declared.refusal.Refusal.TheVariants.{TypeMismatch}
 
--- an operand of this type can stand where one of that type is wanted
+-- an operand of this type fits where one of that type is wanted
 abbrev pub takes : Kind → Option Kind → Bool
 takes wanted None = true
 takes wanted (Some k) = sameb kind_type k wanted

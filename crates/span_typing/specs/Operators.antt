@@ -70,7 +70,7 @@ comparison_of tree.AtLeast = compares.AtLeast
 unfoldable pub compared : Comparison → Typed → Typed → Result Typed Refusal
 compared c x y = and_then (agreed x.kind y.kind) (λ k. Ok (typed (expr.Compare x.expr (comparison_of c) y.expr) kind.Bool))
 
--- the operands are judged together
+-- the operands are checked together
 unfoldable pub between : Typed → Typed → Typed → Result Typed Refusal
 between x low high = and_then (all_agreed (x.kind ∷ low.kind ∷ high.kind ∷ [])) (λ k. Ok (typed (expr.Between x.expr low.expr high.expr) kind.Bool))
 

@@ -1,4 +1,4 @@
--- What names stand for in a block.
+-- What names refer to in a block.
 use Rattle.std.specs.List.{list_any}
 use Rattle.std.specs.Prelude.{ℕ, ◌+◌, ◌==◌, ◌&&◌, Bool, true, false, List, drop, position, Option, Some, None, Result, Ok, Err}
 use Rattle.span_value.specs.declared.refusal.Refusal.{Refusal}
@@ -47,6 +47,6 @@ abbrev pub item_of : Scope → Option Spelling → Result (Option ℕ) Refusal
 item_of scope None = Ok None
 item_of scope (Some spelled) = this_item (item_named scope spelled.text)
 
--- the place of the column that a name stands for
+-- the place of the column that a name refers to
 unfoldable pub column_place : Scope → Column → Result ℕ Refusal
 column_place scope c = and_then (item_of scope c.table) (λ item. one_place (fits item c.name.text) scope.columns)

@@ -1,10 +1,10 @@
--- Steps along a text: each may be refused, and finds more of what is gathered on the way.
+-- Steps along a query: each may be refused, and adds to what was found on the way.
 use Rattle.std.specs.Prelude.{◌≡◌, ◌≢◌, List, [], ◌∷◌, ◌++◌, Result, Ok, Err}
 use Rattle.std.specs.List.{fold}
 use Rattle.span_value.specs.declared.refusal.Refusal.{Refusal}
 use Rattle.span_value.specs.declared.refusal.Refusal.TheVariants as refusal
 
--- what comes of what was found; a refusal stays one
+-- the next step at what was found; a refusal stays a refusal
 abbrev pub and_then : {A B : Type 0} → Result A Refusal → (A → Result B Refusal) → Result B Refusal
 and_then (Ok x) next = next x
 and_then (Err why) next = Err why
@@ -23,7 +23,7 @@ infixl 10 ◌>>=◌
 abbrev pub ◌>>=◌ : {S A B : Type 0} → Step S A → (A → Step S B) → Step S B
 (step >>= next) found = and_then (step found) (λ p. next p.0 p.1)
 
--- the step of one more item, behind the others
+-- the step of one more item, after the others
 abbrev pub next_of : {S X A : Type 0} → (A → X → Step S A) → Result (A × S) Refusal → X → Result (A × S) Refusal
 next_of step so_far x = and_then so_far (λ p. step p.0 x p.1)
 
@@ -45,7 +45,7 @@ abbrev pub Gives : {A : Type 0} → Result A Refusal → Result A Refusal → Ty
 Gives (Ok x) o = o ≡ Ok x
 Gives (Err why) o = why ≢ refusal.OutOfMemory → o ≡ Err why
 
--- the same of a step, behind which this is found
+-- the same of a step, after which this is found
 abbrev pub Leaves : {S A : Type 0} → Result A Refusal → S → Result (A × S) Refusal → Type 0
 Leaves (Ok x) found o = o ≡ Ok (x, found)
 Leaves (Err why) found o = why ≢ refusal.OutOfMemory → o ≡ Err why

@@ -1,4 +1,4 @@
--- The typed expression that a tree of an expression stands for, or the first fault in it: operands come before their operator.
+-- The typed expression of a syntax tree, or the first fault in it: operands come before their operator.
 use Rattle.std.specs.List.{fold}
 use Rattle.std.specs.Prelude.{ℕ, ◌+◌, ◌==◌, Bool, true, false, List, [], ◌∷◌, ◌++◌, length, drop, position, slice_get, Option, Some, None, Result, Ok, Err, if◌then◌else◌}
 use Rattle.span_value.specs.declared.value.Value.TheVariants as value
@@ -63,7 +63,7 @@ abbrev pub key_typed : Kind → Option ℕ → Result Typed Refusal
 key_typed k None = Err NotGrouped
 key_typed k (Some place) = Ok (typed (expr.Column place) k)
 
--- at a row of the groups only the grouped columns stand
+-- at a row of the groups there are only the grouped columns
 unfoldable pub column_at : Scope → Mode → ℕ → Result Typed Refusal
 column_at scope Rows place = Ok (typed (expr.Column place) (kind_at scope place))
 column_at scope Groups place = key_typed (kind_at scope place) (position (λ (k : ℕ). k == place) scope.keys)
@@ -85,7 +85,7 @@ parameter params spelled = parameter_typed (parameter_named params (drop 1 spell
 abbrev pub Finds : Type 0 → Type 0
 Finds A = Step (List Aggregate) A
 
--- what an operand stands for, at rows of the FROM or of the groups
+-- the typed form of an operand, at rows of the FROM or of the groups
 abbrev pub Operand : Type 0
 Operand = Mode → Finds Typed
 
@@ -103,7 +103,7 @@ condition_of k x = if are_conditions k x.kind then Ok x.expr else Err TypeMismat
 abbrev pub condition : Option Kind → Operand → Mode → Finds TypedExpr
 condition k a m = a m >>= (λ x. given (condition_of k x))
 
--- the other operands of an AND or an OR whose first is of this type; each is judged as it comes
+-- the other operands of an AND or an OR whose first is of this type; each is checked as it comes
 abbrev pub conditions : Option Kind → List Operand → Mode → Finds (List TypedExpr)
 conditions k os m = all_of (λ (a : Operand). condition k a m) os
 
@@ -123,7 +123,7 @@ chained x c = record { expr = expr.Chain x.expr c.links; kind = c.kind }
 abbrev pub next_link : Mode → Chain → Operator × Operand → Finds Chain
 next_link m c l = l.1 m >>= (λ x. given (linked c l.0 x))
 
--- behind what is of this type; each operator is judged as it comes
+-- after an operand of this type; each operator is checked as it comes
 abbrev pub links : Option Kind → List (Operator × Operand) → Mode → Finds Chain
 links k ls m = along (next_link m) (record { kind = k; links = [] }) ls
 
@@ -186,7 +186,7 @@ case (Some a) os other = simple_case a os other
 
 -- ---- calls
 
--- a new aggregate of the block; it stands behind the grouped columns and the aggregates before it
+-- a new aggregate of the block; its place is after the grouped columns and the aggregates before it
 unfoldable pub new_aggregate : Scope → Mode → Aggregate → Kind → Finds Typed
 new_aggregate scope Rows a k found = Err NotGrouped
 new_aggregate scope Groups a k found = Ok (typed (expr.Column (length scope.keys + length found)) k, found ++ (a ∷ []))
@@ -223,7 +223,7 @@ arm_at a = (a.condition, a.value)
 abbrev pub link_at : Link-F Operand (Operand × Operand) (Operator × Operand) → Operator × Operand
 link_at l = (l.operator, l.operand)
 
--- One layer of a tree, where what each operand stands for stands in the operand's place.
+-- One layer of a tree, where each operand is replaced by its typed form.
 abbrev pub at_operands : Scope → List Parameter → Expr-F Operand (Operand × Operand) (Operator × Operand) → Operand
 at_operands scope params (Expr-F.Integer n) = λ m. given (integer n)
 at_operands scope params (Expr-F.Str s) = λ m. pure (string s.text)
@@ -246,7 +246,7 @@ at_operands scope params (Expr-F.Not a) = of_one denied a
 at_operands scope params (Expr-F.And a os) = junction all_true a os
 at_operands scope params (Expr-F.Or a os) = junction some_true a os
 
--- what a tree stands for in a block of these names, with these parameters
+-- the typed form of a tree in a block of these names, with these parameters
 abbrev pub typing : Scope → List Parameter → Expr → Operand
 typing scope params = fold-Expr Operand (Operand × Operand) (Operator × Operand) (at_operands scope params) arm_at link_at
 

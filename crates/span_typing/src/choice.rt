@@ -1,4 +1,4 @@
-//! What lists of operands and choices come to.
+//! The typed expressions of lists of operands and of choices.
 ghost use Rattle.std.specs.Prelude.{◌≡◌, ◌++◌, ◌∷◌, [], Ok, IfOk, map};
 ghost use Rattle.std.specs.List.{list_all};
 ghost use Rattle.span_typing.specs.Steps.{Gives, and_then};
@@ -96,7 +96,7 @@ fn value_kind(arms: &[TypedArm], otherwise: &Option<Typed>) -> Result<Kind, Refu
     Ok(or_int(kind_of_values(arms, otherwise_kind(otherwise))?))
 }
 
-/// The type of a CASE without an operand. That its conditions are BOOL is judged before the values.
+/// The type of a CASE without an operand. That its conditions are BOOL is checked before the values.
 fn case_kind(arms: &[TypedArm], otherwise: &Option<Typed>) -> Result<Kind, Refusal>
     ensures { result ≡ spec.case_kind arms.now otherwise.now }
 {

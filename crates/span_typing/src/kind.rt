@@ -5,7 +5,7 @@ ghost use Rattle.span_typing.specs.Kinds as spec;
 use span_value::refusal::Refusal;
 use span_value::value::Kind;
 
-/// Whether an operand of a type can stand where a type is wanted.
+/// Whether an operand of a type fits where a type is wanted.
 pub fn takes(wanted: Kind, kind: Option<Kind>) -> bool
     ensures { result ≡ spec.takes wanted kind }
 {

@@ -1,4 +1,4 @@
-//! What stands at the leaves of a tree: literals, parameters, columns; and the aggregates of the block.
+//! The leaves of a tree: literals, parameters, columns; and the aggregates of the block.
 ghost use Rattle.std.specs.Prelude.{◌≡◌, ◌==◌, ◌+◌, Ok, position, drop, length};
 ghost use Rattle.std.specs.Option.{option_copied};
 ghost use Rattle.span_schema.specs.Tables.{is_same_name};
@@ -54,7 +54,7 @@ pub(crate) fn null() -> Typed
     }
 }
 
-/// Whether a name is what is spelt behind the first byte, an `@`.
+/// Whether a name is what is spelt after the first byte, an `@`.
 fn is_spelt(name: &str, spelled: &str) -> bool
     ensures { result ≡ is_same_name name.now (drop 1 spelled.now) }
 {
@@ -96,7 +96,7 @@ fn kind_at(scope: &Scope, place: usize) -> Kind
     }
 }
 
-/// The column at a place of the FROM. The error is `NotGrouped` where a row of the groups is spoken of and it is no grouped column.
+/// The column at a place of the FROM. The error is `NotGrouped` where the mode is rows of the groups and it is no grouped column.
 #[tactic(auto, unfolding(crate::specs::Typing::column_at))]
 pub fn column_at(scope: &Scope, mode: Mode, place: usize) -> Bound
     ensures { result ≡ spec.column_at scope.now mode place }
@@ -123,8 +123,8 @@ fn place_of_key(keys: &[usize], column: usize) -> Option<usize>
     keys.iter().position(|key| *key == column)
 }
 
-/// A column by its name. The error is `NoColumn` or `Ambiguous` for a name that stands for none, or for two; `NotGrouped` for one that
-/// is no grouped column, where a row of the groups is spoken of.
+/// A column by its name. The error is `NoColumn` or `Ambiguous` for a name of no column, or of two; `NotGrouped` for one that
+/// is no grouped column, where the mode is rows of the groups.
 #[tactic(auto, unfolding(crate::specs::Typing::column))]
 pub(crate) fn column(scope: &Scope, mode: Mode, column: &Column) -> Bound
     ensures { result ≡ spec.column scope.now mode column.now }
@@ -132,7 +132,7 @@ pub(crate) fn column(scope: &Scope, mode: Mode, column: &Column) -> Bound
     column_at(scope, mode, column_place(scope, column)?)
 }
 
-/// The place behind the grouped columns and the aggregates found so far.
+/// The place after the grouped columns and the aggregates found so far.
 fn next_place(scope: &Scope, found: &Seq<Aggregate>) -> Result<usize, Refusal>
     ensures { Gives result (Ok (length scope.now.keys + length found.now)) }
 {
@@ -142,7 +142,7 @@ fn next_place(scope: &Scope, found: &Seq<Aggregate>) -> Result<usize, Refusal>
     }
 }
 
-/// One more aggregate of the block. The error is `NotGrouped` where a row of the FROM is spoken of.
+/// One more aggregate of the block. The error is `NotGrouped` where the mode is rows of the FROM.
 #[tactic(auto, unfolding(crate::specs::Typing::new_aggregate))]
 fn new_aggregate(
     scope: &Scope,

@@ -1,4 +1,4 @@
-//! Steps from what operands came to.
+//! Steps from the results of operands.
 ghost use Rattle.std.specs.Prelude.{◌≡◌, ◌++◌, ◌∷◌, [], Ok, Err};
 ghost use Rattle.span_typing.specs.Steps.{Gives, and_then};
 ghost use Rattle.span_typing.specs.Typing as spec;
@@ -23,7 +23,7 @@ pub(crate) fn kind_of(found: &Bound) -> Option<Kind>
     }
 }
 
-/// What was found before, and one more behind it.
+/// What was found before, and one more after it.
 pub(crate) fn pushed<T: Drop>(so_far: Seq<T>, next: Result<T, Refusal>) -> Result<Seq<T>, Refusal>
     ensures { Gives result (and_then next (λ x. Ok (so_far ++ x ∷ []))) }
 {
@@ -48,7 +48,7 @@ pub(crate) fn condition_of(kind: Option<Kind>, operand: Bound) -> Result<Expr, R
     }
 }
 
-/// What is of the type of the operand of the CASE.
+/// A condition, which must be of the type of the operand of the CASE.
 #[tactic(auto, unfolding(crate::specs::Typing::alike))]
 pub(crate) fn alike(kind: Option<Kind>, condition: Bound) -> Bound
     ensures { Gives result (and_then condition (λ x. spec.alike kind x)) }

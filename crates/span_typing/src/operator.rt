@@ -1,6 +1,6 @@
-//! What operators and choices make of typed operands.
+//! The typed expressions of operators and choices, from typed operands.
 //!
-//! Each takes what its operands came to, so that the first refusal among them is the one that is answered.
+//! Each takes the results of its operands, so that the first refusal among them is the one that is returned.
 ghost use Rattle.std.specs.Prelude.{◌≡◌, ◌∷◌, [], Ok, IfOk};
 ghost use Rattle.span_typing.specs.Steps.{Gives, and_then};
 ghost use Rattle.span_expr.specs.declared.expr.Expr.TheVariants as expr;
@@ -19,7 +19,7 @@ use span_value::value::{Kind, Value};
 use sqlite_items::Boxed;
 use std::alloc::{AllocError, Global};
 
-/// What a tree, or a part of one, came to.
+/// The result for a tree, or for a part of one.
 pub(crate) type Bound = Result<Typed, Refusal>;
 
 pub(crate) fn typed(expr: Expr, kind: Kind) -> Typed
@@ -31,7 +31,7 @@ pub(crate) fn typed(expr: Expr, kind: Kind) -> Typed
     }
 }
 
-/// Both of what was found, or the first refusal.
+/// Both results, or the first refusal.
 pub(crate) fn both<A: Drop, B: Drop>(
     first: Result<A, Refusal>,
     second: Result<B, Refusal>,
@@ -171,7 +171,7 @@ fn all_agreed(
     agreed(kind, third)
 }
 
-/// The three operands of a BETWEEN are judged together.
+/// The three operands of a BETWEEN are checked together.
 #[tactic(auto, unfolding(crate::specs::Operators::between))]
 fn between_operands(alloc: Global, operand: Typed, low: Typed, high: Typed) -> Bound
     ensures { Gives result (spec.between operand low high) }
@@ -222,7 +222,7 @@ pub(crate) fn operator_of(operator: tree::Operator) -> Operator
     }
 }
 
-/// The type of a chain, one operator on.
+/// The type of a chain with one more operator.
 #[tactic(auto, unfolding(crate::specs::Operators::linked_kind))]
 pub(crate) fn linked_kind(
     operator: tree::Operator,
@@ -241,7 +241,7 @@ pub(crate) fn linked_kind(
     }
 }
 
-/// A chain, one operator on.
+/// A chain with one more operator.
 #[tactic(auto, unfolding(crate::specs::Typing::linked))]
 pub(crate) fn linked(
     chain: Chain,
@@ -266,7 +266,7 @@ pub(crate) fn linked(
     })
 }
 
-/// A chain behind its first operand.
+/// A chain after its first operand.
 #[tactic(auto, unfolding(crate::specs::Typing::chained))]
 pub(crate) fn chained(alloc: Global, first: Bound, chain: Result<Chain, Refusal>) -> Bound
     ensures { Gives result (and_then first (λ x. and_then chain (λ c. Ok (chained x c)))) }

@@ -20,7 +20,7 @@ pub struct ScopeColumn {
     pub kind: Kind,
 }
 
-/// What the names of a block stand for.
+/// The names of a block: its items, their columns, and the grouped columns.
 #[derive(Debug, Drop)]
 pub struct Scope {
     /// The names of the items of the FROM: their aliases, or else the names of their tables.
@@ -103,7 +103,7 @@ fn place_named(columns: &[ScopeColumn], item: Option<usize>, name: &str) -> Resu
     }
 }
 
-/// The place of the column that a name stands for. The error is `NoColumn` where no item or no column has the name, or
+/// The place of the column with a name. The error is `NoColumn` where no item or no column has the name, or
 /// `Ambiguous` where two columns have it.
 #[tactic(auto, unfolding(crate::specs::Scopes::column_place))]
 pub fn column_place(scope: &Scope, column: &Column) -> Result<usize, Refusal>

@@ -17,18 +17,18 @@ pub struct TypedArm {
     pub value: Typed,
 }
 
-/// What stands behind the first operand of a chain, and the type of the whole.
+/// The part of a chain after its first operand, and the type of the whole.
 #[derive(Debug, Drop)]
 pub struct Chain {
     pub kind: Option<Kind>,
     pub links: Items<Link<Expr>>,
 }
 
-/// Of what rows an expression speaks.
+/// Which rows an expression is evaluated at.
 #[derive(Clone, Copy, Debug, PartialEq, Eq)]
 pub enum Mode {
-    /// Of those of the FROM: in ON, WHERE, the operands of aggregates, and a block that is not grouped.
+    /// Those of the FROM: in ON, WHERE, the operands of aggregates, and a block that is not grouped.
     Rows,
-    /// Of those of the groups: the values of the grouped columns, and then the aggregates.
+    /// Those of the groups: the values of the grouped columns, and then the aggregates.
     Groups,
 }

@@ -1,7 +1,7 @@
-//! The typed expression that a tree of an expression stands for.
+//! The typed expression of a syntax tree.
 //!
-//! Operands come before their operator, and the first fault is the refusal. Chains of operators are gone along by loops, so that the
-//! depth of the recursion is bounded by the nesting of the text.
+//! Operands come before their operator, and the first fault is the refusal. Chains of operators are walked by loops, so that the
+//! depth of the recursion is bounded by the nesting of the query.
 ghost use Rattle.std.specs.Prelude.{◌≡◌, ◌++◌, ◌∷◌, [], Ok, map};
 ghost use Rattle.std.specs.Option.{option_map};
 ghost use Rattle.span_typing.specs.Steps.{Gives, Leaves, and_then};
@@ -38,10 +38,10 @@ pub struct Names<'a> {
 }
 
 impl Names<'_> {
-    /// The typed expression that a tree stands for, and behind it the aggregates of the block found so far.
+    /// The typed expression of a tree. The aggregates in it are added to those of the block found so far.
     ///
     /// The error is the first of these in the tree, where operands come before their operator: `NoColumn`, `Ambiguous`,
-    /// `TypeMismatch`, `NotGrouped`, `BadPattern`, `NoParameter`; or want of memory. What is found then does not matter.
+    /// `TypeMismatch`, `NotGrouped`, `BadPattern`, `NoParameter`; or out of memory. What is found then does not matter.
     #[cycle(typing)]
     pub fn bind(self, mode: Mode, tree: &tree::Expr, found: &mut Seq<Aggregate>) -> Bound
         ensures { Leaves result found.new (spec.typing self.entry.scope.now self.entry.params.now tree.now mode found.old) }
@@ -204,7 +204,7 @@ impl Names<'_> {
         Ok(all)
     }
 
-    /// The other operands of an AND or an OR. Each is judged as it comes.
+    /// The other operands of an AND or an OR. Each is checked as it comes.
     #[cycle(typing)]
     fn conditions(
         self,
@@ -223,7 +223,7 @@ impl Names<'_> {
         Ok(all)
     }
 
-    /// A chain behind what is of this type. Each operator is judged as it comes.
+    /// A chain after an operand of this type. Each operator is checked as it comes.
     #[cycle(typing)]
     fn links(
         self,
