@@ -1,4 +1,4 @@
--- Words parted by spaces are read in one way.
+-- Words split by spaces are read in one way.
 use Rattle.std.proofs.Common.{◌≡◌, ◌≢◌, ◌∙◌, ◌<◌, ◌^◌, ◌+◌, ℕ, zero, suc, List, [], ◌∷◌, refl, sym, ap, map, length, get_or, arith}
 use Rattle.std.specs.Fmt.{decimal}
 use Rattle.std.specs.Int.Digits.{digits_of}
@@ -25,7 +25,7 @@ space_at (b ∷ w) r =
     let further = space_at w r in
     (omega (arith, further.0), further.1)
 
--- words that are parted have a space
+-- words that are split have a space
 pub parted : (words w r : List ℕ) → HasNoSpace words → words ≡ spaced w r → ⊥
 parted words w r h e =
     let at = space_at w r in
