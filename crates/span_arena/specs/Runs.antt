@@ -9,7 +9,7 @@ use Rattle.span_arena.specs.declared.record.Place.{Place}
 use Rattle.span_arena.specs.declared.record.Place.TheVariants.{Free, Reserved, Linked}
 use Rattle.span_arena.specs.Content.{Content, Prepared, sum_for, one_if, prepared_for, kept_by}
 
--- what a place past the end is taken to have
+-- what a place after the end is taken to have
 abbrev pub blank : NodeRecord
 blank = record { place = Free 0; next = 0; version = record { timestamp = 0; image = None } }
 

@@ -20,7 +20,7 @@ turned_length : (d : Bool) (bs : List ℕ) → length (in_direction d bs) ≡ le
 turned_length false bs = refl
 turned_length true bs = length-map bs flipped
 
--- what is past a front of known length
+-- what is after a front of known length
 past_front : (front more bs : List ℕ) (n : ℕ) → bs ≡ front ++ more → n ≡ length front → more ≡ drop n bs
 past_front front more bs n e l = sym (drop-append_seam front more) ∙ ap (λ (k : ℕ). drop k (front ++ more)) (sym l) ∙ ap (drop n) (sym e)
 

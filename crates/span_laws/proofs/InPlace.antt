@@ -61,7 +61,7 @@ pub record IsPromised (schema : List Table) (root : Root) (last : ℕ) (cs : Lis
   pub under : IsUnder (greatest t.prepared) cs
   pub through : Succeeds schema (changes_at schema root cs ++ filter (is_at schema root) t.mutations)
 
--- what the one transaction that claims the directory says of its commits, by its outcome
+-- what the one transaction that claims the directory says of its commits, by its decision
 abbrev pub IsClaimed : List Table → Root → ℕ → List Commit → OpenTransaction → Outcome → Type 0
 IsClaimed schema root last cs t outcome.Undecided = IsPromised schema root last cs t
 IsClaimed schema root last cs t (outcome.Committed ts) = IsBelow (max last ts) cs

@@ -48,7 +48,7 @@ versions_at cs key = versions_of (find (is_key key) cs)
 abbrev pub prepared_at : List KeyVersions → List ℕ → Option PreparedWrite
 prepared_at cs key = prepared_of (find (is_key key) cs)
 
--- past every timestamp
+-- above every timestamp
 abbrev pub end_of_time : ℕ
 end_of_time = 18446744073709551615
 

@@ -345,7 +345,7 @@ fn trimmed(rt: HostRuntime) -> Result<(), Fail> {
     Ok(())
 }
 
-/// A trim past everything keeps what is prepared, and each row's newest version.
+/// A trim above every timestamp keeps what is prepared, and each row's newest version.
 #[test]
 fn trimmed_while_prepared(rt: HostRuntime) -> Result<(), Fail> {
     let alloc = rt.alloc();
