@@ -124,7 +124,7 @@ are_spare-free rs h k c l used spare =
     let e : one_used (record_at rs c) ≡ 1 = ap one_used used in
     record { list = spare-free rs h k c l used spare.list; counted = rw length-set (omega (arith, spare.counted)) }
 
--- there is room for one more free chain
+-- there is capacity for one more free chain
 pub spare_count_below : (rs : List ChainRecord) (h k c : ℕ) (l : Links) → record_at rs c ≡ chain.Used l → AreSpare rs h k → k < length rs
 spare_count_below rs h k c l used spare =
     let n : used_count (set rs c (chain.Free h k)) + one_used (record_at rs c) ≡ used_count rs + 0 = used-set rs c (chain.Free h k) (used_in_range rs c l used) in

@@ -117,7 +117,7 @@ pub record IsReserved (old new : Content) (chain : ℕ) (image : Option (List �
   pub from_free : 0 < old.free → node < length old.prepared
   pub now : new ≡ reserved old node chain image
 
--- as many nodes are in use as may be; or there is room, no node is free, and memory was wanted
+-- as many nodes are in use as may be; or there may be more, no node is free, and memory ran out
 abbrev pub IsRefusedNode : Content → Refusal → Type 0
 IsRefusedNode c why = ((why ≡ ShardFull) × (live c ≡ c.most)) ⊎ ((why ≡ OutOfMemory) × (live c < c.most) × (c.free ≡ 0))
 

@@ -9,7 +9,7 @@ use Rattle.span_arena.specs.declared.record.Place.{Place}
 use Rattle.span_arena.specs.declared.record.Place.TheVariants.{Free, Reserved, Linked}
 use Rattle.span_arena.specs.Content.{Content, Prepared, sum_for, one_if, prepared_for, kept_by}
 
--- what a place past the end is taken to have
+-- what a place after the end is taken to have
 abbrev pub blank : NodeRecord
 blank = record { place = Free 0; next = 0; version = record { timestamp = 0; image = None } }
 
@@ -24,24 +24,24 @@ prepared_of_place (Linked c) image = None
 abbrev pub prepared_of : NodeRecord → Option Prepared
 prepared_of n = prepared_of_place n.place n.version.image
 
--- so many versions, from node h on
+-- k versions, from node h on
 abbrev pub walk : (ℕ → NodeRecord) → ℕ → ℕ → List Version
 walk f zero h = []
 walk f (suc k) h = (f h).version ∷ walk f k (f h).next
 
--- so many nodes from h on are linked into chain c, and their ranks fall: so no node stands in it twice
+-- k nodes from h on are linked into chain c, and their ranks fall: so no node is in it twice
 abbrev pub IsRun : (ℕ → NodeRecord) → (ℕ → ℕ) → ℕ → ℕ → ℕ → ℕ → Type 0
 IsRun f rank c bound zero h = Unit {0}
 IsRun f rank c bound (suc k) h = ((f h).place ≡ Linked c) × (rank h < bound) × IsRun f rank c (rank h) k (f h).next
 
--- so many nodes from h on are those of a chain
+-- k nodes from h on are those of a chain
 pub record IsSomeRun (f : ℕ → NodeRecord) (k h : ℕ) : Type 0 where
   pub rank : ℕ → ℕ
   pub chain : ℕ
   pub bound : ℕ
   pub run : IsRun f rank chain bound k h
 
--- so many nodes from h on are free, and each keeps how many there are from it on
+-- k nodes from h on are free, and each keeps how many there are from it on
 abbrev pub IsFreeList : (ℕ → NodeRecord) → ℕ → ℕ → Type 0
 IsFreeList f zero h = Unit {0}
 IsFreeList f (suc k) h = ((f h).place ≡ Free (suc k)) × IsFreeList f k (f h).next
@@ -90,7 +90,7 @@ pub record IsSound (nodes : List NodeRecord) (rs : List ChainRecord) (free free_
   pub counted : free_count + (total rs + sum_for one_if (map prepared_of nodes)) ≡ length nodes
   pub bounded : length nodes ≤ most
 
--- so many chains from h on are free, and each keeps how many there are from it on
+-- k chains from h on are free, and each keeps how many there are from it on
 abbrev pub IsSpare : List ChainRecord → ℕ → ℕ → Type 0
 IsSpare rs h zero = Unit {0}
 IsSpare rs h (suc k) = (next : ℕ) × (record_at rs h ≡ chain.Free next (suc k)) × IsSpare rs next k
@@ -108,12 +108,12 @@ pub record AreSpare (rs : List ChainRecord) (spare spare_count : ℕ) : Type 0 w
   pub list : IsSpare rs spare spare_count
   pub counted : spare_count + used_count rs ≡ length rs
 
--- so many links on from node h
+-- k links on from node h
 abbrev pub hop : (ℕ → NodeRecord) → ℕ → ℕ → ℕ
 hop f zero h = h
 hop f (suc k) h = hop f k (f h).next
 
--- so many nodes from h on have a rank of at least low
+-- k nodes from h on have a rank of at least low
 abbrev pub IsAbove : (ℕ → NodeRecord) → (ℕ → ℕ) → ℕ → ℕ → ℕ → Type 0
 IsAbove f rank low zero h = Unit {0}
 IsAbove f rank low (suc k) h = (low ≤ rank h) × IsAbove f rank low k (f h).next
@@ -124,7 +124,7 @@ pub record IsCut (f : ℕ → NodeRecord) (h count : ℕ) (horizon : Option ℕ)
   pub here : at ≡ hop f kept h
   pub same : walk f kept h ≡ kept_by horizon (walk f count h)
 
--- the state while nodes of a chain are freed: so many from at on are in no chain any more
+-- the state while nodes of a chain are freed: `left` nodes from `at` on are in no chain any more
 pub record IsTrimming (nodes : List NodeRecord) (rs : List ChainRecord) (free free_count most c left at : ℕ) : Type 0 where
   pub rank : ℕ → ℕ
   pub top : ℕ

@@ -51,7 +51,7 @@ impl Arena {
         Arena::with_most(alloc, MOST_NODES)
     }
 
-    /// An empty arena of at most so many nodes in use. It takes no memory.
+    /// An empty arena of at most `most` nodes in use. It takes no memory.
     pub fn with_most(alloc: Global, most: usize) -> Arena
         ensures { result ≡ record { chains = []; prepared = []; free = 0; most = most } }
     {

@@ -28,7 +28,7 @@ fn cut_at(nodes: &Vec<NodeRecord>, newest: usize, count: usize, horizon: u64) ->
     while kept < count {
         let node = &nodes[at];
         if node.version.timestamp <= horizon {
-            // This is the version that a read at the horizon sees. As a deletion it shows as much as no version.
+            // This is the version that a read at the horizon sees. A deletion reads as no version.
             if node.version.image.is_none() {
                 return (kept, at);
             }

@@ -4,7 +4,7 @@ use crate::version::Version;
 /// What a node is used for.
 #[derive(Clone, Copy, Debug)]
 pub(crate) enum Place {
-    /// It stands in the free list, with so many nodes from it on.
+    /// It is in the free list, with this count of nodes from it on.
     Free(usize),
     /// Something is prepared in it for this chain.
     Reserved(usize),
@@ -24,7 +24,7 @@ pub(crate) struct NodeRecord {
 /// A chain, by its number.
 #[derive(Clone, Copy, Debug)]
 pub(crate) enum ChainRecord {
-    /// It stands in the list of free chains: the next one, and how many there are from it on.
+    /// It is in the list of free chains: the next one, and how many there are from it on.
     Free(usize, usize),
     Used(Links),
 }

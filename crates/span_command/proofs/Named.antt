@@ -7,7 +7,7 @@ use Rattle.span_schema.specs.Tables.{column_place}
 use Rattle.span_record.specs.Record.{pieces}
 use Rattle.span_command.specs.Columns.{NoneTwice, AreNamed, IsUnplaced}
 
--- the places of the first names are found, and the names behind them are left
+-- the places of the first names are found, and the names after them are left
 abbrev pub Found : List Column → List ℕ → List ℕ → List ℕ → Type 0
 Found columns names places rest =
     (map Some places ++ map (column_place columns) (pieces rest) ≡ map (column_place columns) (pieces names)) × NoneTwice places
@@ -64,7 +64,7 @@ the_last columns names places rest place h cut is new =
 
 -- ---- where a name has no place
 
--- what stands behind the places before is a place too
+-- what follows the places before is a place too
 next_place : (before places : List ℕ) (next : Option ℕ) (more : List (Option ℕ)) → map Some before ++ next ∷ more ≡ map Some places
     → (place : ℕ) × (rest : List ℕ) × (next ≡ Some place) × (places ≡ before ++ place ∷ rest)
 next_place [] [] next more e = cc e

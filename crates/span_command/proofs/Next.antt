@@ -2,7 +2,7 @@
 use Rattle.std.proofs.Common.{◌≡◌, ◌∙◌, ℕ, suc, List, [], ◌∷◌, ◌++◌, refl, sym, subst, inl, inr, arith}
 use Rattle.span_command.specs.Texts.{HasNoLf, NextLine}
 
--- no LF stands behind the first byte
+-- no LF is after the first byte
 behind_first : (b : ℕ) (line : List ℕ) → HasNoLf (b ∷ line) → HasNoLf line
 behind_first b line h = λ i l. h (suc i) (omega (arith, l))
 
@@ -22,7 +22,7 @@ lf_there : (line behind : List ℕ) → HasNoLf (line ++ 10 ∷ behind) → ⊥
 lf_there [] behind h = h 0 (omega arith) refl
 lf_there (b ∷ line) behind h = lf_there line behind (behind_first b (line ++ 10 ∷ behind) h)
 
--- what the next line is, and what stands behind it, is settled by the text
+-- what the next line is, and the rest after it, is settled by the text
 pub one_next : (text v r w s : List ℕ) → NextLine text v r → NextLine text w s → (v ≡ w) × (r ≡ s)
 one_next text v r w s (inl p) (inl q) = same_first v w r s p.0 q.0 (sym p.1 ∙ q.1)
 one_next text v r w s (inl p) (inr q) = absurd (lf_there v r (subst HasNoLf p.1 q.0))

@@ -30,7 +30,7 @@ first_byte xs i j p q =
     let within : i < length xs = omega arith in
     ap (λ (n : ℕ). take n (drop i xs)) long ∙ ap (take (suc (j - (i + 1)))) (drop_more xs i 0 within)
 
--- nothing stands between a place and itself
+-- nothing is between a place and itself
 pub nothing : (xs : List ℕ) (i : ℕ) → slice_range xs i i ≡ []
 nothing xs i =
     let none : i - i ≡ zero = omega arith in
@@ -47,7 +47,7 @@ same_front xs ys e i j h q =
     ∙ ap (drop i) (sym (take-take j e xs q) ∙ ap (take j) h ∙ take-take j e ys q)
     ∙ sym (between_is ys i j)
 
--- no LF stands in two lists one after the other
+-- no LF is in two lists one after the other
 pub none_in_both : (xs ys : List ℕ) → HasNoLf xs → HasNoLf ys → HasNoLf (xs ++ ys)
 none_in_both [] ys p q i l e = q i l e
 none_in_both (x ∷ xs) ys p q zero l e = p zero (omega arith) e
@@ -88,14 +88,14 @@ cut_at_lf xs s m e o l w ten =
     joined xs s m e o (omega arith)
     ∙ ap (λ (w : List ℕ). slice_range xs s m ++ w) (first_byte xs m e l w ∙ ap (λ (b : ℕ). b ∷ slice_range xs (m + 1) e) ten)
 
--- an LF that stands in a list is one of its bytes
+-- an LF that is in a list is one of its bytes
 pub stands_in : (front back : List ℕ) → Contains (front ++ 10 ∷ back) 10
 stands_in [] back = (zero, omega arith, refl)
 stands_in (x ∷ front) back =
     let later = stands_in front back in
     (suc later.0, omega (arith, later.1), later.2)
 
--- an LF stands in no list that has none
+-- an LF is in no list that has none
 pub not_in : (bytes : List ℕ) → HasNoLf bytes → Contains bytes 10 → ⊥
 not_in bytes none some = none some.0 some.1 (at_any bytes some.0 some.1 ∙ some.2)
   where

@@ -1,4 +1,4 @@
--- Words parted by spaces are read in one way.
+-- Words split by spaces are read in one way.
 use Rattle.std.proofs.Common.{◌≡◌, ◌≢◌, ◌∙◌, ◌<◌, ◌^◌, ◌+◌, ℕ, zero, suc, List, [], ◌∷◌, refl, sym, ap, map, length, get_or, arith}
 use Rattle.std.specs.Fmt.{decimal}
 use Rattle.std.specs.Int.Digits.{digits_of}
@@ -25,7 +25,7 @@ space_at (b ∷ w) r =
     let further = space_at w r in
     (omega (arith, further.0), further.1)
 
--- words that are parted have a space
+-- words that are split have a space
 pub parted : (words w r : List ℕ) → HasNoSpace words → words ≡ spaced w r → ⊥
 parted words w r h e =
     let at = space_at w r in
@@ -44,7 +44,7 @@ no_space (suc n) f = rw (decimal-digits_of (suc n) (omega arith) f) (digits (dig
 pub decimal_word : (n : ℕ) → n < 2 ^ 64 → IsWord (decimal n)
 decimal_word n f = ((λ e. absurd (omega (arith, decimal_nonempty n f, ap length e))), no_space n f)
 
--- words of which no first one stands apart are not two numbers, nor three
+-- words of which no first one is separate are not two numbers, nor three
 pub whole_not_two : (words : List ℕ) → ((w r : List ℕ) → IsWord w → words ≢ spaced w r) → (a b : ℕ) → AreTwo words a b → ⊥
 whole_not_two words h a b two = h (decimal a) (decimal b) (decimal_word a two.0) two.2
 

@@ -11,7 +11,7 @@ pub each : (known : Option (List ℕ)) (P Q : List ℕ → Type 0) → ((rest : 
 each None P Q step s = s
 each (Some rest) P Q step s = step rest s
 
--- what is held stays, and so the text stands
+-- what is held stays, and so does the text
 pub stays : (old new : Lines) → HoldsSame old new → (known : Option (List ℕ)) (text : List ℕ) → Stands old known text → Stands new known text
 stays old new same None text s = s
 stays old new same (Some rest) text s = record {
@@ -21,7 +21,7 @@ stays old new same (Some rest) text s = record {
   all_came = λ e. s.all_came (sym same.has_ended ∙ e);
 }
 
--- no LF stands in what is gone
+-- no LF is in what is gone
 no_lf_gone : (is_cut : Bool) (gone : List ℕ) → IsGone is_cut gone → HasNoLf gone
 no_lf_gone true gone h = h.0
 no_lf_gone false gone h = subst HasNoLf (sym h) (λ k l e. absurd (omega (arith, l)))
@@ -39,7 +39,7 @@ lets_go is_cut has_ended held front back rest text whole none long s = record {
   all_came = s.all_came;
 }
 
--- nothing stands behind where nothing stands at all
+-- nothing follows where there is nothing at all
 none_behind : (xs ys : List ℕ) → xs ++ ys ≡ [] → ys ≡ []
 none_behind [] ys e = e
 none_behind (x ∷ xs) ys e = cc e
@@ -57,14 +57,14 @@ grows is_cut ended ended_now held bytes text (Some xs) (Some ys) came last s = r
   all_came = λ e. ⊎_elim (λ at_end. at_end) (λ was. none_behind bytes ys (sym came ∙ s.all_came was)) (last e);
 }
 
--- where nothing came, all stands as it was
+-- where nothing came, all is as it was
 pub remains : (is_cut ended : Bool) (held text : List ℕ) (old new : Option (List ℕ)) → Keeps old new
     → IsSomeAnd old (λ rest. HasParts is_cut ended held rest text) → IsSomeAnd new (λ rest. HasParts is_cut ended held rest text)
 remains is_cut ended held text None new kept s = absurd s
 remains is_cut ended held text (Some xs) None kept s = absurd kept
 remains is_cut ended held text (Some xs) (Some ys) kept s = subst (λ (rest : List ℕ). HasParts is_cut ended held rest text) (sym kept) s
 
--- what a read put behind the bytes that are held is held
+-- what a read put after the bytes that are held is held
 pub came : (is_cut ended ended_now : Bool) (xs ys : List ℕ) (s e n f : ℕ) (text : List ℕ) (old new : Option (List ℕ)) → take e ys ≡ take e xs → s ≤ e → f ≡ e + n
     → Consumes old new (take n (drop e ys)) → (ended_now ≡ true → IsAtEnd new ⊎ (ended ≡ true))
     → IsSomeAnd old (λ rest. HasParts is_cut ended (slice_range xs s e) rest text) → IsSomeAnd new (λ rest. HasParts is_cut ended_now (slice_range ys s f) rest text)

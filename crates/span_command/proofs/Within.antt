@@ -1,4 +1,4 @@
--- The places of columns stand for columns.
+-- The places of columns are those of columns.
 use Rattle.std.proofs.Common.{◌≡◌, ℕ, zero, suc, ◌<◌, ◌≤◌, ◌==◌, true, false, List, [], ◌∷◌, Option, Some, None, refl, map, length, get_or, arith}
 use Rattle.std.specs.List.{position_or_len, filter_map, cons_option}
 use Rattle.std.proofs.lemmas.List.Quantifiers.{position-Some}

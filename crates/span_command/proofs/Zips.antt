@@ -15,7 +15,7 @@ pub one_more : {A B : Type 0} (R : A → B → Type 0) (xs : List A) (ys : List 
 one_more R xs ys i d x y lt is h r =
     subst (λ l. AllZip R l (ys ++ y ∷ [])) (ap (λ z. take i xs ++ z ∷ []) is ∙ sym (take_more xs i d lt)) (push R (take i xs) ys x y h r)
 
--- where nothing stands in the relation to one element, no list does to all
+-- where nothing is in the relation to one element, no list does to all
 pub none_at : {A B : Type 0} (R : A → B → Type 0) (xs : List A) (i : ℕ) (d x : A)
     → i < length xs → x ≡ get_or xs i d → ((y : B) → R x y → ⊥) → (ys : List B) → AllZip R xs ys → ⊥
 none_at R [] i d x lt is none ys h = omega arith

@@ -9,12 +9,12 @@ use Rattle.span_record.specs.Record.{pieces}
 abbrev pub AreBelow : ℕ → List ℕ → Type 0
 AreBelow n places = (length places ≡ n) × ((i : ℕ) → i < n → get_or places i 0 ≡ i)
 
--- no number stands twice
+-- no number is there twice
 abbrev pub NoneTwice : List ℕ → Type 0
 NoneTwice [] = ⊤
 NoneTwice (place ∷ places) = (list_any (λ other. place == other) places ≡ false) × NoneTwice places
 
--- the columns of these names stand at these places, counted from 0, and none is named twice
+-- the columns of these names are at these places, counted from 0, and none is named twice
 abbrev pub AreNamed : List Column → List (List ℕ) → List ℕ → Type 0
 AreNamed columns names places = (map (column_place columns) names ≡ map Some places) × NoneTwice places
 
@@ -23,7 +23,7 @@ abbrev pub IsUnplaced : List Column → List ℕ → List ℕ → Type 0
 IsUnplaced columns before name =
     (column_place columns name ≡ None) ⊎ ((place : ℕ) × (column_place columns name ≡ Some place) × (list_any (λ other. other == place) before ≡ true))
 
--- The columns that a text names: all in order where it is `*`, else those whose names stand between its commas.
+-- The columns that a text names: all in order where it is `*`, else those whose names are between its commas.
 abbrev pub ArePlaces : List Column → List ℕ → List ℕ → Type 0
 ArePlaces columns text places = (text ≡ codes "*" → AreBelow (length columns) places) × ((text ≡ codes "*" → ⊥) → AreNamed columns (pieces text) places)
 

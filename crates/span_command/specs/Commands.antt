@@ -47,7 +47,7 @@ command_text (command.Query bound text) = spaced (codes "query") (spaced (bound_
 command_text (command.Trim slot horizon) = two (codes "trim") slot horizon
 command_text command.Shards = codes "shards"
 
--- the parts of a command that stand as words are words, and its names are names
+-- the parts of a command that are written as words are words, and its names are names
 abbrev pub AreWords : Command → Type 0
 AreWords (command.Param name kind cell) = is_name_text name.now ≡ true
 AreWords (command.Write kind table columns row) = (kind ≢ mutation.Delete) × IsWord table.now × IsWord columns.now

@@ -12,7 +12,7 @@ risen n = min (n + 1) (2 ^ 64 - 1)
 abbrev pub failures_of : {R : Type 0} → Counted R → ℕ
 failures_of c = c.failures
 
--- The bytes that an input still gives that has given so many: what its device is known to have left, where that does not go beyond what an
+-- The bytes that an input still gives after `count` bytes: what its device is known to have left, where that does not go beyond what an
 -- input gives.
 abbrev pub given : ℕ → Option (List ℕ) → Option (List ℕ)
 given count known = option_and_then (λ bytes. if nat_le (count + length bytes) MOST_BYTES then Some bytes else None) known

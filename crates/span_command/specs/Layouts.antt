@@ -42,7 +42,7 @@ IsOfRecord layout kind fields m = (length fields ≡ layout.fields) × (m.kind �
 abbrev pub IsColumnAt : List Column → ℕ → Column → Type 0
 IsColumnAt columns place column = slice_get columns place ≡ Some column
 
--- the field for the key's column at a place: the first that stands for it
+-- the field for the key's column at a place: the first that is for it
 abbrev pub IsKeyField : List Column → List ℕ → ℕ → KeyField → Type 0
 IsKeyField columns places place part =
     (position (λ p. p == place) places ≡ Some part.at) × ((column : Column) × IsColumnAt columns place column × (part.kind ≡ kind_of column.kind))
@@ -62,7 +62,7 @@ IsLayout tables n places layout = (layout.fields ≡ length places)
     × AllZip (IsKeyField (columns_of tables n) places) (key_places tables n) layout.key.items
     × AllZip (IsCellField (columns_of tables n)) (outside_key (key_places tables n) places) layout.cells.items
 
--- a column of the key stands at none of the places
+-- a column of the key is at none of the places
 abbrev pub LacksKey : List ℕ → List ℕ → Type 0
 LacksKey key places = (i : ℕ) × (i < length key) × (position (λ p. p == get_or key i 0) places ≡ None)
 

@@ -1,11 +1,11 @@
 -- The lines of a text. An LF ends each; the last may have none.
 use Rattle.std.specs.Prelude.{◌≡◌, ◌≢◌, ◌⊎◌, ℕ, ◌<◌, List, [], ◌∷◌, ◌++◌, length, slice_index}
 
--- no LF stands among the bytes
+-- no LF is among the bytes
 abbrev pub HasNoLf : List ℕ → Type 0
 HasNoLf bytes = (i : ℕ) → i < length bytes → slice_index bytes i ≢ 10
 
--- a line that an LF ends, and what stands behind the LF
+-- a line that an LF ends, and the rest after the LF
 abbrev pub FirstLine : List ℕ → List ℕ → List ℕ → Type 0
 FirstLine text line behind = HasNoLf line × (text ≡ line ++ 10 ∷ behind)
 
@@ -13,6 +13,6 @@ FirstLine text line behind = HasNoLf line × (text ≡ line ++ 10 ∷ behind)
 abbrev pub LastLine : List ℕ → List ℕ → List ℕ → Type 0
 LastLine text line behind = HasNoLf text × (text ≢ []) × (line ≡ text) × (behind ≡ [])
 
--- the next line of a text, and what stands behind it; an empty text has none
+-- the next line of a text, and the rest after it; an empty text has none
 abbrev pub NextLine : List ℕ → List ℕ → List ℕ → Type 0
 NextLine text line behind = FirstLine text line behind ⊎ LastLine text line behind

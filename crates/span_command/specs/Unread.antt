@@ -56,7 +56,7 @@ IsKept false kept line = line ≡ kept
 abbrev pub IsTaken : Lines → List ℕ → Type 0
 IsTaken lines line = IsKept lines.taken_is_cut (slice_range lines.buffer.items lines.taken_from lines.taken_to) line
 
--- the next line of the text was taken, and what is behind it stands
+-- the next line of the text was taken, and the rest after it stays
 pub record TakesNext (lines : Lines) (known : Option (List ℕ)) (text : List ℕ) : Type 0 where
   pub line : List ℕ
   pub behind : List ℕ
@@ -64,7 +64,7 @@ pub record TakesNext (lines : Lines) (known : Option (List ℕ)) (text : List �
   pub is_taken : IsTaken lines line
   pub stands : Stands lines known behind
 
--- what is held, and what is known of it, stays
+-- what is held, and what is known about it, stays
 pub record HoldsSame (old new : Lines) : Type 0 where
   pub held : held new ≡ held old
   pub is_cut : new.is_cut ≡ old.is_cut

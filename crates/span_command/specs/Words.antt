@@ -10,7 +10,7 @@ use Rattle.span_truetime.specs.declared.bound.Bound.TheVariants.{Strong, At}
 use Rattle.span_value.specs.declared.value.Kind.{Kind}
 use Rattle.span_value.specs.declared.value.Kind.TheVariants as kind
 
--- no space stands in the text
+-- no space is in the text
 abbrev pub HasNoSpace : List ℕ → Type 0
 HasNoSpace text = (i : ℕ) → i < length text → get_or text i 0 ≢ 32
 
@@ -18,7 +18,7 @@ HasNoSpace text = (i : ℕ) → i < length text → get_or text i 0 ≢ 32
 abbrev pub IsWord : List ℕ → Type 0
 IsWord word = (word ≢ []) × HasNoSpace word
 
--- a word, and what stands behind its space
+-- a word, and the rest after its space
 abbrev pub spaced : List ℕ → List ℕ → List ℕ
 spaced word rest = word ++ 32 ∷ rest
 

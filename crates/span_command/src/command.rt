@@ -10,7 +10,7 @@ use span_mutate::mutation::MutationKind;
 use span_truetime::bound::Bound;
 use span_value::value::Kind;
 
-/// What a line asks for. The words of a table, of columns, of a record and of a cell are judged when the command is done.
+/// What a line asks for. The words of a table, of columns, of a record and of a cell are checked when the command is done.
 #[derive(Clone, Copy, Debug, PartialEq, Eq)]
 pub enum Command<'a> {
     Clock {
@@ -113,7 +113,7 @@ fn read_lone_word(word: &str) -> Option<Command<'_>>
     }
 }
 
-/// A command that has numbers alone behind its word.
+/// A command that has only numbers after its word.
 fn read_numbered<'a>(word: &str, numbers: &str) -> Option<Command<'a>>
     ensures { IfSome result (IsCommand (spaced word.now numbers.now)) }
 {

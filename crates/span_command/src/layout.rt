@@ -146,7 +146,7 @@ fn cell_of(alloc: Global, part: &CellField, fields: &StringRecord) -> Result<Cel
     })
 }
 
-/// The places of the columns that are named, counted from 0: all of the table in order where `columns` is `*`, else those whose names stand
+/// The places of the columns that are named, counted from 0: all of the table in order where `columns` is `*`, else those whose names are
 /// between its commas. `NoColumn`: no such column, or one named twice.
 #[tactic(auto, using(crate::proofs::Within::named_within, crate::proofs::Within::below_within))]
 fn places_of(
@@ -177,7 +177,7 @@ fn places_below(alloc: Global, count: usize) -> Result<Vec<usize>, AllocError>
     Ok(places)
 }
 
-/// The places of the columns whose names stand between the commas. `NoColumn`: no such column, or one named twice.
+/// The places of the columns whose names are between the commas. `NoColumn`: no such column, or one named twice.
 fn places_named(
     alloc: Global,
     schema: &Schema,

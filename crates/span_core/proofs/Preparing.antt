@@ -57,7 +57,7 @@ module _ (schema : List Table) (j : Journaled) (cs : List KeyVersions) (w : IsWh
   pub new : HasNoneOf txn cs
   new = prepare_new schema w.rules (machine_of j) w.reached cs w.kept owner txn may.transaction may.book may.found here_zero accepted_zero
 
-  -- what is left to judge: room, and then the timestamp
+  -- what is left to check: the capacity, and then the timestamp
   abbrev stamped : Answer
   stamped = unless_refused (machine_of j) (stamp_refusal may.book) (prepared (machine_of j) owner txn slot may.book)
 

@@ -57,11 +57,11 @@ start_whole schema rules j is none = record {
   pieced = subst (ArePieced schema (machine_of j)) (sym none) (no_pieces schema (machine_of j));
 }
 
--- what is understood of a text where a step has none
+-- what is understood of a query text where a step has none
 abbrev pub no_text : Result Statement Refusal
 no_text = Err refusal.Syntax
 
--- a step that has no text, by the machine's answer
+-- a step that has no query text, by the machine's answer
 pub answered : (schema : List Table) (m : Machine) (s : Step) (r : Reply) (n : Machine) → IsUnderstood (Understands schema) s no_text → answer schema m no_text s ≡ (r, n) → Steps schema m s r n
 answered schema m s r n none e = inl (no_text, none, (sym (ap (λ (a : Answer). a.0) e), sym (ap (λ (a : Answer). a.1) e)))
 
@@ -76,7 +76,7 @@ pub opened_steps : (schema : List Table) (m : Machine) (text : List ℕ) (params
 opened_steps schema m text params bound interval q r n understood (inl e) = inl (Ok q, understood, e)
 opened_steps schema m text params bound interval q r n understood (inr e) = inr (refl, e)
 
--- a text that is refused, or memory that lacks
+-- a query text that is refused, or out of memory
 pub refused_steps : (schema : List Table) (m : Machine) (text : List ℕ) (params : List Parameter) (bound : Bound) (interval : Interval) (why : Refusal) → (why ≡ refusal.OutOfMemory) ⊎ Understands schema text params (Err why)
     → Steps schema m (step.Open text params bound interval) (reply.Refused why) m
 refused_steps schema m text params bound interval why (inl memory) = inr (refl, (ap reply.Refused memory, refl))

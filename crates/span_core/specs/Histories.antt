@@ -1,4 +1,4 @@
--- The machine's steps and whole runs, where texts are understood as `span_statement` understands them.
+-- The machine's steps and whole runs, where query texts are understood as `span_statement` understands them.
 use Rattle.std.specs.Prelude.{List}
 use Rattle.span_schema.specs.declared.table.Table.{Table}
 use Rattle.span_machine.specs.declared.step.Step.{Step}

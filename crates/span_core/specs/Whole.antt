@@ -35,6 +35,6 @@ IsRead schema cs table s shown = IsReading schema table (snapshot (family (root_
 abbrev pub AreNoRows : List Table → List KeyRow → Type 0
 AreNoRows schema entries = (rows : List TableRow) → AreTyped schema rows → entries ≡ map (key_row schema) rows → ⊥
 
--- why no rows are read: want of memory, or bytes that are no row
+-- why no rows are read: out of memory, or bytes that are no row
 abbrev pub IsUnread : List Table → List KeyVersions → ℕ → ℕ → Refusal → Type 0
 IsUnread schema cs table s why = (why ≡ OutOfMemory) ⊎ AreNoRows schema (snapshot (family (root_of schema table)) s cs)

@@ -80,7 +80,7 @@ impl Core {
         self.journal.books().len()
     }
 
-    /// What is told of a slot; None where it is not in use.
+    /// The report of a slot; None where it is not in use.
     pub fn slot_state(&self, slot: usize) -> Option<SlotState>
         ensures book { MatchOption result (slice_get self.now.machine.books slot ≡ None) (λ s. slice_get self.now.machine.books slot ≡ Some (record { last = s.last; floor = s.floor; horizon = s.horizon })) }
         ensures prepared { IfSome result (λ s. s.prepared ≡ count_by (is_prepared_at slot) self.now.machine.transactions) }
@@ -95,7 +95,7 @@ impl Core {
         })
     }
 
-    /// Takes one step, and answers the machine's reply. `Refused(OutOfMemory)` may stand in its place for a step that may take memory,
+    /// Takes one step, and returns the machine's reply. `Refused(OutOfMemory)` may take its place for a step that may take memory,
     /// and then nothing has changed. A transaction that is begun was checked against the database's schema.
     pub fn step(&mut self, alloc: Global, step: Step) -> Reply
         requires { IsOfSchema self.old.schema step }

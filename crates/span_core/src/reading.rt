@@ -104,7 +104,7 @@ fn value_at(alloc: Global, schema: &Schema, row: &TableRow, place: usize) -> Res
     }
 }
 
-/// The value that stands for a place.
+/// The value for a place.
 fn value_for<'a>(places: &[usize], values: &'a [Value], place: usize) -> Option<&'a Value>
     ensures { option_copied result ≡ value_for places.now values.now place }
 {

@@ -11,9 +11,9 @@ use std::alloc::Global;
 
 /// The replies to the steps, in order, from an empty database. Whatever the steps are, in whatever order prepares, decisions, applies
 /// and scans fall: every reply is the machine's, and a query that is answered at timestamp s gets exactly the rows, in order, that
-/// its text means on the tables made by running, in the order of their timestamps, every transaction that the whole list commits at s
-/// or earlier; where one is refused for an arithmetic fault, its text means the fault there. The transactions that are begun were checked against the schema. `OutOfMemory`, before the first step, is the only
-/// refusal.
+/// its query text means on the tables made by running, in the order of their timestamps, every transaction that the whole list commits
+/// at s or earlier; where one is refused for an arithmetic fault, its query text means the fault there. The transactions that are begun
+/// were checked against the schema. `OutOfMemory`, before the first step, is the only refusal.
 pub fn run(alloc: Global, schema: Schema, steps: Vec<Step>) -> Result<Vec<Reply>, Refusal>
     requires { AreOfSchema schema steps.items }
     ensures history { IfOk result (λ replies. IsHistory schema steps.items replies.items) }

@@ -1,4 +1,4 @@
-//! What is told of a slot.
+//! The report of a slot.
 
 /// A slot in use.
 #[derive(Clone, Copy, Debug, PartialEq, Eq)]

@@ -8,7 +8,7 @@ use super::*;
 use std::alloc::Global;
 use std::test::Fail;
 
-/// A table of users, by a number, with a text.
+/// A table of users, by a number, with a string.
 fn users(alloc: Global) -> Result<Table, Fail> {
     let mut columns = Seq::new(alloc);
     columns.push(Column {

@@ -1,5 +1,5 @@
-//! For tests alone: two transactions and two queries by steps on a core. A step that answers want of memory is taken again, so that a
-//! growth that is refused inside a step changes nothing of what is written.
+//! For tests alone: two transactions and two queries by steps on a core. A step that answers `OutOfMemory` is taken again, so that an
+//! allocation that fails inside a step changes nothing of what is written.
 #![tactic(auto)]
 
 mod schema;
@@ -72,7 +72,7 @@ fn run(rt: &(impl AllocGlobal + Print + Eprint)) -> Result<(), Fault> {
     Ok(())
 }
 
-/// Takes a step, and once more where it answers want of memory.
+/// Takes a step, and once more where it answers `OutOfMemory`.
 fn take(rt: &impl Eprint, alloc: Global, core: &mut Core, number: usize) -> Result<Reply, Fault> {
     let reply = reply_at(alloc, core, number)?;
     match reply {

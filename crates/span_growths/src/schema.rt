@@ -16,7 +16,7 @@ pub fn users_and_albums(alloc: Global) -> Result<Schema, Fault> {
     Ok(Schema::new(alloc, tables)?)
 }
 
-/// A table of INT64 columns, which are its key, and a column of texts.
+/// A table of INT64 columns, which are its key, and a column of strings.
 fn table(
     alloc: Global,
     name: &str,

@@ -10,7 +10,7 @@ use std::alloc::Global;
 /// How many steps there are.
 pub const COUNT: usize = 17;
 
-/// A row: its table, its key, and its text with the column that has it.
+/// A row: its table, its key, and its string with the column that has it.
 struct Asked<'a> {
     kind: MutationKind,
     table: &'a str,

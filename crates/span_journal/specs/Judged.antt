@@ -20,7 +20,7 @@ use Rattle.span_machine.specs.Machine.{trim_refusal, Machine, first_cause, is_tr
 use Rattle.span_machine.specs.Pieces.{Pieced, Journaled, covered_by, machine_of}
 use Rattle.span_journal.specs.declared.journal.Gap.{Gap}
 
--- the reply that a call's result stands for
+-- the reply of a call's result
 abbrev pub replied : {A : Type 0} → (A → Reply) → Result A Refusal → Reply
 replied make (Ok x) = make x
 replied make (Err why) = reply.Refused why
@@ -30,7 +30,7 @@ abbrev pub decided : Option ℕ → Reply
 decided None = reply.Aborted
 decided (Some ts) = reply.Decided ts
 
--- what a commit timestamp, or none, says of a transaction
+-- the decision of a commit timestamp, or of none
 abbrev pub outcome_of : Option ℕ → Outcome
 outcome_of None = outcome.Aborted
 outcome_of (Some ts) = outcome.Committed ts
@@ -44,7 +44,7 @@ pub record MayPrepare (schema : List Table) (m : Machine) (owner txn slot : ℕ)
   pub accepted : prepare_refusal schema m slot transaction book ≡ None
   pub mutations : ms ≡ mutations_in schema book transaction.mutations
 
--- the refusal for want of timestamps, if there is no prepare timestamp left
+-- the refusal `TimestampRange`, if there is no prepare timestamp left
 abbrev pub stamp_refusal : Book → Option Refusal
 stamp_refusal book = first_cause ((nat_le timestamp_end (prepare_timestamp book), TimestampRange) ∷ [])
 
@@ -56,7 +56,7 @@ pub record IsNoted (old : Machine) (owner txn slot ts : ℕ) (new : Machine) : T
   pub at : ts ≡ prepare_timestamp book
   pub after : new ≡ (prepared old owner txn slot book).1
 
--- why a transaction is not noted: no such transaction, no such slot, no timestamp left, or want of memory
+-- why a transaction is not noted: no such transaction, no such slot, no timestamp left, or out of memory
 abbrev pub IsUnnoted : Machine → ℕ → ℕ → ℕ → Refusal → Type 0
 IsUnnoted m owner txn slot why = (why ≡ OutOfMemory) ⊎ ((find (is_transaction owner txn) m.transactions ≡ None) ⊎ ((slice_get m.books slot ≡ None) ⊎ ((book : Book) × (slice_get m.books slot ≡ Some book) × (stamp_refusal book ≡ Some why))))
 

@@ -54,12 +54,12 @@ pub struct Gap {
     pub s: u64,
 }
 
-/// What is known of slots, transactions and queries.
+/// The state of slots, transactions and queries.
 #[derive(Debug, Drop)]
 pub struct Journal {
     books: Vec<Book>,
     transactions: Vec<KeptTransaction>,
-    /// It has room for each undecided transaction.
+    /// It has reserved capacity for each undecided transaction.
     log: Vec<Commit>,
     queries: Vec<KeptQuery>,
     next_transaction: u64,
@@ -114,7 +114,7 @@ impl Journal {
         })
     }
 
-    /// What is known of the slots in use, in their order.
+    /// The states of the slots in use, in their order.
     pub fn books(&self) -> &[Book]
         ensures { result.now ≡ self.now.books }
     {
@@ -128,7 +128,7 @@ impl Journal {
         count_prepared(self.transactions.as_slice(), slot)
     }
 
-    /// Begins a transaction, and answers its number. It makes the room in the log and the mutations of the log's entry, which the
+    /// Begins a transaction, and returns its number. It reserves the log's capacity and makes the mutations of the log's entry, which the
     /// commit takes. `TransactionTableFull`, then `LogFull`, then `OutOfMemory`; a refusal leaves all as it was.
     pub fn begin(
         &mut self,
@@ -180,7 +180,7 @@ impl Journal {
         Ok(number)
     }
 
-    /// Decides a transaction: answers its commit timestamp, or None for an abort. It takes no memory: `begin` made the room.
+    /// Decides a transaction: returns its commit timestamp, or None for an abort. It takes no memory: `begin` reserved the capacity.
     /// `UnknownTransaction`, then `WrongState`, then `TimestampRange`; a refusal leaves all as it was.
     pub fn decide(
         &mut self,
@@ -311,7 +311,7 @@ impl Journal {
         Ok(mutations)
     }
 
-    /// Notes that a transaction is prepared at the slot, and answers its prepare timestamp. A refusal leaves all as it was.
+    /// Notes that a transaction is prepared at the slot, and returns its prepare timestamp. A refusal leaves all as it was.
     pub fn note_prepared(&mut self, owner: u64, txn: u64, slot: usize) -> Result<u64, Refusal>
         ensures ok { IfOk result (λ ts. IsNoted (machine_of self.old) owner txn slot ts (machine_of self.new)) }
         ensures why { IfErr result (λ why. IsUnnoted (machine_of self.old) owner txn slot why) }
@@ -332,7 +332,7 @@ impl Journal {
         Ok(timestamp)
     }
 
-    /// Notes that a decided transaction is applied at the slot, and answers its commit timestamp, or None for an aborted one. It
+    /// Notes that a decided transaction is applied at the slot, and returns its commit timestamp, or None for an aborted one. It
     /// takes no memory. `UnknownTransaction`, then `NoSlot`, then `WrongState`, then `TooEarly`; a refusal leaves all as it was.
     pub fn note_applied(
         &mut self,
@@ -362,7 +362,7 @@ impl Journal {
         Ok(committed)
     }
 
-    /// Raises the floor of the slot to the latest time that it may be now, and answers it. It takes no memory. `NoSlot`.
+    /// Raises the floor of the slot to the latest time that it may be now, and returns it. It takes no memory. `NoSlot`.
     pub fn advance(&mut self, slot: usize, interval: Interval) -> Result<u64, Refusal>
         ensures step { IsAnswer (advance (machine_of self.old) slot interval) (replied reply_of.Floor result) (machine_of self.new) }
         ensures pieces { self.new.queries ≡ self.old.queries }
@@ -422,7 +422,7 @@ impl Journal {
         }
     }
 
-    /// Opens a query, and answers its number and the timestamp that it reads at. `TimestampRange`, then `QueryTableFull`, then
+    /// Opens a query, and returns its number and the timestamp that it reads at. `TimestampRange`, then `QueryTableFull`, then
     /// `OutOfMemory`; a refusal leaves all as it was.
     pub fn open(
         &mut self,
@@ -443,7 +443,7 @@ impl Journal {
         Ok((number, s))
     }
 
-    /// Judges a scan of a leaf of the query in the slot: what may be read where the leaf's range is uncovered there and safe time has
+    /// Checks a scan of a leaf of the query in the slot: what may be read where the leaf's range is uncovered there and safe time has
     /// reached the query's timestamp, or None where nothing is uncovered. `UnknownQuery`, also where the query has no such leaf, then
     /// `NoSlot`, then `Trimmed` below the horizon, then `NotYet`, after which alone the slot's floor may have risen.
     pub fn claim_gap(

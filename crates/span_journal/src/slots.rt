@@ -1,4 +1,4 @@
-//! What is known of the slots, and the timestamps that they allow.
+//! The states of the slots, and the timestamps that they allow.
 ghost use Rattle.std.specs.Prelude.{◌≡◌, ◌<◌, ◌≤◌, ◌+◌, ◌^◌, ◌==◌, ◌&&◌, ◌||◌, not, false, max, length, nat_le, nat_lt, slice_get, slice_set, IfSome, IfNone};
 ghost use Rattle.std.specs.List.{list_any, list_all};
 ghost use Rattle.std.specs.Option.{option_copied};
@@ -197,7 +197,7 @@ pub(crate) fn set_horizon(books: &mut Vec<Book>, slot: usize, h: u64)
     books[slot].horizon = h;
 }
 
-/// What is known of the slot, if it is in use.
+/// The state of the slot, if it is in use.
 pub(crate) fn book_at(books: &[Book], slot: usize) -> Option<&Book>
     ensures { option_copied result ≡ slice_get books.now slot }
 {

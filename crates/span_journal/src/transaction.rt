@@ -77,7 +77,7 @@ impl KeptTransaction {
         self.open.number
     }
 
-    /// What was decided of it.
+    /// The decision on it.
     pub(crate) fn outcome(&self) -> Outcome
         ensures { result ≡ self.now.outcome }
     {

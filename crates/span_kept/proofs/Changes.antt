@@ -62,7 +62,7 @@ same_row_is None (Some b) e = absurd (let bad : false ≡ true = e in cc)
 same_row_is (Some a) None e = absurd (let bad : false ≡ true = e in cc)
 same_row_is (Some a) (Some b) e = ap Some ((bytes_eq-Decides a b).0 e)
 
--- bytes are alike either way round
+-- equality of bytes is symmetric
 turned_bytes : (a b : List ℕ) → bytes_eq a b ≡ bytes_eq b a
 turned_bytes a b = cases (bytes_eq a b) (bytes_eq b a) refl refl
   where
@@ -138,7 +138,7 @@ module _ (schema : List Table) (k : List ℕ) (ts : ℕ) (before after : List Ta
   same_test : (r q : TableRow) → code_of schema r ≡ k → has_same_key schema r q ≡ is_coded schema k q
   same_test r q e = sym (is_eq-slice_cmp (code_of schema r) (code_of schema q)) ∙ ap (λ (l : List ℕ). eq_by_cmp byte_order l (code_of schema q)) e
 
-  -- a row after that did not stand so before
+  -- a row after that was not the same before
   abbrev is_new : TableRow → Bool
   is_new r = not (list_any (is_same schema r) before)
 
@@ -146,14 +146,14 @@ module _ (schema : List Table) (k : List ℕ) (ts : ℕ) (before after : List Ta
   abbrev is_gone : TableRow → Bool
   is_gone r = not (list_any (has_same_key schema r) after)
 
-  -- a row at the key is new where another one or none stood there
+  -- a row at the key is new where another one or none was there
   new_is : (r : TableRow) → code_of schema r ≡ k → is_new r ≡ not (list_any (λ (q : TableRow). bytes_eq (row_code r.cells) (row_code q.cells)) (option_to_list (find (is_coded schema k) before)))
   new_is r e = ap not (
       any_both (has_same_key schema r) (λ (q : TableRow). bytes_eq (row_code r.cells) (row_code q.cells)) before
       ∙ ap (list_any (λ (q : TableRow). bytes_eq (row_code r.cells) (row_code q.cells))) (filter_agree (has_same_key schema r) (is_coded schema k) (λ q. same_test r q e) before ∙ coded_alone schema k before before_apart)
       )
 
-  -- and gone where none stands there after
+  -- and gone where none is there after
   gone_is : (r : TableRow) → code_of schema r ≡ k → is_gone r ≡ not (is_some (find (is_coded schema k) after))
   gone_is r e = ap not (any_alike (has_same_key schema r) (is_coded schema k) after (all_whole (λ q. has_same_key schema r q ≡ is_coded schema k q) (λ q. same_test r q e) after) ∙ any_found (is_coded schema k) after)
 
@@ -206,7 +206,7 @@ module _ (schema : List Table) (k : List ℕ) (ts : ℕ) (before after : List Ta
 
 -- ---- the changes of a directory's commits at a key
 
--- the changes that a directory's commits make at a key, behind a directory that is there
+-- the changes that a directory's commits make at a key, after a directory that is there
 abbrev pub changes_made_from : List Table → Root → List ℕ → List TableRow → List Commit → List Change
 changes_made_from schema root k db [] = []
 changes_made_from schema root k db (c ∷ cs) =

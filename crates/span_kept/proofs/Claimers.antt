@@ -33,7 +33,7 @@ first_of_one : (books : List Book) → length books ≡ 1 → (b : Book) × (sli
 first_of_one [] e = absurd (omega arith)
 first_of_one (b ∷ bs) e = (b, refl)
 
--- a reached machine has the book of slot 0
+-- a reached machine has the state of slot 0
 pub first_book : (schema : List Table) (m : Machine) → IsReached schema m → (b : Book) × (slice_get m.books 0 ≡ Some b)
 first_book schema m reached = first_of_one m.books reached.sound.one_slot
 

@@ -29,7 +29,7 @@ pub filter_alike : {X : Type 0} (p q : X → Bool) (xs : List X) → AllByRecurs
 filter_alike p q [] same = refl
 filter_alike {X} p q (x ∷ xs) same = ap (λ (b : Bool). cond b (x ∷ filter p xs) (filter p xs)) same.0 ∙ ap (λ (l : List X). cond (q x) (x ∷ l) l) (filter_alike p q xs same.1)
 
--- and find something alike
+-- and find equal things
 pub any_alike : {X : Type 0} (p q : X → Bool) (xs : List X) → AllByRecursion (λ x. p x ≡ q x) xs → list_any p xs ≡ list_any q xs
 any_alike p q [] same = refl
 any_alike p q (x ∷ xs) same = ap (λ (b : Bool). b || list_any p xs) same.0 ∙ ap (λ (b : Bool). q x || b) (any_alike p q xs same.1)
@@ -75,7 +75,7 @@ abbrev pub newest_first : List Change → List Version
 newest_first [] = []
 newest_first (c ∷ cs) = newest_first cs ++ version_of c ∷ []
 
--- those of changes behind others stand in front of theirs
+-- those of later changes are in front of those of the others
 pub newest_joined : (cs ds : List Change) → newest_first (cs ++ ds) ≡ newest_first ds ++ newest_first cs
 newest_joined [] ds = sym (append-nil (newest_first ds))
 newest_joined (c ∷ cs) ds = ap (λ (vs : List Version). vs ++ version_of c ∷ []) (newest_joined cs ds) ∙ append_assoc {A = Version} (newest_first ds) (newest_first cs) (version_of c ∷ [])
@@ -131,7 +131,7 @@ old_is_early h (c ∷ cs) =
     ∙ ap (λ (b : Bool). has_early h cs || b) (or_nothing (nat_le c.timestamp h))
     ∙ or_turned (has_early h cs) (nat_le c.timestamp h)
 
--- an older version behind others is left out where one of them is at or below the horizon
+-- an older version after others is left out where one of them is at or below the horizon
 upto_behind : (h : ℕ) (vs : List Version) (v : Version) → kept_upto h (vs ++ v ∷ []) ≡ cond (has_old h vs) (kept_upto h vs) (vs ++ kept_upto h (v ∷ []))
 upto_behind h [] v = refl
 upto_behind h (w ∷ vs) v = elim (nat_le w.timestamp h) as (λ b. cond b (kept_version w w.row) (w ∷ kept_upto h (vs ++ v ∷ []))
@@ -153,7 +153,7 @@ upto_late h (w ∷ vs) e = cases (nat_le w.timestamp h) (upto_late h vs) e
     cases true again f = absurd (let bad : true ≡ false = f in cc)
     cases false again f = ap (λ (l : List Version). w ∷ l) (again f)
 
--- tests of numbers, by what is known of them
+-- tests of numbers, by what is known about them
 not_before : (t u : ℕ) → t < u → nat_lt u t ≡ false
 not_before t u low = grind (arith, nat_tests)
 
@@ -254,7 +254,7 @@ kept_count h (c ∷ cs) up =
 
 -- ---- sums over keys
 
--- numbers that are alike have one sum
+-- equal numbers have one sum
 pub sum_alike : {X : Type 0} (f g : X → ℕ) (xs : List X) → AllByRecursion (λ x. f x ≡ g x) xs → sum_by f xs ≡ sum_by g xs
 sum_alike f g [] same = refl
 sum_alike f g (x ∷ xs) same = sum_by-cons f x xs ∙ ap (λ (n : ℕ). n + sum_by f xs) same.0 ∙ ap (λ (n : ℕ). g x + n) (sum_alike f g xs same.1) ∙ sym (sum_by-cons g x xs)
@@ -278,7 +278,7 @@ sum_split f g (x ∷ xs) =
 abbrev counted : List ℕ → KeyVersions → ℕ
 counted k c = cond (eq_by_cmp byte_order c.key k) 1 0
 
--- keys are alike either way round
+-- equality of keys is symmetric
 turned_key : (a b : List ℕ) → eq_by_cmp byte_order a b ≡ eq_by_cmp byte_order b a
 turned_key a b = cases (eq_by_cmp byte_order a b) (eq_by_cmp byte_order b a) refl refl
   where

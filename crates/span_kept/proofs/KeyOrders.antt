@@ -41,7 +41,7 @@ same_flags true false = refl
 same_flags false true = refl
 same_flags false false = refl
 
--- values of one kind stand in one order
+-- values of one kind are in one order
 same_order : (k : Kind) (v w : Value) → Fits k v → Fits k w → value_order v w ≡ value_cmp v w
 same_order kind.Int value.Null w f g = null_first w
 same_order kind.Int (value.Int x) value.Null f g = null_last (value.Int x)
@@ -87,7 +87,7 @@ here_is (f ∷ fs) cs c = here_is fs cs c
 next_place : (front : List KeyPart) (c : KeyPart) → length (front ++ c ∷ []) ≡ length front + 1
 next_place front c = length-append front (c ∷ [])
 
--- keys from a column on, by the columns behind it
+-- keys from a column on, by the columns after it
 same_from : (front cs : List KeyPart) (vs ws : List Value) → AreFit cs vs → AreFit cs ws → order_from (front ++ cs) (length front) vs ws ≡ tuple_cmp cs vs ws
 same_from front [] [] [] f g = refl
 same_from front [] [] (w ∷ ws) f g = absurd g
@@ -111,7 +111,7 @@ then_equal Less = refl
 then_equal Equal = refl
 then_equal Greater = refl
 
--- codings of keys of one table stand as the keys
+-- codings of keys of one table are in the order of the keys
 pub code_order : (schema : List Table) → MeetsRules schema → (n : ℕ) (vs ws : List Value) → IsKey schema n vs → IsKey schema n ws → byte_order (key_code schema n vs) (key_code schema n ws) ≡ key_order (key_columns schema n) vs ws
 code_order schema rules n vs ws f g =
     let decides = (order_in_table schema rules n vs ws f g).at [] [] in

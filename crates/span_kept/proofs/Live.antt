@@ -141,7 +141,7 @@ prepared_claimed schema db k test (t ∷ ts) none =
 
 -- ---- lists
 
--- what passes stands in the filter
+-- what passes is in the filtered list
 in_filter : {X : Type 0} (test : X → Bool) (xs : List X) (x : X) → IsIn x xs → test x ≡ true → IsIn x (filter test xs)
 in_filter test [] x at e = absurd (let bad = at.1 in cc)
 in_filter {X} test (y ∷ ys) x at e = by_place (in_cons x y ys at) (λ rest. in_filter test ys x rest e)
@@ -154,7 +154,7 @@ in_filter {X} test (y ∷ ys) x at e = by_place (in_cons x y ys at) (λ rest. in
     by_place (inl same) again = subst (λ (b : Bool). IsIn x (cond b (y ∷ filter test ys) (filter test ys))) (sym (ap test (sym same) ∙ e)) (0, ap Some (sym same))
     by_place (inr rest) again = later (test y) (again rest)
 
--- a list in which something stands is not empty
+-- a list that has an element is not empty
 not_empty : {X : Type 0} (xs : List X) (x : X) → IsIn x xs → length xs ≢ 0
 not_empty [] x at e = let bad = at.1 in cc
 not_empty (y ∷ ys) x at e = omega arith
@@ -309,11 +309,11 @@ module _ (schema : List Table) (rules : MeetsRules schema) (m : Machine) (cs : L
     abbrev made_count : ℕ
     made_count = length (kept_upto (horizon_of m) (made schema root k (commits_at schema root m.log)))
 
-    -- where all commits are applied, they stand in the shard
+    -- where all commits are applied, they are in the shard
     versions_count : HasRows schema root k (horizon_of m) (commits_at schema root m.log) (versions_at cs k) → length (versions_at cs k) ≡ made_count
     versions_count has = ap length has.versions
 
-    -- where the last commit is not applied yet, its version stands prepared
+    -- where the last commit is not applied yet, its version is prepared
     pending_count : (t : OpenTransaction) (ts : ℕ) → horizon_of m < ts → IsPending schema root k (horizon_of m) (commits_at schema root m.log) (versions_at cs k) (prepared_at cs k) t ts → made_count ≡ has_count
     pending_count t ts late pending =
         let c : Commit = commit_of ts t in
@@ -327,7 +327,7 @@ module _ (schema : List Table) (rules : MeetsRules schema) (m : Machine) (cs : L
         ∙ ap (λ (vs : List Version). length vs + length (change_at k ts old new)) (sym pending.rows.versions)
         ∙ ap (λ (n : ℕ). length (versions_at cs k) + n) (put_count k ts t.number old new (prepared_at cs k) by.put)
 
-    -- at each key of the directory as many stand as are counted
+    -- at each key of the directory there are as many as are counted
     pub count_at_key : has_count ≡ length (filter (is_at_key k) (kept (horizon_of m) (changes_of schema m.log) ++ all_prepared schema now 0 m.transactions))
     count_at_key =
         by_claims (filter (claims schema root 0) m.transactions) refl (are_kept.kept root is_root k under)
@@ -462,7 +462,7 @@ module _ (schema : List Table) (rules : MeetsRules schema) (m : Machine) (cs : L
   abbrev pub counted_changes : List Change
   counted_changes = kept (horizon_of m) (changes_of schema m.log) ++ all_prepared schema (database_of schema m.log) 0 m.transactions
 
-  -- at each coded key as many stand as are counted
+  -- at each coded key there are as many as are counted
   pub count_at : (k : List ℕ) → IsCodedCoding schema k → length (versions_at cs k) + cond (is_some (prepared_at cs k)) 1 0 ≡ length (filter (is_at_key k) counted_changes)
   count_at k coding = let root = root_of_coding schema rules k coding in count_at_key schema rules m cs reached are_kept root.0 root.1 k root.2
 

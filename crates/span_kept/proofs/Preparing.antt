@@ -247,7 +247,7 @@ module _ (schema : List Table) (rules : MeetsRules schema) (m : Machine) (reache
         let same : directory schema root made.0 ≡ directory schema root after = ok_same (sym (ap (apply schema (directory schema root made.0)) none) ∙ in_one root is) in
         sym (coded_in_directory schema rules root is k under after after_typed) ∙ ap (λ (l : List TableRow). row_coded schema l k) (sym same) ∙ coded_in_directory schema rules root is k under made.0 made_typed
 
-    -- the directory behind its commits
+    -- the directory after its commits
     now_is : (root : Root) → IsCodedRoot schema root → apply schema [] (changes_at schema root (commits_at schema root m.log)) ≡ Ok (directory schema root made.0)
     now_is root is =
         let place = reached.placed root (coded_root schema root is) in
@@ -362,7 +362,7 @@ module _ (schema : List Table) (rules : MeetsRules schema) (m : Machine) (reache
         ap (λ (b : Bool). length {A = Change} (cond b [] ((record { key = k; timestamp = 0; row = row_coded schema after k }) ∷ []))) (not_same_of (row_coded schema made.0 k) (row_coded schema after k) write.2) in
         omega arith
 
-    -- with the writes prepared there stand at each key as many as are counted, and as the mutations change
+    -- with the writes prepared there are at each key as many as are counted, and as the mutations change
     each_prepared : (k : List ℕ) → IsCodedCoding schema k
         → length (versions_at (with_writes txn ws cs) k) + cond (is_some (prepared_at (with_writes txn ws cs) k)) 1 0 ≡ length (filter (is_at_key k) (counted_changes schema rules m cs reached kept ++ its_changes))
     each_prepared k coding =

@@ -92,7 +92,7 @@ row_end schema root k cs vs has under =
 
 module _ (schema : List Table) (root : Root) (k : List ℕ) (front : List Commit) (c : Commit) (vs : List Version) (before after : List TableRow) (has : MakeRows schema root k front vs) (under : IsUnder c.timestamp front)
     (now : apply schema [] (changes_at schema root front) ≡ Ok before) (through : apply schema before (filter (is_at schema root) c.mutations) ≡ Ok after) where
-  -- the rows with a commit behind these
+  -- the rows with a commit after these
   rows_more : (s : ℕ) (row : Option (List ℕ)) (b : Bool) → nat_le c.timestamp s ≡ b → row_coded schema after k ≡ row ⊎ (b ≡ false) → (b ≡ false → row_at vs s ≡ row)
       → (db : List TableRow) × (apply schema [] (changes_at schema root (filter (λ d. nat_le d.timestamp s) front ++ cond b (c ∷ []) [])) ≡ Ok db) × (row_coded schema db k ≡ row)
   rows_more s row true e (inl is) other =

@@ -209,7 +209,7 @@ module _ (schema : List Table) (m : Machine) (reached : IsReached schema m) (cs 
   pub kept_by_step : (u : Result Statement Refusal) (step : Step) → KeepsVersions schema cs step (answer schema m u step)
   kept_by_step u step = answer_by schema m u (KeepsVersions schema cs) (kept_ends u) step
 
-  -- what is understood of a text where there is none
+  -- what is understood of a query text where there is none
   abbrev no_text : Result Statement Refusal
   no_text = Err refusal.Syntax
 

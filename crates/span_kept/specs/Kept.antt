@@ -84,7 +84,7 @@ abbrev pub IsPut : ℕ → Option (List ℕ) → Option (List ℕ) → Option Pr
 IsPut txn before after None = after ≡ before
 IsPut txn before after (Some w) = (w.txn ≡ txn) × (w.row ≡ after) × (after ≢ before)
 
--- what is prepared is what the transaction's mutations make of the directory behind its commits
+-- what is prepared is what the transaction's mutations make of the directory after its commits
 pub record IsPreparedBy (schema : List Table) (root : Root) (k : List ℕ) (commits : List Commit) (txn : ℕ) (ms : List CheckedMutation) (prepared : Option PreparedWrite) : Type 0 where
   pub before : List TableRow
   pub after : List TableRow

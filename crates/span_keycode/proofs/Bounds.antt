@@ -1,4 +1,4 @@
--- How codings stand to the bytes behind all that begin with another.
+-- How codings compare with the bytes after all that begin with another.
 use Rattle.std.proofs.Common.{◌≡◌, ◌≢◌, ℕ, ◌+◌, ◌<◌, ◌≤◌, List, [], ◌∷◌, ◌++◌, refl, sym, ◌∙◌, ap, arith, inl, inr, ◌⊎◌, true, false}
 use Rattle.std.specs.Prelude.{nat_lt}
 use Rattle.std.specs.declared.cmp.Ordering.{Ordering}
@@ -27,7 +27,7 @@ above_nothing (a ∷ p) e = let f : Greater ≡ Less = e in cc
 pub not_less : (o : Ordering) → o ≡ Greater → o ≢ Less
 not_less o e f = let g : Greater ≡ Less = sym e ∙ f in cc
 
--- the first byte of what is behind is the same, or 1 more
+-- the first byte of what is after is the same, or 1 more
 pub grown : (b : ℕ) → b < 255 → in_front b [] ≡ (b + 1) ∷ []
 grown b h = let e : nat_lt b 255 ≡ true = grind (arith, nat_tests) in rw e refl
 
@@ -38,7 +38,7 @@ full b h = let e : nat_lt b 255 ≡ false = grind (arith, nat_tests) in rw e ref
 rest_decides : (a b : ℕ) (p q : List ℕ) (o : Ordering) → a ≡ b → Decides (a ∷ p) (b ∷ q) o → Decides p q o
 rest_decides a b p q o e d = record { at = λ x y. sym (front_same a b (p ++ x) (q ++ y) e) ∙ d.at x y }
 
--- what begins with bytes is before what is behind them
+-- what begins with bytes is before what is after them
 pub begun_before : (x more : List ℕ) → next_after x ≢ [] → byte_order (x ++ more) (next_after x) ≡ Less
 begun_before [] more h = absurd (h refl)
 begun_before (b ∷ bs) more h = by_next (λ some. begun_before bs more some) (next_after bs) refl
@@ -52,7 +52,7 @@ begun_before (b ∷ bs) more h = by_next (λ some. begun_before bs more some) (n
         let again = go (λ none. let f : c ∷ cs ≡ [] = sym e ∙ none in cc) in
         ap (λ (n : List ℕ). byte_order ((b ∷ bs) ++ more) (in_front b n)) e ∙ front_same b b (bs ++ more) (c ∷ cs) refl ∙ ap (byte_order (bs ++ more)) (sym e) ∙ again
 
--- what is before bytes is before what is behind them
+-- what is before bytes is before what is after them
 pub less_before : (k x more : List ℕ) → Decides k x Less → next_after x ≢ [] → byte_order (k ++ more) (next_after x) ≡ Less
 less_before k [] more d h = absurd (h refl)
 less_before [] (b ∷ bs) more d h = absurd (not_decided_after b bs Less d)
@@ -80,7 +80,7 @@ less_before (a ∷ ks) (b ∷ bs) more d h = by_next (λ e some. less_before ks 
       | inr less ↦ ap (λ (n : List ℕ). byte_order ((a ∷ ks) ++ more) (in_front b n)) e ∙ front_less a b (ks ++ more) (c ∷ cs) less
     ]
 
--- what is above bytes is not before what is behind them
+-- what is above bytes is not before what is after them
 pub greater_behind : (k x more : List ℕ) → AreBytes k → Decides k x Greater → (next_after x ≢ []) × (byte_order (k ++ more) (next_after x) ≢ Less)
 greater_behind [] [] more f d = absurd (let e = decides-equal-nothing Greater d in cc)
 greater_behind (a ∷ ks) [] more f d = absurd (not_decided_before a ks Greater d)

@@ -1,4 +1,4 @@
--- The order of texts by characters is the order of their bytes.
+-- The order of strings by characters is the order of their bytes.
 use Rattle.std.proofs.Common.{◌≡◌, ℕ, ◌+◌, ◌*◌, ◌/◌, ◌%◌, ◌<◌, ◌≤◌, List, [], ◌∷◌, ◌++◌, refl, sym, ◌∙◌, ap, arith, subst, inl, inr, ◌⊎◌}
 use Rattle.std.specs.Ordering.{nat_cmp, ordering_then}
 use Rattle.std.specs.Cmp.Lexicographic.{slice_cmp}
@@ -148,7 +148,7 @@ encodings_in_order [] (d ∷ ds) = (some_bytes d (encodes ds)).0
 encodings_in_order (c ∷ cs) [] = (some_bytes c (encodes cs)).1
 encodings_in_order (c ∷ cs) (d ∷ ds) = (decides-character c d).at (encodes cs) (encodes ds) ∙ ap (ordering_then (nat_cmp c d)) (encodings_in_order cs ds)
 
--- texts compare by their bytes as by their characters
+-- strings compare by their bytes as by their characters
 pub texts_in_order : (bs cs : List ℕ) → IsUtf8 bs → IsUtf8 cs → byte_order bs cs ≡ slice_cmp nat_cmp (chars bs) (chars cs)
 texts_in_order bs cs t u =
     ap (λ (xs : List ℕ). byte_order xs cs) (sym (encodes-chars bs t)) ∙ ap (byte_order (encodes (chars bs))) (sym (encodes-chars cs u)) ∙ encodings_in_order (chars bs) (chars cs)

@@ -73,7 +73,7 @@ decides-escaped_byte zero (suc b) p q o d = let e = less_is 0 (suc b) (omega ari
 decides-escaped_byte (suc a) zero p q o d = let e = greater_is (suc a) 0 (omega arith) in rw e (decides-greater (suc a) 0 p (255 ∷ q) e)
 decides-escaped_byte (suc a) (suc b) p q o d = decides-cons (suc a) (suc b) p q o d
 
--- the end stands below each byte
+-- the end is below each byte
 end_first : (b : ℕ) (q : List ℕ) → Decides (0 ∷ 1 ∷ []) (escaped_byte b q) Less
 end_first zero q = record { at = λ x y. refl }
 end_first (suc b) q = decides-less 0 (suc b) (1 ∷ []) q (less_is 0 (suc b) (omega arith))

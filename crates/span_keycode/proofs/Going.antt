@@ -1,4 +1,4 @@
--- How a coding goes on behind the key of a table.
+-- How a coding goes on after the key of a table.
 use Rattle.std.proofs.Common.{◌≡◌, ℕ, ◌+◌, ◌-◌, ◌<◌, List, [], ◌∷◌, ◌++◌, Option, Some, None, refl, sym, ◌∙◌, ap, subst, arith, length, length-append, map, inl, inr, ◌⊎◌}
 use Rattle.span_value.specs.declared.value.Value.{Value}
 use Rattle.span_schema.specs.declared.table.Table.{Table}
@@ -92,7 +92,7 @@ pub record Next (tables : List Table) (o : Option ℕ) (rest : List ℕ) : Type 
 place_is : (tables : List Table) (n : ℕ) → IsTable tables n → (n - 1 < length tables) × (n - 1 + 1 ≡ n)
 place_is tables n t = (omega (arith, t.0, t.1), omega (arith, t.0))
 
--- what stands behind the levels of o is nothing, or a level of a child
+-- what follows the levels of o is nothing, or a level of a child
 behind : (tables : List Table) (o : Option ℕ) (ls more : List Level) (rest : List ℕ) → last_or None (tables_of ls) ≡ o → Continues tables None (tables_of (ls ++ more)) → AreLevels tables more → rest ≡ code_of tables more
     → (rest ≡ []) ⊎ Next tables o rest
 behind tables o ls [] rest last f g e = inl e
@@ -108,7 +108,7 @@ levels_known tables rules m ws k =
     let P : List ℕ → Type 0 = λ ns. Continues tables None ns in
     (levels_fit tables rules (m - 1) within ws k.1, subst P (sym (tables_back tables ws (path_at tables (m - 1)))) (path_continues tables (m - 1) within))
 
--- a key's coding goes on behind what is read of it by nothing, or by a level of a child
+-- a key's coding goes on after what is read of it by nothing, or by a level of a child
 pub goes_on : (tables : List Table) → MeetsRules tables → (o : Option ℕ) (vs : List Value) (rest : List ℕ) → IsAbove tables o vs → (m : ℕ) (ws : List Value) → IsKey tables m ws
     → code_above tables o vs ++ rest ≡ key_code tables m ws → (rest ≡ []) ⊎ Next tables o rest
 goes_on tables rules None vs rest a m ws k e =
@@ -136,7 +136,7 @@ code_some tables m ws e = elim (nonempty (path_at tables (m - 1)) refl) [ inl no
     nonempty [] f = inl f
     nonempty (n ∷ ns) f = inr (let g : [] ≡ n ∷ (tuple_code (own_key_columns tables n) (level_of tables ws n).values ++ code_of tables (map (level_of tables ws) ns)) = e ∙ ap (λ (xs : List ℕ). code_of tables (map (level_of tables ws) xs)) f in absurd cc)
 
--- what is known of the levels of a key along its path
+-- what is known about the levels of a key along its path
 pub levels_on : (tables : List Table) → MeetsRules tables → (n : ℕ) (vs : List Value) → IsKey tables n vs → (ns : List ℕ) → path_at tables (n - 1) ≡ ns → AreLevels tables (map (level_of tables vs) ns) × Continues tables None ns
 levels_on tables rules n vs k ns e =
     let within = (place_is tables n k.0).0 in

@@ -51,7 +51,7 @@ decided p q o d =
 same_itself : (x : List ℕ) → byte_order x x ≡ Equal
 same_itself x = tied_itself nat_list_cmp_total x
 
--- equal texts have equal codings in front and equal rests
+-- equal strings have equal codings in front and equal rests
 then_is_equal : (a b : Ordering) → ordering_then a b ≡ Equal → (a ≡ Equal) × (b ≡ Equal)
 then_is_equal Less b h = cc
 then_is_equal Equal b h = (refl, h)

@@ -24,7 +24,7 @@ mark false false = 1
 mark true true = 255
 mark true false = 254
 
--- a key t ∷ (k ++ more) beside a bound that is made of t ∷ x; r is how the values compare
+-- a key t ∷ (k ++ more) compared with a bound that is made of t ∷ x; r is how the values compare
 pub record Stands (t : ℕ) (d null : Bool) (k x more : List ℕ) (r : Ordering) : Type 0 where
   pub small : t < 255
   pub decides : Decides k x (directed d r)

@@ -20,7 +20,7 @@ turned_length : (d : Bool) (bs : List ℕ) → length (in_direction d bs) ≡ le
 turned_length false bs = refl
 turned_length true bs = length-map bs flipped
 
--- what is past a front of known length
+-- what is after a front of known length
 past_front : (front more bs : List ℕ) (n : ℕ) → bs ≡ front ++ more → n ≡ length front → more ≡ drop n bs
 past_front front more bs n e l = sym (drop-append_seam front more) ∙ ap (λ (k : ℕ). drop k (front ++ more)) (sym l) ∙ ap (drop n) (sym e)
 
@@ -31,7 +31,7 @@ heads a b xs ys e = (cc, cc)
 ascending : (d : Bool) (bs more : List ℕ) (v : Value) → bs ≡ in_direction d (plain v) ++ more → in_direction d bs ≡ plain v ++ in_direction d more
 ascending d bs more v e = ap (in_direction d) e ∙ turned_append d (in_direction d (plain v)) more ∙ ap (λ (front : List ℕ). front ++ in_direction d more) (turned_twice d (plain v))
 
--- the mark tells NULL from values
+-- the mark distinguishes NULL from values
 pub marked : (c : KeyPart) (bs more asc : List ℕ) (v : Value) (first : ℕ) → in_direction c.desc bs ≡ first ∷ asc → bs ≡ column_code c v ++ more → first ∷ asc ≡ plain v ++ in_direction c.desc more
 marked c bs more asc v first f e = sym f ∙ ascending c.desc bs more v e
 
@@ -85,7 +85,7 @@ skip_number c bs asc first k p f = skip_known c bs asc first 9 f (λ v rest g e.
 pub skip_flag : (c : KeyPart) (bs asc : List ℕ) (first : ℕ) → c.kind ≡ Flags → first ≢ 0 → in_direction c.desc bs ≡ first ∷ asc → IsSkip c bs (min (length bs) 2)
 skip_flag c bs asc first k p f = skip_known c bs asc first 2 f (λ v rest g e. let P : Kind → Type 0 = λ kind. Fits kind v in flag_len first asc rest v p (subst P k g) e)
 
--- a text of known end: n bytes behind the mark, with more behind them
+-- a text of known end: n bytes after the mark, with more after them
 text_len : (first n whole : ℕ) (asc rest : List ℕ) (v : Value) (k : Kind) → k ≢ Numbers → k ≢ Flags → first ≢ 0 → whole ≡ length (first ∷ asc)
     → ((text more : List ℕ) → text_at asc ≡ Some (text, more) → n + length more ≡ length asc) → Fits k v → first ∷ asc ≡ plain v ++ rest → length (plain v) ≡ n + 1
 text_len first n whole asc rest Null k p q r w known f e = absurd (not_null first asc rest r e)

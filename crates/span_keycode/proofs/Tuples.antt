@@ -81,7 +81,7 @@ tuple_none cs bs i at d h back n =
     let P : List KeyPart → Type 0 = λ ds. IsNoTuple ds (drop at bs) in
     back (subst P (sym (dropped_more cs i d h)) (record { none = no_first (get_or cs i d) (drop (i + 1) cs) (drop at bs) n }))
 
--- no tuple, where there is none behind the next column
+-- no tuple, where there is none after the next column
 pub tuple_back : (cs : List KeyPart) (bs : List ℕ) (i at w : ℕ) (d : KeyPart) (v : Value) → i < length cs → (IsNoTuple (drop i cs) (drop at bs) → IsNoTuple cs bs) → IsColumn (get_or cs i d) (drop at bs) v w
     → IsNoTuple (drop (i + 1) cs) (drop (at + w) bs) → IsNoTuple cs bs
 tuple_back cs bs i at w d v h back c n =

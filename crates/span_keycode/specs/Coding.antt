@@ -36,7 +36,7 @@ plain (Str bs) = 1 ∷ escaped bs
 plain (Bytes bs) = 1 ∷ escaped bs
 plain (Flag b) = 1 ∷ bit b ∷ []
 
--- bytes as they stand in a column that is descending or not
+-- bytes as they are in a column that is descending or not
 abbrev pub in_direction : Bool → List ℕ → List ℕ
 in_direction false bytes = bytes
 in_direction true bytes = complement bytes
@@ -44,7 +44,7 @@ in_direction true bytes = complement bytes
 abbrev pub column_code : KeyPart → Value → List ℕ
 column_code c v = in_direction c.desc (plain v)
 
--- NULL first, and then numbers by size, texts and bytes by their bytes, FALSE before TRUE
+-- NULL first, and then numbers by size, strings and bytes by their bytes, FALSE before TRUE
 abbrev pub value_cmp : Value → Value → Ordering
 value_cmp Null Null = Equal
 value_cmp Null w = Less

@@ -39,7 +39,7 @@ BeginsOwnRows = (tables : List Table) → MeetsRules tables → (n m : ℕ) (vs 
 abbrev pub OneKey : Type 0
 OneKey = (tables : List Table) → MeetsRules tables → (n m : ℕ) (vs ws : List Value) → IsKey tables n vs → IsKey tables m ws → key_code tables n vs ≡ key_code tables m ws → (n ≡ m) × (vs ≡ ws)
 
--- texts order by their characters, which is by the bytes of their UTF-8
+-- strings order by their characters, which is by the bytes of their UTF-8
 abbrev pub OrderOfTexts : Type 0
 OrderOfTexts = (bs cs : List ℕ) → IsUtf8 bs → IsUtf8 cs → byte_order bs cs ≡ slice_cmp nat_cmp (chars bs) (chars cs)
 

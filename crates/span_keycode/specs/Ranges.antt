@@ -16,12 +16,12 @@ abbrev pub in_front : ℕ → List ℕ → List ℕ
 in_front b [] = (if nat_lt b 255 then (b + 1) ∷ [] else [])
 in_front b (c ∷ cs) = b ∷ c ∷ cs
 
--- the first bytes behind all that begin with these: without the bytes 255 at the end, and with 1 added to the last
+-- the first bytes after all that begin with these: without the bytes 255 at the end, and with 1 added to the last
 abbrev pub next_after : List ℕ → List ℕ
 next_after [] = []
 next_after (b ∷ bs) = in_front b (next_after bs)
 
--- so many bytes are left without those of 255 at the end
+-- the first n bytes are left, without those of 255 at the end
 pub record IsKept (bytes : List ℕ) (n : ℕ) : Type 0 where
   pub within : n ≤ length bytes
   pub next : next_after bytes ≡ next_after (take n bytes)
@@ -39,7 +39,7 @@ low_of table true AtMost code = code
 low_of table true Greater code = table ∷ 254 ∷ []
 low_of table true AtLeast code = table ∷ 254 ∷ []
 
--- the first bytes behind the range
+-- the first bytes after the range
 abbrev pub high_of : ℕ → Bool → Comparison → List ℕ → List ℕ
 high_of table d Equal code = next_after code
 high_of table false Less code = code
@@ -70,13 +70,13 @@ is_null (Flag b) = false
 abbrev pub compares : Comparison → Value → Value → Bool
 compares op w v = not (is_null w) && (not (is_null v) && holds op (value_cmp w v))
 
--- the first bytes of the range of a comparison with a value, and the first behind it: none is between them where the value is NULL
+-- the first bytes of the range of a comparison with a value, and the first after it: none is between them where the value is NULL
 abbrev pub first_of : ℕ → KeyPart → Comparison → Value → List ℕ
 first_of t c op v = (if is_null v then [] else low_of t c.desc op (t ∷ column_code c v))
 
 abbrev pub behind_of : ℕ → KeyPart → Comparison → Value → List ℕ
 behind_of t c op v = (if is_null v then [] else high_of t c.desc op (t ∷ column_code c v))
 
--- at or above the first bytes of a range, and before the first behind it
+-- at or above the first bytes of a range, and before the first after it
 abbrev pub IsWithin : List ℕ → List ℕ → List ℕ → Type 0
 IsWithin low high key = (byte_order key low ≢ order.Less) × (byte_order key high ≡ order.Less)

@@ -24,8 +24,7 @@ pub struct RowKey {
 
 /// The key that bytes code.
 ///
-/// `BadKey`: the bytes code no key of a table of the schema, or they are more than 1,024. `OutOfMemory` is the refusal for want
-/// of memory.
+/// `BadKey`: the bytes code no key of a table of the schema, or they are more than 1,024. `OutOfMemory`: memory ran out.
 pub fn decode_key(alloc: Global, schema: &Schema, bytes: &[u8]) -> Result<RowKey, Refusal>
     ensures { MatchResult result (λ key. IsCodedKey schema.now key.table key.values × (bytes.now ≡ key_code schema.now key.table key.values)) (λ why. ((why ≡ Refusal.BadKey) × IsNoKey schema.now bytes.now) ⊎ (why ≡ Refusal.OutOfMemory)) }
 {

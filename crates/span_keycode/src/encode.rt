@@ -15,8 +15,8 @@ use std::alloc::{AllocError, Global};
 /// The coded key of a row of a table, by its key values in the order of the key.
 ///
 /// `WrongType`: there is not one value for each key column, NULL or of its kind. `KeyTooLong`: the coding has more than 1,024
-/// bytes. Neither NOT NULL nor the length of a column is looked at. `OutOfMemory` is the refusal for want of memory; a
-/// coding of up to 32 bytes takes none.
+/// bytes. Neither NOT NULL nor the length of a column is looked at. `OutOfMemory`: memory ran out; a coding of up to
+/// 32 bytes takes none.
 pub fn encode_key(
     alloc: Global,
     schema: &Schema,

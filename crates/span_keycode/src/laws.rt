@@ -21,7 +21,7 @@ pub fn one_key()
     ensures { OneKey }
 {}
 
-/// Texts order by their characters, which is the order of the bytes of their UTF-8.
+/// Strings order by their characters, which is the order of the bytes of their UTF-8.
 pub fn order_of_texts()
     ensures { OrderOfTexts }
 {}

@@ -104,7 +104,7 @@ fn high_key(
     }
 }
 
-// The first bytes behind all that begin with these: without the bytes 255 at the end, and 1 added to the last.
+// The first bytes after all that begin with these: without the bytes 255 at the end, and 1 added to the last.
 fn key_after(alloc: Global, code: &[u8]) -> Result<Key, AllocError>
     ensures { IfOk result (λ key. key ≡ next_after code.now) }
 {

@@ -5,7 +5,7 @@ ghost use Rattle.span_keycode.specs.Texts.{AtStep, text_at};
 
 use std::alloc::{AllocError, Global};
 
-/// What stands at the front of an escaped text.
+/// What is at the front of an escaped text.
 #[derive(Debug, Clone, Copy)]
 pub enum Step {
     /// A byte of the text, and how many bytes code it.
@@ -14,14 +14,14 @@ pub enum Step {
     Bad,
 }
 
-/// A byte as it stands in a column that is descending or not.
+/// A byte as it is in a column that is descending or not.
 pub(crate) fn directed(byte: u8, desc: bool) -> u8
     ensures { in_direction desc (byte ∷ []) ≡ result ∷ [] }
 {
     if desc { 255 - byte } else { byte }
 }
 
-/// What stands at the front of an escaped text.
+/// What is at the front of an escaped text.
 pub(crate) fn step_at(rest: &[u8], desc: bool) -> Step
     ensures { AtStep desc rest.now result }
 {

@@ -7,7 +7,7 @@ use span_schema::layout::KeyPart;
 use span_value::value::Value;
 use std::alloc::{AllocError, Global};
 
-/// Adds the values at the front of bytes, one for each column, and answers how many bytes code them; None if no values of the
+/// Adds the values at the front of bytes, one for each column, and returns how many bytes code them; None if no values of the
 /// columns are coded there, and then some may have been added.
 pub(crate) fn read_tuple(
     alloc: Global,

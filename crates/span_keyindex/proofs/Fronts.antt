@@ -1,4 +1,4 @@
--- Keys that begin with some bytes stand beside one another.
+-- Keys that begin with some bytes are adjacent.
 use Rattle.std.proofs.Common.{◌≡◌, ◌≢◌, ℕ, ◌+◌, ◌<◌, ◌≤◌, ◌⊎◌, Bool, true, false, List, [], ◌∷◌, ◌++◌, length, take, drop, get_or, refl, sym, ap, ◌∙◌, inl, inr, arith}
 use Rattle.std.specs.Prelude.{nat_eq, ◌&&◌}
 use Rattle.std.specs.List.{starts_with}
@@ -46,7 +46,7 @@ number_same m n e = grind (arith, nat_tests)
 nat_eq_same : (n : ℕ) → nat_eq n n ≡ true
 nat_eq_same n = grind (arith, nat_tests)
 
--- what stands between bytes and others that begin with them begins with them too
+-- what is between bytes and others that begin with them begins with them too
 between : (p a rest : List ℕ) → is_lt (byte_order a p) ≡ false → byte_order a (p ++ rest) ≢ Greater → begins a p ≡ true
 between [] a rest h g = refl
 between (x ∷ p) [] rest h g = absurd (let f : true ≡ false = h in cc)

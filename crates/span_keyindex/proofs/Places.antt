@@ -103,7 +103,7 @@ rising-insert es new at rising gap i j d lt in_range =
       ]
     ])
 
--- an entry put into the gap of its key, after room was made
+-- an entry put into the place of its key, after capacity was reserved
 pub inserted : (es gs hs : List Entry) (new : Entry) (at : ℕ) → IsGapFor es new.key at → gs ≡ es → hs ≡ insert gs at new → hs ≡ with_entry es new
 inserted es gs hs new at gap same is = is ∙ ap (λ (xs : List Entry). insert xs at new) same ∙ sym (with_entry-gap es new at gap)
 

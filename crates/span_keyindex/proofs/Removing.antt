@@ -106,13 +106,13 @@ arena_of_used es a b own without = record { each = λ c. holders-filter (λ n. n
 
 -- ---- the loop
 
--- where two lists end alike the same is read
+-- where two lists have equal ends the same is read
 pub read_rest : (es ys : List Entry) (i : ℕ) (e : Entry) → drop i ys ≡ drop i es → e ≡ get_or ys i e → e ≡ get_or es i e
 read_rest es ys i e same read =
     let zero_more : i + 0 ≡ i = omega arith in
     read ∙ sym (ap (λ n. get_or ys n e) zero_more) ∙ sym (get_or-drop i ys 0 e) ∙ ap (λ (zs : List Entry). get_or zs 0 e) same ∙ get_or-drop i es 0 e ∙ ap (λ n. get_or es n e) zero_more
 
--- so many keys were looked at, and so many of them stand in front; ys is the vector as it is, b the arena
+-- `place` keys were looked at, and `kept` of them are in front; ys is the vector as it is, b the arena
 pub record IsRemoving (es ys : List Entry) (a b : Content) (kept place : ℕ) : Type 0 where
   pub filtered : FiltersInPlace (λ (e : Entry). not (is_unused a e.chain.number)) es ys kept place
   pub freed : IsFreed a b (take place es)

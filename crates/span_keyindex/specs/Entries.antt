@@ -32,7 +32,7 @@ IsSlotFor old new before after key chain =
     (HasChain old key chain × (new ≡ old) × (after ≡ before))
     ⊎ (IsAbsent old key × IsNewChain before after chain.number × (new ≡ with_entry old (record { key = key; chain = chain })))
 
--- at or above the first bytes of a range, and before the first behind it
+-- at or above the first bytes of a range, and before the first after it
 abbrev pub is_within : KeyRange → List ℕ → Bool
 is_within range key = not (is_lt (byte_order key range.low)) && is_lt (byte_order key range.high)
 

@@ -6,25 +6,25 @@ use Rattle.std.specs.declared.cmp.Ordering.TheVariants.{Less, Equal, Greater}
 use Rattle.span_keycode.specs.Order.{byte_order}
 use Rattle.span_keyindex.specs.declared.entry.Entry.{Entry}
 
--- what stands past the end
+-- what is after the end
 abbrev pub no_entry : Entry
 no_entry = record { key = []; chain = record { number = 0 } }
 
 abbrev pub key_at : List Entry → ℕ → List ℕ
 key_at es i = (slice_index_or es i no_entry).key
 
--- the key stands there
+-- the key is there
 pub record IsAt (es : List Entry) (key : List ℕ) (i : ℕ) : Type 0 where
   pub in_range : i < length es
   pub has_key : byte_order (key_at es i) key ≡ Equal
 
--- the key is not there: the smaller ones stand before the place, the greater ones from it on
+-- the key is not there: the smaller ones are before the place, the greater ones from it on
 pub record IsGapFor (es : List Entry) (key : List ℕ) (i : ℕ) : Type 0 where
   pub in_range : i ≤ length es
   pub smaller : (j : ℕ) → j < i → byte_order (key_at es j) key ≡ Less
   pub greater : (j : ℕ) → i ≤ j → j < length es → byte_order (key_at es j) key ≡ Greater
 
--- the smaller keys stand before the place, the others from it on
+-- the smaller keys are before the place, the others from it on
 pub record IsFrom (es : List Entry) (key : List ℕ) (i : ℕ) : Type 0 where
   pub in_range : i ≤ length es
   pub smaller : (j : ℕ) → j < i → is_lt (byte_order (key_at es j) key) ≡ true

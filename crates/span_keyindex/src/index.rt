@@ -107,7 +107,7 @@ impl KeyIndex {
         match place_of(&self.entries, key.as_slice()) {
             Ok(at) => Ok(self.entries[at].chain),
             Err(at) => {
-                // The room comes first: after the chain is made nothing can be refused.
+                // The capacity comes first: after the chain is made nothing can be refused.
                 self.entries.reserve(1)?;
                 let chain = arena.new_chain()?;
                 let Ok(()) = self.entries.insert(at, Entry { key, chain }) else {

@@ -1,4 +1,4 @@
-//! Where a key stands among rising keys.
+//! The place of a key among rising keys.
 ghost use Rattle.std.specs.Prelude.{◌≡◌, IfOk, IfErr};
 ghost use Rattle.std.specs.List.Sorted.{IsPartitionedBy};
 ghost use Rattle.span_keyindex.specs.Entries.{IsRising, entries_in, entries_under};
@@ -56,7 +56,7 @@ fn front_len(entries: &[Entry], front: &[u8]) -> usize
     entries.partition_point(|entry| entry.key.as_slice().starts_with(front))
 }
 
-/// The entries whose keys begin with these bytes. They stand beside one another.
+/// The entries whose keys begin with these bytes. They are adjacent.
 pub(crate) fn part_under<'a>(entries: &'a Vec<Entry>, front: &[u8]) -> &'a [Entry]
     requires { IsRising entries.now.items }
     ensures { result.now ≡ entries_under front.now entries.now.items }

@@ -25,9 +25,9 @@ use Rattle.span_laws.proofs.Stability.{changes_at, touches, is_some_of}
 use Rattle.span_laws.proofs.InPlace.{IsBelow, IsUnder, IsRising, Succeeds, commits_at, claims, IsPromised, IsClaimed, IsClaim, below_up, greatest_push, apply-append, changes_at-upto}
 use Rattle.span_schema.specs.Lineages.{MeetsRules}
 
--- ---- books
+-- ---- slot states
 
--- a book in the place of another, with no lower last
+-- a slot state in the place of another, with no lower last
 pub record Lifts (old new : List Book) : Type 0 where
   pub from : (i : ℕ) (b : Book) → slice_get new i ≡ Some b → (a : Book) × (slice_get old i ≡ Some a) × (a.last ≤ b.last) × ((root : Root) → holds b root ≡ holds a root)
 
@@ -48,7 +48,7 @@ lifts_last books slot ts = elim (slice_get books slot) as (λ o. slice_get books
   | Some book ↦ λ e. lifts_set books slot book (record book { last = max book.last ts }) e (omega arith) (λ root. refl)
 ] refl
 
--- the book of the slot itself rises to ts
+-- the state of the slot itself rises to ts
 pub last_here : (books : List Book) (slot ts : ℕ) (b : Book) → slice_get (with_last books slot ts) slot ≡ Some b → ts ≤ b.last
 last_here books slot ts b = elim (slice_get books slot) as (λ o. slice_get books slot ≡ o → slice_get (if_some o books (λ book. slice_set books slot (record book { last = max book.last ts }))) slot ≡ Some b → ts ≤ b.last) [
   | None ↦ λ e h. absurd (cc)
@@ -185,7 +185,7 @@ all_kept s (c ∷ cs) under is =
 pub under_filter : (n : ℕ) (q : Commit → Bool) (cs : List Commit) → IsUnder n cs → IsUnder n (filter q cs)
 under_filter n q cs all = all_filtered (λ c. c.timestamp < n) q cs all
 
--- mutations that meet no fault on the tables as they are go through behind the directory's commits
+-- mutations that meet no fault on the tables as they are succeed after the directory's commits
 pub go_through : (schema : List Table) → MeetsRules schema → (root : Root) → IsRoot schema root → (m : Machine) (ms : List CheckedMutation) → AreKeyed schema (mutations_of (upto m.log (timestamp_end - 1))) → AreKeyed schema ms
     → IsUnder timestamp_end m.log → IsRising (commits_at schema root m.log) → faults schema m ms ≡ None → Succeeds schema (changes_at schema root (commits_at schema root m.log) ++ filter (is_at schema root) ms)
 go_through schema rules root is m ms keyed_log keyed under up = elim (tables schema m.log (timestamp_end - 1)) as (λ r. tables schema m.log (timestamp_end - 1) ≡ r → fault_of (and_then r (λ db. apply schema db ms)) ≡ None
@@ -214,7 +214,7 @@ go_through schema rules root is m ms keyed_log keyed under up = elim (tables sch
 pub other_slot : (p i slot : ℕ) → (p == i) ≡ true → (i == slot) ≡ false → (p == slot) ≡ false
 other_slot p i slot at e = grind (arith, nat_tests)
 
--- a transaction that is prepared for a mutation of the directory is prepared at the directory's slot, which has a book
+-- a transaction that is prepared for a mutation of the directory is prepared at the directory's slot, which has a state
 pub prepared_slot : (m : Machine) (slot : ℕ) (k : Root) → ((i : ℕ) (b : Book) → slice_get m.books i ≡ Some b → holds b k ≡ true → i ≡ slot) → (ps : List Prepared)
     → list_any (λ p. if_some (slice_get m.books p.slot) false (λ book. holds book k)) ps ≡ true → (list_any (λ p. p.slot == slot) ps ≡ true) × ((b : Book) × (slice_get m.books slot ≡ Some b))
 prepared_slot m slot k only [] = λ e. absurd (cc)

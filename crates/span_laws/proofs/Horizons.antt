@@ -20,7 +20,7 @@ use Rattle.span_value.specs.declared.refusal.Refusal.{Refusal}
 use Rattle.span_query.specs.declared.query.Statement.{Statement}
 use Rattle.std.specs.Prelude.{Result}
 
--- a book in the place of another: its horizon is that one's, or one that is safe
+-- a slot state in the place of another: its horizon is that one's, or one that is safe
 abbrev pub IsLeft : Machine → ℕ → Book → Book → Type 0
 IsLeft m slot old new = (new.horizon ≡ old.horizon) ⊎ (is_safe m slot old new.horizon ≡ true)
 

@@ -55,13 +55,13 @@ commits_at schema root log = filter (touches schema root) log
 abbrev pub claims : List Table → Root → ℕ → OpenTransaction → Bool
 claims schema root slot t = is_prepared_at slot t && is_some_of (filter (is_at schema root) t.mutations)
 
--- an undecided transaction may commit: above the directory's commits, and its changes go through behind theirs
+-- an undecided transaction may commit: above the directory's commits, and its changes succeed after theirs
 pub record IsPromised (schema : List Table) (root : Root) (last : ℕ) (cs : List Commit) (t : OpenTransaction) : Type 0 where
   pub below : IsBelow last cs
   pub under : IsUnder (greatest t.prepared) cs
   pub through : Succeeds schema (changes_at schema root cs ++ filter (is_at schema root) t.mutations)
 
--- what the one transaction that claims the directory says of its commits, by its outcome
+-- what the one transaction that claims the directory says of its commits, by its decision
 abbrev pub IsClaimed : List Table → Root → ℕ → List Commit → OpenTransaction → Outcome → Type 0
 IsClaimed schema root last cs t outcome.Undecided = IsPromised schema root last cs t
 IsClaimed schema root last cs t (outcome.Committed ts) = IsBelow (max last ts) cs
@@ -72,7 +72,7 @@ abbrev pub IsClaim : List Table → Root → ℕ → List Commit → List OpenTr
 IsClaim schema root last cs [] = IsBelow last cs
 IsClaim schema root last cs (t ∷ ts) = (ts ≡ []) × IsClaimed schema root last cs t t.outcome
 
--- the directory's commits stand in the log in the order of their timestamps, and go through
+-- the directory's commits are in the log in the order of their timestamps, and succeed
 pub record IsInPlace (schema : List Table) (root : Root) (slot : ℕ) (m : Machine) : Type 0 where
   pub only : (i : ℕ) (b : Book) → slice_get m.books i ≡ Some b → holds b root ≡ true → i ≡ slot
   pub held : (b : Book) → slice_get m.books slot ≡ Some b → holds b root ≡ true

@@ -46,7 +46,7 @@ use Rattle.span_machine.proofs.Leaves.{tables_covered, tables_opened, covered_or
 abbrev pub IsBegun : List Begun → OpenTransaction → Type 0
 IsBegun begun t = find (λ b. b.number == t.number) begun ≡ Some (record { number = t.number; mutations = t.mutations })
 
--- the query as it was asked: its text is understood as a statement with its query and its leaves
+-- the query as it was asked: its query text is understood as a statement with its query and its leaves
 pub record IsAsked (understands : Understanding) (asked : List Asked) (q : OpenQuery) : Type 0 where
   pub question : Asked
   pub found : find (λ a. a.number == q.number) asked ≡ Some question
@@ -111,7 +111,7 @@ refusal_right understands schema m asked (Open text params bound interval) why m
 refusal_right understands schema m asked (Scan query leaf slot interval) why may = tt
 refusal_right understands schema m asked (Close query) why may = tt
 
--- want of memory is no arithmetic fault
+-- out of memory is no arithmetic fault
 memory_refused : (step : Step) → MayRefuse step refusal.OutOfMemory
 memory_refused (Finish query) = λ e. cc
 memory_refused (Begin owner ms) = tt
@@ -339,12 +339,12 @@ module _ (understands : Understanding) (schema : List Table) (begun : List Begun
         known.transactions (all_without (IsAsked understands asked) (is_query query) m.queries known.queries) refl refl refl tt;
   }
 
--- every step tells what it begins, asks and commits
+-- every step reports what it begins, asks and commits
 pub answer_tells : (understands : Understanding) (schema : List Table) (begun : List Begun) (asked : List Asked) (m : Machine) (u : Result Statement Refusal) → IsSound schema m → IsKnown understands begun asked m → ((s : ℕ) → (db : List TableRow) × (tables schema m.log s ≡ Ok db))
     → (step : Step) → IsUnderstood understands step u → Tells understands schema begun asked m step (answer schema m u step).0 (answer schema m u step).1
 answer_tells understands schema begun asked m u sound known made step understood = answer_by schema m u (λ s a. IsUnderstood understands s u → Tells understands schema begun asked m s a.0 a.1) (tells_ends understands schema begun asked m sound known made u) step understood
 
--- one step, want of memory included
+-- one step, out of memory included
 pub step_tells : (understands : Understanding) (schema : List Table) (begun : List Begun) (asked : List Asked) (m : Machine) (step : Step) (r : Reply) (next : Machine) → Steps understands schema m step r next → IsSound schema m → IsKnown understands begun asked m
     → ((s : ℕ) → (db : List TableRow) × (tables schema m.log s ≡ Ok db)) → Tells understands schema begun asked m step r next
 step_tells understands schema begun asked m step r next (inl e) sound known made =

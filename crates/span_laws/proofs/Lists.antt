@@ -16,13 +16,13 @@ set_here [] i v x h = cc
 set_here (y ∷ ys) zero v x h = cc
 set_here (y ∷ ys) (suc i) v x h = set_here ys i v x h
 
--- ---- what stands in a list
+-- ---- what is in a list
 
--- x stands in the list
+-- x is in the list
 abbrev pub IsIn : {A : Type 0} → A → List A → Type 0
 IsIn x xs = (i : ℕ) × (slice_get xs i ≡ Some x)
 
--- what a search finds stands in the list
+-- what a search finds is in the list
 pub found_in : {A : Type 0} (test : A → Bool) (xs : List A) (x : A) → find test xs ≡ Some x → IsIn x xs
 found_in test [] x = λ e. absurd (cc)
 found_in test (y ∷ ys) x = elim (test y) as (λ b. cond b (Some y) (find test ys) ≡ Some x → IsIn x (y ∷ ys)) [
@@ -42,7 +42,7 @@ kept_behind : {A : Type 0} (xs ys : List A) (x y : A) → (IsIn x xs → IsIn x 
 kept_behind xs ys x y back zero e = (0, e)
 kept_behind xs ys x y back (suc i) e = let rest = back (i, e) in (suc rest.0, rest.1)
 
--- what a filter keeps stands in the list
+-- what a filter keeps is in the list
 pub kept_in : {A : Type 0} (test : A → Bool) (xs : List A) (x : A) → IsIn x (filter test xs) → IsIn x xs
 kept_in test [] x = λ is. is
 kept_in test (y ∷ ys) x = elim (test y) as (λ b. IsIn x (cond b (y ∷ filter test ys) (filter test ys)) → IsIn x (y ∷ ys)) [
@@ -85,7 +85,7 @@ module _ {A : Type 0} (P : A → Type 0) where
     | false ↦ λ e all. all_found test ys x e all.1
   ]
 
-  -- what holds of each holds of one that stands there
+  -- what holds of each holds of one that is there
   pub all_at : (xs : List A) (i : ℕ) (x : A) → slice_get xs i ≡ Some x → AllByRecursion P xs → P x
   all_at [] i x e all = cc
   all_at (y ∷ ys) zero x e all = let same : y ≡ x = cc in subst P same all.0
@@ -129,7 +129,7 @@ filter_swap p q (x ∷ xs) = elim (p x) as (λ b. p x ≡ b → filter p (cond (
   ]
 ] refl
 
--- the first that passes, with what is before and behind it
+-- the first that passes, with what is before and after it
 pub record Split {A : Type 0} (test : A → Bool) (xs : List A) (x : A) : Type 0 where
   pub front : List A
   pub back : List A

@@ -93,7 +93,7 @@ module _ (schema : List Table) (rules : MeetsRules schema) where
       let one = is_ok_of (apply_one schema (directory schema root db) m) (λ next. apply schema next (filter (is_at schema root) ms)) rows own in
       ok_with (directory schema root) (apply_one schema db m) one.0 (sym (step_same schema rules root (root_is schema rules m keyed).1 m keyed.0 (is_at-itself schema m) db) ∙ one.1)
 
-  -- the mutations behind it then succeed in each directory of what it leaves
+  -- the mutations after it then succeed in each directory of what it leaves
   then_each : (m : CheckedMutation) (ms : List CheckedMutation) (db next : List TableRow) → IsKeyed schema m.table m.key → IsDatabase schema db → apply_one schema db m ≡ Ok next
       → EachSucceeds schema (m ∷ ms) db → EachSucceeds schema ms next
   then_each m ms db next keyed is_db first each root is = cases (is_at schema root m) refl

@@ -34,7 +34,7 @@ module _ {A : Type 0} (before : A → A → Bool) (o : IsOrder before) where
   in_order-in_order [] = tt
   in_order-in_order (x ∷ xs) = placed-in_order x (in_order before xs) (in_order-in_order xs)
 
-  -- x stands at the front of what is all behind it
+  -- x is at the front of what is all after it
   pub placed_front : (x : A) (ys : List A) → AllByRecursion (λ z. before x z ≡ true) ys → placed before x ys ≡ x ∷ ys
   placed_front x [] all = refl
   placed_front x (y ∷ ys) all = rw (all.0) refl

@@ -34,7 +34,7 @@ use Rattle.std.specs.Prelude.{Result}
 -- ---- the steps
 
 module _ (schema : List Table) (rules : MeetsRules schema) (root : Root) (is : IsRoot schema root) (slot : ℕ) (m : Machine) (by : IsBySchema schema m) (o : IsInPlace schema root slot m) where
-  -- books rise, the log is the same, and the claim is kept
+  -- slot states rise, the log is the same, and the claim is kept
   pub in_place_by : (n : Machine) → Lifts m.books n.books → n.log ≡ m.log
       → ((a b : Book) → slice_get m.books slot ≡ Some a → slice_get n.books slot ≡ Some b → a.last ≤ b.last → IsClaim schema root a.last (commits_at schema root m.log) (filter (claims schema root slot) m.transactions) → IsClaim schema root b.last (commits_at schema root m.log) (filter (claims schema root slot) n.transactions))
       → IsInPlace schema root slot n

@@ -56,7 +56,7 @@ module _ (schema : List Table) (rules : MeetsRules schema) where
     horizons = answer_horizons schema m u reached.sound reached.horizons step;
   }
 
-  -- one step, want of memory included
+  -- one step, out of memory included
   pub step_reached : (understands : Understanding) (m : Machine) (step : Step) (r : Reply) (next : Machine) → Steps understands schema m step r next → IsOfSchema schema step → IsReached schema m → IsReached schema next
   step_reached understands m step r next (inl e) of reached = subst (IsReached schema) (sym e.2.1) (answer_reached m reached e.0 step of)
   step_reached understands m step r next (inr e) of reached = subst (IsReached schema) (sym e.1.1) reached

@@ -126,7 +126,7 @@ module _ (schema : List Table) (m : Machine) (by : IsBySchema schema m) where
 pub answer_by_schema : (schema : List Table) (m : Machine) (u : Result Statement Refusal) → IsBySchema schema m → (step : Step) → IsOfSchema schema step → IsBySchema schema (answer schema m u step).1
 answer_by_schema schema m u by step of = answer_by schema m u (λ s a. IsOfSchema schema s → IsBySchema schema a.1) (by_ends schema m by u) step of
 
--- one step, want of memory included
+-- one step, out of memory included
 pub step_by_schema : (understands : Understanding) (schema : List Table) (m : Machine) (step : Step) (r : Reply) (next : Machine) → Steps understands schema m step r next → IsOfSchema schema step → IsBySchema schema m → IsBySchema schema next
 step_by_schema understands schema m step r next (inl e) of by = subst (IsBySchema schema) (sym e.2.1) (answer_by_schema schema m e.0 by step of)
 step_by_schema understands schema m step r next (inr e) of by = subst (IsBySchema schema) (sym e.1.1) by

@@ -45,7 +45,7 @@ pub record IsSealed (root : Root) (s : ℕ) (m : Machine) : Type 0 where
   pub floors : (i : ℕ) (b : Book) → slice_get m.books i ≡ Some b → holds b root ≡ true → s ≤ b.floor
   pub prepared : (i : ℕ) (b : Book) → slice_get m.books i ≡ Some b → holds b root ≡ true → AllByRecursion (IsAbove s i) m.transactions
 
--- a book in the place of another, of the same range and with no lower floor
+-- a slot state in the place of another, of the same range and with no lower floor
 pub record Rises (old new : List Book) : Type 0 where
   pub from : (i : ℕ) (b : Book) → slice_get new i ≡ Some b → (a : Book) × (slice_get old i ≡ Some a) × (a.floor ≤ b.floor) × ((root : Root) → holds b root ≡ true → holds a root ≡ true)
 
@@ -74,7 +74,7 @@ module _ (schema : List Table) (root : Root) (is : IsRoot schema root) (s : ℕ)
     same = ap (λ (n : Machine). changes_at schema root (upto n.log s)) e;
   }
 
-  -- books rise, transactions stay above, and the log is the same for the directory
+  -- slot states rise, transactions stay above, and the log is the same for the directory
   pub kept_by : (a : Answer) → Rises m.books a.1.books
       → ((i : ℕ) (b : Book) → slice_get m.books i ≡ Some b → holds b root ≡ true → AllByRecursion (IsAbove s i) m.transactions → AllByRecursion (IsAbove s i) a.1.transactions)
       → changes_at schema root (upto a.1.log s) ≡ changes_at schema root (upto m.log s) → Keeps schema root s m a

@@ -129,7 +129,7 @@ start_sound schema = record { one_slot = refl; queries = tt }
 
 -- ---- whole runs
 
--- one step, want of memory included
+-- one step, out of memory included
 pub step_sound : (understands : Understanding) (schema : List Table) (m : Machine) (step : Step) (r : Reply) (next : Machine) → Steps understands schema m step r next → IsSound schema m → IsSound schema next
 step_sound understands schema m step r next (inl e) sound = subst (IsSound schema) (sym e.2.1) (answer_sound schema m e.0 sound step)
 step_sound understands schema m step r next (inr e) sound = subst (IsSound schema) (sym e.1.1) sound

@@ -28,7 +28,7 @@ abbrev pub MayRefuse : Step → Refusal → Type 0
 MayRefuse (Finish query) why = why ≢ refusal.ArithmeticFault
 MayRefuse _ why = Unit {0}
 
--- what a fact about a step and its answer owes at each way that a step can end, where the text of an Open is understood as u
+-- what a fact about a step and its answer owes at each way that a step can end, where the query text of an Open is understood as u
 pub record Ends (schema : List Table) (m : Machine) (u : Result Statement Refusal) (P : Step → Answer → Type 0) : Type 0 where
   pub refuses : (step : Step) (why : Refusal) → MayRefuse step why → P step (refused m why)
   pub begins : (owner : ℕ) (ms : List CheckedMutation) → begin_refusal m ≡ None → P (Begin owner ms) (begun m owner ms)
@@ -72,7 +72,7 @@ module _ (schema : List Table) (m : Machine) (u : Result Statement Refusal) (P :
   by_query : (step : Step) → MayRefuse step refusal.UnknownQuery → (number : ℕ) (make : OpenQuery → Answer) → ((q : OpenQuery) → find (is_query number) m.queries ≡ Some q → P step (make q)) → P step (for_query m number make)
   by_query step may number make p = by_some step (find (is_query number) m.queries) refusal.UnknownQuery may make p
 
-  -- what is left to judge of a Prepare
+  -- what is left to check of a Prepare
   abbrev stamped : ℕ → ℕ → ℕ → Book → Answer
   stamped owner txn slot book = unless_refused m (first_cause ((nat_le timestamp_end (prepare_timestamp book), refusal.TimestampRange) ∷ [])) (prepared m owner txn slot book)
 

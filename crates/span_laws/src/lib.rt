@@ -20,12 +20,12 @@ pub trait Understanding {
     ghost use Rattle.span_query.specs.declared.query.Statement.{Statement};
     ghost use Rattle.span_value.specs.declared.refusal.Refusal.{Refusal};
 
-    /// Which texts, with which parameters, are understood as which statements, and which are refused for what.
+    /// Which query texts, with which parameters, are understood as which statements, and which are refused why.
     ghost understands: { List ℕ → List Parameter → Result Statement Refusal → Type 0 };
 }
 
 /// The theorem behind the headline, for any language: whatever the machine may reply to steps from its start is a history. Its log
-/// holds just the commits that were answered, each applies at its place, and every answer has exactly the rows that its text means on
+/// holds just the commits that were answered, each applies at its place, and every answer has exactly the rows that its query means on
 /// the tables of all of them. The schema meets its rules, and the transactions that are begun were checked against it.
 pub fn runs_are_histories<U: Understanding>()
     ensures { (schema : List Table) → MeetsRules schema → (steps : List Step) (replies : List Reply) (last : Machine) → AreOfSchema schema steps → Run U.understands schema start steps replies last → IsHistory U.understands schema steps replies }

@@ -2,7 +2,7 @@ use Rattle.std.proofs.Common.{◌≡◌, Bool, true, false, cond, List, [], ◌�
 use Rattle.std.specs.Prelude.{map, find, option_map}
 use Rattle.span_machine.specs.Machine.{changed_first, without_first}
 
--- finding and changing what stands inside the items of a list
+-- finding and changing what is inside the items of a list
 module _ {A B : Type 0} (f : A → B) (test : B → Bool) where
   pub find-map : (xs : List A) → find test (map f xs) ≡ option_map f (find (λ x. test (f x)) xs)
   find-map [] = refl

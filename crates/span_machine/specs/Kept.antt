@@ -18,7 +18,7 @@ use Rattle.span_machine.specs.Tables.{is_before}
 
 -- ---- changes
 
--- A commit changed what stands at a key: the coding of the key, the commit timestamp, and the packed row that it left there, none for
+-- A commit changed the row at a key: the coding of the key, the commit timestamp, and the packed row that it left there, none for
 -- a deletion.
 pub record Change : Type 0 where
   pub key : List ℕ
@@ -40,7 +40,7 @@ put_at schema ts r = record { key = code_of schema r; timestamp = ts; row = Some
 abbrev pub gone_at : List Table → ℕ → TableRow → Change
 gone_at schema ts r = record { key = code_of schema r; timestamp = ts; row = None }
 
--- the rows after that did not stand so before, and the keys of rows before that have no row after
+-- the rows after that were not the same before, and the keys of rows before that have no row after
 abbrev pub changes_between : List Table → ℕ → List TableRow → List TableRow → List Change
 changes_between schema ts before after =
     map (put_at schema ts) (filter (λ r. not (list_any (is_same schema r) before)) after)

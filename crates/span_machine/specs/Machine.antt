@@ -33,7 +33,7 @@ use Rattle.span_machine.specs.Tables.{tables}
 use Rattle.span_machine.specs.Meaning.{means}
 use Rattle.span_machine.specs.Kept as kept
 
--- what the journal knows: no versions and no rows
+-- the state of the journal: no versions and no rows
 pub record Machine : Type 0 where
   pub books : List Book
   pub transactions : List OpenTransaction
@@ -49,7 +49,7 @@ Answer = Reply × Machine
 abbrev pub refused : Machine → Refusal → Answer
 refused m why = (Refused why, m)
 
--- ---- finding, judging and changing
+-- ---- finding, checking and changing
 
 -- what is made of the value, if there is one
 abbrev pub if_some : {A B : Type 0} → Option A → B → (A → B) → B
@@ -165,7 +165,7 @@ add_prepared slot ts t = record t { prepared = t.prepared ++ (record { slot = sl
 abbrev pub prepare_timestamp : Book → ℕ
 prepare_timestamp book = max book.last book.floor + 1
 
--- before its mutations are judged
+-- why a Prepare is refused before its mutations are checked
 abbrev pub prepare_refusal : List Table → Machine → ℕ → OpenTransaction → Book → Option Refusal
 prepare_refusal schema m slot t book = first_cause (
     (not (is_undecided t) || is_prepared_at slot t || (length (mutations_in schema book t.mutations) == 0), refusal.WrongState)
@@ -357,7 +357,7 @@ opened m q s = (
   },
 )
 
--- where the text is understood as this; the refusal of a text comes first
+-- where the query text is understood as this; the refusal of a query text comes first
 abbrev pub open_query : Machine → Result Statement Refusal → Bound → Interval → Answer
 open_query m (Err why) bound interval = refused m why
 open_query m (Ok q) bound interval = unless_refused m (open_refusal m (timestamp_of bound interval)) (opened m q (timestamp_of bound interval))
@@ -433,7 +433,7 @@ closed m query q = (reply.Closed, record m { queries = without_first (is_query q
 abbrev pub close : Machine → ℕ → Answer
 close m query = for_query m query (closed m query)
 
--- the reply where memory suffices, and the machine after it, where an Open's text is understood as u
+-- the reply where memory suffices, and the machine after it, where an Open's query text is understood as u
 abbrev pub answer : List Table → Machine → Result Statement Refusal → Step → Answer
 answer schema m u (Begin owner transaction) = begin m owner transaction
 answer schema m u (Prepare owner txn slot) = prepare schema m owner txn slot
@@ -446,7 +446,7 @@ answer schema m u (Scan query leaf slot interval) = scan m query leaf slot inter
 answer schema m u (Finish query) = finish schema m query
 answer schema m u (Close query) = close m query
 
--- the step may want memory
+-- the step may run out of memory
 abbrev pub may_grow : Step → Bool
 may_grow (Begin owner transaction) = true
 may_grow (Prepare owner txn slot) = true
@@ -459,12 +459,12 @@ may_grow (Scan query leaf slot interval) = true
 may_grow (Finish query) = true
 may_grow (Close query) = false
 
--- Which texts, with which parameters, are understood as which statements, and which are refused for what. The definitions below are for
+-- Which query texts, with which parameters, are understood as which statements, and which are refused why. The definitions below are for
 -- any such relation.
 abbrev pub Understanding : Type 1
 Understanding = List ℕ → List Parameter → Result Statement Refusal → Type 0
 
--- the text of an Open is understood as u; no other step has a text
+-- the query text of an Open is understood as u; no other step has one
 abbrev pub IsUnderstood : Understanding → Step → Result Statement Refusal → Type 0
 IsUnderstood understands (Open text params bound interval) u = understands text params u
 IsUnderstood understands _ u = Unit {0}
@@ -473,15 +473,15 @@ IsUnderstood understands _ u = Unit {0}
 abbrev pub IsAnswer : Answer → Reply → Machine → Type 0
 IsAnswer a r next = (r ≡ a.0) × (next ≡ a.1)
 
--- want of memory stands in place of a reply, and changes nothing
+-- out of memory: that refusal takes the place of the reply, and nothing changes
 abbrev pub WantsMemory : Machine → Reply → Machine → Type 0
 WantsMemory m r next = (r ≡ Refused refusal.OutOfMemory) × (next ≡ m)
 
--- the answer, or want of memory in its place
+-- the answer, or out of memory in its place
 abbrev pub Answers : Machine → Answer → Reply → Machine → Type 0
 Answers m a r next = IsAnswer a r next ⊎ WantsMemory m r next
 
--- from m, the reply to the step and the machine after it: the machine's answer, or want of memory where the step may want some
+-- from m, the reply to the step and the machine after it: the machine's answer, or out of memory where the step may run out of it
 abbrev pub Steps : Understanding → List Table → Machine → Step → Reply → Machine → Type 0
 Steps understands schema m s r next =
     ((u : Result Statement Refusal) × IsUnderstood understands s u × IsAnswer (answer schema m u s) r next)

@@ -1,7 +1,7 @@
 use Rattle.std.specs.Prelude.{◌≡◌, ℕ, ◌<◌, Bool, List, Some, length, slice_get, slice_set, find, remove}
 use Rattle.span_machine.specs.Machine.{changed_first, without_first}
 
--- x is the first that passes, and stands at place i
+-- x is the first that passes, at index i
 pub record IsPlace {A : Type 0} (test : A → Bool) (xs : List A) (i : ℕ) (x : A) : Type 0 where
   pub within : i < length xs
   pub here : slice_get xs i ≡ Some x

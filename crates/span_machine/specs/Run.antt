@@ -31,7 +31,7 @@ Run understands schema m [] (r ∷ rs) last = ⊥
 Run understands schema m (s ∷ ss) [] last = ⊥
 Run understands schema m (s ∷ ss) (r ∷ rs) last = (mid : Machine) × Steps understands schema m s r mid × Run understands schema mid ss rs last
 
--- This is what the query of this number means, its rows in order or the fault: its text is understood as a statement that means it on
+-- This is what the query of this number means, its rows in order or the fault: its query text is understood as a statement that means it on
 -- the tables of the commits, at the timestamp that the query was opened at.
 pub record IsMeant (understands : Understanding) (schema : List Table) (commits : List Commit) (asked : List Asked) (query s : ℕ) (meant : rows.Rows) : Type 0 where
   pub question : Asked
@@ -57,8 +57,8 @@ AreRight understands schema commits asked (s ∷ ss) (r ∷ rs) = IsRight unders
 
 -- The headline. The replies are the machine's; the log of the machine holds just the commits that were answered Decided, in order;
 -- every one of them applies at its place, so that the tables at any timestamp are made; and every answer has exactly the rows, in
--- order, that its text means on the tables of the commits of the whole run, also of those that were decided after it. Where a query is
--- refused for an arithmetic fault, its text means the fault there.
+-- order, that its query text means on the tables of the commits of the whole run, also those decided after it. Where a query is
+-- refused for an arithmetic fault, its query text means the fault there.
 pub record IsHistory (understands : Understanding) (schema : List Table) (steps : List Step) (replies : List Reply) : Type 0 where
   pub last : Machine
   pub run : Run understands schema start steps replies last

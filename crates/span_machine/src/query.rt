@@ -15,10 +15,10 @@ pub struct Leaf {
 #[derive(Debug, Drop)]
 pub struct OpenQuery {
     pub number: u64,
-    /// What the text asks of the leaves.
+    /// What the query asks of its leaves.
     pub query: BoundQuery,
     /// The timestamp that it reads at.
     pub s: u64,
-    /// Its leaves, in the order of the text.
+    /// Its leaves, in the order of the query text.
     pub leaves: Seq<Leaf>,
 }

@@ -1,4 +1,4 @@
-//! What the journal knows of a slot.
+//! The state of a slot in the journal: its timestamps.
 
 /// The timestamps of a slot in use.
 #[derive(Clone, Copy, Debug, PartialEq, Eq)]

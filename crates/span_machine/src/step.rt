@@ -68,7 +68,7 @@ pub enum Step {
     },
 }
 
-/// What a step answers.
+/// The reply to a step.
 #[derive(Debug, Drop, PartialEq, Eq)]
 pub enum Reply {
     /// The transaction's number.

@@ -9,7 +9,7 @@ pub struct Prepared {
     pub timestamp: u64,
 }
 
-/// What was decided of a transaction.
+/// The decision on a transaction.
 #[derive(Clone, Copy, Debug, PartialEq, Eq)]
 pub enum Outcome {
     Undecided,

@@ -19,7 +19,7 @@ of_root tables root q = is_of tables root q.table q.key
 own_first : (tables : List Table) (x : TableRow) (xs : List TableRow) → directory tables (root_row tables x.table x.key) (x ∷ xs) ≡ x ∷ directory tables (root_row tables x.table x.key) xs
 own_first tables x xs = filter_yes (of_root tables (root_row tables x.table x.key)) x xs (in_own tables x.table x.key)
 
--- what stands first in a part of the rows behind y is behind y
+-- what is first in a part of the rows after y is after y
 behind_first : (tables : List Table) (root : Root) (x y : TableRow) (xs ys : List TableRow) → AllByRecursion (λ q. rows_cmp tables y q ≡ Less) ys → directory tables root ys ≡ x ∷ xs → rows_cmp tables y x ≡ Less
 behind_first tables root x y xs ys h e =
     let P : List TableRow → Type 0 = AllByRecursion (λ q. rows_cmp tables y q ≡ Less) in
@@ -32,7 +32,7 @@ heads x y xs ys e = cc
 tails : (x y : TableRow) (xs ys : List TableRow) → x ∷ xs ≡ y ∷ ys → xs ≡ ys
 tails x y xs ys e = cc
 
--- the first row of one is the first of the other, or behind it
+-- the first row of one is the first of the other, or after it
 first_behind : (tables : List Table) (x y : TableRow) (xs ys : List TableRow) → AllByRecursion (λ q. rows_cmp tables y q ≡ Less) ys
     → directory tables (root_row tables x.table x.key) (x ∷ xs) ≡ directory tables (root_row tables x.table x.key) (y ∷ ys)
     → (b : Bool) → of_root tables (root_row tables x.table x.key) y ≡ b → (x ≡ y) ⊎ (rows_cmp tables y x ≡ Less)
@@ -46,7 +46,7 @@ never tables x y e f =
     let g = (rows_total tables).trans x y x e f in
     absurd (let k : Less ≡ Equal = sym g ∙ tied_itself (rows_total tables) x in cc)
 
--- the directories of the rows behind
+-- the directories of the rest of the rows
 rest_same : (tables : List Table) (root : Root) (x : TableRow) (xs ys : List TableRow) → directory tables root (x ∷ xs) ≡ directory tables root (x ∷ ys) → (b : Bool) → of_root tables root x ≡ b → directory tables root xs ≡ directory tables root ys
 rest_same tables root x xs ys e true f = tails x x _ _ (sym (filter_yes (of_root tables root) x xs f) ∙ e ∙ filter_yes (of_root tables root) x ys f)
 rest_same tables root x xs ys e false f = sym (filter_no (of_root tables root) x xs f) ∙ e ∙ filter_no (of_root tables root) x ys f

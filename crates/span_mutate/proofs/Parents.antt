@@ -120,7 +120,7 @@ or_true : (b : Bool) → (b || true) ≡ true
 or_true true = refl
 or_true false = refl
 
--- found before an item, at it or behind it
+-- found before an item, at it or after it
 abbrev there : {X : Type 0} → (X → X → Ordering) → (X → Bool) → X → List X → Bool
 there R p r l = list_any p (filter (λ x. is_lt (R x r)) l) || (p r || list_any p (filter (λ x. is_gt (R x r)) l))
 

@@ -1,4 +1,4 @@
--- A row placed among rows that stand in order.
+-- A row placed among rows that are in order.
 use Rattle.std.proofs.Common.{◌≡◌, Bool, true, false, List, [], ◌∷◌, ◌++◌, refl, sym, ap, subst, ◌∙◌}
 use Rattle.std.specs.List.{filter, AllByRecursion}
 use Rattle.std.specs.declared.cmp.Ordering.{Ordering}
@@ -49,7 +49,7 @@ all_greater : {X : Type 0} (R : X → X → Ordering) (r : X) (xs : List X) → 
 all_greater R r [] h = refl
 all_greater {X} R r (x ∷ xs) h = filter_yes (λ x. is_gt (R x r)) x xs (ap is_gt h.0) ∙ ap (λ (l : List X). x ∷ l) (all_greater R r xs h.1)
 
--- what is behind an item that is not before r is after r
+-- what follows an item that is not before r is after r
 after_it : {X : Type 0} {R : X → X → Ordering} → IsTotalOrder R → (r x y : X) → R x y ≡ Less → R x r ≡ Greater → R y r ≡ Greater
 after_it {R = R} total r x y less g = total.antisymm y r ∙ ap ordering_reverse (total.trans r x y (total.antisymm r x ∙ ap ordering_reverse g) less)
 
@@ -69,7 +69,7 @@ AllBefore R r l = AllByRecursion (λ x. R x r ≡ Less) l
 abbrev AllBehind : {X : Type 0} → (X → X → Ordering) → X → List X → Type 0
 AllBehind R r l = AllByRecursion (λ y. R r y ≡ Less) l
 
--- what does not pass leaves no trace where the items stand in order
+-- what does not pass leaves no trace where the items are in order
 pub put_lost : {X : Type 0} (R : X → X → Ordering) → IsTotalOrder R → (p : X → Bool) (r : X) → p r ≡ false → ((x : X) → R x r ≡ Equal → p x ≡ false) → (xs : List X) → IsRising R xs
     → filter p (put R r xs) ≡ filter p xs
 put_lost {X} R total p r gone same xs sorted =

@@ -26,7 +26,7 @@ number_passed p n i found h t =
     ap (λ (b : Bool). found ++ cond b ((i + 1) ∷ filter p (range_with_len (i + 1 + 1) (n - (i + 1)))) (filter p (range_with_len (i + 1 + 1) (n - (i + 1))))) (sym t)
     ∙ ap (λ (ns : List ℕ). found ++ filter p ns) (sym (range_next n i h))
 
--- the item at a place, and what stands behind it
+-- the item at a place, and the rest after it
 pub item_first : {X : Type 0} (xs : List X) (i : ℕ) (x : X) → i < length xs → x ≡ get_or xs i x → drop i xs ≡ x ∷ drop (i + 1) xs
 item_first {X} xs i x h e =
     drop-cons xs i x h ∙ ap (λ (y : X). y ∷ drop (suc i) xs) (sym e) ∙ ap (λ (k : ℕ). x ∷ drop k xs) (sym (add-one i))

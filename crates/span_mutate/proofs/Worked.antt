@@ -128,7 +128,7 @@ in_a_row = refl
 in_none : apply (schema true true) [] (mutation InsertOrUpdate 1 (one ∷ []) (Some (Flag true) ∷ None ∷ []) ∷ []) ≡ Ok (row 1 (one ∷ []) (Flag true ∷ Null ∷ []) ∷ [])
 in_none = refl
 
--- rows stand by their tables and keys; NULL is the first, and in a descending column the last
+-- rows are in the order of their tables and keys; NULL is the first, and in a descending column the last
 in_order : apply (schema true true) (a1 ∷ b11 ∷ [])
     (mutation Insert 1 (Null ∷ []) (None ∷ None ∷ []) ∷ mutation Insert 2 (one ∷ Null ∷ []) [] ∷ mutation Insert 2 (one ∷ two ∷ []) [] ∷ [])
     ≡ Ok (row 1 (Null ∷ []) (Null ∷ Null ∷ []) ∷ a1 ∷ row 2 (one ∷ two ∷ []) [] ∷ b11 ∷ row 2 (one ∷ Null ∷ []) [] ∷ [])
@@ -154,7 +154,7 @@ empty = refl
 no_table : checked_transaction (schema true true) (asked Insert 68 [] [] ∷ []) ≡ Err NoTable
 no_table = refl
 
--- the whole key is judged before the cells, its types before NULL
+-- the whole key is checked before the cells, its types before NULL
 short_key : checked_transaction (schema true true) (asked Insert 65 [] (cell 97 Null ∷ []) ∷ []) ≡ Err WrongType
 short_key = refl
 
@@ -170,7 +170,7 @@ named_twice = refl
 delete_with_cell : checked_transaction (schema true true) (asked Delete 65 (one ∷ []) (cell 117 Null ∷ []) ∷ []) ≡ Err NoColumn
 delete_with_cell = refl
 
--- the second mutation is judged where nothing refuses the first
+-- the second mutation is checked where nothing refuses the first
 second : checked_transaction (schema true true) (asked Delete 65 (one ∷ []) [] ∷ asked Insert 65 (one ∷ []) (cell 117 one ∷ []) ∷ []) ≡ Err WrongType
 second = refl
 

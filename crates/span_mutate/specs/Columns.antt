@@ -52,7 +52,7 @@ abbrev pub is_too_long : Option Column → Value → Bool
 is_too_long None v = false
 is_too_long (Some c) v = is_over_type c.kind v
 
--- a value of the key, beside its column, of which a rule is broken
+-- a value of the key, with its column, of which a rule is broken
 abbrev pub key_breaks : (Option Column → Value → Bool) → List Column → List KeyColumn → List Value → Bool
 key_breaks rule columns [] vs = false
 key_breaks rule columns (k ∷ ks) [] = false

@@ -26,7 +26,7 @@ use Rattle.span_mutate.specs.Rows.{begins, row_at, placed}
 abbrev pub rows_of : ℕ → List TableRow → List TableRow
 rows_of n db = filter (λ (r : TableRow). r.table == n) db
 
--- table m is table n, or stands below it
+-- table m is table n, or is below it
 abbrev pub is_at_or_below : List Table → ℕ → ℕ → Bool
 is_at_or_below tables n m = list_any (λ (k : ℕ). k == n) (path_of tables m)
 
@@ -90,7 +90,7 @@ abbrev pub is_update : MutationKind → Bool
 is_update Update = true
 is_update kind = false
 
--- what refuses a mutation whose key has this row, in the order judged
+-- what refuses a mutation whose key has this row, in the order of the checks
 abbrev pub causes : List Table → List TableRow → CheckedMutation → Option TableRow → List (Bool × Refusal)
 causes tables db m before =
     (is_insert m.kind && is_some before, Exists)

@@ -45,16 +45,16 @@ root_row tables n key = record { table = root_of tables n; key = take (key_len t
 abbrev pub rows_cmp : List Table → TableRow → TableRow → Ordering
 rows_cmp tables q r = row_order (key_columns tables r.table) q r
 
--- each item is before all those behind it
+-- each item is before all those after it
 abbrev pub IsRising : {X : Type 0} → (X → X → Ordering) → List X → Type 0
 IsRising R [] = Unit {0}
 IsRising R (x ∷ xs) = AllByRecursion (λ y. R x y ≡ Less) xs × IsRising R xs
 
--- the rows stand in order, one at each key
+-- the rows are in order, one at each key
 abbrev pub IsInOrder : List Table → List TableRow → Type 0
 IsInOrder tables db = IsRising (rows_cmp tables) db
 
--- a database: each row has a value for each key column of its table, and the rows stand in order
+-- a database: each row has a value for each key column of its table, and the rows are in order
 abbrev pub IsDatabase : List Table → List TableRow → Type 0
 IsDatabase tables db = IsInOrder tables db × AllByRecursion (λ (r : TableRow). IsKeyed tables r.table r.key) db
 

@@ -1,4 +1,4 @@
--- Rows, their keys and the order in which they stand.
+-- Rows, their keys and their order.
 use Rattle.std.specs.Prelude.{ℕ, ◌+◌, ◌==◌, ◌&&◌, ◌++◌, Bool, true, false, List, [], ◌∷◌, length, find, filter, slice_get, Option, Some, None}
 use Rattle.std.specs.declared.cmp.Ordering.{Ordering}
 use Rattle.std.specs.declared.cmp.Ordering.TheVariants.{Less, Equal, Greater}
@@ -25,7 +25,7 @@ is_at n key r = (r.table == n) && is_same_key key r.key
 abbrev pub row_at : ℕ → List Value → List TableRow → Option TableRow
 row_at n key db = find (is_at n key) db
 
--- a column is descending; what stands behind all columns is not
+-- a column is descending; what is after all columns is not
 abbrev pub is_descending : Option KeyPart → Bool
 is_descending None = false
 is_descending (Some c) = c.desc

@@ -45,7 +45,7 @@ fn judge_key(
     Ok(())
 }
 
-// Whether a cell may stand behind those before it.
+// Whether a cell may follow those before it.
 fn judge_cell(
     table: &Table,
     kind: MutationKind,
@@ -141,8 +141,8 @@ fn check_at(
     })
 }
 
-/// A mutation, checked against the schema. `docs/REFUSALS.md` has the order of the refusals; `OutOfMemory` is the one for want of
-/// memory.
+/// A mutation, checked against the schema. `docs/REFUSALS.md` has the order of the refusals; `OutOfMemory`: memory
+/// ran out.
 pub(crate) fn check(
     alloc: Global,
     schema: &Schema,

@@ -93,7 +93,7 @@ pub(crate) fn is_too_long(column: Option<&Column>, value: &Value) -> bool
     }
 }
 
-/// Whether NULL stands in a NOT NULL column of the key.
+/// Whether NULL is in a NOT NULL column of the key.
 pub(crate) fn has_null(columns: &[Column], key: &[KeyColumn], values: &[Value]) -> bool
     ensures { result ≡ key_breaks is_null_refused columns.now key.now values.now }
 {
@@ -149,8 +149,8 @@ fn value_named(alloc: Global, cells: &[Cell], name: &str) -> Result<Option<Value
     }
 }
 
-/// For each column outside the key, in the order of declaration, the value that the cells give it. `OutOfMemory` is the refusal
-/// for want of memory.
+/// For each column outside the key, in the order of declaration, the value that the cells give it. `OutOfMemory`: memory ran
+/// out.
 pub(crate) fn values_named(
     alloc: Global,
     key: &[KeyColumn],

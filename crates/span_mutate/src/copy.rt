@@ -11,7 +11,7 @@ use std::alloc::Global;
 impl Mutation {
     ghost use Rattle.std.specs.Prelude.{◌≡◌, MatchResult};
 
-    /// An equal mutation, or the refusal for want of memory.
+    /// An equal mutation, or `OutOfMemory`.
     pub fn copy(&self, alloc: Global) -> Result<Mutation, Refusal>
         ensures { MatchResult result (λ copy. copy ≡ self.now) (λ why. why ≡ Refusal.OutOfMemory) }
     {
@@ -27,7 +27,7 @@ impl Mutation {
 impl CheckedMutation {
     ghost use Rattle.std.specs.Prelude.{◌≡◌, MatchResult};
 
-    /// An equal mutation, or the refusal for want of memory.
+    /// An equal mutation, or `OutOfMemory`.
     pub fn copy(&self, alloc: Global) -> Result<CheckedMutation, Refusal>
         ensures { MatchResult result (λ copy. copy ≡ self.now) (λ why. why ≡ Refusal.OutOfMemory) }
     {
@@ -40,7 +40,7 @@ impl CheckedMutation {
     }
 }
 
-/// Equal values, or the refusal for want of memory.
+/// Equal values, or `OutOfMemory`.
 pub(crate) fn copy_of_values(alloc: Global, values: &[Value]) -> Result<Vec<Value>, Refusal>
     ensures { MatchResult result (λ copy. copy.items ≡ values.now) (λ why. why ≡ Refusal.OutOfMemory) }
 {
@@ -89,7 +89,7 @@ fn copy_of_cells(alloc: Global, cells: &[Cell]) -> Result<Vec<Cell>, Refusal>
     Ok(copy)
 }
 
-/// Equal mutations, or the refusal for want of memory.
+/// Equal mutations, or `OutOfMemory`.
 pub(crate) fn copy_of_mutations(
     alloc: Global,
     mutations: &[CheckedMutation],

@@ -23,7 +23,7 @@ pub fn is_in_directory_of(
         && begins(front(other.key.as_slice(), len), mutation.key.as_slice())
 }
 
-// The root table of a table; a number that is no table's stands for itself, and 0 for the first table.
+// The root table of a table; for a number that is no table's itself, and for 0 the first table.
 fn root_table(schema: &Schema, table: usize) -> usize
     ensures { result ≡ root_of schema.now table }
 {
@@ -45,7 +45,7 @@ fn key_length(schema: &Schema, table: usize) -> usize
     0
 }
 
-// The first values, as many as there are of so many.
+// The first `len` values, or all where there are fewer.
 fn front(values: &[Value], len: usize) -> &[Value]
     ensures { result.now ≡ take len values.now }
 {

@@ -1,4 +1,4 @@
-//! The order in which the rows of a database stand.
+//! The order of the rows of a database.
 ghost use Rattle.std.specs.Prelude.{◌≡◌};
 ghost use Rattle.span_schema.specs.Numbers.{key_columns};
 ghost use Rattle.span_mutate.specs.Directories.{rows_cmp};
@@ -8,7 +8,7 @@ use span_schema::layout::KeyPart;
 use span_schema::schema::Schema;
 use std::cmp::Ordering;
 
-/// How two rows stand to each other: by the numbers of their tables, and those of one table by their keys.
+/// The order of two rows: by the numbers of their tables, and those of one table by their keys.
 pub fn order_of_rows(schema: &Schema, left: &TableRow, right: &TableRow) -> Ordering
     ensures { result ≡ rows_cmp schema.now left.now right.now }
 {

@@ -22,7 +22,7 @@ use span_value::seq::Seq;
 use span_value::value::Value;
 use std::alloc::{AllocError, Global};
 
-// Whether a table is this one or stands below it.
+// Whether a table is this one or below it.
 fn is_at_or_below(schema: &Schema, table: usize, below: usize) -> bool
     requires { IsTable schema.now below }
     ensures { result ≡ is_at_or_below schema.now table below }
@@ -126,7 +126,7 @@ fn lacks_parent(schema: &Schema, table: usize, key: &[Value], rows: &[TableRow])
     }
 }
 
-// The first values, as many as there are of so many.
+// The first `len` values, or all where there are fewer.
 fn front(values: &[Value], len: usize) -> &[Value]
     ensures { result.now ≡ take len values.now }
 {
@@ -254,8 +254,8 @@ fn delete(
 
 /// The rows once the mutation has run, or its first fault: `Exists`, `Missing`, `ParentMissing`, `HasChildren` or `RowTooLong`.
 ///
-/// A Delete removes the row and all rows below it, where none of them is of a table without ON DELETE CASCADE. `OutOfMemory` is the
-/// refusal for want of memory.
+/// A Delete removes the row and all rows below it, where none of them is of a table without ON DELETE CASCADE. `OutOfMemory`:
+/// memory ran out.
 pub fn apply_one(
     alloc: Global,
     schema: &Schema,
@@ -273,8 +273,8 @@ pub fn apply_one(
 
 /// The rows of a directory once the mutations have run on them one after another, or the fault of the first that has one.
 ///
-/// The rows stand by their tables' numbers, and those of one table in the order of its key; so do the rows answered. The mutations are
-/// of tables of the schema, and were checked against it. `OutOfMemory` is the refusal for want of memory.
+/// The rows are in the order of their tables' numbers, and those of one table in the order of its key; so is the result. The mutations are
+/// of tables of the schema, and were checked against it. `OutOfMemory`: memory ran out.
 pub fn check_root(
     alloc: Global,
     schema: &Schema,

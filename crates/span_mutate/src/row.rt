@@ -1,4 +1,4 @@
-//! Rows of tables, and the order in which they stand.
+//! Rows of tables, and their order.
 ghost use Rattle.std.specs.Prelude.{◌≡◌, IfOk, slice_get};
 ghost use Rattle.std.specs.Option.{option_copied};
 ghost use Rattle.span_keycode.specs.Coding.{directed};
@@ -22,7 +22,7 @@ pub struct TableRow {
     pub cells: Seq<Value>,
 }
 
-/// Whether the values stand at the front of the others.
+/// Whether the other values begin with these.
 pub(crate) fn begins(front: &[Value], values: &[Value]) -> bool
     ensures { result ≡ begins front.now values.now }
 {
@@ -71,7 +71,7 @@ fn is_descending(columns: &[KeyPart], place: usize) -> bool
     }
 }
 
-/// How two keys stand to each other: column by column, each in its direction.
+/// The order of two keys: column by column, each in its direction.
 pub(crate) fn key_order(columns: &[KeyPart], left: &[Value], right: &[Value]) -> Ordering
     ensures { result ≡ key_order columns.now left.now right.now }
 {
@@ -90,7 +90,7 @@ pub(crate) fn row_order(columns: &[KeyPart], left: &TableRow, right: &TableRow) 
     left.table.cmp(&right.table).then(key_order(columns, left.key.as_slice(), right.key.as_slice()))
 }
 
-/// The rows with this one at its place among them, where a row with its key was or behind those that come before it. The columns
+/// The rows with this one at its place among them, where a row with its key was or after those that come before it. The columns
 /// are those of its key.
 pub(crate) fn placed(
     alloc: Global,

@@ -38,7 +38,7 @@ impl Transaction {
     /// `NoTable`; of the whole key `WrongType` (also where it has not one value for each key column), `NullNotAllowed`,
     /// `ValueTooLong`, `KeyTooLong`; of each cell in turn `NoColumn` (no such column, one of the key, one named before, or any cell
     /// of a Delete), `WrongType`, `NullNotAllowed`, `ValueTooLong`; `NullNotAllowed` where an Insert or InsertOrUpdate does not name
-    /// a NOT NULL column. `OutOfMemory` is the refusal for want of memory.
+    /// a NOT NULL column. `OutOfMemory`: memory ran out.
     pub fn new(
         alloc: Global,
         schema: &Schema,
@@ -58,7 +58,7 @@ impl Transaction {
         })
     }
 
-    /// An equal transaction, or the refusal for want of memory.
+    /// An equal transaction, or `OutOfMemory`.
     pub fn copy(&self, alloc: Global) -> Result<Transaction, Refusal>
         ensures { MatchResult result (λ copy. copy ≡ self.now) (λ why. why ≡ Refusal.OutOfMemory) }
     {

@@ -9,7 +9,7 @@ use Rattle.csv.specs.Reading.{default_config}
 use Rattle.csv.specs.declared.parser.State.TheVariants as state
 use Rattle.span_record.specs.Record.{pieces, next, is_mark, record_fields, fields_alone, IsPlain}
 
--- what was read of a field stands before the first piece of what is left
+-- what was read of a field is before the first piece of what is left
 abbrev onto : List ℕ → List (List ℕ) → List (List ℕ)
 onto field [] = field ∷ []
 onto field (piece ∷ others) = (field ++ piece) ∷ others

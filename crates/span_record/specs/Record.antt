@@ -18,7 +18,7 @@ pieces text = slice_split (λ b. b == 44) text
 abbrev pub next : State → List ℕ → Option Read
 next s text = next_record default_config s [] [] text
 
--- the fields of a record, where no other is read behind it
+-- the fields of a record, where no other is read after it
 abbrev pub fields_unless : List (List ℕ) → Option Read → List (List ℕ)
 fields_unless fields None = fields
 fields_unless fields (Some another) = []
@@ -36,7 +36,7 @@ record_fields text = fields_alone (next state.StartRecord (strip_bom text))
 abbrev pub is_mark : ℕ → Bool
 is_mark b = (b == 34) || (b == 13) || (b == 10)
 
--- none of these stands in the text, and no byte order mark at its front
+-- none of these is in the text, and no byte order mark at its front
 abbrev pub IsPlain : List ℕ → Type 0
 IsPlain text = All (λ b. is_mark b ≡ false) text × (strip_bom text ≡ text)
 

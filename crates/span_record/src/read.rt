@@ -31,7 +31,7 @@ pub fn read_fields(alloc: Global, text: &str, fields: &mut StringRecord) -> Resu
             fields.clear();
             Ok(())
         }
-        // The text is in memory and its fields are text, so that only memory can be wanting.
+        // The text is in memory and its fields are text, so that only memory can run out.
         Err(_) => Err(Refusal::OutOfMemory),
     }
 }
@@ -66,7 +66,7 @@ fn cut_at_commas(text: &str, fields: &mut StringRecord) -> Result<(), AllocError
     fields.push_field(rest)
 }
 
-/// What stands before the first comma and behind it; None where there is no comma.
+/// What is before the first comma and after it; None where there is no comma.
 pub fn at_comma(text: &str) -> Option<(&str, &str)>
     ensures cut { MatchOption result (pieces text.now ≡ text.now ∷ []) (λ x. pieces text.now ≡ x.0.now ∷ pieces x.1.now) }
     ensures shorter { IfSome result (λ x. length x.1.now < length text.now) }

@@ -22,7 +22,7 @@ pub fn rows_text(alloc: Global, rows: &[Row]) -> Result<Vec<u8>, Refusal>
         .from_writer(Vec::new(alloc));
     for row in rows {
         put_cells(alloc, row.as_slice(), &mut cells)?;
-        // The text is in memory, so that only memory can be wanting.
+        // The text is in memory, so that only memory can run out.
         if records.write_byte_record(cells.as_byte_record()).is_err() {
             return Err(Refusal::OutOfMemory);
         }

@@ -50,7 +50,7 @@ four (a ∷ (b ∷ (c ∷ (d ∷ bs)))) h = refl
 pub eight_read : (bs : List ℕ) (n : ℕ) → 8 ≤ length bs → AreBytes bs → n ≡ from_be_bytes w64 (take 8 bs) → bs ≡ to_be_bytes w64 n ++ drop 8 bs
 eight_read bs n h are e = sym (take-append-drop 8 bs) ∙ ap (λ (xs : List ℕ). xs ++ drop 8 bs) (sym (be_bytes_8 (take 8 bs) n (length-take-le 8 bs h) (bytes_at (take 8 bs) (bytes_take 8 bs are)) e))
 
--- the bytes behind their length
+-- the bytes after their length
 pub bytes_read : (bs found : List ℕ) (n : ℕ) → AreBytes bs → 4 ≤ length bs → n ≤ length bs - 4 → n < 2 ^ 32
     → n ≡ from_be_bytes w32 (get_or bs 0 0 ∷ get_or bs 1 0 ∷ get_or bs 2 0 ∷ get_or bs 3 0 ∷ []) → found ≡ take n (drop 4 bs) → HasBytes bs found
 bytes_read bs found n are h k small e is =
@@ -131,7 +131,7 @@ fronts (x ∷ xs) (y ∷ ys) r s l e =
 one_length : (m n : ℕ) → m < 2 ^ 32 → n < 2 ^ 32 → to_be_bytes w32 m ≡ to_be_bytes w32 n → m ≡ n
 one_length m n a b e = sym (from_be_bytes-to_be_bytes_4 m a) ∙ ap (from_be_bytes w32) e ∙ from_be_bytes-to_be_bytes_4 n b
 
--- bytes behind their length are one text
+-- bytes after their length are one string
 pub one_text : (bs cs r s : List ℕ) → length bs < 2 ^ 32 → length cs < 2 ^ 32 → to_be_bytes w32 (length bs) ++ (bs ++ r) ≡ to_be_bytes w32 (length cs) ++ (cs ++ s) → (bs ≡ cs) × (r ≡ s)
 one_text bs cs r s a b e =
     let words = fronts (to_be_bytes w32 (length bs)) (to_be_bytes w32 (length cs)) (bs ++ r) (cs ++ s) refl e in
@@ -167,7 +167,7 @@ pub first_byte : (bs : List ℕ) (a : ℕ) → 0 < length bs → get_or bs 0 0 �
 first_byte [] a h e = absurd (let l : 0 < 0 = h in omega arith)
 first_byte (b ∷ bs) a h e = ap (λ (n : ℕ). n ∷ bs) e
 
--- cells of one kind that are coded alike are the same
+-- cells of one kind with equal codings are the same
 signed_once : (i j : ℤ) (r s : List ℕ) → Fits Numbers (Int i) → Fits Numbers (Int j) → to_be_bytes w64 (cast_unsigned w64 i) ++ r ≡ to_be_bytes w64 (cast_unsigned w64 j) ++ s → (i ≡ j) × (r ≡ s)
 signed_once i j r s f g e =
     let words = fronts (to_be_bytes w64 (cast_unsigned w64 i)) (to_be_bytes w64 (cast_unsigned w64 j)) r s refl e in

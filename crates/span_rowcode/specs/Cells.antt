@@ -1,4 +1,4 @@
--- What is read behind the mark of a cell that is not NULL.
+-- What is read after the mark of a cell that is not NULL.
 use Rattle.std.specs.Prelude.{◌≡◌, ℕ, ◌+◌, ◌<◌, ◌≤◌, ◌^◌, List, ◌∷◌, ◌++◌, length, drop}
 use Rattle.std.specs.Int.{to_be_bytes, w32}
 use Rattle.span_value.specs.declared.value.Value.{Value}
@@ -16,7 +16,7 @@ pub record IsBody (k : Kind) (bytes : List ℕ) (v : Value) (n : ℕ) : Type 0 w
   pub code : 1 ∷ bytes ≡ cell_code v ++ drop n bytes
   pub within : n ≤ length bytes
 
--- a length in four bytes, and so many bytes
+-- a length in four bytes, and as many bytes
 pub record HasBytes (bytes : List ℕ) (found : List ℕ) : Type 0 where
   pub code : bytes ≡ to_be_bytes w32 (length found) ++ (found ++ drop (length found + 4) bytes)
   pub are : AreBytes found

@@ -108,7 +108,7 @@ fn text_body(alloc: Global, rest: &[u8]) -> Result<Option<(Value, usize)>, Alloc
     }
 }
 
-// The bytes behind their length in four bytes.
+// The bytes after their length in four bytes.
 fn bytes_at(rest: &[u8]) -> Option<&[u8]>
     requires { length rest.now ≤ MOST_BYTES }
     ensures { MatchOption result (HasNoBytes rest.now) (λ bytes. HasBytes rest.now bytes.now) }

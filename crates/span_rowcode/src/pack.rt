@@ -12,7 +12,7 @@ pub const MOST_BYTES: usize = 1_048_576;
 
 /// The packed row of these cells: the values of a row's columns outside the primary key, in the order of their declaration.
 ///
-/// `RowTooLong`: the packed row has more than 1,048,576 bytes. `OutOfMemory` is the refusal for want of memory.
+/// `RowTooLong`: the packed row has more than 1,048,576 bytes. `OutOfMemory`: memory ran out.
 pub fn pack(alloc: Global, cells: &[Value]) -> Result<Vec<u8>, Refusal>
     ensures { MatchResult result (λ bytes. (bytes.items ≡ row_code cells.now) × (length (row_code cells.now) ≤ MOST_BYTES)) (λ why. ((why ≡ Refusal.RowTooLong) × (MOST_BYTES < length (row_code cells.now))) ⊎ (why ≡ Refusal.OutOfMemory)) }
 {

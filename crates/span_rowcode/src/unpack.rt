@@ -12,8 +12,7 @@ use std::alloc::{AllocError, Global};
 
 /// The cells of a packed row of a table: the values of its columns outside the primary key, in the order of their declaration.
 ///
-/// `BadRow`: the bytes are no packed row of the table, or more than 1,048,576. `OutOfMemory` is the refusal for want of
-/// memory.
+/// `BadRow`: the bytes are no packed row of the table, or more than 1,048,576. `OutOfMemory`: memory ran out.
 pub fn unpack(
     alloc: Global,
     schema: &Schema,

@@ -1,7 +1,7 @@
 //! For tests alone: `span_rows SCHEMA SCRIPT` reads both files and runs the script over a new database of the schema.
 //!
 //! It writes the answers, and ends with status 0. A refused schema writes `schema refused N`, status 3. A file that can't be read, a
-//! device that fails or want of memory: a line on standard error, status 1; a wrong command line: status 2.
+//! device that fails or out of memory: a line on standard error, status 1; a wrong command line: status 2.
 #![tactic(auto)]
 
 mod fault;
@@ -17,7 +17,7 @@ use std::process::ExitCode;
 use std::rt::{Env, Files};
 use std::{env, fs, io};
 
-/// What a wrong command line is told.
+/// The message for a wrong command line.
 const USAGE: &str = "usage: span_rows SCHEMA SCRIPT";
 
 fn main(rt: HostRuntime) -> ExitCode {
@@ -69,7 +69,7 @@ fn run_files<R: AllocGlobal + Print + Files>(
     }
 }
 
-/// The schema of a text. `BadToken` where the bytes are no UTF-8.
+/// The schema that a schema text declares. `BadToken` where the bytes are no UTF-8.
 fn read_schema(rt: &impl AllocGlobal, bytes: &[u8]) -> Result<Schema, Refusal> {
     match str::from_utf8(bytes) {
         Ok(text) => parse_schema(rt.alloc(), text),

@@ -1,4 +1,4 @@
--- The numbers on a path, and what stands at a place.
+-- The numbers on a path, and the table at a place.
 use Rattle.std.proofs.Common.{◌≡◌, ℕ, zero, suc, ◌+◌, ◌<◌, ◌≤◌, List, [], ◌∷◌, Option, Some, None, refl, ◌∙◌, ap, arith, length, length-append, map, get_or, slice_index, inl, inr}
 use Rattle.std.specs.List.{All, range_with_len}
 use Rattle.std.proofs.lemmas.List.Elements.{All-push}

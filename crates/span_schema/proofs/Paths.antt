@@ -1,4 +1,4 @@
--- Paths: a parent stands before its child, so what is known of the tables before gives the path to a table.
+-- Paths: a parent is before its child, so what is known about the tables before gives the path to a table.
 use Rattle.std.proofs.Common.{◌≡◌, ℕ, zero, suc, ◌+◌, ◌<◌, List, [], ◌∷◌, ◌++◌, Option, Some, None, refl, sym, ◌∙◌, ap, arith, Bool, length, length-append, take, map}
 use Rattle.std.specs.List.{slice_get, position, range_with_len}
 use Rattle.std.proofs.lemmas.Bool.Decides.{nat_tests}
@@ -23,7 +23,7 @@ parent_in_before : (before : List Table) (t : Option Table) (p : ℕ) → parent
 parent_in_before before None p h = absurd (let e : None ≡ Some p = h in cc)
 parent_in_before before (Some t) p h = parent_within before t.parent p h
 
--- a parent stands before its child
+-- a parent is before its child
 pub parent_before : (tables : List Table) (i p : ℕ) → parent_at tables i ≡ Some p → p < i
 parent_before tables i p h =
     let within : p < length (take i tables) = parent_in_before (take i tables) (slice_get tables i) p h in
@@ -60,7 +60,7 @@ path_here tables i = above_same _ (path_in tables i) (parent_at tables i)
     (λ p h. let before : p < i = parent_before tables i p h in
     ap path_of_line (line_at tables i p before) ∙ steps_enough tables (suc p) i p (omega arith) before)
 
--- what is judged and made of the tables before is what the definitions say
+-- what is checked and built for the tables before is what the definitions say
 pub lineage_step : (tables : List Table) (i : ℕ) (t : Table) (lines : List Lineage) → slice_get tables i ≡ Some t → lines ≡ map (lineage_at tables) (range_with_len 0 i)
     → (lineage_in (take i tables) t lines ≡ lineage_at tables i) × (judged_in (take i tables) t lines ≡ cause_at tables i)
 lineage_step tables i t lines at same =

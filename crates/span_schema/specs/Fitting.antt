@@ -1,4 +1,4 @@
--- Which values may stand in a column.
+-- Which values may be in a column.
 use Rattle.std.specs.Prelude.{ℕ, ◌<◌, List, Bool, true, false, FitsSigned}
 use Rattle.std.specs.Int.{w64}
 use Rattle.std.specs.List.{AllByRecursion}

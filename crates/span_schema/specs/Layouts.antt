@@ -20,11 +20,11 @@ key_part columns k = option_map (λ (type : ColumnType). record { kind = kind_of
 abbrev pub key_parts : List Column → List KeyColumn → List KeyPart
 key_parts columns key = filter_map (key_part columns) key
 
--- where the key's columns stand
+-- the places of the key's columns
 abbrev pub key_places : List Column → List KeyColumn → List ℕ
 key_places columns key = filter_map (λ (k : KeyColumn). column_place columns k.name) key
 
--- where the other columns stand, in order, the first of these columns standing at place i
+-- the places of the other columns, in order, the first of these columns being at place i
 abbrev pub other_places : List KeyColumn → ℕ → List Column → List ℕ
 other_places key i [] = []
 other_places key i (c ∷ cs) = (if is_key_name key c.name then other_places key (i + 1) cs else i ∷ other_places key (i + 1) cs)

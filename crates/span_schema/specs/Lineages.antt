@@ -1,4 +1,4 @@
--- Where tables stand among the others, and what a schema is.
+-- The lineages of tables, and what a schema is.
 use Rattle.std.specs.Prelude.{◌≡◌, ℕ, zero, suc, ◌+◌, ◌-◌, ◌<◌, ◌==◌, Bool, false, List, [], ◌∷◌, ◌++◌, length, take, Option, Some, None, slice_get}
 use Rattle.std.specs.List.{range_with_len, filter}
 use Rattle.span_value.specs.declared.refusal.Refusal.{Refusal}
@@ -19,12 +19,12 @@ abbrev pub above : (ℕ → List ℕ) → Option ℕ → List ℕ
 above path None = []
 above path (Some p) = path p
 
--- the last of the path to the table at a place, up to so many steps from it
+-- the last of the path to the table at a place, up to n steps from it
 abbrev pub path_in : List Table → ℕ → ℕ → List ℕ
 path_in tables zero i = []
 path_in tables (suc steps) i = above (path_in tables steps) (parent_at tables i) ++ (i + 1) ∷ []
 
--- the path to the table at a place: the path to its parent, and then its own number. A parent stands
+-- the path to the table at a place: the path to its parent, and then its own number. A parent is
 -- before its child, so there are no more steps than places
 abbrev pub path_at : List Table → ℕ → List ℕ
 path_at tables i = path_in tables (suc i) i
@@ -32,7 +32,7 @@ path_at tables i = path_in tables (suc i) i
 abbrev pub lineage_at : List Table → ℕ → Lineage
 lineage_at tables i = record { parent = parent_at tables i; path = path_at tables i }
 
--- the path to a parent, by what is known of the tables before
+-- the path to a parent, by the lineages of the tables before
 abbrev pub path_of_line : Option Lineage → List ℕ
 path_of_line None = []
 path_of_line (Some line) = line.path
@@ -51,7 +51,7 @@ abbrev pub is_parent : ℕ → Option ℕ → Bool
 is_parent i None = false
 is_parent i (Some p) = p == i
 
--- the numbers of the tables whose parent stands at a place
+-- the numbers of the tables whose parent is at a place
 abbrev pub children_at : List Table → ℕ → List ℕ
 children_at tables i = filter (λ n. is_parent i (parent_at tables (n - 1))) (range_with_len 1 (length tables))
 

@@ -73,7 +73,7 @@ other_kinds tables n = layout.other_kinds (key_in (table_at tables n)) (columns_
 abbrev pub column_named : List Table → ℕ → List ℕ → Option ℕ
 column_named tables n name = column_place (columns_of tables n) name
 
--- how many columns of a table's key are those of its parent, which stands at a place
+-- how many columns of a table's key are those of its parent, which is at a place
 abbrev pub columns_above : List Table → Option ℕ → ℕ
 columns_above tables None = 0
 columns_above tables (Some p) = length (key_at tables p)

@@ -21,7 +21,7 @@ abbrev pub has_repeated_column : List Column → Bool
 has_repeated_column [] = false
 has_repeated_column (c ∷ cs) = is_some (column_place cs c.name) || has_repeated_column cs
 
--- a column that stands twice in the key
+-- a column that is twice in the key
 abbrev pub has_repeated_key : List KeyColumn → Bool
 has_repeated_key [] = false
 has_repeated_key (k ∷ ks) = is_key_name ks k.name || has_repeated_key ks
@@ -60,7 +60,7 @@ abbrev pub is_same_direction : Bool → Bool → Bool
 is_same_direction true b = b
 is_same_direction false b = not b
 
--- key columns of two tables are alike: in name, direction, and type with its length
+-- key columns of two tables are equal: in name, direction, and type with its length
 abbrev pub is_same_key_column : List Column → List Column → KeyColumn → KeyColumn → Bool
 is_same_key_column cs ds k l = is_same_name k.name l.name && is_same_direction k.desc l.desc && is_same_type (type_named cs k.name) (type_named ds l.name)
 
@@ -85,7 +85,7 @@ extends_named before (Some p) t = extends_found (table_named before p.name) t
 abbrev pub has_other_key : List Table → Table → Bool
 has_other_key before t = not (extends_named before t.parent t)
 
--- the rules in the order in which they are judged, each with whether the table breaks it
+-- the rules in the order in which they are checked, each with whether the table breaks it
 abbrev pub causes_of : List Table → Table → ℕ → List (Bool × Refusal)
 causes_of before t level =
     (has_too_many before t, TooMany)

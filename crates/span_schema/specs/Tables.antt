@@ -19,7 +19,7 @@ kind_of (Str n) = kind.Str
 kind_of (Bytes n) = kind.Bytes
 kind_of Truth = kind.Bool
 
--- names are alike whatever the case of their ASCII letters
+-- names are equal whatever the case of their ASCII letters
 abbrev pub is_same_name : List ℕ → List ℕ → Bool
 is_same_name = str_eq_ignore_ascii_case
 
@@ -55,7 +55,7 @@ is_same_length None None = true
 is_same_length (Some m) (Some n) = m == n
 is_same_length a b = false
 
--- types are alike where their lengths are too
+-- types are equal where their lengths are too
 abbrev pub is_same_column_type : ColumnType → ColumnType → Bool
 is_same_column_type Int Int = true
 is_same_column_type (Str a) (Str b) = is_same_length a b

@@ -1,4 +1,4 @@
-//! Which values may stand in a column.
+//! Which values may be in a column.
 ghost use Rattle.std.specs.Prelude.{◌≡◌, IsTrue, true, FitsSigned};
 ghost use Rattle.std.specs.Int.{w64};
 ghost use Rattle.std.specs.Str.{IsUtf8};

@@ -1,4 +1,4 @@
-//! Where each table stands among the others: its parent, and the path to it from its root table.
+//! The lineage of each table: its parent, and the path to it from its root table.
 ghost use Rattle.std.specs.Prelude.{◌≡◌, ℕ, ◌+◌, ◌<◌, ◌≤◌, ◌++◌, ◌∷◌, [], ◌⊎◌, MatchResult, IfOk, IfSome, length, map};
 ghost use Rattle.std.specs.List.{range_with_len, filter};
 ghost use Rattle.span_schema.specs.Tables.{parent_place};
@@ -11,7 +11,7 @@ use span_value::refusal::Refusal;
 use span_value::seq::Seq;
 use std::alloc::{AllocError, Global};
 
-/// Where a table stands.
+/// The lineage of a table.
 #[derive(Debug, Drop)]
 pub struct Lineage {
     /// The place of its parent among the tables, counted from 0.
@@ -20,7 +20,7 @@ pub struct Lineage {
     pub path: Seq<usize>,
 }
 
-/// Where each table stands, if all of them meet the rules, and else the first cause of refusal.
+/// The lineage of each table, if all of them meet the rules, and else the first cause of refusal.
 pub(crate) fn lineages_of(alloc: Global, tables: &[Table]) -> Result<Vec<Lineage>, Refusal>
     ensures { MatchResult result (λ lines. MeetsRules tables.now × (lines.items ≡ map (lineage_at tables.now) (range_with_len 0 (length tables.now)))) (λ why. IsFirstCause tables.now why ⊎ (why ≡ Refusal.OutOfMemory)) }
 {

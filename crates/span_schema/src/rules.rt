@@ -1,4 +1,4 @@
-//! The rules that each table of a schema meets, judged in one order.
+//! The rules that each table of a schema meets, checked in one order.
 ghost use Rattle.std.specs.Prelude.{◌≡◌, ◌<◌, ◌≤◌, MatchResult, length};
 ghost use Rattle.span_schema.specs.Tables.{table_place, is_same_type, type_named, table_named};
 ghost use Rattle.std.specs.Option.{option_copied};

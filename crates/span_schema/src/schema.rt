@@ -39,11 +39,11 @@ impl Schema {
 
     /// The schema of these tables, whose names and those of their columns are names.
     ///
-    /// The tables are judged in order, and of one table its rules in this order: at most 64 tables of at most 64 columns
+    /// The tables are checked in order, and of one table its rules in this order: at most 64 tables of at most 64 columns
     /// (`TooMany`); a name that no table before it has (`DuplicateTable`); columns of different names, a key that is not
     /// empty, of columns that are there, each once, and lengths from 1 to 1,048,576 (`BadColumn`); a parent that is declared
     /// before (`NoParent`); a key that begins with the parent's key and adds to it (`KeyNotPrefixed`); at most 7 levels
-    /// (`HierarchyTooDeep`). The first rule that is broken is the refusal. `OutOfMemory` is the refusal for want of memory.
+    /// (`HierarchyTooDeep`). The first rule that is broken is the refusal. `OutOfMemory`: memory ran out.
     pub fn new(alloc: Global, tables: Vec<Table>) -> Result<Schema, Refusal>
         ensures { MatchResult result (λ schema. (schema ≡ tables.items) × MeetsRules tables.items) (λ why. IsFirstCause tables.items why ⊎ (why ≡ Refusal.OutOfMemory)) }
     {

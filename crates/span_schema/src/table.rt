@@ -57,7 +57,7 @@ pub fn kind_of_type(kind: ColumnType) -> Kind
     }
 }
 
-/// Whether two names are the same: ASCII letters of either case are alike.
+/// Whether two names are the same: ASCII letters of either case are equal.
 pub fn are_same(a: &str, b: &str) -> bool
     ensures { result ≡ is_same_name a.now b.now }
 {

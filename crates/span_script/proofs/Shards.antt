@@ -5,7 +5,7 @@ use Rattle.span_machine.specs.Machine.{Machine}
 use Rattle.span_core.specs.declared.slot.SlotState.{SlotState}
 use Rattle.span_script.specs.Lines.{IsState, AreStates, AreShards, slot_line, slot_lines, number_line}
 
--- the lines behind those before tell the first slots
+-- the lines after those before report the first slots
 abbrev pub Told : Machine → List ℕ → ℕ → List ℕ → Type 0
 Told m before slot lines = (states : List SlotState) × (length states ≡ slot) × AreStates m 0 states × (lines ≡ before ++ slot_lines 0 states)
 

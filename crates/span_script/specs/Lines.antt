@@ -59,7 +59,7 @@ reply_text (reply.Rows s rows) = rows_lines s rows
 reply_text reply.Closed = word_line (codes "closed")
 reply_text (reply.Refused why) = number_line (codes "refused") (number_of why)
 
--- what is told of a slot is its book's, and how many transactions are prepared there
+-- the report of a slot has its state's timestamps, and how many transactions are prepared there
 abbrev pub IsState : Machine → ℕ → SlotState → Type 0
 IsState m slot state =
     (slice_get m.books slot ≡ Some (record { last = state.last; floor = state.floor; horizon = state.horizon }))

@@ -1,4 +1,4 @@
-//! Answers, as they stand in a script's output.
+//! Answers, as they are written in a script's output.
 ghost use Rattle.std.specs.Prelude.{◌≡◌, ◌++◌, ℕ, List, [], codes, length, nat_le, take, IfErr, OnOk, IfOk, IsOkUnless};
 ghost use Rattle.std.specs.Fmt.{decimal};
 ghost use Rattle.span_value.specs.Refusals.{number_of};
@@ -14,10 +14,10 @@ use span_record::write::rows_text;
 use std::alloc::Global;
 use std::marker::Model;
 
-/// Once there are so many bytes of answers, they are written.
+/// The number of bytes of answers at which they are written.
 const MOST_KEPT: usize = 65_536;
 
-/// Room for answers of one line.
+/// Reserved capacity for the answers of one line, in bytes.
 const ROOM: usize = 4_096;
 
 /// The answers that are not written yet.
@@ -35,7 +35,7 @@ impl Model for Answers {
 }
 
 impl Answers {
-    /// No answers, and room for some. `OutOfMemory` is the only refusal.
+    /// No answers, and reserved capacity for some. `OutOfMemory` is the only refusal.
     pub fn new(alloc: Global) -> Result<Answers, Refusal>
         ensures none { IfOk result (λ answers. answers ≡ []) }
         ensures memory { IsOkUnless result Refusal.OutOfMemory }
@@ -59,7 +59,7 @@ impl Answers {
         self.bytes.len() >= MOST_KEPT
     }
 
-    /// Takes back what stands behind the first `len` bytes.
+    /// Takes back what follows the first `len` bytes.
     pub fn cut(&mut self, len: usize)
         ensures { self.new ≡ take len self.old }
     {

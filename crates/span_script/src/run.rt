@@ -14,7 +14,7 @@ use std::alloc::Global;
 /// more of the script is read.
 ///
 /// A refused command is answered `refused N`, and the script goes on. `InputFault` and `OutputFault` where a device failed, `OutOfMemory`
-/// where a line or an answer finds no room: what was written is then a beginning of the answers to the lines that were read.
+/// where memory runs out for a line or an answer: what was written is then a beginning of the answers to the lines that were read.
 pub fn run<I: Input, O: Output>(
     alloc: Global,
     input: &mut I,

@@ -61,7 +61,7 @@ impl Session {
         }
     }
 
-    /// Does what a line asks for, and adds its answer. `OutOfMemory` where the answer finds no room.
+    /// Does what a line asks for, and adds its answer. `OutOfMemory` where memory runs out for the answer.
     pub fn take_line(
         &mut self,
         alloc: Global,

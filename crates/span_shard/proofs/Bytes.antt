@@ -23,7 +23,7 @@ equal_is Less e = absurd cc
 equal_is Equal e = refl
 equal_is Greater e = absurd cc
 
--- keys that are alike are the same
+-- keys that compare as equal are the same
 pub same_bytes : (a b : List ℕ) → eq_by_cmp byte_order a b ≡ true → a ≡ b
 same_bytes a b e = exact_bytes a b (equal_is (byte_order a b) e)
 
@@ -61,7 +61,7 @@ number_same m n e = grind (arith, nat_tests)
 nat_eq_same : (n : ℕ) → nat_eq n n ≡ true
 nat_eq_same n = grind (arith, nat_tests)
 
--- what stands between bytes and others that begin with them begins with them too
+-- what is between bytes and others that begin with them begins with them too
 pub between : (p a rest : List ℕ) → is_lt (byte_order a p) ≡ false → byte_order a (p ++ rest) ≢ Greater → begins_with a p ≡ true
 between [] a rest h g = refl
 between (x ∷ p) [] rest h g = absurd (let f : true ≡ false = h in cc)

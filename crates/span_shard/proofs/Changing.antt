@@ -1,4 +1,4 @@
--- What is written is what changes of each database whose rows stand in the shard now.
+-- What is written is what changes of each database whose rows are in the shard now.
 use Rattle.std.proofs.Common.{◌≡◌, ◌≢◌, inr, ℕ, Bool, true, false, not, ◌||◌, ◌&&◌, cond, List, [], ◌∷◌, Option, Some, None, is_some, map, Result, Ok, Err, refl, sym, ap, subst, ◌∙◌}
 use Rattle.std.specs.List.{filter, find, list_any, AllByRecursion}
 use Rattle.std.specs.List.Sorted.{IsPermutation}
@@ -300,7 +300,7 @@ is_write : (k : List ℕ) (u v x y : Option (List ℕ)) (o : Option Write) → u
 is_write k u v x y None e f h = sym f ∙ h ∙ e
 is_write k u v x y (Some w) e f h = (h.0, h.1 ∙ f, λ g. h.2 (f ∙ g ∙ sym e))
 
--- where nothing stands before and after, nothing is written
+-- where nothing is there before and after, nothing is written
 no_write : (k : List ℕ) (u v : Option (List ℕ)) (o : Option Write) → u ≡ v → IsWrite k u v o → o ≡ None
 no_write k u v None e h = refl
 no_write k u v (Some w) e h = absurd (h.2 (sym e))

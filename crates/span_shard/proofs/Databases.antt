@@ -1,4 +1,4 @@
--- Databases of typed rows, by what stands under coded keys.
+-- Databases of typed rows, by what is at coded keys.
 use Rattle.std.proofs.Common.{◌≡◌, ◌≢◌, ◌⊎◌, inl, inr, ℕ, ◌≤◌, ◌<◌, ◌^◌, length, arith, Bool, true, false, not, cond, List, [], ◌∷◌, Option, Some, None, refl, sym, ap, subst, ◌∙◌}
 use Rattle.std.specs.List.{filter, find, AllByRecursion}
 use Rattle.std.specs.Option.{option_map}
@@ -48,7 +48,7 @@ keyed_equal tables q r e f =
     let first : P r.table r.key = tied_itself (rows_total tables) r in
     subst (λ (n : ℕ). P n q.key) (sym e) (subst (λ (vs : List Value). P r.table vs) (sym f) first)
 
--- rows that stand before another have another coded key
+-- rows that are before another have another coded key
 apart : (tables : List Table) → MeetsRules tables → (q r : TableRow) → IsTyped tables q → IsTyped tables r → rows_cmp tables q r ≡ Less → code_of tables r ≢ code_of tables q
 apart tables rules q r tq tr less e =
     let same = one_code tables rules q r tq tr (sym e) in
@@ -62,7 +62,7 @@ not_coded tables k r h = cases (is_coded tables k r) refl
     cases true e = absurd (h (sym (same_bytes k (code_of tables r) e)))
     cases false e = refl
 
--- the rows behind one have other coded keys
+-- the rows after one have other coded keys
 none_behind : (tables : List Table) → MeetsRules tables → (x : TableRow) (xs : List TableRow) → IsTyped tables x → AreTyped tables xs → AllByRecursion (λ y. rows_cmp tables x y ≡ Less) xs
     → AllByRecursion (λ (y : TableRow). is_coded tables (code_of tables x) y ≡ false) xs
 none_behind tables rules x xs tx txs h =
@@ -94,7 +94,7 @@ row_there tables P db k row all e = cases (find (is_coded tables k) db) refl e
         let found = found_all P (is_coded tables k) db r all f in
         (r, found.0, sym (same_bytes k (code_of tables r) found.1), cc)
 
--- ---- databases are the same where the same stands under each coded key
+-- ---- databases are the same where the same is at each coded key
 
 abbrev AreAlike : List Table → List TableRow → List TableRow → Type 0
 AreAlike tables a b = (k : List ℕ) → row_coded tables a k ≡ row_coded tables b k
@@ -102,7 +102,7 @@ AreAlike tables a b = (k : List ℕ) → row_coded tables a k ≡ row_coded tabl
 first_coded : (tables : List Table) (x : TableRow) (xs : List TableRow) → row_coded tables (x ∷ xs) (code_of tables x) ≡ Some (row_code x.cells)
 first_coded tables x xs = ap (λ (b : Bool). cells (cond b (Some x) (find (is_coded tables (code_of tables x)) xs))) (itself tables x)
 
--- the first row of one is at or behind the first of the other
+-- the first row of one is at or after the first of the other
 behind_first : (tables : List Table) → MeetsRules tables → (x y : TableRow) (xs ys : List TableRow) → IsTyped tables x → AreTyped tables (y ∷ ys) → AllByRecursion (λ r. rows_cmp tables y r ≡ Less) ys → AreAlike tables (x ∷ xs) (y ∷ ys)
     → ((x.table ≡ y.table) × (x.key ≡ y.key)) ⊎ (rows_cmp tables y x ≡ Less)
 behind_first tables rules x y xs ys tx tys h same =

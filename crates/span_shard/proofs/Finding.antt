@@ -16,7 +16,7 @@ use Rattle.span_shard.specs.Reading.{bare, is_under, row_of, IsFound}
 use Rattle.span_shard.proofs.Lists.{all_map, all_both, all_append, all_filter_itself, any_found}
 use Rattle.span_shard.proofs.Bytes.{bytes_total, same_bytes}
 
--- each key is found where it stands
+-- each key is found where it is
 own_found : (cs : List KeyVersions) → AreInOrder cs → AllByRecursion (λ (c : KeyVersions). find (is_key c.key) cs ≡ Some c) cs
 own_found [] h = tt
 own_found (d ∷ ds) h = (

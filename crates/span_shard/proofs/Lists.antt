@@ -73,7 +73,7 @@ pub append_none : {X : Type 0} (xs : List X) → xs ++ [] ≡ xs
 append_none [] = refl
 append_none {X} (x ∷ xs) = ap (λ (l : List X). x ∷ l) (append_none xs)
 
--- the items that pass stand beside one another
+-- the items that pass are adjacent
 pub middle : {X : Type 0} (p : X → Bool) (xs : List X) (i j : ℕ) → AllByRecursion (λ x. p x ≡ false) (take i xs) → AllByRecursion (λ x. p x ≡ true) (take j (drop i xs)) → AllByRecursion (λ x. p x ≡ false) (drop j (drop i xs))
     → take j (drop i xs) ≡ filter p xs
 middle {X} p xs i j none all rest =

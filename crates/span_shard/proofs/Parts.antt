@@ -1,4 +1,4 @@
--- What is read of a shard is the part of each database whose rows stand there now.
+-- What is read of a shard is the part of each database whose rows are there now.
 use Rattle.std.proofs.Common.{◌≡◌, ◌⊎◌, inl, inr, ℕ, Bool, true, false, ◌||◌, cond, List, [], ◌∷◌, Option, Some, None, is_some, map, refl, sym, ap, subst, ◌∙◌}
 use Rattle.std.specs.List.{find, list_any, AllByRecursion}
 use Rattle.std.specs.List.Sorted.{IsPermutation}
@@ -42,7 +42,7 @@ roots_touched tables ms roots p k = sym (any_permuted (λ (q : List ℕ). begins
 abbrev pub visible : List Table → List CheckedMutation → List KeyVersions → List ℕ → Option (List ℕ)
 visible tables ms cs k = cond (is_touched tables ms k) (row_now cs k) None
 
--- a row that stands there now
+-- a row that is there now
 pub record IsSeen (tables : List Table) (ms : List CheckedMutation) (cs : List KeyVersions) (r : TableRow) : Type 0 where
   pub typed : IsTyped tables r
   pub touched : is_touched tables ms (code_of tables r) ≡ true
@@ -100,7 +100,7 @@ once_rising tables last (x ∷ xs) =
       | false ↦ once_rising tables last xs
     ]
 
--- rows that are not behind the last, and not before it, have its key
+-- rows that are not after the last, and not before it, have its key
 tied : (tables : List Table) (last x : TableRow) → is_lt (rows_cmp tables last x) ≡ false → is_lt (rows_cmp tables x last) ≡ false → rows_cmp tables last x ≡ Equal
 tied tables last x e f = cases (rows_cmp tables last x) refl e
   where
@@ -148,7 +148,7 @@ none_found {X} p xs e = cases (list_any p xs) refl
 
 -- ---- the whole
 
--- rows of touched directories, as they stand in a database
+-- rows of touched directories, as they are in a database
 pub record IsPart (tables : List Table) (ms : List CheckedMutation) (cs : List KeyVersions) (b : List TableRow) : Type 0 where
   pub order : IsInOrder tables b
   pub seen : AllByRecursion (IsSeen tables ms cs) b

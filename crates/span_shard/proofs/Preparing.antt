@@ -77,7 +77,7 @@ module _ (a b : Content) (xs ys : List PreparedNode) (p : PreparedNode) (image :
   pub prepared_with : HasPrepared a b (xs ++ ys) (xs ++ p ∷ ys) p.chain.number (record { txn = p.txn; row = image })
   prepared_with = record { owned = owned_with; most = ap (λ (x : Content). x.most) reserved.now; chains = ap (λ (x : Content). x.chains) reserved.now; writes = write_with }
 
--- a node behind the others
+-- a node after the others
 pub prepared_push : (a b : Content) (ps qs : List PreparedNode) (p : PreparedNode) (image : Option (List ℕ)) → AreOwned a ps → nat_lt 0 (prepared_for p.chain.number a.prepared) ≡ false → IsChain a p.chain.number
     → IsReserved a b p.chain.number image p.node.number → qs ≡ ps ++ p ∷ [] → HasPrepared a b ps qs p.chain.number (record { txn = p.txn; row = image })
 prepared_push a b ps qs p image owned vacant chain reserved is =
@@ -100,7 +100,7 @@ set_in_parts (x ∷ xs) (suc i) p lt =
     let n : suc i + 1 ≡ suc (i + 1) = omega arith in
     ap (λ (l : List PreparedNode). x ∷ l) (set_in_parts xs i p (omega arith)) ∙ ap (λ k. x ∷ (take i xs ++ p ∷ drop k (x ∷ xs))) (sym n)
 
--- after a node was given back there is room
+-- after a node was given back one is free
 pub has_room : (a : Content) (n : ℕ) (b : Content) (P : Type 0) (why : Refusal) → b ≡ given_back a n → IsInOrder b → IsRefusedNode b why → P
 has_room a n b P why is order refused =
     let free : b.free ≡ a.free + 1 = ap (λ (x : Content). x.free) is in
@@ -163,7 +163,7 @@ module _ (a b d : Content) (ps qs : List PreparedNode) (i : ℕ) (q p : Prepared
         ];
       }
 
--- ---- where a chain's node stands
+-- ---- where a chain's node is
 
 pub none_more : (ps : List PreparedNode) (i c : ℕ) (p : PreparedNode) → i < length ps → p ≡ get_or ps i p → is_for c p ≡ false → count_for c (take i ps) ≡ 0 → count_for c (take (i + 1) ps) ≡ 0
 none_more ps i c p lt read other none =

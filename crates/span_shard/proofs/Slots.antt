@@ -98,7 +98,7 @@ all_behind key (e ∷ es) h =
     none_before [] h = refl
     none_before (e ∷ es) h = ap (λ b. cond b (e ∷ filter (before key) es) (filter (before key) es)) (ap is_lt h.0) ∙ none_before es h.1
 
--- what does not have the key comes before it or behind it
+-- what does not have the key comes before it or after it
 parted : (a : Content) (ps : List PreparedNode) (key : List ℕ) (es : List Entry) → AreInOrder (all_kept a ps es) → IsAbsent es key → filter (before key) es ++ filter (behind key) es ≡ es
 parted a ps key [] rising absent = refl
 parted a ps key (e ∷ es) rising absent = cases (byte_order e.key key) refl (parted a ps key es rising.1 (λ k d lt. absent (suc k) d (omega arith)))
@@ -127,7 +127,7 @@ parted a ps key (e ∷ es) rising absent = cases (byte_order e.key key) refl (pa
 abbrev pub entry : List ℕ → Chain → Entry
 entry key chain = record { key = key; chain = chain }
 
--- the key stands between others, and all that there was is seen as it was
+-- the key is between others, and all that there was is seen as it was
 pub record IsSlot (es fs : List Entry) (a b : Content) (ps : List PreparedNode) (key : List ℕ) (chain : Chain) : Type 0 where
   pub front : List Entry
   pub back : List Entry

@@ -7,7 +7,7 @@ pub pushed_map : {X Y : Type 0} (f : X → Y) (xs : List X) (i : ℕ) (x : X) (d
 pushed_map {X} {Y} f xs i x done more less at e so_far =
     ap (λ (l : List Y). l ++ map f (drop (i + 1) xs)) e ∙ append_assoc done (f x ∷ []) (map f (drop (i + 1) xs)) ∙ ap (λ (l : List X). done ++ map f l) (sym (item_first xs i x less at)) ∙ so_far
 
--- what is read within a list does not depend on what is read past its end
+-- what is read within a list does not depend on what is read after its end
 pub read_any : {X : Type 0} (xs : List X) (k : ℕ) (c d : X) → k < length xs → get_or xs k c ≡ get_or xs k d
 read_any [] k c d less = absurd (let l : k < 0 = less in omega arith)
 read_any (x ∷ xs) zero c d less = refl

@@ -60,7 +60,7 @@ same_truth true b f g = sym (f refl)
 same_truth false true f g = g refl
 same_truth false false f g = refl
 
--- what stands in front is what is taken
+-- what is in front is what is taken
 front_taken : (us vs : List Value) → begins us vs ≡ true → us ≡ take (length us) vs
 front_taken us vs e =
     same_key us (take (length us) vs)

@@ -14,7 +14,7 @@ use Rattle.span_shard.specs.Stored.{version_of, chain_versions, is_for, write_of
 use Rattle.span_shard.proofs.Lists.{all_map, all_filter_itself, all_whole}
 use Rattle.span_shard.proofs.Owned.{write-same, kept_equal}
 
--- lists that a function gives alike
+-- lists with equal results of a function
 pub map_alike : {X Y : Type 0} (f g : X → Y) (xs : List X) → AllByRecursion (λ x. f x ≡ g x) xs → map f xs ≡ map g xs
 map_alike f g [] h = refl
 map_alike {X} {Y} f g (x ∷ xs) h = ap (λ (y : Y). y ∷ map f xs) h.0 ∙ ap (λ (l : List Y). g x ∷ l) (map_alike f g xs h.1)

@@ -26,7 +26,7 @@ use Rattle.span_shard.specs.Rows.{begins_with, code_of, is_coded, is_touched, Ar
 use Rattle.span_shard.specs.Stored.{chain_versions}
 use Rattle.span_shard.specs.Shard.{KeyRow, is_key, end_of_time, row_now, seen_at, IsNow, with_writes, live}
 
--- an entry, by what it lends
+-- the key and row that an entry lends
 abbrev pub shown : Entry → KeyRow
 shown e = record { key = e.key.now; row = e.row.now }
 
@@ -60,11 +60,11 @@ is_same_row None None = true
 is_same_row (Some a) (Some b) = bytes_eq a b
 is_same_row a b = false
 
--- the row of a table that stands under a key now
+-- the row of a table that is at a key now
 abbrev pub is_row_of : List Table → TableRow → KeyVersions → Bool
 is_row_of tables r c = eq_by_cmp byte_order (code_of tables r) c.key && is_same_row (row_of c) (Some (row_code r.cells))
 
--- the rows that stand under the keys
+-- the rows at the keys
 pub record AreRead (tables : List Table) (found : List KeyVersions) (rows : List TableRow) : Type 0 where
   pub sound : AllByRecursion (λ (r : TableRow). IsTyped tables r × (list_any (is_row_of tables r) found ≡ true)) rows
   pub complete : AllByRecursion (λ (c : KeyVersions). is_some (row_of c) ≡ true → list_any (is_coded tables c.key) rows ≡ true) found
@@ -77,12 +77,12 @@ abbrev pub IsUnread : List Table → KeyVersions → Option (List ℕ) → Type 
 IsUnread tables c None = ⊥
 IsUnread tables c (Some row) = IsNoTableRow tables c.key row
 
--- what stands under one of the keys is no row of a table
+-- what is at one of the keys is no row of a table
 abbrev pub HasUnread : List Table → List KeyVersions → Type 0
 HasUnread tables [] = ⊥
 HasUnread tables (c ∷ cs) = IsUnread tables c (row_of c) ⊎ HasUnread tables cs
 
--- the row comes behind the last that is kept
+-- the row comes after the last that is kept
 abbrev pub is_behind : List Table → Option TableRow → TableRow → Bool
 is_behind tables None r = true
 is_behind tables (Some last) r = is_lt (rows_cmp tables last r)
@@ -101,7 +101,7 @@ pub record AreDeletions (found : List KeyVersions) (left ws : List Write) : Type
   pub sound : AllByRecursion (λ (w : Write). (w.row ≡ None) × (list_any (is_of w.key) left ≡ false) × (list_any (λ (c : KeyVersions). is_key w.key c && is_some (row_of c)) found ≡ true)) ws
   pub complete : AllByRecursion (λ (c : KeyVersions). is_some (row_of c) ≡ true → list_any (is_of c.key) left ≡ false → list_any (is_of c.key) ws ≡ true) found
 
--- what differs of the rows after from those that stand there now: the others of the rows after, and the deletions
+-- what differs of the rows after from those that are there now: the others of the rows after, and the deletions
 pub record AreDiffs (tables : List Table) (cs found : List KeyVersions) (after : List TableRow) (ws : List Write) : Type 0 where
   pub left : List Write
   pub permuted : IsPermutation (map (coded tables) after) left
@@ -121,7 +121,7 @@ pub record AreWrites (tables : List Table) (ms : List CheckedMutation) (cs : Lis
   pub touched : AllByRecursion (λ (w : Write). is_touched tables ms w.key ≡ true) ws
   pub changes : (db : List TableRow) → IsDatabase tables db → AreTyped tables db → IsNow tables ms db cs → (after : List TableRow) × (apply tables db ms ≡ Ok after) × AreChanges tables db after ws
 
--- the fault that the mutations meet on each database whose rows these are now, or want of memory
+-- the fault that the mutations meet on each database whose rows these are now, or out of memory
 abbrev pub IsFault : List Table → List CheckedMutation → List KeyVersions → Refusal → Type 0
 IsFault tables ms cs why = (db : List TableRow) → IsDatabase tables db → AreTyped tables db → IsNow tables ms db cs → (why ≡ OutOfMemory) ⊎ (apply tables db ms ≡ Err why)
 

@@ -1,4 +1,4 @@
--- How the rows of a database stand in a shard: packed, under their coded keys.
+-- How the rows of a database are kept in a shard: packed, under their coded keys.
 use Rattle.std.specs.Prelude.{ℕ, Bool, List, find, Option, nat_eq}
 use Rattle.std.specs.List.{list_any, starts_with}
 use Rattle.std.specs.Option.{option_map}

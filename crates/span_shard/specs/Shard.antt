@@ -25,7 +25,7 @@ use Rattle.span_shard.specs.Versions.{row_at, is_used, with_prepared, applied_to
 abbrev pub keys_cmp : KeyVersions → KeyVersions → Ordering
 keys_cmp c d = byte_order c.key d.key
 
--- each key is before those behind it
+-- each key is before those after it
 abbrev pub AreInOrder : List KeyVersions → Type 0
 AreInOrder cs = IsRising keys_cmp cs
 
@@ -48,7 +48,7 @@ versions_at cs key = versions_of (find (is_key key) cs)
 abbrev pub prepared_at : List KeyVersions → List ℕ → Option PreparedWrite
 prepared_at cs key = prepared_of (find (is_key key) cs)
 
--- past every timestamp
+-- above every timestamp
 abbrev pub end_of_time : ℕ
 end_of_time = 18446744073709551615
 
@@ -135,7 +135,7 @@ pub record KeyRow : Type 0 where
 abbrev pub seen_at : ℕ → KeyVersions → Option KeyRow
 seen_at s c = option_map (λ (row : List ℕ). record { key = c.key; row = row }) (row_at c.versions s)
 
--- the key is from the first bytes of the range on, and before the first behind it
+-- the key is from the first bytes of the range on, and before the first after it
 abbrev pub is_within : KeyRange → List ℕ → Bool
 is_within range key = not (is_lt (byte_order key range.low)) && is_lt (byte_order key range.high)
 
@@ -150,10 +150,10 @@ kept_of c = length c.versions + (if is_some c.prepared then 1 else 0)
 abbrev pub live : List KeyVersions → ℕ
 live cs = sum_by kept_of cs
 
--- want of memory; or nothing is prepared at the key, and as many versions are kept as may be
+-- out of memory; or nothing is prepared at the key, and as many versions are kept as may be
 abbrev pub IsPutRefused : List KeyVersions → List ℕ → Refusal → Type 0
 IsPutRefused cs key why = (why ≡ OutOfMemory) ⊎ ((why ≡ ShardFull) × (prepared_at cs key ≡ None) × (live cs ≡ MOST_NODES))
 
--- want of memory; or the writes would bring the number of kept versions over the most
+-- out of memory; or the writes would bring the number of kept versions over the most
 abbrev pub ArePutsRefused : ℕ → List Write → List KeyVersions → Refusal → Type 0
 ArePutsRefused txn ws cs why = (why ≡ OutOfMemory) ⊎ ((why ≡ ShardFull) × (MOST_NODES < live (with_writes txn ws cs)))

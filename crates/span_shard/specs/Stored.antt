@@ -1,4 +1,4 @@
--- How a shard keeps its keys: in an index with their chains, whose versions are in an arena, beside the nodes in which something is
+-- How a shard keeps its keys: in an index with their chains, whose versions are in an arena, with the nodes in which something is
 -- prepared. No public clause cites this module.
 use Rattle.std.specs.Prelude.{◌≡◌, ◌⊎◌, ℕ, ◌+◌, ◌<◌, ◌≤◌, ◌==◌, nat_eq, Bool, not, List, [], ◌∷◌, ◌++◌, length, take, drop, map, filter, Option, Some, None, slice_index_or, if◌then◌else◌}
 use Rattle.std.specs.List.{AllByRecursion}
@@ -87,7 +87,7 @@ pub record HasPrepared (a b : Content) (ps qs : List PreparedNode) (c : ℕ) (wr
   pub chains : b.chains ≡ a.chains
   pub writes : (d : ℕ) → write_for b qs d ≡ (if nat_eq c d then Some write else write_for a ps d)
 
--- want of memory; or nothing is prepared for the chain, and as many nodes are in use as may be
+-- out of memory; or nothing is prepared for the chain, and as many nodes are in use as may be
 abbrev pub IsRefusedFor : Content → ℕ → Refusal → Type 0
 IsRefusedFor a c why = (why ≡ OutOfMemory) ⊎ ((why ≡ ShardFull) × (prepared_for c a.prepared ≡ 0) × IsInOrder a × (live a ≡ a.most))
 
@@ -102,7 +102,7 @@ ended a node (Some timestamp) = linked a node timestamp
 abbrev pub is_other : ℕ → PreparedNode → Bool
 is_other txn p = not (p.txn == txn)
 
--- after the first so many nodes were ended, where they are of the transaction
+-- after the first i nodes were ended, where they are of the transaction
 abbrev pub left_of : ℕ → ℕ → List PreparedNode → List PreparedNode
 left_of txn i ps = filter (is_other txn) (take i ps) ++ drop i ps
 
@@ -126,7 +126,7 @@ pub record HasTrimmed (h : ℕ) (a b : Content) : Type 0 where
 abbrev pub IsTrimmed : ℕ → Content → Content → Entry → Type 0
 IsTrimmed h a b e = versions b e.chain.number ≡ kept_upto h (versions a e.chain.number)
 
--- some keys' chains are trimmed, and so many are left
+-- some keys' chains are trimmed, and these are left
 pub record AreTrimmed (h : ℕ) (es left : List Entry) (a b : Content) : Type 0 where
   pub done : List Entry
   pub whole : done ++ left ≡ es

@@ -1,4 +1,4 @@
-//! What mutations change of the rows that stand in a shard now.
+//! What mutations change of the rows that are in a shard now.
 ghost use Rattle.std.specs.Prelude.{◌≡◌, ◌&&◌, ◌++◌, None, filter, map, not, is_some, IfOk, IfErr, OnOk, MatchResult};
 ghost use Rattle.std.specs.List.{list_any};
 ghost use Rattle.std.specs.List.Sorted.{IsPermutation, IsSortedBy};
@@ -59,7 +59,7 @@ fn sorted(writes: Vec<Write>) -> Result<Vec<Write>, AllocError>
     Ok(writes)
 }
 
-/// Whether one of the writes, which stand by their keys, is of this key.
+/// Whether one of the writes, which are in the order of their keys, is of this key.
 fn has_key(writes: &[Write], key: &[u8]) -> bool
     requires { IsSortedBy (λ v w. is_lt (byte_order v.key w.key)) writes.now }
     ensures { result ≡ list_any (is_of key.now) writes.now }
@@ -115,7 +115,7 @@ fn is_same_row(left: Option<&Seq<u8>>, right: Option<&Seq<u8>>) -> bool
     }
 }
 
-/// Whether what is to be written is another row than the one that stands there now.
+/// Whether what is to be written is another row than the one that is there now.
 fn is_change(store: &Store, write: &Write) -> bool
     requires { AreInOrder store.now }
     ensures { result ≡ not (is_same_row (row_now store.now write.now.key) write.now.row) }
@@ -133,7 +133,7 @@ fn changing(store: &Store, writes: Vec<Write>) -> Vec<Write>
     writes
 }
 
-/// What differs of the rows after from those that stand under the keys now.
+/// What differs of the rows after from those that are at the keys now.
 fn changes(
     alloc: Global,
     schema: &Schema,

@@ -16,7 +16,7 @@ pub(crate) struct PreparedNode {
     pub node: Node,
 }
 
-/// Where the node stands that is prepared for a chain.
+/// The index of the node that is prepared for a chain.
 fn place_for(prepared: &Vec<PreparedNode>, chain: Chain) -> usize
     requires { 0 < count_for chain.number prepared.now.items }
     ensures { IsPlaceFor chain.number prepared.now.items result }
@@ -43,7 +43,7 @@ fn prepare_again(
 {
     let at = place_for(prepared, chain);
     arena.give_back(prepared[at].node);
-    // Nodes in use and free ones are all nodes, so the one that was given back makes room.
+    // Nodes in use and free ones are all nodes, so the one that was given back is free.
     let _in_use = arena.live();
     let Ok(node) = arena.reserve_node(chain, row) else {
         unreachable!()
@@ -67,7 +67,7 @@ pub(crate) fn prepare_node(
     ensures refused { IfErr result (IsRefusedFor arena.old chain.number) }
 {
     prepared.reserve(1)?;
-    // What it says of the arena is what a refusal is told by.
+    // A refusal is explained by what it says of the arena.
     let _in_use = arena.live();
     if arena.is_prepared(chain) {
         prepare_again(arena, prepared, chain, txn, row);

@@ -1,4 +1,4 @@
-//! The rows that stand under keys now.
+//! The rows that are at keys now.
 ghost use Rattle.std.specs.Prelude.{◌≡◌, ◌⊎◌, None, Some, IfOk, MatchOption, MatchResult};
 ghost use Rattle.std.specs.List.Sorted.{IsPermutation, IsSortedBy};
 ghost use Rattle.std.specs.Ordering.{is_lt};
@@ -22,7 +22,7 @@ use std::cmp::Ordering;
 
 /// The row of a table by its coded key and its packed cells.
 ///
-/// `BadKey`, `BadRow`: the bytes are no coded key with a packed row of its table. `OutOfMemory` is the refusal for want of memory.
+/// `BadKey`, `BadRow`: the bytes are no coded key with a packed row of its table. `OutOfMemory`: memory ran out.
 pub fn table_row(
     alloc: Global,
     schema: &Schema,
@@ -41,7 +41,7 @@ pub fn table_row(
     })
 }
 
-/// The row that stands under a key now, if there is one.
+/// The row at a key now, if there is one.
 fn read_row(
     alloc: Global,
     schema: &Schema,
@@ -57,7 +57,7 @@ fn read_row(
     }
 }
 
-/// The rows that stand under the keys now.
+/// The rows at the keys now.
 pub(crate) fn read_rows(
     alloc: Global,
     schema: &Schema,

@@ -1,4 +1,4 @@
-//! The root rows of mutations, and what stands under them.
+//! The root rows of mutations, and the rows in their directories.
 ghost use Rattle.std.specs.Prelude.{◌≡◌, ◌<◌, ◌-◌, IsTrue, IfOk, MatchResult, map, slice_get};
 ghost use Rattle.std.specs.List.Sorted.{IsPermutation};
 ghost use Rattle.span_mutate.specs.Typed.{IsTypedMutation, AreTypedMutations};
@@ -49,7 +49,7 @@ fn sorted(roots: Vec<Key>) -> Result<Vec<Key>, AllocError>
     Ok(roots)
 }
 
-/// The coded keys of the root rows of the mutations. Equal ones stand beside one another.
+/// The coded keys of the root rows of the mutations. Equal ones are adjacent.
 pub(crate) fn roots_of(
     alloc: Global,
     schema: &Schema,

@@ -58,7 +58,7 @@ impl Shard {
         }
     }
 
-    /// The rows in the range at s, in order of their keys. The refusal is that for want of memory.
+    /// The rows in the range at s, in order of their keys. The refusal is `OutOfMemory`.
     pub fn snapshot<'a>(
         &'a self,
         alloc: Global,
@@ -71,7 +71,7 @@ impl Shard {
         Ok(rows_in(alloc, &self.store, range, s)?)
     }
 
-    /// A law, which takes no time: the keys stand in order, each once.
+    /// A law, which takes no time: the keys are in order, each once.
     pub fn keys_stand_in_order(&self)
         ensures { AreInOrder self.now }
     {
@@ -93,12 +93,12 @@ impl Shard {
     }
 
     /// Prepares what the mutations of a transaction write: at each key of their directories whose presence or row they change, the row
-    /// that they leave there or a deletion, and the room for its version. The fault is that of the first mutation that has one, over
-    /// all directories, want of memory, or that the writes would bring the number of kept versions over `MOST_NODES`; it leaves all as
+    /// that they leave there or a deletion, and the node for its version. The fault is that of the first mutation that has one, over
+    /// all directories, out of memory, or that the writes would bring the number of kept versions over `MOST_NODES`; it leaves all as
     /// it was.
     ///
     /// The directories are found by binary search, and no others are read. `db` is any database whose rows in those directories are
-    /// the ones that stand here now: it may be the whole one. Bytes that are no key or row of the schema would be refused with
+    /// the ones that are here now: it may be the whole one. Bytes that are no key or row of the schema would be refused with
     /// `BadKey` or `BadRow`; then there is no such database.
     pub fn prepare(
         &mut self,
@@ -146,7 +146,7 @@ impl Shard {
         self.store.remove_unused();
     }
 
-    /// A law, which takes no time: what a trim at h leaves shows at and above h what was there before, and the keys that go had nothing.
+    /// A law, which takes no time: what a trim at h leaves reads as before at and above h, and the keys that go had nothing.
     pub fn trim_shows_all(&self, h: u64)
         ensures seen { (range : KeyRange) (s : ℕ) → h ≤ s → snapshot range s (trimmed h self.now) ≡ snapshot range s self.now }
         ensures live { live (trimmed h self.now) ≡ live (map (trimmed_key h) self.now) }

@@ -1,8 +1,8 @@
-//! What is to stand at a key.
+//! The row to write at a key.
 use span_keycode::key::Key;
 use span_value::seq::Seq;
 
-/// What is to stand at a key.
+/// The row to write at a key.
 #[derive(Debug, Drop, PartialEq, Eq)]
 pub struct Write {
     /// The coded key.

@@ -133,7 +133,7 @@ fn image_of(alloc: Global, byte: Option<u8>) -> Result<Option<Seq<u8>>, Fail> {
     }
 }
 
-// The versions in the chain, and in a list beside it, the oldest first.
+// The versions in the chain, and in a list for comparison, the oldest first.
 fn add_versions(
     alloc: Global,
     arena: &mut Arena,
@@ -214,7 +214,7 @@ fn trim_by_tenths(
     Ok(left)
 }
 
-/// 10,000 versions on one chain, trimmed at each tenth, are those of a plain list. At 7,000 stands a deletion, which goes too.
+/// 10,000 versions on one chain, trimmed at each tenth, are those of a plain list. At 7,000 there is a deletion, which goes too.
 #[test]
 fn long_chain(rt: HostRuntime) -> Result<(), Fail> {
     let alloc = rt.alloc();

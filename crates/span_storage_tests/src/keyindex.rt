@@ -40,7 +40,7 @@ fn prepare(
     arena.reserve_node(chain, None)
 }
 
-// The keys removed that have nothing, beside the one for which the node is prepared.
+// The keys removed that have nothing, except the one for which the node is prepared.
 fn remove_others(index: &mut KeyIndex, arena: &mut Arena, node: Node)
     requires own { IsArenaOf index.old arena.old }
     requires prepared { IsPrepared arena.old node.number }
@@ -60,7 +60,7 @@ fn give_back(index: &mut KeyIndex, arena: &mut Arena, node: Node)
     index.remove_empty(arena);
 }
 
-// The bytes of the keys, each key with a 255 behind it.
+// The bytes of the keys, each key with a 255 after it.
 fn keys(alloc: Global, walk: Walk<'_>) -> Result<Vec<u8>, AllocError> {
     let mut bytes = Vec::new(alloc);
     for (key, _chain) in walk {
@@ -86,7 +86,7 @@ fn keys_between(
     keys(alloc, index.walk(arena, &range))
 }
 
-/// Keys stand in order whatever order they came in, each with a chain of its own, and a range ends before its high key.
+/// Keys are in order whatever order they came in, each with a chain of its own, and a range ends before its high key.
 #[test]
 fn in_order(rt: HostRuntime) -> Result<(), Fail> {
     let alloc = rt.alloc();

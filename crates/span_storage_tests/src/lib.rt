@@ -1,6 +1,6 @@
 //! Tests of the crates of values, keys, rows and versions: calls whose answers were worked out by hand.
 //!
-//! They stand in a crate of their own since a crate with tests is proved a second time for them.
+//! They are in a crate of their own since a crate with tests is proved a second time for them.
 #![tactic(auto)]
 
 #[cfg(test)]

@@ -23,7 +23,7 @@ type Asked<'a> = (
     &'a [(&'a str, Option<i64>)],
 );
 
-// A table with INT64 columns of these names, the key being the first so many of them; the last is NOT NULL if so.
+// A table with INT64 columns of these names, the key being the first `key_len` of them; the last is NOT NULL if so.
 fn table_of(
     alloc: Global,
     name: &str,
@@ -238,7 +238,7 @@ fn cascade(rt: HostRuntime) -> Result<(), Fail> {
 const ASKED: [Asked<'static>; 6] = [
     // (1, 7, NULL) becomes (1, 7, 9).
     (MutationKind::Update, "a", &[1], &[("V", Some(9))]),
-    // B(1, 0) is new, and stands before B(1, 1).
+    // B(1, 0) is new, and is before B(1, 1).
     (MutationKind::Insert, "B", &[1, 0], &[("n", Some(5))]),
     // (1, 7, 9) becomes (1, NULL, 9).
     (MutationKind::InsertOrUpdate, "A", &[1], &[("u", None)]),
@@ -344,7 +344,7 @@ fn refused_by_name(rt: HostRuntime) -> Result<(), Fail> {
     Ok(())
 }
 
-// The mutation that inserts (1, so many letters a).
+// The mutation that inserts (1, `len` letters a).
 fn email_of(alloc: Global, len: usize) -> Result<Mutation, Fail> {
     let email = String::from_utf8(vec![in alloc; 97; len]?)
         .ok()

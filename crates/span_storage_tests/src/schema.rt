@@ -8,7 +8,7 @@ use span_value::value::ColumnType;
 use std::alloc::{AllocError, Global};
 use std::test::Fail;
 
-// A table with INT64 columns of these names, the key being the first so many of them.
+// A table with INT64 columns of these names, the key being the first `key_len` of them.
 fn table_of(
     alloc: Global,
     name: &str,

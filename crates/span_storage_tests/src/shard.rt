@@ -22,7 +22,7 @@ const A1: [u8; 10] = [1, 1, 128, 0, 0, 0, 0, 0, 0, 1];
 
 const A2: [u8; 10] = [1, 1, 128, 0, 0, 0, 0, 0, 0, 2];
 
-// B(1, 3) stands under A(1).
+// B(1, 3) is below A(1).
 const B13: [u8; 20] = [
     1, 1, 128, 0, 0, 0, 0, 0, 0, 1, 2, 1, 128, 0, 0, 0, 0, 0, 0, 3,
 ];
@@ -185,7 +185,7 @@ fn change(
     run(alloc, schema, shard, 2, &second, Some(222))
 }
 
-// Why one mutation is refused as transaction 2, if it is: want of memory is an error here, so that no refusal stands for it.
+// Why one mutation is refused as transaction 2, if it is: out of memory is an error here, so that it is never returned as a refusal.
 fn refusal_of(
     alloc: Global,
     schema: &Schema,
@@ -345,7 +345,7 @@ fn trimmed(rt: HostRuntime) -> Result<(), Fail> {
     Ok(())
 }
 
-/// A trim past everything keeps what is prepared, and each row's newest version.
+/// A trim above every timestamp keeps what is prepared, and each row's newest version.
 #[test]
 fn trimmed_while_prepared(rt: HostRuntime) -> Result<(), Fail> {
     let alloc = rt.alloc();

@@ -1,4 +1,4 @@
-//! What no clause says: cells as they stand in records, and that calls succeed.
+//! What no clause says: cells as they are written in records, and that calls succeed.
 use span_value::cell::{cell_text, read_cell};
 use span_value::order::compare;
 use span_value::refusal::Refusal;
@@ -38,7 +38,7 @@ fn values_in_order(rt: HostRuntime) -> Result<(), Refusal> {
         Ordering::Less
     );
     assert_eq!(rt; compare(&Value::Int(-1), &Value::Int(1)), Ordering::Less);
-    // U+FF5E stands before U+10000 by code points, and after it by UTF-16.
+    // U+FF5E is before U+10000 by code points, and after it by UTF-16.
     assert_eq!(rt;
         compare(&text_value(a, "\u{ff5e}")?, &text_value(a, "\u{10000}")?),
         Ordering::Less

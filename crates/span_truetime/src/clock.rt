@@ -1,4 +1,4 @@
-//! What tells the time.
+//! The clock.
 use super::interval::Interval;
 
 /// A clock. It states which intervals it may give, and each reading is one of them.

@@ -17,7 +17,7 @@ pub struct Interval {
 
 impl Interval {
     /// The interval of these two timestamps. `BadInterval` where it ends before it begins, else `TimestampRange` where it ends
-    /// past the last timestamp.
+    /// after the last timestamp.
     pub fn new(earliest: u64, latest: u64) -> Result<Interval, Refusal>
         ensures ok { IfOk result (λ interval. (interval.earliest ≡ earliest) × (interval.latest ≡ latest)) }
         ensures reversed { IsErrOf result Refusal.BadInterval ↔ (latest < earliest) }

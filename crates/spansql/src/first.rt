@@ -1,4 +1,4 @@
-//! One transaction and one query, from the text to the rows.
+//! One transaction and one query, from the query text to the rows.
 ghost use Rattle.std.specs.Prelude.{IfOk, List};
 ghost use Rattle.span_schema.specs.declared.table.Table.{Table};
 ghost use Rattle.span_machine.specs.Run.{AreOfSchema};
@@ -16,7 +16,7 @@ use span_value::cell::cell_text;
 use span_value::value::ColumnType;
 use std::alloc::Global;
 
-/// Commits the rows (2, b) and (1, a) in one transaction, asks the text at its commit timestamp, and writes what was answered.
+/// Commits the rows (2, b) and (1, a) in one transaction, runs the query at its commit timestamp, and writes what was answered.
 pub(super) fn run(rt: &(impl AllocGlobal + Print), text: &str) -> Result<(), Fault> {
     let alloc = rt.alloc();
     let schema = one_table(alloc)?;
@@ -120,7 +120,7 @@ fn steps(alloc: Global, transaction: Transaction, text: &str) -> Result<Vec<Step
     Ok(steps)
 }
 
-/// An insert of the row with this key and this text.
+/// An insert of the row with this key and this string.
 fn insert(alloc: Global, key: i64, text: &str) -> Result<Mutation, Fault> {
     let mut keys = Seq::new(alloc);
     keys.push(Value::Int(key))?;
@@ -145,7 +145,7 @@ fn write_rows(rt: &(impl AllocGlobal + Print), s: u64, rows: &[Row]) -> Result<(
     Ok(())
 }
 
-/// Writes the cells of a row, parted by commas.
+/// Writes the cells of a row, separated by commas.
 fn write_row(rt: &(impl AllocGlobal + Print), row: &[Value]) -> Result<(), Fault> {
     for (at, value) in row.iter().enumerate() {
         if at > 0 {

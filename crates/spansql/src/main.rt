@@ -1,6 +1,6 @@
 //! The program `spansql`.
 //!
-//! `spansql first TEXT` commits two rows in a new database, asks TEXT at the commit timestamp, and writes what was answered.
+//! `spansql first TEXT` commits two rows in a new database, runs the query TEXT at the commit timestamp, and writes what was answered.
 #![tactic(auto)]
 
 mod fault;
@@ -11,7 +11,7 @@ use std::env;
 use std::process::ExitCode;
 use std::rt::Env;
 
-/// What a command line that asks for nothing known is told.
+/// The message for a command line that names no known command.
 const USAGE: &str = "usage: spansql first TEXT";
 
 fn main(rt: HostRuntime) -> ExitCode {

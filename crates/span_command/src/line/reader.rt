@@ -101,7 +101,7 @@ impl Lines {
         self.taken_to = 0;
     }
 
-    /// Makes room behind the bytes that are held, where there is none. `OutOfMemory` is the only refusal.
+    /// Makes capacity after the bytes that are held, where there is none. `OutOfMemory` is the only refusal.
     fn make_room(&mut self) -> Result<(), Refusal>
         ensures same { HoldsSame self.old self.new }
         ensures room { OnOk result (self.new.end < vec_len self.new.buffer) }
@@ -167,7 +167,7 @@ impl Lines {
     }
 }
 
-/// Reads once into the buffer, behind a front that stays.
+/// Reads once into the buffer, after a front that stays.
 fn read_behind<I: Input>(
     input: &mut I,
     buffer: &mut Vec<u8>,
@@ -186,7 +186,7 @@ fn read_behind<I: Input>(
     read_at(input, buffer.as_mut_slice(), front)
 }
 
-/// Reads once into the bytes behind a front that stays.
+/// Reads once into the bytes after a front that stays.
 fn read_at<I: Input>(input: &mut I, buffer: &mut [u8], front: usize) -> Result<usize, Refusal>
     requires { front < length buffer.old }
     ensures front { take front buffer.new ≡ take front buffer.old }

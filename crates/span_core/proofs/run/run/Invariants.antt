@@ -6,7 +6,7 @@ use Rattle.span_machine.specs.Run.{AreOfSchema}
 use Rattle.span_core.specs.Histories.{Run}
 use Rattle.span_core.proofs.run.run.Given as goal
 
--- the replies so far are the machine's, and there is room for one to each step that is left
+-- the replies so far are the machine's, and there is capacity for one to each step that is left
 abbrev pub invariant-loop-step : goal.invariant-loop-step
 invariant-loop-step l = record {
   schema : l.core.schema ≡ l.fn.schema;

@@ -6,7 +6,7 @@ use Rattle.span_mutate.specs.declared.row.TableRow.{TableRow}
 use Rattle.span_mutate.specs.Rows.{row_order}
 use Rattle.span_mutate.proofs.row.placed.Given as goal
 
--- the rows before, the rows behind, and those of what is left
+-- the rows before, the rows after, and those of what is left
 abbrev pub invariant-loop-old : goal.invariant-loop-old
 invariant-loop-old l = record {
   front : l.front.items ++ filter (λ (q : TableRow). is_lt (row_order l.columns q l.row)) (into_iter_items l.old-iterator) ≡ filter (λ (q : TableRow). is_lt (row_order l.columns q l.row)) l.fn.rows.items;

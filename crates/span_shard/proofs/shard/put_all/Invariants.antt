@@ -3,7 +3,7 @@ use Rattle.std.specs.List.{AllByRecursion}
 use Rattle.span_shard.specs.Shard.{HasSomeOf, AreInOrder, IsInUse}
 use Rattle.span_shard.proofs.shard.put_all.Given as goal
 
--- those behind what is left are prepared
+-- those after what is left are prepared
 abbrev pub invariant-loop-write : goal.invariant-loop-write
 invariant-loop-write l = record {
   some : HasSomeOf l.txn l.fn.writes.items l.fn.store l.store;

@@ -4,7 +4,7 @@ use Rattle.span_command.specs.Unread.{HoldsSame, Stands}
 use Rattle.span_command.proofs.Steps.{stays, came, failed, still_none, ends, goes_on}
 use Rattle.span_command.proofs.line.Lines.read.Goals as goal
 
--- what stood before the read stands once there is room
+-- what was held before the read is held once there is capacity
 with_room : (old less front wide : Lines) (known : Option (List ℕ)) (text : List ℕ)
     → ((known : Option (List ℕ)) (text : List ℕ) → Stands old known text → Stands less known text) → HoldsSame less front → HoldsSame front wide
     → Stands old known text → Stands wide known text
