@@ -7,13 +7,13 @@ use Rattle.std.proofs.Math.Seq.{get_or-append_seam}
 use Rattle.span_query.specs.declared.query.Aggregate.{Aggregate}
 use Rattle.span_query.specs.declared.query.Grouping.{Grouping}
 use Rattle.span_query.specs.Rows.{Row}
-use Rattle.span_query.specs.Groups.{are_alike, columns_at, group_keys, rows_with}
+use Rattle.span_query.specs.Groups.{are_equal, columns_at, group_keys, rows_with}
 use Rattle.span_algebra.specs.declared.aggregate.State.{State}
 use Rattle.span_algebra.specs.declared.group.Group.{Group}
-use Rattle.span_algebra.specs.Keys.{has_alike, with_new, place_of}
-use Rattle.span_algebra.specs.States.{AreStatesOf, HaveRoom}
+use Rattle.span_algebra.specs.Keys.{contains_row, with_new, place_of}
+use Rattle.span_algebra.specs.States.{AreStatesOf, CanCountOne}
 use Rattle.span_algebra.specs.Grouped.{keys_of, HasTakenRows, AreGroupsOf, HasPlace}
-use Rattle.span_algebra.proofs.Alike.{are_alike-itself}
+use Rattle.span_algebra.proofs.Alike.{are_equal-itself}
 use Rattle.span_algebra.proofs.Together.{filter-shorter}
 use Rattle.span_algebra.proofs.Places.{AreApart, place_found, place_tells, place_most, apart_at, group_keys-apart, group_keys-more, no_rows, rows_with-push}
 
@@ -39,7 +39,7 @@ module _ (g : Grouping) (row : Row) (rows : List Row) (groups : List Group) wher
   -- ---- the place
 
   module _ (are : AreGroupsOf g rows groups) (at : ℕ) (is : at ≡ place_of (keys_of groups) key) where
-    more : (known : Bool) → has_alike (keys_of groups) key ≡ known → group_keys g.keys (rows ++ row ∷ []) ≡ cond known (keys_of groups) (keys_of groups ++ key ∷ [])
+    more : (known : Bool) → contains_row (keys_of groups) key ≡ known → group_keys g.keys (rows ++ row ∷ []) ≡ cond known (keys_of groups) (keys_of groups ++ key ∷ [])
     more known e =
         group_keys-more g.keys rows row
         ∙ ap (λ (ks : List Row). with_new ks key) (sym are.keyed)
@@ -57,8 +57,8 @@ module _ (g : Grouping) (row : Row) (rows : List Row) (groups : List Group) wher
 
     pub new_place : (x : Group) → at ≡ length groups → x.key ≡ key → AreStatesOf g.aggregates [] x.states.items → HasPlace g row rows (groups ++ x ∷ []) at
     new_place x past same states =
-        let new : has_alike (keys_of groups) key ≡ false = (place_tells (keys_of groups) key).1 (omega (arith, key_count groups)) in
-        let none : rows_with g.keys key rows ≡ [] = no_rows g.keys row rows (ap (λ (ks : List Row). has_alike ks key) (sym are.keyed) ∙ new) in
+        let new : contains_row (keys_of groups) key ≡ false = (place_tells (keys_of groups) key).1 (omega (arith, key_count groups)) in
+        let none : rows_with g.keys key rows ≡ [] = no_rows g.keys row rows (ap (λ (ks : List Row). contains_row ks key) (sym are.keyed) ∙ new) in
         let taken : HasTakenRows g rows x = subst (λ (rs : List Row). AreStatesOf g.aggregates rs x.states.items) (sym (ap (λ (k : Row). rows_with g.keys k rows) same ∙ none)) states in
         record {
           are = record {
@@ -72,21 +72,21 @@ module _ (g : Grouping) (row : Row) (rows : List Row) (groups : List Group) wher
   -- ---- the row
 
   module _ (at : ℕ) (place : HasPlace g row rows groups at) where
-    pub has_room : (x : Group) → x ≡ get_or groups at x → length rows + 1 < 2 ^ 64 → HaveRoom g.aggregates x.states.items
+    pub has_room : (x : Group) → x ≡ get_or groups at x → length rows + 1 < 2 ^ 64 → CanCountOne g.aggregates x.states.items
     has_room x is few = record {
       rows = rows_with g.keys x.key rows;
       are = subst (HasTakenRows g rows) (sym is) (place.are.each at x place.within);
-      few = omega (arith, filter-shorter (λ (r : Row). are_alike x.key (columns_at g.keys r)) rows);
+      few = omega (arith, filter-shorter (λ (r : Row). are_equal x.key (columns_at g.keys r)) rows);
     }
 
     -- no other group has the key
-    other_key : (j : ℕ) (d : Group) → j < length groups → j ≢ at → are_alike (get_or groups j d).key key ≡ false
+    other_key : (j : ℕ) (d : Group) → j < length groups → j ≢ at → are_equal (get_or groups j d).key key ≡ false
     other_key j d inside other =
         let keys = keys_of groups in
-        let apart : are_alike (get_or keys j key) (get_or keys at key) ≡ false =
+        let apart : are_equal (get_or keys j key) (get_or keys at key) ≡ false =
         apart_at keys (subst AreApart (sym place.are.keyed) (group_keys-apart g.keys (rows ++ row ∷ []))) at j key key (omega (arith, place.within, key_count groups)) (omega (arith, key_count groups)) other in
-        ap (λ (k : Row). are_alike k key) (sym (key_at groups j d key inside))
-        ∙ ap (are_alike (get_or keys j key)) (sym (key_at groups at d key place.within ∙ place.key d))
+        ap (λ (k : Row). are_equal k key) (sym (key_at groups j d key inside))
+        ∙ ap (are_equal (get_or keys j key)) (sym (key_at groups at d key place.within ∙ place.key d))
         ∙ apart
 
     module _ (was new : Group) (is : was ≡ get_or groups at was) (same : new.key ≡ was.key)
@@ -94,12 +94,12 @@ module _ (g : Grouping) (row : Row) (rows : List Row) (groups : List Group) wher
       takes_here : HasTakenRows g (rows ++ row ∷ []) new
       takes_here =
           let old : HasTakenRows g rows was = subst (HasTakenRows g rows) (sym is) (place.are.each at was place.within) in
-          let alike : are_alike new.key key ≡ true = ap (λ (k : Row). are_alike k key) (same ∙ ap (λ (x : Group). x.key) is ∙ place.key was) ∙ are_alike-itself key in
+          let alike : are_equal new.key key ≡ true = ap (λ (k : Row). are_equal k key) (same ∙ ap (λ (x : Group). x.key) is ∙ place.key was) ∙ are_equal-itself key in
           let all : rows_with g.keys new.key (rows ++ row ∷ []) ≡ rows_with g.keys was.key rows ++ row ∷ [] =
           rows_with-push g.keys new.key rows row true alike ∙ ap (λ (k : Row). rows_with g.keys k rows ++ row ∷ []) same in
           subst (λ (rs : List Row). AreStatesOf g.aggregates rs new.states.items) (sym all) (step (rows_with g.keys was.key rows) old)
 
-      passes_there : (x : Group) → are_alike x.key key ≡ false → HasTakenRows g rows x → HasTakenRows g (rows ++ row ∷ []) x
+      passes_there : (x : Group) → are_equal x.key key ≡ false → HasTakenRows g rows x → HasTakenRows g (rows ++ row ∷ []) x
       passes_there x other h =
           subst (λ (rs : List Row). AreStatesOf g.aggregates rs x.states.items) (sym (rows_with-push g.keys x.key rows row false other ∙ append-nil (rows_with g.keys x.key rows))) h
 

@@ -3,7 +3,7 @@ use Rattle.std.proofs.Common.{◌≡◌, Bool, true, false, cond, not, ◌&&◌,
 use Rattle.std.specs.List.{AllByRecursion, filter}
 use Rattle.std.specs.List.Sorted.{ties}
 use Rattle.std.specs.Cmp.{IsStrictWeakOrder}
-use Rattle.span_algebra.specs.Orders.{IsInOrder}
+use Rattle.span_algebra.specs.Orders.{IsSorted}
 
 module _ {A : Type 0} (lt : A → A → Bool) (o : IsStrictWeakOrder lt) where
   irreflexive : (x : A) → lt x x ≡ false
@@ -26,7 +26,7 @@ module _ {A : Type 0} (lt : A → A → Bool) (o : IsStrictWeakOrder lt) where
       elim (ties lt x y) as (λ b. cond b (y ∷ filter (ties lt x) ys) (filter (ties lt x) ys) ≡ cond b (y ∷ filter (ties lt x) zs) (filter (ties lt x) zs) → filter (ties lt x) ys ≡ filter (ties lt x) zs) [ true ↦ λ m. cc | false ↦ λ m. m ] moved
 
   -- two lists in order, with the same order of ties, are one
-  pub one_order : (ys zs : List A) → IsInOrder lt ys → IsInOrder lt zs → ((x : A) → filter (ties lt x) ys ≡ filter (ties lt x) zs) → ys ≡ zs
+  pub one_order : (ys zs : List A) → IsSorted lt ys → IsSorted lt zs → ((x : A) → filter (ties lt x) ys ≡ filter (ties lt x) zs) → ys ≡ zs
   one_order [] [] p q same = refl
   one_order [] (z ∷ zs) p q same = let e : [] ≡ cond (ties lt z z) (z ∷ filter (ties lt z) zs) (filter (ties lt z) zs) = same z in let f : [] ≡ z ∷ filter (ties lt z) zs = e ∙ ap (λ b. cond b (z ∷ filter (ties lt z) zs) (filter (ties lt z) zs)) (ties_itself z) in cc
   one_order (y ∷ ys) [] p q same = let e : cond (ties lt y y) (y ∷ filter (ties lt y) ys) (filter (ties lt y) ys) ≡ [] = same y in let f : y ∷ filter (ties lt y) ys ≡ [] = sym (ap (λ b. cond b (y ∷ filter (ties lt y) ys) (filter (ties lt y) ys)) (ties_itself y)) ∙ e in cc

@@ -5,50 +5,50 @@ use Rattle.span_expr.specs.declared.expr.Expr.{Expr}
 use Rattle.span_expr.specs.declared.cell.Failure.{Failure}
 use Rattle.span_expr.specs.declared.cell.Failure.TheVariants as failure
 use Rattle.span_query.specs.declared.query.Grouping.{Grouping}
-use Rattle.span_query.specs.Rows.{Row, Rows, ◌>>=◌, followed, only_if, holds, kept_where}
+use Rattle.span_query.specs.Rows.{Row, Rows, ◌>>=◌, append_results, keep_if, holds, filter_where}
 use Rattle.span_query.specs.Groups.{groups}
 use Rattle.span_algebra.specs.declared.group.Group.{Group}
 use Rattle.span_algebra.specs.Answers.{Gives}
 use Rattle.span_algebra.specs.Selecting.{holds_where}
 use Rattle.span_algebra.specs.States.{operand_at}
-use Rattle.span_algebra.specs.Grouped.{AreGroupsOf, HaveRoomFor}
+use Rattle.span_algebra.specs.Grouped.{AreGroupsOf, CanCountRow}
 use Rattle.span_algebra.proofs.Alike.{drop_at}
-use Rattle.span_algebra.proofs.Gathering.{nil-followed, gathered_at, one_more, one_less, one_fails, then_fails}
+use Rattle.span_algebra.proofs.Gathering.{nil-append_results, gathered_at, one_more, one_less, one_fails, then_fails}
 use Rattle.span_algebra.proofs.Shown.{groups-fault}
 
 -- before row i, where these are the groups so far
 pub record HavePassed (filter : Option Expr) (g : Grouping) (rows : List Row) (i : ℕ) (so_far : List Group) : Type 0 where
   pub kept : List Row
-  pub all : kept_where filter rows ≡ followed (Some kept) (kept_where filter (drop i rows))
+  pub all : filter_where filter rows ≡ append_results (Some kept) (filter_where filter (drop i rows))
   pub are : AreGroupsOf g kept so_far
   pub few : length kept ≤ i
 
 pub pass_starts : (filter : Option Expr) (g : Grouping) (rows : List Row) (so_far : List Group) → AreGroupsOf g [] so_far → HavePassed filter g rows zero so_far
-pass_starts filter g rows so_far are = record { kept = []; all = sym (nil-followed (kept_where filter rows)); are = are; few = omega arith }
+pass_starts filter g rows so_far are = record { kept = []; all = sym (nil-append_results (filter_where filter rows)); are = are; few = omega arith }
 
 -- what one row gives
 abbrev judged : Option Expr → Row → Rows
-judged filter row = holds_where filter row >>= (λ b. Some (only_if row b))
+judged filter row = holds_where filter row >>= (λ b. Some (keep_if row b))
 
-kept_at : (filter : Option Expr) (rows : List Row) (i : ℕ) (row : Row) → i < length rows → row ≡ get_or rows i row → kept_where filter (drop i rows) ≡ followed (judged filter row) (kept_where filter (drop (i + 1) rows))
+kept_at : (filter : Option Expr) (rows : List Row) (i : ℕ) (row : Row) → i < length rows → row ≡ get_or rows i row → filter_where filter (drop i rows) ≡ append_results (judged filter row) (filter_where filter (drop (i + 1) rows))
 kept_at None rows i row inside is = ap (λ (l : List Row). Some l) (drop_at rows i row inside is)
-kept_at (Some e) rows i row inside is = gathered_at (λ row. holds e row >>= (λ b. Some (only_if row b))) rows i row inside is
+kept_at (Some e) rows i row inside is = gathered_at (λ row. holds e row >>= (λ b. Some (keep_if row b))) rows i row inside is
 
-kept_nil : (filter : Option Expr) → kept_where filter [] ≡ Some []
+kept_nil : (filter : Option Expr) → filter_where filter [] ≡ Some []
 kept_nil None = refl
 kept_nil (Some e) = refl
 
 module _ (filter : Option Expr) (g : Grouping) (rows : List Row) (i : ℕ) (so_far : List Group) (passed : HavePassed filter g rows i so_far) where
   module _ (row : Row) (inside : i < length rows) (is : row ≡ get_or rows i row) where
-    next : kept_where filter (drop i rows) ≡ followed (judged filter row) (kept_where filter (drop (i + 1) rows))
+    next : filter_where filter (drop i rows) ≡ append_results (judged filter row) (filter_where filter (drop (i + 1) rows))
     next = kept_at filter rows i row inside is
 
-    pub pass_room : length rows < 2 ^ 64 → HaveRoomFor g so_far
+    pub pass_room : length rows < 2 ^ 64 → CanCountRow g so_far
     pass_room small = record { rows = passed.kept; are = passed.are; few = omega (arith, passed.few) }
 
     module _ (holds : holds_where filter row ≡ Some true) where
-      with_it : kept_where filter rows ≡ followed (Some (passed.kept ++ row ∷ [])) (kept_where filter (drop (i + 1) rows))
-      with_it = one_more _ _ _ _ passed.kept (row ∷ []) passed.all next (ap (λ o. o >>= (λ b. Some (only_if row b))) holds)
+      with_it : filter_where filter rows ≡ append_results (Some (passed.kept ++ row ∷ [])) (filter_where filter (drop (i + 1) rows))
+      with_it = one_more _ _ _ _ passed.kept (row ∷ []) passed.all next (ap (λ o. o >>= (λ b. Some (keep_if row b))) holds)
 
       pub pass_keeps : (new : List Group) → ((rows : List Row) → AreGroupsOf g rows so_far → AreGroupsOf g (rows ++ row ∷ []) new) → HavePassed filter g rows (i + 1) new
       pass_keeps new takes = record {
@@ -58,31 +58,31 @@ module _ (filter : Option Expr) (g : Grouping) (rows : List Row) (i : ℕ) (so_f
         few = omega (arith, passed.few, length-append passed.kept (row ∷ []));
       }
 
-      fault_behind : Any (λ a. operand_at row a ≡ None) g.aggregates → (rest : Rows) → (followed (Some (passed.kept ++ row ∷ [])) rest >>= groups g) ≡ None
+      fault_behind : Any (λ a. operand_at row a ≡ None) g.aggregates → (rest : Rows) → (append_results (Some (passed.kept ++ row ∷ [])) rest >>= groups g) ≡ None
       fault_behind any None = refl
       fault_behind any (Some behind) = ap (groups g) (append_assoc passed.kept (row ∷ []) behind) ∙ groups-fault g passed.kept row behind any
 
-      pub take_fails : (why : Failure) → (◌≡◌ {A = Result (Unit {0}) Failure} (Err why) (Err failure.Fault) → Any (λ a. operand_at row a ≡ None) g.aggregates) → Gives (Err why) (kept_where filter rows >>= groups g)
-      take_fails failure.Fault any = ap (λ (o : Rows). o >>= groups g) with_it ∙ fault_behind (any refl) (kept_where filter (drop (i + 1) rows))
+      pub take_fails : (why : Failure) → (◌≡◌ {A = Result (Unit {0}) Failure} (Err why) (Err failure.Fault) → Any (λ a. operand_at row a ≡ None) g.aggregates) → Gives (Err why) (filter_where filter rows >>= groups g)
+      take_fails failure.Fault any = ap (λ (o : Rows). o >>= groups g) with_it ∙ fault_behind (any refl) (filter_where filter (drop (i + 1) rows))
       take_fails failure.OutOfMemory any = tt {0}
 
     pub pass_drops : holds_where filter row ≡ Some false → HavePassed filter g rows (i + 1) so_far
     pass_drops holds = record {
       kept = passed.kept;
-      all = one_less _ _ _ _ passed.kept passed.all next (ap (λ o. o >>= (λ b. Some (only_if row b))) holds);
+      all = one_less _ _ _ _ passed.kept passed.all next (ap (λ o. o >>= (λ b. Some (keep_if row b))) holds);
       are = passed.are;
       few = omega (arith, passed.few);
     }
 
-    pub pass_fails : (why : Failure) → Gives (Err why) (holds_where filter row) → Gives (Err why) (kept_where filter rows >>= groups g)
+    pub pass_fails : (why : Failure) → Gives (Err why) (holds_where filter row) → Gives (Err why) (filter_where filter rows >>= groups g)
     pass_fails why gives =
-        then_fails why (kept_where filter rows) (groups g)
-        (one_fails why _ _ _ _ passed.kept passed.all next (then_fails why (holds_where filter row) (λ b. Some (only_if row b)) gives))
+        then_fails why (filter_where filter rows) (groups g)
+        (one_fails why _ _ _ _ passed.kept passed.all next (then_fails why (holds_where filter row) (λ b. Some (keep_if row b)) gives))
 
-  pub pass_ends : length rows ≤ i → (kept_where filter rows >>= groups g) ≡ groups g passed.kept
+  pub pass_ends : length rows ≤ i → (filter_where filter rows >>= groups g) ≡ groups g passed.kept
   pass_ends past =
       ap (λ (o : Rows). o >>= groups g) (
       passed.all
-      ∙ ap (λ (l : List Row). followed (Some passed.kept) (kept_where filter l)) (drop_all i rows past)
-      ∙ ap (followed (Some passed.kept)) (kept_nil filter)
+      ∙ ap (λ (l : List Row). append_results (Some passed.kept) (filter_where filter l)) (drop_all i rows past)
+      ∙ ap (append_results (Some passed.kept)) (kept_nil filter)
       ∙ ap (λ (l : List Row). Some l) (append-nil passed.kept))

@@ -5,31 +5,31 @@ use Rattle.std.proofs.lemmas.List.{map-append}
 use Rattle.std.proofs.lemmas.List.Elements.{filter-append}
 use Rattle.std.proofs.lemmas.List.Folds.{list_any-append}
 use Rattle.span_query.specs.Rows.{Row}
-use Rattle.span_query.specs.Groups.{are_alike, distinct, columns_at, group_keys, rows_with}
-use Rattle.span_algebra.specs.Keys.{has_alike, with_new, place_of}
-use Rattle.span_algebra.proofs.Alike.{are_alike-same, are_alike-itself, are_alike-turned}
-use Rattle.span_algebra.proofs.Firsts.{unlike, has_alike-unlike, distinct-more}
+use Rattle.span_query.specs.Groups.{are_equal, distinct, columns_at, group_keys, rows_with}
+use Rattle.span_algebra.specs.Keys.{contains_row, with_new, place_of}
+use Rattle.span_algebra.proofs.Alike.{are_equal-same, are_equal-itself, are_equal-reverse_if}
+use Rattle.span_algebra.proofs.Firsts.{unlike, contains_row-unlike, distinct-more}
 
 -- ---- the place of a key
 
 pub place_found : (ks : List Row) (k d : Row) → place_of ks k < length ks → get_or ks (place_of ks k) d ≡ k
 place_found [] k d h = absurd (omega arith)
-place_found (x ∷ ks) k d h = elim (are_alike x k) as (λ b. are_alike x k ≡ b → cond b zero (suc (place_of ks k)) < suc (length ks) → get_or (x ∷ ks) (cond b zero (suc (place_of ks k))) d ≡ k) [
-  | true ↦ λ e within. are_alike-same x k e
+place_found (x ∷ ks) k d h = elim (are_equal x k) as (λ b. are_equal x k ≡ b → cond b zero (suc (place_of ks k)) < suc (length ks) → get_or (x ∷ ks) (cond b zero (suc (place_of ks k))) d ≡ k) [
+  | true ↦ λ e within. are_equal-same x k e
   | false ↦ λ e within. place_found ks k d (omega arith)
 ] refl h
 
-pub place_known : (ks : List Row) (k : Row) → has_alike ks k ≡ true → place_of ks k < length ks
+pub place_known : (ks : List Row) (k : Row) → contains_row ks k ≡ true → place_of ks k < length ks
 place_known [] k e = absurd cc
-place_known (x ∷ ks) k e = elim (are_alike x k) as (λ b. (b || has_alike ks k) ≡ true → cond b zero (suc (place_of ks k)) < suc (length ks)) [
+place_known (x ∷ ks) k e = elim (are_equal x k) as (λ b. (b || contains_row ks k) ≡ true → cond b zero (suc (place_of ks k)) < suc (length ks)) [
   | true ↦ λ known. omega arith
   | false ↦ λ known. omega (arith, place_known ks k known)
 ] e
 
 -- whether it is among them
-pub place_tells : (ks : List Row) (k : Row) → (place_of ks k < length ks → has_alike ks k ≡ true) × (length ks ≤ place_of ks k → has_alike ks k ≡ false)
+pub place_tells : (ks : List Row) (k : Row) → (place_of ks k < length ks → contains_row ks k ≡ true) × (length ks ≤ place_of ks k → contains_row ks k ≡ false)
 place_tells [] k = (λ h. absurd (omega arith), λ h. refl)
-place_tells (x ∷ ks) k = elim (are_alike x k) as (λ b. (cond b zero (suc (place_of ks k)) < suc (length ks) → (b || has_alike ks k) ≡ true) × (suc (length ks) ≤ cond b zero (suc (place_of ks k)) → (b || has_alike ks k) ≡ false)) [
+place_tells (x ∷ ks) k = elim (are_equal x k) as (λ b. (cond b zero (suc (place_of ks k)) < suc (length ks) → (b || contains_row ks k) ≡ true) × (suc (length ks) ≤ cond b zero (suc (place_of ks k)) → (b || contains_row ks k) ≡ false)) [
   | true ↦ (λ h. refl, λ h. absurd (omega arith))
   | false ↦ (λ h. (place_tells ks k).0 (omega arith), λ h. (place_tells ks k).1 (omega arith))
 ]
@@ -38,45 +38,45 @@ place_tells (x ∷ ks) k = elim (are_alike x k) as (λ b. (cond b zero (suc (pla
 
 abbrev pub AreApart : List Row → Type 0
 AreApart [] = Unit {0}
-AreApart (x ∷ ks) = (has_alike ks x ≡ false) × AreApart ks
+AreApart (x ∷ ks) = (contains_row ks x ≡ false) × AreApart ks
 
 neither : (a b : Bool) → (a || b) ≡ false → (a ≡ false) × (b ≡ false)
 neither true b e = absurd cc
 neither false b e = (refl, e)
 
-none_alike : (ks : List Row) (x : Row) → has_alike ks x ≡ false → (j : ℕ) (d : Row) → j < length ks → are_alike (get_or ks j d) x ≡ false
+none_alike : (ks : List Row) (x : Row) → contains_row ks x ≡ false → (j : ℕ) (d : Row) → j < length ks → are_equal (get_or ks j d) x ≡ false
 none_alike [] x e j d h = absurd (omega arith)
-none_alike (y ∷ ks) x e zero d h = (neither (are_alike y x) (has_alike ks x) e).0
-none_alike (y ∷ ks) x e (suc j) d h = none_alike ks x (neither (are_alike y x) (has_alike ks x) e).1 j d (omega arith)
+none_alike (y ∷ ks) x e zero d h = (neither (are_equal y x) (contains_row ks x) e).0
+none_alike (y ∷ ks) x e (suc j) d h = none_alike ks x (neither (are_equal y x) (contains_row ks x) e).1 j d (omega arith)
 
-pub apart_at : (ks : List Row) → AreApart ks → (i j : ℕ) (d e : Row) → i < length ks → j < length ks → j ≢ i → are_alike (get_or ks j d) (get_or ks i e) ≡ false
+pub apart_at : (ks : List Row) → AreApart ks → (i j : ℕ) (d e : Row) → i < length ks → j < length ks → j ≢ i → are_equal (get_or ks j d) (get_or ks i e) ≡ false
 apart_at [] a i j d e h l other = absurd (omega arith)
 apart_at (x ∷ ks) a zero zero d e h l other = absurd (other refl)
 apart_at (x ∷ ks) a zero (suc j) d e h l other = none_alike ks x a.0 j d (omega arith)
-apart_at (x ∷ ks) a (suc i) zero d e h l other = are_alike-turned x (get_or ks i e) ∙ none_alike ks x a.0 i e (omega arith)
+apart_at (x ∷ ks) a (suc i) zero d e h l other = are_equal-reversed x (get_or ks i e) ∙ none_alike ks x a.0 i e (omega arith)
 apart_at (x ∷ ks) a (suc i) (suc j) d e h l other = apart_at ks a.1 i j d e (omega arith) (omega arith) (λ same. other (ap suc same))
 
-has_alike-filter : (p : Row → Bool) (ks : List Row) (x : Row) → has_alike ks x ≡ false → has_alike (filter p ks) x ≡ false
-has_alike-filter p [] x e = refl
-has_alike-filter p (y ∷ ks) x e =
-    let both : (are_alike y x ≡ false) × (has_alike ks x ≡ false) = neither (are_alike y x) (has_alike ks x) e in
-    elim (p y) as (λ b. has_alike (cond b (y ∷ filter p ks) (filter p ks)) x ≡ false) [
-      | true ↦ ap (λ b. b || has_alike (filter p ks) x) both.0 ∙ has_alike-filter p ks x both.1
-      | false ↦ has_alike-filter p ks x both.1
+contains_row-filter : (p : Row → Bool) (ks : List Row) (x : Row) → contains_row ks x ≡ false → contains_row (filter p ks) x ≡ false
+contains_row-filter p [] x e = refl
+contains_row-filter p (y ∷ ks) x e =
+    let both : (are_equal y x ≡ false) × (contains_row ks x ≡ false) = neither (are_equal y x) (contains_row ks x) e in
+    elim (p y) as (λ b. contains_row (cond b (y ∷ filter p ks) (filter p ks)) x ≡ false) [
+      | true ↦ ap (λ b. b || contains_row (filter p ks) x) both.0 ∙ contains_row-filter p ks x both.1
+      | false ↦ contains_row-filter p ks x both.1
     ]
 
 apart-filter : (p : Row → Bool) (ks : List Row) → AreApart ks → AreApart (filter p ks)
 apart-filter p [] a = tt
 apart-filter p (x ∷ ks) a = elim (p x) as (λ b. AreApart (cond b (x ∷ filter p ks) (filter p ks))) [
-  | true ↦ (has_alike-filter p ks x a.0, apart-filter p ks a.1)
+  | true ↦ (contains_row-filter p ks x a.0, apart-filter p ks a.1)
   | false ↦ apart-filter p ks a.1
 ]
 
-others : (x : Row) (ks : List Row) → has_alike (filter (unlike x) ks) x ≡ false
+others : (x : Row) (ks : List Row) → contains_row (filter (unlike x) ks) x ≡ false
 others x [] = refl
-others x (y ∷ ks) = elim (are_alike x y) as (λ b. are_alike x y ≡ b → has_alike (cond (not b) (y ∷ filter (unlike x) ks) (filter (unlike x) ks)) x ≡ false) [
+others x (y ∷ ks) = elim (are_equal x y) as (λ b. are_equal x y ≡ b → contains_row (cond (not b) (y ∷ filter (unlike x) ks) (filter (unlike x) ks)) x ≡ false) [
   | true ↦ λ e. others x ks
-  | false ↦ λ e. ap (λ b. b || has_alike (filter (unlike x) ks) x) (are_alike-turned y x ∙ e) ∙ others x ks
+  | false ↦ λ e. ap (λ b. b || contains_row (filter (unlike x) ks) x) (are_equal-reversed y x ∙ e) ∙ others x ks
 ] refl
 
 distinct-apart : (ks : List Row) → AreApart (distinct ks)
@@ -94,46 +94,46 @@ group_keys-more [] rows row = refl
 group_keys-more (p ∷ ps) rows row =
     ap distinct (map-append (columns_at (p ∷ ps)) rows (row ∷ [])) ∙ distinct-more (map (columns_at (p ∷ ps)) rows) (columns_at (p ∷ ps) row)
 
-has_alike-distinct : (ks : List Row) (k : Row) → has_alike (distinct ks) k ≡ has_alike ks k
-has_alike-distinct [] k = refl
-has_alike-distinct (x ∷ ks) k = elim (are_alike x k) as (λ b. are_alike x k ≡ b → (b || has_alike (filter (unlike x) (distinct ks)) k) ≡ (b || has_alike ks k)) [
+contains_row-distinct : (ks : List Row) (k : Row) → contains_row (distinct ks) k ≡ contains_row ks k
+contains_row-distinct [] k = refl
+contains_row-distinct (x ∷ ks) k = elim (are_equal x k) as (λ b. are_equal x k ≡ b → (b || contains_row (filter (unlike x) (distinct ks)) k) ≡ (b || contains_row ks k)) [
   | true ↦ λ e. refl
-  | false ↦ λ e. has_alike-unlike x k e (distinct ks) ∙ has_alike-distinct ks k
+  | false ↦ λ e. contains_row-unlike x k e (distinct ks) ∙ contains_row-distinct ks k
 ] refl
 
-none_with : (places : List ℕ) (k : Row) (rows : List Row) → has_alike (map (columns_at places) rows) k ≡ false → rows_with places k rows ≡ []
+none_with : (places : List ℕ) (k : Row) (rows : List Row) → contains_row (map (columns_at places) rows) k ≡ false → rows_with places k rows ≡ []
 none_with places k [] e = refl
 none_with places k (row ∷ rows) e =
-    let both : (are_alike (columns_at places row) k ≡ false) × (has_alike (map (columns_at places) rows) k ≡ false) = neither (are_alike (columns_at places row) k) (has_alike (map (columns_at places) rows) k) e in
-    ap (λ b. cond b (row ∷ rows_with places k rows) (rows_with places k rows)) (are_alike-turned k (columns_at places row) ∙ both.0) ∙ none_with places k rows both.1
+    let both : (are_equal (columns_at places row) k ≡ false) × (contains_row (map (columns_at places) rows) k ≡ false) = neither (are_equal (columns_at places row) k) (contains_row (map (columns_at places) rows) k) e in
+    ap (λ b. cond b (row ∷ rows_with places k rows) (rows_with places k rows)) (are_equal-reversed k (columns_at places row) ∙ both.0) ∙ none_with places k rows both.1
 
 -- no row has a key that is not among the keys
-pub no_rows : (places : List ℕ) (row : Row) (rows : List Row) → has_alike (group_keys places rows) (columns_at places row) ≡ false → rows_with places (columns_at places row) rows ≡ []
+pub no_rows : (places : List ℕ) (row : Row) (rows : List Row) → contains_row (group_keys places rows) (columns_at places row) ≡ false → rows_with places (columns_at places row) rows ≡ []
 no_rows [] row rows e = absurd cc
-no_rows (p ∷ ps) row rows e = none_with (p ∷ ps) (columns_at (p ∷ ps) row) rows (sym (has_alike-distinct (map (columns_at (p ∷ ps)) rows) (columns_at (p ∷ ps) row)) ∙ e)
+no_rows (p ∷ ps) row rows e = none_with (p ∷ ps) (columns_at (p ∷ ps) row) rows (sym (contains_row-distinct (map (columns_at (p ∷ ps)) rows) (columns_at (p ∷ ps) row)) ∙ e)
 
-pub rows_with-push : (places : List ℕ) (k : Row) (rows : List Row) (row : Row) (b : Bool) → are_alike k (columns_at places row) ≡ b → rows_with places k (rows ++ row ∷ []) ≡ rows_with places k rows ++ cond b (row ∷ []) []
+pub rows_with-push : (places : List ℕ) (k : Row) (rows : List Row) (row : Row) (b : Bool) → are_equal k (columns_at places row) ≡ b → rows_with places k (rows ++ row ∷ []) ≡ rows_with places k rows ++ cond b (row ∷ []) []
 rows_with-push places k rows row b e =
-    filter-append (λ (r : Row). are_alike k (columns_at places r)) rows (row ∷ []) ∙ ap (λ c. rows_with places k rows ++ cond c (row ∷ []) []) e
+    filter-append (λ (r : Row). are_equal k (columns_at places r)) rows (row ∷ []) ∙ ap (λ c. rows_with places k rows ++ cond c (row ∷ []) []) e
 
 -- the key of a row is among the keys
 either_one : (a b : Bool) → b ≡ true → (a || b) ≡ true
 either_one true b e = refl
 either_one false b e = e
 
-pub has_key : (places : List ℕ) (before : List Row) (row : Row) (behind : List Row) → has_alike (group_keys places (before ++ row ∷ behind)) (columns_at places row) ≡ true
+pub has_key : (places : List ℕ) (before : List Row) (row : Row) (behind : List Row) → contains_row (group_keys places (before ++ row ∷ behind)) (columns_at places row) ≡ true
 has_key [] before row behind = refl
 has_key (p ∷ ps) before row behind =
     let key = columns_at (p ∷ ps) row in
     let keys = map (columns_at (p ∷ ps)) in
-    has_alike-distinct (keys (before ++ row ∷ behind)) key
-    ∙ ap (λ (ks : List Row). has_alike ks key) (map-append (columns_at (p ∷ ps)) before (row ∷ behind))
-    ∙ list_any-append (λ (x : Row). are_alike x key) (keys before) (key ∷ keys behind)
-    ∙ either_one (has_alike (keys before) key) (are_alike key key || has_alike (keys behind) key) (ap (λ b. b || has_alike (keys behind) key) (are_alike-itself key))
+    contains_row-distinct (keys (before ++ row ∷ behind)) key
+    ∙ ap (λ (ks : List Row). contains_row ks key) (map-append (columns_at (p ∷ ps)) before (row ∷ behind))
+    ∙ list_any-append (λ (x : Row). are_equal x key) (keys before) (key ∷ keys behind)
+    ∙ either_one (contains_row (keys before) key) (are_equal key key || contains_row (keys behind) key) (ap (λ b. b || contains_row (keys behind) key) (are_equal-itself key))
 
 pub place_most : (ks : List Row) (k : Row) → place_of ks k ≤ length ks
 place_most [] k = omega arith
-place_most (x ∷ ks) k = elim (are_alike x k) as (λ b. cond b zero (suc (place_of ks k)) ≤ suc (length ks)) [
+place_most (x ∷ ks) k = elim (are_equal x k) as (λ b. cond b zero (suc (place_of ks k)) ≤ suc (length ks)) [
   | true ↦ omega arith
   | false ↦ omega (arith, place_most ks k)
 ]

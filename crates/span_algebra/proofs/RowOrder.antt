@@ -17,10 +17,10 @@ use Rattle.span_value.proofs.Total.{value_order_total}
 use Rattle.span_expr.specs.Operators.{column_of}
 use Rattle.span_query.specs.declared.query.SortKey.{SortKey}
 use Rattle.span_query.specs.Rows.{Row}
-use Rattle.span_query.specs.Sorting.{turned, or_next, key_order, row_order, comes_before, placed, sorted}
+use Rattle.span_query.specs.Sorting.{reverse_if, or_next, key_order, row_order, comes_before, insert_sorted, sorted}
 use Rattle.span_algebra.proofs.Sorting.{from_sorted, is_the_order}
 
-same_turn : (o : Ordering) → turned true o ≡ ordering_reverse o
+same_turn : (o : Ordering) → reverse_if true o ≡ ordering_reverse o
 same_turn Less = refl
 same_turn Equal = refl
 same_turn Greater = refl
@@ -31,7 +31,7 @@ same_next Equal next = refl
 same_next Greater next = refl
 
 abbrev directed : Bool → Value → Value → Ordering
-directed d v w = turned d (value_order v w)
+directed d v w = reverse_if d (value_order v w)
 
 directed_total : (d : Bool) → IsTotalOrder (directed d)
 directed_total false = value_order_total
@@ -57,13 +57,13 @@ sorted_rows keys {g = g} {f = f} xs ys up stable h =
     (from_sorted (comes_before keys) (rows_ranked keys) ys (up (comes_before keys) (rows_ranked keys) by))
     (stable (comes_before keys) (rows_ranked keys) by)
 
-in_front : (row : Row) (rows : List Row) → placed (comes_before []) row rows ≡ row ∷ rows
+in_front : (row : Row) (rows : List Row) → insert_sorted (comes_before []) row rows ≡ row ∷ rows
 in_front row [] = refl
 in_front row (next ∷ rows) = refl
 
 unsorted : (rows : List Row) → sorted [] rows ≡ rows
 unsorted [] = refl
-unsorted (row ∷ rows) = ap (placed (comes_before []) row) (unsorted rows) ∙ in_front row rows
+unsorted (row ∷ rows) = ap (insert_sorted (comes_before []) row) (unsorted rows) ∙ in_front row rows
 
 -- without keys nothing is sorted
 pub as_they_stood : (keys : List SortKey) (rows : List Row) → length keys ≡ 0 → sorted keys rows ≡ rows

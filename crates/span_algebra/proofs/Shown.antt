@@ -10,16 +10,16 @@ use Rattle.span_expr.specs.Meaning.{val}
 use Rattle.span_query.specs.declared.query.Aggregate.{Aggregate}
 use Rattle.span_query.specs.declared.query.Aggregate.TheVariants.{CountRows, Of}
 use Rattle.span_query.specs.declared.query.Grouping.{Grouping}
-use Rattle.span_query.specs.Rows.{Row, Rows, OrFault, ◌>>=◌, value_of, followed, gathered, each, only}
-use Rattle.span_query.specs.Groups.{are_alike, columns_at, group_keys, rows_with, of_values, without_nulls, aggregate, group_row, groups}
+use Rattle.span_query.specs.Rows.{Row, Rows, OrFault, ◌>>=◌, value_of, append_results, concat_map, each, singleton}
+use Rattle.span_query.specs.Groups.{are_equal, columns_at, group_keys, rows_with, of_values, without_nulls, aggregate, group_row, groups}
 use Rattle.span_algebra.specs.declared.group.Group.{Group}
 use Rattle.span_algebra.specs.Answers.{Gives}
 use Rattle.span_algebra.specs.Keys.{place_of}
 use Rattle.span_algebra.specs.declared.aggregate.State.{State}
 use Rattle.span_algebra.specs.States.{AreStatesOf, operand_at}
 use Rattle.span_algebra.specs.Grouped.{keys_of, HasTakenRows, AreGroupsOf}
-use Rattle.span_algebra.proofs.Gathering.{gathered-append, nil-followed, one_more, one_fails}
-use Rattle.span_algebra.proofs.Alike.{are_alike-itself}
+use Rattle.span_algebra.proofs.Gathering.{concat_map-append, nil-append_results, one_more, one_fails}
+use Rattle.span_algebra.proofs.Alike.{are_equal-itself}
 use Rattle.span_algebra.proofs.Places.{place_found, place_known, has_key}
 
 -- ---- the row of each group
@@ -37,25 +37,25 @@ gives_row g rows x r key states same are gives taken =
 
 module _ (g : Grouping) (rows : List Row) where
   abbrev row_of : Group → OrFault (List Row)
-  row_of x = option_map only (group_row g rows x.key)
+  row_of x = option_map singleton (group_row g rows x.key)
 
   abbrev pub rows_by : List Group → Rows
-  rows_by all = gathered row_of all
+  rows_by all = concat_map row_of all
 
   rows_by-keys : (all : List Group) → each (group_row g rows) (keys_of all) ≡ rows_by all
   rows_by-keys [] = refl
-  rows_by-keys (x ∷ all) = ap (followed (row_of x)) (rows_by-keys all)
+  rows_by-keys (x ∷ all) = ap (append_results (row_of x)) (rows_by-keys all)
 
   pub groups-shown : (all : List Group) → AreGroupsOf g rows all → groups g rows ≡ rows_by all
   groups-shown all are = groups-keyed g rows (keys_of all) are.keyed ∙ rows_by-keys all
 
   -- of the groups, these rows were made, and these groups are left
   pub record AreShown (all : List Group) (found : List Row) (left : List Group) : Type 0 where
-    pub shown : rows_by all ≡ followed (Some found) (rows_by left)
+    pub shown : rows_by all ≡ append_results (Some found) (rows_by left)
     pub taken : All (HasTakenRows g rows) left
 
   pub shown_none : (all : List Group) → AreGroupsOf g rows all → AreShown all [] all
-  shown_none all are = record { shown = sym (nil-followed (rows_by all)); taken = are.each }
+  shown_none all are = record { shown = sym (nil-append_results (rows_by all)); taken = are.each }
 
   module _ (all : List Group) (found : List Row) (x : Group) (left : List Group) (are : AreShown all found (x ∷ left)) where
     pub next_taken : HasTakenRows g rows x
@@ -63,12 +63,12 @@ module _ (g : Grouping) (rows : List Row) where
 
     pub shown_more : (row : Row) → group_row g rows x.key ≡ Some row → AreShown all (found ++ row ∷ []) left
     shown_more row gives = record {
-      shown = one_more _ (rows_by (x ∷ left)) (row_of x) (rows_by left) found (row ∷ []) are.shown refl (ap (option_map only) gives);
+      shown = one_more _ (rows_by (x ∷ left)) (row_of x) (rows_by left) found (row ∷ []) are.shown refl (ap (option_map singleton) gives);
       taken = λ k d inside. are.taken (suc k) d (omega arith);
     }
 
     pub shown_fails : (why : Failure) → Gives (Err why) (group_row g rows x.key) → Gives (Err why) (rows_by all)
-    shown_fails failure.Fault gives = one_fails failure.Fault _ (rows_by (x ∷ left)) (row_of x) (rows_by left) found are.shown refl (ap (option_map only) gives)
+    shown_fails failure.Fault gives = one_fails failure.Fault _ (rows_by (x ∷ left)) (row_of x) (rows_by left) found are.shown refl (ap (option_map singleton) gives)
     shown_fails failure.OutOfMemory gives = tt {0}
 
   pub shown_all : (all : List Group) (found : List Row) → AreShown all found [] → rows_by all ≡ Some found
@@ -76,31 +76,31 @@ module _ (g : Grouping) (rows : List Row) where
 
 -- ---- faults
 
-behind_fault : {A : Type 0} (a : OrFault (List A)) → followed a None ≡ None
+behind_fault : {A : Type 0} (a : OrFault (List A)) → append_results a None ≡ None
 behind_fault (Some xs) = refl
 behind_fault None = refl
 
 -- where one of them is the fault, all are
 each-fault : {A B : Type 0} (f : A → OrFault B) (before : List A) (x : A) (behind : List A) → f x ≡ None → each f (before ++ x ∷ behind) ≡ None
 each-fault f before x behind fault =
-    gathered-append (λ x. option_map only (f x)) before (x ∷ behind)
-    ∙ ap (λ o. followed (each f before) (followed (option_map only o) (each f behind))) fault
+    concat_map-append (λ x. option_map singleton (f x)) before (x ∷ behind)
+    ∙ ap (λ o. append_results (each f before) (append_results (option_map singleton o) (each f behind))) fault
     ∙ behind_fault (each f before)
 
 each-any : {A B : Type 0} (f : A → OrFault B) (xs : List A) (k : ℕ) (x : A) → k < length xs → get_or xs k x ≡ x → f x ≡ None → each f xs ≡ None
 each-any f [] k x inside is fault = absurd (omega arith)
-each-any f (y ∷ xs) zero x inside is fault = ap (λ o. followed (option_map only o) (each f xs)) (ap f is ∙ fault)
+each-any f (y ∷ xs) zero x inside is fault = ap (λ o. append_results (option_map singleton o) (each f xs)) (ap f is ∙ fault)
 each-any f (y ∷ xs) (suc k) x inside is fault =
-    ap (followed (option_map only (f y))) (each-any f xs k x (omega arith) is fault) ∙ behind_fault (option_map only (f y))
+    ap (append_results (option_map singleton (f y))) (each-any f xs k x (omega arith) is fault) ∙ behind_fault (option_map singleton (f y))
 
 aggregate-fault : (a : Aggregate) (before : List Row) (row : Row) (behind : List Row) → operand_at row a ≡ None → aggregate (before ++ row ∷ behind) a ≡ None
 aggregate-fault CountRows before row behind fault = absurd cc
 aggregate-fault (Of f e) before row behind fault =
     ap (λ (o : OrFault (List Value)). o >>= (λ vs. value_of (of_values f (without_nulls vs)))) (each-fault (λ (r : Row). value_of (val r e)) before row behind fault)
 
-rows_with-at : (places : List ℕ) (key : Row) (before : List Row) (row : Row) (behind : List Row) → are_alike key (columns_at places row) ≡ true → rows_with places key (before ++ row ∷ behind) ≡ rows_with places key before ++ row ∷ rows_with places key behind
+rows_with-at : (places : List ℕ) (key : Row) (before : List Row) (row : Row) (behind : List Row) → are_equal key (columns_at places row) ≡ true → rows_with places key (before ++ row ∷ behind) ≡ rows_with places key before ++ row ∷ rows_with places key behind
 rows_with-at places key before row behind alike =
-    filter-append (λ (r : Row). are_alike key (columns_at places r)) before (row ∷ behind)
+    filter-append (λ (r : Row). are_equal key (columns_at places r)) before (row ∷ behind)
     ∙ ap (λ b. rows_with places key before ++ cond b (row ∷ rows_with places key behind) (rows_with places key behind)) alike
 
 -- AN OPERAND THAT FAULTS AT A ROW makes all the groups the fault
@@ -112,7 +112,7 @@ groups-fault g before row behind any =
     let rest : List Row = rows_with g.keys key behind in
     let within : place_of keys key < length keys = place_known keys key (has_key g.keys before row behind) in
     let aggregates : each (aggregate (rows_with g.keys key all)) g.aggregates ≡ None =
-    ap (λ (rows : List Row). each (aggregate rows) g.aggregates) (rows_with-at g.keys key before row behind (are_alike-itself key))
+    ap (λ (rows : List Row). each (aggregate rows) g.aggregates) (rows_with-at g.keys key before row behind (are_equal-itself key))
     ∙ each-any (aggregate (rows_with g.keys key before ++ row ∷ rest)) g.aggregates any.0 any.1 any.2 any.3 (aggregate-fault any.1 (rows_with g.keys key before) row rest any.4) in
     let one : group_row g all key ≡ None = ap (λ (o : OrFault (List Value)). o >>= (λ vs. Some (key ++ vs))) aggregates in
     each-any (group_row g all) keys (place_of keys key) key within (place_found keys key key within) one

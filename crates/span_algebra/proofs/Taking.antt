@@ -12,13 +12,13 @@ use Rattle.span_query.specs.declared.query.Aggregate.{Aggregate}
 use Rattle.span_query.specs.declared.query.Aggregate.TheVariants.{CountRows, Of}
 use Rattle.span_query.specs.declared.query.Function.{Function}
 use Rattle.span_query.specs.declared.query.Function.TheVariants as function
-use Rattle.span_query.specs.Rows.{Row, OrFault, value_of, followed, gathered, only, each}
+use Rattle.span_query.specs.Rows.{Row, OrFault, value_of, append_results, concat_map, singleton, each}
 use Rattle.span_query.specs.Groups.{int_of, total, without_nulls}
 use Rattle.span_algebra.specs.declared.sum.Sum.{Sum}
 use Rattle.span_algebra.specs.declared.aggregate.State.{State}
 use Rattle.span_algebra.specs.declared.aggregate.State.TheVariants as state
 use Rattle.span_algebra.specs.States.{HasCounted, HasTaken, IsStateOf}
-use Rattle.span_algebra.proofs.Gathering.{gathered-append}
+use Rattle.span_algebra.proofs.Gathering.{concat_map-append}
 
 total-push : (vs : List Value) (v : Value) → total (vs ++ v ∷ []) ≡ total vs +ℤ int_of v
 total-push [] v = omega (arith, ints)
@@ -41,9 +41,9 @@ sum_takes was s t v n is same values sums f vs h = sum_steps s t v n same values
 -- what each gives, and what one more does
 pub each-push : {A B : Type 0} (f : A → OrFault B) (xs : List A) (x : A) (ys : List B) (y : B) → each f xs ≡ Some ys → f x ≡ Some y → each f (xs ++ x ∷ []) ≡ Some (ys ++ y ∷ [])
 each-push f xs x ys y is gives =
-    gathered-append (λ x. option_map only (f x)) xs (x ∷ [])
-    ∙ ap (λ o. followed o (gathered (λ x. option_map only (f x)) (x ∷ []))) is
-    ∙ ap (λ o. followed (Some ys) (followed (option_map only o) (Some []))) gives
+    concat_map-append (λ x. option_map singleton (f x)) xs (x ∷ [])
+    ∙ ap (λ o. append_results o (concat_map (λ x. option_map singleton (f x)) (x ∷ []))) is
+    ∙ ap (λ o. append_results (Some ys) (append_results (option_map singleton o) (Some []))) gives
 
 without_nulls-push : (vs : List Value) (v : Value) (b : Bool) → is_null v ≡ b → without_nulls (vs ++ v ∷ []) ≡ without_nulls vs ++ cond (not b) (v ∷ []) []
 without_nulls-push vs v b is = filter-append (λ (w : Value). not (is_null w)) vs (v ∷ []) ∙ ap (λ c. without_nulls vs ++ cond (not c) (v ∷ []) []) is

@@ -13,7 +13,7 @@ use Rattle.span_query.specs.declared.query.Aggregate.{Aggregate}
 use Rattle.span_query.specs.declared.query.Aggregate.TheVariants.{CountRows, Of}
 use Rattle.span_query.specs.declared.query.Function.{Function}
 use Rattle.span_query.specs.declared.query.Function.TheVariants as function
-use Rattle.span_query.specs.Rows.{Row, OrFault, followed, each, only, value_of}
+use Rattle.span_query.specs.Rows.{Row, OrFault, append_results, each, singleton, value_of}
 use Rattle.span_query.specs.Groups.{without_nulls, aggregate}
 use Rattle.span_expr.specs.declared.cell.Failure.{Failure}
 use Rattle.span_expr.specs.declared.cell.Failure.TheVariants as failure
@@ -21,7 +21,7 @@ use Rattle.span_algebra.specs.Answers.{Gives}
 use Rattle.span_algebra.proofs.Gathering.{gathered_at, one_more, one_fails}
 use Rattle.span_algebra.specs.declared.aggregate.State.{State}
 use Rattle.span_algebra.specs.declared.aggregate.State.TheVariants as state
-use Rattle.span_algebra.specs.States.{counted, HasCounted, HasTaken, IsStateOf, AreStatesOf, HaveRoom}
+use Rattle.span_algebra.specs.States.{counted, HasCounted, HasTaken, IsStateOf, AreStatesOf, CanCountOne}
 
 -- ---- how many were counted
 
@@ -53,7 +53,7 @@ filter-shorter p (x ∷ xs) = elim (p x) as (λ b. length (cond b (x ∷ filter 
   | false ↦ omega (arith, filter-shorter p xs)
 ]
 
-same_Some_list : {A : Type 0} (o : OrFault (List A)) (b : OrFault A) (vs : List A) → followed (option_map only b) o ≡ Some vs → (n : ℕ) → ((ws : List A) → o ≡ Some ws → length ws ≡ n) → length vs ≡ suc n
+same_Some_list : {A : Type 0} (o : OrFault (List A)) (b : OrFault A) (vs : List A) → append_results (option_map singleton b) o ≡ Some vs → (n : ℕ) → ((ws : List A) → o ≡ Some ws → length ws ≡ n) → length vs ≡ suc n
 same_Some_list (Some ws) (Some v) vs e n h = let is : v ∷ ws ≡ vs = cc in ap (λ (l : List _). length l) (sym is) ∙ ap suc (h ws refl)
 same_Some_list (Some ws) None vs e n h = absurd cc
 same_Some_list None (Some v) vs e n h = absurd cc
@@ -100,7 +100,7 @@ module _ (all : List Aggregate) (row : Row) (old : List State) where
   takes_all now at same takes rows h all_done =
       record { long = same ∙ h.long; each = λ k a s here there. (takes rows h k a s here there).0 (omega (arith, slice_get_within all k a here)) }
 
-  pub room_left : (now : List State) (at : ℕ) (a : Aggregate) (s : State) → HaveRoom all old → Takes now at → slice_get all at ≡ Some a → slice_get now at ≡ Some s → counted s + 1 < 2 ^ 64
+  pub room_left : (now : List State) (at : ℕ) (a : Aggregate) (s : State) → CanCountOne all old → Takes now at → slice_get all at ≡ Some a → slice_get now at ≡ Some s → counted s + 1 < 2 ^ 64
   room_left now at a s room takes here there = omega (arith, room.few, counted_few a room.rows s ((takes room.rows room.are at a s here there).1 (omega arith)))
 
 -- ---- one more aggregate
@@ -140,7 +140,7 @@ found_at xs i inside = elim (slice_get_cases xs i).1 [
 ]
 
 module _ (key : Row) (all : List Aggregate) (rows : List Row) (states : List State) (are : AreStatesOf all rows states) (i : ℕ) (out : Row)
-    (so_far : followed (Some key) (each (aggregate rows) all) ≡ followed (Some out) (each (aggregate rows) (drop i all))) where
+    (so_far : append_results (Some key) (each (aggregate rows) all) ≡ append_results (Some out) (each (aggregate rows) (drop i all))) where
   module _ (s : State) (inside : i < length states) (at : s ≡ get_or states i s) where
     within : i < length all
     within = omega (arith, are.long)
@@ -151,15 +151,15 @@ module _ (key : Row) (all : List Aggregate) (rows : List Row) (states : List Sta
     is_state : IsStateOf here.0 rows s
     is_state = are.each i here.0 s here.1 (slice_get_read states (length states) i s refl inside at)
 
-    next : each (aggregate rows) (drop i all) ≡ followed (option_map only (aggregate rows here.0)) (each (aggregate rows) (drop (i + 1) all))
-    next = gathered_at (λ x. option_map only (aggregate rows x)) all i here.0 within here.2
+    next : each (aggregate rows) (drop i all) ≡ append_results (option_map singleton (aggregate rows here.0)) (each (aggregate rows) (drop (i + 1) all))
+    next = gathered_at (λ x. option_map singleton (aggregate rows x)) all i here.0 within here.2
 
-    pub outcome_more : (v : Value) → ((a : Aggregate) (rows : List Row) → IsStateOf a rows s → aggregate rows a ≡ Some v) → followed (Some key) (each (aggregate rows) all) ≡ followed (Some (out ++ v ∷ [])) (each (aggregate rows) (drop (i + 1) all))
-    outcome_more v gives = one_more _ _ _ _ out (v ∷ []) so_far next (ap (option_map only) (gives here.0 rows is_state))
+    pub outcome_more : (v : Value) → ((a : Aggregate) (rows : List Row) → IsStateOf a rows s → aggregate rows a ≡ Some v) → append_results (Some key) (each (aggregate rows) all) ≡ append_results (Some (out ++ v ∷ [])) (each (aggregate rows) (drop (i + 1) all))
+    outcome_more v gives = one_more _ _ _ _ out (v ∷ []) so_far next (ap (option_map singleton) (gives here.0 rows is_state))
 
-    pub outcome_fails : (why : Failure) → ((a : Aggregate) (rows : List Row) → IsStateOf a rows s → Gives (Err why) (aggregate rows a)) → Gives (Err why) (followed (Some key) (each (aggregate rows) all))
-    outcome_fails failure.Fault gives = one_fails failure.Fault _ _ _ _ out so_far next (ap (option_map only) (gives here.0 rows is_state))
+    pub outcome_fails : (why : Failure) → ((a : Aggregate) (rows : List Row) → IsStateOf a rows s → Gives (Err why) (aggregate rows a)) → Gives (Err why) (append_results (Some key) (each (aggregate rows) all))
+    outcome_fails failure.Fault gives = one_fails failure.Fault _ _ _ _ out so_far next (ap (option_map singleton) (gives here.0 rows is_state))
     outcome_fails failure.OutOfMemory gives = tt {0}
 
-  pub outcomes_end : length states ≤ i → followed (Some key) (each (aggregate rows) all) ≡ Some out
-  outcomes_end past = so_far ∙ ap (λ (l : List Aggregate). followed (Some out) (each (aggregate rows) l)) (drop_all i all (omega (arith, are.long))) ∙ ap (λ (l : Row). Some l) (append-nil out)
+  pub outcomes_end : length states ≤ i → append_results (Some key) (each (aggregate rows) all) ≡ Some out
+  outcomes_end past = so_far ∙ ap (λ (l : List Aggregate). append_results (Some out) (each (aggregate rows) l)) (drop_all i all (omega (arith, are.long))) ∙ ap (λ (l : Row). Some l) (append-nil out)

@@ -2,7 +2,7 @@
 use Rattle.std.specs.Prelude.{◌≡◌, Result, Ok, Err, Some, None, List}
 use Rattle.span_expr.specs.declared.cell.Failure.{Failure}
 use Rattle.span_expr.specs.declared.cell.Failure.TheVariants.{Fault, OutOfMemory}
-use Rattle.span_query.specs.Rows.{OrFault, followed}
+use Rattle.span_query.specs.Rows.{OrFault, append_results}
 
 -- It is what is meant, or its fault; nothing is stated where memory ran out.
 abbrev pub Gives : {A : Type 0} → Result A Failure → OrFault A → Type 0
@@ -12,6 +12,6 @@ Gives (Err OutOfMemory) o = Unit {0}
 
 -- What is meant was added to a list, or it is the fault; nothing is stated where memory ran out.
 abbrev pub Adds : {A : Type 0} → Result (Unit {0}) Failure → OrFault (List A) → List A → List A → Type 0
-Adds (Ok done) o old new = followed (Some old) o ≡ Some new
+Adds (Ok done) o old new = append_results (Some old) o ≡ Some new
 Adds (Err Fault) o old new = o ≡ None
 Adds (Err OutOfMemory) o old new = Unit {0}

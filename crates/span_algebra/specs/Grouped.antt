@@ -24,7 +24,7 @@ abbrev pub AreGroupsOf : Grouping → List Row → List Group → Type 0
 AreGroupsOf g rows groups = AreGroups g (group_keys g.keys rows) rows groups
 
 -- the number of rows taken is so small that one more can be counted
-pub record HaveRoomFor (g : Grouping) (groups : List Group) : Type 0 where
+pub record CanCountRow (g : Grouping) (groups : List Group) : Type 0 where
   pub rows : List Row
   pub are : AreGroupsOf g rows groups
   pub few : length rows + 1 < 2 ^ 64

@@ -62,7 +62,7 @@ pub record AreStatesOf (aggregates : List Aggregate) (rows : List Row) (states :
   pub each : (k : ℕ) (a : Aggregate) (s : State) → slice_get aggregates k ≡ Some a → slice_get states k ≡ Some s → IsStateOf a rows s
 
 -- the number of rows taken is so small that one more can be counted
-pub record HaveRoom (aggregates : List Aggregate) (states : List State) : Type 0 where
+pub record CanCountOne (aggregates : List Aggregate) (states : List State) : Type 0 where
   pub rows : List Row
   pub are : AreStatesOf aggregates rows states
   pub few : length rows + 1 < 2 ^ 64

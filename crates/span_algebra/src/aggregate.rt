@@ -4,7 +4,7 @@ ghost use Rattle.span_value.specs.declared.value.Value.{Value};
 ghost use Rattle.span_value.specs.declared.value.Value.TheVariants as value;
 ghost use Rattle.span_expr.specs.declared.cell.Failure.TheVariants.{Fault};
 ghost use Rattle.span_expr.specs.Operators.{number};
-ghost use Rattle.span_expr.specs.Cells.{shown};
+ghost use Rattle.span_expr.specs.Cells.{owned_value};
 ghost use Rattle.span_query.specs.declared.query.Aggregate.{Aggregate};
 ghost use Rattle.span_query.specs.declared.query.Function.{Function};
 ghost use Rattle.span_query.specs.Rows.{Row, value_of};
@@ -14,7 +14,7 @@ ghost use Rattle.span_algebra.specs.States.{counted, HasCounted, HasTaken, IsSta
 
 use super::row::copy_of;
 use super::sum::{Sum, number};
-use span_expr::cell::{Cell, Failure};
+use span_expr::cell::{LentValue, Failure};
 use span_expr::eval::evaluate;
 use span_query::query::{Aggregate, Function};
 use span_value::order::compare;
@@ -22,11 +22,11 @@ use span_value::value::Value;
 use std::alloc::{AllocError, Global};
 
 /// The number of an INT64 value.
-fn int_of(value: &Cell<'_>) -> i64
-    ensures { result ≡ spec.int_of (shown value.now) }
+fn int_of(value: &LentValue<'_>) -> i64
+    ensures { result ≡ spec.int_of (owned_value value.now) }
 {
     match value {
-        Cell::Int(n) => *n,
+        LentValue::Int(n) => *n,
         _ => 0,
     }
 }
@@ -97,9 +97,9 @@ impl State {
     }
 
     /// One more value that is not NULL. Only a least or a greatest value is kept, and so copied.
-    fn take_value(&mut self, alloc: Global, value: Cell<'_>) -> Result<(), AllocError>
+    fn take_value(&mut self, alloc: Global, value: LentValue<'_>) -> Result<(), AllocError>
         requires { counted self.old + 1 < 2 ^ 64 }
-        ensures { OnOk result ((f : Function) (vs : List Value) → HasTaken f vs self.old → HasTaken f (vs ++ shown value.entry ∷ []) self.new) }
+        ensures { OnOk result ((f : Function) (vs : List Value) → HasTaken f vs self.old → HasTaken f (vs ++ owned_value value.entry ∷ []) self.new) }
     {
         match self {
             State::Count(count) => *count += 1,

@@ -1,10 +1,10 @@
 //! What one SELECT makes of the rows of its FROM.
 ghost use Rattle.std.specs.Prelude.{◌≡◌, Some};
-ghost use Rattle.span_query.specs.Rows.{kept_where, selected};
-ghost use Rattle.span_query.specs.Groups.{grouped};
+ghost use Rattle.span_query.specs.Rows.{filter_where, project_rows};
+ghost use Rattle.span_query.specs.Groups.{group_rows};
 ghost use Rattle.span_query.specs.Meaning.{distinct_if};
 ghost use Rattle.span_algebra.specs.Answers.{Gives};
-ghost use Rattle.span_algebra.specs.Meant.{outputs_of, shown};
+ghost use Rattle.span_algebra.specs.Meant.{outputs_of, project_block};
 
 use super::distinct::distinct;
 use super::group::group_rows;
@@ -31,12 +31,12 @@ fn outputs_of(alloc: Global, block: &Block<BoundQuery>, rows: &[Row]) -> Result<
 }
 
 /// The output rows of a block, from the rows of its FROM.
-pub(crate) fn shown(
+pub(crate) fn project_block(
     alloc: Global,
     block: &Block<BoundQuery>,
     rows: &[Row],
 ) -> Result<Seq<Row>, Failure>
-    ensures { Gives result (shown block.now rows.now) }
+    ensures { Gives result (project_block block.now rows.now) }
 {
     let found = outputs_of(alloc, block, rows)?;
     if block.is_distinct {

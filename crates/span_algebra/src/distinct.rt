@@ -1,9 +1,9 @@
 //! Rows that are equal, and each row once.
 ghost use Rattle.std.specs.Prelude.{◌≡◌, IfOk, Some};
 ghost use Rattle.span_expr.specs.Operators.{column_of};
-ghost use Rattle.span_query.specs.Groups.{is_like, are_alike, distinct, columns_at};
+ghost use Rattle.span_query.specs.Groups.{is_equal, are_equal, distinct, columns_at};
 ghost use Rattle.span_algebra.specs.Answers.{Gives};
-ghost use Rattle.span_algebra.specs.Keys.{has_alike};
+ghost use Rattle.span_algebra.specs.Keys.{contains_row};
 
 use span_expr::cell::Failure;
 use span_value::order::compare;
@@ -12,32 +12,32 @@ use span_value::value::{Row, Value};
 use std::alloc::{AllocError, Global};
 
 /// Whether the two are the same value; NULL equals NULL.
-pub(crate) fn is_like(left: &Value, right: &Value) -> bool
-    ensures { result ≡ is_like left.now right.now }
+pub(crate) fn is_equal(left: &Value, right: &Value) -> bool
+    ensures { result ≡ is_equal left.now right.now }
 {
     compare(left, right).is_eq()
 }
 
 /// Whether the rows have the same number of values, each equal to the one at its place.
-fn are_alike(left: &[Value], right: &[Value]) -> bool
-    ensures { result ≡ are_alike left.now right.now }
+fn are_equal(left: &[Value], right: &[Value]) -> bool
+    ensures { result ≡ are_equal left.now right.now }
 {
     if left.len() != right.len() {
         return false;
     }
     for at in 0..left.len() {
-        if !is_like(&left[at], &right[at]) {
+        if !is_equal(&left[at], &right[at]) {
             return false;
         }
     }
     true
 }
 
-fn has_alike(rows: &[Row], row: &[Value]) -> bool
-    ensures { result ≡ has_alike rows.now row.now }
+fn contains_row(rows: &[Row], row: &[Value]) -> bool
+    ensures { result ≡ contains_row rows.now row.now }
 {
     for other in rows {
-        if are_alike(other.as_slice(), row) {
+        if are_equal(other.as_slice(), row) {
             return true;
         }
     }
@@ -45,12 +45,12 @@ fn has_alike(rows: &[Row], row: &[Value]) -> bool
 }
 
 #[tactic(auto, using(crate::proofs::Firsts::one_more))]
-fn first_ones(alloc: Global, rows: Vec<Row>) -> Result<Vec<Row>, AllocError>
+fn first_occurrences(alloc: Global, rows: Vec<Row>) -> Result<Vec<Row>, AllocError>
     ensures { IfOk result (λ kept. kept.items ≡ distinct rows.items) }
 {
     let mut kept = Vec::new(alloc);
     for row in rows {
-        if !has_alike(kept.as_slice(), row.as_slice()) {
+        if !contains_row(kept.as_slice(), row.as_slice()) {
             kept.push(row)?;
         }
     }
@@ -61,5 +61,5 @@ fn first_ones(alloc: Global, rows: Vec<Row>) -> Result<Vec<Row>, AllocError>
 pub(crate) fn distinct(alloc: Global, rows: Seq<Row>) -> Result<Seq<Row>, Failure>
     ensures { Gives result (Some (distinct rows)) }
 {
-    Ok(Seq::from_vec(first_ones(alloc, rows.into_vec())?))
+    Ok(Seq::from_vec(first_occurrences(alloc, rows.into_vec())?))
 }

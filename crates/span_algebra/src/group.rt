@@ -3,15 +3,15 @@ ghost use Rattle.std.specs.Prelude.{◌≡◌, [], ◌∷◌, ◌++◌, List, Er
 ghost use Rattle.span_expr.specs.declared.cell.Failure.TheVariants.{Fault};
 ghost use Rattle.span_expr.specs.Operators.{column_of};
 ghost use Rattle.span_query.specs.declared.query.Grouping.{Grouping};
-ghost use Rattle.span_query.specs.Rows.{Row, and_then, kept_where};
+ghost use Rattle.span_query.specs.Rows.{Row, and_then, filter_where};
 ghost use Rattle.span_query.specs.Groups as spec;
 ghost use Rattle.span_algebra.specs.Answers.{Gives};
 ghost use Rattle.span_algebra.specs.Keys as keys;
-ghost use Rattle.span_algebra.specs.States.{AreStatesOf, HaveRoom, operand_at};
-ghost use Rattle.span_algebra.specs.Grouped.{keys_of, AreGroupsOf, HaveRoomFor, HasPlace};
+ghost use Rattle.span_algebra.specs.States.{AreStatesOf, CanCountOne, operand_at};
+ghost use Rattle.span_algebra.specs.Grouped.{keys_of, AreGroupsOf, CanCountRow, HasPlace};
 
 use super::aggregate::State;
-use super::distinct::is_like;
+use super::distinct::is_equal;
 use super::row::{add, copy_of};
 use super::select::is_kept;
 use super::states::{new_states, row_with, take_all};
@@ -30,24 +30,24 @@ struct Group {
 }
 
 /// Whether the value equals the row's at a place; a place that the row does not have counts as NULL.
-fn is_like_at(value: &Value, row: &[Value], place: usize) -> bool
-    ensures { result ≡ spec.is_like value.now (column_of row.now place) }
+fn is_equal_at(value: &Value, row: &[Value], place: usize) -> bool
+    ensures { result ≡ spec.is_equal value.now (column_of row.now place) }
 {
     match row.get(place) {
-        Some(other) => is_like(value, other),
-        None => is_like(value, &Value::Null),
+        Some(other) => is_equal(value, other),
+        None => is_equal(value, &Value::Null),
     }
 }
 
 /// Whether the row has this key.
 fn has_key(key: &[Value], places: &[usize], row: &[Value]) -> bool
-    ensures { result ≡ spec.are_alike key.now (spec.columns_at places.now row.now) }
+    ensures { result ≡ spec.are_equal key.now (spec.columns_at places.now row.now) }
 {
     if key.len() != places.len() {
         return false;
     }
     for at in 0..key.len() {
-        if !is_like_at(&key[at], row, places[at]) {
+        if !is_equal_at(&key[at], row, places[at]) {
             return false;
         }
     }
@@ -103,7 +103,7 @@ impl Group {
         aggregates: &[Aggregate],
         row: &[Value],
     ) -> Result<(), Failure>
-        requires { HaveRoom aggregates.now self.old.states.items }
+        requires { CanCountOne aggregates.now self.old.states.items }
         ensures key { self.new.key ≡ self.old.key }
         ensures ok { OnOk result ((rows : List Row) → AreStatesOf aggregates.now rows self.old.states.items → AreStatesOf aggregates.now (rows ++ row.now ∷ []) self.new.states.items) }
         ensures fault { result ≡ Err Fault → Any (λ a. operand_at row.now a ≡ None) aggregates.now }
@@ -140,7 +140,7 @@ fn take_row(
     groups: &mut Vec<Group>,
     row: &[Value],
 ) -> Result<(), Failure>
-    requires { HaveRoomFor grouping.now groups.old.items }
+    requires { CanCountRow grouping.now groups.old.items }
     ensures ok { OnOk result ((rows : List Row) → AreGroupsOf grouping.now rows groups.old.items → AreGroupsOf grouping.now (rows ++ row.now ∷ []) groups.new.items) }
     ensures fault { result ≡ Err Fault → Any (λ a. operand_at row.now a ≡ None) grouping.now.aggregates }
 {
@@ -178,7 +178,7 @@ pub(crate) fn group_rows(
     grouping: &Grouping,
     rows: &[Row],
 ) -> Result<Seq<Row>, Failure>
-    ensures { Gives result (and_then (kept_where filter.now rows.now) (spec.groups grouping.now)) }
+    ensures { Gives result (and_then (filter_where filter.now rows.now) (spec.groups grouping.now)) }
 {
     let mut groups = first_groups(alloc, grouping)?;
     for row in rows {

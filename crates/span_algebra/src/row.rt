@@ -47,7 +47,7 @@ pub(crate) fn copy_of(alloc: Global, value: &Value) -> Result<Value, AllocError>
 }
 
 /// The values and then more.
-pub(crate) fn extended(
+pub(crate) fn extend_row(
     alloc: Global,
     mut row: Vec<Value>,
     more: &[Value],
@@ -61,20 +61,20 @@ pub(crate) fn extended(
 }
 
 /// A copy of the row.
-pub(crate) fn copied(alloc: Global, row: &[Value]) -> Result<Row, AllocError>
+pub(crate) fn copy_row(alloc: Global, row: &[Value]) -> Result<Row, AllocError>
     ensures { IfOk result (λ copy. copy ≡ row.now) }
 {
     let room = Vec::with_capacity(alloc, row.len())?;
-    Ok(Seq::from_vec(extended(alloc, room, row)?))
+    Ok(Seq::from_vec(extend_row(alloc, room, row)?))
 }
 
 /// A row, and `width` NULLs after it.
 #[tactic(auto, using(crate::proofs::Gathering::row_steps))]
-pub(crate) fn padded(alloc: Global, left: &[Value], width: usize) -> Result<Row, AllocError>
+pub(crate) fn pad_row(alloc: Global, left: &[Value], width: usize) -> Result<Row, AllocError>
     ensures { IfOk result (λ row. row ≡ left.now ++ replicate width Value.Null) }
 {
     let room = Vec::with_capacity(alloc, left.len().saturating_add(width))?;
-    let mut row = extended(alloc, room, left)?;
+    let mut row = extend_row(alloc, room, left)?;
     for _ in 0..width {
         row.push(Value::Null)?;
     }

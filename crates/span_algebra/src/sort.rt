@@ -7,7 +7,7 @@ ghost use Rattle.span_query.specs.Sorting as spec;
 ghost use Rattle.span_query.specs.Meaning as meaning;
 ghost use Rattle.span_query.specs.declared.query.SortKey.{SortKey};
 ghost use Rattle.span_algebra.specs.Answers.{Gives};
-ghost use Rattle.span_algebra.specs.Orders.{IsInOrder};
+ghost use Rattle.span_algebra.specs.Orders.{IsSorted};
 
 use span_expr::cell::Failure;
 use span_query::query::{Limit, SortKey};
@@ -58,8 +58,8 @@ pub(crate) fn sort_rows(keys: &[SortKey], rows: Seq<Row>) -> Result<Seq<Row>, Fa
 }
 
 /// A part of the rows: those passed over and those cut off are dropped, the others are moved.
-pub(crate) fn limited(limit: Option<Limit>, rows: Seq<Row>) -> Seq<Row>
-    ensures { result ≡ meaning.limited limit rows }
+pub(crate) fn limit_rows(limit: Option<Limit>, rows: Seq<Row>) -> Seq<Row>
+    ensures { result ≡ meaning.limit_rows limit rows }
 {
     let Some(limit) = limit else {
         return rows;
@@ -76,8 +76,8 @@ pub(crate) fn limited(limit: Option<Limit>, rows: Seq<Row>) -> Seq<Row>
 /// and no other list is so.
 pub fn sorting_is_stable()
     ensures ranked { (keys : List SortKey) → IsStrictWeakOrder (spec.comes_before keys) }
-    ensures sorted { (keys : List SortKey) (rows : List Row) → IsInOrder (spec.comes_before keys) (spec.sorted keys rows) }
+    ensures sorted { (keys : List SortKey) (rows : List Row) → IsSorted (spec.comes_before keys) (spec.sorted keys rows) }
     ensures stable { (keys : List SortKey) (rows : List Row) → IsStableBy (spec.comes_before keys) rows (spec.sorted keys rows) }
     ensures only { (keys : List SortKey) (rows others : List Row) →
-        IsInOrder (spec.comes_before keys) others → IsStableBy (spec.comes_before keys) rows others → others ≡ spec.sorted keys rows }
+        IsSorted (spec.comes_before keys) others → IsStableBy (spec.comes_before keys) rows others → others ≡ spec.sorted keys rows }
 {}

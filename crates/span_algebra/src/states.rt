@@ -5,7 +5,7 @@ ghost use Rattle.span_query.specs.declared.query.Aggregate.{Aggregate};
 ghost use Rattle.span_query.specs.Rows.{Row, and_then, each};
 ghost use Rattle.span_query.specs.Groups.{aggregate};
 ghost use Rattle.span_algebra.specs.Answers.{Gives};
-ghost use Rattle.span_algebra.specs.States.{AreStatesOf, HaveRoom, operand_at};
+ghost use Rattle.span_algebra.specs.States.{AreStatesOf, CanCountOne, operand_at};
 
 use super::aggregate::State;
 use super::row::add;
@@ -33,7 +33,7 @@ pub(crate) fn take_all(
     states: &mut Vec<State>,
     row: &[Value],
 ) -> Result<(), Failure>
-    requires { HaveRoom aggregates.now states.old.items }
+    requires { CanCountOne aggregates.now states.old.items }
     ensures ok { OnOk result ((rows : List Row) → AreStatesOf aggregates.now rows states.old.items → AreStatesOf aggregates.now (rows ++ row.now ∷ []) states.new.items) }
     ensures fault { result ≡ Err Fault → Any (λ a. operand_at row.now a ≡ None) aggregates.now }
 {

@@ -12,7 +12,7 @@ use Rattle.span_arena.specs.declared.record.ChainRecord.TheVariants as chain
 use Rattle.span_arena.specs.declared.record.Links.{Links}
 use Rattle.span_arena.specs.declared.record.Place.TheVariants.{Free, Linked}
 use Rattle.span_arena.specs.Content.{versions, versions_in, kept_upto, kept_by, kept_at, with_kept, sum_for, one_if, one_for, prepared_for}
-use Rattle.span_arena.specs.Runs.{walk, hop, IsRun, IsSomeRun, IsAbove, IsSound, IsCut, IsTrimming, node_at, blank, chain_of, record_at, links_at, links_of, prepared_of, content, total}
+use Rattle.span_arena.specs.Runs.{walk, follow, IsRun, IsSomeRun, IsAbove, IsSound, IsCut, IsTrimming, node_at, blank, chain_of, record_at, links_at, links_of, prepared_of, content, total}
 use Rattle.span_arena.proofs.Frames.{IsChanged, run_stays, walk_stays, free_stays, changed-set, linked_apart}
 use Rattle.span_arena.proofs.Counts.{length-walk, total-set}
 use Rattle.span_arena.proofs.Chains.{used_in_range, links_were, links_here, links_elsewhere, chain_at, chains_stay}
@@ -26,7 +26,7 @@ pub record IsSplit (f : ℕ → NodeRecord) (rank : ℕ → ℕ) (c bound k r h 
   pub low : ℕ
   pub lower : low ≤ bound
   pub above : IsAbove f rank low k h
-  pub rest : IsRun f rank c low r (hop f k h)
+  pub rest : IsRun f rank c low r (follow f k h)
 
 pub split : (f : ℕ → NodeRecord) (rank : ℕ → ℕ) (c bound k r h : ℕ) → IsRun f rank c bound (k + r) h → IsSplit f rank c bound k r h
 split f rank c bound zero r h run = record { front = tt; low = bound; lower = omega arith; above = tt; rest = subst (λ n. IsRun f rank c bound n h) {x = zero + r} {y = r} (omega arith) run }
@@ -35,13 +35,13 @@ split f rank c bound (suc k) r h run =
     let again : IsSplit f rank c (rank h) k r (f h).next = split f rank c (rank h) k r (f h).next run2.2 in
     record { front = (run2.0, run2.1, again.front); low = again.low; lower = omega (arith, again.lower, run2.1); above = (again.lower, again.above); rest = again.rest }
 
-walk-snoc : (f : ℕ → NodeRecord) (k h : ℕ) → walk f (suc k) h ≡ walk f k h ++ (f (hop f k h)).version ∷ []
+walk-snoc : (f : ℕ → NodeRecord) (k h : ℕ) → walk f (suc k) h ≡ walk f k h ++ (f (follow f k h)).version ∷ []
 walk-snoc f zero h = refl
 walk-snoc f (suc k) h = ap (λ vs. (f h).version ∷ vs) (walk-snoc f k (f h).next)
 
-hop-snoc : (f : ℕ → NodeRecord) (k h : ℕ) → hop f (suc k) h ≡ (f (hop f k h)).next
-hop-snoc f zero h = refl
-hop-snoc f (suc k) h = hop-snoc f k (f h).next
+follow-snoc : (f : ℕ → NodeRecord) (k h : ℕ) → follow f (suc k) h ≡ (f (follow f k h)).next
+follow-snoc f zero h = refl
+follow-snoc f (suc k) h = follow-snoc f k (f h).next
 
 -- a version with an image is kept at the horizon, and a deletion is not
 kept_some : (v : Version) (image : Option (List ℕ)) → is_some image ≡ true → kept_at v image ≡ v ∷ []
@@ -52,7 +52,7 @@ kept_none : (v : Version) (image : Option (List ℕ)) → is_some image ≡ fals
 kept_none v None h = refl
 kept_none v (Some image) h = absurd (let q : true ≡ false = h in cc)
 
-module _ (nodes : List NodeRecord) (h count s : ℕ) (on : IsSomeRun (node_at nodes) count h) (kept at : ℕ) (lt : kept < count) (here : at ≡ hop (node_at nodes) kept h) where
+module _ (nodes : List NodeRecord) (h count s : ℕ) (on : IsSomeRun (node_at nodes) count h) (kept at : ℕ) (lt : kept < count) (here : at ≡ follow (node_at nodes) kept h) where
   parts : IsSplit (node_at nodes) on.rank on.chain on.bound kept (suc (count - (kept + 1))) h
   parts = split (node_at nodes) on.rank on.chain on.bound kept (suc (count - (kept + 1))) h (let e : count ≡ kept + suc (count - (kept + 1)) = omega arith in subst (λ n. IsRun (node_at nodes) on.rank on.chain on.bound n h) {x = count} {y = kept + suc (count - (kept + 1))} e on.run)
 
@@ -62,8 +62,8 @@ module _ (nodes : List NodeRecord) (h count s : ℕ) (on : IsSomeRun (node_at no
   left_is : count - kept ≡ suc (count - (kept + 1))
   left_is = omega arith
 
-  pub cut_here : hop (node_at nodes) (kept + 1) h ≡ (node_at nodes at).next
-  cut_here = rw (add-one, hop-snoc (node_at nodes) kept h, ← here) refl
+  pub cut_here : follow (node_at nodes) (kept + 1) h ≡ (node_at nodes at).next
+  cut_here = rw (add-one, follow-snoc (node_at nodes) kept h, ← here) refl
 
   front_more : walk (node_at nodes) (kept + 1) h ≡ walk (node_at nodes) kept h ++ (node_at nodes at).version ∷ []
   front_more = rw (add-one, walk-snoc (node_at nodes) kept h, ← here) refl

@@ -109,9 +109,9 @@ pub record AreSpare (rs : List ChainRecord) (spare spare_count : ℕ) : Type 0 w
   pub counted : spare_count + used_count rs ≡ length rs
 
 -- k links on from node h
-abbrev pub hop : (ℕ → NodeRecord) → ℕ → ℕ → ℕ
-hop f zero h = h
-hop f (suc k) h = hop f k (f h).next
+abbrev pub follow : (ℕ → NodeRecord) → ℕ → ℕ → ℕ
+follow f zero h = h
+follow f (suc k) h = follow f k (f h).next
 
 -- k nodes from h on have a rank of at least low
 abbrev pub IsAbove : (ℕ → NodeRecord) → (ℕ → ℕ) → ℕ → ℕ → ℕ → Type 0
@@ -121,7 +121,7 @@ IsAbove f rank low (suc k) h = (low ≤ rank h) × IsAbove f rank low k (f h).ne
 -- where a chain is cut
 pub record IsCut (f : ℕ → NodeRecord) (h count : ℕ) (horizon : Option ℕ) (kept at : ℕ) : Type 0 where
   pub within : kept ≤ count
-  pub here : at ≡ hop f kept h
+  pub here : at ≡ follow f kept h
   pub same : walk f kept h ≡ kept_by horizon (walk f count h)
 
 -- the state while nodes of a chain are freed: `left` nodes from `at` on are in no chain any more

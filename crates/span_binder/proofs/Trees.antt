@@ -16,16 +16,16 @@ use Rattle.span_parser.specs.declared.tree.Item.TheOpen.{Query-F, Block-F, Item-
 use Rattle.span_parser.specs.declared.tree.Item.TheViews.{out-Query, out-Block}
 use Rattle.span_parser.specs.declared.tree.Item.TheFolds.{fold-Item, fold-Block, fold-Join, fold-Query, fold_out-Query, fold_out-Block, fold_out-Join, fold-roll-Item, map-Block, map-Query}
 use Rattle.span_typing.specs.Steps.{Gives, and_then}
-use Rattle.span_binder.specs.declared.bound.Bound.{Bound}
+use Rattle.span_binder.specs.declared.bound.TypedQuery.{TypedQuery}
 use Rattle.span_binder.specs.declared.bound.BoundBlock.{BoundBlock}
 use Rattle.span_binder.specs.declared.bound.BoundBlocks.{BoundBlocks}
 use Rattle.span_binder.specs.declared.bound.FromItems.{FromItems}
 use Rattle.span_binder.specs.declared.bound.Source.{Source}
-use Rattle.span_binder.specs.Onward.{onward}
-use Rattle.span_binder.specs.Sources.{named_source, derived_source, started}
+use Rattle.span_binder.specs.Onward.{fold_results}
+use Rattle.span_binder.specs.Sources.{named_source, derived_source, start_from}
 use Rattle.span_binder.specs.Aggregating.{is_grouped}
-use Rattle.span_binder.specs.Blocks.{Behind, behind, behind_of, block_behind}
-use Rattle.span_binder.specs.Queries.{ItemStep, JoinStep, BlockStep, QueryStep, item_at, block_at, join_at, query_at, item_step, block_step, query_step, join_step, next_join, next_block, query_behind, only_block}
+use Rattle.span_binder.specs.Blocks.{BlockTail, block_tail, block_tail_of, bind_block}
+use Rattle.span_binder.specs.Queries.{ItemStep, JoinStep, BlockStep, QueryStep, item_at, block_at, join_at, query_at, item_step, block_step, query_step, join_step, next_join, next_block, bind_query, only_block}
 use Rattle.span_binder.proofs.Giving.{gives_on}
 
 module _ (schema : List Table) (params : List Parameter) where
@@ -143,7 +143,7 @@ module _ (schema : List Table) (params : List Parameter) where
       subst (λ (i : Item). Gives r (item_step schema params i leaves)) (sym is)
       (subst (λ (s : ItemStep). Gives r (s leaves)) (sym (table_is name alias)) g)
 
-  pub gives_derived : (tree : Item) (q read : Query) (name : Spelling) (leaves : List ℕ) (found : Result (Bound × List ℕ) Refusal) (r : Result (Source × List ℕ) Refusal)
+  pub gives_derived : (tree : Item) (q read : Query) (name : Spelling) (leaves : List ℕ) (found : Result (TypedQuery × List ℕ) Refusal) (r : Result (Source × List ℕ) Refusal)
       → tree ≡ item.Derived q name → read ≡ q → Gives found (query_step schema params read leaves) → Gives r (and_then found (λ p. Ok (derived_source name p.0, p.1)))
       → Gives r (item_step schema params tree leaves)
   gives_derived tree q read name leaves found r is same f g =
@@ -152,49 +152,49 @@ module _ (schema : List Table) (params : List Parameter) where
       (subst (λ (s : ItemStep). Gives r (s leaves)) (sym (derived_is q name))
       (subst (λ (x : Query). Gives r (and_then (query_step schema params x leaves) (λ p. Ok (derived_source name p.0, p.1)))) same whole))
 
-  behind_kept : (d : Block-F Item Block Join Query) → behind_of (λ (j : JoinStep). j.on) (block_layer d) ≡ behind_of (λ (j : Join). j.on) d
+  behind_kept : (d : Block-F Item Block Join Query) → block_tail_of (λ (j : JoinStep). j.on) (block_layer d) ≡ block_tail_of (λ (j : Join). j.on) d
   behind_kept d =
       ap (λ (ons : List Expr). record { is_grouped = is_grouped d.groups d.having d.filter d.outputs ons; is_distinct = d.is_distinct; outputs = d.outputs; filter = d.filter; groups = d.groups; having = d.having })
       (ons_kept d.joins)
 
-  abbrev after_from : Block → List ℕ → List Join → Behind → Result (BoundBlock × List ℕ) Refusal
+  abbrev after_from : Block → List ℕ → List Join → BlockTail → Result (BoundBlock × List ℕ) Refusal
   after_from b leaves js x =
-      and_then (and_then (and_then (item_step schema params (out-Block b).from leaves) (λ p. Ok (started p.0, p.1))) (onward (next_join params) (map (join_step schema params) js)))
-      (λ p. and_then (block_behind params x p.0) (λ y. Ok (y, p.1)))
+      and_then (and_then (and_then (item_step schema params (out-Block b).from leaves) (λ p. Ok (start_from p.0, p.1))) (fold_results (next_join params) (map (join_step schema params) js)))
+      (λ p. and_then (bind_block params x p.0) (λ y. Ok (y, p.1)))
 
-  abbrev after_blocks : Query → List ℕ → List Block → List SortKey → Result (Bound × List ℕ) Refusal
+  abbrev after_blocks : Query → List ℕ → List Block → List SortKey → Result (TypedQuery × List ℕ) Refusal
   after_blocks q leaves bs order =
-      and_then (and_then (and_then (block_step schema params (out-Query q).first leaves) (λ p. Ok (only_block p.0, p.1))) (onward next_block (map (block_step schema params) bs)))
-      (λ p. and_then (query_behind p.0 order (out-Query q).limit) (λ y. Ok (y, p.1)))
+      and_then (and_then (and_then (block_step schema params (out-Query q).first leaves) (λ p. Ok (only_block p.0, p.1))) (fold_results next_block (map (block_step schema params) bs)))
+      (λ p. and_then (bind_query p.0 order (out-Query q).limit) (λ y. Ok (y, p.1)))
 
   pub gives_block : (b : Block) (leaves : List ℕ) (js : List Join) (first : Result (Source × List ℕ) Refusal) (one from : Result (FromItems × List ℕ) Refusal) (r : Result (BoundBlock × List ℕ) Refusal)
       → js ≡ (out-Block b).joins
       → Gives first (item_step schema params (out-Block b).from leaves)
-      → Gives one (and_then first (λ p. Ok (started p.0, p.1)))
-      → Gives from (and_then one (onward (next_join params) (map (join_step schema params) js)))
-      → Gives r (and_then from (λ p. and_then (block_behind params (behind b) p.0) (λ x. Ok (x, p.1))))
+      → Gives one (and_then first (λ p. Ok (start_from p.0, p.1)))
+      → Gives from (and_then one (fold_results (next_join params) (map (join_step schema params) js)))
+      → Gives r (and_then from (λ p. and_then (bind_block params (block_tail b) p.0) (λ x. Ok (x, p.1))))
       → Gives r (block_step schema params b leaves)
   gives_block b leaves js first one from r same f g h k =
       let d : Block-F Item Block Join Query = out-Block b in
-      let started_on : Gives one (and_then (item_step schema params d.from leaves) (λ p. Ok (started p.0, p.1))) = gives_on first (item_step schema params d.from leaves) _ one f g in
-      let joined_on : Gives from (and_then (and_then (item_step schema params d.from leaves) (λ p. Ok (started p.0, p.1))) (onward (next_join params) (map (join_step schema params) js))) = gives_on one _ _ from started_on h in
-      let whole : Gives r (after_from b leaves js (behind b)) = gives_on from _ _ r joined_on k in
+      let started_on : Gives one (and_then (item_step schema params d.from leaves) (λ p. Ok (start_from p.0, p.1))) = gives_on first (item_step schema params d.from leaves) _ one f g in
+      let joined_on : Gives from (and_then (and_then (item_step schema params d.from leaves) (λ p. Ok (start_from p.0, p.1))) (fold_results (next_join params) (map (join_step schema params) js))) = gives_on one _ _ from started_on h in
+      let whole : Gives r (after_from b leaves js (block_tail b)) = gives_on from _ _ r joined_on k in
       subst (λ (s : BlockStep). Gives r (s leaves)) (sym (block_is b))
-      (subst (λ (x : Behind). Gives r (after_from b leaves d.joins x)) (sym (behind_kept d))
-      (subst (λ (l : List Join). Gives r (after_from b leaves l (behind b))) same whole))
+      (subst (λ (x : BlockTail). Gives r (after_from b leaves d.joins x)) (sym (behind_kept d))
+      (subst (λ (l : List Join). Gives r (after_from b leaves l (block_tail b))) same whole))
 
-  pub gives_query : (q : Query) (leaves : List ℕ) (bs : List Block) (order : List SortKey) (first : Result (BoundBlock × List ℕ) Refusal) (one all : Result (BoundBlocks × List ℕ) Refusal) (r : Result (Bound × List ℕ) Refusal)
+  pub gives_query : (q : Query) (leaves : List ℕ) (bs : List Block) (order : List SortKey) (first : Result (BoundBlock × List ℕ) Refusal) (one all : Result (BoundBlocks × List ℕ) Refusal) (r : Result (TypedQuery × List ℕ) Refusal)
       → bs ≡ (out-Query q).others
       → order ≡ (out-Query q).order
       → Gives first (block_step schema params (out-Query q).first leaves)
       → Gives one (and_then first (λ p. Ok (only_block p.0, p.1)))
-      → Gives all (and_then one (onward next_block (map (block_step schema params) bs)))
-      → Gives r (and_then all (λ p. and_then (query_behind p.0 order (out-Query q).limit) (λ x. Ok (x, p.1))))
+      → Gives all (and_then one (fold_results next_block (map (block_step schema params) bs)))
+      → Gives r (and_then all (λ p. and_then (bind_query p.0 order (out-Query q).limit) (λ x. Ok (x, p.1))))
       → Gives r (query_step schema params q leaves)
   gives_query q leaves bs order first one all r same by f g h k =
       let d : Query-F Item Block Join Query = out-Query q in
       let first_on : Gives one (and_then (block_step schema params d.first leaves) (λ p. Ok (only_block p.0, p.1))) = gives_on first (block_step schema params d.first leaves) _ one f g in
-      let all_on : Gives all (and_then (and_then (block_step schema params d.first leaves) (λ p. Ok (only_block p.0, p.1))) (onward next_block (map (block_step schema params) bs))) = gives_on one _ _ all first_on h in
+      let all_on : Gives all (and_then (and_then (block_step schema params d.first leaves) (λ p. Ok (only_block p.0, p.1))) (fold_results next_block (map (block_step schema params) bs))) = gives_on one _ _ all first_on h in
       let whole : Gives r (after_blocks q leaves bs order) = gives_on all _ _ r all_on k in
       subst (λ (s : QueryStep). Gives r (s leaves)) (sym (query_is q))
       (subst (λ (l : List Block). Gives r (after_blocks q leaves l d.order)) same

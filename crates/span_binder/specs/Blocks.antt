@@ -24,10 +24,10 @@ use Rattle.span_typing.specs.Steps.{and_then}
 use Rattle.span_typing.specs.Typing.{Finds, typing}
 use Rattle.span_binder.specs.declared.bound.OutputColumn.{OutputColumn}
 use Rattle.span_binder.specs.declared.bound.FromItems.{FromItems}
-use Rattle.span_binder.specs.declared.bound.Shown.{Shown}
+use Rattle.span_binder.specs.declared.bound.SelectItem.{SelectItem}
 use Rattle.span_binder.specs.declared.bound.BoundBlock.{BoundBlock}
 use Rattle.span_binder.specs.declared.bound.Parts.{Parts}
-use Rattle.span_binder.specs.Sources.{judged, condition}
+use Rattle.span_binder.specs.Sources.{check_bool, condition}
 use Rattle.span_binder.specs.Aggregating.{is_grouped, mode_of}
 use Rattle.span_binder.specs.Outputs.{select_list}
 
@@ -59,7 +59,7 @@ filter_of scope params (Some e) = and_then (condition scope params e) (λ x. Ok 
 -- HAVING is at rows of the groups; its aggregates follow those of the select list
 unfoldable pub having_of : Scope → List Parameter → Option Expr → Finds (Option TypedExpr)
 having_of scope params None found = Ok (None, found)
-having_of scope params (Some e) found = and_then (typing scope params e Groups found) (λ p. and_then (judged p.0) (λ x. Ok (Some x, p.1)))
+having_of scope params (Some e) found = and_then (typing scope params e Groups found) (λ p. and_then (check_bool p.0) (λ x. Ok (Some x, p.1)))
 
 -- ---- blocks
 
@@ -67,14 +67,14 @@ abbrev pub grouping_of : Bool → List ℕ → Option TypedExpr → List Aggrega
 grouping_of true keys having found = Some (record { keys = keys; aggregates = found; having = having })
 grouping_of false keys having found = None
 
-abbrev pub exprs_shown : List Shown → List TypedExpr
-exprs_shown shown = map (λ (s : Shown). s.expr) shown
+abbrev pub projected_exprs : List SelectItem → List TypedExpr
+projected_exprs projection = map (λ (s : SelectItem). s.expr) projection
 
-abbrev pub columns_shown : List Shown → List OutputColumn
-columns_shown shown = map (λ (s : Shown). s.column) shown
+abbrev pub projected_columns : List SelectItem → List OutputColumn
+projected_columns projection = map (λ (s : SelectItem). s.column) projection
 
 -- the clauses of a block after its FROM
-pub record Behind : Type 0 where
+pub record BlockTail : Type 0 where
   pub is_grouped : Bool
   pub is_distinct : Bool
   pub outputs : List Output
@@ -85,8 +85,8 @@ pub record Behind : Type 0 where
 abbrev pub ons_of : List Join → List Expr
 ons_of joins = map (λ (j : Join). j.on) joins
 
-abbrev pub behind_of : {I B J Q : Type 0} → (J → Expr) → Block-F I B J Q → Behind
-behind_of on b =
+abbrev pub block_tail_of : {I B J Q : Type 0} → (J → Expr) → Block-F I B J Q → BlockTail
+block_tail_of on b =
     record {
       is_grouped = is_grouped b.groups b.having b.filter b.outputs (map on b.joins);
       is_distinct = b.is_distinct;
@@ -96,34 +96,34 @@ behind_of on b =
       having = b.having;
     }
 
-abbrev pub behind : Block → Behind
-behind b = behind_of (λ (j : Join). j.on) (out-Block b)
+abbrev pub block_tail : Block → BlockTail
+block_tail b = block_tail_of (λ (j : Join). j.on) (out-Block b)
 
 -- the typed clauses after the FROM, in the order in which faults are looked for
-unfoldable pub parts_behind : Scope → List Parameter → Mode → Behind → Result Parts Refusal
-parts_behind scope params m b =
-    and_then (select_list scope params m b.outputs) (λ shown.
+unfoldable pub bind_parts : Scope → List Parameter → Mode → BlockTail → Result Parts Refusal
+bind_parts scope params m b =
+    and_then (select_list scope params m b.outputs) (λ projection.
     and_then (filter_of scope params b.filter) (λ filter.
     and_then (groups_named scope b.groups) (λ t.
-    and_then (having_of scope params b.having shown.1) (λ having.
-    Ok (record { shown = shown.0; filter = filter; having = having.0; aggregates = having.1 })))))
+    and_then (having_of scope params b.having projection.1) (λ having.
+    Ok (record { projection = projection.0; filter = filter; having = having.0; aggregates = having.1 })))))
 
-abbrev pub block_parted : Item BoundQuery → List (BoundJoin BoundQuery) → Bool → Bool → List ℕ → Parts → BoundBlock
-block_parted first joins is_distinct is_grouped keys parts =
+abbrev pub block_of : Item BoundQuery → List (BoundJoin BoundQuery) → Bool → Bool → List ℕ → Parts → BoundBlock
+block_of first joins is_distinct is_grouped keys parts =
     record {
       block = record {
         from = first;
         joins = joins;
         filter = parts.filter;
         grouping = grouping_of is_grouped keys parts.having parts.aggregates;
-        outputs = exprs_shown parts.shown;
+        outputs = projected_exprs parts.projection;
         is_distinct = is_distinct;
       };
-      columns = columns_shown parts.shown;
+      columns = projected_columns parts.projection;
     }
 
-unfoldable pub block_in : List Parameter → Behind → FromItems → List ℕ → Result BoundBlock Refusal
-block_in params b f keys = and_then (parts_behind (with_keys f.scope keys) params (mode_of b.is_grouped) b) (λ parts. Ok (block_parted f.first f.joins b.is_distinct b.is_grouped keys parts))
+unfoldable pub block_in : List Parameter → BlockTail → FromItems → List ℕ → Result BoundBlock Refusal
+block_in params b f keys = and_then (bind_parts (with_keys f.scope keys) params (mode_of b.is_grouped) b) (λ parts. Ok (block_of f.first f.joins b.is_distinct b.is_grouped keys parts))
 
-unfoldable pub block_behind : List Parameter → Behind → FromItems → Result BoundBlock Refusal
-block_behind params b f = block_in params b f (group_places f.scope b.groups)
+unfoldable pub bind_block : List Parameter → BlockTail → FromItems → Result BoundBlock Refusal
+bind_block params b f = block_in params b f (group_places f.scope b.groups)

@@ -16,14 +16,14 @@ use Rattle.span_typing.specs.declared.typed.Typed.{Typed}
 use Rattle.span_typing.specs.declared.typed.Mode.{Mode}
 use Rattle.span_typing.specs.Kinds.{or_int}
 use Rattle.span_typing.specs.Scopes.{item_named}
-use Rattle.span_typing.specs.Steps.{and_then, pure, given, ◌>>=◌}
+use Rattle.span_typing.specs.Steps.{and_then, pure, from_result, ◌>>=◌}
 use Rattle.span_typing.specs.Typing.{Finds, typing, column_at}
-use Rattle.span_binder.specs.declared.bound.Shown.{Shown}
-use Rattle.span_binder.specs.Onward.{onward, each_of}
+use Rattle.span_binder.specs.declared.bound.SelectItem.{SelectItem}
+use Rattle.span_binder.specs.Onward.{fold_results, each_of}
 
 -- an expression, and its column; a NULL literal is INT64
-abbrev pub shown : Option (List ℕ) → Typed → Shown
-shown name x = record { expr = x.expr; column = record { name = name; kind = or_int x.kind } }
+abbrev pub projection : Option (List ℕ) → Typed → SelectItem
+projection name x = record { expr = x.expr; column = record { name = name; kind = or_int x.kind } }
 
 -- ---- stars
 
@@ -32,11 +32,11 @@ or_nameless None = None
 or_nameless (Some c) = c.name
 
 -- the column at a place of the FROM
-abbrev pub column_shown : Scope → Mode → ℕ → Result Shown Refusal
-column_shown scope m place = and_then (column_at scope m place) (λ x. Ok (shown (or_nameless (slice_get scope.columns place)) x))
+abbrev pub projected_column : Scope → Mode → ℕ → Result SelectItem Refusal
+projected_column scope m place = and_then (column_at scope m place) (λ x. Ok (projection (or_nameless (slice_get scope.columns place)) x))
 
-unfoldable pub columns_shown : Scope → Mode → List ℕ → Result (List Shown) Refusal
-columns_shown scope m places = each_of (column_shown scope m) places
+unfoldable pub projected_columns : Scope → Mode → List ℕ → Result (List SelectItem) Refusal
+projected_columns scope m places = each_of (projected_column scope m) places
 
 abbrev pub all_places : Scope → List ℕ
 all_places scope = range_with_len 0 (length scope.columns)
@@ -53,28 +53,28 @@ item_places scope (Some item) = Ok (places_of item 0 scope.columns)
 -- ---- the select list
 
 -- an alias, or else the name of a bare column
-abbrev pub name_shown : Expr → Option Spelling → Option (List ℕ)
-name_shown e (Some alias) = Some alias.text
-name_shown (tree.Column c) None = Some c.name.text
-name_shown e None = None
+abbrev pub output_name : Expr → Option Spelling → Option (List ℕ)
+output_name e (Some alias) = Some alias.text
+output_name (tree.Column c) None = Some c.name.text
+output_name e None = None
 
-unfoldable pub all_shown : Scope → Mode → Result (List Shown) Refusal
-all_shown scope m = columns_shown scope m (all_places scope)
+unfoldable pub project_all : Scope → Mode → Result (List SelectItem) Refusal
+project_all scope m = projected_columns scope m (all_places scope)
 
-unfoldable pub item_shown : Scope → Mode → List ℕ → Result (List Shown) Refusal
-item_shown scope m name = and_then (item_places scope (item_named scope name)) (columns_shown scope m)
+unfoldable pub project_item : Scope → Mode → List ℕ → Result (List SelectItem) Refusal
+project_item scope m name = and_then (item_places scope (item_named scope name)) (projected_columns scope m)
 
-unfoldable pub value_shown : Scope → List Parameter → Mode → Expr → Option Spelling → Finds (List Shown)
-value_shown scope params m e alias = typing scope params e m >>= (λ x. pure (shown (name_shown e alias) x ∷ []))
+unfoldable pub project_value : Scope → List Parameter → Mode → Expr → Option Spelling → Finds (List SelectItem)
+project_value scope params m e alias = typing scope params e m >>= (λ x. pure (projection (output_name e alias) x ∷ []))
 
-abbrev pub output_shown : Scope → List Parameter → Mode → Output → Finds (List Shown)
-output_shown scope params m output.All = given (all_shown scope m)
-output_shown scope params m (output.AllOf item) = given (item_shown scope m item.text)
-output_shown scope params m (output.Value e alias) = value_shown scope params m e alias
+abbrev pub project_output : Scope → List Parameter → Mode → Output → Finds (List SelectItem)
+project_output scope params m output.All = from_result (project_all scope m)
+project_output scope params m (output.AllOf item) = from_result (project_item scope m item.text)
+project_output scope params m (output.Value e alias) = project_value scope params m e alias
 
 -- the output of one more item of a select list, after the output and the aggregates found before
-abbrev pub next_shown : Scope → List Parameter → Mode → List Shown × List Aggregate → Output → Result (List Shown × List Aggregate) Refusal
-next_shown scope params m so_far o = and_then (output_shown scope params m o so_far.1) (λ p. Ok (so_far.0 ++ p.0, p.1))
+abbrev pub project_next : Scope → List Parameter → Mode → List SelectItem × List Aggregate → Output → Result (List SelectItem × List Aggregate) Refusal
+project_next scope params m so_far o = and_then (project_output scope params m o so_far.1) (λ p. Ok (so_far.0 ++ p.0, p.1))
 
-unfoldable pub select_list : Scope → List Parameter → Mode → List Output → Result (List Shown × List Aggregate) Refusal
-select_list scope params m outputs = onward (next_shown scope params m) outputs ([], [])
+unfoldable pub select_list : Scope → List Parameter → Mode → List Output → Result (List SelectItem × List Aggregate) Refusal
+select_list scope params m outputs = fold_results (project_next scope params m) outputs ([], [])

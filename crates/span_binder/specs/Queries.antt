@@ -31,12 +31,12 @@ use Rattle.span_typing.specs.Steps.{and_then}
 use Rattle.span_binder.specs.declared.bound.OutputColumn.{OutputColumn}
 use Rattle.span_binder.specs.declared.bound.Source.{Source}
 use Rattle.span_binder.specs.declared.bound.FromItems.{FromItems}
-use Rattle.span_binder.specs.declared.bound.Bound.{Bound}
+use Rattle.span_binder.specs.declared.bound.TypedQuery.{TypedQuery}
 use Rattle.span_binder.specs.declared.bound.BoundBlock.{BoundBlock}
 use Rattle.span_binder.specs.declared.bound.BoundBlocks.{BoundBlocks}
-use Rattle.span_binder.specs.Onward.{onward, each_of}
-use Rattle.span_binder.specs.Sources.{Naming, named_source, derived_source, started, extended}
-use Rattle.span_binder.specs.Blocks.{behind_of, block_behind}
+use Rattle.span_binder.specs.Onward.{fold_results, each_of}
+use Rattle.span_binder.specs.Sources.{Naming, named_source, derived_source, start_from, add_item}
+use Rattle.span_binder.specs.Blocks.{block_tail_of, bind_block}
 
 -- ---- unions
 
@@ -44,12 +44,12 @@ abbrev pub have_same_kind : OutputColumn × OutputColumn → Bool
 have_same_kind p = sameb kind_type p.0.kind p.1.kind
 
 -- as many columns, each of the type of the other at its place
-abbrev pub same_kinds : List OutputColumn → List OutputColumn → Bool
-same_kinds cs ds = (length cs == length ds) && list_all have_same_kind (zip cs ds)
+abbrev pub have_same_kinds : List OutputColumn → List OutputColumn → Bool
+have_same_kinds cs ds = (length cs == length ds) && list_all have_same_kind (zip cs ds)
 
 -- all blocks give as many columns as the first, of the same types
-unfoldable pub united : BoundBlocks → Bool
-united b = list_all (λ (other : BoundBlock). same_kinds b.first.columns other.columns) b.others
+unfoldable pub are_union_compatible : BoundBlocks → Bool
+are_union_compatible b = list_all (λ (other : BoundBlock). have_same_kinds b.first.columns other.columns) b.others
 
 -- ---- ORDER BY
 
@@ -79,14 +79,14 @@ limit_of l = record { rows = l.rows; skip = l.skip }
 abbrev pub blocks_of : List BoundBlock → List (TypedBlock BoundQuery)
 blocks_of bound = map (λ (b : BoundBlock). b.block) bound
 
-abbrev pub query_of : BoundBlocks → List BoundKey → Option Limit → Bound
+abbrev pub query_of : BoundBlocks → List BoundKey → Option Limit → TypedQuery
 query_of b order limit = record {
   query = roll-BoundQuery (record { first = b.first.block; others = blocks_of b.others; order = order; limit = option_map limit_of limit });
   columns = b.first.columns;
 }
 
-unfoldable pub query_behind : BoundBlocks → List SortKey → Option Limit → Result Bound Refusal
-query_behind b order limit = if united b then and_then (sort_keys b.first.columns order) (λ keys. Ok (query_of b keys limit)) else Err ColumnsDiffer
+unfoldable pub bind_query : BoundBlocks → List SortKey → Option Limit → Result TypedQuery Refusal
+bind_query b order limit = if are_union_compatible b then and_then (sort_keys b.first.columns order) (λ keys. Ok (query_of b keys limit)) else Err ColumnsDiffer
 
 -- ---- blocks of a query
 
@@ -111,7 +111,7 @@ abbrev pub BlockStep : Type 0
 BlockStep = Naming BoundBlock
 
 abbrev pub QueryStep : Type 0
-QueryStep = Naming Bound
+QueryStep = Naming TypedQuery
 
 abbrev pub item_at : List Table → Item-F ItemStep BlockStep JoinStep QueryStep → ItemStep
 item_at schema (Item-F.Table name alias) leaves = named_source schema name alias leaves
@@ -122,23 +122,23 @@ join_at j = record { is_left = j.is_left; item = j.item; on = j.on }
 
 -- the item and then its ON
 abbrev pub next_join : List Parameter → FromItems × List ℕ → JoinStep → Result (FromItems × List ℕ) Refusal
-next_join params so_far j = and_then (j.item so_far.1) (λ p. and_then (extended params so_far.0 j.is_left p.0 j.on) (λ f. Ok (f, p.1)))
+next_join params so_far j = and_then (j.item so_far.1) (λ p. and_then (add_item params so_far.0 j.is_left p.0 j.on) (λ f. Ok (f, p.1)))
 
 abbrev pub from : List Parameter → ItemStep → List JoinStep → Naming FromItems
-from params first joins leaves = and_then (and_then (first leaves) (λ p. Ok (started p.0, p.1))) (onward (next_join params) joins)
+from params first joins leaves = and_then (and_then (first leaves) (λ p. Ok (start_from p.0, p.1))) (fold_results (next_join params) joins)
 
 abbrev pub block_at : List Parameter → Block-F ItemStep BlockStep JoinStep QueryStep → BlockStep
-block_at params b leaves = and_then (from params b.from b.joins leaves) (λ p. and_then (block_behind params (behind_of (λ (j : JoinStep). j.on) b) p.0) (λ x. Ok (x, p.1)))
+block_at params b leaves = and_then (from params b.from b.joins leaves) (λ p. and_then (bind_block params (block_tail_of (λ (j : JoinStep). j.on) b) p.0) (λ x. Ok (x, p.1)))
 
 -- one more block of the query
 abbrev pub next_block : BoundBlocks × List ℕ → BlockStep → Result (BoundBlocks × List ℕ) Refusal
 next_block so_far b = and_then (b so_far.1) (λ p. Ok (with_block so_far.0 p.0, p.1))
 
 abbrev pub blocks : BlockStep → List BlockStep → Naming BoundBlocks
-blocks first others leaves = and_then (and_then (first leaves) (λ p. Ok (only_block p.0, p.1))) (onward next_block others)
+blocks first others leaves = and_then (and_then (first leaves) (λ p. Ok (only_block p.0, p.1))) (fold_results next_block others)
 
 abbrev pub query_at : Query-F ItemStep BlockStep JoinStep QueryStep → QueryStep
-query_at q leaves = and_then (blocks q.first q.others leaves) (λ p. and_then (query_behind p.0 q.order q.limit) (λ b. Ok (b, p.1)))
+query_at q leaves = and_then (blocks q.first q.others leaves) (λ p. and_then (bind_query p.0 q.order q.limit) (λ b. Ok (b, p.1)))
 
 -- the typed forms of the trees on these tables and with these parameters
 unfoldable pub item_step : List Table → List Parameter → Item → ItemStep
@@ -153,7 +153,7 @@ query_step schema params = fold-Query ItemStep BlockStep JoinStep QueryStep (ite
 abbrev pub join_step : List Table → List Parameter → Join → JoinStep
 join_step schema params j = record { is_left = j.is_left; item = item_step schema params j.item; on = j.on }
 
-abbrev pub statement_of : Bound × List ℕ → Statement
+abbrev pub statement_of : TypedQuery × List ℕ → Statement
 statement_of p = record { query = p.0.query; leaves = p.1 }
 
 -- the statement, or the first fault

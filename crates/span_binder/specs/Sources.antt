@@ -22,16 +22,16 @@ use Rattle.span_typing.specs.declared.typed.Typed.{Typed}
 use Rattle.span_typing.specs.declared.typed.Mode.TheVariants.{Rows}
 use Rattle.span_typing.specs.Kinds.{takes}
 use Rattle.span_typing.specs.Scopes.{item_named}
-use Rattle.span_typing.specs.Steps.{and_then, Step}
+use Rattle.span_typing.specs.Steps.{and_then, TypingStep}
 use Rattle.span_typing.specs.Typing.{typing}
 use Rattle.span_binder.specs.declared.bound.OutputColumn.{OutputColumn}
 use Rattle.span_binder.specs.declared.bound.Source.{Source}
 use Rattle.span_binder.specs.declared.bound.FromItems.{FromItems}
-use Rattle.span_binder.specs.declared.bound.Bound.{Bound}
+use Rattle.span_binder.specs.declared.bound.TypedQuery.{TypedQuery}
 
 -- The tables named so far in a query are passed along it, by their numbers in the schema: its leaves.
 abbrev pub Naming : Type 0 → Type 0
-Naming A = Step (List ℕ) A
+Naming A = TypingStep (List ℕ) A
 
 -- the leaves are tables of the schema
 abbrev pub AreTables : List Table → List ℕ → Type 0
@@ -71,7 +71,7 @@ abbrev pub named_source : List Table → Spelling → Option Spelling → Naming
 named_source schema name alias leaves =
     if nat_le most_tables (length leaves) then Err TooManyTables else numbered_source schema (name_or_alias name alias) (number_named schema name.text) leaves
 
-abbrev pub derived_source : Spelling → Bound → Source
+abbrev pub derived_source : Spelling → TypedQuery → Source
 derived_source name q = record { item = item.Derived q.query; name = name.text; columns = q.columns }
 
 -- ---- names
@@ -92,17 +92,17 @@ has_item scope name = is_some (item_named scope name)
 -- ---- conditions
 
 -- a condition is BOOL
-abbrev pub judged : Typed → Result TypedExpr Refusal
-judged x = if takes kind.Bool x.kind then Ok x.expr else Err TypeMismatch
+abbrev pub check_bool : Typed → Result TypedExpr Refusal
+check_bool x = if takes kind.Bool x.kind then Ok x.expr else Err TypeMismatch
 
 -- at rows of the FROM, where no aggregate is allowed
 unfoldable pub condition : Scope → List Parameter → Expr → Result TypedExpr Refusal
-condition scope params e = and_then (typing scope params e Rows []) (λ p. judged p.0)
+condition scope params e = and_then (typing scope params e Rows []) (λ p. check_bool p.0)
 
 -- ---- joins
 
-abbrev pub started : Source → FromItems
-started s = record { scope = with_names no_names s; first = s.item; joins = [] }
+abbrev pub start_from : Source → FromItems
+start_from s = record { scope = with_names no_names s; first = s.item; joins = [] }
 
 abbrev pub join_of : Bool → Source → TypedExpr → Join BoundQuery
 join_of is_left s on = record { is_left = is_left; item = s.item; width = length s.columns; on = on }
@@ -111,6 +111,6 @@ abbrev pub with_join : FromItems → Bool → Source → TypedExpr → FromItems
 with_join f is_left s on = record { scope = with_names f.scope s; first = f.first; joins = f.joins ++ (join_of is_left s on ∷ []) }
 
 -- one more item: its name is checked, and then its ON, which may use the items up to it
-abbrev pub extended : List Parameter → FromItems → Bool → Source → Expr → Result FromItems Refusal
-extended params f is_left s on =
+abbrev pub add_item : List Parameter → FromItems → Bool → Source → Expr → Result FromItems Refusal
+add_item params f is_left s on =
     if has_item f.scope s.name then Err DuplicateAlias else and_then (condition (with_names f.scope s) params on) (λ e. Ok (with_join f is_left s e))

@@ -7,7 +7,7 @@ ghost use Rattle.span_binder.specs.Aggregating as spec;
 
 use span_parser::tree::{Join, Output};
 use span_syntax::tree::{Arm, Column, Expr, Link, Spelling};
-use span_typing::function::{Called, function_named};
+use span_typing::function::{CalledFunction, function_named};
 use span_typing::typed::Mode;
 use sqlite_items::Boxed;
 
@@ -16,7 +16,7 @@ fn names_aggregate(name: &Spelling) -> bool
     ensures { result ≡ spec.names_aggregate name.now }
 {
     match function_named(name.text.as_str()) {
-        Some(Called::Aggregate(_)) => true,
+        Some(CalledFunction::Aggregate(_)) => true,
         _ => false,
     }
 }

@@ -4,13 +4,13 @@
 //! and HAVING; after all blocks of a query in the columns of its union, and then in its ORDER BY. The first fault is the refusal.
 ghost use Rattle.std.specs.Prelude.{◌≡◌, map, IfOk};
 ghost use Rattle.span_typing.specs.Steps.{Gives, and_then};
-ghost use Rattle.span_binder.specs.Onward.{onward};
+ghost use Rattle.span_binder.specs.Onward.{fold_results};
 ghost use Rattle.span_binder.specs.Sources.{AreTables, HasTables};
 ghost use Rattle.span_binder.specs.Queries as spec;
 
 use super::block::block_of_found;
-use super::bound::{Bound, BoundBlock, BoundBlocks, FromItems, Source};
-use super::join::{extended_by, started};
+use super::bound::{TypedQuery, BoundBlock, BoundBlocks, FromItems, Source};
+use super::join::{add_found_item, start_from};
 use super::order::{first_of, query_of_found, with_block};
 use super::source::{derived_source, named_source};
 use span_params::params::Params;
@@ -48,19 +48,19 @@ impl Binder<'_> {
 
     /// The further items of a FROM.
     #[cycle(binding)]
-    fn joined(
+    fn join_items(
         self,
         first: Result<(FromItems, Seq<usize>), Refusal>,
         joins: &[tree::Join],
     ) -> Result<(FromItems, Seq<usize>), Refusal>
-        ensures meant { Gives result (and_then first (onward (spec.next_join self.entry.params.now) (map (spec.join_step self.entry.schema.now self.entry.params.now) joins.now))) }
+        ensures meant { Gives result (and_then first (fold_results (spec.next_join self.entry.params.now) (map (spec.join_step self.entry.schema.now self.entry.params.now) joins.now))) }
         ensures tables { HasTables self.entry.schema.now first → HasTables self.entry.schema.now result }
     {
         let mut so_far = first?;
         for join in joins {
             let (from, leaves) = so_far;
             let item = self.item(&join.item, leaves);
-            so_far = extended_by(self.alloc, self.params, from, join.is_left, item, &join.on)?;
+            so_far = add_found_item(self.alloc, self.params, from, join.is_left, item, &join.on)?;
         }
         Ok(so_far)
     }
@@ -75,8 +75,8 @@ impl Binder<'_> {
         ensures meant { Gives result (spec.block_step self.entry.schema.now self.entry.params.now tree.now leaves) }
         ensures tables { AreTables self.entry.schema.now leaves → HasTables self.entry.schema.now result }
     {
-        let first = started(self.alloc, self.item(&tree.from, leaves));
-        let from = self.joined(first, tree.joins.as_slice());
+        let first = start_from(self.alloc, self.item(&tree.from, leaves));
+        let from = self.join_items(first, tree.joins.as_slice());
         block_of_found(self.alloc, self.params, tree, from)
     }
 
@@ -87,7 +87,7 @@ impl Binder<'_> {
         first: Result<(BoundBlocks, Seq<usize>), Refusal>,
         others: &[tree::Block],
     ) -> Result<(BoundBlocks, Seq<usize>), Refusal>
-        ensures meant { Gives result (and_then first (onward spec.next_block (map (spec.block_step self.entry.schema.now self.entry.params.now) others.now))) }
+        ensures meant { Gives result (and_then first (fold_results spec.next_block (map (spec.block_step self.entry.schema.now self.entry.params.now) others.now))) }
         ensures tables { HasTables self.entry.schema.now first → HasTables self.entry.schema.now result }
     {
         let mut so_far = first?;
@@ -100,7 +100,7 @@ impl Binder<'_> {
 
     /// A query, after the leaves before it.
     #[cycle(binding)]
-    fn query(self, tree: &tree::Query, leaves: Seq<usize>) -> Result<(Bound, Seq<usize>), Refusal>
+    fn query(self, tree: &tree::Query, leaves: Seq<usize>) -> Result<(TypedQuery, Seq<usize>), Refusal>
         ensures meant { Gives result (spec.query_step self.entry.schema.now self.entry.params.now tree.now leaves) }
         ensures tables { AreTables self.entry.schema.now leaves → HasTables self.entry.schema.now result }
     {

@@ -4,7 +4,7 @@ ghost use Rattle.span_typing.specs.Steps.{Gives, and_then};
 ghost use Rattle.span_binder.specs.Blocks as spec;
 
 use super::aggregating::{is_grouped, mode_of};
-use super::bound::{BoundBlock, FromItems, OutputColumn, Parts, Shown};
+use super::bound::{BoundBlock, FromItems, OutputColumn, Parts, SelectItem};
 use super::grouping::{filter_of, group_places, grouping_of, groups_named, having_of, with_keys};
 use super::output::select_list;
 use span_expr::expr::Expr;
@@ -20,12 +20,12 @@ use sqlite_items::Items;
 use std::alloc::{AllocError, Global};
 
 /// The expressions and the columns of a select list.
-fn parted(alloc: Global, shown: Seq<Shown>) -> Result<(Items<Expr>, Seq<OutputColumn>), AllocError>
-    ensures { IfOk result (λ parts. (parts.0 ≡ spec.exprs_shown shown) × (parts.1 ≡ spec.columns_shown shown)) }
+fn split_projection(alloc: Global, projection: Seq<SelectItem>) -> Result<(Items<Expr>, Seq<OutputColumn>), AllocError>
+    ensures { IfOk result (λ parts. (parts.0 ≡ spec.projected_exprs projection) × (parts.1 ≡ spec.projected_columns projection)) }
 {
     let mut exprs = Vec::new(alloc);
     let mut columns = Vec::new(alloc);
-    for one in shown.into_vec() {
+    for one in projection.into_vec() {
         exprs.push(one.expr)?;
         columns.push(one.column)?;
     }
@@ -33,16 +33,16 @@ fn parted(alloc: Global, shown: Seq<Shown>) -> Result<(Items<Expr>, Seq<OutputCo
 }
 
 /// The typed clauses of a block after its FROM. The error is the first in its select list, WHERE, GROUP BY and HAVING.
-#[tactic(auto, unfolding(crate::specs::Blocks::parts_behind))]
-fn parts_behind(names: Names<'_>, mode: Mode, tree: &tree::Block) -> Result<Parts, Refusal>
-    ensures { Gives result (spec.parts_behind names.entry.scope.now names.entry.params.now mode (spec.behind tree.now)) }
+#[tactic(auto, unfolding(crate::specs::Blocks::bind_parts))]
+fn bind_parts(names: Names<'_>, mode: Mode, tree: &tree::Block) -> Result<Parts, Refusal>
+    ensures { Gives result (spec.bind_parts names.entry.scope.now names.entry.params.now mode (spec.block_tail tree.now)) }
 {
-    let (shown, found) = select_list(names, mode, tree.outputs.as_slice())?;
+    let (projection, found) = select_list(names, mode, tree.outputs.as_slice())?;
     let filter = filter_of(names, &tree.filter)?;
     groups_named(names.scope, tree.groups.as_slice())?;
     let (having, aggregates) = having_of(names, &tree.having, found)?;
     Ok(Parts {
-        shown,
+        projection,
         filter,
         having,
         aggregates,
@@ -50,8 +50,8 @@ fn parts_behind(names: Names<'_>, mode: Mode, tree: &tree::Block) -> Result<Part
 }
 
 /// Whether a block is grouped.
-fn grouped(tree: &tree::Block) -> bool
-    ensures { result ≡ (spec.behind tree.now).is_grouped }
+fn is_grouped_block(tree: &tree::Block) -> bool
+    ensures { result ≡ (spec.block_tail tree.now).is_grouped }
 {
     is_grouped(
         tree.groups.as_slice(),
@@ -72,9 +72,9 @@ fn block_of(
     keys: Seq<usize>,
     parts: Parts,
 ) -> Result<BoundBlock, AllocError>
-    ensures { IfOk result (λ block. block ≡ spec.block_parted first joins is_distinct is_grouped keys parts) }
+    ensures { IfOk result (λ block. block ≡ spec.block_of first joins is_distinct is_grouped keys parts) }
 {
-    let (outputs, columns) = parted(alloc, parts.shown)?;
+    let (outputs, columns) = split_projection(alloc, parts.projection)?;
     Ok(BoundBlock {
         block: Block {
             from: first,
@@ -97,7 +97,7 @@ fn block_in(
     from: FromItems,
     keys: Seq<usize>,
 ) -> Result<BoundBlock, Refusal>
-    ensures { Gives result (spec.block_in params.now (spec.behind tree.now) from keys) }
+    ensures { Gives result (spec.block_in params.now (spec.block_tail tree.now) from keys) }
 {
     let FromItems {
         scope,
@@ -110,8 +110,8 @@ fn block_in(
         scope: &scope,
         params,
     };
-    let is_grouped = grouped(tree);
-    let parts = parts_behind(names, mode_of(is_grouped), tree)?;
+    let is_grouped = is_grouped_block(tree);
+    let parts = bind_parts(names, mode_of(is_grouped), tree)?;
     let Scope { keys, .. } = scope;
     Ok(block_of(
         alloc,
@@ -125,14 +125,14 @@ fn block_in(
 }
 
 /// A block from its FROM.
-#[tactic(auto, unfolding(crate::specs::Blocks::block_behind))]
-fn block_behind(
+#[tactic(auto, unfolding(crate::specs::Blocks::bind_block))]
+fn bind_block(
     alloc: Global,
     params: &Params,
     tree: &tree::Block,
     from: FromItems,
 ) -> Result<BoundBlock, Refusal>
-    ensures { Gives result (spec.block_behind params.now (spec.behind tree.now) from) }
+    ensures { Gives result (spec.bind_block params.now (spec.block_tail tree.now) from) }
 {
     let keys = group_places(alloc, &from.scope, tree.groups.as_slice())?;
     block_in(alloc, params, tree, from, keys)
@@ -145,9 +145,9 @@ pub(crate) fn block_of_found(
     tree: &tree::Block,
     found: Result<(FromItems, Seq<usize>), Refusal>,
 ) -> Result<(BoundBlock, Seq<usize>), Refusal>
-    ensures { Gives result (and_then found (λ p. and_then (spec.block_behind params.now (spec.behind tree.now) p.0) (λ b. Ok (b, p.1)))) }
+    ensures { Gives result (and_then found (λ p. and_then (spec.bind_block params.now (spec.block_tail tree.now) p.0) (λ b. Ok (b, p.1)))) }
 {
     let (from, leaves) = found?;
-    let block = block_behind(alloc, params, tree, from)?;
+    let block = bind_block(alloc, params, tree, from)?;
     Ok((block, leaves))
 }

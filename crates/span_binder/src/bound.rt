@@ -17,7 +17,7 @@ pub struct OutputColumn {
 
 /// One output of a block: an expression of its select list, and its column.
 #[derive(Debug, Drop)]
-pub struct Shown {
+pub struct SelectItem {
     pub expr: Expr,
     pub column: OutputColumn,
 }
@@ -41,7 +41,7 @@ pub struct FromItems {
 /// The typed clauses of a block after its FROM.
 #[derive(Debug, Drop)]
 pub struct Parts {
-    pub shown: Seq<Shown>,
+    pub projection: Seq<SelectItem>,
     pub filter: Option<Expr>,
     pub having: Option<Expr>,
     /// The aggregates of the select list, and then those of HAVING.
@@ -65,7 +65,7 @@ pub struct BoundBlocks {
 
 /// A typed query, and the columns that it gives.
 #[derive(Debug, Drop)]
-pub struct Bound {
+pub struct TypedQuery {
     pub query: BoundQuery,
     pub columns: Seq<OutputColumn>,
 }

@@ -3,8 +3,8 @@ ghost use Rattle.std.specs.Prelude.{◌≡◌, IfOk};
 ghost use Rattle.span_typing.specs.Steps.{Gives};
 ghost use Rattle.span_binder.specs.Blocks as spec;
 
-use super::join::{condition, judged};
-use super::output::typed_behind;
+use super::join::{condition, check_bool};
+use super::output::bind_expr;
 use span_expr::expr::Expr;
 use span_query::query::{Aggregate, Grouping};
 use span_syntax::tree;
@@ -87,8 +87,8 @@ pub(crate) fn having_of(
     match having {
         None => Ok((None, found)),
         Some(tree) => {
-            let (typed, found) = typed_behind(names, Mode::Groups, tree, found)?;
-            let condition = judged(typed)?;
+            let (typed, found) = bind_expr(names, Mode::Groups, tree, found)?;
+            let condition = check_bool(typed)?;
             Ok((Some(condition), found))
         }
     }

@@ -20,7 +20,7 @@ use sqlite_items::Items;
 use std::alloc::{AllocError, Global};
 
 /// A copy of a name, if there is one.
-pub(crate) fn copied_name(alloc: Global, name: &Option<Text>) -> Result<Option<Text>, AllocError>
+pub(crate) fn copy_name(alloc: Global, name: &Option<Text>) -> Result<Option<Text>, AllocError>
     ensures { IfOk result (λ copy. copy ≡ name.now) }
 {
     match name {
@@ -41,7 +41,7 @@ fn with_columns(
     for column in columns {
         all.push(ScopeColumn {
             item,
-            name: copied_name(alloc, &column.name)?,
+            name: copy_name(alloc, &column.name)?,
             kind: column.kind,
         })?;
     }
@@ -79,7 +79,7 @@ fn no_names(alloc: Global) -> Scope
 
 /// A FROM of its first item.
 fn from_source(alloc: Global, source: Source) -> Result<FromItems, AllocError>
-    ensures { IfOk result (λ from. from ≡ spec.started source) }
+    ensures { IfOk result (λ from. from ≡ spec.start_from source) }
 {
     let scope = with_names(alloc, no_names(alloc), &source)?;
     Ok(FromItems {
@@ -90,19 +90,19 @@ fn from_source(alloc: Global, source: Source) -> Result<FromItems, AllocError>
 }
 
 /// A FROM of its first item, where that was found.
-pub(crate) fn started(
+pub(crate) fn start_from(
     alloc: Global,
     found: Result<(Source, Seq<usize>), Refusal>,
 ) -> Result<(FromItems, Seq<usize>), Refusal>
-    ensures { Gives result (and_then found (λ p. Ok (spec.started p.0, p.1))) }
+    ensures { Gives result (and_then found (λ p. Ok (spec.start_from p.0, p.1))) }
 {
     let (source, leaves) = found?;
     Ok((from_source(alloc, source)?, leaves))
 }
 
 /// A condition. The error is `TypeMismatch` where it is not BOOL.
-pub(crate) fn judged(typed: Typed) -> Result<Expr, Refusal>
-    ensures { result ≡ spec.judged typed }
+pub(crate) fn check_bool(typed: Typed) -> Result<Expr, Refusal>
+    ensures { result ≡ spec.check_bool typed }
 {
     if takes(Kind::Bool, typed.kind) {
         Ok(typed.expr)
@@ -128,7 +128,7 @@ pub(crate) fn condition(
     };
     let mut found = Seq::new(alloc);
     let typed = names.bind(Mode::Rows, tree, &mut found)?;
-    judged(typed)
+    check_bool(typed)
 }
 
 /// One more join, after those before it.
@@ -158,7 +158,7 @@ fn has_item(scope: &Scope, name: &str) -> bool
 
 /// One more item of a FROM: its name is checked, and then its ON, which may use the items up to it. The error is `DuplicateAlias`
 /// where an item before has the name, or else one of the ON.
-fn extended(
+fn add_item(
     alloc: Global,
     params: &Params,
     from: FromItems,
@@ -166,7 +166,7 @@ fn extended(
     source: Source,
     on: &tree::Expr,
 ) -> Result<FromItems, Refusal>
-    ensures { Gives result (spec.extended params.now from is_left source on.now) }
+    ensures { Gives result (spec.add_item params.now from is_left source on.now) }
 {
     if has_item(&from.scope, source.name.as_str()) {
         return Err(Refusal::DuplicateAlias);
@@ -187,7 +187,7 @@ fn extended(
 }
 
 /// A FROM with one more item, where that was found.
-pub(crate) fn extended_by(
+pub(crate) fn add_found_item(
     alloc: Global,
     params: &Params,
     from: FromItems,
@@ -195,9 +195,9 @@ pub(crate) fn extended_by(
     found: Result<(Source, Seq<usize>), Refusal>,
     on: &tree::Expr,
 ) -> Result<(FromItems, Seq<usize>), Refusal>
-    ensures { Gives result (and_then found (λ p. and_then (spec.extended params.now from is_left p.0 on.now) (λ f. Ok (f, p.1)))) }
+    ensures { Gives result (and_then found (λ p. and_then (spec.add_item params.now from is_left p.0 on.now) (λ f. Ok (f, p.1)))) }
 {
     let (source, leaves) = found?;
-    let from = extended(alloc, params, from, is_left, source, on)?;
+    let from = add_item(alloc, params, from, is_left, source, on)?;
     Ok((from, leaves))
 }

@@ -6,7 +6,7 @@ ghost use Rattle.span_typing.specs.Scopes.{is_named, one_place};
 ghost use Rattle.span_typing.specs.Steps.{Gives, and_then};
 ghost use Rattle.span_binder.specs.Queries as spec;
 
-use super::bound::{Bound, BoundBlock, BoundBlocks, OutputColumn};
+use super::bound::{TypedQuery, BoundBlock, BoundBlocks, OutputColumn};
 use super::output::with_one;
 use span_parser::tree;
 use span_parser::tree::SortColumn;
@@ -18,32 +18,32 @@ use span_value::text::Text;
 use sqlite_items::Items;
 use std::alloc::{AllocError, Global};
 
-fn is_alike(column: &OutputColumn, other: &OutputColumn) -> bool
+fn have_same_kind(column: &OutputColumn, other: &OutputColumn) -> bool
     ensures { result ≡ spec.have_same_kind (column.now, other.now) }
 {
     column.kind == other.kind
 }
 
-fn are_alike(columns: &[OutputColumn], others: &[OutputColumn]) -> bool
+fn all_have_same_kind(columns: &[OutputColumn], others: &[OutputColumn]) -> bool
     ensures { result ≡ list_all spec.have_same_kind (zip columns.now others.now) }
 {
     columns
         .iter()
         .zip(others)
-        .all(|(column, other)| is_alike(column, other))
+        .all(|(column, other)| have_same_kind(column, other))
 }
 
 /// Whether the columns are the same in number and types.
 fn have_same_kinds(columns: &[OutputColumn], others: &[OutputColumn]) -> bool
-    ensures { result ≡ spec.same_kinds columns.now others.now }
+    ensures { result ≡ spec.have_same_kinds columns.now others.now }
 {
-    columns.len() == others.len() && are_alike(columns, others)
+    columns.len() == others.len() && all_have_same_kind(columns, others)
 }
 
 /// Whether all blocks give as many columns as the first, of the same types.
-#[tactic(auto, unfolding(crate::specs::Queries::united))]
-fn are_united(blocks: &BoundBlocks) -> bool
-    ensures { result ≡ spec.united blocks.now }
+#[tactic(auto, unfolding(crate::specs::Queries::are_union_compatible))]
+fn are_union_compatible(blocks: &BoundBlocks) -> bool
+    ensures { result ≡ spec.are_union_compatible blocks.now }
 {
     blocks.others.as_slice().iter().all(|other| have_same_kinds(
         blocks.first.columns.as_slice(),
@@ -165,12 +165,12 @@ fn query_of(
     blocks: BoundBlocks,
     order: Seq<SortKey>,
     limit: &Option<tree::Limit>,
-) -> Result<Bound, AllocError>
+) -> Result<TypedQuery, AllocError>
     ensures { IfOk result (λ bound. bound ≡ spec.query_of blocks order limit.now) }
 {
     let BoundBlocks { first, others } = blocks;
     let BoundBlock { block, columns } = first;
-    Ok(Bound {
+    Ok(TypedQuery {
         query: BoundQuery {
             first: block,
             others: blocks_of(alloc, others)?,
@@ -183,16 +183,16 @@ fn query_of(
 
 /// A query from its blocks. The error is `ColumnsDiffer` where a block gives other columns than the first, or else the first of the
 /// ORDER BY: `NoColumn`, `Ambiguous` or `BadOrdinal`; or out of memory.
-#[tactic(auto, unfolding(crate::specs::Queries::query_behind))]
-fn query_behind(
+#[tactic(auto, unfolding(crate::specs::Queries::bind_query))]
+fn bind_query(
     alloc: Global,
     blocks: BoundBlocks,
     order: &[tree::SortKey],
     limit: &Option<tree::Limit>,
-) -> Result<Bound, Refusal>
-    ensures { Gives result (spec.query_behind blocks order.now limit.now) }
+) -> Result<TypedQuery, Refusal>
+    ensures { Gives result (spec.bind_query blocks order.now limit.now) }
 {
-    if !are_united(&blocks) {
+    if !are_union_compatible(&blocks) {
         return Err(Refusal::ColumnsDiffer);
     }
     let keys = sort_keys(alloc, blocks.first.columns.as_slice(), order)?;
@@ -205,11 +205,11 @@ pub(crate) fn query_of_found(
     found: Result<(BoundBlocks, Seq<usize>), Refusal>,
     order: &[tree::SortKey],
     limit: &Option<tree::Limit>,
-) -> Result<(Bound, Seq<usize>), Refusal>
-    ensures { Gives result (and_then found (λ p. and_then (spec.query_behind p.0 order.now limit.now) (λ b. Ok (b, p.1)))) }
+) -> Result<(TypedQuery, Seq<usize>), Refusal>
+    ensures { Gives result (and_then found (λ p. and_then (spec.bind_query p.0 order.now limit.now) (λ b. Ok (b, p.1)))) }
 {
     let (blocks, leaves) = found?;
-    let bound = query_behind(alloc, blocks, order, limit)?;
+    let bound = bind_query(alloc, blocks, order, limit)?;
     Ok((bound, leaves))
 }
 

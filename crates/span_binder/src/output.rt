@@ -5,8 +5,8 @@ ghost use Rattle.span_typing.specs.Scopes.{item_named as named};
 ghost use Rattle.span_typing.specs.Typing.{typing};
 ghost use Rattle.span_binder.specs.Outputs as spec;
 
-use super::bound::{OutputColumn, Shown};
-use super::join::copied_name;
+use super::bound::{OutputColumn, SelectItem};
+use super::join::copy_name;
 use span_parser::tree::Output;
 use span_query::query::Aggregate;
 use span_syntax::tree::{Expr, Spelling};
@@ -21,13 +21,13 @@ use span_value::text::Text;
 use std::alloc::{AllocError, Global};
 
 /// The output of a select list so far, and the aggregates of the block so far.
-pub(crate) type ShownSoFar = (Seq<Shown>, Seq<Aggregate>);
+pub(crate) type ProjectionSoFar = (Seq<SelectItem>, Seq<Aggregate>);
 
 /// An expression of the output, with the name of its column. A NULL literal is INT64.
-fn shown(name: Option<Text>, typed: Typed) -> Shown
-    ensures { result ≡ spec.shown name typed }
+fn projection(name: Option<Text>, typed: Typed) -> SelectItem
+    ensures { result ≡ spec.projection name typed }
 {
-    Shown {
+    SelectItem {
         expr: typed.expr,
         column: OutputColumn {
             name,
@@ -42,17 +42,17 @@ fn name_at(alloc: Global, scope: &Scope, place: usize) -> Result<Option<Text>, A
 {
     match scope.columns.as_slice().get(place) {
         None => Ok(None),
-        Some(column) => copied_name(alloc, &column.name),
+        Some(column) => copy_name(alloc, &column.name),
     }
 }
 
 /// The column at a place of the FROM. The error is `NotGrouped` where the block is grouped and it is no grouped column.
-fn column_shown(alloc: Global, scope: &Scope, mode: Mode, place: usize) -> Result<Shown, Refusal>
-    ensures { Gives result (spec.column_shown scope.now mode place) }
+fn projected_column(alloc: Global, scope: &Scope, mode: Mode, place: usize) -> Result<SelectItem, Refusal>
+    ensures { Gives result (spec.projected_column scope.now mode place) }
 {
     let typed = column_at(scope, mode, place)?;
     let name = name_at(alloc, scope, place)?;
-    Ok(shown(name, typed))
+    Ok(projection(name, typed))
 }
 
 /// What was found before, and one more after it.
@@ -68,18 +68,18 @@ pub(crate) fn with_one<T: Drop>(
     Ok(all)
 }
 
-#[tactic(auto, unfolding(crate::specs::Outputs::columns_shown))]
-fn columns_shown(
+#[tactic(auto, unfolding(crate::specs::Outputs::projected_columns))]
+fn projected_columns(
     alloc: Global,
     scope: &Scope,
     mode: Mode,
     places: &[usize],
-) -> Result<Seq<Shown>, Refusal>
-    ensures { Gives result (spec.columns_shown scope.now mode places.now) }
+) -> Result<Seq<SelectItem>, Refusal>
+    ensures { Gives result (spec.projected_columns scope.now mode places.now) }
 {
     let mut all = Seq::new(alloc);
     for place in places {
-        all = with_one(all, column_shown(alloc, scope, mode, *place))?;
+        all = with_one(all, projected_column(alloc, scope, mode, *place))?;
     }
     Ok(all)
 }
@@ -118,12 +118,12 @@ fn item_places(alloc: Global, scope: &Scope, name: &str) -> Result<Seq<usize>, R
 }
 
 /// The name of an output column: its alias, or else the name of a bare column.
-fn name_shown(
+fn output_name(
     alloc: Global,
     tree: &Expr,
     alias: &Option<Spelling>,
 ) -> Result<Option<Text>, AllocError>
-    ensures { IfOk result (λ name. name ≡ spec.name_shown tree.now alias.now) }
+    ensures { IfOk result (λ name. name ≡ spec.output_name tree.now alias.now) }
 {
     match alias {
         Some(alias) => Ok(Some(Text::from_str(alloc, alias.text.as_str())?)),
@@ -135,7 +135,7 @@ fn name_shown(
 }
 
 /// An expression, after the aggregates before it.
-pub(crate) fn typed_behind(
+pub(crate) fn bind_expr(
     names: Names<'_>,
     mode: Mode,
     tree: &Expr,
@@ -149,78 +149,78 @@ pub(crate) fn typed_behind(
 }
 
 /// `*`
-#[tactic(auto, unfolding(crate::specs::Outputs::all_shown))]
-fn all_shown(alloc: Global, scope: &Scope, mode: Mode) -> Result<Seq<Shown>, Refusal>
-    ensures { Gives result (spec.all_shown scope.now mode) }
+#[tactic(auto, unfolding(crate::specs::Outputs::project_all))]
+fn project_all(alloc: Global, scope: &Scope, mode: Mode) -> Result<Seq<SelectItem>, Refusal>
+    ensures { Gives result (spec.project_all scope.now mode) }
 {
     let places = all_places(alloc, scope)?;
-    columns_shown(alloc, scope, mode, places.as_slice())
+    projected_columns(alloc, scope, mode, places.as_slice())
 }
 
 /// `item.*`
-#[tactic(auto, unfolding(crate::specs::Outputs::item_shown))]
-fn item_shown(alloc: Global, scope: &Scope, mode: Mode, name: &str) -> Result<Seq<Shown>, Refusal>
-    ensures { Gives result (spec.item_shown scope.now mode name.now) }
+#[tactic(auto, unfolding(crate::specs::Outputs::project_item))]
+fn project_item(alloc: Global, scope: &Scope, mode: Mode, name: &str) -> Result<Seq<SelectItem>, Refusal>
+    ensures { Gives result (spec.project_item scope.now mode name.now) }
 {
     let places = item_places(alloc, scope, name)?;
-    columns_shown(alloc, scope, mode, places.as_slice())
+    projected_columns(alloc, scope, mode, places.as_slice())
 }
 
-#[tactic(auto, unfolding(crate::specs::Outputs::value_shown))]
-fn value_shown(
+#[tactic(auto, unfolding(crate::specs::Outputs::project_value))]
+fn project_value(
     names: Names<'_>,
     mode: Mode,
     tree: &Expr,
     alias: &Option<Spelling>,
     found: Seq<Aggregate>,
-) -> Result<ShownSoFar, Refusal>
-    ensures { Gives result (spec.value_shown names.entry.scope.now names.entry.params.now mode tree.now alias.now found) }
+) -> Result<ProjectionSoFar, Refusal>
+    ensures { Gives result (spec.project_value names.entry.scope.now names.entry.params.now mode tree.now alias.now found) }
 {
-    let (typed, found) = typed_behind(names, mode, tree, found)?;
-    let name = name_shown(names.alloc, tree, alias)?;
+    let (typed, found) = bind_expr(names, mode, tree, found)?;
+    let name = output_name(names.alloc, tree, alias)?;
     let mut all = Seq::new(names.alloc);
-    all.push(shown(name, typed))?;
+    all.push(projection(name, typed))?;
     Ok((all, found))
 }
 
 /// The output of a star, which has no aggregate.
-fn beside(shown: Result<Seq<Shown>, Refusal>, found: Seq<Aggregate>) -> Result<ShownSoFar, Refusal>
-    ensures { Gives result (and_then shown (λ x. Ok (x, found))) }
+fn with_aggregates(projection: Result<Seq<SelectItem>, Refusal>, found: Seq<Aggregate>) -> Result<ProjectionSoFar, Refusal>
+    ensures { Gives result (and_then projection (λ x. Ok (x, found))) }
 {
-    Ok((shown?, found))
+    Ok((projection?, found))
 }
 
 #[tactic(auto, using(crate::proofs::Giving::gives_on))]
-fn output_shown(
+fn project_output(
     names: Names<'_>,
     mode: Mode,
     output: &Output,
     found: Seq<Aggregate>,
-) -> Result<ShownSoFar, Refusal>
-    ensures { Gives result (spec.output_shown names.entry.scope.now names.entry.params.now mode output.now found) }
+) -> Result<ProjectionSoFar, Refusal>
+    ensures { Gives result (spec.project_output names.entry.scope.now names.entry.params.now mode output.now found) }
 {
     match output {
-        Output::All => beside(all_shown(names.alloc, names.scope, mode), found),
-        Output::AllOf(item) => beside(
-            item_shown(names.alloc, names.scope, mode, item.text.as_str()),
+        Output::All => with_aggregates(project_all(names.alloc, names.scope, mode), found),
+        Output::AllOf(item) => with_aggregates(
+            project_item(names.alloc, names.scope, mode, item.text.as_str()),
             found,
         ),
-        Output::Value(tree, alias) => value_shown(names, mode, tree, alias, found),
+        Output::Value(tree, alias) => project_value(names, mode, tree, alias, found),
     }
 }
 
 /// One more item of a select list, after those before it.
-fn next_shown(
+fn project_next(
     names: Names<'_>,
     mode: Mode,
-    so_far: ShownSoFar,
+    so_far: ProjectionSoFar,
     output: &Output,
-) -> Result<ShownSoFar, Refusal>
-    ensures { Gives result (spec.next_shown names.entry.scope.now names.entry.params.now mode so_far output.now) }
+) -> Result<ProjectionSoFar, Refusal>
+    ensures { Gives result (spec.project_next names.entry.scope.now names.entry.params.now mode so_far output.now) }
 {
-    let (shown, found) = so_far;
-    let (more, found) = output_shown(names, mode, output, found)?;
-    let mut all = shown.into_vec();
+    let (projection, found) = so_far;
+    let (more, found) = project_output(names, mode, output, found)?;
+    let mut all = projection.into_vec();
     let mut more = more.into_vec();
     all.append(&mut more)?;
     Ok((Seq::from_vec(all), found))
@@ -233,12 +233,12 @@ pub(crate) fn select_list(
     names: Names<'_>,
     mode: Mode,
     outputs: &[Output],
-) -> Result<ShownSoFar, Refusal>
+) -> Result<ProjectionSoFar, Refusal>
     ensures { Gives result (spec.select_list names.entry.scope.now names.entry.params.now mode outputs.now) }
 {
     let mut so_far = (Seq::new(names.alloc), Seq::new(names.alloc));
     for output in outputs {
-        so_far = next_shown(names, mode, so_far, output)?;
+        so_far = project_next(names, mode, so_far, output)?;
     }
     Ok(so_far)
 }

@@ -4,7 +4,7 @@ ghost use Rattle.span_schema.specs.Numbers.{columns_of, IsTable};
 ghost use Rattle.span_typing.specs.Steps.{Gives, and_then};
 ghost use Rattle.span_binder.specs.Sources as spec;
 
-use super::bound::{Bound, OutputColumn, Source};
+use super::bound::{TypedQuery, OutputColumn, Source};
 use span_query::query::Item;
 use span_schema::schema::Schema;
 use span_schema::table::{Column, kind_of_type};
@@ -93,12 +93,12 @@ pub(crate) fn named_source(
 pub(crate) fn derived_source(
     alloc: Global,
     name: &Spelling,
-    found: Result<(Bound, Seq<usize>), Refusal>,
+    found: Result<(TypedQuery, Seq<usize>), Refusal>,
 ) -> Result<(Source, Seq<usize>), Refusal>
     ensures { Gives result (and_then found (λ p. Ok (spec.derived_source name.now p.0, p.1))) }
 {
     let (bound, leaves) = found?;
-    let Bound { query, columns } = bound;
+    let TypedQuery { query, columns } = bound;
     let source = Source {
         item: Item::Derived(Boxed::new(alloc, query)?),
         name: Text::from_str(alloc, name.text.as_str())?,

@@ -14,5 +14,5 @@ failures_of c = c.failures
 
 -- The bytes that an input still gives after `count` bytes: what its device is known to have left, where that does not go beyond what an
 -- input gives.
-abbrev pub given : ℕ → Option (List ℕ) → Option (List ℕ)
-given count known = option_and_then (λ bytes. if nat_le (count + length bytes) MOST_BYTES then Some bytes else None) known
+abbrev pub remaining_input : ℕ → Option (List ℕ) → Option (List ℕ)
+remaining_input count known = option_and_then (λ bytes. if nat_le (count + length bytes) MOST_BYTES then Some bytes else None) known

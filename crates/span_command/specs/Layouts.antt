@@ -9,7 +9,7 @@ use Rattle.span_schema.specs.declared.table.Column.{Column}
 use Rattle.span_schema.specs.declared.table.Table.{Table}
 use Rattle.span_schema.specs.Tables.{kind_of}
 use Rattle.span_schema.specs.Numbers.{number_named, columns_of, key_places}
-use Rattle.span_mutate.specs.declared.mutation.Cell.{Cell}
+use Rattle.span_mutate.specs.declared.mutation.NamedValue.{NamedValue}
 use Rattle.span_mutate.specs.declared.mutation.Mutation.{Mutation}
 use Rattle.span_mutate.specs.declared.mutation.MutationKind.{MutationKind}
 use Rattle.span_command.specs.declared.layout.Layout.{Layout}
@@ -28,7 +28,7 @@ IsFieldCell fields at kind value = (text : List ℕ) × (field_at fields at ≡ 
 abbrev pub IsKeyCell : List (List ℕ) → KeyField → Value → Type 0
 IsKeyCell fields part value = IsFieldCell fields part.at part.kind value
 
-abbrev pub IsColumnCell : List (List ℕ) → CellField → Cell → Type 0
+abbrev pub IsColumnCell : List (List ℕ) → CellField → NamedValue → Type 0
 IsColumnCell fields part cell = (cell.column ≡ part.column) × IsFieldCell fields part.at part.kind cell.value
 
 -- the mutation of a record: as many fields as the layout has, and the values are those of their cells

@@ -1,7 +1,7 @@
 -- The words of a line.
 use Rattle.std.specs.Prelude.{◌≡◌, ◌≢◌, ℕ, ◌<◌, ◌^◌, List, [], ◌∷◌, ◌++◌, codes, get_or, length, Bool, ◌&&◌, nat_le, is_none}
 use Rattle.std.specs.Fmt.{decimal}
-use Rattle.span_lexer.specs.Spellings.{reserved}
+use Rattle.span_lexer.specs.Spellings.{reserved_word}
 use Rattle.span_lexer.specs.Characters.{begins, is_letter, is_word}
 use Rattle.span_lexer.specs.Lexing.{longest_word}
 use Rattle.std.specs.List.{list_all}
@@ -57,4 +57,4 @@ type_name kind.Bool = codes "BOOL"
 
 -- the word is a name: a letter or _, then letters, digits and _, at most 128 bytes, and no reserved word
 abbrev pub is_name_text : List ℕ → Bool
-is_name_text word = begins is_letter word && nat_le (length word) longest_word && list_all is_word word && is_none (reserved word)
+is_name_text word = begins is_letter word && nat_le (length word) longest_word && list_all is_word word && is_none (reserved_word word)

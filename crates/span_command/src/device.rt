@@ -1,7 +1,7 @@
 //! Where scripts come from and answers go: devices that count their failures.
 ghost use Rattle.std.specs.Prelude.{◌≡◌, ◌≤◌, ◌<◌, ℕ, List, Option, None, length, take, IfOk, IfErr, IfSome, IfNone, OnOk};
 ghost use Rattle.std.specs.Io.KnownBytes.{Consumes, IsAtEnd, Keeps, ReadConsumes};
-ghost use Rattle.span_command.specs.Device.{risen, failures_of, given};
+ghost use Rattle.span_command.specs.Device.{risen, failures_of, remaining_input};
 
 use span_value::refusal::Refusal;
 use std::io;
@@ -73,7 +73,7 @@ impl<R> Counted<R> {
 impl<R: Read> Input for Counted<R> {
     ghost failures = { λ c. c.failures };
 
-    ghost remaining = { λ c. given c.bytes (R.remaining c.device) };
+    ghost remaining = { λ c. remaining_input c.bytes (R.remaining c.device) };
 
     fn read(&mut self, buffer: &mut [u8]) -> Result<usize, Refusal> {
         if let Some(count) = read_some(&mut self.device, buffer) {

@@ -3,7 +3,7 @@ ghost use Rattle.std.specs.Prelude.{◌≡◌, ◌⊎◌, ◌==◌, ℕ, ◌<◌
 ghost use Rattle.std.specs.List.{list_any, position, AllZip};
 ghost use Rattle.csv.specs.Records.{fields_of};
 ghost use Rattle.span_value.specs.declared.value.Value.{Value};
-ghost use Rattle.span_mutate.specs.declared.mutation.Cell.{Cell};
+ghost use Rattle.span_mutate.specs.declared.mutation.NamedValue.{NamedValue};
 ghost use Rattle.span_mutate.specs.declared.mutation.Mutation.{Mutation};
 ghost use Rattle.span_record.specs.Record.{pieces};
 ghost use Rattle.span_schema.specs.Numbers.{IsTable, columns_of, column_named, number_named, key_places};
@@ -11,7 +11,7 @@ ghost use Rattle.span_command.specs.Columns.{AreBelow, ArePlaces, AreNamed, IsUn
 ghost use Rattle.span_command.specs.Layouts.{IsFieldCell, IsKeyCell, IsColumnCell, IsOfRecord, IsKeyField, IsCellField, outside_key, AreWithin, IsLayout, IsLayoutOf, IsKeyLayoutOf, LacksKey, HasNoLayout};
 
 use csv::StringRecord;
-use span_mutate::mutation::{Cell, Mutation, MutationKind};
+use span_mutate::mutation::{NamedValue, Mutation, MutationKind};
 use span_record::read::at_comma;
 use span_schema::schema::Schema;
 use span_schema::table::{Column, kind_of_type};
@@ -123,9 +123,9 @@ fn key_of(alloc: Global, parts: &[KeyField], fields: &StringRecord) -> Result<Se
 }
 
 /// The cells of the columns outside the key. `WrongType`: a field is no cell of its column's type.
-fn cells_of(alloc: Global, parts: &[CellField], fields: &StringRecord) -> Result<Seq<Cell>, Refusal>
+fn cells_of(alloc: Global, parts: &[CellField], fields: &StringRecord) -> Result<Seq<NamedValue>, Refusal>
     ensures read { IfOk result (λ cells. AllZip (IsColumnCell (fields_of fields.now)) parts.now cells) }
-    ensures refusals { IfErr result (λ why. (why ≡ Refusal.OutOfMemory) ⊎ ((why ≡ Refusal.WrongType) × ((cells : List Cell) → ¬ AllZip (IsColumnCell (fields_of fields.now)) parts.now cells))) }
+    ensures refusals { IfErr result (λ why. (why ≡ Refusal.OutOfMemory) ⊎ ((why ≡ Refusal.WrongType) × ((cells : List NamedValue) → ¬ AllZip (IsColumnCell (fields_of fields.now)) parts.now cells))) }
 {
     let mut cells = Seq::new(alloc);
     for part in parts {
@@ -135,12 +135,12 @@ fn cells_of(alloc: Global, parts: &[CellField], fields: &StringRecord) -> Result
 }
 
 /// The cell of a column outside the key. `WrongType`: its field is no cell of its type.
-fn cell_of(alloc: Global, part: &CellField, fields: &StringRecord) -> Result<Cell, Refusal>
+fn cell_of(alloc: Global, part: &CellField, fields: &StringRecord) -> Result<NamedValue, Refusal>
     ensures read { IfOk result (λ cell. IsColumnCell (fields_of fields.now) part.now cell) }
-    ensures refusals { IfErr result (λ why. (why ≡ Refusal.OutOfMemory) ⊎ ((why ≡ Refusal.WrongType) × ((cell : Cell) → ¬ IsColumnCell (fields_of fields.now) part.now cell))) }
+    ensures refusals { IfErr result (λ why. (why ≡ Refusal.OutOfMemory) ⊎ ((why ≡ Refusal.WrongType) × ((cell : NamedValue) → ¬ IsColumnCell (fields_of fields.now) part.now cell))) }
 {
     let value = value_at(alloc, fields, part.at, part.kind)?;
-    Ok(Cell {
+    Ok(NamedValue {
         column: Text::from_str(alloc, part.column.as_str())?,
         value,
     })

@@ -17,7 +17,7 @@ use Rattle.span_machine.specs.Meaning.{declared_row}
 use Rattle.span_shard.specs.Rows.{code_of}
 use Rattle.span_shard.specs.Shard.{KeyRow}
 use Rattle.span_shard.specs.declared.shard.Entry.{Entry}
-use Rattle.span_shard.specs.Reading.{shown, IsNoTableRow}
+use Rattle.span_shard.specs.Reading.{entry_row, IsNoTableRow}
 use Rattle.span_kept.specs.Kept.{IsReading, key_row}
 use Rattle.span_core.specs.Whole.{AreNoRows}
 
@@ -78,22 +78,22 @@ pub all_read : (schema : List Table) → MeetsRules schema → (n : ℕ) (entrie
 all_read schema rules n entries values a = λ rows typed e. a.values_are ∙ ap (λ l. map (declared_row schema) (rows_of n l)) (same_rows schema rules a.rows rows a.typed typed (sym a.coded ∙ e))
 
 -- an entry under a row's key, with its cells
-pub entry_is : (schema : List Table) (e : Entry) (r : TableRow) → e.key.now ≡ code_of schema r → e.row.now ≡ row_code r.cells → shown e ≡ key_row schema r
+pub entry_is : (schema : List Table) (e : Entry) (r : TableRow) → e.key.now ≡ code_of schema r → e.row.now ≡ row_code r.cells → entry_row e ≡ key_row schema r
 entry_is schema e r key row = ap (λ k. entry_with k e.row.now) key ∙ ap (λ c. entry_with (code_of schema r) c) row
 
 -- the entries so far, and one more
-pub shown_step : (entries : List Entry) (i : ℕ) (d : Entry) → i < length entries → map shown (take (i + 1) entries) ≡ map shown (take i entries) ++ shown (get_or entries i d) ∷ []
-shown_step entries i d less = ap (map shown) (take_more entries i d less) ∙ map-append shown (take i entries) (get_or entries i d ∷ [])
+pub shown_step : (entries : List Entry) (i : ℕ) (d : Entry) → i < length entries → map entry_row (take (i + 1) entries) ≡ map entry_row (take i entries) ++ entry_row (get_or entries i d) ∷ []
+shown_step entries i d less = ap (map entry_row) (take_more entries i d less) ∙ map-append entry_row (take i entries) (get_or entries i d ∷ [])
 
 -- an entry that is no row
-pub not_rows : (schema : List Table) (entries : List Entry) (i : ℕ) (d : Entry) → i < length entries → IsNoTableRow schema (get_or entries i d).key.now (get_or entries i d).row.now → AreNoRows schema (map shown entries)
+pub not_rows : (schema : List Table) (entries : List Entry) (i : ℕ) (d : Entry) → i < length entries → IsNoTableRow schema (get_or entries i d).key.now (get_or entries i d).row.now → AreNoRows schema (map entry_row entries)
 not_rows schema [] i d less none rows typed is = absurd (let l : i < 0 = less in omega arith)
-not_rows schema (x ∷ entries) i d less none [] typed is = absurd (let f : shown x ∷ map shown entries ≡ [] = is in cc)
+not_rows schema (x ∷ entries) i d less none [] typed is = absurd (let f : entry_row x ∷ map entry_row entries ≡ [] = is in cc)
 not_rows schema (x ∷ entries) zero d less none (r ∷ rows) typed is =
-    let f : shown x ∷ map shown entries ≡ key_row schema r ∷ map (key_row schema) rows = is in
-    let first : shown x ≡ key_row schema r = cc in
+    let f : entry_row x ∷ map entry_row entries ≡ key_row schema r ∷ map (key_row schema) rows = is in
+    let first : entry_row x ≡ key_row schema r = cc in
     none.none r typed.0 (ap (λ (y : KeyRow). y.key) first) (ap (λ (y : KeyRow). y.row) first)
 not_rows schema (x ∷ entries) (suc i) d less none (r ∷ rows) typed is =
-    let f : shown x ∷ map shown entries ≡ key_row schema r ∷ map (key_row schema) rows = is in
-    let rest : map shown entries ≡ map (key_row schema) rows = cc in
+    let f : entry_row x ∷ map entry_row entries ≡ key_row schema r ∷ map (key_row schema) rows = is in
+    let rest : map entry_row entries ≡ map (key_row schema) rows = cc in
     not_rows schema entries i d (omega arith) none rows typed.1 rest

@@ -9,11 +9,11 @@ use Rattle.span_shard.specs.KeyVersions.{KeyVersions}
 use Rattle.span_shard.specs.Shard.{with_writes, live, IsFree, HasNoneOf, IsNow}
 use Rattle.span_machine.specs.declared.step.Step.TheVariants as step
 use Rattle.span_machine.specs.declared.step.Reply.TheVariants as reply
-use Rattle.span_machine.specs.declared.slot.Book.{Book}
+use Rattle.span_machine.specs.declared.slot.SlotState.{SlotState}
 use Rattle.span_machine.specs.declared.transaction.OpenTransaction.{OpenTransaction}
 use Rattle.span_core.specs.Histories.{Steps}
-use Rattle.span_machine.specs.Machine.{Machine, Answer, refused, unless_refused, if_some, for_slot, mutations_in, faults, prepare, prepare_found, prepare_refusal, room_refusal, first_cause, prepared}
-use Rattle.span_machine.specs.Kept.{most, live_with}
+use Rattle.span_machine.specs.Machine.{Machine, Answer, refused, unless_refused, if_some, for_slot, mutations_in, mutations_refusal, prepare, prepare_transaction, prepare_refusal, capacity_refusal, first_cause, prepared}
+use Rattle.span_machine.specs.Kept.{most_versions, live_with}
 use Rattle.span_kept.proofs.Trims.{horizon_here}
 use Rattle.span_machine.specs.Pieces.{Journaled, machine_of}
 use Rattle.span_laws.proofs.Reached.{IsReached, answer_reached}
@@ -21,7 +21,7 @@ use Rattle.span_kept.specs.Kept.{AreKept, ArePieced}
 use Rattle.span_kept.proofs.Claimers.{only_slot}
 use Rattle.span_kept.proofs.Covers.{pieced_by_step}
 use Rattle.span_kept.proofs.Preparing.{its_typed, prepare_free, prepare_new, prepare_fault, prepare_well, kept_prepared, live_prepared}
-use Rattle.span_journal.specs.Judged.{MayPrepare, IsNoted, IsUnnoted, stamp_refusal}
+use Rattle.span_journal.specs.Judged.{MayPrepare, IsNoted, IsUnnoted, timestamp_refusal}
 use Rattle.span_core.specs.Whole.{IsWhole}
 use Rattle.span_core.proofs.Wholes.{no_text}
 use Rattle.span_schema.specs.declared.table.Table.{Table}
@@ -34,44 +34,44 @@ use Rattle.span_shard.specs.Rows.{AreChanges}
 some_same : {A : Type 0} (x y : A) → Some x ≡ Some y → x ≡ y
 some_same x y e = cc
 
-above : (n k : ℕ) → n ≡ k → most < n → nat_lt most k ≡ true
+above : (n k : ℕ) → n ≡ k → most_versions < n → nat_lt most_versions k ≡ true
 above n k same many = grind (arith, nat_tests)
 
-not_above : (n k : ℕ) → n ≡ k → n ≤ most → nat_lt most k ≡ false
+not_above : (n k : ℕ) → n ≡ k → n ≤ most_versions → nat_lt most_versions k ≡ false
 not_above n k same few = grind (arith, nat_tests)
 
 module _ (schema : List Table) (j : Journaled) (cs : List KeyVersions) (w : IsWhole schema j cs) (owner txn slot : ℕ) (ms : List CheckedMutation) (may : MayPrepare schema (machine_of j) owner txn slot ms) where
   zero_slot : slot ≡ 0
-  zero_slot = only_slot schema (machine_of j) w.reached slot may.book may.here
+  zero_slot = only_slot schema (machine_of j) w.reached slot may.slot_state may.here
 
-  here_zero : slice_get (machine_of j).books 0 ≡ Some may.book
-  here_zero = subst (λ i. slice_get (machine_of j).books i ≡ Some may.book) zero_slot may.here
+  here_zero : slice_get (machine_of j).slots 0 ≡ Some may.slot_state
+  here_zero = subst (λ i. slice_get (machine_of j).slots i ≡ Some may.slot_state) zero_slot may.here
 
-  accepted_zero : prepare_refusal schema (machine_of j) 0 may.transaction may.book ≡ None
-  accepted_zero = subst (λ i. prepare_refusal schema (machine_of j) i may.transaction may.book ≡ None) zero_slot may.accepted
+  accepted_zero : prepare_refusal schema (machine_of j) 0 may.transaction may.slot_state ≡ None
+  accepted_zero = subst (λ i. prepare_refusal schema (machine_of j) i may.transaction may.slot_state ≡ None) zero_slot may.accepted
 
   -- nothing is prepared at the keys of the mutations, nor of the transaction
   pub free : IsFree schema ms cs
-  free = subst (λ (l : List CheckedMutation). IsFree schema l cs) (sym may.mutations) (prepare_free schema w.rules (machine_of j) w.reached cs w.kept owner txn may.transaction may.book may.found here_zero accepted_zero)
+  free = subst (λ (l : List CheckedMutation). IsFree schema l cs) (sym may.mutations) (prepare_free schema w.rules (machine_of j) w.reached cs w.kept owner txn may.transaction may.slot_state may.found here_zero accepted_zero)
 
   pub new : HasNoneOf txn cs
-  new = prepare_new schema w.rules (machine_of j) w.reached cs w.kept owner txn may.transaction may.book may.found here_zero accepted_zero
+  new = prepare_new schema w.rules (machine_of j) w.reached cs w.kept owner txn may.transaction may.slot_state may.found here_zero accepted_zero
 
   -- what is left to check: the capacity, and then the timestamp
   abbrev stamped : Answer
-  stamped = unless_refused (machine_of j) (stamp_refusal may.book) (prepared (machine_of j) owner txn slot may.book)
+  stamped = unless_refused (machine_of j) (timestamp_refusal may.slot_state) (prepared (machine_of j) owner txn slot may.slot_state)
 
   abbrev tail : Answer
-  tail = unless_refused (machine_of j) (room_refusal schema (machine_of j) slot may.book (mutations_in schema may.book may.transaction.mutations)) stamped
+  tail = unless_refused (machine_of j) (capacity_refusal schema (machine_of j) slot may.slot_state (mutations_in schema may.slot_state may.transaction.mutations)) stamped
 
-  prepare_is : prepare schema (machine_of j) owner txn slot ≡ unless_refused (machine_of j) (faults schema (machine_of j) (mutations_in schema may.book may.transaction.mutations)) tail
+  prepare_is : prepare schema (machine_of j) owner txn slot ≡ unless_refused (machine_of j) (mutations_refusal schema (machine_of j) (mutations_in schema may.slot_state may.transaction.mutations)) tail
   prepare_is =
-      ap (λ (o : Option OpenTransaction). if_some o (refused (machine_of j) refusal.UnknownTransaction) (λ t. for_slot (machine_of j) slot (prepare_found schema (machine_of j) owner txn slot t))) may.found
-      ∙ ap (λ (o : Option Book). if_some o (refused (machine_of j) refusal.NoSlot) (prepare_found schema (machine_of j) owner txn slot may.transaction)) may.here
-      ∙ ap (λ (o : Option Refusal). unless_refused (machine_of j) o (unless_refused (machine_of j) (faults schema (machine_of j) (mutations_in schema may.book may.transaction.mutations)) tail)) may.accepted
+      ap (λ (o : Option OpenTransaction). if_some o (refused (machine_of j) refusal.UnknownTransaction) (λ t. for_slot (machine_of j) slot (prepare_transaction schema (machine_of j) owner txn slot t))) may.found
+      ∙ ap (λ (o : Option SlotState). if_some o (refused (machine_of j) refusal.NoSlot) (prepare_transaction schema (machine_of j) owner txn slot may.transaction)) may.here
+      ∙ ap (λ (o : Option Refusal). unless_refused (machine_of j) o (unless_refused (machine_of j) (mutations_refusal schema (machine_of j) (mutations_in schema may.slot_state may.transaction.mutations)) tail)) may.accepted
 
   pub typed : AreTypedMutations schema ms
-  typed = subst (AreTypedMutations schema) (sym may.mutations) (its_typed schema w.rules (machine_of j) w.reached cs w.kept owner txn may.transaction may.book may.found here_zero accepted_zero)
+  typed = subst (AreTypedMutations schema) (sym may.mutations) (its_typed schema w.rules (machine_of j) w.reached cs w.kept owner txn may.transaction may.slot_state may.found here_zero accepted_zero)
 
   -- what the shard says of every database whose rows it has
   abbrev pub OfEach : List CheckedMutation → (List TableRow → Type 0) → Type 0
@@ -79,7 +79,7 @@ module _ (schema : List Table) (j : Journaled) (cs : List KeyVersions) (w : IsWh
 
   -- the fault of the mutations is the reply
   pub fault_steps : (why : Refusal) → OfEach ms (λ db. (why ≡ refusal.OutOfMemory) ⊎ (apply schema db ms ≡ Err why)) → Steps schema (machine_of j) (step.Prepare owner txn slot) (reply.Refused why) (machine_of j)
-  fault_steps why says = elim (prepare_fault schema w.rules (machine_of j) w.reached cs w.kept owner txn may.transaction may.book may.found here_zero accepted_zero why
+  fault_steps why says = elim (prepare_fault schema w.rules (machine_of j) w.reached cs w.kept owner txn may.transaction may.slot_state may.found here_zero accepted_zero why
       (subst (λ (l : List CheckedMutation). OfEach l (λ db. (why ≡ refusal.OutOfMemory) ⊎ (apply schema db l ≡ Err why))) may.mutations says)) [
         | inl memory ↦ inr (refl, (ap reply.Refused memory, refl))
         | inr is ↦
@@ -91,38 +91,38 @@ module _ (schema : List Table) (j : Journaled) (cs : List KeyVersions) (w : IsWh
   Changes l ws = OfEach l (λ db. (after : List TableRow) × (apply schema db l ≡ Ok after) × AreChanges schema db after ws)
 
   module _ (ws : List Write) (are : Changes ms ws) where
-    are_in : Changes (mutations_in schema may.book may.transaction.mutations) ws
+    are_in : Changes (mutations_in schema may.slot_state may.transaction.mutations) ws
     are_in = subst (λ (l : List CheckedMutation). Changes l ws) may.mutations are
 
-    well : faults schema (machine_of j) (mutations_in schema may.book may.transaction.mutations) ≡ None
-    well = prepare_well schema w.rules (machine_of j) w.reached cs w.kept owner txn may.transaction may.book may.found here_zero accepted_zero ws are_in
+    well : mutations_refusal schema (machine_of j) (mutations_in schema may.slot_state may.transaction.mutations) ≡ None
+    well = prepare_well schema w.rules (machine_of j) w.reached cs w.kept owner txn may.transaction may.slot_state may.found here_zero accepted_zero ws are_in
 
     to_room : prepare schema (machine_of j) owner txn slot ≡ tail
     to_room = prepare_is ∙ ap (λ (o : Option Refusal). unless_refused (machine_of j) o tail) well
 
     -- with the writes there are as many versions as the machine counts
-    number : live (with_writes txn ws cs) ≡ live_with schema (machine_of j).log (machine_of j).transactions slot may.book.horizon (mutations_in schema may.book may.transaction.mutations)
+    number : live (with_writes txn ws cs) ≡ live_with schema (machine_of j).log (machine_of j).transactions slot may.slot_state.horizon (mutations_in schema may.slot_state may.transaction.mutations)
     number =
-        live_prepared schema w.rules (machine_of j) w.reached cs w.kept owner txn may.transaction may.book may.found here_zero accepted_zero ws are_in
-        ∙ ap (λ (h : ℕ). live_with schema (machine_of j).log (machine_of j).transactions 0 h (mutations_in schema may.book may.transaction.mutations)) (horizon_here (machine_of j).books may.book here_zero)
-        ∙ ap (λ (i : ℕ). live_with schema (machine_of j).log (machine_of j).transactions i may.book.horizon (mutations_in schema may.book may.transaction.mutations)) (sym zero_slot)
+        live_prepared schema w.rules (machine_of j) w.reached cs w.kept owner txn may.transaction may.slot_state may.found here_zero accepted_zero ws are_in
+        ∙ ap (λ (h : ℕ). live_with schema (machine_of j).log (machine_of j).transactions 0 h (mutations_in schema may.slot_state may.transaction.mutations)) (horizon_here (machine_of j).slots may.slot_state here_zero)
+        ∙ ap (λ (i : ℕ). live_with schema (machine_of j).log (machine_of j).transactions i may.slot_state.horizon (mutations_in schema may.slot_state may.transaction.mutations)) (sym zero_slot)
 
     -- where they are too many, that is the reply
-    pub full_steps : most < live (with_writes txn ws cs) → Steps schema (machine_of j) (step.Prepare owner txn slot) (reply.Refused refusal.ShardFull) (machine_of j)
+    pub full_steps : most_versions < live (with_writes txn ws cs) → Steps schema (machine_of j) (step.Prepare owner txn slot) (reply.Refused refusal.ShardFull) (machine_of j)
     full_steps many =
         let e = to_room ∙ ap (λ (b : Bool). unless_refused (machine_of j) (first_cause ((b, refusal.ShardFull) ∷ [])) stamped) (above (live (with_writes txn ws cs)) _ number many) in
         inl (no_text, tt, (sym (ap (λ (a : Answer). a.0) e), sym (ap (λ (a : Answer). a.1) e)))
 
-  module _ (ws : List Write) (are : Changes ms ws) (few : live (with_writes txn ws cs) ≤ most) where
+  module _ (ws : List Write) (are : Changes ms ws) (few : live (with_writes txn ws cs) ≤ most_versions) where
     judged : prepare schema (machine_of j) owner txn slot ≡ stamped
     judged = to_room ws are ∙ ap (λ (b : Bool). unless_refused (machine_of j) (first_cause ((b, refusal.ShardFull) ∷ [])) stamped) (not_above (live (with_writes txn ws cs)) _ (number ws are) few)
 
     -- a transaction that is noted is prepared
-    prepared_is : (ts : ℕ) (n : Machine) → (d : IsNoted (machine_of j) owner txn slot ts n) → prepare schema (machine_of j) owner txn slot ≡ prepared (machine_of j) owner txn slot d.book
+    prepared_is : (ts : ℕ) (n : Machine) → (d : IsNoted (machine_of j) owner txn slot ts n) → prepare schema (machine_of j) owner txn slot ≡ prepared (machine_of j) owner txn slot d.slot_state
     prepared_is ts n d =
-        let same : d.book ≡ may.book = some_same d.book may.book (sym d.here ∙ may.here) in
-        judged ∙ ap (λ (b : Book). unless_refused (machine_of j) (stamp_refusal b) (prepared (machine_of j) owner txn slot b)) (sym same)
-        ∙ ap (λ (o : Option Refusal). unless_refused (machine_of j) o (prepared (machine_of j) owner txn slot d.book)) d.stamped
+        let same : d.slot_state ≡ may.slot_state = some_same d.slot_state may.slot_state (sym d.here ∙ may.here) in
+        judged ∙ ap (λ (b : SlotState). unless_refused (machine_of j) (timestamp_refusal b) (prepared (machine_of j) owner txn slot b)) (sym same)
+        ∙ ap (λ (o : Option Refusal). unless_refused (machine_of j) o (prepared (machine_of j) owner txn slot d.slot_state)) d.stamped
 
     pub noted_steps : (ts : ℕ) (n : Machine) → IsNoted (machine_of j) owner txn slot ts n → Steps schema (machine_of j) (step.Prepare owner txn slot) (reply.Prepared ts) n
     noted_steps ts n d =
@@ -134,13 +134,13 @@ module _ (schema : List Table) (j : Journaled) (cs : List KeyVersions) (w : IsWh
         let m = machine_of j in
         let e = prepared_is ts (machine_of k) d in
         let is : machine_of k ≡ (prepare schema m owner txn slot).1 = d.after ∙ sym (ap (λ (a : Answer). a.1) e) in
-        let same : may.book ≡ d.book = some_same may.book d.book (sym may.here ∙ d.here) in
-        let kept = kept_prepared schema w.rules m w.reached cs w.kept owner txn may.transaction may.book may.found here_zero accepted_zero ws (are_in ws are) in
+        let same : may.slot_state ≡ d.slot_state = some_same may.slot_state d.slot_state (sym may.here ∙ d.here) in
+        let kept = kept_prepared schema w.rules m w.reached cs w.kept owner txn may.transaction may.slot_state may.found here_zero accepted_zero ws (are_in ws are) in
         record {
           rules = w.rules;
           reached = subst (IsReached schema) (sym is) (answer_reached schema w.rules m w.reached no_text (step.Prepare owner txn slot) tt);
           kept = subst (λ (n : Machine). AreKept schema n (with_writes txn ws cs)) (sym d.after)
-              (subst (λ (b : Book). AreKept schema (prepared m owner txn slot b).1 (with_writes txn ws cs)) same (subst (λ i. AreKept schema (prepared m owner txn i may.book).1 (with_writes txn ws cs)) (sym zero_slot) kept));
+              (subst (λ (b : SlotState). AreKept schema (prepared m owner txn slot b).1 (with_writes txn ws cs)) same (subst (λ i. AreKept schema (prepared m owner txn i may.slot_state).1 (with_writes txn ws cs)) (sym zero_slot) kept));
           pieced = subst (ArePieced schema (machine_of k)) (sym queries) (subst (λ (n : Machine). ArePieced schema n j.queries) (sym is) (pieced_by_step schema w.rules m w.reached j.queries refl w.pieced no_text (step.Prepare owner txn slot) tt));
         }
 
@@ -150,7 +150,7 @@ module _ (schema : List Table) (j : Journaled) (cs : List KeyVersions) (w : IsWh
     unnoted_steps why (inr (inl none)) = absurd (let f = may.found in cc)
     unnoted_steps why (inr (inr (inl none))) = absurd (let f = may.here in cc)
     unnoted_steps why (inr (inr (inr g))) =
-        let same : may.book ≡ g.0 = some_same may.book g.0 (sym may.here ∙ g.1) in
-        let e = judged ∙ ap (λ (b : Book). unless_refused (machine_of j) (stamp_refusal b) (prepared (machine_of j) owner txn slot b)) same
+        let same : may.slot_state ≡ g.0 = some_same may.slot_state g.0 (sym may.here ∙ g.1) in
+        let e = judged ∙ ap (λ (b : SlotState). unless_refused (machine_of j) (timestamp_refusal b) (prepared (machine_of j) owner txn slot b)) same
         ∙ ap (λ (o : Option Refusal). unless_refused (machine_of j) o (prepared (machine_of j) owner txn slot g.0)) g.2 in
         inl (no_text, tt, (sym (ap (λ (a : Answer). a.0) e), sym (ap (λ (a : Answer). a.1) e)))

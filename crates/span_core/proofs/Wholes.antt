@@ -18,13 +18,13 @@ use Rattle.span_machine.specs.declared.step.Step.{Step}
 use Rattle.span_machine.specs.declared.step.Step.TheVariants as step
 use Rattle.span_machine.specs.declared.step.Reply.{Reply}
 use Rattle.span_machine.specs.declared.step.Reply.TheVariants as reply
-use Rattle.span_machine.specs.declared.slot.Book.{Book}
+use Rattle.span_machine.specs.declared.slot.SlotState.{SlotState}
 use Rattle.span_machine.specs.declared.query.Leaf.{Leaf}
 use Rattle.span_machine.specs.declared.query.OpenQuery.{OpenQuery}
-use Rattle.span_machine.specs.declared.transaction.Outcome.{Outcome}
-use Rattle.span_machine.specs.declared.transaction.Outcome.TheVariants as outcome
+use Rattle.span_machine.specs.declared.transaction.Decision.{Decision}
+use Rattle.span_machine.specs.declared.transaction.Decision.TheVariants as decision
 use Rattle.span_machine.specs.declared.transaction.OpenTransaction.{OpenTransaction}
-use Rattle.span_machine.specs.Machine.{Machine, IsUnderstood, Answer, Answers, answer, start, refused, unless_refused, if_some, for_slot, is_query, is_transaction, is_safe, risen, with_book, cover, changed_first, without_first, scan, scan_found, scan_at, scan_gap, scanned, trim, trim_found, trimmed, applied_at, apply_step, apply_found, begin, open_query, answer_on, or_refusal}
+use Rattle.span_machine.specs.Machine.{Machine, IsUnderstood, Answer, Answers, answer, start, refused, unless_refused, if_some, for_slot, is_query, is_transaction, is_safe, with_risen_floor, with_slot_state, cover, changed_first, without_first, scan, scan_query, scan_leaf, scan_gap, scanned, trim, trim_slot, trimmed, applied_at, apply_step, apply_transaction, begin, open_query, answer_on, rows_or_refusal}
 use Rattle.span_machine.specs.Pieces.{Pieced, Journaled, unread, covered_by, machine_of, queries_of}
 use Rattle.span_laws.proofs.Reached.{IsReached, start_reached, answer_reached, reached_tables}
 use Rattle.span_kept.specs.Kept.{AreKept, ArePieced, IsReading, family, horizon_in, horizon_of}
@@ -37,7 +37,7 @@ use Rattle.span_kept.proofs.Steps.{start_kept, kept_scan}
 use Rattle.span_kept.proofs.Applying.{kept_committed, kept_aborted}
 use Rattle.span_kept.proofs.Claimers.{only_slot}
 use Rattle.span_kept.proofs.Covers.{no_pieces, pieced_push, pieced_without, pieced_by_step, pieced_table, pieced_scanned, pieced_finish, covered-queries, find-queries, found_query}
-use Rattle.span_journal.specs.Judged.{IsApplied, IsRaised, MayScan, IsRegistered, IsUnregistered, IsCovered, outcome_of}
+use Rattle.span_journal.specs.Judged.{IsApplied, IsRaised, MayScan, IsRegistered, IsUnregistered, IsCovered, decision_of}
 use Rattle.span_core.specs.Whole.{IsWhole, IsRead, IsUnread}
 use Rattle.span_core.specs.Histories.{Steps}
 use Rattle.span_statement.specs.Understands.{Understands}
@@ -121,14 +121,14 @@ pieces_closed schema (Err why) query ps qs ok err n all = subst (ArePieced schem
 
 -- ---- apply
 
-apply_is : (m : Machine) (owner txn slot : ℕ) (interval : Interval) (committed : Option ℕ) (n : Machine) → (d : IsApplied m owner txn slot interval committed n) → apply_step m owner txn slot interval ≡ applied_at (outcome_of committed) m owner txn slot d.transaction
+apply_is : (m : Machine) (owner txn slot : ℕ) (interval : Interval) (committed : Option ℕ) (n : Machine) → (d : IsApplied m owner txn slot interval committed n) → apply_step m owner txn slot interval ≡ applied_at (decision_of committed) m owner txn slot d.transaction
 apply_is m owner txn slot interval committed n d =
-    ap (λ (o : Option OpenTransaction). if_some o (refused m refusal.UnknownTransaction) (λ t. for_slot m slot (apply_found m owner txn slot interval t))) d.found
-    ∙ ap (λ (o : Option Book). if_some o (refused m refusal.NoSlot) (apply_found m owner txn slot interval d.transaction)) d.here
-    ∙ ap (λ (o : Option Refusal). unless_refused m o (applied_at d.transaction.outcome m owner txn slot d.transaction)) d.accepted
-    ∙ ap (λ (o : Outcome). applied_at o m owner txn slot d.transaction) d.outcome
+    ap (λ (o : Option OpenTransaction). if_some o (refused m refusal.UnknownTransaction) (λ t. for_slot m slot (apply_transaction m owner txn slot interval t))) d.found
+    ∙ ap (λ (o : Option SlotState). if_some o (refused m refusal.NoSlot) (apply_transaction m owner txn slot interval d.transaction)) d.here
+    ∙ ap (λ (o : Option Refusal). unless_refused m o (applied_at d.transaction.decision m owner txn slot d.transaction)) d.accepted
+    ∙ ap (λ (o : Decision). applied_at o m owner txn slot d.transaction) d.decision
 
-applied_reply : (committed : Option ℕ) (m : Machine) (owner txn slot : ℕ) (t : OpenTransaction) → (applied_at (outcome_of committed) m owner txn slot t).0 ≡ reply.Applied
+applied_reply : (committed : Option ℕ) (m : Machine) (owner txn slot : ℕ) (t : OpenTransaction) → (applied_at (decision_of committed) m owner txn slot t).0 ≡ reply.Applied
 applied_reply None m owner txn slot t = refl
 applied_reply (Some ts) m owner txn slot t = refl
 
@@ -137,23 +137,23 @@ applied_steps schema m owner txn slot interval committed n d =
     let e = apply_is m owner txn slot interval committed n d in
     inl (no_text, tt, (sym (ap (λ (a : Answer). a.0) e ∙ applied_reply committed m owner txn slot d.transaction), d.after ∙ sym (ap (λ (a : Answer). a.1) e)))
 
-kept_applied : (schema : List Table) (m : Machine) (cs : List KeyVersions) (owner txn slot : ℕ) (committed : Option ℕ) (t : OpenTransaction) → IsReached schema m → AreKept schema m cs → find (is_transaction owner txn) m.transactions ≡ Some t → slot ≡ 0 → t.outcome ≡ outcome_of committed
-    → AreKept schema (applied_at (outcome_of committed) m owner txn slot t).1 (shard.applied txn committed cs)
-kept_applied schema m cs owner txn slot None t reached kept found zero is = subst (λ i. AreKept schema (applied_at outcome.Aborted m owner txn i t).1 (shard.applied txn None cs)) (sym zero) (kept_aborted schema m reached cs kept owner txn t found is)
-kept_applied schema m cs owner txn slot (Some ts) t reached kept found zero is = subst (λ i. AreKept schema (applied_at (outcome.Committed ts) m owner txn i t).1 (shard.applied txn (Some ts) cs)) (sym zero) (kept_committed schema m reached cs kept owner txn t found ts is)
+kept_applied : (schema : List Table) (m : Machine) (cs : List KeyVersions) (owner txn slot : ℕ) (committed : Option ℕ) (t : OpenTransaction) → IsReached schema m → AreKept schema m cs → find (is_transaction owner txn) m.transactions ≡ Some t → slot ≡ 0 → t.decision ≡ decision_of committed
+    → AreKept schema (applied_at (decision_of committed) m owner txn slot t).1 (shard.applied txn committed cs)
+kept_applied schema m cs owner txn slot None t reached kept found zero is = subst (λ i. AreKept schema (applied_at decision.Aborted m owner txn i t).1 (shard.applied txn None cs)) (sym zero) (kept_aborted schema m reached cs kept owner txn t found is)
+kept_applied schema m cs owner txn slot (Some ts) t reached kept found zero is = subst (λ i. AreKept schema (applied_at (decision.Committed ts) m owner txn i t).1 (shard.applied txn (Some ts) cs)) (sym zero) (kept_committed schema m reached cs kept owner txn t found ts is)
 
 pub whole_applied : (schema : List Table) (j k : Journaled) (cs : List KeyVersions) (owner txn slot : ℕ) (interval : Interval) (committed : Option ℕ) → IsWhole schema j cs → IsApplied (machine_of j) owner txn slot interval committed (machine_of k) → k.queries ≡ j.queries
     → IsWhole schema k (shard.applied txn committed cs)
 whole_applied schema j k cs owner txn slot interval committed w d queries =
     let m = machine_of j in
-    let zero = only_slot schema m w.reached slot d.book d.here in
+    let zero = only_slot schema m w.reached slot d.slot_state d.here in
     let steps = applied_steps schema m owner txn slot interval committed (machine_of k) d in
     let e = apply_is m owner txn slot interval committed (machine_of k) d in
     let is : machine_of k ≡ (apply_step m owner txn slot interval).1 = d.after ∙ sym (ap (λ (a : Answer). a.1) e) in
     record {
       rules = w.rules;
       reached = subst (IsReached schema) (sym is) (answer_reached schema w.rules m w.reached no_text (step.Apply owner txn slot interval) tt);
-      kept = subst (λ (n : Machine). AreKept schema n (shard.applied txn committed cs)) (sym d.after) (kept_applied schema m cs owner txn slot committed d.transaction w.reached w.kept d.found zero d.outcome);
+      kept = subst (λ (n : Machine). AreKept schema n (shard.applied txn committed cs)) (sym d.after) (kept_applied schema m cs owner txn slot committed d.transaction w.reached w.kept d.found zero d.decision);
       pieced = subst (ArePieced schema (machine_of k)) (sym queries) (subst (λ (n : Machine). ArePieced schema n j.queries) (sym is) (pieced_by_step schema w.rules m w.reached j.queries refl w.pieced no_text (step.Apply owner txn slot interval) tt));
     }
 
@@ -166,29 +166,29 @@ not_below s h e = grind (arith, nat_tests)
 -- what may be scanned is not below the horizon
 above_horizon : (schema : List Table) (m : Machine) → IsReached schema m → (query leaf slot : ℕ) (interval : Interval) (table s : ℕ) (d : MayScan m query leaf slot interval table s) → horizon_of m ≤ d.question.s
 above_horizon schema m reached query leaf slot interval table s d =
-    let here : slice_get m.books 0 ≡ Some d.book = subst (λ (i : ℕ). slice_get m.books i ≡ Some d.book) (only_slot schema m reached slot d.book d.here) d.here in
-    subst (λ (h : ℕ). h ≤ d.question.s) (sym (horizon_here m.books d.book here)) (not_below d.question.s d.book.horizon d.above)
+    let here : slice_get m.slots 0 ≡ Some d.slot_state = subst (λ (i : ℕ). slice_get m.slots i ≡ Some d.slot_state) (only_slot schema m reached slot d.slot_state d.here) d.here in
+    subst (λ (h : ℕ). h ≤ d.question.s) (sym (horizon_here m.slots d.slot_state here)) (not_below d.question.s d.slot_state.horizon d.above)
 
 -- ---- trim
 
-trim_is : (schema : List Table) (m : Machine) (slot h : ℕ) (n : Machine) (d : IsRaised m slot h n) → trim schema m slot h ≡ trimmed schema m slot h d.book
+trim_is : (schema : List Table) (m : Machine) (slot h : ℕ) (n : Machine) (d : IsRaised m slot h n) → trim schema m slot h ≡ trimmed schema m slot h d.slot_state
 trim_is schema m slot h n d =
-    ap (λ (o : Option Book). if_some o (refused m refusal.NoSlot) (trim_found schema m slot h)) d.here
-    ∙ ap (λ (o : Option Refusal). unless_refused m o (trimmed schema m slot h d.book)) d.accepted
+    ap (λ (o : Option SlotState). if_some o (refused m refusal.NoSlot) (trim_slot schema m slot h)) d.here
+    ∙ ap (λ (o : Option Refusal). unless_refused m o (trimmed schema m slot h d.slot_state)) d.accepted
 
 -- the shard trimmed at the horizon belongs to the journal whose horizon has risen
 pub whole_trimmed : (schema : List Table) (j k : Journaled) (cs : List KeyVersions) (slot h : ℕ) → IsWhole schema j cs → IsRaised (machine_of j) slot h (machine_of k) → k.queries ≡ j.queries → IsWhole schema k (shard.trimmed h cs)
 whole_trimmed schema j k cs slot h w d queries =
     let m = machine_of j in
-    let zero = only_slot schema m w.reached slot d.book d.here in
+    let zero = only_slot schema m w.reached slot d.slot_state d.here in
     let is : machine_of k ≡ (trim schema m slot h).1 = d.after ∙ sym (ap (λ (a : Answer). a.1) (trim_is schema m slot h (machine_of k) d)) in
-    let here : slice_get m.books 0 ≡ Some d.book = subst (λ (i : ℕ). slice_get m.books i ≡ Some d.book) zero d.here in
-    let high : d.book.horizon ≤ h = not_below h d.book.horizon (may_trim (nat_lt h d.book.horizon) (is_safe m slot d.book h) d.accepted).0 in
+    let here : slice_get m.slots 0 ≡ Some d.slot_state = subst (λ (i : ℕ). slice_get m.slots i ≡ Some d.slot_state) zero d.here in
+    let high : d.slot_state.horizon ≤ h = not_below h d.slot_state.horizon (may_trim (nat_lt h d.slot_state.horizon) (is_safe m slot d.slot_state h) d.accepted).0 in
     record {
       rules = w.rules;
       reached = subst (IsReached schema) (sym is) (answer_reached schema w.rules m w.reached no_text (step.Trim slot h) tt);
       kept = subst (λ (n : Machine). AreKept schema n (shard.trimmed h cs)) (sym d.after)
-          (subst (λ (i : ℕ). AreKept schema (trimmed schema m i h d.book).1 (shard.trimmed h cs)) (sym zero) (kept_trimmed schema m cs w.kept h d.book here high));
+          (subst (λ (i : ℕ). AreKept schema (trimmed schema m i h d.slot_state).1 (shard.trimmed h cs)) (sym zero) (kept_trimmed schema m cs w.kept h d.slot_state here high));
       pieced = subst (ArePieced schema (machine_of k)) (sym queries) (subst (λ (n : Machine). ArePieced schema n j.queries) (sym is) (pieced_by_step schema w.rules m w.reached j.queries refl w.pieced no_text (step.Trim slot h) tt));
     }
 
@@ -197,14 +197,14 @@ pub trimmed_steps : (schema : List Table) (j k : Journaled) (cs : List KeyVersio
     → Steps schema (machine_of j) (step.Trim slot h) (reply.Trimmed (shard.live (shard.trimmed h cs))) (machine_of k)
 trimmed_steps schema j k cs slot h w d queries =
     let m = machine_of j in
-    let zero = only_slot schema m w.reached slot d.book d.here in
-    let here : slice_get m.books 0 ≡ Some d.book = subst (λ (i : ℕ). slice_get m.books i ≡ Some d.book) zero d.here in
+    let zero = only_slot schema m w.reached slot d.slot_state d.here in
+    let here : slice_get m.slots 0 ≡ Some d.slot_state = subst (λ (i : ℕ). slice_get m.slots i ≡ Some d.slot_state) zero d.here in
     let after = whole_trimmed schema j k cs slot h w d queries in
     let e = trim_is schema m slot h (machine_of k) d in
     let log : (machine_of k).log ≡ m.log = ap (λ (n : Machine). n.log) d.after in
     let open_still : (machine_of k).transactions ≡ m.transactions = ap (λ (n : Machine). n.transactions) d.after in
     let horizon : horizon_of (machine_of k) ≡ h =
-    ap horizon_of d.after ∙ ap (λ (i : ℕ). horizon_in (slice_set m.books i (record d.book { horizon = h }))) zero ∙ horizon_put m.books d.book (record d.book { horizon = h }) here in
+    ap horizon_of d.after ∙ ap (λ (i : ℕ). horizon_in (slice_set m.slots i (record d.slot_state { horizon = h }))) zero ∙ horizon_put m.slots d.slot_state (record d.slot_state { horizon = h }) here in
     let number : shard.live (shard.trimmed h cs) ≡ kept.live schema m.log m.transactions slot h =
     live_is_kept schema w.rules (machine_of k) (shard.trimmed h cs) after.reached after.kept
     ∙ ap (λ (l : List Commit). kept.live schema l (machine_of k).transactions 0 (horizon_of (machine_of k))) log
@@ -216,23 +216,23 @@ trimmed_steps schema j k cs slot h w d queries =
 -- ---- scan
 
 -- the answer of a scan that covers a leaf
-abbrev covers : Machine → ℕ → ℕ → ℕ → Book → Answer
-covers m query leaf slot book = (reply.Scanned, record (with_book m slot book) { queries = changed_first (is_query query) (cover leaf) m.queries })
+abbrev covers : Machine → ℕ → ℕ → ℕ → SlotState → Answer
+covers m query leaf slot slot_state = (reply.Scanned, record (with_slot_state m slot slot_state) { queries = changed_first (is_query query) (cover leaf) m.queries })
 
-abbrev waits : Machine → ℕ → Book → Answer
-waits m slot book = (reply.Refused refusal.NotYet, with_book m slot book)
+abbrev waits : Machine → ℕ → SlotState → Answer
+waits m slot slot_state = (reply.Refused refusal.NotYet, with_slot_state m slot slot_state)
 
 abbrev nothing : Machine → Answer
 nothing m = (reply.Nothing, m)
 
-scan_is : (m : Machine) (query leaf slot : ℕ) (interval : Interval) (table s : ℕ) (d : MayScan m query leaf slot interval table s) → scan m query leaf slot interval ≡ covers m query leaf slot (risen d.book d.question.s interval)
+scan_is : (m : Machine) (query leaf slot : ℕ) (interval : Interval) (table s : ℕ) (d : MayScan m query leaf slot interval table s) → scan m query leaf slot interval ≡ covers m query leaf slot (with_risen_floor d.slot_state d.question.s interval)
 scan_is m query leaf slot interval table s d =
-    ap (λ (o : Option OpenQuery). if_some o (refused m refusal.UnknownQuery) (scan_found m query leaf slot interval)) d.found
-    ∙ ap (λ (o : Option Leaf). if_some o (refused m refusal.UnknownQuery) (λ l. for_slot m slot (scan_at m query leaf slot interval d.question l))) d.there
-    ∙ ap (λ (o : Option Book). if_some o (refused m refusal.NoSlot) (scan_at m query leaf slot interval d.question d.gap)) d.here
-    ∙ ap (λ b. cond b (nothing m) (scan_gap m query leaf slot interval d.question d.book)) d.uncovered
-    ∙ ap (λ b. cond b (refused m refusal.Trimmed) (scanned m query leaf slot (risen d.book d.question.s interval) d.question.s)) d.above
-    ∙ ap (λ b. cond b (covers m query leaf slot (risen d.book d.question.s interval)) (waits m slot (risen d.book d.question.s interval))) d.safe
+    ap (λ (o : Option OpenQuery). if_some o (refused m refusal.UnknownQuery) (scan_query m query leaf slot interval)) d.found
+    ∙ ap (λ (o : Option Leaf). if_some o (refused m refusal.UnknownQuery) (λ l. for_slot m slot (scan_leaf m query leaf slot interval d.question l))) d.there
+    ∙ ap (λ (o : Option SlotState). if_some o (refused m refusal.NoSlot) (scan_leaf m query leaf slot interval d.question d.gap)) d.here
+    ∙ ap (λ b. cond b (nothing m) (scan_gap m query leaf slot interval d.question d.slot_state)) d.uncovered
+    ∙ ap (λ b. cond b (refused m refusal.Trimmed) (scanned m query leaf slot (with_risen_floor d.slot_state d.question.s interval) d.question.s)) d.above
+    ∙ ap (λ b. cond b (covers m query leaf slot (with_risen_floor d.slot_state d.question.s interval)) (waits m slot (with_risen_floor d.slot_state d.question.s interval))) d.safe
 
 -- the pieces of an open query
 piece_of : (ps : List Pieced) (query : ℕ) (q : OpenQuery) → find (is_query query) (queries_of ps) ≡ Some q → (p : Pieced) × (find (λ (x : Pieced). is_query query x.query) ps ≡ Some p) × (p.query ≡ q)
@@ -258,23 +258,23 @@ scanned_whole schema j k cs query leaf slot interval table s shown w d reading g
     let m = machine_of j in
     let ps = changed_first (λ (p : Pieced). is_query query p.query) (covered_by leaf shown) j.queries in
     let same : g.question.query ≡ d.question = some_same _ _ (sym (found_query query j.queries g.question g.found) ∙ d.found) in
-    let book_same : g.book ≡ d.book = some_same _ _ (sym g.here ∙ d.here) in
-    let risen_same : risen g.book g.question.query.s interval ≡ risen d.book d.question.s interval =
-    ap (λ (b : Book). risen b g.question.query.s interval) book_same ∙ ap (λ (q : OpenQuery). risen d.book q.s interval) same in
+    let slot_state_same : g.slot_state ≡ d.slot_state = some_same _ _ (sym g.here ∙ d.here) in
+    let risen_same : with_risen_floor g.slot_state g.question.query.s interval ≡ with_risen_floor d.slot_state d.question.s interval =
+    ap (λ (b : SlotState). with_risen_floor b g.question.query.s interval) slot_state_same ∙ ap (λ (q : OpenQuery). with_risen_floor d.slot_state q.s interval) same in
     let read_at : s ≡ g.question.query.s = d.at ∙ ap (λ (q : OpenQuery). q.s) (sym same) in
     let is : machine_of k ≡ (scan m query leaf slot interval).1 =
     ap machine_of g.after
-    ∙ ap (λ (b : Book). machine_of (record j { books = (with_book m slot b).books; queries = ps })) risen_same
-    ∙ ap (λ (qs : List OpenQuery). record (with_book m slot (risen d.book d.question.s interval)) { queries = qs }) (sym (covered-queries (is_query query) leaf shown j.queries))
+    ∙ ap (λ (b : SlotState). machine_of (record j { slots = (with_slot_state m slot b).slots; queries = ps })) risen_same
+    ∙ ap (λ (qs : List OpenQuery). record (with_slot_state m slot (with_risen_floor d.slot_state d.question.s interval)) { queries = qs }) (sym (covered-queries (is_query query) leaf shown j.queries))
     ∙ sym (ap (λ (a : Answer). a.1) (scan_is m query leaf slot interval table s d)) in
-    let zero = only_slot schema m w.reached slot d.book d.here in
-    let safe : is_safe m 0 (risen d.book d.question.s interval) g.question.query.s ≡ true =
-    ap (λ (q : OpenQuery). is_safe m 0 (risen d.book d.question.s interval) q.s) same ∙ subst (λ i. is_safe m i (risen d.book d.question.s interval) d.question.s ≡ true) zero d.safe in
+    let zero = only_slot schema m w.reached slot d.slot_state d.here in
+    let safe : is_safe m 0 (with_risen_floor d.slot_state d.question.s interval) g.question.query.s ≡ true =
+    ap (λ (q : OpenQuery). is_safe m 0 (with_risen_floor d.slot_state d.question.s interval) q.s) same ∙ subst (λ i. is_safe m i (with_risen_floor d.slot_state d.question.s interval) d.question.s ≡ true) zero d.safe in
     let high : horizon_of m ≤ g.question.query.s = subst (λ (q : OpenQuery). horizon_of m ≤ q.s) (sym same) (above_horizon schema m w.reached query leaf slot interval table s d) in
     let there : slice_get g.question.query.leaves leaf ≡ Some d.gap = ap (λ (q : OpenQuery). slice_get q.leaves leaf) same ∙ d.there in
     let reading_there : IsReading schema d.gap.table (snapshot (family (root_of schema d.gap.table)) g.question.query.s cs) shown =
     subst (λ n. IsReading schema n (snapshot (family (root_of schema n)) g.question.query.s cs) shown) d.of_table (subst (λ i. IsReading schema table (snapshot (family (root_of schema table)) i cs) shown) read_at reading) in
-    let pieced = pieced_scanned schema w.rules m cs j.queries w.reached w.kept w.pieced query g.question (risen d.book d.question.s interval) g.found safe high leaf d.gap there shown reading_there in (
+    let pieced = pieced_scanned schema w.rules m cs j.queries w.reached w.kept w.pieced query g.question (with_risen_floor d.slot_state d.question.s interval) g.found safe high leaf d.gap there shown reading_there in (
       record {
         rules = w.rules;
         reached = subst (IsReached schema) (sym is) (answer_reached schema w.rules m w.reached no_text (step.Scan query leaf slot interval) tt);
@@ -306,23 +306,23 @@ pub reads : (schema : List Table) (j : Journaled) (cs : List KeyVersions) (query
 reads schema j cs query leaf slot interval table s why w d (inl memory) = memory
 reads schema j cs query leaf slot interval table s why w d (inr none) =
     let m = machine_of j in
-    let zero = only_slot schema m w.reached slot d.book d.here in
-    let safe : is_safe m 0 (risen d.book d.question.s interval) d.question.s ≡ true = subst (λ i. is_safe m i (risen d.book d.question.s interval) d.question.s ≡ true) zero d.safe in
+    let zero = only_slot schema m w.reached slot d.slot_state d.here in
+    let safe : is_safe m 0 (with_risen_floor d.slot_state d.question.s interval) d.question.s ≡ true = subst (λ i. is_safe m i (with_risen_floor d.slot_state d.question.s interval) d.question.s ≡ true) zero d.safe in
     let made = reached_tables schema w.rules m d.question.s w.reached in
-    let seen = snapshot_when_safe schema w.rules m cs d.question.s (risen d.book d.question.s interval) w.reached w.kept safe (above_horizon schema m w.reached query leaf slot interval table s d) made.0 made.1 table in
+    let seen = snapshot_when_safe schema w.rules m cs d.question.s (with_risen_floor d.slot_state d.question.s interval) w.reached w.kept safe (above_horizon schema m w.reached query leaf slot interval table s d) made.0 made.1 table in
     absurd (none seen.rows seen.typed (ap (λ i. snapshot (family (root_of schema table)) i cs) d.at ∙ seen.entries_are))
 
 -- ---- finish
 
 -- what the query means on its pieces is the answer
 finish_is : (schema : List Table) (j : Journaled) (cs : List KeyVersions) (query s : ℕ) (asked : BoundQuery) (pieces : List (List Row)) (means : Rows) → IsWhole schema j cs → IsCovered j query s asked pieces → meant.meaning pieces asked ≡ means
-    → answer schema (machine_of j) no_text (step.Finish query) ≡ (answer_on s (or_refusal means), machine_of j)
+    → answer schema (machine_of j) no_text (step.Finish query) ≡ (answer_on s (rows_or_refusal means), machine_of j)
 finish_is schema j cs query s asked pieces means w p is =
     pieced_finish schema w.rules (machine_of j) w.reached j.queries refl w.pieced no_text query p.question p.found p.covered
-    ∙ ap (λ (n : ℕ). (answer_on n (or_refusal (meant.meaning p.question.pieces p.question.query.query)), machine_of j)) (sym p.at)
-    ∙ ap (λ (q : BoundQuery). (answer_on s (or_refusal (meant.meaning p.question.pieces q)), machine_of j)) (sym p.asked_is)
-    ∙ ap (λ (ts : List (List Row)). (answer_on s (or_refusal (meant.meaning ts asked)), machine_of j)) (sym p.pieces_are)
-    ∙ ap (λ (r : Rows). (answer_on s (or_refusal r), machine_of j)) is
+    ∙ ap (λ (n : ℕ). (answer_on n (rows_or_refusal (meant.meaning p.question.pieces p.question.query.query)), machine_of j)) (sym p.at)
+    ∙ ap (λ (q : BoundQuery). (answer_on s (rows_or_refusal (meant.meaning p.question.pieces q)), machine_of j)) (sym p.asked_is)
+    ∙ ap (λ (ts : List (List Row)). (answer_on s (rows_or_refusal (meant.meaning ts asked)), machine_of j)) (sym p.pieces_are)
+    ∙ ap (λ (r : Rows). (answer_on s (rows_or_refusal r), machine_of j)) is
 
 -- it means rows
 pub finished : (schema : List Table) (j : Journaled) (cs : List KeyVersions) (query s : ℕ) (asked : BoundQuery) (pieces : List (List Row)) (rows : List Row) → IsWhole schema j cs → IsCovered j query s asked pieces → meant.meaning pieces asked ≡ Some rows

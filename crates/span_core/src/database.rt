@@ -6,10 +6,10 @@ ghost use Rattle.span_machine.specs.Run.{IsOfSchema};
 ghost use Rattle.span_mutate.specs.Typed.{AreTypedMutations};
 ghost use Rattle.span_machine.specs.declared.step.Step.TheVariants as step_of;
 ghost use Rattle.span_machine.specs.declared.step.Reply.TheVariants as reply_of;
-ghost use Rattle.span_journal.specs.Judged.{replied};
+ghost use Rattle.span_journal.specs.Judged.{as_reply};
 
 use super::reading::read;
-use super::slot::SlotState;
+use super::slot::SlotReport;
 use span_algebra::plain::eval_plain;
 use span_journal::journal::Journal;
 use span_machine::step::{Reply, Step, Verdict};
@@ -75,21 +75,21 @@ impl Core {
 
     /// How many slots are in use. Their numbers, counted from 0, are below this.
     pub fn slots(&self) -> usize
-        ensures { result ≡ length self.now.machine.books }
+        ensures { result ≡ length self.now.machine.slots }
     {
-        self.journal.books().len()
+        self.journal.slots().len()
     }
 
     /// The report of a slot; None where it is not in use.
-    pub fn slot_state(&self, slot: usize) -> Option<SlotState>
-        ensures book { MatchOption result (slice_get self.now.machine.books slot ≡ None) (λ s. slice_get self.now.machine.books slot ≡ Some (record { last = s.last; floor = s.floor; horizon = s.horizon })) }
+    pub fn slot_report(&self, slot: usize) -> Option<SlotReport>
+        ensures slot_state { MatchOption result (slice_get self.now.machine.slots slot ≡ None) (λ s. slice_get self.now.machine.slots slot ≡ Some (record { last = s.last; floor = s.floor; horizon = s.horizon })) }
         ensures prepared { IfSome result (λ s. s.prepared ≡ count_by (is_prepared_at slot) self.now.machine.transactions) }
     {
-        let book = self.journal.books().get(slot)?;
-        Some(SlotState {
-            last: book.last,
-            floor: book.floor,
-            horizon: book.horizon,
+        let slot_state = self.journal.slots().get(slot)?;
+        Some(SlotReport {
+            last: slot_state.last,
+            floor: slot_state.floor,
+            horizon: slot_state.horizon,
             live: self.shard.live(),
             prepared: self.journal.count_prepared(slot),
         })
@@ -164,10 +164,10 @@ impl Core {
         txn: u64,
         slot: usize,
     ) -> Result<u64, Refusal>
-        ensures steps { Steps self.old.schema self.old.machine (step_of.Prepare owner txn slot) (replied reply_of.Prepared result) self.new.machine }
+        ensures steps { Steps self.old.schema self.old.machine (step_of.Prepare owner txn slot) (as_reply reply_of.Prepared result) self.new.machine }
         ensures schema { self.new.schema ≡ self.old.schema }
     {
-        match self.journal.judge_prepare(&self.schema, owner, txn, slot) {
+        match self.journal.check_prepare(&self.schema, owner, txn, slot) {
             Ok(mutations) => match self.shard.prepare(alloc, &self.schema, txn, mutations) {
                 Ok(()) => {
                     self.shard.keeps_at_most();

@@ -3,7 +3,7 @@ ghost use Rattle.std.specs.Prelude.{◌≡◌, ℕ, List, map, IfOk, IfErr, Matc
 ghost use Rattle.std.specs.Option.{option_copied};
 ghost use Rattle.span_schema.specs.Numbers.{IsTable, root_of};
 ghost use Rattle.span_machine.specs.Meaning.{value_for, value_at, declared_row};
-ghost use Rattle.span_shard.specs.Reading.{shown};
+ghost use Rattle.span_shard.specs.Reading.{entry_row};
 ghost use Rattle.span_kept.specs.Kept.{IsReading, family};
 ghost use Rattle.span_core.specs.Whole.{AreNoRows, IsRead, IsUnread};
 
@@ -64,8 +64,8 @@ fn rows_of(
     table: usize,
     entries: &[Entry],
 ) -> Result<Seq<Row>, Refusal>
-    ensures ok { IfOk result (λ rows. IsReading schema.now table (map shown entries.now) rows) }
-    ensures refused { IfErr result (λ why. (why ≡ Refusal.OutOfMemory) ⊎ AreNoRows schema.now (map shown entries.now)) }
+    ensures ok { IfOk result (λ rows. IsReading schema.now table (map entry_row entries.now) rows) }
+    ensures refused { IfErr result (λ why. (why ≡ Refusal.OutOfMemory) ⊎ AreNoRows schema.now (map entry_row entries.now)) }
 {
     let _tables = schema.tables();
     let mut rows = Vec::new(alloc);

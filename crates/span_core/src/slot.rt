@@ -2,7 +2,7 @@
 
 /// A slot in use.
 #[derive(Clone, Copy, Debug, PartialEq, Eq)]
-pub struct SlotState {
+pub struct SlotReport {
     /// The greatest timestamp given to a transaction here.
     pub last: u64,
     /// No later prepare here gets a timestamp at or below this.

@@ -39,7 +39,7 @@ fn insert(alloc: Global) -> Result<Vec<Mutation>, Fail> {
     let mut key = Seq::new(alloc);
     key.push(Value::Int(1))?;
     let mut cells = Seq::new(alloc);
-    cells.push(Cell {
+    cells.push(NamedValue {
         column: Text::from_str(alloc, "email")?,
         value: Value::Str(Text::from_str(alloc, "a")?),
     })?;

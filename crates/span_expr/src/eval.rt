@@ -5,7 +5,7 @@
 ghost use Rattle.std.specs.Prelude.{◌≡◌, map, IfOk, IsOkUnless};
 ghost use Rattle.std.specs.List.{fold};
 ghost use Rattle.std.specs.Option.{option_map};
-ghost use Rattle.span_expr.specs.Cells.{shown, Gives, GivesOr, Judges, Tells};
+ghost use Rattle.span_expr.specs.Cells.{owned_value, Gives, GivesOr, GivesCondition, GivesChoice};
 ghost use Rattle.span_expr.specs.Outcomes as outcomes;
 ghost use Rattle.span_expr.specs.Operators as operators;
 ghost use Rattle.span_expr.specs.Patterns as patterns;
@@ -14,10 +14,10 @@ ghost use Rattle.span_value.specs.declared.truth.Outcome.{Outcome};
 ghost use Rattle.span_value.specs.declared.truth.Outcome.TheVariants as outcome;
 ghost use Rattle.span_value.specs.declared.value.Value.TheVariants as value;
 
-use super::cell::{Cell, Failure, column_of, lend};
+use super::cell::{LentValue, Failure, column_of, lend};
 use super::condition::{Condition, both, either, either_strict};
 use super::expr::{Arm, Comparison, Expr, Link, Operator, PatternPart};
-use super::operator::{apply, begins, compare, length_of, opposite};
+use super::operator::{apply, has_prefix, compare, length_of, arithmetic_negation};
 use super::pattern::fits;
 use span_value::refusal::Refusal;
 use span_value::truth::{Outcome, Truth, not};
@@ -26,11 +26,11 @@ use sqlite_items::Boxed;
 use std::alloc::Global;
 
 /// The result of an expression: a value, or why there is none.
-pub type Found<'a> = Result<Cell<'a>, Failure>;
+pub type EvalResult<'a> = Result<LentValue<'a>, Failure>;
 
 /// What an operand comes to as a condition.
-fn condition_of(found: Found<'_>) -> Result<Condition, Failure>
-    ensures { (o : Outcome) → Gives found.entry o → Judges result (outcomes.condition_of o) }
+fn condition_of(found: EvalResult<'_>) -> Result<Condition, Failure>
+    ensures { (o : Outcome) → Gives found.entry o → GivesCondition result (outcomes.condition_of o) }
 {
     match found {
         Ok(cell) => Ok(Condition::Known(cell.truth())),
@@ -39,17 +39,17 @@ fn condition_of(found: Found<'_>) -> Result<Condition, Failure>
     }
 }
 
-fn cell_of(truth: Truth) -> Cell<'static>
-    ensures { shown result ≡ outcomes.value_of truth }
+fn cell_of(truth: Truth) -> LentValue<'static>
+    ensures { owned_value result ≡ outcomes.value_of truth }
 {
     match truth {
-        Truth::True => Cell::Bool(true),
-        Truth::False => Cell::Bool(false),
-        Truth::Unknown => Cell::Null,
+        Truth::True => LentValue::Bool(true),
+        Truth::False => LentValue::Bool(false),
+        Truth::Unknown => LentValue::Null,
     }
 }
 
-fn outcome_of<'a>(condition: Condition) -> Found<'a>
+fn outcome_of<'a>(condition: Condition) -> EvalResult<'a>
     ensures { Gives result (outcomes.outcome_of condition) }
 {
     match condition {
@@ -58,39 +58,39 @@ fn outcome_of<'a>(condition: Condition) -> Found<'a>
     }
 }
 
-fn negative(operand: Found<'_>) -> Found<'_>
-    ensures { (o : Outcome) → Gives operand.entry o → Gives result (outcomes.and_then o operators.opposite) }
+fn unary_minus(operand: EvalResult<'_>) -> EvalResult<'_>
+    ensures { (o : Outcome) → Gives operand.entry o → Gives result (outcomes.and_then o operators.arithmetic_negation) }
 {
-    opposite(operand?)
+    arithmetic_negation(operand?)
 }
 
-fn denied(operand: Found<'_>) -> Found<'_>
-    ensures { (o : Outcome) → Gives operand.entry o → Gives result (outcomes.and_then o outcomes.denied) }
+fn logical_not(operand: EvalResult<'_>) -> EvalResult<'_>
+    ensures { (o : Outcome) → Gives operand.entry o → Gives result (outcomes.and_then o outcomes.logical_not) }
 {
     Ok(cell_of(not(operand?.truth())))
 }
 
-fn null_test(operand: Found<'_>) -> Found<'_>
+fn null_test(operand: EvalResult<'_>) -> EvalResult<'_>
     ensures { (o : Outcome) → Gives operand.entry o → Gives result (outcomes.and_then o outcomes.null_test) }
 {
-    Ok(Cell::Bool(operand?.is_null()))
+    Ok(LentValue::Bool(operand?.is_null()))
 }
 
-fn length(operand: Found<'_>) -> Found<'_>
-    ensures { (o : Outcome) → Gives operand.entry o → Gives result (outcomes.and_then o operators.measured) }
+fn length(operand: EvalResult<'_>) -> EvalResult<'_>
+    ensures { (o : Outcome) → Gives operand.entry o → Gives result (outcomes.and_then o operators.length_of) }
 {
     Ok(length_of(&operand?))
 }
 
-fn compared<'a>(comparison: Comparison, left: Found<'a>, right: Found<'a>) -> Found<'a>
-    ensures { (o p : Outcome) → Gives left.entry o → Gives right.entry p → Gives result (outcomes.strict (operators.compared comparison) o p) }
+fn compare_values<'a>(comparison: Comparison, left: EvalResult<'a>, right: EvalResult<'a>) -> EvalResult<'a>
+    ensures { (o p : Outcome) → Gives left.entry o → Gives right.entry p → Gives result (outcomes.strict (operators.compare_values comparison) o p) }
 {
     Ok(compare(comparison, &left?, &right?))
 }
 
 /// A comparison with an operand that is only borrowed.
-fn compared_lent<'a>(comparison: Comparison, left: &Found<'a>, right: Found<'a>) -> Found<'a>
-    ensures { (o p : Outcome) → Gives left.now o → Gives right.entry p → Gives result (outcomes.strict (operators.compared comparison) o p) }
+fn compare_lent<'a>(comparison: Comparison, left: &EvalResult<'a>, right: EvalResult<'a>) -> EvalResult<'a>
+    ensures { (o p : Outcome) → Gives left.now o → Gives right.entry p → Gives result (outcomes.strict (operators.compare_values comparison) o p) }
 {
     match left {
         Ok(cell) => Ok(compare(comparison, cell, &right?)),
@@ -99,70 +99,70 @@ fn compared_lent<'a>(comparison: Comparison, left: &Found<'a>, right: Found<'a>)
 }
 
 /// Whether a condition chooses its arm: where it is TRUE.
-fn chooses(condition: Found<'_>) -> Result<bool, Failure>
-    ensures { (o : Outcome) → Gives condition.entry o → Tells result o }
+fn chooses(condition: EvalResult<'_>) -> Result<bool, Failure>
+    ensures { (o : Outcome) → Gives condition.entry o → GivesChoice result o }
 {
     Ok(condition?.truth() == Truth::True)
 }
 
-fn between<'a>(operand: Found<'a>, low: Found<'a>, high: Found<'a>) -> Found<'a>
+fn between<'a>(operand: EvalResult<'a>, low: EvalResult<'a>, high: EvalResult<'a>) -> EvalResult<'a>
     ensures { (o p q : Outcome) → Gives operand.entry o → Gives low.entry p → Gives high.entry q → Gives result (spec.between o p q) }
 {
-    let above = condition_of(compared_lent(Comparison::AtLeast, &operand, low))?;
-    let below = condition_of(compared_lent(Comparison::AtMost, &operand, high))?;
+    let above = condition_of(compare_lent(Comparison::AtLeast, &operand, low))?;
+    let below = condition_of(compare_lent(Comparison::AtMost, &operand, high))?;
     outcome_of(both(above, below))
 }
 
 /// One more member of an IN.
 fn or_equal<'a>(
     so_far: Condition,
-    operand: &Found<'a>,
-    member: Found<'a>,
+    operand: &EvalResult<'a>,
+    member: EvalResult<'a>,
 ) -> Result<Condition, Failure>
-    ensures { (o p : Outcome) → Gives operand.now o → Gives member.entry p → Judges result (spec.or_equal o so_far p) }
+    ensures { (o p : Outcome) → Gives operand.now o → Gives member.entry p → GivesCondition result (spec.or_equal o so_far p) }
 {
-    let found = compared_lent(Comparison::Equal, operand, member);
+    let found = compare_lent(Comparison::Equal, operand, member);
     Ok(either_strict(so_far, condition_of(found)?))
 }
 
-fn begun<'a>(text: Found<'a>, front: Found<'a>) -> Found<'a>
-    ensures { (o p : Outcome) → Gives text.entry o → Gives front.entry p → Gives result (outcomes.strict operators.begun_by o p) }
+fn prefix_test<'a>(text: EvalResult<'a>, front: EvalResult<'a>) -> EvalResult<'a>
+    ensures { (o p : Outcome) → Gives text.entry o → Gives front.entry p → Gives result (outcomes.strict operators.has_prefix o p) }
 {
-    Ok(begins(&text?, &front?))
+    Ok(has_prefix(&text?, &front?))
 }
 
-fn liked<'a>(operand: Found<'a>, pattern: &[PatternPart]) -> Found<'a>
+fn like_test<'a>(operand: EvalResult<'a>, pattern: &[PatternPart]) -> EvalResult<'a>
     ensures { (o : Outcome) → Gives operand.entry o → Gives result (outcomes.and_then o (patterns.like pattern.now)) }
 {
     match operand?.as_str() {
-        Some(text) => Ok(Cell::Bool(fits(pattern, text))),
-        None => Ok(Cell::Null),
+        Some(text) => Ok(LentValue::Bool(fits(pattern, text))),
+        None => Ok(LentValue::Null),
     }
 }
 
 /// What an expression comes to at a row. The error is `Fault` for an arithmetic error, or out of memory for a string that `||` makes.
 #[cycle(eval)]
-pub fn evaluate<'a>(alloc: Global, expr: &'a Expr, row: &'a [Value]) -> Found<'a>
+pub fn evaluate<'a>(alloc: Global, expr: &'a Expr, row: &'a [Value]) -> EvalResult<'a>
     ensures { Gives result (spec.val row.now expr.now) }
 {
     match expr {
         Expr::Literal(value) => Ok(lend(value)),
         Expr::Column(place) => Ok(column_of(row, *place)),
-        Expr::Negative(a) => negative(evaluate(alloc, a.get(), row)),
+        Expr::Negative(a) => unary_minus(evaluate(alloc, a.get(), row)),
         Expr::Chain(first, links) => {
-            chained(
+            apply_links(
                 alloc,
                 evaluate(alloc, first.get(), row),
                 links.as_slice(),
                 row,
             )
         },
-        Expr::Compare(a, comparison, b) => compared(
+        Expr::Compare(a, comparison, b) => compare_values(
             *comparison,
             evaluate(alloc, a.get(), row),
             evaluate(alloc, b.get(), row),
         ),
-        Expr::StartsWith(a, front) => begun(
+        Expr::StartsWith(a, front) => prefix_test(
             evaluate(alloc, a.get(), row),
             evaluate(alloc, front.get(), row),
         ),
@@ -174,7 +174,7 @@ pub fn evaluate<'a>(alloc: Global, expr: &'a Expr, row: &'a [Value]) -> Found<'a
         ),
         Expr::In(a, members) => {
             let operand = evaluate(alloc, a.get(), row);
-            among(alloc, &operand, members.as_slice(), row)
+            in_list(alloc, &operand, members.as_slice(), row)
         }
         Expr::And(first, more) => {
             all_of(
@@ -184,7 +184,7 @@ pub fn evaluate<'a>(alloc: Global, expr: &'a Expr, row: &'a [Value]) -> Found<'a
                 row,
             )
         },
-        Expr::Not(a) => denied(evaluate(alloc, a.get(), row)),
+        Expr::Not(a) => logical_not(evaluate(alloc, a.get(), row)),
         Expr::IsNull(a) => null_test(evaluate(alloc, a.get(), row)),
         Expr::Or(first, more) => {
             any_of(
@@ -194,25 +194,25 @@ pub fn evaluate<'a>(alloc: Global, expr: &'a Expr, row: &'a [Value]) -> Found<'a
                 row,
             )
         }
-        Expr::Case(arms, otherwise) => match chosen(alloc, arms.as_slice(), row) {
+        Expr::Case(arms, otherwise) => match case_value(alloc, arms.as_slice(), row) {
             Some(found) => found,
             None => value_or_null(alloc, otherwise, row),
         },
         Expr::Match(a, arms, otherwise) => {
             let operand = evaluate(alloc, a.get(), row);
-            match matched(alloc, &operand, arms.as_slice(), row) {
+            match match_value(alloc, &operand, arms.as_slice(), row) {
                 Some(found) => found,
                 None => value_or_null(alloc, otherwise, row),
             }
         }
-        Expr::Coalesce(operands) => first_known(alloc, operands.as_slice(), row),
-        Expr::Like(a, pattern) => liked(evaluate(alloc, a.get(), row), pattern.as_slice()),
+        Expr::Coalesce(operands) => first_non_null(alloc, operands.as_slice(), row),
+        Expr::Like(a, pattern) => like_test(evaluate(alloc, a.get(), row), pattern.as_slice()),
     }
 }
 
 /// An operator applied to the value so far and its operand.
-fn linked<'a>(alloc: Global, operator: Operator, so_far: Cell<'a>, operand: Found<'a>) -> Found<'a>
-    ensures { (o : Outcome) → Gives operand.entry o → Gives result (outcomes.strict (operators.applied operator) (outcome.Val (shown so_far.entry)) o) }
+fn apply_link<'a>(alloc: Global, operator: Operator, so_far: LentValue<'a>, operand: EvalResult<'a>) -> EvalResult<'a>
+    ensures { (o : Outcome) → Gives operand.entry o → Gives result (outcomes.strict (operators.apply_operator operator) (outcome.Val (owned_value so_far.entry)) o) }
 {
     apply(alloc, operator, so_far, &operand?)
 }
@@ -220,18 +220,18 @@ fn linked<'a>(alloc: Global, operator: Operator, so_far: Cell<'a>, operand: Foun
 /// A chain, after its first operand.
 #[cycle(eval)]
 #[tactic(auto, using(crate::proofs::Loops::loop_steps))]
-fn chained<'a>(
+fn apply_links<'a>(
     alloc: Global,
-    first: Found<'a>,
+    first: EvalResult<'a>,
     links: &'a [Link<Expr>],
     row: &'a [Value],
-) -> Found<'a>
-    ensures { (o : Outcome) → Gives first.entry o → Gives result (spec.chained o (map (spec.link_val row.now) links.now)) }
+) -> EvalResult<'a>
+    ensures { (o : Outcome) → Gives first.entry o → Gives result (spec.apply_links o (map (spec.link_val row.now) links.now)) }
 {
     let mut so_far = first?;
     for link in links {
         let operand = evaluate(alloc, &link.operand, row);
-        so_far = linked(alloc, link.operator, so_far, operand)?;
+        so_far = apply_link(alloc, link.operator, so_far, operand)?;
     }
     Ok(so_far)
 }
@@ -239,13 +239,13 @@ fn chained<'a>(
 /// An AND, after its first operand.
 #[cycle(eval)]
 #[tactic(auto, using(crate::proofs::Loops::loop_steps))]
-fn all_of<'a>(alloc: Global, first: Found<'a>, more: &'a [Expr], row: &'a [Value]) -> Found<'a>
+fn all_of<'a>(alloc: Global, first: EvalResult<'a>, more: &'a [Expr], row: &'a [Value]) -> EvalResult<'a>
     ensures { (o : Outcome) → Gives first.entry o → Gives result (spec.all_of o (map (spec.val row.now) more.now)) }
 {
     let mut so_far = condition_of(first)?;
     for operand in more {
         if so_far == Condition::Known(Truth::False) {
-            return Ok(Cell::Bool(false));
+            return Ok(LentValue::Bool(false));
         }
         so_far = both(so_far, condition_of(evaluate(alloc, operand, row))?);
     }
@@ -255,13 +255,13 @@ fn all_of<'a>(alloc: Global, first: Found<'a>, more: &'a [Expr], row: &'a [Value
 /// An OR, after its first operand.
 #[cycle(eval)]
 #[tactic(auto, using(crate::proofs::Loops::loop_steps))]
-fn any_of<'a>(alloc: Global, first: Found<'a>, more: &'a [Expr], row: &'a [Value]) -> Found<'a>
+fn any_of<'a>(alloc: Global, first: EvalResult<'a>, more: &'a [Expr], row: &'a [Value]) -> EvalResult<'a>
     ensures { (o : Outcome) → Gives first.entry o → Gives result (spec.any_of o (map (spec.val row.now) more.now)) }
 {
     let mut so_far = condition_of(first)?;
     for operand in more {
         if so_far == Condition::Known(Truth::True) {
-            return Ok(Cell::Bool(true));
+            return Ok(LentValue::Bool(true));
         }
         so_far = either(so_far, condition_of(evaluate(alloc, operand, row))?);
     }
@@ -270,8 +270,8 @@ fn any_of<'a>(alloc: Global, first: Found<'a>, more: &'a [Expr], row: &'a [Value
 
 /// An IN, after its operand.
 #[cycle(eval)]
-fn among<'a>(alloc: Global, operand: &Found<'a>, members: &'a [Expr], row: &'a [Value]) -> Found<'a>
-    ensures { (o : Outcome) → Gives operand.now o → Gives result (spec.among o (map (spec.val row.now) members.now)) }
+fn in_list<'a>(alloc: Global, operand: &EvalResult<'a>, members: &'a [Expr], row: &'a [Value]) -> EvalResult<'a>
+    ensures { (o : Outcome) → Gives operand.now o → Gives result (spec.in_list o (map (spec.val row.now) members.now)) }
 {
     let mut so_far = Condition::Known(Truth::False);
     for member in members {
@@ -286,19 +286,19 @@ fn value_or_null<'a>(
     alloc: Global,
     otherwise: &'a Option<Boxed<Expr>>,
     row: &'a [Value],
-) -> Found<'a>
+) -> EvalResult<'a>
     ensures { Gives result (spec.or_null_outcome (option_map (spec.val row.now) otherwise.now)) }
 {
     match otherwise {
         Some(value) => evaluate(alloc, value.get(), row),
-        None => Ok(Cell::Null),
+        None => Ok(LentValue::Null),
     }
 }
 
 /// The value of the first arm whose condition is TRUE.
 #[cycle(eval)]
-fn chosen<'a>(alloc: Global, arms: &'a [Arm<Expr>], row: &'a [Value]) -> Option<Found<'a>>
-    ensures { GivesOr result (spec.chosen (map (spec.arm_val row.now) arms.now)) }
+fn case_value<'a>(alloc: Global, arms: &'a [Arm<Expr>], row: &'a [Value]) -> Option<EvalResult<'a>>
+    ensures { GivesOr result (spec.case_value (map (spec.arm_val row.now) arms.now)) }
 {
     for arm in arms {
         match chooses(evaluate(alloc, &arm.condition, row)) {
@@ -312,16 +312,16 @@ fn chosen<'a>(alloc: Global, arms: &'a [Arm<Expr>], row: &'a [Value]) -> Option<
 
 /// The value of the first arm whose condition equals the operand.
 #[cycle(eval)]
-fn matched<'a>(
+fn match_value<'a>(
     alloc: Global,
-    operand: &Found<'a>,
+    operand: &EvalResult<'a>,
     arms: &'a [Arm<Expr>],
     row: &'a [Value],
-) -> Option<Found<'a>>
-    ensures { (o : Outcome) → Gives operand.now o → GivesOr result (spec.matched o (map (spec.arm_val row.now) arms.now)) }
+) -> Option<EvalResult<'a>>
+    ensures { (o : Outcome) → Gives operand.now o → GivesOr result (spec.match_value o (map (spec.arm_val row.now) arms.now)) }
 {
     for arm in arms {
-        let equal = compared_lent(
+        let equal = compare_lent(
             Comparison::Equal,
             operand,
             evaluate(alloc, &arm.condition, row),
@@ -337,8 +337,8 @@ fn matched<'a>(
 
 /// The first value that is not NULL.
 #[cycle(eval)]
-fn first_known<'a>(alloc: Global, operands: &'a [Expr], row: &'a [Value]) -> Found<'a>
-    ensures { Gives result (outcomes.first_known (map (spec.val row.now) operands.now)) }
+fn first_non_null<'a>(alloc: Global, operands: &'a [Expr], row: &'a [Value]) -> EvalResult<'a>
+    ensures { Gives result (outcomes.first_non_null (map (spec.val row.now) operands.now)) }
 {
     for operand in operands {
         let found = evaluate(alloc, operand, row)?;
@@ -346,7 +346,7 @@ fn first_known<'a>(alloc: Global, operands: &'a [Expr], row: &'a [Value]) -> Fou
             return Ok(found);
         }
     }
-    Ok(Cell::Null)
+    Ok(LentValue::Null)
 }
 
 /// What an expression comes to at a row, as an owned value. The error is out of memory.

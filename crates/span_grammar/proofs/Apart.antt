@@ -12,7 +12,7 @@ use Rattle.span_lexer.specs.contracts.token.Word.{the_type as word_type}
 use Rattle.span_lexer.specs.contracts.token.Sign.{the_type as sign_type}
 use Rattle.span_grammar.specs.contracts.class.Context.{the_type as context_type}
 use Rattle.span_grammar.specs.declared.grammar.Place.{Place}
-use Rattle.span_grammar.specs.Rules.{is_class, Rule, Empty, One, Then, Or, Many, Open, nullable, first}
+use Rattle.span_grammar.specs.Rules.{is_class, Rule, Empty, One, Then, Or, Many, Open, is_nullable, first}
 use Rattle.span_grammar.proofs.Follow.{goes_on, Good}
 use Rattle.span_grammar.proofs.Tables.{code, word_code, context_code, sign_code, sort_codes, place_codes}
 use Rattle.span_lexer.specs.declared.token.Word.{Word}
@@ -141,7 +141,7 @@ both_sets : (n : Bool) (xs ys zs : List ℕ) (k : ℕ) (a b : Bool) → covers (
 both_sets true xs ys zs k a b c f g h = elim (or_is a b h) [ inl e ↦ covered (xs ++ ys) zs k c (has_left xs ys k (f e)) | inr e ↦ covered (xs ++ ys) zs k c (has_right xs ys k (g e)) ]
 both_sets false xs ys zs k a b c f g h = elim (or_is a false h) [ inl e ↦ covered xs zs k c (f e) | inr e ↦ absurd cc ]
 
-pub then_facts : (a b : Rule) (fa ga fb gb f g : List ℕ) (na nb : Bool) → nullable a ≡ na → nullable b ≡ nb → Facts a fa ga → Facts b fb gb
+pub then_facts : (a b : Rule) (fa ga fb gb f g : List ℕ) (na nb : Bool) → is_nullable a ≡ na → is_nullable b ≡ nb → Facts a fa ga → Facts b fb gb
     → (covers (if na then fa ++ fb else fa) f && (covers (if nb then gb ++ ga else gb) g && apart ga fb)) ≡ true → Facts (Then a b) f g
 then_facts a b fa ga fb gb f g na nb ea eb x y h =
     let p = and_is (covers (if na then fa ++ fb else fa) f) (covers (if nb then gb ++ ga else gb) g && apart ga fb) h in
@@ -152,14 +152,14 @@ then_facts a b fa ga fb gb f g na nb ea eb x y h =
       good = (x.good, y.good, λ t e i. never ga fb (code t.class) q.1 (x.goes t e) (y.begins t i));
     }
 
-pub or_facts : (a b : Rule) (fa ga fb gb f g : List ℕ) (nb : Bool) → nullable a ≡ false → nullable b ≡ nb → Facts a fa ga → Facts b fb gb
+pub or_facts : (a b : Rule) (fa ga fb gb f g : List ℕ) (nb : Bool) → is_nullable a ≡ false → is_nullable b ≡ nb → Facts a fa ga → Facts b fb gb
     → (covers (fa ++ fb) f && (covers (ga ++ (if nb then gb ++ fa else gb)) g && apart fa fb)) ≡ true → Facts (Or a b) f g
 or_facts a b fa ga fb gb f g nb ea eb x y h =
     let p = and_is (covers (fa ++ fb) f) (covers (ga ++ (if nb then gb ++ fa else gb)) g && apart fa fb) h in
     let q = and_is (covers (ga ++ (if nb then gb ++ fa else gb)) g) (apart fa fb) p.1 in
     record {
       begins = λ t e. both_sets true fa fb f (code t.class) (first a t) (first b t) p.0 (x.begins t) (y.begins t) e;
-      goes = λ t e. both_sets true ga (if nb then gb ++ fa else gb) g (code t.class) (goes_on st a t) (goes_on st b t || (nullable b && first a t)) q.0 (x.goes t)
+      goes = λ t e. both_sets true ga (if nb then gb ++ fa else gb) g (code t.class) (goes_on st a t) (goes_on st b t || (is_nullable b && first a t)) q.0 (x.goes t)
           (λ i. some_more nb gb fa (code t.class) (goes_on st b t) (first a t) (y.goes t) (x.begins t) (ap (λ (v : Bool). goes_on st b t || (v && first a t)) (sym eb) ∙ i)) e;
       good = (x.good, y.good, ea, λ t e i. never fa fb (code t.class) q.1 (x.begins t e) (y.begins t i));
     }
@@ -168,7 +168,7 @@ or_facts a b fa ga fb gb f g nb ea eb x y h =
     some_more true xs ys k a b f g h = elim (or_is a b h) [ inl e ↦ has_left xs ys k (f e) | inr e ↦ has_right xs ys k (g e) ]
     some_more false xs ys k a b f g h = elim (or_is a false h) [ inl e ↦ f e | inr e ↦ absurd cc ]
 
-pub many_facts : (a : Rule) (fa ga g : List ℕ) → nullable a ≡ false → Facts a fa ga → (covers (fa ++ ga) g && apart ga fa) ≡ true → Facts (Many a) fa g
+pub many_facts : (a : Rule) (fa ga g : List ℕ) → is_nullable a ≡ false → Facts a fa ga → (covers (fa ++ ga) g && apart ga fa) ≡ true → Facts (Many a) fa g
 many_facts a fa ga g ea x h =
     let p = and_is (covers (fa ++ ga) g) (apart ga fa) h in
     record {

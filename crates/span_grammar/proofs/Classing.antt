@@ -19,11 +19,11 @@ append_nil : (out : List Lexeme) → out ++ [] ≡ out
 append_nil [] = refl
 append_nil (t ∷ out) = ap (λ (w : List Lexeme). t ∷ w) (append_nil out)
 
-pub lexeme_added : (text : List ℕ) (out new : List Lexeme) (t : Token) (rest behind tokens : List Token) → out ++ lexemes_of text rest ≡ lexemes_of text tokens → rest ≡ t ∷ behind → new ≡ out ++ (lexeme_at text t behind ∷ [])
-    → new ++ lexemes_of text behind ≡ lexemes_of text tokens
-lexeme_added text out new t rest behind tokens h e n =
-    ap (λ (w : List Lexeme). w ++ lexemes_of text behind) n ∙ append_assoc out (lexeme_at text t behind ∷ []) (lexemes_of text behind)
-    ∙ ap (λ (w : List Lexeme). out ++ w) (sym (cons_is text t behind) ∙ ap (lexemes_of text) (sym e)) ∙ h
+pub lexeme_added : (text : List ℕ) (out new : List Lexeme) (t : Token) (rest tail tokens : List Token) → out ++ lexemes_of text rest ≡ lexemes_of text tokens → rest ≡ t ∷ tail → new ≡ out ++ (lexeme_at text t tail ∷ [])
+    → new ++ lexemes_of text tail ≡ lexemes_of text tokens
+lexeme_added text out new t rest tail tokens h e n =
+    ap (λ (w : List Lexeme). w ++ lexemes_of text tail) n ∙ append_assoc out (lexeme_at text t tail ∷ []) (lexemes_of text tail)
+    ∙ ap (λ (w : List Lexeme). out ++ w) (sym (cons_is text t tail) ∙ ap (lexemes_of text) (sym e)) ∙ h
 
 pub lexemes_over : (text : List ℕ) (out : List Lexeme) (rest tokens : List Token) → out ++ lexemes_of text rest ≡ lexemes_of text tokens → rest ≡ [] → out ≡ lexemes_of text tokens
 lexemes_over text out rest tokens h e = sym (append_nil out) ∙ ap (λ (w : List Lexeme). out ++ w) (sym (nil_is text) ∙ ap (lexemes_of text) (sym e)) ∙ h

@@ -4,7 +4,7 @@ use Rattle.std.specs.Prelude.{if◌then◌else◌, ◌||◌, ◌&&◌}
 use Rattle.span_grammar.specs.declared.class.Lexeme.{Lexeme}
 use Rattle.span_grammar.specs.declared.class.Sort.{Sort}
 use Rattle.span_grammar.specs.declared.grammar.Place.{Place}
-use Rattle.span_grammar.specs.Rules.{is_of, Rule, Empty, One, Then, Or, Many, Open, Tree, Nothing, Leaf, Pair, Left, Right, End, More, Nest, Marks, marks, words, limit, Shallow, Fits, Answer, Read, Wrong, Deep, bind, nullable, first, starts, many, one, Deeper, No, Yes, go_in, opening, parse_with, deeper}
+use Rattle.span_grammar.specs.Rules.{is_of, Rule, Empty, One, Then, Or, Many, Open, Tree, Nothing, Leaf, Pair, Left, Right, End, More, Nest, Marks, marks, words, limit, Shallow, Fits, Answer, Read, Wrong, Deep, bind, is_nullable, first, starts, read_many, one, Deeper, No, Yes, enter_place, opening, parse_with, deeper}
 use Rattle.span_grammar.proofs.Sound.{words-append, Sound, Is, Ends, SoundIn, sound_with, many_sound, deeper_sound, depth_in}
 
 -- ---- tests
@@ -50,8 +50,8 @@ apart_at false h = refl
 abbrev pub goes_on : (Place → Lexeme → Bool) → Rule → Lexeme → Bool
 goes_on st Empty t = false
 goes_on st (One s) t = false
-goes_on st (Then a b) t = goes_on st b t || (nullable b && goes_on st a t)
-goes_on st (Or a b) t = goes_on st a t || (goes_on st b t || (nullable b && first a t))
+goes_on st (Then a b) t = goes_on st b t || (is_nullable b && goes_on st a t)
+goes_on st (Or a b) t = goes_on st a t || (goes_on st b t || (is_nullable b && first a t))
 goes_on st (Many a) t = first a t || goes_on st a t
 goes_on st (Open s p) t = st p t
 
@@ -59,8 +59,8 @@ abbrev pub Good : (Place → Lexeme → Bool) → Rule → Type 0
 Good st Empty = Unit {0}
 Good st (One s) = Unit {0}
 Good st (Then a b) = Good st a × Good st b × Apart (goes_on st a) (first b)
-Good st (Or a b) = Good st a × Good st b × (nullable a ≡ false) × Apart (first a) (first b)
-Good st (Many a) = Good st a × (nullable a ≡ false) × Apart (goes_on st a) (first a)
+Good st (Or a b) = Good st a × Good st b × (is_nullable a ≡ false) × Apart (first a) (first b)
+Good st (Many a) = Good st a × (is_nullable a ≡ false) × Apart (goes_on st a) (first a)
 Good st (Open s p) = Unit {0}
 
 abbrev pub Stops : (Place → Lexeme → Bool) → Rule → List Lexeme → Type 0
@@ -103,9 +103,9 @@ abbrev pub Past : List Lexeme → Answer → Type 0
 Past r s = length (rest_of s) ≤ length r
 
 pub past_sound : (d : ℕ) (P : Tree → Type 0) (ts : List Lexeme) (s : Answer) → Sound d P ts s → Past ts s
-past_sound d P ts (Read x k) h = omega (arith, ap length h.front, length-append (words (marks d x)) k)
-past_sound d P ts (Wrong k) h = omega (arith, ap length h.front, length-append (words h.before) k)
-past_sound d P ts (Deep k) h = omega (arith, ap length h.front, length-append (words h.before) k)
+past_sound d P ts (Read x k) h = omega (arith, ap length h.prefix, length-append (words (marks d x)) k)
+past_sound d P ts (Wrong k) h = omega (arith, ap length h.prefix, length-append (words h.before) k)
+past_sound d P ts (Deep k) h = omega (arith, ap length h.prefix, length-append (words h.before) k)
 
 past_bind : (r : List Lexeme) (s : Answer) (f : Tree → List Lexeme → Answer) → ((x : Tree) (k : List Lexeme) → Past k (f x k)) → Past r s → Past r (bind s f)
 past_bind r (Read x k) f all h = omega (arith, all x k)
@@ -124,22 +124,22 @@ meets_is : (e : ℕ) (h : Lexeme) (r : List Lexeme) (s s2 : Answer) → s ≡ s2
 meets_is e h r s s2 i m = subst (λ (x : Answer). Meets e h r x) (sym i) m
 
 module _ (inside : Place → Rule) (st : Place → Lexeme → Bool) where
-  pub none_of : (x : Tree) (a : Rule) (d : ℕ) → Fits inside x a → marks d x ≡ [] → nullable a ≡ true
+  pub none_of : (x : Tree) (a : Rule) (d : ℕ) → Fits inside x a → marks d x ≡ [] → is_nullable a ≡ true
   none_of Nothing Empty d h e = refl
   none_of (Leaf t) (One s) d h e = absurd cc
-  none_of (Pair x y) (Then a b) d h e = let b2 = empty_both (marks d x) (marks d y) e in and_both (nullable a) (nullable b) (none_of x a d h.0 b2.0) (none_of y b d h.1 b2.1)
-  none_of (Left x) (Or a b) d h e = or_left (nullable a) (nullable b) (none_of x a d h e)
-  none_of (Right y) (Or a b) d h e = or_right (nullable a) (nullable b) (none_of y b d h e)
+  none_of (Pair x y) (Then a b) d h e = let b2 = empty_both (marks d x) (marks d y) e in and_both (is_nullable a) (is_nullable b) (none_of x a d h.0 b2.0) (none_of y b d h.1 b2.1)
+  none_of (Left x) (Or a b) d h e = or_left (is_nullable a) (is_nullable b) (none_of x a d h e)
+  none_of (Right y) (Or a b) d h e = or_right (is_nullable a) (is_nullable b) (none_of y b d h e)
   none_of End (Many a) d h e = refl
   none_of (More x more) (Many a) d h e = refl
   none_of (Nest t x) (Open s p) d h e = absurd cc
   none_of _ _ d h e = absurd h
 
-  first_then : (a b : Rule) (mx my : Marks) (m : Lexeme × ℕ) (q : Marks) → ((n : Lexeme × ℕ) (r : Marks) → mx ≡ n ∷ r → first a n.0 ≡ true) → (mx ≡ [] → nullable a ≡ true) → ((n : Lexeme × ℕ) (r : Marks) → my ≡ n ∷ r → first b n.0 ≡ true) → mx ++ my ≡ m ∷ q → (first a m.0 || (nullable a && first b m.0)) ≡ true
-  first_then a b [] my m q f n g e = or_right (first a m.0) (nullable a && first b m.0) (and_both (nullable a) (first b m.0) (n refl) (g m q e))
+  first_then : (a b : Rule) (mx my : Marks) (m : Lexeme × ℕ) (q : Marks) → ((n : Lexeme × ℕ) (r : Marks) → mx ≡ n ∷ r → first a n.0 ≡ true) → (mx ≡ [] → is_nullable a ≡ true) → ((n : Lexeme × ℕ) (r : Marks) → my ≡ n ∷ r → first b n.0 ≡ true) → mx ++ my ≡ m ∷ q → (first a m.0 || (is_nullable a && first b m.0)) ≡ true
+  first_then a b [] my m q f n g e = or_right (first a m.0) (is_nullable a && first b m.0) (and_both (is_nullable a) (first b m.0) (n refl) (g m q e))
   first_then a b (x ∷ mx) my m q f n g e =
       let i : x ≡ m = cc in
-      or_left (first a m.0) (nullable a && first b m.0) (f m mx (ap (λ (y : Lexeme × ℕ). y ∷ mx) i))
+      or_left (first a m.0) (is_nullable a && first b m.0) (f m mx (ap (λ (y : Lexeme × ℕ). y ∷ mx) i))
 
   first_many : (a : Rule) (mx my : Marks) (m : Lexeme × ℕ) (q : Marks) → ((n : Lexeme × ℕ) (r : Marks) → mx ≡ n ∷ r → first a n.0 ≡ true) → ((n : Lexeme × ℕ) (r : Marks) → my ≡ n ∷ r → first a n.0 ≡ true) → mx ++ my ≡ m ∷ q → first a m.0 ≡ true
   first_many a [] my m q f g e = g m q e
@@ -164,13 +164,13 @@ module _ (inside : Place → Rule) (st : Place → Lexeme → Bool) where
 
   stops_then : (a b : Rule) (k : List Lexeme) → Stops st (Then a b) k → Stops st b k
   stops_then a b [] h = tt
-  stops_then a b (t ∷ k) h = (or_false (goes_on st b t) (nullable b && goes_on st a t) h).0
+  stops_then a b (t ∷ k) h = (or_false (goes_on st b t) (is_nullable b && goes_on st a t) h).0
 
-  stops_over : (a b : Rule) (k : List Lexeme) → Stops st (Then a b) k → nullable b ≡ true → Stops st a k
+  stops_over : (a b : Rule) (k : List Lexeme) → Stops st (Then a b) k → is_nullable b ≡ true → Stops st a k
   stops_over a b [] h n = tt
-  stops_over a b (t ∷ k) h n = and_false (nullable b) (goes_on st a t) n (or_false (goes_on st b t) (nullable b && goes_on st a t) h).1
+  stops_over a b (t ∷ k) h n = and_false (is_nullable b) (goes_on st a t) n (or_false (goes_on st b t) (is_nullable b && goes_on st a t) h).1
 
-  stops_first : (a b : Rule) (d : ℕ) (y : Tree) (k : List Lexeme) → Apart (goes_on st a) (first b) → Fits inside y b → (nullable b ≡ true → Stops st a k) → Stops st a (words (marks d y) ++ k)
+  stops_first : (a b : Rule) (d : ℕ) (y : Tree) (k : List Lexeme) → Apart (goes_on st a) (first b) → Fits inside y b → (is_nullable b ≡ true → Stops st a k) → Stops st a (words (marks d y) ++ k)
   stops_first a b d y k ap_ h n = stops_at a k (marks d y) (λ e. n (none_of y b d h e)) (λ m q e. apart_at (goes_on st a m.0) (λ g. ap_ m.0 g (first_of y b d h m q e)))
 
   stops_many : (a : Rule) (k : List Lexeme) → Stops st (Many a) k → Stops st a k
@@ -183,15 +183,15 @@ module _ (inside : Place → Rule) (st : Place → Lexeme → Bool) where
 
   stops_left : (a b : Rule) (k : List Lexeme) → Stops st (Or a b) k → Stops st a k
   stops_left a b [] h = tt
-  stops_left a b (t ∷ k) h = (or_false (goes_on st a t) (goes_on st b t || (nullable b && first a t)) h).0
+  stops_left a b (t ∷ k) h = (or_false (goes_on st a t) (goes_on st b t || (is_nullable b && first a t)) h).0
 
   stops_right : (a b : Rule) (k : List Lexeme) → Stops st (Or a b) k → Stops st b k
   stops_right a b [] h = tt
-  stops_right a b (t ∷ k) h = (or_false (goes_on st b t) (nullable b && first a t) (or_false (goes_on st a t) (goes_on st b t || (nullable b && first a t)) h).1).0
+  stops_right a b (t ∷ k) h = (or_false (goes_on st b t) (is_nullable b && first a t) (or_false (goes_on st a t) (goes_on st b t || (is_nullable b && first a t)) h).1).0
 
-  starts_right : (a b : Rule) (k : List Lexeme) → Stops st (Or a b) k → nullable b ≡ true → starts a k ≡ false
+  starts_right : (a b : Rule) (k : List Lexeme) → Stops st (Or a b) k → is_nullable b ≡ true → starts a k ≡ false
   starts_right a b [] h n = refl
-  starts_right a b (t ∷ k) h n = and_false (nullable b) (first a t) n (or_false (goes_on st b t) (nullable b && first a t) (or_false (goes_on st a t) (goes_on st b t || (nullable b && first a t)) h).1).1
+  starts_right a b (t ∷ k) h n = and_false (is_nullable b) (first a t) n (or_false (goes_on st b t) (is_nullable b && first a t) (or_false (goes_on st a t) (goes_on st b t || (is_nullable b && first a t)) h).1).1
 
   -- a text that begins with the marks of a tree that isn't empty
   starts_with : (a : Rule) (k : List Lexeme) (mx : Marks) → (mx ≡ [] → ⊥) → ((m : Lexeme × ℕ) (q : Marks) → mx ≡ m ∷ q → first a m.0 ≡ true) → starts a (words mx ++ k) ≡ true
@@ -202,7 +202,7 @@ module _ (inside : Place → Rule) (st : Place → Lexeme → Bool) where
   starts_not a k [] n f = n refl
   starts_not a k (m ∷ mx) n f = f m mx refl
 
-  pub never_none : (x : Tree) (a : Rule) (d : ℕ) → Fits inside x a → nullable a ≡ false → marks d x ≡ [] → ⊥
+  pub never_none : (x : Tree) (a : Rule) (d : ℕ) → Fits inside x a → is_nullable a ≡ false → marks d x ≡ [] → ⊥
   never_none x a d h n e = let i = none_of x a d h e in cc
 
   pub longer : (k : List Lexeme) (mx : Marks) → (mx ≡ [] → ⊥) → length k < length (words mx ++ k)
@@ -216,9 +216,9 @@ module _ (inside : Place → Rule) (st : Place → Lexeme → Bool) where
   abbrev pub Reads : ℕ → Rule → (List Lexeme → Answer) → Type 0
   Reads d a f = (x : Tree) → Fits inside x a → Shallow (marks d x) → (k : List Lexeme) → Stops st a k → f (words (marks d x) ++ k) ≡ Read x k
 
-  many_reads : (d : ℕ) (a : Rule) (f : List Lexeme → Answer) → Reads d a f → nullable a ≡ false → Apart (goes_on st a) (first a) → (n : ℕ) (x : Tree) → Fits inside x (Many a) → Shallow (marks d x) → (k : List Lexeme) → Stops st (Many a) k → length (words (marks d x) ++ k) ≤ n → many f a n (words (marks d x) ++ k) ≡ Read x k
+  many_reads : (d : ℕ) (a : Rule) (f : List Lexeme → Answer) → Reads d a f → is_nullable a ≡ false → Apart (goes_on st a) (first a) → (n : ℕ) (x : Tree) → Fits inside x (Many a) → Shallow (marks d x) → (k : List Lexeme) → Stops st (Many a) k → length (words (marks d x) ++ k) ≤ n → read_many f a n (words (marks d x) ++ k) ≡ Read x k
   many_reads d a f all nn apart zero End h s k stop le = refl
-  many_reads d a f all nn apart (suc n) End h s k stop le = if_false (starts a k) (bind (f k) (λ x k3. bind (many f a n k3) (λ more k2. Read (More x more) k2))) (Read End k) (starts_many a k stop)
+  many_reads d a f all nn apart (suc n) End h s k stop le = if_false (starts a k) (bind (f k) (λ x k3. bind (read_many f a n k3) (λ more k2. Read (More x more) k2))) (Read End k) (starts_many a k stop)
   many_reads d a f all nn apart zero (More x more) h s k stop le =
       let g = longer (words (marks d more) ++ k) (marks d x) (never_none x a d h.0 nn) in
       absurd (omega (arith, g, ap length (regroup (marks d x) (marks d more) k)))
@@ -230,9 +230,9 @@ module _ (inside : Place → Rule) (st : Place → Lexeme → Bool) where
       let g : length rest < length (words (marks d x) ++ rest) = longer rest (marks d x) (never_none x a d h.0 nn) in
       let stop1 : Stops st a rest = stops_first a (Many a) d more k apart h.1 (λ _. stops_many a k stop) in
       let e1 : f ts ≡ Read x rest = ap f i ∙ all x h.0 (shallow_left (marks d x) (marks d more) s) rest stop1 in
-      let e2 : many f a n rest ≡ Read more k = many_reads d a f all nn apart n more h.1 (shallow_right (marks d x) (marks d more) s) k stop (omega (arith, ap length i)) in
-      if_true (starts a ts) (bind (f ts) (λ x2 k3. bind (many f a n k3) (λ more2 k2. Read (More x2 more2) k2))) (Read End ts) st1
-      ∙ ap (λ (w : Answer). bind w (λ x2 k3. bind (many f a n k3) (λ more2 k2. Read (More x2 more2) k2))) e1
+      let e2 : read_many f a n rest ≡ Read more k = many_reads d a f all nn apart n more h.1 (shallow_right (marks d x) (marks d more) s) k stop (omega (arith, ap length i)) in
+      if_true (starts a ts) (bind (f ts) (λ x2 k3. bind (read_many f a n k3) (λ more2 k2. Read (More x2 more2) k2))) (Read End ts) st1
+      ∙ ap (λ (w : Answer). bind w (λ x2 k3. bind (read_many f a n k3) (λ more2 k2. Read (More x2 more2) k2))) e1
       ∙ ap (λ (w : Answer). bind w (λ more2 k2. Read (More x more2) k2)) e2
   many_reads d a f all nn apart _ _ h s k stop le = absurd h
 
@@ -240,7 +240,7 @@ module _ (inside : Place → Rule) (st : Place → Lexeme → Bool) where
   ReadsIn d No = d ≡ limit
   ReadsIn d (Yes f) = (p : Place) → Reads (suc d) (inside p) (f p)
 
-  go_in_reads : (d : ℕ) (g : Deeper) → ReadsIn d g → (p : Place) (t : Lexeme) (x : Tree) → Fits inside x (inside p) → Shallow ((t, suc d) ∷ marks (suc d) x) → (k : List Lexeme) → Stops st (inside p) k → go_in g p t (words (marks (suc d) x) ++ k) ≡ Read (Nest t x) k
+  go_in_reads : (d : ℕ) (g : Deeper) → ReadsIn d g → (p : Place) (t : Lexeme) (x : Tree) → Fits inside x (inside p) → Shallow ((t, suc d) ∷ marks (suc d) x) → (k : List Lexeme) → Stops st (inside p) k → enter_place g p t (words (marks (suc d) x) ++ k) ≡ Read (Nest t x) k
   go_in_reads d No r p t x h s k stop = absurd (omega (arith, s.0))
   go_in_reads d (Yes f) r p t x h s k stop = ap (λ (w : Answer). bind w (λ y k2. Read (Nest t y) k2)) (r p x h s.1 k stop)
 
@@ -274,7 +274,7 @@ module _ (inside : Place → Rule) (st : Place → Lexeme → Bool) where
       ∙ ap (λ (w : Answer). bind w (λ x2 k2. Read (Right x2) k2)) (reads_with wide d g r b good.1 y h s k (stops_right a b k stop))
   reads_with wide d g r (Many a) good x h s k stop = many_reads d a (λ ts. parse_with g a ts) (reads_with wide d g r a good.0) good.1 good.2 (length (words (marks d x) ++ k)) x h s k stop (omega arith)
   reads_with wide d g r (Open o p) good (Nest t x) h s k stop =
-      if_true (is_of o t) (go_in g p t (words (marks (suc d) x) ++ k)) (Wrong (t ∷ (words (marks (suc d) x) ++ k))) h.0
+      if_true (is_of o t) (enter_place g p t (words (marks (suc d) x) ++ k)) (Wrong (t ∷ (words (marks (suc d) x) ++ k))) h.0
       ∙ go_in_reads d g r p t x h.1 s k (stops_in wide o p k stop)
   reads_with wide d g r _ good _ h s k stop = absurd h
 
@@ -325,17 +325,17 @@ module _ (inside : Place → Rule) (st : Place → Lexeme → Bool) where
       let g = longer (words i ++ t) mx ne in
       omega (arith, g, ap (λ (w : Marks). length (words w ++ t)) j, ap length (regroup mx i t))
 
-  many_meets : (d : ℕ) (a : Rule) (f : List Lexeme → Answer) → Reads d a f → Meeting d a f → ((ts : List Lexeme) → Sound d (Is inside a) ts (f ts)) → nullable a ≡ false → Apart (goes_on st a) (first a)
-      → (n : ℕ) (x : Tree) → Fits inside x (Many a) → (p : Marks) (m : Lexeme × ℕ) (q : Marks) → marks d x ≡ p ++ (m ∷ q) → Shallow p → (r : List Lexeme) → length (words p ++ (m.0 ∷ r)) ≤ n → Meets m.1 m.0 r (many f a n (words p ++ (m.0 ∷ r)))
+  many_meets : (d : ℕ) (a : Rule) (f : List Lexeme → Answer) → Reads d a f → Meeting d a f → ((ts : List Lexeme) → Sound d (Is inside a) ts (f ts)) → is_nullable a ≡ false → Apart (goes_on st a) (first a)
+      → (n : ℕ) (x : Tree) → Fits inside x (Many a) → (p : Marks) (m : Lexeme × ℕ) (q : Marks) → marks d x ≡ p ++ (m ∷ q) → Shallow p → (r : List Lexeme) → length (words p ++ (m.0 ∷ r)) ≤ n → Meets m.1 m.0 r (read_many f a n (words p ++ (m.0 ∷ r)))
   many_meets d a f rd mt snd nn apart n End h [] m q e s r le = absurd cc
   many_meets d a f rd mt snd nn apart n End h (l ∷ p) m q e s r le = absurd cc
   many_meets d a f rd mt snd nn apart zero (More x more) h p m q e s r le = absurd (omega (arith, length-append (words p) (m.0 ∷ r)))
   many_meets d a f rd mt snd nn apart (suc n) (More x more) h p m q e s r le =
       let ts : List Lexeme = words p ++ (m.0 ∷ r) in
       let st1 : starts a ts ≡ true = starts_begun a true p r (marks d (More x more)) m q e (λ l t g. first_of (More x more) (Many a) d h l t g) in
-      meets_is m.1 m.0 r (many f a (suc n) ts) (bind (f ts) (λ x2 k3. bind (many f a n k3) (λ more2 k2. Read (More x2 more2) k2)))
-      (if_true (starts a ts) (bind (f ts) (λ x2 k3. bind (many f a n k3) (λ more2 k2. Read (More x2 more2) k2))) (Read End ts) st1)
-      (pair_meets d a (Many a) More f (λ k. many f a n k) rd mt (λ k. many_sound inside d a f snd n k) apart x more h.0 h.1 p m q e s r
+      meets_is m.1 m.0 r (read_many f a (suc n) ts) (bind (f ts) (λ x2 k3. bind (read_many f a n k3) (λ more2 k2. Read (More x2 more2) k2)))
+      (if_true (starts a ts) (bind (f ts) (λ x2 k3. bind (read_many f a n k3) (λ more2 k2. Read (More x2 more2) k2))) (Read End ts) st1)
+      (pair_meets d a (Many a) More f (λ k. read_many f a n k) rd mt (λ k. many_sound inside d a f snd n k) apart x more h.0 h.1 p m q e s r
       (λ i j g s2. many_meets d a f rd mt snd nn apart n more h.1 i m q g s2 r (shorter (marks d x) p i (m.0 ∷ r) n j (never_none x a d h.0 nn) le)))
   many_meets d a f rd mt snd nn apart n _ h p m q e s r le = absurd h
 

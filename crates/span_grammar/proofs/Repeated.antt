@@ -4,13 +4,13 @@ use Rattle.span_grammar.specs.declared.grammar.Part.{Part}
 use Rattle.span_grammar.specs.declared.grammar.Part.TheVariants as part
 use Rattle.span_grammar.specs.declared.grammar.Shape.{Shape}
 use Rattle.span_grammar.specs.declared.grammar.Shape.TheVariants as shape
-use Rattle.span_grammar.specs.Rules.{nullable}
+use Rattle.span_grammar.specs.Rules.{is_nullable}
 use Rattle.span_grammar.specs.Shapes.{shape_of}
 use Rattle.span_grammar.specs.Grammar.{rule_of}
 use Rattle.span_grammar.proofs.Nothings.{column_more_nothing, conjunction_more_nothing, expression_more_nothing, join_nothing, key_column_more_nothing, list_more_nothing, output_more_nothing, sort_key_more_nothing, sum_more_nothing, table_column_more_nothing, table_more_nothing, term_more_nothing, union_more_nothing, when_nothing}
 
 abbrev Repeats : Shape → Type 0
-Repeats (shape.Many a) = nullable (rule_of a) ≡ false
+Repeats (shape.Many a) = is_nullable (rule_of a) ≡ false
 Repeats _ = Unit {0}
 
 repeats : (p : Part) → Repeats (shape_of p)
@@ -215,5 +215,5 @@ repeats part.InKeyColumnsFromKeyColumnRest = tt
 repeats part.InKeyColumns = tt
 repeats (part.Token s) = tt
 
-pub repeated_full : (p a : Part) → shape.Many a ≡ shape_of p → nullable (rule_of a) ≡ false
+pub repeated_full : (p a : Part) → shape.Many a ≡ shape_of p → is_nullable (rule_of a) ≡ false
 repeated_full p a h = subst Repeats (sym h) (repeats p)

@@ -4,7 +4,7 @@ use Rattle.std.specs.Prelude.{if◌then◌else◌}
 use Rattle.span_grammar.specs.declared.class.Lexeme.{Lexeme}
 use Rattle.span_grammar.specs.declared.class.Sort.{Sort}
 use Rattle.span_grammar.specs.declared.grammar.Place.{Place}
-use Rattle.span_grammar.specs.Rules.{is_of, Rule, Empty, One, Then, Or, Many, Open, Tree, Nothing, Leaf, Pair, Left, Right, End, More, Nest, Marks, marks, words, limit, Shallow, Fits, Answer, Read, Wrong, Deep, bind, starts, many, one, Deeper, No, Yes, go_in, opening, parse_with, deeper, parse}
+use Rattle.span_grammar.specs.Rules.{is_of, Rule, Empty, One, Then, Or, Many, Open, Tree, Nothing, Leaf, Pair, Left, Right, End, More, Nest, Marks, marks, words, limit, Shallow, Fits, Answer, Read, Wrong, Deep, bind, starts, read_many, one, Deeper, No, Yes, enter_place, opening, parse_with, deeper, parse}
 
 pub words-append : (a b : Marks) → words (a ++ b) ≡ words a ++ words b
 words-append [] b = refl
@@ -16,7 +16,7 @@ shallow-append (m ∷ a) b p q = (p.0, shallow-append a b p.1 q)
 
 pub record ReadAt (d : ℕ) (P : Tree → Type 0) (ts : List Lexeme) (x : Tree) (k : List Lexeme) : Type 0 where
   pub fits : P x
-  pub front : ts ≡ words (marks d x) ++ k
+  pub prefix : ts ≡ words (marks d x) ++ k
   pub shallow : Shallow (marks d x)
 
 pub record WrongAt (d : ℕ) (P : Tree → Type 0) (ts k : List Lexeme) : Type 0 where
@@ -26,7 +26,7 @@ pub record WrongAt (d : ℕ) (P : Tree → Type 0) (ts k : List Lexeme) : Type 0
   pub fits : P tree
   pub parts : marks d tree ≡ before ++ after
   pub shallow : Shallow before
-  pub front : ts ≡ words before ++ k
+  pub prefix : ts ≡ words before ++ k
 
 pub record DeepAt (d : ℕ) (P : Tree → Type 0) (ts k : List Lexeme) : Type 0 where
   pub tree : Tree
@@ -39,7 +39,7 @@ pub record DeepAt (d : ℕ) (P : Tree → Type 0) (ts k : List Lexeme) : Type 0 
   pub parts : marks d tree ≡ before ++ ((token, depth) ∷ after)
   pub shallow : Shallow before
   pub over : limit < depth
-  pub front : ts ≡ words before ++ k
+  pub prefix : ts ≡ words before ++ k
   pub stands : k ≡ token ∷ rest
 
 abbrev pub Sound : ℕ → (Tree → Type 0) → List Lexeme → Answer → Type 0
@@ -58,7 +58,7 @@ module _ (d : ℕ) (P Q R : Tree → Type 0) (mk : Tree → Tree → Tree) (join
     fits = fit w.tree y w.fits q;
     parts = joins w.tree y ∙ ap (λ (m : Marks). m ++ marks d y) w.parts ∙ append_assoc w.before w.after (marks d y);
     shallow = w.shallow;
-    front = w.front;
+    prefix = w.prefix;
   }
 
   deep_first : (ts k : List Lexeme) (y : Tree) → Q y → DeepAt d P ts k → DeepAt d R ts k
@@ -73,7 +73,7 @@ module _ (d : ℕ) (P Q R : Tree → Type 0) (mk : Tree → Tree → Tree) (join
     parts = joins w.tree y ∙ ap (λ (m : Marks). m ++ marks d y) w.parts ∙ append_assoc w.before ((w.token, w.depth) ∷ w.after) (marks d y);
     shallow = w.shallow;
     over = w.over;
-    front = w.front;
+    prefix = w.prefix;
     stands = w.stands;
   }
 
@@ -88,7 +88,7 @@ module _ (d : ℕ) (P Q R : Tree → Type 0) (mk : Tree → Tree → Tree) (join
     fits = fit x w.tree r.fits w.fits;
     parts = joins x w.tree ∙ ap (λ (m : Marks). marks d x ++ m) w.parts ∙ sym (append_assoc (marks d x) w.before w.after);
     shallow = shallow-append (marks d x) w.before r.shallow w.shallow;
-    front = front_after ts k k2 x w.before r.front w.front;
+    prefix = front_after ts k k2 x w.before r.prefix w.prefix;
   }
 
   deep_second : (ts k k2 : List Lexeme) (x : Tree) → ReadAt d P ts x k → DeepAt d Q k k2 → DeepAt d R ts k2
@@ -103,14 +103,14 @@ module _ (d : ℕ) (P Q R : Tree → Type 0) (mk : Tree → Tree → Tree) (join
     parts = joins x w.tree ∙ ap (λ (m : Marks). marks d x ++ m) w.parts ∙ sym (append_assoc (marks d x) w.before ((w.token, w.depth) ∷ w.after));
     shallow = shallow-append (marks d x) w.before r.shallow w.shallow;
     over = w.over;
-    front = front_after ts k k2 x w.before r.front w.front;
+    prefix = front_after ts k k2 x w.before r.prefix w.prefix;
     stands = w.stands;
   }
 
   read_both : (ts k k2 : List Lexeme) (x y : Tree) → ReadAt d P ts x k → ReadAt d Q k y k2 → ReadAt d R ts (mk x y) k2
   read_both ts k k2 x y r w = record {
     fits = fit x y r.fits w.fits;
-    front = subst (λ (m : Marks). ts ≡ words m ++ k2) (sym (joins x y)) (front_after ts k k2 x (marks d y) r.front w.front);
+    prefix = subst (λ (m : Marks). ts ≡ words m ++ k2) (sym (joins x y)) (front_after ts k k2 x (marks d y) r.prefix w.prefix);
     shallow = subst Shallow (sym (joins x y)) (shallow-append (marks d x) (marks d y) r.shallow w.shallow);
   }
 
@@ -128,9 +128,9 @@ module _ (d : ℕ) (P Q R : Tree → Type 0) (mk : Tree → Tree → Tree) (join
 
 module _ (d : ℕ) (P R : Tree → Type 0) (mk : Tree → Tree) (same : (x : Tree) → marks d (mk x) ≡ marks d x) (fit : (x : Tree) → P x → R (mk x)) where
   wrapped : (ts : List Lexeme) (s : Answer) → Sound d P ts s → Sound d R ts (bind s (λ x k. Read (mk x) k))
-  wrapped ts (Read x k) h = record { fits = fit x h.fits; front = subst (λ (m : Marks). ts ≡ words m ++ k) (sym (same x)) h.front; shallow = subst Shallow (sym (same x)) h.shallow }
-  wrapped ts (Wrong k) h = record { tree = mk h.tree; before = h.before; after = h.after; fits = fit h.tree h.fits; parts = same h.tree ∙ h.parts; shallow = h.shallow; front = h.front }
-  wrapped ts (Deep k) h = record { tree = mk h.tree; before = h.before; token = h.token; depth = h.depth; rest = h.rest; after = h.after; fits = fit h.tree h.fits; parts = same h.tree ∙ h.parts; shallow = h.shallow; over = h.over; front = h.front; stands = h.stands }
+  wrapped ts (Read x k) h = record { fits = fit x h.fits; prefix = subst (λ (m : Marks). ts ≡ words m ++ k) (sym (same x)) h.prefix; shallow = subst Shallow (sym (same x)) h.shallow }
+  wrapped ts (Wrong k) h = record { tree = mk h.tree; before = h.before; after = h.after; fits = fit h.tree h.fits; parts = same h.tree ∙ h.parts; shallow = h.shallow; prefix = h.prefix }
+  wrapped ts (Deep k) h = record { tree = mk h.tree; before = h.before; token = h.token; depth = h.depth; rest = h.rest; after = h.after; fits = fit h.tree h.fits; parts = same h.tree ∙ h.parts; shallow = h.shallow; over = h.over; prefix = h.prefix; stands = h.stands }
 
 pub choose : (d : ℕ) (P : Tree → Type 0) (ts : List Lexeme) (b : Bool) (x y : Answer) → Sound d P ts x → Sound d P ts y → Sound d P ts (if b then x else y)
 choose d P ts true x y p q = p
@@ -154,25 +154,25 @@ module _ (inside : Place → Rule) where
   Ends (Open s p) = ((t : Lexeme) × (is_of s t ≡ true)) × Has (inside p)
 
   empty_sound : (d : ℕ) (ts : List Lexeme) → Sound d (Is Empty) ts (Read Nothing ts)
-  empty_sound d ts = record { fits = tt; front = refl; shallow = tt }
+  empty_sound d ts = record { fits = tt; prefix = refl; shallow = tt }
 
   wrong_here : (d : ℕ) (a : Rule) (ts : List Lexeme) → Has a → Sound d (Is a) ts (Wrong ts)
-  wrong_here d a ts h = record { tree = h.0; before = []; after = marks d h.0; fits = h.1; parts = refl; shallow = tt; front = refl }
+  wrong_here d a ts h = record { tree = h.0; before = []; after = marks d h.0; fits = h.1; parts = refl; shallow = tt; prefix = refl }
 
   one_at : (d : ℕ) (s : Sort) (t : Lexeme) (ts : List Lexeme) → d ≤ limit → Has (One s) → (b : Bool) → is_of s t ≡ b → Sound d (Is (One s)) (t ∷ ts) (if b then Read (Leaf t) ts else Wrong (t ∷ ts))
-  one_at d s t ts le h true e = record { fits = e; front = refl; shallow = (le, tt) }
+  one_at d s t ts le h true e = record { fits = e; prefix = refl; shallow = (le, tt) }
   one_at d s t ts le h false e = wrong_here d (One s) (t ∷ ts) h
 
   one_sound : (d : ℕ) (s : Sort) (ts : List Lexeme) → d ≤ limit → Has (One s) → Sound d (Is (One s)) ts (one s ts)
   one_sound d s [] le h = wrong_here d (One s) [] h
   one_sound d s (t ∷ ts) le h = one_at d s t ts le h (is_of s t) refl
 
-  pub many_sound : (d : ℕ) (a : Rule) (f : List Lexeme → Answer) → ((ts : List Lexeme) → Sound d (Is a) ts (f ts)) → (n : ℕ) (ts : List Lexeme) → Sound d (Is (Many a)) ts (many f a n ts)
-  many_sound d a f all zero ts = record { fits = tt; front = refl; shallow = tt }
+  pub many_sound : (d : ℕ) (a : Rule) (f : List Lexeme → Answer) → ((ts : List Lexeme) → Sound d (Is a) ts (f ts)) → (n : ℕ) (ts : List Lexeme) → Sound d (Is (Many a)) ts (read_many f a n ts)
+  many_sound d a f all zero ts = record { fits = tt; prefix = refl; shallow = tt }
   many_sound d a f all (suc n) ts =
-      choose d (Is (Many a)) ts (starts a ts) (bind (f ts) (λ x k. bind (many f a n k) (λ more k2. Read (More x more) k2))) (Read End ts)
-      (both_sound d (Is a) (Is (Many a)) (Is (Many a)) More (λ x y. refl) (λ x y p q. (p, q)) ts End tt (f ts) (all ts) (λ k. many f a n k) (λ k. many_sound d a f all n k))
-      (record { fits = tt; front = refl; shallow = tt })
+      choose d (Is (Many a)) ts (starts a ts) (bind (f ts) (λ x k. bind (read_many f a n k) (λ more k2. Read (More x more) k2))) (Read End ts)
+      (both_sound d (Is a) (Is (Many a)) (Is (Many a)) More (λ x y. refl) (λ x y p q. (p, q)) ts End tt (f ts) (all ts) (λ k. read_many f a n k) (λ k. many_sound d a f all n k))
+      (record { fits = tt; prefix = refl; shallow = tt })
 
   -- what is known of the way in
   abbrev pub SoundIn : ℕ → Deeper → Type 0
@@ -180,15 +180,15 @@ module _ (inside : Place → Rule) where
   SoundIn d (Yes f) = (d < limit) × ((p : Place) (ts : List Lexeme) → Sound (suc d) (Is (inside p)) ts (f p ts))
 
   nested : (d : ℕ) (s : Sort) (p : Place) (t : Lexeme) (ts : List Lexeme) → suc d ≤ limit → is_of s t ≡ true → (r : Answer) → Sound (suc d) (Is (inside p)) ts r → Sound d (Is (Open s p)) (t ∷ ts) (bind r (λ x k. Read (Nest t x) k))
-  nested d s p t ts le e (Read x k) h = record { fits = (e, h.fits); front = ap (λ (w : List Lexeme). t ∷ w) h.front; shallow = (le, h.shallow) }
-  nested d s p t ts le e (Wrong k) h = record { tree = Nest t h.tree; before = (t, suc d) ∷ h.before; after = h.after; fits = (e, h.fits); parts = ap (λ (m : Marks). (t, suc d) ∷ m) h.parts; shallow = (le, h.shallow); front = ap (λ (w : List Lexeme). t ∷ w) h.front }
-  nested d s p t ts le e (Deep k) h = record { tree = Nest t h.tree; before = (t, suc d) ∷ h.before; token = h.token; depth = h.depth; rest = h.rest; after = h.after; fits = (e, h.fits); parts = ap (λ (m : Marks). (t, suc d) ∷ m) h.parts; shallow = (le, h.shallow); over = h.over; front = ap (λ (w : List Lexeme). t ∷ w) h.front; stands = h.stands }
+  nested d s p t ts le e (Read x k) h = record { fits = (e, h.fits); prefix = ap (λ (w : List Lexeme). t ∷ w) h.prefix; shallow = (le, h.shallow) }
+  nested d s p t ts le e (Wrong k) h = record { tree = Nest t h.tree; before = (t, suc d) ∷ h.before; after = h.after; fits = (e, h.fits); parts = ap (λ (m : Marks). (t, suc d) ∷ m) h.parts; shallow = (le, h.shallow); prefix = ap (λ (w : List Lexeme). t ∷ w) h.prefix }
+  nested d s p t ts le e (Deep k) h = record { tree = Nest t h.tree; before = (t, suc d) ∷ h.before; token = h.token; depth = h.depth; rest = h.rest; after = h.after; fits = (e, h.fits); parts = ap (λ (m : Marks). (t, suc d) ∷ m) h.parts; shallow = (le, h.shallow); over = h.over; prefix = ap (λ (w : List Lexeme). t ∷ w) h.prefix; stands = h.stands }
 
-  go_in_sound : (d : ℕ) (g : Deeper) → SoundIn d g → (s : Sort) (p : Place) (t : Lexeme) (ts : List Lexeme) → Has (inside p) → is_of s t ≡ true → Sound d (Is (Open s p)) (t ∷ ts) (go_in g p t ts)
-  go_in_sound d No k s p t ts h e = record { tree = Nest t h.0; before = []; token = t; depth = suc d; rest = ts; after = marks (suc d) h.0; fits = (e, h.1); parts = refl; shallow = tt; over = omega arith; front = refl; stands = refl }
+  go_in_sound : (d : ℕ) (g : Deeper) → SoundIn d g → (s : Sort) (p : Place) (t : Lexeme) (ts : List Lexeme) → Has (inside p) → is_of s t ≡ true → Sound d (Is (Open s p)) (t ∷ ts) (enter_place g p t ts)
+  go_in_sound d No k s p t ts h e = record { tree = Nest t h.0; before = []; token = t; depth = suc d; rest = ts; after = marks (suc d) h.0; fits = (e, h.1); parts = refl; shallow = tt; over = omega arith; prefix = refl; stands = refl }
   go_in_sound d (Yes f) k s p t ts h e = nested d s p t ts (omega arith) e (f p ts) (k.1 p ts)
 
-  open_at : (d : ℕ) (g : Deeper) → SoundIn d g → (s : Sort) (p : Place) (t : Lexeme) (ts : List Lexeme) → Has (inside p) → Has (Open s p) → (b : Bool) → is_of s t ≡ b → Sound d (Is (Open s p)) (t ∷ ts) (if b then go_in g p t ts else Wrong (t ∷ ts))
+  open_at : (d : ℕ) (g : Deeper) → SoundIn d g → (s : Sort) (p : Place) (t : Lexeme) (ts : List Lexeme) → Has (inside p) → Has (Open s p) → (b : Bool) → is_of s t ≡ b → Sound d (Is (Open s p)) (t ∷ ts) (if b then enter_place g p t ts else Wrong (t ∷ ts))
   open_at d g k s p t ts h o true e = go_in_sound d g k s p t ts h e
   open_at d g k s p t ts h o false e = wrong_here d (Open s p) (t ∷ ts) o
 

@@ -11,7 +11,7 @@ use Rattle.span_grammar.specs.Rules.{Tree, Answer, Read, Wrong, Deep, limit, par
 use Rattle.span_grammar.specs.Grammar.{inside, rule_of}
 use Rattle.span_grammar.specs.Goals.{goal_part, goal_rule}
 use Rattle.span_grammar.specs.Texts.{HasTree, IsWrong, IsTooDeep}
-use Rattle.span_grammar.specs.Reading.{outcome, part_read, text_read, ended}
+use Rattle.span_grammar.specs.Reading.{read_result, part_read, text_read, at_end}
 use Rattle.span_grammar.proofs.Follow.{Good, Stretches}
 use Rattle.span_grammar.proofs.Whole.{whole, Right, answered, tree_answered, deep_answered, wrong_answered, one_tree}
 use Rattle.span_grammar.proofs.Ending.{ends, inside_ends}
@@ -22,17 +22,17 @@ use Rattle.span_grammar.proofs.Facts.{inside_facts, statement_facts, schema_fact
 
 pub text_ok : (p : Part) (ts k : List Lexeme) → part_read limit p ts ≡ Ok k → length k ≡ 0 → text_read p ts ≡ Ok tt
 unfolding text_read
-text_ok p ts [] h z = ap ended h
+text_ok p ts [] h z = ap at_end h
 text_ok p ts (t ∷ k) h z = absurd (omega arith)
 
 pub text_more : (p : Part) (ts k : List Lexeme) → part_read limit p ts ≡ Ok k → length k ≢ 0 → text_read p ts ≡ Err stop.Syntax
 unfolding text_read
 text_more p ts [] h z = absurd (z refl)
-text_more p ts (t ∷ k) h z = ap ended h
+text_more p ts (t ∷ k) h z = ap at_end h
 
 pub text_err : (p : Part) (ts : List Lexeme) (e : Stop) → part_read limit p ts ≡ Err e → text_read p ts ≡ Err e
 unfolding text_read
-text_err p ts e h = ap ended h
+text_err p ts e h = ap at_end h
 
 pub ruleset text_steps = (text_ok, text_more, text_err)
 
@@ -54,7 +54,7 @@ shown (Read x k) = Ok tt
 shown (Wrong k) = Err stop.Syntax
 shown (Deep k) = Err stop.TooDeep
 
-shown_at : (s : Answer) → ended (outcome s) ≡ shown (whole s)
+shown_at : (s : Answer) → at_end (read_result s) ≡ shown (whole s)
 shown_at (Read x []) = refl
 shown_at (Read x (t ∷ k)) = refl
 shown_at (Wrong k) = refl

@@ -73,23 +73,23 @@ append-marks [] = refl
 append-marks (t ∷ a) = ap (λ (w : Marks). t ∷ w) (append-marks a)
 
 -- the marks of a text that begins with some tokens and then a token
-record MarkAt (ms : Marks) (front : List Lexeme) (t : Lexeme) : Type 0 where
+record MarkAt (ms : Marks) (prefix : List Lexeme) (t : Lexeme) : Type 0 where
   pub p : Marks
   pub m : Lexeme × ℕ
   pub q : Marks
   pub parts : ms ≡ p ++ (m ∷ q)
-  pub same : words p ≡ front
+  pub same : words p ≡ prefix
   pub here : m.0 ≡ t
 
-mark_at : (front : List Lexeme) (t : Lexeme) (more : List Lexeme) (ms : Marks) → words ms ≡ front ++ (t ∷ more) → MarkAt ms front t
+mark_at : (prefix : List Lexeme) (t : Lexeme) (more : List Lexeme) (ms : Marks) → words ms ≡ prefix ++ (t ∷ more) → MarkAt ms prefix t
 mark_at [] t more [] e = absurd cc
 mark_at [] t more (m ∷ ms) e = record { p = []; m = m; q = ms; parts = refl; same = refl; here = cc }
-mark_at (f ∷ front) t more [] e = absurd cc
-mark_at (f ∷ front) t more (m ∷ ms) e =
+mark_at (f ∷ prefix) t more [] e = absurd cc
+mark_at (f ∷ prefix) t more (m ∷ ms) e =
     let i : m.0 ≡ f = cc in
-    let j : words ms ≡ front ++ (t ∷ more) = cc in
-    let h = mark_at front t more ms j in
-    record { p = m ∷ h.p; m = h.m; q = h.q; parts = ap (λ (w : Marks). m ∷ w) h.parts; same = ap (λ (w : List Lexeme). m.0 ∷ w) h.same ∙ ap (λ (y : Lexeme). y ∷ front) i; here = h.here }
+    let j : words ms ≡ prefix ++ (t ∷ more) = cc in
+    let h = mark_at prefix t more ms j in
+    record { p = m ∷ h.p; m = h.m; q = h.q; parts = ap (λ (w : Marks). m ∷ w) h.parts; same = ap (λ (w : List Lexeme). m.0 ∷ w) h.same ∙ ap (λ (y : Lexeme). y ∷ prefix) i; here = h.here }
 
 -- a longer beginning goes on as the shorter one
 goes_along : (b a : List Lexeme) (x y : Lexeme) (c c2 c3 : List Lexeme) → a ++ (x ∷ c) ≡ b ++ (y ∷ c2) → length b ≤ length a → (more : List Lexeme) × (a ++ (x ∷ c3) ≡ b ++ (y ∷ more))
@@ -164,7 +164,7 @@ module _ (inside : Place → Rule) (st : Place → Lexeme → Bool) (wide : Stre
   Right ts (Deep k) = IsTooDeep inside a ts
 
   right_of : (ts : List Lexeme) (s : Answer) → run ts ≡ s → Sound 0 (Is inside a) ts s → Right ts (whole s)
-  right_of ts (Read x []) i h = record { fits = h.fits; spells = h.front ∙ append-nil (words (marks 0 x)); shallow = h.shallow }
+  right_of ts (Read x []) i h = record { fits = h.fits; spells = h.prefix ∙ append-nil (words (marks 0 x)); shallow = h.shallow }
   right_of ts (Read x (t ∷ k)) i h = record {
     tree = x;
     before = marks 0 x;
@@ -173,8 +173,8 @@ module _ (inside : Place → Rule) (st : Place → Lexeme → Bool) (wide : Stre
     fits = h.fits;
     parts = sym (append-marks (marks 0 x));
     shallow = h.shallow;
-    spells = h.front;
-    none = stops_right ts (words (marks 0 x)) (t ∷ k) h.front (Read x (t ∷ k)) i refl (λ j e. cc) (λ y e. cc);
+    spells = h.prefix;
+    none = stops_right ts (words (marks 0 x)) (t ∷ k) h.prefix (Read x (t ∷ k)) i refl (λ j e. cc) (λ y e. cc);
   }
   right_of ts (Wrong k) i h = record {
     tree = h.tree;
@@ -184,10 +184,10 @@ module _ (inside : Place → Rule) (st : Place → Lexeme → Bool) (wide : Stre
     fits = h.fits;
     parts = h.parts;
     shallow = h.shallow;
-    spells = h.front;
-    none = stops_right ts (words h.before) k h.front (Wrong k) i refl (λ j e. cc) (λ y e. cc);
+    spells = h.prefix;
+    none = stops_right ts (words h.before) k h.prefix (Wrong k) i refl (λ j e. cc) (λ y e. cc);
   }
-  right_of ts (Deep k) i h = record { tree = h.tree; before = h.before; token = h.token; depth = h.depth; after = h.after; rest = h.rest; fits = h.fits; parts = h.parts; shallow = h.shallow; over = h.over; spells = h.front ∙ ap (λ (w : List Lexeme). words h.before ++ w) h.stands }
+  right_of ts (Deep k) i h = record { tree = h.tree; before = h.before; token = h.token; depth = h.depth; after = h.after; rest = h.rest; fits = h.fits; parts = h.parts; shallow = h.shallow; over = h.over; spells = h.prefix ∙ ap (λ (w : List Lexeme). words h.before ++ w) h.stands }
 
   -- what is answered is so
   pub answered : (ts : List Lexeme) → Right ts (whole (run ts))
@@ -205,9 +205,9 @@ module _ (inside : Place → Rule) (st : Place → Lexeme → Bool) (wide : Stre
   pub one_tree : (ts : List Lexeme) (x y : Tree) → HasTree inside a ts x → HasTree inside a ts y → x ≡ y
   one_tree ts x y h i = let e : Read x [] ≡ Read y [] = sym (tree_answered ts x h) ∙ tree_answered ts y i in cc
 
-  none_at : (ts front rest : List Lexeme) → NoneGoesOn inside a front rest → (x : Tree) → Fits inside x a → ts ≡ words (marks 0 x) → ts ≡ front ++ rest → ⊥
-  none_at ts front [] none x h e f = none x h (sym e ∙ f ∙ append-nil front)
-  none_at ts front (t ∷ r) none x h e f = none x r h (sym e ∙ f)
+  none_at : (ts prefix rest : List Lexeme) → NoneGoesOn inside a prefix rest → (x : Tree) → Fits inside x a → ts ≡ words (marks 0 x) → ts ≡ prefix ++ rest → ⊥
+  none_at ts prefix [] none x h e f = none x h (sym e ∙ f ∙ append-nil prefix)
+  none_at ts prefix (t ∷ r) none x h e f = none x r h (sym e ∙ f)
 
   none_deep : (ts : List Lexeme) (d : IsTooDeep inside a ts) (before : Marks) (rest : List Lexeme) → ts ≡ words before ++ rest → NoneGoesOn inside a (words before) rest → length before ≤ length d.before → ⊥
   none_deep ts d before [] e none le =

@@ -9,7 +9,7 @@ use Rattle.span_grammar.specs.declared.class.Class.{Class}
 use Rattle.span_grammar.specs.declared.class.Class.TheVariants as class
 use Rattle.span_grammar.specs.declared.class.Lexeme.{Lexeme}
 use Rattle.span_grammar.specs.declared.class.Context.{Context}
-use Rattle.span_grammar.specs.Contexts.{context_named}
+use Rattle.span_grammar.specs.Contexts.{context_word}
 
 abbrev pub is_dot : TokenKind → Bool
 is_dot (kind.Sign sign.Dot) = true
@@ -40,21 +40,21 @@ semicolon_class [] = class.LastSemicolon
 semicolon_class (t ∷ ts) = class.Sign sign.Semicolon
 
 abbrev pub sign_class : Sign → List Token → Class
-sign_class sign.Semicolon behind = semicolon_class behind
-sign_class s behind = class.Sign s
+sign_class sign.Semicolon tail = semicolon_class tail
+sign_class s tail = class.Sign s
 
 abbrev pub kind_class : TokenKind → List ℕ → List Token → Class
-kind_class (kind.Word w) bytes behind = class.Word w
-kind_class kind.Name bytes behind = if starts_all_of behind then class.AllOf else name_class (context_named bytes)
-kind_class kind.Parameter bytes behind = class.Parameter
-kind_class (kind.Int v) bytes behind = class.Int
-kind_class kind.Str bytes behind = class.Str
-kind_class kind.Bytes bytes behind = class.Bytes
-kind_class (kind.Sign s) bytes behind = sign_class s behind
+kind_class (kind.Word w) bytes tail = class.Word w
+kind_class kind.Name bytes tail = if starts_all_of tail then class.AllOf else name_class (context_word bytes)
+kind_class kind.Parameter bytes tail = class.Parameter
+kind_class (kind.Int v) bytes tail = class.Int
+kind_class kind.Str bytes tail = class.Str
+kind_class kind.Bytes bytes tail = class.Bytes
+kind_class (kind.Sign s) bytes tail = sign_class s tail
 
 -- the class of a token of a text, by the tokens after it
 abbrev pub class_at : List ℕ → Token → List Token → Class
-class_at text t behind = kind_class t.kind (spelled text t) behind
+class_at text t tail = kind_class t.kind (spelled text t) tail
 
 -- the tokens of a text with their classes
 unfoldable pub lexemes_of : List ℕ → List Token → List Lexeme

@@ -23,9 +23,9 @@ word context.Bytes = codes "bytes"
 word context.Max = codes "max"
 
 -- the first of some words that the bytes spell in any case
-unfoldable pub spelled_by : List Context → List ℕ → Option Context
-spelled_by [] bytes = None
-spelled_by (v ∷ vs) bytes = if bytes_eq (str_to_ascii_lowercase bytes) (word v) then Some v else spelled_by vs bytes
+unfoldable pub matching_word : List Context → List ℕ → Option Context
+matching_word [] bytes = None
+matching_word (v ∷ vs) bytes = if bytes_eq (str_to_ascii_lowercase bytes) (word v) then Some v else matching_word vs bytes
 
-abbrev pub context_named : List ℕ → Option Context
-context_named bytes = spelled_by CONTEXTS bytes
+abbrev pub context_word : List ℕ → Option Context
+context_word bytes = matching_word CONTEXTS bytes

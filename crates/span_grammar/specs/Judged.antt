@@ -13,7 +13,7 @@ use Rattle.span_grammar.specs.Goals.{goal_rule}
 use Rattle.span_grammar.specs.Classes.{lexemes_of}
 
 -- the text consists of these items, and is not too long
-pub record IsMadeOf (text : List ℕ) (items : List Item) : Type 0 where
+pub record HasItems (text : List ℕ) (items : List Item) : Type 0 where
   pub are : AreItems items
   pub spells : text ≡ text_of items
   pub short : length text ≤ LONGEST_TEXT
@@ -25,27 +25,27 @@ lexemes_in text items = lexemes_of text (tokens_of 0 items)
 -- the text is in the grammar
 pub record IsText (goal : Goal) (text : List ℕ) : Type 0 where
   pub items : List Item
-  pub made : IsMadeOf text items
+  pub made : HasItems text items
   pub tree : Tree
   pub has : HasTree inside (goal_rule goal) (lexemes_in text items) tree
 
 -- what a refusal implies of a list of tokens
-abbrev pub IsJudged : Goal → List Lexeme → Refusal → Type 0
-IsJudged goal tokens refusal.Syntax = IsWrong inside (goal_rule goal) tokens
-IsJudged goal tokens refusal.TooDeep = IsTooDeep inside (goal_rule goal) tokens
-IsJudged goal tokens refusal.OutOfMemory = Unit {0}
-IsJudged goal tokens other = ⊥
+abbrev pub IsTokenRefusal : Goal → List Lexeme → Refusal → Type 0
+IsTokenRefusal goal tokens refusal.Syntax = IsWrong inside (goal_rule goal) tokens
+IsTokenRefusal goal tokens refusal.TooDeep = IsTooDeep inside (goal_rule goal) tokens
+IsTokenRefusal goal tokens refusal.OutOfMemory = Unit {0}
+IsTokenRefusal goal tokens other = ⊥
 
 -- what a refusal implies of a text: it is too long; else it does not consist of items; else no tree goes on at a token, or a token is an
 -- opening that is too deep, whichever comes first; or memory ran out
 abbrev pub IsRefused : Goal → List ℕ → Refusal → Type 0
 IsRefused goal text refusal.TextTooLong = LONGEST_TEXT < length text
 IsRefused goal text refusal.BadToken = (length text ≤ LONGEST_TEXT) × ((items : List Item) → AreItems items → text ≡ text_of items → ⊥)
-IsRefused goal text refusal.Syntax = (items : List Item) × IsMadeOf text items × IsWrong inside (goal_rule goal) (lexemes_in text items)
-IsRefused goal text refusal.TooDeep = (items : List Item) × IsMadeOf text items × IsTooDeep inside (goal_rule goal) (lexemes_in text items)
+IsRefused goal text refusal.Syntax = (items : List Item) × HasItems text items × IsWrong inside (goal_rule goal) (lexemes_in text items)
+IsRefused goal text refusal.TooDeep = (items : List Item) × HasItems text items × IsTooDeep inside (goal_rule goal) (lexemes_in text items)
 IsRefused goal text refusal.OutOfMemory = Unit {0}
 IsRefused goal text other = ⊥
 
 -- the wanted result, or out of memory
-abbrev pub OrNoMemory : Result (Unit {0}) Refusal → Result (Unit {0}) Refusal → Type 0
-OrNoMemory result wanted = (result ≡ wanted) ⊎ (result ≡ Err refusal.OutOfMemory)
+abbrev pub OrOutOfMemory : Result (Unit {0}) Refusal → Result (Unit {0}) Refusal → Type 0
+OrOutOfMemory result wanted = (result ≡ wanted) ⊎ (result ≡ Err refusal.OutOfMemory)

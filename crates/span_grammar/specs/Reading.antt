@@ -9,31 +9,31 @@ use Rattle.span_grammar.specs.declared.reader.Stop.TheVariants as stop
 use Rattle.span_grammar.specs.Rules.{is_of, Answer, Read, Wrong, Deep, limit, parse}
 use Rattle.span_grammar.specs.Grammar.{inside, rule_of}
 
-abbrev pub Outcome : Type 0
-Outcome = Result (List Lexeme) Stop
+abbrev pub ReadResult : Type 0
+ReadResult = Result (List Lexeme) Stop
 
-abbrev pub outcome : Answer → Outcome
-outcome (Read x k) = Ok k
-outcome (Wrong k) = Err stop.Syntax
-outcome (Deep k) = Err stop.TooDeep
+abbrev pub read_result : Answer → ReadResult
+read_result (Read x k) = Ok k
+read_result (Wrong k) = Err stop.Syntax
+read_result (Deep k) = Err stop.TooDeep
 
 -- what the grammar's reading of a part gives, n openings left
-unfoldable pub part_read : ℕ → Part → List Lexeme → Outcome
-part_read n p ts = outcome (parse inside n (rule_of p) ts)
+unfoldable pub part_read : ℕ → Part → List Lexeme → ReadResult
+part_read n p ts = read_result (parse inside n (rule_of p) ts)
 
-unfoldable pub sort_read : Sort → List Lexeme → Outcome
+unfoldable pub sort_read : Sort → List Lexeme → ReadResult
 sort_read s [] = Err stop.Syntax
 sort_read s (t ∷ ts) = if is_of s t then Ok ts else Err stop.Syntax
 
-abbrev pub Follows : Result (Bor (List Lexeme)) Stop → Outcome → Type 0
+abbrev pub Follows : Result (Bor (List Lexeme)) Stop → ReadResult → Type 0
 Follows (Ok rest) o = o ≡ Ok rest.now
 Follows (Err e) o = o ≡ Err e
 
-abbrev pub ended : Outcome → Result (Unit {0}) Stop
-ended (Ok []) = Ok tt
-ended (Ok (t ∷ k)) = Err stop.Syntax
-ended (Err e) = Err e
+abbrev pub at_end : ReadResult → Result (Unit {0}) Stop
+at_end (Ok []) = Ok tt
+at_end (Ok (t ∷ k)) = Err stop.Syntax
+at_end (Err e) = Err e
 
 -- all the tokens
 unfoldable pub text_read : Part → List Lexeme → Result (Unit {0}) Stop
-text_read p ts = ended (part_read limit p ts)
+text_read p ts = at_end (part_read limit p ts)

@@ -116,18 +116,18 @@ bind (Read x k) f = f x k
 bind (Wrong k) f = Wrong k
 bind (Deep k) f = Deep k
 
-abbrev pub nullable : Rule → Bool
-nullable Empty = true
-nullable (One s) = false
-nullable (Then a b) = nullable a && nullable b
-nullable (Or a b) = nullable a || nullable b
-nullable (Many a) = true
-nullable (Open s p) = false
+abbrev pub is_nullable : Rule → Bool
+is_nullable Empty = true
+is_nullable (One s) = false
+is_nullable (Then a b) = is_nullable a && is_nullable b
+is_nullable (Or a b) = is_nullable a || is_nullable b
+is_nullable (Many a) = true
+is_nullable (Open s p) = false
 
 abbrev pub first : Rule → Lexeme → Bool
 first Empty t = false
 first (One s) t = is_of s t
-first (Then a b) t = first a t || (nullable a && first b t)
+first (Then a b) t = first a t || (is_nullable a && first b t)
 first (Or a b) t = first a t || first b t
 first (Many a) t = first a t
 first (Open s p) t = is_of s t
@@ -136,10 +136,10 @@ abbrev pub starts : Rule → List Lexeme → Bool
 starts a [] = false
 starts a (t ∷ ts) = first a t
 
-abbrev pub many : (List Lexeme → Answer) → Rule → ℕ → List Lexeme → Answer
-many f a zero ts = Read End ts
-many f a (suc n) ts =
-    if starts a ts then bind (f ts) (λ x k. bind (many f a n k) (λ more k2. Read (More x more) k2)) else Read End ts
+abbrev pub read_many : (List Lexeme → Answer) → Rule → ℕ → List Lexeme → Answer
+read_many f a zero ts = Read End ts
+read_many f a (suc n) ts =
+    if starts a ts then bind (f ts) (λ x k. bind (read_many f a n k) (λ more k2. Read (More x more) k2)) else Read End ts
 
 abbrev pub one : Sort → List Lexeme → Answer
 one s [] = Wrong []
@@ -149,13 +149,13 @@ pub data Deeper : Type 0 where
   No : Deeper
   Yes : (Place → List Lexeme → Answer) → Deeper
 
-abbrev pub go_in : Deeper → Place → Lexeme → List Lexeme → Answer
-go_in No p t ts = Deep (t ∷ ts)
-go_in (Yes f) p t ts = bind (f p ts) (λ x k. Read (Nest t x) k)
+abbrev pub enter_place : Deeper → Place → Lexeme → List Lexeme → Answer
+enter_place No p t ts = Deep (t ∷ ts)
+enter_place (Yes f) p t ts = bind (f p ts) (λ x k. Read (Nest t x) k)
 
 abbrev pub opening : Deeper → Sort → Place → List Lexeme → Answer
 opening g s p [] = Wrong []
-opening g s p (t ∷ ts) = if is_of s t then go_in g p t ts else Wrong (t ∷ ts)
+opening g s p (t ∷ ts) = if is_of s t then enter_place g p t ts else Wrong (t ∷ ts)
 
 abbrev pub parse_with : Deeper → Rule → List Lexeme → Answer
 parse_with g Empty ts = Read Nothing ts
@@ -163,7 +163,7 @@ parse_with g (One s) ts = one s ts
 parse_with g (Then a b) ts = bind (parse_with g a ts) (λ x k. bind (parse_with g b k) (λ y k2. Read (Pair x y) k2))
 parse_with g (Or a b) ts =
     if starts a ts then bind (parse_with g a ts) (λ x k. Read (Left x) k) else bind (parse_with g b ts) (λ y k. Read (Right y) k)
-parse_with g (Many a) ts = many (λ us. parse_with g a us) a (length ts) ts
+parse_with g (Many a) ts = read_many (λ us. parse_with g a us) a (length ts) ts
 parse_with g (Open s p) ts = opening g s p ts
 
 module _ (inside : Place → Rule) where

@@ -1,6 +1,6 @@
 //! The tokens of a query or schema text, with their classes.
 ghost use Rattle.std.specs.Prelude.{◌≡◌, ◌-◌, take, drop, IfOk};
-ghost use Rattle.span_grammar.specs.Contexts.{context_named, spelled_by};
+ghost use Rattle.span_grammar.specs.Contexts.{context_word, matching_word};
 ghost use Rattle.span_grammar.specs.Classes as spec;
 
 use super::class::{CONTEXTS, Class, Context, Lexeme};
@@ -13,25 +13,25 @@ pub fn lexemes(alloc: Global, text: &[u8], tokens: &[Token]) -> Result<Vec<Lexem
 {
     let mut found = Vec::new(alloc);
     let mut rest = tokens;
-    while let Some((token, behind)) = rest.split_first() {
-        let class = class_at(text, token, behind);
+    while let Some((token, tail)) = rest.split_first() {
+        let class = class_at(text, token, tail);
         found.push(Lexeme {
             class,
             token: *token,
         })?;
-        rest = behind;
+        rest = tail;
     }
     Ok(found)
 }
 
 /// The class of a token, by the tokens after it.
-fn class_at(text: &[u8], token: &Token, behind: &[Token]) -> Class
-    ensures { result ≡ spec.class_at text.now token.now behind.now }
+fn class_at(text: &[u8], token: &Token, tail: &[Token]) -> Class
+    ensures { result ≡ spec.class_at text.now token.now tail.now }
 {
     match token.kind {
         TokenKind::Word(word) => Class::Word(word),
         TokenKind::Name => {
-            if starts_all_of(behind) {
+            if starts_all_of(tail) {
                 Class::AllOf
             } else {
                 name_class(spelled(text, token))
@@ -42,7 +42,7 @@ fn class_at(text: &[u8], token: &Token, behind: &[Token]) -> Class
         TokenKind::Str => Class::Str,
         TokenKind::Bytes => Class::Bytes,
         TokenKind::Sign(Sign::Semicolon) => {
-            if behind.is_empty() {
+            if tail.is_empty() {
                 Class::LastSemicolon
             } else {
                 Class::Sign(Sign::Semicolon)
@@ -76,17 +76,17 @@ fn is_star(kind: TokenKind) -> bool
 
 /// The class of a name, which may be a word of the grammar.
 fn name_class(bytes: &[u8]) -> Class
-    ensures { result ≡ spec.name_class (context_named bytes.now) }
+    ensures { result ≡ spec.name_class (context_word bytes.now) }
 {
-    match first_spelled(&CONTEXTS, bytes) {
+    match matching_word(&CONTEXTS, bytes) {
         Some(word) => Class::Context(word),
         None => Class::Name,
     }
 }
 
 /// The first of the words that the bytes spell in any case.
-fn first_spelled(words: &[Context], bytes: &[u8]) -> Option<Context>
-    ensures { result ≡ spelled_by words.now bytes.now }
+fn matching_word(words: &[Context], bytes: &[u8]) -> Option<Context>
+    ensures { result ≡ matching_word words.now bytes.now }
 {
     for word in words {
         if bytes.eq_ignore_ascii_case(word.spelling().as_bytes()) {
@@ -100,14 +100,14 @@ fn first_spelled(words: &[Context], bytes: &[u8]) -> Option<Context>
 pub fn spelled<'a>(text: &'a [u8], token: &Token) -> &'a [u8]
     ensures { result.now ≡ spec.spelled text.now token.now }
 {
-    front(
-        behind(text, token.start),
+    prefix(
+        tail(text, token.start),
         token.end.saturating_sub(token.start),
     )
 }
 
 /// The bytes from a place on; none if there are fewer.
-fn behind(bytes: &[u8], place: usize) -> &[u8]
+fn tail(bytes: &[u8], place: usize) -> &[u8]
     ensures { result.now ≡ drop place bytes.now }
 {
     if place <= bytes.len() {
@@ -118,7 +118,7 @@ fn behind(bytes: &[u8], place: usize) -> &[u8]
 }
 
 /// The first `count` bytes, or all if there are fewer.
-fn front(bytes: &[u8], count: usize) -> &[u8]
+fn prefix(bytes: &[u8], count: usize) -> &[u8]
     ensures { result.now ≡ take count bytes.now }
 {
     if count <= bytes.len() {

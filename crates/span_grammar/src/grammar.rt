@@ -295,7 +295,7 @@ pub enum Shape {
 
 /// What stands at a place.
 #[tactic(auto, unfolding(crate::specs::Shapes::part_inside))]
-pub(crate) fn inside(place: Place) -> Part
+pub(crate) fn part_inside(place: Place) -> Part
     ensures { result ≡ part_inside place }
 {
     match place {
@@ -314,7 +314,7 @@ pub(crate) fn inside(place: Place) -> Part
 
 /// How a part is made of others.
 #[tactic(auto, unfolding(crate::specs::Shapes::shape_of))]
-pub(crate) fn made_of(part: Part) -> Shape
+pub(crate) fn shape_of(part: Part) -> Shape
     ensures { result ≡ shape_of part }
 {
     match part {

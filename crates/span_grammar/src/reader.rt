@@ -3,12 +3,12 @@
 //! One token decides each choice, so that no token is read twice. What recurses goes down the grammar, and begins again at its
 //! top only after an opening, of which at most `DEEPEST` are nested.
 ghost use Rattle.std.specs.Prelude.{◌≡◌, ◌≤◌, List};
-ghost use Rattle.span_grammar.specs.Rules.{limit, is_class, of_class, nullable, first, starts};
+ghost use Rattle.span_grammar.specs.Rules.{limit, is_class, of_class, is_nullable, first, starts};
 ghost use Rattle.span_grammar.specs.Grammar.{rule_of};
 ghost use Rattle.span_grammar.specs.Reading.{Follows, part_read, sort_read};
 
 use super::class::{Class, Lexeme, Sort};
-use super::grammar::{Part, Shape, inside, made_of};
+use super::grammar::{Part, Shape, part_inside, shape_of};
 use span_lexer::token::Sign;
 
 /// The greatest number of nested openings.
@@ -49,14 +49,14 @@ pub fn is_class(sort: Sort, class: Class) -> bool
 
 /// Whether a part may be nothing.
 #[tactic(auto, using(crate::proofs::Steps::nothing_steps))]
-fn may_be_nothing(part: Part) -> bool
-    ensures { result ≡ nullable (rule_of part) }
+fn is_nullable(part: Part) -> bool
+    ensures { result ≡ is_nullable (rule_of part) }
 {
-    match made_of(part) {
+    match shape_of(part) {
         Shape::Empty => true,
         Shape::One(_) => false,
-        Shape::Then(first, second) => may_be_nothing(first) && may_be_nothing(second),
-        Shape::Or(first, second) => may_be_nothing(first) || may_be_nothing(second),
+        Shape::Then(first, second) => is_nullable(first) && is_nullable(second),
+        Shape::Or(first, second) => is_nullable(first) || is_nullable(second),
         Shape::Many(_) => true,
         Shape::Open(_, _) => false,
     }
@@ -67,11 +67,11 @@ fn may_be_nothing(part: Part) -> bool
 fn begins(part: Part, class: Class) -> bool
     ensures { result ≡ first (rule_of part) (of_class class) }
 {
-    match made_of(part) {
+    match shape_of(part) {
         Shape::Empty => false,
         Shape::One(sort) => is_class(sort, class),
         Shape::Then(first, second) => begins(first, class)
-            || (may_be_nothing(first) && begins(second, class)),
+            || (is_nullable(first) && begins(second, class)),
         Shape::Or(first, second) => begins(first, class) || begins(second, class),
         Shape::Many(repeated) => begins(repeated, class),
         Shape::Open(sort, _) => is_class(sort, class),
@@ -105,7 +105,7 @@ pub(crate) fn read(part: Part, left: usize, tokens: &[Lexeme]) -> Result<&[Lexem
     requires { left ≤ limit }
     ensures { Follows result (part_read left part tokens.now) }
 {
-    match made_of(part) {
+    match shape_of(part) {
         Shape::Empty => Ok(tokens),
         Shape::One(sort) => token(sort, tokens),
         Shape::Then(first, second) => {
@@ -131,7 +131,7 @@ pub(crate) fn read(part: Part, left: usize, tokens: &[Lexeme]) -> Result<&[Lexem
             if left == 0 {
                 return Err(Stop::TooDeep);
             }
-            read(inside(place), left - 1, rest)
+            read(part_inside(place), left - 1, rest)
         }
     }
 }

@@ -2,7 +2,7 @@
 use super::Fault;
 use span_core::database::Core;
 use span_core::{
-    Bound, Cell, Interval, Mutation, MutationKind, Params, Reply, Seq, Step, Text, Transaction,
+    Bound, NamedValue, Interval, Mutation, MutationKind, Params, Reply, Seq, Step, Text, Transaction,
     Value, Verdict,
 };
 use std::alloc::Global;
@@ -108,7 +108,7 @@ fn mutation(alloc: Global, row: &Asked<'_>) -> Result<Mutation, Fault> {
     }
     let mut cells = Seq::new(alloc);
     if let Some((column, text)) = row.text {
-        cells.push(Cell {
+        cells.push(NamedValue {
             column: Text::from_str(alloc, column)?,
             value: Value::Str(Text::from_str(alloc, text)?),
         })?;

@@ -7,16 +7,16 @@ use Rattle.span_value.specs.declared.refusal.Refusal.TheVariants as refusal
 use Rattle.span_schema.specs.declared.table.Table.{Table}
 use Rattle.span_mutate.specs.declared.mutation.CheckedMutation.{CheckedMutation}
 use Rattle.span_truetime.specs.Time.{timestamp_end}
-use Rattle.span_machine.specs.declared.slot.Book.{Book}
+use Rattle.span_machine.specs.declared.slot.SlotState.{SlotState}
 use Rattle.span_machine.specs.declared.transaction.Prepared.{Prepared}
 use Rattle.span_machine.specs.declared.transaction.OpenTransaction.{OpenTransaction}
-use Rattle.span_machine.specs.Machine.{Machine, refused, first_cause, unless_refused, if_some, is_transaction, is_undecided, is_prepared_at, conflicts, mutations_in, faults, prepare, prepare_found, prepare_refusal, prepare_timestamp, prepared, for_slot, room_refusal}
-use Rattle.span_journal.specs.Judged.{MayPrepare, stamp_refusal}
+use Rattle.span_machine.specs.Machine.{Machine, refused, first_cause, unless_refused, if_some, is_transaction, is_undecided, is_prepared_at, has_conflict, mutations_in, mutations_refusal, prepare, prepare_transaction, prepare_refusal, prepare_timestamp, prepared, for_slot, capacity_refusal}
+use Rattle.span_journal.specs.Judged.{MayPrepare, timestamp_refusal}
 
 -- every mutation lies in the one slot
-pub all_in : (schema : List Table) (book : Book) (ms : List CheckedMutation) → mutations_in schema book ms ≡ ms
-all_in schema book [] = refl
-all_in schema book (m ∷ ms) = ap (λ l. m ∷ l) (all_in schema book ms)
+pub all_in : (schema : List Table) (slot_state : SlotState) (ms : List CheckedMutation) → mutations_in schema slot_state ms ≡ ms
+all_in schema slot_state [] = refl
+all_in schema slot_state (m ∷ ms) = ap (λ l. m ∷ l) (all_in schema slot_state ms)
 
 -- a list has an element that passes, or none is left of it
 pub any_left : (slot : ℕ) (ps : List Prepared) → list_any (λ p. not (p.slot == slot)) ps ≡ not (length (filter (λ p. not (p.slot == slot)) ps) == 0)
@@ -33,8 +33,8 @@ any_left slot (p ∷ ps) = elim (not (p.slot == slot)) as (λ b. (b || list_any 
 abbrev pub is_wrong : ℕ → OpenTransaction → Bool
 is_wrong slot t = not (is_undecided t) || is_prepared_at slot t || (length t.mutations == 0)
 
-refusal_is : (schema : List Table) (m : Machine) (slot : ℕ) (t : OpenTransaction) (book : Book) → prepare_refusal schema m slot t book ≡ first_cause ((is_wrong slot t, refusal.WrongState) ∷ (conflicts schema m slot t.mutations, refusal.Conflict) ∷ [])
-refusal_is schema m slot t book = ap (λ (ms : List CheckedMutation). first_cause ((not (is_undecided t) || is_prepared_at slot t || (length ms == 0), refusal.WrongState) ∷ (conflicts schema m slot ms, refusal.Conflict) ∷ [])) (all_in schema book t.mutations)
+refusal_is : (schema : List Table) (m : Machine) (slot : ℕ) (t : OpenTransaction) (slot_state : SlotState) → prepare_refusal schema m slot t slot_state ≡ first_cause ((is_wrong slot t, refusal.WrongState) ∷ (has_conflict schema m slot t.mutations, refusal.Conflict) ∷ [])
+refusal_is schema m slot t slot_state = ap (λ (ms : List CheckedMutation). first_cause ((not (is_undecided t) || is_prepared_at slot t || (length ms == 0), refusal.WrongState) ∷ (has_conflict schema m slot ms, refusal.Conflict) ∷ [])) (all_in schema slot_state t.mutations)
 
 not_true : (b : Bool) → not b ≡ true → b ≡ false
 not_true true e = cc
@@ -44,43 +44,43 @@ not_false : (b : Bool) → not b ≡ false → b ≡ true
 not_false true e = refl
 not_false false e = cc
 
-module _ (schema : List Table) (m : Machine) (owner txn slot : ℕ) (t : OpenTransaction) (book : Book) (found : find (is_transaction owner txn) m.transactions ≡ Some t) (here : slice_get m.books slot ≡ Some book) where
-  prepare_is : prepare schema m owner txn slot ≡ prepare_found schema m owner txn slot t book
-  prepare_is = ap (λ (o : Option OpenTransaction). if_some o (refused m refusal.UnknownTransaction) (λ t. for_slot m slot (prepare_found schema m owner txn slot t))) found
-      ∙ ap (λ (o : Option Book). if_some o (refused m refusal.NoSlot) (prepare_found schema m owner txn slot t)) here
+module _ (schema : List Table) (m : Machine) (owner txn slot : ℕ) (t : OpenTransaction) (slot_state : SlotState) (found : find (is_transaction owner txn) m.transactions ≡ Some t) (here : slice_get m.slots slot ≡ Some slot_state) where
+  prepare_is : prepare schema m owner txn slot ≡ prepare_transaction schema m owner txn slot t slot_state
+  prepare_is = ap (λ (o : Option OpenTransaction). if_some o (refused m refusal.UnknownTransaction) (λ t. for_slot m slot (prepare_transaction schema m owner txn slot t))) found
+      ∙ ap (λ (o : Option SlotState). if_some o (refused m refusal.NoSlot) (prepare_transaction schema m owner txn slot t)) here
 
-  refused_by : (why : Refusal) → prepare_refusal schema m slot t book ≡ Some why → prepare schema m owner txn slot ≡ refused m why
+  refused_by : (why : Refusal) → prepare_refusal schema m slot t slot_state ≡ Some why → prepare schema m owner txn slot ≡ refused m why
   refused_by why e = prepare_is ∙ ap (λ (o : Option Refusal). unless_refused m o
-      (unless_refused m (faults schema m (mutations_in schema book t.mutations)) (unless_refused m (room_refusal schema m slot book (mutations_in schema book t.mutations)) (unless_refused m (stamp_refusal book) (prepared m owner txn slot book))))) e
+      (unless_refused m (mutations_refusal schema m (mutations_in schema slot_state t.mutations)) (unless_refused m (capacity_refusal schema m slot slot_state (mutations_in schema slot_state t.mutations)) (unless_refused m (timestamp_refusal slot_state) (prepared m owner txn slot slot_state))))) e
 
   pub refused_wrong : not (is_wrong slot t) ≡ false → prepare schema m owner txn slot ≡ refused m refusal.WrongState
-  refused_wrong e = refused_by refusal.WrongState (refusal_is schema m slot t book ∙ ap (λ b. first_cause ((b, refusal.WrongState) ∷ (conflicts schema m slot t.mutations, refusal.Conflict) ∷ [])) (not_false (is_wrong slot t) e))
+  refused_wrong e = refused_by refusal.WrongState (refusal_is schema m slot t slot_state ∙ ap (λ b. first_cause ((b, refusal.WrongState) ∷ (has_conflict schema m slot t.mutations, refusal.Conflict) ∷ [])) (not_false (is_wrong slot t) e))
 
-  pub refused_conflict : not (is_wrong slot t) ≡ true → conflicts schema m slot t.mutations ≡ true → prepare schema m owner txn slot ≡ refused m refusal.Conflict
-  refused_conflict e f = refused_by refusal.Conflict (refusal_is schema m slot t book
-      ∙ ap (λ b. first_cause ((b, refusal.WrongState) ∷ (conflicts schema m slot t.mutations, refusal.Conflict) ∷ [])) (not_true (is_wrong slot t) e)
+  pub refused_conflict : not (is_wrong slot t) ≡ true → has_conflict schema m slot t.mutations ≡ true → prepare schema m owner txn slot ≡ refused m refusal.Conflict
+  refused_conflict e f = refused_by refusal.Conflict (refusal_is schema m slot t slot_state
+      ∙ ap (λ b. first_cause ((b, refusal.WrongState) ∷ (has_conflict schema m slot t.mutations, refusal.Conflict) ∷ [])) (not_true (is_wrong slot t) e)
       ∙ ap (λ b. first_cause ((b, refusal.Conflict) ∷ [])) f)
 
-  pub may_prepare : not (is_wrong slot t) ≡ true → conflicts schema m slot t.mutations ≡ false → MayPrepare schema m owner txn slot t.mutations
+  pub may_prepare : not (is_wrong slot t) ≡ true → has_conflict schema m slot t.mutations ≡ false → MayPrepare schema m owner txn slot t.mutations
   may_prepare e f = record {
     transaction = t;
-    book = book;
+    slot_state = slot_state;
     found = found;
     here = here;
-    accepted = refusal_is schema m slot t book
-        ∙ ap (λ b. first_cause ((b, refusal.WrongState) ∷ (conflicts schema m slot t.mutations, refusal.Conflict) ∷ [])) (not_true (is_wrong slot t) e)
+    accepted = refusal_is schema m slot t slot_state
+        ∙ ap (λ b. first_cause ((b, refusal.WrongState) ∷ (has_conflict schema m slot t.mutations, refusal.Conflict) ∷ [])) (not_true (is_wrong slot t) e)
         ∙ ap (λ b. first_cause ((b, refusal.Conflict) ∷ [])) f;
-    mutations = sym (all_in schema book t.mutations);
+    mutations = sym (all_in schema slot_state t.mutations);
   }
 
-pub no_stamp : (book : Book) → 2 ^ 62 ≤ prepare_timestamp book → stamp_refusal book ≡ Some refusal.TimestampRange
-no_stamp book late = ap (λ b. first_cause ((b, refusal.TimestampRange) ∷ [])) (late_test (prepare_timestamp book) late)
+pub no_stamp : (slot_state : SlotState) → 2 ^ 62 ≤ prepare_timestamp slot_state → timestamp_refusal slot_state ≡ Some refusal.TimestampRange
+no_stamp slot_state late = ap (λ b. first_cause ((b, refusal.TimestampRange) ∷ [])) (late_test (prepare_timestamp slot_state) late)
   where
     late_test : (n : ℕ) → 2 ^ 62 ≤ n → nat_le timestamp_end n ≡ true
     late_test n h = grind (arith, nat_tests)
 
-pub a_stamp : (book : Book) → prepare_timestamp book < 2 ^ 62 → stamp_refusal book ≡ None
-a_stamp book early = ap (λ b. first_cause ((b, refusal.TimestampRange) ∷ [])) (early_test (prepare_timestamp book) early)
+pub a_stamp : (slot_state : SlotState) → prepare_timestamp slot_state < 2 ^ 62 → timestamp_refusal slot_state ≡ None
+a_stamp slot_state early = ap (λ b. first_cause ((b, refusal.TimestampRange) ∷ [])) (early_test (prepare_timestamp slot_state) early)
   where
     early_test : (n : ℕ) → n < 2 ^ 62 → nat_le timestamp_end n ≡ false
     early_test n h = grind (arith, nat_tests)

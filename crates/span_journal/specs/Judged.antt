@@ -10,87 +10,87 @@ use Rattle.span_truetime.specs.declared.interval.Interval.{Interval}
 use Rattle.span_truetime.specs.Time.{timestamp_end}
 use Rattle.span_machine.specs.declared.step.Reply.{Reply}
 use Rattle.span_machine.specs.declared.step.Reply.TheVariants as reply
-use Rattle.span_machine.specs.declared.slot.Book.{Book}
+use Rattle.span_machine.specs.declared.slot.SlotState.{SlotState}
 use Rattle.span_machine.specs.declared.query.Leaf.{Leaf}
 use Rattle.span_machine.specs.declared.query.OpenQuery.{OpenQuery}
 use Rattle.span_machine.specs.declared.transaction.OpenTransaction.{OpenTransaction}
-use Rattle.span_machine.specs.declared.transaction.Outcome.{Outcome}
-use Rattle.span_machine.specs.declared.transaction.Outcome.TheVariants as outcome
-use Rattle.span_machine.specs.Machine.{trim_refusal, Machine, first_cause, is_transaction, is_query, mutations_in, prepare_refusal, prepare_timestamp, prepared, apply_refusal, applied_at, changed_first, is_covered, is_safe, risen, scan, with_book}
+use Rattle.span_machine.specs.declared.transaction.Decision.{Decision}
+use Rattle.span_machine.specs.declared.transaction.Decision.TheVariants as decision
+use Rattle.span_machine.specs.Machine.{trim_refusal, Machine, first_cause, is_transaction, is_query, mutations_in, prepare_refusal, prepare_timestamp, prepared, apply_refusal, applied_at, changed_first, is_covered, is_safe, with_risen_floor, scan, with_slot_state}
 use Rattle.span_machine.specs.Pieces.{Pieced, Journaled, covered_by, machine_of}
 use Rattle.span_journal.specs.declared.journal.Gap.{Gap}
 
 -- the reply of a call's result
-abbrev pub replied : {A : Type 0} → (A → Reply) → Result A Refusal → Reply
-replied make (Ok x) = make x
-replied make (Err why) = reply.Refused why
+abbrev pub as_reply : {A : Type 0} → (A → Reply) → Result A Refusal → Reply
+as_reply make (Ok x) = make x
+as_reply make (Err why) = reply.Refused why
 
 -- the reply to a decision: its commit timestamp, or none
-abbrev pub decided : Option ℕ → Reply
-decided None = reply.Aborted
-decided (Some ts) = reply.Decided ts
+abbrev pub decision_reply : Option ℕ → Reply
+decision_reply None = reply.Aborted
+decision_reply (Some ts) = reply.Decided ts
 
 -- the decision of a commit timestamp, or of none
-abbrev pub outcome_of : Option ℕ → Outcome
-outcome_of None = outcome.Aborted
-outcome_of (Some ts) = outcome.Committed ts
+abbrev pub decision_of : Option ℕ → Decision
+decision_of None = decision.Aborted
+decision_of (Some ts) = decision.Committed ts
 
 -- nothing but its mutations keeps the transaction from being prepared at the slot
 pub record MayPrepare (schema : List Table) (m : Machine) (owner txn slot : ℕ) (ms : List CheckedMutation) : Type 0 where
   pub transaction : OpenTransaction
-  pub book : Book
+  pub slot_state : SlotState
   pub found : find (is_transaction owner txn) m.transactions ≡ Some transaction
-  pub here : slice_get m.books slot ≡ Some book
-  pub accepted : prepare_refusal schema m slot transaction book ≡ None
-  pub mutations : ms ≡ mutations_in schema book transaction.mutations
+  pub here : slice_get m.slots slot ≡ Some slot_state
+  pub accepted : prepare_refusal schema m slot transaction slot_state ≡ None
+  pub mutations : ms ≡ mutations_in schema slot_state transaction.mutations
 
 -- the refusal `TimestampRange`, if there is no prepare timestamp left
-abbrev pub stamp_refusal : Book → Option Refusal
-stamp_refusal book = first_cause ((nat_le timestamp_end (prepare_timestamp book), TimestampRange) ∷ [])
+abbrev pub timestamp_refusal : SlotState → Option Refusal
+timestamp_refusal slot_state = first_cause ((nat_le timestamp_end (prepare_timestamp slot_state), TimestampRange) ∷ [])
 
 -- the transaction is noted as prepared at the slot
 pub record IsNoted (old : Machine) (owner txn slot ts : ℕ) (new : Machine) : Type 0 where
-  pub book : Book
-  pub here : slice_get old.books slot ≡ Some book
-  pub stamped : stamp_refusal book ≡ None
-  pub at : ts ≡ prepare_timestamp book
-  pub after : new ≡ (prepared old owner txn slot book).1
+  pub slot_state : SlotState
+  pub here : slice_get old.slots slot ≡ Some slot_state
+  pub stamped : timestamp_refusal slot_state ≡ None
+  pub at : ts ≡ prepare_timestamp slot_state
+  pub after : new ≡ (prepared old owner txn slot slot_state).1
 
 -- why a transaction is not noted: no such transaction, no such slot, no timestamp left, or out of memory
 abbrev pub IsUnnoted : Machine → ℕ → ℕ → ℕ → Refusal → Type 0
-IsUnnoted m owner txn slot why = (why ≡ OutOfMemory) ⊎ ((find (is_transaction owner txn) m.transactions ≡ None) ⊎ ((slice_get m.books slot ≡ None) ⊎ ((book : Book) × (slice_get m.books slot ≡ Some book) × (stamp_refusal book ≡ Some why))))
+IsUnnoted m owner txn slot why = (why ≡ OutOfMemory) ⊎ ((find (is_transaction owner txn) m.transactions ≡ None) ⊎ ((slice_get m.slots slot ≡ None) ⊎ ((slot_state : SlotState) × (slice_get m.slots slot ≡ Some slot_state) × (timestamp_refusal slot_state ≡ Some why))))
 
 -- the decided transaction is noted as applied at the slot
 pub record IsApplied (old : Machine) (owner txn slot : ℕ) (interval : Interval) (committed : Option ℕ) (new : Machine) : Type 0 where
   pub transaction : OpenTransaction
-  pub book : Book
+  pub slot_state : SlotState
   pub found : find (is_transaction owner txn) old.transactions ≡ Some transaction
-  pub here : slice_get old.books slot ≡ Some book
+  pub here : slice_get old.slots slot ≡ Some slot_state
   pub accepted : apply_refusal slot transaction interval ≡ None
-  pub outcome : transaction.outcome ≡ outcome_of committed
-  pub after : new ≡ (applied_at (outcome_of committed) old owner txn slot transaction).1
+  pub decision : transaction.decision ≡ decision_of committed
+  pub after : new ≡ (applied_at (decision_of committed) old owner txn slot transaction).1
 
 -- the leaf of the query is uncovered, the query's timestamp s is not below the slot's horizon, and safe time reaches it once the floor
 -- has risen; the leaf is of this table
 pub record MayScan (m : Machine) (query leaf slot : ℕ) (interval : Interval) (table s : ℕ) : Type 0 where
   pub question : OpenQuery
   pub gap : Leaf
-  pub book : Book
+  pub slot_state : SlotState
   pub found : find (is_query query) m.queries ≡ Some question
   pub there : slice_get question.leaves leaf ≡ Some gap
-  pub here : slice_get m.books slot ≡ Some book
+  pub here : slice_get m.slots slot ≡ Some slot_state
   pub uncovered : gap.covered ≡ false
   pub of_table : table ≡ gap.table
   pub at : s ≡ question.s
-  pub above : nat_lt question.s book.horizon ≡ false
-  pub safe : is_safe m slot (risen book question.s interval) question.s ≡ true
+  pub above : nat_lt question.s slot_state.horizon ≡ false
+  pub safe : is_safe m slot (with_risen_floor slot_state question.s interval) question.s ≡ true
 
 -- the slot's horizon has risen to h
 pub record IsRaised (old : Machine) (slot h : ℕ) (new : Machine) : Type 0 where
-  pub book : Book
-  pub here : slice_get old.books slot ≡ Some book
-  pub accepted : trim_refusal old slot h book ≡ None
-  pub after : new ≡ record old { books = slice_set old.books slot (record book { horizon = h }) }
+  pub slot_state : SlotState
+  pub here : slice_get old.slots slot ≡ Some slot_state
+  pub accepted : trim_refusal old slot h slot_state ≡ None
+  pub after : new ≡ record old { slots = slice_set old.slots slot (record slot_state { horizon = h }) }
 
 -- what a scan finds: nothing uncovered, or what may be read of which table
 abbrev pub IsGap : Machine → ℕ → ℕ → ℕ → Interval → Option Gap → Type 0
@@ -110,13 +110,13 @@ pub record IsCovered (j : Journaled) (query s : ℕ) (asked : BoundQuery) (piece
 pub record IsRegistered (old : Journaled) (query leaf slot : ℕ) (interval : Interval) (rows : List Row) (new : Journaled) : Type 0 where
   pub question : Pieced
   pub gap : Leaf
-  pub book : Book
+  pub slot_state : SlotState
   pub found : find (λ p. is_query query p.query) old.queries ≡ Some question
   pub there : slice_get question.query.leaves leaf ≡ Some gap
-  pub here : slice_get old.books slot ≡ Some book
+  pub here : slice_get old.slots slot ≡ Some slot_state
   pub uncovered : gap.covered ≡ false
   pub after : new ≡ record old {
-    books = (with_book (machine_of old) slot (risen book question.query.s interval)).books;
+    slots = (with_slot_state (machine_of old) slot (with_risen_floor slot_state question.query.s interval)).slots;
     queries = changed_first (λ p. is_query query p.query) (covered_by leaf rows) old.queries;
   }
 
@@ -125,5 +125,5 @@ abbrev pub IsUnregistered : Journaled → ℕ → ℕ → ℕ → Refusal → Ty
 IsUnregistered j query leaf slot why =
     ((find (λ p. is_query query p.query) j.queries ≡ None) × (why ≡ UnknownQuery))
     ⊎ (((p : Pieced) × (find (λ p. is_query query p.query) j.queries ≡ Some p) × (slice_get p.query.leaves leaf ≡ None) × (why ≡ UnknownQuery))
-    ⊎ (((p : Pieced) × (find (λ p. is_query query p.query) j.queries ≡ Some p) × (slice_get p.query.leaves leaf ≢ None) × (slice_get j.books slot ≡ None) × (why ≡ NoSlot))
-    ⊎ ((p : Pieced) × (l : Leaf) × (find (λ p. is_query query p.query) j.queries ≡ Some p) × (slice_get p.query.leaves leaf ≡ Some l) × (slice_get j.books slot ≢ None) × (l.covered ≡ true) × (why ≡ Incomplete))))
+    ⊎ (((p : Pieced) × (find (λ p. is_query query p.query) j.queries ≡ Some p) × (slice_get p.query.leaves leaf ≢ None) × (slice_get j.slots slot ≡ None) × (why ≡ NoSlot))
+    ⊎ ((p : Pieced) × (l : Leaf) × (find (λ p. is_query query p.query) j.queries ≡ Some p) × (slice_get p.query.leaves leaf ≡ Some l) × (slice_get j.slots slot ≢ None) × (l.covered ≡ true) × (why ≡ Incomplete))))

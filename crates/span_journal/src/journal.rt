@@ -5,22 +5,22 @@ ghost use Rattle.span_truetime.specs.Time.{timestamp_of};
 ghost use Rattle.span_schema.specs.declared.table.Table.{Table};
 ghost use Rattle.span_machine.specs.Pieces.{machine_of, unread};
 ghost use Rattle.span_machine.specs.declared.step.Reply.TheVariants as reply_of;
-ghost use Rattle.span_journal.specs.Judged.{replied, decided, MayPrepare, IsNoted, IsUnnoted, IsApplied, IsGap, IsRaised, IsRegistered, IsUnregistered, IsCovered};
+ghost use Rattle.span_journal.specs.Judged.{as_reply, decision_reply, MayPrepare, IsNoted, IsUnnoted, IsApplied, IsGap, IsRaised, IsRegistered, IsUnregistered, IsCovered};
 
 use super::queries::{cover_at, find_query};
 use super::query::KeptQuery;
 use super::slots::{
-    book_at, coordinator_slot, decision, is_ready, is_safe_at, prepare_timestamp, raise_last,
+    slot_at, coordinator_slot, commit_timestamp, is_ready, is_safe_at, prepare_timestamp, raise_last,
     risen_floor, set_floor, set_horizon, set_last,
 };
 use super::transaction::KeptTransaction;
 use super::transactions::{
-    abort_at, commit_at, copies_of, count_prepared, count_undecided, end_at, find_transaction,
-    has_conflict, judge_apply, may_prepare, note_at, remove_at,
+    abort_at, commit_at, copy_mutations, count_prepared, count_undecided, end_prepared_at, find_transaction,
+    has_conflict, check_apply, may_prepare, add_prepared_at, remove_at,
 };
-use span_machine::slot::Book;
+use span_machine::slot::SlotState;
 use span_machine::step::Verdict;
-use span_machine::transaction::{Commit, OpenTransaction, Outcome, Prepared};
+use span_machine::transaction::{Commit, OpenTransaction, Decision, Prepared};
 use span_mutate::mutation::CheckedMutation;
 use span_mutate::transaction::Transaction;
 use span_query::query::{BoundQuery, Statement};
@@ -57,7 +57,7 @@ pub struct Gap {
 /// The state of slots, transactions and queries.
 #[derive(Debug, Drop)]
 pub struct Journal {
-    books: Vec<Book>,
+    slots: Vec<SlotState>,
     transactions: Vec<KeptTransaction>,
     /// It has reserved capacity for each undecided transaction.
     log: Vec<Commit>,
@@ -78,7 +78,7 @@ impl Model for Journal {
     ghost coded = { Prim.hlevel (codes, bound_query.the_row.coded) };
 
     ghost view = { λ a. record {
-      books = a.books.items;
+      slots = a.slots.items;
       transactions = a.transactions.items;
       log = a.log.items;
       queries = a.queries.items;
@@ -98,14 +98,14 @@ impl Journal {
         ensures start { IfOk result (λ journal. machine_of journal ≡ start) }
         ensures pieces { IfOk result (λ journal. journal.queries ≡ []) }
     {
-        let mut books = Vec::new(alloc);
-        books.push(Book {
+        let mut slots = Vec::new(alloc);
+        slots.push(SlotState {
             last: 0,
             floor: 0,
             horizon: 0,
         })?;
         Ok(Journal {
-            books,
+            slots,
             transactions: Vec::new(alloc),
             log: Vec::new(alloc),
             queries: Vec::new(alloc),
@@ -115,10 +115,10 @@ impl Journal {
     }
 
     /// The states of the slots in use, in their order.
-    pub fn books(&self) -> &[Book]
-        ensures { result.now ≡ self.now.books }
+    pub fn slots(&self) -> &[SlotState]
+        ensures { result.now ≡ self.now.slots }
     {
-        self.books.as_slice()
+        self.slots.as_slice()
     }
 
     /// How many transactions are prepared at the slot. A decided one is prepared until it is applied there.
@@ -136,7 +136,7 @@ impl Journal {
         owner: u64,
         transaction: Transaction,
     ) -> Result<u64, Refusal>
-        ensures step { Answers (machine_of self.old) (begin (machine_of self.old) owner transaction) (replied reply_of.Began result) (machine_of self.new) }
+        ensures step { Answers (machine_of self.old) (begin (machine_of self.old) owner transaction) (as_reply reply_of.Began result) (machine_of self.new) }
         ensures pieces { self.new.queries ≡ self.old.queries }
     {
         if self.transactions.len() >= MOST_TRANSACTIONS || self.next_transaction >= NUMBER_END {
@@ -165,14 +165,14 @@ impl Journal {
         ensures err { OnErr result (machine_of self.new ≡ machine_of self.old) }
         ensures pieces { self.new.queries ≡ self.old.queries }
     {
-        let entry = copies_of(alloc, transaction.mutations())?;
+        let entry = copy_mutations(alloc, transaction.mutations())?;
         self.log.reserve(undecided + 1)?;
         let number = self.next_transaction;
         let opened = OpenTransaction {
             owner,
             number,
             mutations: transaction.into_mutations(),
-            outcome: Outcome::Undecided,
+            decision: Decision::Undecided,
             prepared: Seq::new(alloc),
         };
         self.transactions.push(KeptTransaction::new(opened, entry))?;
@@ -191,7 +191,7 @@ impl Journal {
         verdict: Verdict,
         interval: Interval,
     ) -> Result<Option<u64>, Refusal>
-        ensures step { IsAnswer (decide schema.now (machine_of self.old) owner txn verdict interval) (replied decided result) (machine_of self.new) }
+        ensures step { IsAnswer (decide schema.now (machine_of self.old) owner txn verdict interval) (as_reply decision_reply result) (machine_of self.new) }
         ensures pieces { self.new.queries ≡ self.old.queries }
     {
         match verdict {
@@ -204,7 +204,7 @@ impl Journal {
     }
 
     /// The commit timestamp, or why there is no commit.
-    fn judge_commit(
+    fn check_commit(
         &self,
         schema: &Schema,
         transaction: &KeptTransaction,
@@ -217,11 +217,11 @@ impl Journal {
         if !transaction.is_undecided() {
             return Err(Refusal::WrongState);
         }
-        if !is_ready(self.books.as_slice(), schema, transaction) {
+        if !is_ready(self.slots.as_slice(), schema, transaction) {
             return Err(Refusal::WrongState);
         }
-        match decision(
-            self.books.as_slice(),
+        match commit_timestamp(
+            self.slots.as_slice(),
             transaction.prepared(),
             interval.latest,
         ) {
@@ -238,17 +238,17 @@ impl Journal {
         txn: u64,
         interval: Interval,
     ) -> Result<u64, Refusal>
-        ensures step { IsAnswer (decide schema.now (machine_of self.old) owner txn Verdict.Commit interval) (replied reply_of.Decided result) (machine_of self.new) }
+        ensures step { IsAnswer (decide schema.now (machine_of self.old) owner txn Verdict.Commit interval) (as_reply reply_of.Decided result) (machine_of self.new) }
         ensures pieces { self.new.queries ≡ self.old.queries }
     {
         let Some((at, transaction)) = find_transaction(self.transactions.as_slice(), owner, txn)
         else {
             return Err(Refusal::UnknownTransaction);
         };
-        match self.judge_commit(schema, transaction, interval) {
+        match self.check_commit(schema, transaction, interval) {
             Ok(timestamp) => {
                 let coordinator = coordinator_slot(transaction.prepared());
-                raise_last(&mut self.books, coordinator, timestamp);
+                raise_last(&mut self.slots, coordinator, timestamp);
                 let commit = commit_at(alloc, &mut self.transactions, at, timestamp);
                 self.log.push(commit).unwrap();
                 Ok(timestamp)
@@ -264,7 +264,7 @@ impl Journal {
         txn: u64,
         interval: Interval,
     ) -> Result<(), Refusal>
-        ensures step { IsAnswer (decide schema.now (machine_of self.old) owner txn Verdict.Abort interval) (replied (λ _. reply_of.Aborted) result) (machine_of self.new) }
+        ensures step { IsAnswer (decide schema.now (machine_of self.old) owner txn Verdict.Abort interval) (as_reply (λ _. reply_of.Aborted) result) (machine_of self.new) }
         ensures pieces { self.new.queries ≡ self.old.queries }
     {
         let Some((at, transaction)) = find_transaction(self.transactions.as_slice(), owner, txn)
@@ -284,7 +284,7 @@ impl Journal {
 
     /// The mutations of a transaction that lie in the slot, where nothing but they may keep it from being prepared there.
     /// `UnknownTransaction`, then `NoSlot`, then `WrongState`, then `Conflict`.
-    pub fn judge_prepare(
+    pub fn check_prepare(
         &self,
         schema: &Schema,
         owner: u64,
@@ -298,7 +298,7 @@ impl Journal {
         else {
             return Err(Refusal::UnknownTransaction);
         };
-        let Some(_) = book_at(self.books.as_slice(), slot) else {
+        let Some(_) = slot_at(self.slots.as_slice(), slot) else {
             return Err(Refusal::NoSlot);
         };
         if !may_prepare(transaction, slot) {
@@ -321,14 +321,14 @@ impl Journal {
         let Some((at, _)) = find_transaction(self.transactions.as_slice(), owner, txn) else {
             return Err(Refusal::UnknownTransaction);
         };
-        let Some(book) = book_at(self.books.as_slice(), slot) else {
+        let Some(slot_state) = slot_at(self.slots.as_slice(), slot) else {
             return Err(Refusal::NoSlot);
         };
-        let Some(timestamp) = prepare_timestamp(book) else {
+        let Some(timestamp) = prepare_timestamp(slot_state) else {
             return Err(Refusal::TimestampRange);
         };
-        note_at(&mut self.transactions, at, Prepared { slot, timestamp })?;
-        set_last(&mut self.books, slot, timestamp);
+        add_prepared_at(&mut self.transactions, at, Prepared { slot, timestamp })?;
+        set_last(&mut self.slots, slot, timestamp);
         Ok(timestamp)
     }
 
@@ -351,39 +351,39 @@ impl Journal {
         else {
             return Err(Refusal::UnknownTransaction);
         };
-        let Some(_) = book_at(self.books.as_slice(), slot) else {
+        let Some(_) = slot_at(self.slots.as_slice(), slot) else {
             return Err(Refusal::NoSlot);
         };
-        let committed = judge_apply(transaction, slot, interval)?;
-        end_at(alloc, &mut self.transactions, at, slot);
+        let committed = check_apply(transaction, slot, interval)?;
+        end_prepared_at(alloc, &mut self.transactions, at, slot);
         if let Some(timestamp) = committed {
-            raise_last(&mut self.books, slot, timestamp);
+            raise_last(&mut self.slots, slot, timestamp);
         }
         Ok(committed)
     }
 
     /// Raises the floor of the slot to the latest time that it may be now, and returns it. It takes no memory. `NoSlot`.
     pub fn advance(&mut self, slot: usize, interval: Interval) -> Result<u64, Refusal>
-        ensures step { IsAnswer (advance (machine_of self.old) slot interval) (replied reply_of.Floor result) (machine_of self.new) }
+        ensures step { IsAnswer (advance (machine_of self.old) slot interval) (as_reply reply_of.Floor result) (machine_of self.new) }
         ensures pieces { self.new.queries ≡ self.old.queries }
     {
-        let Some(book) = book_at(self.books.as_slice(), slot) else {
+        let Some(slot_state) = slot_at(self.slots.as_slice(), slot) else {
             return Err(Refusal::NoSlot);
         };
-        let floor = book.floor.max(interval.latest);
-        set_floor(&mut self.books, slot, floor);
+        let floor = slot_state.floor.max(interval.latest);
+        set_floor(&mut self.slots, slot, floor);
         Ok(floor)
     }
 
     /// Why the horizon of a slot may not rise to h, if so.
-    fn judge_trim(&self, book: &Book, slot: usize, h: u64) -> Result<(), Refusal>
-        ensures accepted { OnOk result (trim_refusal (machine_of self.now) slot h book.now ≡ None) }
-        ensures refused { IfErr result (λ why. trim_refusal (machine_of self.now) slot h book.now ≡ Some why) }
+    fn check_trim(&self, slot_state: &SlotState, slot: usize, h: u64) -> Result<(), Refusal>
+        ensures accepted { OnOk result (trim_refusal (machine_of self.now) slot h slot_state.now ≡ None) }
+        ensures refused { IfErr result (λ why. trim_refusal (machine_of self.now) slot h slot_state.now ≡ Some why) }
     {
-        if h < book.horizon {
+        if h < slot_state.horizon {
             return Err(Refusal::TrimBackward);
         }
-        if !is_safe_at(self.transactions.as_slice(), book.floor, slot, h) {
+        if !is_safe_at(self.transactions.as_slice(), slot_state.floor, slot, h) {
             return Err(Refusal::TrimTooNew);
         }
         Ok(())
@@ -397,16 +397,16 @@ impl Journal {
         ensures err { OnErr result (machine_of self.new ≡ machine_of self.old) }
         ensures pieces { self.new.queries ≡ self.old.queries }
     {
-        let Some(book) = book_at(self.books.as_slice(), slot) else {
+        let Some(slot_state) = slot_at(self.slots.as_slice(), slot) else {
             return Err(Refusal::NoSlot);
         };
-        self.judge_trim(book, slot, h)?;
-        set_horizon(&mut self.books, slot, h);
+        self.check_trim(slot_state, slot, h)?;
+        set_horizon(&mut self.slots, slot, h);
         Ok(())
     }
 
     /// The timestamp that a query is to read at, or why it is not opened.
-    fn judge_open(&self, bound: Bound, interval: Interval) -> Result<u64, Refusal>
+    fn check_open(&self, bound: Bound, interval: Interval) -> Result<u64, Refusal>
         ensures accepted { IfOk result (λ s. (open_refusal (machine_of self.now) s ≡ None) × (s ≡ timestamp_of bound interval)) }
         ensures refused { IfErr result (λ why. open_refusal (machine_of self.now) (timestamp_of bound interval) ≡ Some why) }
         ensures few { OnOk result (self.now.next_query < 2 ^ 63) }
@@ -431,11 +431,11 @@ impl Journal {
         bound: Bound,
         interval: Interval,
     ) -> Result<(u64, u64), Refusal>
-        ensures step { Answers (machine_of self.old) (open_query (machine_of self.old) (Ok statement) bound interval) (replied (λ r. reply_of.Opened r.0 r.1 (length statement.leaves)) result) (machine_of self.new) }
+        ensures step { Answers (machine_of self.old) (open_query (machine_of self.old) (Ok statement) bound interval) (as_reply (λ r. reply_of.Opened r.0 r.1 (length statement.leaves)) result) (machine_of self.new) }
         ensures pieces { IfOk result (λ r. self.new.queries ≡ self.old.queries ++ unread r.0 r.1 statement ∷ []) }
         ensures err { OnErr result (self.new.queries ≡ self.old.queries) }
     {
-        let s = self.judge_open(bound, interval)?;
+        let s = self.check_open(bound, interval)?;
         let number = self.next_query;
         let query = KeptQuery::new(alloc, number, s, statement)?;
         self.queries.push(query)?;
@@ -464,24 +464,24 @@ impl Journal {
         let Some(part) = question.leaf(leaf) else {
             return Err(Refusal::UnknownQuery);
         };
-        let Some(book) = book_at(self.books.as_slice(), slot) else {
+        let Some(slot_state) = slot_at(self.slots.as_slice(), slot) else {
             return Err(Refusal::NoSlot);
         };
         if part.covered {
             return Ok(None);
         }
         let s = question.timestamp();
-        if s < book.horizon {
+        if s < slot_state.horizon {
             return Err(Refusal::Trimmed);
         }
-        let floor = risen_floor(book, s, interval);
+        let floor = risen_floor(slot_state, s, interval);
         if is_safe_at(self.transactions.as_slice(), floor, slot, s) {
             return Ok(Some(Gap {
                 table: part.table,
                 s,
             }));
         }
-        set_floor(&mut self.books, slot, floor);
+        set_floor(&mut self.slots, slot, floor);
         Err(Refusal::NotYet)
     }
 
@@ -506,14 +506,14 @@ impl Journal {
         let Some(part) = question.leaf(leaf) else {
             return Err(Refusal::UnknownQuery);
         };
-        let Some(book) = book_at(self.books.as_slice(), slot) else {
+        let Some(slot_state) = slot_at(self.slots.as_slice(), slot) else {
             return Err(Refusal::NoSlot);
         };
         if part.covered {
             return Err(Refusal::Incomplete);
         }
-        let floor = risen_floor(book, question.timestamp(), interval);
-        set_floor(&mut self.books, slot, floor);
+        let floor = risen_floor(slot_state, question.timestamp(), interval);
+        set_floor(&mut self.slots, slot, floor);
         cover_at(&mut self.queries, at, leaf, rows);
         Ok(())
     }
@@ -535,7 +535,7 @@ impl Journal {
 
     /// Closes a query. It takes no memory. `UnknownQuery`.
     pub fn close(&mut self, query: u64) -> Result<(), Refusal>
-        ensures step { IsAnswer (close (machine_of self.old) query) (replied (λ _. reply_of.Closed) result) (machine_of self.new) }
+        ensures step { IsAnswer (close (machine_of self.old) query) (as_reply (λ _. reply_of.Closed) result) (machine_of self.new) }
         ensures pieces { OnOk result (self.new.queries ≡ without_first (λ p. is_query query p.query) self.old.queries) }
         ensures err { OnErr result (self.new.queries ≡ self.old.queries) }
     {

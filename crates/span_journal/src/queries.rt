@@ -8,7 +8,7 @@ use super::query::KeptQuery;
 use span_value::seq::Seq;
 use span_value::value::Row;
 
-fn place_of_query(queries: &[KeptQuery], number: u64) -> Option<usize>
+fn query_index(queries: &[KeptQuery], number: u64) -> Option<usize>
     ensures { result ≡ position (λ p. is_query number p.query) queries.now }
 {
     queries.iter().position(|q| q.number() == number)
@@ -19,7 +19,7 @@ pub(crate) fn find_query(queries: &[KeptQuery], number: u64) -> Option<(usize, &
     ensures none { IfNone result (find (λ p. is_query number p.query) queries.now ≡ None) }
     ensures some { IfSome result (λ r. IsPlace (λ p. is_query number p.query) queries.now r.0 r.1.now) }
 {
-    match place_of_query(queries, number) {
+    match query_index(queries, number) {
         Some(at) => Some((at, &queries[at])),
         None => None,
     }

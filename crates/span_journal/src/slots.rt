@@ -2,10 +2,10 @@
 ghost use Rattle.std.specs.Prelude.{◌≡◌, ◌<◌, ◌≤◌, ◌+◌, ◌^◌, ◌==◌, ◌&&◌, ◌||◌, not, false, max, length, nat_le, nat_lt, slice_get, slice_set, IfSome, IfNone};
 ghost use Rattle.std.specs.List.{list_any, list_all};
 ghost use Rattle.std.specs.Option.{option_copied};
-ghost use Rattle.span_machine.specs.Machine.{greatest, holds, root_at, if_some, coordinator, coordinator_of, with_last, prepare_timestamp, risen};
+ghost use Rattle.span_machine.specs.Machine.{greatest, holds, root_at, if_some, lowest_slot, coordinator_slot, with_last, prepare_timestamp, with_risen_floor};
 
 use super::transaction::KeptTransaction;
-use span_machine::slot::Book;
+use span_machine::slot::SlotState;
 use span_machine::transaction::Prepared;
 use span_mutate::mutation::CheckedMutation;
 use span_schema::schema::Schema;
@@ -23,58 +23,58 @@ pub(crate) fn greatest_timestamp(prepared: &[Prepared]) -> u64
 }
 
 /// Whether the slot's range has the directory of a mutation.
-fn holds_directory(_book: &Book, _schema: &Schema, _mutation: &CheckedMutation) -> bool
-    ensures { result ≡ holds _book.now (root_at _schema.now _mutation.now) }
+fn holds_directory(_slot_state: &SlotState, _schema: &Schema, _mutation: &CheckedMutation) -> bool
+    ensures { result ≡ holds _slot_state.now (root_at _schema.now _mutation.now) }
 {
     true
 }
 
 /// Whether the slot is used and its range has the directory of a mutation.
-fn slot_holds(books: &[Book], schema: &Schema, slot: usize, mutation: &CheckedMutation) -> bool
-    ensures { result ≡ if_some (slice_get books.now slot) false (λ book. holds book (root_at schema.now mutation.now)) }
+fn slot_holds(slots: &[SlotState], schema: &Schema, slot: usize, mutation: &CheckedMutation) -> bool
+    ensures { result ≡ if_some (slice_get slots.now slot) false (λ slot_state. holds slot_state (root_at schema.now mutation.now)) }
 {
-    match books.get(slot) {
-        Some(book) => holds_directory(book, schema, mutation),
+    match slots.get(slot) {
+        Some(slot_state) => holds_directory(slot_state, schema, mutation),
         None => false,
     }
 }
 
 /// Whether the transaction is prepared where the directory of this mutation is.
 fn is_ready_for(
-    books: &[Book],
+    slots: &[SlotState],
     schema: &Schema,
     prepared: &[Prepared],
     mutation: &CheckedMutation,
 ) -> bool
-    ensures { result ≡ list_any (λ p. if_some (slice_get books.now p.slot) false (λ book. holds book (root_at schema.now mutation.now))) prepared.now }
+    ensures { result ≡ list_any (λ p. if_some (slice_get slots.now p.slot) false (λ slot_state. holds slot_state (root_at schema.now mutation.now))) prepared.now }
 {
     prepared
         .iter()
-        .any(|p| slot_holds(books, schema, p.slot, mutation))
+        .any(|p| slot_holds(slots, schema, p.slot, mutation))
 }
 
 fn are_all_ready(
-    books: &[Book],
+    slots: &[SlotState],
     schema: &Schema,
     prepared: &[Prepared],
     mutations: &[CheckedMutation],
 ) -> bool
-    ensures { result ≡ list_all (λ m. list_any (λ p. if_some (slice_get books.now p.slot) false (λ book. holds book (root_at schema.now m))) prepared.now) mutations.now }
+    ensures { result ≡ list_all (λ m. list_any (λ p. if_some (slice_get slots.now p.slot) false (λ slot_state. holds slot_state (root_at schema.now m))) prepared.now) mutations.now }
 {
     mutations
         .iter()
-        .all(|m| is_ready_for(books, schema, prepared, m))
+        .all(|m| is_ready_for(slots, schema, prepared, m))
 }
 
 /// Whether every mutation is of a slot where the transaction is prepared.
-pub(crate) fn is_ready(books: &[Book], schema: &Schema, transaction: &KeptTransaction) -> bool
-    ensures { result ≡ (not (length transaction.now.prepared == 0) && list_all (λ m. list_any (λ p. if_some (slice_get books.now p.slot) false (λ book. holds book (root_at schema.now m))) transaction.now.prepared) transaction.now.mutations) }
+pub(crate) fn is_ready(slots: &[SlotState], schema: &Schema, transaction: &KeptTransaction) -> bool
+    ensures { result ≡ (not (length transaction.now.prepared == 0) && list_all (λ m. list_any (λ p. if_some (slice_get slots.now p.slot) false (λ slot_state. holds slot_state (root_at schema.now m))) transaction.now.prepared) transaction.now.mutations) }
 {
     if transaction.prepared().len() == 0 {
         return false;
     }
     are_all_ready(
-        books,
+        slots,
         schema,
         transaction.prepared(),
         transaction.mutations(),
@@ -83,7 +83,7 @@ pub(crate) fn is_ready(books: &[Book], schema: &Schema, transaction: &KeptTransa
 
 /// The lowest of the slots.
 pub(crate) fn lowest_slot(slot: usize, prepared: &[Prepared]) -> usize
-    ensures { result ≡ coordinator slot prepared.now }
+    ensures { result ≡ lowest_slot slot prepared.now }
 {
     let mut least = slot;
     for p in prepared {
@@ -96,7 +96,7 @@ pub(crate) fn lowest_slot(slot: usize, prepared: &[Prepared]) -> usize
 
 /// The coordinator, the lowest slot of all.
 pub(crate) fn coordinator_slot(prepared: &[Prepared]) -> usize
-    ensures { result ≡ coordinator_of prepared.now }
+    ensures { result ≡ coordinator_slot prepared.now }
 {
     match prepared {
         [] => 0,
@@ -105,21 +105,21 @@ pub(crate) fn coordinator_slot(prepared: &[Prepared]) -> usize
 }
 
 /// The last timestamp of the slot, if it is used.
-pub(crate) fn last_timestamp(books: &[Book], slot: usize) -> u64
-    ensures { result ≡ if_some (slice_get books.now slot) 0 (λ book. book.last) }
+pub(crate) fn last_timestamp(slots: &[SlotState], slot: usize) -> u64
+    ensures { result ≡ if_some (slice_get slots.now slot) 0 (λ slot_state. slot_state.last) }
 {
-    match books.get(slot) {
-        Some(book) => book.last,
+    match slots.get(slot) {
+        Some(slot_state) => slot_state.last,
         None => 0,
     }
 }
 
 /// The commit timestamp, if there is one left.
-pub(crate) fn decision(books: &[Book], prepared: &[Prepared], latest: u64) -> Option<u64>
-    ensures some { IfSome result (λ ts. (ts ≡ max (greatest prepared.now) (max (latest + 1) (if_some (slice_get books.now (coordinator_of prepared.now)) 0 (λ book. book.last) + 1))) × (ts < 2 ^ 62)) }
-    ensures none { IfNone result (2 ^ 62 ≤ max (greatest prepared.now) (max (latest + 1) (if_some (slice_get books.now (coordinator_of prepared.now)) 0 (λ book. book.last) + 1))) }
+pub(crate) fn commit_timestamp(slots: &[SlotState], prepared: &[Prepared], latest: u64) -> Option<u64>
+    ensures some { IfSome result (λ ts. (ts ≡ max (greatest prepared.now) (max (latest + 1) (if_some (slice_get slots.now (coordinator_slot prepared.now)) 0 (λ slot_state. slot_state.last) + 1))) × (ts < 2 ^ 62)) }
+    ensures none { IfNone result (2 ^ 62 ≤ max (greatest prepared.now) (max (latest + 1) (if_some (slice_get slots.now (coordinator_slot prepared.now)) 0 (λ slot_state. slot_state.last) + 1))) }
 {
-    let last = last_timestamp(books, coordinator_slot(prepared));
+    let last = last_timestamp(slots, coordinator_slot(prepared));
     let greatest = greatest_timestamp(prepared);
     if latest >= (1 << 62) - 1 || last >= (1 << 62) - 1 || greatest >= 1 << 62 {
         return None;
@@ -128,12 +128,12 @@ pub(crate) fn decision(books: &[Book], prepared: &[Prepared], latest: u64) -> Op
 }
 
 /// Raises the last timestamp of the slot.
-pub(crate) fn raise_last(books: &mut Vec<Book>, slot: usize, timestamp: u64)
-    ensures { books.new.items ≡ with_last books.old.items slot timestamp }
+pub(crate) fn raise_last(slots: &mut Vec<SlotState>, slot: usize, timestamp: u64)
+    ensures { slots.new.items ≡ with_last slots.old.items slot timestamp }
 {
-    if slot < books.len() {
-        let last = books[slot].last.max(timestamp);
-        books[slot].last = last;
+    if slot < slots.len() {
+        let last = slots[slot].last.max(timestamp);
+        slots[slot].last = last;
     }
 }
 
@@ -162,11 +162,11 @@ fn are_above(prepared: &[Prepared], slot: usize, s: u64) -> bool
 }
 
 /// The next prepare timestamp of the slot, if there is one left.
-pub(crate) fn prepare_timestamp(book: &Book) -> Option<u64>
-    ensures some { IfSome result (λ ts. (ts ≡ prepare_timestamp book.now) × (ts < 2 ^ 62)) }
-    ensures none { IfNone result (2 ^ 62 ≤ prepare_timestamp book.now) }
+pub(crate) fn prepare_timestamp(slot_state: &SlotState) -> Option<u64>
+    ensures some { IfSome result (λ ts. (ts ≡ prepare_timestamp slot_state.now) × (ts < 2 ^ 62)) }
+    ensures none { IfNone result (2 ^ 62 ≤ prepare_timestamp slot_state.now) }
 {
-    let last = book.last.max(book.floor);
+    let last = slot_state.last.max(slot_state.floor);
     if last >= TIMESTAMP_END - 1 {
         return None;
     }
@@ -174,43 +174,43 @@ pub(crate) fn prepare_timestamp(book: &Book) -> Option<u64>
 }
 
 /// Sets the last timestamp of the slot.
-pub(crate) fn set_last(books: &mut Vec<Book>, slot: usize, timestamp: u64)
-    requires { slot < length books.old.items }
-    ensures { IfSome (slice_get books.old.items slot) (λ book. books.new.items ≡ slice_set books.old.items slot (record book { last = timestamp })) }
+pub(crate) fn set_last(slots: &mut Vec<SlotState>, slot: usize, timestamp: u64)
+    requires { slot < length slots.old.items }
+    ensures { IfSome (slice_get slots.old.items slot) (λ slot_state. slots.new.items ≡ slice_set slots.old.items slot (record slot_state { last = timestamp })) }
 {
-    books[slot].last = timestamp;
+    slots[slot].last = timestamp;
 }
 
 /// Sets the floor of the slot.
-pub(crate) fn set_floor(books: &mut Vec<Book>, slot: usize, floor: u64)
-    requires { slot < length books.old.items }
-    ensures { IfSome (slice_get books.old.items slot) (λ book. books.new.items ≡ slice_set books.old.items slot (record book { floor = floor })) }
+pub(crate) fn set_floor(slots: &mut Vec<SlotState>, slot: usize, floor: u64)
+    requires { slot < length slots.old.items }
+    ensures { IfSome (slice_get slots.old.items slot) (λ slot_state. slots.new.items ≡ slice_set slots.old.items slot (record slot_state { floor = floor })) }
 {
-    books[slot].floor = floor;
+    slots[slot].floor = floor;
 }
 
 /// Sets the horizon of the slot.
-pub(crate) fn set_horizon(books: &mut Vec<Book>, slot: usize, h: u64)
-    requires { slot < length books.old.items }
-    ensures { IfSome (slice_get books.old.items slot) (λ book. books.new.items ≡ slice_set books.old.items slot (record book { horizon = h })) }
+pub(crate) fn set_horizon(slots: &mut Vec<SlotState>, slot: usize, h: u64)
+    requires { slot < length slots.old.items }
+    ensures { IfSome (slice_get slots.old.items slot) (λ slot_state. slots.new.items ≡ slice_set slots.old.items slot (record slot_state { horizon = h })) }
 {
-    books[slot].horizon = h;
+    slots[slot].horizon = h;
 }
 
 /// The state of the slot, if it is in use.
-pub(crate) fn book_at(books: &[Book], slot: usize) -> Option<&Book>
-    ensures { option_copied result ≡ slice_get books.now slot }
+pub(crate) fn slot_at(slots: &[SlotState], slot: usize) -> Option<&SlotState>
+    ensures { option_copied result ≡ slice_get slots.now slot }
 {
-    books.get(slot)
+    slots.get(slot)
 }
 
 /// The floor of the slot once it has risen to s, which it does where the clock has passed s.
-pub(crate) fn risen_floor(book: &Book, s: u64, interval: Interval) -> u64
-    ensures { record book.now { floor = result } ≡ risen book.now s interval }
+pub(crate) fn risen_floor(slot_state: &SlotState, s: u64, interval: Interval) -> u64
+    ensures { record slot_state.now { floor = result } ≡ with_risen_floor slot_state.now s interval }
 {
-    if book.floor < s && s <= interval.latest {
+    if slot_state.floor < s && s <= interval.latest {
         s
     } else {
-        book.floor
+        slot_state.floor
     }
 }

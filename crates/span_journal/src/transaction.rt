@@ -1,8 +1,8 @@
 //! An open transaction that can be committed without memory.
 ghost use Rattle.std.specs.Prelude.{◌≡◌, true, filter, not, ◌==◌, IfOk, OnOk, OnErr};
-ghost use Rattle.span_machine.specs.Machine.{with_outcome, is_undecided, commit_of, add_prepared, without_prepared};
+ghost use Rattle.span_machine.specs.Machine.{with_decision, is_undecided, commit_of, add_prepared, without_prepared};
 
-use span_machine::transaction::{Commit, OpenTransaction, Outcome, Prepared};
+use span_machine::transaction::{Commit, OpenTransaction, Decision, Prepared};
 use span_mutate::mutation::CheckedMutation;
 use span_value::seq::Seq;
 use std::alloc::{AllocError, Global};
@@ -45,9 +45,9 @@ impl KeptTransaction {
     pub(crate) fn commit(&mut self, alloc: Global, timestamp: u64) -> Commit
         requires { is_undecided self.old ≡ true }
         ensures commit { result ≡ commit_of timestamp self.old }
-        ensures after { self.new ≡ with_outcome (Outcome.Committed timestamp) self.old }
+        ensures after { self.new ≡ with_decision (Decision.Committed timestamp) self.old }
     {
-        self.open.outcome = Outcome::Committed(timestamp);
+        self.open.decision = Decision::Committed(timestamp);
         Commit {
             timestamp,
             number: self.open.number,
@@ -58,9 +58,9 @@ impl KeptTransaction {
 
     /// Aborts. It takes no memory.
     pub(crate) fn abort(&mut self)
-        ensures { self.new ≡ with_outcome Outcome.Aborted self.old }
+        ensures { self.new ≡ with_decision Decision.Aborted self.old }
     {
-        self.open.outcome = Outcome::Aborted;
+        self.open.decision = Decision::Aborted;
     }
 
     /// The owner that began it.
@@ -78,17 +78,17 @@ impl KeptTransaction {
     }
 
     /// The decision on it.
-    pub(crate) fn outcome(&self) -> Outcome
-        ensures { result ≡ self.now.outcome }
+    pub(crate) fn decision(&self) -> Decision
+        ensures { result ≡ self.now.decision }
     {
-        self.open.outcome
+        self.open.decision
     }
 
     /// Whether nothing is decided yet.
     pub(crate) fn is_undecided(&self) -> bool
         ensures { result ≡ is_undecided self.now }
     {
-        matches!(self.open.outcome, Outcome::Undecided)
+        matches!(self.open.decision, Decision::Undecided)
     }
 
     /// Where it is prepared.
@@ -115,17 +115,17 @@ impl KeptTransaction {
     }
 
     /// Notes that it is prepared at the slot no more. It takes no memory.
-    pub(crate) fn leave(&mut self, alloc: Global, slot: usize)
+    pub(crate) fn remove_prepared(&mut self, alloc: Global, slot: usize)
         ensures { self.new ≡ without_prepared slot self.old }
     {
         let mut prepared = mem::replace(&mut self.open.prepared, Seq::new(alloc)).into_vec();
-        leave_slot(&mut prepared, slot);
+        keep_other_slots(&mut prepared, slot);
         self.open.prepared = Seq::from_vec(prepared);
     }
 }
 
 /// Keeps what is prepared at other slots.
-fn leave_slot(prepared: &mut Vec<Prepared>, slot: usize)
+fn keep_other_slots(prepared: &mut Vec<Prepared>, slot: usize)
     ensures { prepared.new.items ≡ filter (λ p. not (p.slot == slot)) prepared.old.items }
 {
     prepared.retain(|p| p.slot != slot);

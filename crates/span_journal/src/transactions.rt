@@ -1,12 +1,12 @@
 //! Finding open transactions, and what they share.
 ghost use Rattle.std.specs.Prelude.{◌≡◌, ◌<◌, ◌+◌, ◌≤◌, ◌&&◌, ◌||◌, ◌==◌, not, true, length, position, None, Some, IfOk, IfErr, remove, OnOk, OnErr, if◌then◌else◌, count_by, find, slice_get, slice_set, IfSome, IfNone, MatchResult};
 ghost use Rattle.std.specs.List.{list_any};
-ghost use Rattle.span_machine.specs.Machine.{is_at, root_at, is_undecided, is_transaction, is_prepared_at, with_outcome, commit_of, add_prepared, without_prepared, have_common_root, apply_refusal};
+ghost use Rattle.span_machine.specs.Machine.{is_at, root_at, is_undecided, is_transaction, is_prepared_at, with_decision, commit_of, add_prepared, without_prepared, have_common_root, apply_refusal};
 ghost use Rattle.span_machine.specs.Place.{IsPlace};
-ghost use Rattle.span_journal.specs.Judged.{outcome_of};
+ghost use Rattle.span_journal.specs.Judged.{decision_of};
 
 use super::transaction::KeptTransaction;
-use span_machine::transaction::{Commit, Outcome, Prepared};
+use span_machine::transaction::{Commit, Decision, Prepared};
 use span_mutate::directory::is_in_directory_of;
 use span_mutate::mutation::CheckedMutation;
 use span_schema::schema::Schema;
@@ -29,7 +29,7 @@ pub(crate) fn count_undecided(transactions: &[KeptTransaction]) -> usize
     undecided
 }
 
-fn place_of_transaction(transactions: &[KeptTransaction], owner: u64, number: u64) -> Option<usize>
+fn transaction_index(transactions: &[KeptTransaction], owner: u64, number: u64) -> Option<usize>
     ensures { result ≡ position (is_transaction owner number) transactions.now }
 {
     transactions
@@ -46,7 +46,7 @@ pub(crate) fn find_transaction(
     ensures none { IfNone result (find (is_transaction owner number) transactions.now ≡ None) }
     ensures some { IfSome result (λ r. IsPlace (is_transaction owner number) transactions.now r.0 r.1.now) }
 {
-    match place_of_transaction(transactions, owner, number) {
+    match transaction_index(transactions, owner, number) {
         Some(at) => Some((at, &transactions[at])),
         None => None,
     }
@@ -83,14 +83,14 @@ pub(crate) fn commit_at(
     requires within { at < length transactions.old.items }
     requires open { IfSome (slice_get transactions.old.items at) (λ t. is_undecided t ≡ true) }
     ensures commit { IfSome (slice_get transactions.old.items at) (λ t. result ≡ commit_of timestamp t) }
-    ensures after { IfSome (slice_get transactions.old.items at) (λ t. transactions.new.items ≡ slice_set transactions.old.items at (with_outcome (Outcome.Committed timestamp) t)) }
+    ensures after { IfSome (slice_get transactions.old.items at) (λ t. transactions.new.items ≡ slice_set transactions.old.items at (with_decision (Decision.Committed timestamp) t)) }
     ensures fewer { count_by is_undecided transactions.new.items + 1 ≡ count_by is_undecided transactions.old.items }
 {
     transactions[at].commit(alloc, timestamp)
 }
 
 /// Copies of mutations.
-pub(crate) fn copies_of(
+pub(crate) fn copy_mutations(
     alloc: Global,
     mutations: &[CheckedMutation],
 ) -> Result<Seq<CheckedMutation>, Refusal>
@@ -158,37 +158,37 @@ fn is_any_in_directory_of(
 /// Aborts the transaction at a place.
 pub(crate) fn abort_at(transactions: &mut Vec<KeptTransaction>, at: usize)
     requires { at < length transactions.old.items }
-    ensures after { IfSome (slice_get transactions.old.items at) (λ t. transactions.new.items ≡ slice_set transactions.old.items at (with_outcome Outcome.Aborted t)) }
+    ensures after { IfSome (slice_get transactions.old.items at) (λ t. transactions.new.items ≡ slice_set transactions.old.items at (with_decision Decision.Aborted t)) }
     ensures fewer { count_by is_undecided transactions.new.items ≤ count_by is_undecided transactions.old.items }
 {
     transactions[at].abort();
 }
 
 /// Notes that the transaction at a place is prepared at the slot no more.
-fn leave_at(alloc: Global, transactions: &mut Vec<KeptTransaction>, at: usize, slot: usize)
+fn remove_prepared_at(alloc: Global, transactions: &mut Vec<KeptTransaction>, at: usize, slot: usize)
     requires { at < length transactions.old.items }
     ensures after { IfSome (slice_get transactions.old.items at) (λ t. transactions.new.items ≡ slice_set transactions.old.items at (without_prepared slot t)) }
     ensures fewer { count_by is_undecided transactions.new.items ≤ count_by is_undecided transactions.old.items }
 {
-    transactions[at].leave(alloc, slot);
+    transactions[at].remove_prepared(alloc, slot);
 }
 
 /// Ends what the transaction at a place has at the slot: it is prepared there no more, and leaves once it is prepared nowhere.
-pub(crate) fn end_at(alloc: Global, transactions: &mut Vec<KeptTransaction>, at: usize, slot: usize)
+pub(crate) fn end_prepared_at(alloc: Global, transactions: &mut Vec<KeptTransaction>, at: usize, slot: usize)
     requires { at < length transactions.old.items }
     ensures after { IfSome (slice_get transactions.old.items at) (λ t. transactions.new.items ≡
         (if length (without_prepared slot t).prepared == 0 then remove transactions.old.items at else slice_set transactions.old.items at (without_prepared slot t))) }
     ensures fewer { count_by is_undecided transactions.new.items ≤ count_by is_undecided transactions.old.items }
 {
     if is_prepared_elsewhere(&transactions[at], slot) {
-        leave_at(alloc, transactions, at, slot);
+        remove_prepared_at(alloc, transactions, at, slot);
     } else {
         remove_at(transactions, at);
     }
 }
 
 /// Notes where the transaction at a place is prepared. An error leaves all as it was.
-pub(crate) fn note_at(
+pub(crate) fn add_prepared_at(
     transactions: &mut Vec<KeptTransaction>,
     at: usize,
     prepared: Prepared,
@@ -227,16 +227,16 @@ pub(crate) fn may_prepare(transaction: &KeptTransaction, slot: usize) -> bool
 fn is_prepared_elsewhere(transaction: &KeptTransaction, slot: usize) -> bool
     ensures { result ≡ not (length (without_prepared slot transaction.now).prepared == 0) }
 {
-    is_elsewhere(transaction.prepared(), slot)
+    has_other_slot(transaction.prepared(), slot)
 }
 
 /// The commit timestamp of a transaction that may be applied at the slot, or None for an aborted one, or why it may not.
-pub(crate) fn judge_apply(
+pub(crate) fn check_apply(
     transaction: &KeptTransaction,
     slot: usize,
     interval: Interval,
 ) -> Result<Option<u64>, Refusal>
-    ensures accepted { IfOk result (λ committed. (apply_refusal slot transaction.now interval ≡ None) × (transaction.now.outcome ≡ outcome_of committed)) }
+    ensures accepted { IfOk result (λ committed. (apply_refusal slot transaction.now interval ≡ None) × (transaction.now.decision ≡ decision_of committed)) }
     ensures refused { IfErr result (λ why. apply_refusal slot transaction.now interval ≡ Some why) }
 {
     if transaction.is_undecided() {
@@ -245,8 +245,8 @@ pub(crate) fn judge_apply(
     if !is_prepared(transaction, slot) {
         return Err(Refusal::WrongState);
     }
-    match transaction.outcome() {
-        Outcome::Committed(timestamp) => {
+    match transaction.decision() {
+        Decision::Committed(timestamp) => {
             if !interval.after(timestamp) {
                 return Err(Refusal::TooEarly);
             }
@@ -256,7 +256,7 @@ pub(crate) fn judge_apply(
     }
 }
 
-fn is_elsewhere(prepared: &[Prepared], slot: usize) -> bool
+fn has_other_slot(prepared: &[Prepared], slot: usize) -> bool
     ensures { result ≡ list_any (λ p. not (p.slot == slot)) prepared.now }
 {
     prepared.iter().any(|p| p.slot != slot)

@@ -10,7 +10,7 @@ use Rattle.span_shard.specs.Shard as shard
 use Rattle.span_shard.proofs.Undo.{IsOpenFor, used_filtered}
 use Rattle.span_machine.specs.declared.transaction.Commit.{Commit}
 use Rattle.span_machine.specs.declared.transaction.OpenTransaction.{OpenTransaction}
-use Rattle.span_machine.specs.declared.transaction.Outcome.TheVariants as outcome
+use Rattle.span_machine.specs.declared.transaction.Decision.TheVariants as decision
 use Rattle.span_machine.specs.Machine.{Machine, is_transaction, is_prepared_at, without_prepared, without_first, changed_first, applied, applied_at, commit_of}
 use Rattle.span_machine.specs.Kept.{ok_or}
 use Rattle.span_laws.proofs.Tests.{first_true, second_true, number_same, equal_number}
@@ -164,7 +164,7 @@ module _ (schema : List Table) (m : Machine) (reached : IsReached schema m) (cs 
         (each root is_root k under)))));
   }
 
-  committed_key : (ts : ℕ) → t.outcome ≡ outcome.Committed ts → (root : Root) (is_root : IsCodedRoot schema root) (k : List ℕ) (under : is_under schema root k ≡ true)
+  committed_key : (ts : ℕ) → t.decision ≡ decision.Committed ts → (root : Root) (is_root : IsCodedRoot schema root) (k : List ℕ) (under : is_under schema root k ≡ true)
       → IsKeptBy schema root k (horizon_of m) (commits_at schema root m.log) (applied_versions t.number (Some ts) (prepared_at cs k) (versions_at cs k)) (applied_prepared t.number (prepared_at cs k)) (filter (claims schema root 0) (applied m owner txn 0 t))
   committed_key ts e root is_root k under = elim (claims schema root 0 t) as (λ v. claims schema root 0 t ≡ v
       → IsKeptBy schema root k (horizon_of m) (commits_at schema root m.log) (applied_versions t.number (Some ts) (prepared_at cs k) (versions_at cs k)) (applied_prepared t.number (prepared_at cs k)) (filter (claims schema root 0) (applied m owner txn 0 t))) [
@@ -174,16 +174,16 @@ module _ (schema : List Table) (m : Machine) (reached : IsReached schema m) (cs 
             let high : horizon_of m < ts = above_horizon schema m reached root (coded_root schema root is_root) t ts (found_in (is_transaction owner txn) m.transactions t found) (first_true (is_prepared_at 0 t) (is_some_of (filter (is_at schema root) t.mutations)) is) e in
             subst (IsKeptBy schema root k (horizon_of m) (commits_at schema root m.log) (applied_versions t.number (Some ts) (prepared_at cs k) (versions_at cs k)) (applied_prepared t.number (prepared_at cs k))) (sym (left root is_root is))
             (applied_pending schema root k (horizon_of m) (commits_at schema root m.log) (versions_at cs k) (prepared_at cs k) t ts place.rising high
-            (kept_under schema m reached cs kept root is_root k under (is_transaction owner txn) t (outcome.Committed ts) found is e))
+            (kept_under schema m reached cs kept root is_root k under (is_transaction owner txn) t (decision.Committed ts) found is e))
       ] refl
 
-  aborted_key : t.outcome ≡ outcome.Aborted → (root : Root) (is_root : IsCodedRoot schema root) (k : List ℕ) (under : is_under schema root k ≡ true)
+  aborted_key : t.decision ≡ decision.Aborted → (root : Root) (is_root : IsCodedRoot schema root) (k : List ℕ) (under : is_under schema root k ≡ true)
       → IsKeptBy schema root k (horizon_of m) (commits_at schema root m.log) (applied_versions t.number None (prepared_at cs k) (versions_at cs k)) (applied_prepared t.number (prepared_at cs k)) (filter (claims schema root 0) (applied m owner txn 0 t))
   aborted_key e root is_root k under = elim (claims schema root 0 t) as (λ v. claims schema root 0 t ≡ v
       → IsKeptBy schema root k (horizon_of m) (commits_at schema root m.log) (applied_versions t.number None (prepared_at cs k) (versions_at cs k)) (applied_prepared t.number (prepared_at cs k)) (filter (claims schema root 0) (applied m owner txn 0 t))) [
         | false ↦ λ off. kept_of_others root is_root k under None off
         | true ↦ λ is.
-            let old = kept_under schema m reached cs kept root is_root k under (is_transaction owner txn) t outcome.Aborted found is e in
+            let old = kept_under schema m reached cs kept root is_root k under (is_transaction owner txn) t decision.Aborted found is e in
             subst (IsKeptBy schema root k (horizon_of m) (commits_at schema root m.log) (applied_versions t.number None (prepared_at cs k) (versions_at cs k)) (applied_prepared t.number (prepared_at cs k))) (sym (left root is_root is)) (
               none_prepared t.number (prepared_at cs k) (open_of_put t.number _ _ (prepared_at cs k) old.0.put),
               subst (HasRows schema root k (horizon_of m) (commits_at schema root m.log)) (sym (given_up_versions t.number (prepared_at cs k) (versions_at cs k))) old.1,
@@ -191,11 +191,11 @@ module _ (schema : List Table) (m : Machine) (reached : IsReached schema m) (cs 
       ] refl
 
   -- the commit's writes are versions
-  pub kept_committed : (ts : ℕ) → t.outcome ≡ outcome.Committed ts → AreKept schema (applied_at (outcome.Committed ts) m owner txn 0 t).1 (shard.applied txn (Some ts) cs)
-  kept_committed ts e = subst (λ n. AreKept schema (applied_at (outcome.Committed ts) m owner txn 0 t).1 (shard.applied n (Some ts) cs)) txn_is
-      (kept_by_keys (applied_at (outcome.Committed ts) m owner txn 0 t).1 (Some ts) refl refl (horizon_last m.books 0 ts) (committed_key ts e))
+  pub kept_committed : (ts : ℕ) → t.decision ≡ decision.Committed ts → AreKept schema (applied_at (decision.Committed ts) m owner txn 0 t).1 (shard.applied txn (Some ts) cs)
+  kept_committed ts e = subst (λ n. AreKept schema (applied_at (decision.Committed ts) m owner txn 0 t).1 (shard.applied n (Some ts) cs)) txn_is
+      (kept_by_keys (applied_at (decision.Committed ts) m owner txn 0 t).1 (Some ts) refl refl (horizon_last m.slots 0 ts) (committed_key ts e))
 
   -- the writes are given up
-  pub kept_aborted : t.outcome ≡ outcome.Aborted → AreKept schema (applied_at outcome.Aborted m owner txn 0 t).1 (shard.applied txn None cs)
-  kept_aborted e = subst (λ n. AreKept schema (applied_at outcome.Aborted m owner txn 0 t).1 (shard.applied n None cs)) txn_is
-      (kept_by_keys (applied_at outcome.Aborted m owner txn 0 t).1 None refl refl refl (aborted_key e))
+  pub kept_aborted : t.decision ≡ decision.Aborted → AreKept schema (applied_at decision.Aborted m owner txn 0 t).1 (shard.applied txn None cs)
+  kept_aborted e = subst (λ n. AreKept schema (applied_at decision.Aborted m owner txn 0 t).1 (shard.applied n None cs)) txn_is
+      (kept_by_keys (applied_at decision.Aborted m owner txn 0 t).1 None refl refl refl (aborted_key e))

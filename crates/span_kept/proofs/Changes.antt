@@ -35,7 +35,7 @@ use Rattle.span_machine.specs.declared.transaction.Commit.{Commit}
 use Rattle.span_machine.specs.Sorting.{in_order}
 use Rattle.span_machine.specs.Tables.{is_before, mutations_of}
 use Rattle.span_machine.specs.Machine.{Machine, is_at}
-use Rattle.span_machine.specs.Kept.{Change, has_same_key, is_same, put_at, gone_at, changes_between, ok_or, after_mutations, changes_from, database_after, changes_of, database_of}
+use Rattle.span_machine.specs.Kept.{Change, has_same_key, is_same, put_at, deletion_at, changes_between, ok_or, after_mutations, changes_from, database_after, changes_of, database_of}
 use Rattle.span_laws.proofs.Lists.{filter_swap, found_passes}
 use Rattle.span_laws.proofs.Locality.{apply-directory, apply-database, empty_database, ok_same}
 use Rattle.span_laws.proofs.Ordered.{all_placed, filter-in_order}
@@ -171,7 +171,7 @@ module _ (schema : List Table) (k : List ℕ) (ts : ℕ) (before after : List Ta
 
   -- the change at the key, by the rows that are found there
   changes_here : (a b : Option TableRow) → find (is_coded schema k) after ≡ a → find (is_coded schema k) before ≡ b
-      → map (put_at schema ts) (filter is_new (option_to_list a)) ++ map (gone_at schema ts) (filter is_gone (option_to_list b))
+      → map (put_at schema ts) (filter is_new (option_to_list a)) ++ map (deletion_at schema ts) (filter is_gone (option_to_list b))
       ≡ change_at k ts (option_map (λ (r : TableRow). row_code r.cells) b) (option_map (λ (r : TableRow). row_code r.cells) a)
   changes_here None None e f = refl
   changes_here (Some r) None e f =
@@ -182,7 +182,7 @@ module _ (schema : List Table) (k : List ℕ) (ts : ℕ) (before after : List Ta
   changes_here None (Some q) e f =
       let at : code_of schema q ≡ k = coded_found before q f in
       let gone : is_gone q ≡ true = gone_is q at ∙ ap (λ (o : Option TableRow). not (is_some o)) e in
-      ap (λ (c : Bool). map (gone_at schema ts) (cond c (q ∷ []) [])) gone
+      ap (λ (c : Bool). map (deletion_at schema ts) (cond c (q ∷ []) [])) gone
       ∙ ap (λ (l : List ℕ). (record { key = l; timestamp = ts; row = None }) ∷ []) at
   changes_here (Some r) (Some q) e f =
       let at : code_of schema r ≡ k = coded_found after r e in
@@ -190,18 +190,18 @@ module _ (schema : List Table) (k : List ℕ) (ts : ℕ) (before after : List Ta
       let new : is_new r ≡ not (bytes_eq (row_code q.cells) (row_code r.cells)) =
       new_is r at ∙ ap (λ (o : Option TableRow). not (list_any (λ (p : TableRow). bytes_eq (row_code r.cells) (row_code p.cells)) (option_to_list o))) f
       ∙ ap not (and_nothing (bytes_eq (row_code r.cells) (row_code q.cells)) ∙ turned_bytes (row_code r.cells) (row_code q.cells)) in
-      ap (λ (c : Bool). map (put_at schema ts) (cond c (r ∷ []) []) ++ map (gone_at schema ts) (cond (is_gone q) (q ∷ []) [])) new
-      ∙ ap (λ (c : Bool). map (put_at schema ts) (cond (not (bytes_eq (row_code q.cells) (row_code r.cells))) (r ∷ []) []) ++ map (gone_at schema ts) (cond c (q ∷ []) [])) stays
+      ap (λ (c : Bool). map (put_at schema ts) (cond c (r ∷ []) []) ++ map (deletion_at schema ts) (cond (is_gone q) (q ∷ []) [])) new
+      ∙ ap (λ (c : Bool). map (put_at schema ts) (cond (not (bytes_eq (row_code q.cells) (row_code r.cells))) (r ∷ []) []) ++ map (deletion_at schema ts) (cond c (q ∷ []) [])) stays
       ∙ put_if (bytes_eq (row_code q.cells) (row_code r.cells)) (record { key = k; timestamp = ts; row = Some (row_code r.cells) }) r (ap (λ (l : List ℕ). record { key = l; timestamp = ts; row = Some (row_code r.cells) }) at)
 
   -- between two databases a key changes where its rows differ, and once
   pub changes_at_key : filter (is_at_key k) (changes_between schema ts before after) ≡ change_at k ts (row_coded schema before k) (row_coded schema after k)
   changes_at_key =
-      filter-append (is_at_key k) (map (put_at schema ts) (filter is_new after)) (map (gone_at schema ts) (filter is_gone before))
-      ∙ ap (λ (l : List Change). l ++ filter (is_at_key k) (map (gone_at schema ts) (filter is_gone before)))
+      filter-append (is_at_key k) (map (put_at schema ts) (filter is_new after)) (map (deletion_at schema ts) (filter is_gone before))
+      ∙ ap (λ (l : List Change). l ++ filter (is_at_key k) (map (deletion_at schema ts) (filter is_gone before)))
       (filter_made (put_at schema ts) (is_at_key k) (filter is_new after) ∙ ap (map (put_at schema ts)) (filter_swap (is_coded schema k) is_new after ∙ ap (filter is_new) (coded_alone schema k after after_apart)))
       ∙ ap (λ (l : List Change). map (put_at schema ts) (filter is_new (option_to_list (find (is_coded schema k) after))) ++ l)
-      (filter_made (gone_at schema ts) (is_at_key k) (filter is_gone before) ∙ ap (map (gone_at schema ts)) (filter_swap (is_coded schema k) is_gone before ∙ ap (filter is_gone) (coded_alone schema k before before_apart)))
+      (filter_made (deletion_at schema ts) (is_at_key k) (filter is_gone before) ∙ ap (map (deletion_at schema ts)) (filter_swap (is_coded schema k) is_gone before ∙ ap (filter is_gone) (coded_alone schema k before before_apart)))
       ∙ changes_here (find (is_coded schema k) after) (find (is_coded schema k) before) refl refl
 
 -- ---- the changes of a directory's commits at a key
@@ -374,4 +374,4 @@ module _ (schema : List Table) (rules : MeetsRules schema) (m : Machine) (reache
   pub changes_of_key : (k : List ℕ) → is_under schema root k ≡ true → filter (is_at_key k) (changes_of schema m.log) ≡ changes_made schema root k (commits_at schema root m.log)
   changes_of_key k under =
       changes_from_key schema rules root is_root k under [] (database_of schema m.log) (in_order is_before m.log) empty_is (all_in_order (IsCommitBy schema) m.log reached.by_schema.log) log_made.made
-      ∙ ap (changes_made schema root k) (filter-in_order is_before is_before-order (touches schema root) m.log ∙ in_order_rising (commits_at schema root m.log) (reached.placed root (coded_root schema root is_root)).rising)
+      ∙ ap (changes_made schema root k) (filter-insertion_sort is_before is_before-order (touches schema root) m.log ∙ in_order_rising (commits_at schema root m.log) (reached.placed root (coded_root schema root is_root)).rising)

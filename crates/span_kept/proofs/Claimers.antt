@@ -1,12 +1,12 @@
 use Rattle.std.proofs.Common.{◌≡◌, ℕ, ◌<◌, ◌≤◌, Bool, true, false, cond, ◌&&◌, ◌||◌, ◌==◌, Option, List, [], ◌∷◌, ◌++◌, length, Some, refl, ap, sym, ◌∙◌, subst, arith}
 use Rattle.std.specs.Prelude.{slice_get, find, filter}
 use Rattle.std.proofs.lemmas.List.Elements.{filter-append}
-use Rattle.span_machine.specs.declared.slot.Book.{Book}
+use Rattle.span_machine.specs.declared.slot.SlotState.{SlotState}
 use Rattle.span_machine.specs.declared.transaction.OpenTransaction.{OpenTransaction}
 use Rattle.span_machine.specs.Machine.{Machine, changed_first, without_first}
 use Rattle.std.specs.List.{AllByRecursion, list_any}
 use Rattle.span_machine.specs.declared.transaction.Prepared.{Prepared}
-use Rattle.span_machine.specs.declared.transaction.Outcome.TheVariants as outcome
+use Rattle.span_machine.specs.declared.transaction.Decision.TheVariants as decision
 use Rattle.span_machine.specs.Machine.{if_some, is_prepared_at}
 use Rattle.span_kept.specs.Kept.{horizon_of}
 use Rattle.span_laws.proofs.Tests.{number_same}
@@ -29,21 +29,21 @@ pub false_and : (a b : Bool) → a ≡ false → (a && b) ≡ false
 false_and true b e = absurd (cc)
 false_and false b e = refl
 
-first_of_one : (books : List Book) → length books ≡ 1 → (b : Book) × (slice_get books 0 ≡ Some b)
+first_of_one : (slots : List SlotState) → length slots ≡ 1 → (b : SlotState) × (slice_get slots 0 ≡ Some b)
 first_of_one [] e = absurd (omega arith)
 first_of_one (b ∷ bs) e = (b, refl)
 
 -- a reached machine has the state of slot 0
-pub first_book : (schema : List Table) (m : Machine) → IsReached schema m → (b : Book) × (slice_get m.books 0 ≡ Some b)
-first_book schema m reached = first_of_one m.books reached.sound.one_slot
+pub first_slot_state : (schema : List Table) (m : Machine) → IsReached schema m → (b : SlotState) × (slice_get m.slots 0 ≡ Some b)
+first_slot_state schema m reached = first_of_one m.slots reached.sound.one_slot
 
 -- slot 0 is the only one
-pub only_slot : (schema : List Table) (m : Machine) → IsReached schema m → (slot : ℕ) (book : Book) → slice_get m.books slot ≡ Some book → slot ≡ 0
-only_slot schema m reached slot book here = let within = slice_get_within m.books slot book here in let one = reached.sound.one_slot in omega arith
+pub only_slot : (schema : List Table) (m : Machine) → IsReached schema m → (slot : ℕ) (slot_state : SlotState) → slice_get m.slots slot ≡ Some slot_state → slot ≡ 0
+only_slot schema m reached slot slot_state here = let within = slice_get_within m.slots slot slot_state here in let one = reached.sound.one_slot in omega arith
 
 -- at most one transaction claims a directory
 pub claim_here : (schema : List Table) (m : Machine) → IsReached schema m → (root : Root) → IsRoot schema root → (n : ℕ) × IsClaim schema root n (commits_at schema root m.log) (filter (claims schema root 0) m.transactions)
-claim_here schema m reached root is = let book = first_book schema m reached in (book.0.last, (reached.placed root is).claim book.0 book.1)
+claim_here schema m reached root is = let slot_state = first_slot_state schema m reached in (slot_state.0.last, (reached.placed root is).claim slot_state.0 slot_state.1)
 
 -- the transactions that claim the directory, before and after the found one is changed or removed
 pub record Claimers (schema : List Table) (root : Root) (test : OpenTransaction → Bool) (ts : List OpenTransaction) (t : OpenTransaction) : Type 0 where
@@ -93,10 +93,10 @@ late s ts (p ∷ ps) = elim (p.slot == 0) as (λ v. (p.slot == 0) ≡ v → (v |
 ] refl
 
 -- so a commit that is prepared yet is above the horizon
-pub above_horizon : (schema : List Table) (m : Machine) → IsReached schema m → (root : Root) → IsRoot schema root → (t : OpenTransaction) (ts : ℕ) → IsIn t m.transactions → is_prepared_at 0 t ≡ true → t.outcome ≡ outcome.Committed ts → horizon_of m < ts
+pub above_horizon : (schema : List Table) (m : Machine) → IsReached schema m → (root : Root) → IsRoot schema root → (t : OpenTransaction) (ts : ℕ) → IsIn t m.transactions → is_prepared_at 0 t ≡ true → t.decision ≡ decision.Committed ts → horizon_of m < ts
 above_horizon schema m reached root is_root t ts at prepared committed =
-    let book = first_book schema m reached in
-    let seal = reached.horizons.sealed 0 book.0 book.1 root is_root in
-    let above = all_in (IsAbove book.0.horizon 0) m.transactions t at (seal.prepared 0 book.0 book.1 refl) in
-    let upto : AllByRecursion (λ (p : Prepared). p.timestamp ≤ ts) t.prepared = subst (λ o. IsUpto o t.prepared) committed (all_in (IsHolding (length m.books)) m.transactions t at reached.holding).timely in
-    subst (λ (h : ℕ). h < ts) (sym (ap (λ (o : Option Book). if_some o 0 (λ (b : Book). b.horizon)) book.1)) (late book.0.horizon ts t.prepared prepared above upto)
+    let slot_state = first_slot_state schema m reached in
+    let seal = reached.horizons.sealed 0 slot_state.0 slot_state.1 root is_root in
+    let above = all_in (IsAbove slot_state.0.horizon 0) m.transactions t at (seal.prepared 0 slot_state.0 slot_state.1 refl) in
+    let upto : AllByRecursion (λ (p : Prepared). p.timestamp ≤ ts) t.prepared = subst (λ o. IsUpto o t.prepared) committed (all_in (IsHolding (length m.slots)) m.transactions t at reached.holding).timely in
+    subst (λ (h : ℕ). h < ts) (sym (ap (λ (o : Option SlotState). if_some o 0 (λ (b : SlotState). b.horizon)) slot_state.1)) (late slot_state.0.horizon ts t.prepared prepared above upto)

@@ -9,12 +9,12 @@ use Rattle.span_shard.specs.KeyVersions.{KeyVersions}
 use Rattle.span_shard.specs.Shard.{snapshot}
 use Rattle.span_machine.specs.declared.query.Leaf.{Leaf}
 use Rattle.span_machine.specs.declared.query.OpenQuery.{OpenQuery}
-use Rattle.span_machine.specs.declared.slot.Book.{Book}
+use Rattle.span_machine.specs.declared.slot.SlotState.{SlotState}
 use Rattle.span_machine.specs.declared.step.Step.{Step}
 use Rattle.span_machine.specs.declared.step.Step.TheVariants.{Finish}
 use Rattle.span_machine.specs.declared.transaction.Commit.{Commit}
 use Rattle.span_machine.specs.Tables.{tables, upto, mutations_of}
-use Rattle.span_machine.specs.Machine.{Machine, answer, answer_on, or_refusal, if_some, is_query, is_safe, is_covered, uncovered, with_covered, cover, tables_of, changed_first, without_first}
+use Rattle.span_machine.specs.Machine.{Machine, answer, answer_on, rows_or_refusal, if_some, is_query, is_safe, is_covered, uncovered, with_covered, cover, tables_of, changed_first, without_first}
 use Rattle.span_machine.specs.Pieces.{Pieced, no_rows, unread, covered_by, queries_of}
 use Rattle.span_laws.proofs.Lists.{all_push, all_without, all_changed_found, all_found}
 use Rattle.span_laws.proofs.Locality.{apply_alike, empty_database, ok_same}
@@ -148,12 +148,12 @@ pub pieced_table : (schema : List Table) (m : Machine) (ps : List Pieced) (query
 pieced_table schema m ps query p leaf l pieced found here = leaf_table schema m.log p.query.s p.query.leaves p.pieces leaf l here (all_found (IsPieced schema m.log) (λ x. is_query query x.query) ps p found pieced)
 
 -- a scan that finds the slot safe covers the leaf with what it reads of the family of its table
-pub pieced_scanned : (schema : List Table) → MeetsRules schema → (m : Machine) (cs : List KeyVersions) (ps : List Pieced) → IsReached schema m → AreKept schema m cs → ArePieced schema m ps → (query : ℕ) (p : Pieced) (book : Book)
-    → find (λ x. is_query query x.query) ps ≡ Some p → is_safe m 0 book p.query.s ≡ true → horizon_of m ≤ p.query.s → (leaf : ℕ) (l : Leaf) → slice_get p.query.leaves leaf ≡ Some l
+pub pieced_scanned : (schema : List Table) → MeetsRules schema → (m : Machine) (cs : List KeyVersions) (ps : List Pieced) → IsReached schema m → AreKept schema m cs → ArePieced schema m ps → (query : ℕ) (p : Pieced) (slot_state : SlotState)
+    → find (λ x. is_query query x.query) ps ≡ Some p → is_safe m 0 slot_state p.query.s ≡ true → horizon_of m ≤ p.query.s → (leaf : ℕ) (l : Leaf) → slice_get p.query.leaves leaf ≡ Some l
     → (shown : List Row) → IsReading schema l.table (snapshot (family (root_of schema l.table)) p.query.s cs) shown → ArePieced schema m (changed_first (λ x. is_query query x.query) (covered_by leaf shown) ps)
-pieced_scanned schema rules m cs ps reached kept pieced query p book found safe high leaf l here shown reading =
+pieced_scanned schema rules m cs ps reached kept pieced query p slot_state found safe high leaf l here shown reading =
     let made = reached_tables schema rules m p.query.s reached in
-    let seen = snapshot_when_safe schema rules m cs p.query.s book reached kept safe high made.0 made.1 l.table in
+    let seen = snapshot_when_safe schema rules m cs p.query.s slot_state reached kept safe high made.0 made.1 l.table in
     let has : HasTable schema m.log p.query.s l.table shown = record { db = made.0; made = made.1; whole = reading seen.rows seen.typed seen.entries_are ∙ ap (map (declared_row schema)) seen.of_table } in
     all_changed_found (IsPieced schema m.log) (λ x. is_query query x.query) (covered_by leaf shown) ps p found
     (leaf_read schema m.log p.query.s p.query.leaves p.pieces leaf l shown here has (all_found (IsPieced schema m.log) (λ x. is_query query x.query) ps p found pieced)) pieced
@@ -179,10 +179,10 @@ pieced_by_step schema rules m reached ps same pieced u step of =
 
 -- what a query means on its pieces is the answer, where all of its leaves are covered
 pub pieced_finish : (schema : List Table) → MeetsRules schema → (m : Machine) → IsReached schema m → (ps : List Pieced) → m.queries ≡ queries_of ps → ArePieced schema m ps → (u : Result Statement Refusal) (number : ℕ) (p : Pieced) → find (λ x. is_query number x.query) ps ≡ Some p → list_all is_covered p.query.leaves ≡ true
-    → answer schema m u (Finish number) ≡ (answer_on p.query.s (or_refusal (query.meaning p.pieces p.query.query)), m)
+    → answer schema m u (Finish number) ≡ (answer_on p.query.s (rows_or_refusal (query.meaning p.pieces p.query.query)), m)
 pieced_finish schema rules m reached ps same pieced u number p found covered =
     let there : find (is_query number) m.queries ≡ Some p.query = ap (find (is_query number)) same ∙ found_query number ps p found in
     let made = reached_tables schema rules m p.query.s reached in
     let whole : p.pieces ≡ map (whole_table schema made.0) (tables_of p.query.leaves) = all_read schema m.log p.query.s made.0 made.1 p.query.leaves p.pieces covered (all_found (IsPieced schema m.log) (λ x. is_query number x.query) ps p found pieced) in
     finish_meant schema m u number p.query made.0 there covered made.1
-    ∙ ap (λ (ts : List (List Row)). (answer_on p.query.s (or_refusal (query.meaning ts p.query.query)), m)) (sym whole)
+    ∙ ap (λ (ts : List (List Row)). (answer_on p.query.s (rows_or_refusal (query.meaning ts p.query.query)), m)) (sym whole)

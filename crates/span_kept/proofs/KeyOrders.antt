@@ -15,7 +15,7 @@ use Rattle.span_schema.specs.declared.layout.KeyPart.{KeyPart}
 use Rattle.span_schema.specs.Lineages.{MeetsRules}
 use Rattle.span_schema.specs.Numbers.{key_columns}
 use Rattle.span_schema.specs.Fitting.{Fits}
-use Rattle.span_keycode.specs.Coding.{AreFit, value_cmp, directed, column_cmp, tuple_cmp}
+use Rattle.span_keycode.specs.Coding.{AreFit, value_cmp, apply_direction, column_cmp, tuple_cmp}
 use Rattle.span_keycode.specs.Keys.{IsKey, key_code}
 use Rattle.span_keycode.specs.Order.{byte_order}
 use Rattle.span_keycode.proofs.KeyLaws.{order_in_table}
@@ -95,8 +95,8 @@ same_from front [] (v ∷ vs) ws f g = absurd f
 same_from front (c ∷ cs) [] ws f g = absurd f
 same_from front (c ∷ cs) (v ∷ vs) [] f g = absurd g
 same_from front (c ∷ cs) (v ∷ vs) (w ∷ ws) f g =
-    let first : directed (is_descending (slice_get (front ++ c ∷ cs) (length front))) (value_order v w) ≡ column_cmp c v w =
-    ap (λ (o : Option KeyPart). directed (is_descending o) (value_order v w)) (here_is front cs c) ∙ ap (directed c.desc) (same_order c.kind v w f.0 g.0) in
+    let first : apply_direction (is_descending (slice_get (front ++ c ∷ cs) (length front))) (value_order v w) ≡ column_cmp c v w =
+    ap (λ (o : Option KeyPart). apply_direction (is_descending o) (value_order v w)) (here_is front cs c) ∙ ap (apply_direction c.desc) (same_order c.kind v w f.0 g.0) in
     let rest : order_from (front ++ c ∷ cs) (length front + 1) vs ws ≡ tuple_cmp cs vs ws =
     ap (λ (l : List KeyPart). order_from l (length front + 1) vs ws) (sym (append_assoc {A = KeyPart} front (c ∷ []) cs))
     ∙ ap (λ (n : ℕ). order_from ((front ++ c ∷ []) ++ cs) n vs ws) (sym (next_place front c))

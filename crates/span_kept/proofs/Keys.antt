@@ -10,7 +10,7 @@ use Rattle.span_shard.specs.declared.write.Write.{Write}
 use Rattle.span_shard.specs.KeyVersions.{KeyVersions}
 use Rattle.span_shard.specs.Versions.{is_used, with_prepared, with_version, applied_write, applied_to_key, kept_upto}
 use Rattle.span_shard.specs.Writes.{is_of}
-use Rattle.span_shard.specs.Shard.{AreInOrder, is_key, versions_of, prepared_of, versions_at, prepared_at, by_order, with_write, with_writes, fresh, prepared_write, applied, trimmed_key, trimmed}
+use Rattle.span_shard.specs.Shard.{AreInOrder, is_key, versions_of, prepared_of, versions_at, prepared_at, by_order, with_write, with_writes, new_key, prepared_write, applied, trimmed_key, trimmed}
 use Rattle.span_laws.proofs.Lists.{all_found, all_weaker}
 use Rattle.std.specs.Cmp.{eq_by_cmp_equiv}
 use Rattle.std.proofs.lemmas.Map.Lookups.{exact_bytes}
@@ -63,7 +63,7 @@ all_by_key P (c ∷ cs) up each = (
 
 -- a key with its prepared write, or a fresh one
 abbrev pub written_key : ℕ → Write → Option KeyVersions → KeyVersions
-written_key txn w None = fresh txn w
+written_key txn w None = new_key txn w
 written_key txn w (Some c) = with_prepared (prepared_write txn w) c
 
 -- what is found after one write is prepared
@@ -71,8 +71,8 @@ pub find-with_write : (txn : ℕ) (w : Write) (cs : List KeyVersions) (key : Lis
     → find (is_key key) (with_write txn w cs) ≡ cond (is_of key w) (Some (written_key txn w (find (is_key key) cs))) (find (is_key key) cs)
 find-with_write txn w [] key up = refl
 find-with_write txn w (c ∷ cs) key up =
-    elim (byte_order w.key c.key) as (λ o. byte_order w.key c.key ≡ o → find (is_key key) (by_order o (fresh txn w ∷ c ∷ cs) (with_prepared (prepared_write txn w) c ∷ cs) (c ∷ with_write txn w cs)) ≡ cond (is_of key w) (Some (written_key txn w (find (is_key key) (c ∷ cs)))) (find (is_key key) (c ∷ cs))) [
-      | Less ↦ λ e. elim (is_of key w) as (λ b. is_of key w ≡ b → cond b (Some (fresh txn w)) (find (is_key key) (c ∷ cs)) ≡ cond b (Some (written_key txn w (find (is_key key) (c ∷ cs)))) (find (is_key key) (c ∷ cs))) [
+    elim (byte_order w.key c.key) as (λ o. byte_order w.key c.key ≡ o → find (is_key key) (by_order o (new_key txn w ∷ c ∷ cs) (with_prepared (prepared_write txn w) c ∷ cs) (c ∷ with_write txn w cs)) ≡ cond (is_of key w) (Some (written_key txn w (find (is_key key) (c ∷ cs)))) (find (is_key key) (c ∷ cs))) [
+      | Less ↦ λ e. elim (is_of key w) as (λ b. is_of key w ≡ b → cond b (Some (new_key txn w)) (find (is_key key) (c ∷ cs)) ≡ cond b (Some (written_key txn w (find (is_key key) (c ∷ cs)))) (find (is_key key) (c ∷ cs))) [
         | false ↦ λ at. refl
         | true ↦ λ at.
             let same : key ≡ w.key = same_bytes key w.key at in
@@ -98,14 +98,14 @@ find-with_write txn w (c ∷ cs) key up =
 pub versions_at-with_write : (txn : ℕ) (w : Write) (cs : List KeyVersions) (key : List ℕ) → AreInOrder cs → versions_at (with_write txn w cs) key ≡ versions_at cs key
 versions_at-with_write txn w cs key up = ap versions_of (find-with_write txn w cs key up)
     ∙ elim (find (is_key key) cs) as (λ o. versions_of (cond (is_of key w) (Some (written_key txn w o)) o) ≡ versions_of o) [
-      | None ↦ elim (is_of key w) as (λ b. versions_of (cond b (Some (fresh txn w)) None) ≡ []) [ true ↦ refl | false ↦ refl ]
+      | None ↦ elim (is_of key w) as (λ b. versions_of (cond b (Some (new_key txn w)) None) ≡ []) [ true ↦ refl | false ↦ refl ]
       | Some c ↦ elim (is_of key w) as (λ b. versions_of (cond b (Some (with_prepared (prepared_write txn w) c)) (Some c)) ≡ c.versions) [ true ↦ refl | false ↦ refl ]
     ]
 
 pub prepared_at-with_write : (txn : ℕ) (w : Write) (cs : List KeyVersions) (key : List ℕ) → AreInOrder cs → prepared_at (with_write txn w cs) key ≡ cond (is_of key w) (Some (prepared_write txn w)) (prepared_at cs key)
 prepared_at-with_write txn w cs key up = ap prepared_of (find-with_write txn w cs key up)
     ∙ elim (find (is_key key) cs) as (λ o. prepared_of (cond (is_of key w) (Some (written_key txn w o)) o) ≡ cond (is_of key w) (Some (prepared_write txn w)) (prepared_of o)) [
-      | None ↦ elim (is_of key w) as (λ b. prepared_of (cond b (Some (fresh txn w)) None) ≡ cond b (Some (prepared_write txn w)) None) [ true ↦ refl | false ↦ refl ]
+      | None ↦ elim (is_of key w) as (λ b. prepared_of (cond b (Some (new_key txn w)) None) ≡ cond b (Some (prepared_write txn w)) None) [ true ↦ refl | false ↦ refl ]
       | Some c ↦ elim (is_of key w) as (λ b. prepared_of (cond b (Some (with_prepared (prepared_write txn w) c)) (Some c)) ≡ cond b (Some (prepared_write txn w)) c.prepared) [ true ↦ refl | false ↦ refl ]
     ]
 

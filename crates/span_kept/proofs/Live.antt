@@ -28,12 +28,12 @@ use Rattle.span_shard.proofs.Bytes.{bytes_same, front_begins}
 use Rattle.span_shard.proofs.Lists.{all_append, all_filter_itself, any_all, none_any}
 use Rattle.span_machine.specs.declared.transaction.Commit.{Commit}
 use Rattle.span_machine.specs.declared.transaction.OpenTransaction.{OpenTransaction}
-use Rattle.span_machine.specs.declared.transaction.Outcome.{Outcome}
-use Rattle.span_machine.specs.declared.transaction.Outcome.TheVariants as outcome
+use Rattle.span_machine.specs.declared.transaction.Decision.{Decision}
+use Rattle.span_machine.specs.declared.transaction.Decision.TheVariants as decision
 use Rattle.span_machine.specs.Sorting.{in_order}
 use Rattle.span_machine.specs.Tables.{is_before, mutations_of}
 use Rattle.span_machine.specs.Machine.{Machine, is_at, is_prepared_at, commit_of}
-use Rattle.span_machine.specs.Kept.{Change, put_at, gone_at, is_same, has_same_key, changes_between, ok_or, after_mutations, changes_from, changes_of, database_after, database_of, is_kept, kept, is_committed, prepared_changes, live as live_by_log}
+use Rattle.span_machine.specs.Kept.{Change, put_at, deletion_at, is_same, has_same_key, changes_between, ok_or, after_mutations, changes_from, changes_of, database_after, database_of, is_kept, kept, is_committed, count_prepared_changes, live as live_by_log}
 use Rattle.span_laws.proofs.Tests.{first_true, both_of}
 use Rattle.span_laws.proofs.Lists.{IsIn, kept_in, all_in, all_found, all_filtered}
 use Rattle.span_laws.proofs.Locality.{IsRoot, own_root, apply-succeeds, apply-directory, empty_database, ok_same}
@@ -105,7 +105,7 @@ put_count k ts txn before after (Some w) put = cases (is_same_row before after) 
 
 -- the changes that a transaction has prepared in the slot, where it is not committed
 abbrev pub changes_prepared : List Table → List TableRow → ℕ → OpenTransaction → List Change
-changes_prepared schema db slot t = cond (is_prepared_at slot t && not (is_committed t.outcome)) (changes_between schema 0 db (after_mutations schema db t.mutations)) []
+changes_prepared schema db slot t = cond (is_prepared_at slot t && not (is_committed t.decision)) (changes_between schema 0 db (after_mutations schema db t.mutations)) []
 
 -- those of all transactions
 abbrev pub all_prepared : List Table → List TableRow → ℕ → List OpenTransaction → List Change
@@ -113,13 +113,13 @@ all_prepared schema db slot [] = []
 all_prepared schema db slot (t ∷ ts) = changes_prepared schema db slot t ++ all_prepared schema db slot ts
 
 -- they are as many as are counted
-prepared_length : (schema : List Table) (db : List TableRow) (slot : ℕ) (ts : List OpenTransaction) → length (all_prepared schema db slot ts) ≡ sum_by (prepared_changes schema db slot) ts
+prepared_length : (schema : List Table) (db : List TableRow) (slot : ℕ) (ts : List OpenTransaction) → length (all_prepared schema db slot ts) ≡ sum_by (count_prepared_changes schema db slot) ts
 prepared_length schema db slot [] = refl
 prepared_length schema db slot (t ∷ ts) =
     length-append (changes_prepared schema db slot t) (all_prepared schema db slot ts)
-    ∙ ap (λ (n : ℕ). n + length (all_prepared schema db slot ts)) (one (is_prepared_at slot t && not (is_committed t.outcome)))
-    ∙ ap (λ (n : ℕ). prepared_changes schema db slot t + n) (prepared_length schema db slot ts)
-    ∙ sym (sum_by-cons (prepared_changes schema db slot) t ts)
+    ∙ ap (λ (n : ℕ). n + length (all_prepared schema db slot ts)) (one (is_prepared_at slot t && not (is_committed t.decision)))
+    ∙ ap (λ (n : ℕ). count_prepared_changes schema db slot t + n) (prepared_length schema db slot ts)
+    ∙ sym (sum_by-cons (count_prepared_changes schema db slot) t ts)
   where
     one : (b : Bool) → length (cond b (changes_between schema 0 db (after_mutations schema db t.mutations)) []) ≡ cond b (length (changes_between schema 0 db (after_mutations schema db t.mutations))) 0
     one true = refl
@@ -181,11 +181,11 @@ one_claims schema m reached root is_root t at is =
         by_place (inr later) = absurd (let bad : IsIn t [] = subst (IsIn t) claim.0 later in let none = bad.1 in cc)
 
 -- what is kept under one that is not committed
-prepared_under : (schema : List Table) (root : Root) (k : List ℕ) (h : ℕ) (commits : List Commit) (vs : List Version) (p : Option PreparedWrite) (t : OpenTransaction) (o : Outcome) → is_committed o ≡ false
+prepared_under : (schema : List Table) (root : Root) (k : List ℕ) (h : ℕ) (commits : List Commit) (vs : List Version) (p : Option PreparedWrite) (t : OpenTransaction) (o : Decision) → is_committed o ≡ false
     → IsKeptUnder schema root k h commits vs p t o → IsPreparedBy schema root k commits t.number t.mutations p × HasRows schema root k h commits vs
-prepared_under schema root k h commits vs p t outcome.Undecided open_still kept = kept
-prepared_under schema root k h commits vs p t outcome.Aborted open_still kept = kept
-prepared_under schema root k h commits vs p t (outcome.Committed ts) open_still kept = absurd (let bad : true ≡ false = open_still in cc)
+prepared_under schema root k h commits vs p t decision.Undecided open_still kept = kept
+prepared_under schema root k h commits vs p t decision.Aborted open_still kept = kept
+prepared_under schema root k h commits vs p t (decision.Committed ts) open_still kept = absurd (let bad : true ≡ false = open_still in cc)
 
 -- bytes begin with themselves
 begins_itself : (k : List ℕ) → begins_with k k ≡ true
@@ -201,17 +201,17 @@ module _ (schema : List Table) (rules : MeetsRules schema) (m : Machine) (cs : L
   directory_now root is_root =
       let log = log_made schema rules m reached root is_root in
       let order : filter (touches schema root) (in_order is_before m.log) ≡ commits_at schema root m.log =
-      filter-in_order is_before is_before-order (touches schema root) m.log ∙ in_order_rising (commits_at schema root m.log) (reached.placed root (coded_root schema root is_root)).rising in
+      filter-insertion_sort is_before is_before-order (touches schema root) m.log ∙ in_order_rising (commits_at schema root m.log) (reached.placed root (coded_root schema root is_root)).rising in
       ap (apply schema []) (ap (changes_at schema root) (sym order) ∙ changes_at-filter schema root (in_order is_before m.log))
       ∙ apply-directory schema rules (mutations_of (in_order is_before m.log)) [] now root (coded_root schema root is_root) (empty_database schema) (log_keyed schema m reached root (coded_root schema root is_root)) log.made
 
   -- what a transaction that claims a directory has prepared at a key there
   claimed_at : (root : Root) (is_root : IsCodedRoot schema root) (k : List ℕ) → is_under schema root k ≡ true → (t : OpenTransaction) → IsIn t m.transactions → claims schema root 0 t ≡ true
-      → IsKeptUnder schema root k (horizon_of m) (commits_at schema root m.log) (versions_at cs k) (prepared_at cs k) t t.outcome
+      → IsKeptUnder schema root k (horizon_of m) (commits_at schema root m.log) (versions_at cs k) (prepared_at cs k) t t.decision
   claimed_at root is_root k under t at is =
       subst (IsKeptBy schema root k (horizon_of m) (commits_at schema root m.log) (versions_at cs k) (prepared_at cs k)) (one_claims schema m reached root (coded_root schema root is_root) t at is) (are_kept.kept root is_root k under)
 
-  module _ (t : OpenTransaction) (at : IsIn t m.transactions) (prepared : is_prepared_at 0 t ≡ true) (open_still : is_committed t.outcome ≡ false) where
+  module _ (t : OpenTransaction) (at : IsIn t m.transactions) (prepared : is_prepared_at 0 t ≡ true) (open_still : is_committed t.decision ≡ false) where
     -- what was begun is typed
     typed_mutations : AreTypedMutations schema t.mutations
     typed_mutations = all_in (IsBegunBy schema) m.transactions t at reached.by_schema.transactions
@@ -232,7 +232,7 @@ module _ (schema : List Table) (rules : MeetsRules schema) (m : Machine) (cs : L
             let coded : IsCodedRoot schema root = touched_root root is_root some in
             let k : List ℕ = key_code schema root.table root.key in
             let under = claimed_at root coded k (begins_itself k) t at (both_of (is_prepared_at 0 t) (is_some_of (filter (is_at schema root) t.mutations)) prepared some) in
-            let by = (prepared_under schema root k (horizon_of m) (commits_at schema root m.log) (versions_at cs k) (prepared_at cs k) t t.outcome open_still under).0 in
+            let by = (prepared_under schema root k (horizon_of m) (commits_at schema root m.log) (versions_at cs k) (prepared_at cs k) t t.decision open_still under).0 in
             let same : directory schema root now ≡ by.before = ok_same (sym (directory_now root coded) ∙ by.now) in
             (by.after, ap (λ (rows : List TableRow). apply schema rows (filter (is_at schema root) t.mutations)) same ∙ by.through)
 
@@ -256,9 +256,9 @@ module _ (schema : List Table) (rules : MeetsRules schema) (m : Machine) (cs : L
 
     -- a transaction that does not claim the directory has prepared none there
     unclaimed_none : (t : OpenTransaction) → IsIn t m.transactions → claims schema root 0 t ≡ false → filter (is_at_key k) (changes_prepared schema now 0 t) ≡ []
-    unclaimed_none t at off = cases (is_prepared_at 0 t) (is_committed t.outcome) refl refl
+    unclaimed_none t at off = cases (is_prepared_at 0 t) (is_committed t.decision) refl refl
       where
-        cases : (a b : Bool) → is_prepared_at 0 t ≡ a → is_committed t.outcome ≡ b → filter (is_at_key k) (cond (a && not b) (changes_between schema 0 now (after_mutations schema now t.mutations)) []) ≡ []
+        cases : (a b : Bool) → is_prepared_at 0 t ≡ a → is_committed t.decision ≡ b → filter (is_at_key k) (cond (a && not b) (changes_between schema 0 now (after_mutations schema now t.mutations)) []) ≡ []
         cases false b e f = refl
         cases true true e f = refl
         cases true false e f =
@@ -271,7 +271,7 @@ module _ (schema : List Table) (rules : MeetsRules schema) (m : Machine) (cs : L
             ∙ change_none k 0 (row_coded schema through.0 k)
 
     -- one that claims it and is not committed has prepared one change where a write is prepared at the key, and otherwise none
-    claimed_one : (t : OpenTransaction) → IsIn t m.transactions → is_prepared_at 0 t ≡ true → is_committed t.outcome ≡ false → (p : Option PreparedWrite) → IsPreparedBy schema root k (commits_at schema root m.log) t.number t.mutations p
+    claimed_one : (t : OpenTransaction) → IsIn t m.transactions → is_prepared_at 0 t ≡ true → is_committed t.decision ≡ false → (p : Option PreparedWrite) → IsPreparedBy schema root k (commits_at schema root m.log) t.number t.mutations p
         → length (filter (is_at_key k) (changes_prepared schema now 0 t)) ≡ cond (is_some p) 1 0
     claimed_one t at prepared open_still p by =
         let through = through_now t at prepared open_still log in
@@ -283,7 +283,7 @@ module _ (schema : List Table) (rules : MeetsRules schema) (m : Machine) (cs : L
         ok_same (sym by.through ∙ ap (λ (rows : List TableRow). apply schema rows (filter (is_at schema root) t.mutations)) before ∙ in_directory schema rules root is_root k under now out t.mutations log.is typed through.1) in
         let row_before : row_coded schema by.before k ≡ row_coded schema now k = ap (λ (rows : List TableRow). row_coded schema rows k) before ∙ coded_in_directory schema rules root is_root k under now log.is.typed in
         let row_after : row_coded schema by.after k ≡ row_coded schema out k = ap (λ (rows : List TableRow). row_coded schema rows k) after ∙ coded_in_directory schema rules root is_root k under out is_out.typed in
-        ap (λ (b : Bool). length (filter (is_at_key k) (cond b (changes_between schema 0 now (after_mutations schema now t.mutations)) []))) (both_of (is_prepared_at 0 t) (not (is_committed t.outcome)) prepared (ap not open_still))
+        ap (λ (b : Bool). length (filter (is_at_key k) (cond b (changes_between schema 0 now (after_mutations schema now t.mutations)) []))) (both_of (is_prepared_at 0 t) (not (is_committed t.decision)) prepared (ap not open_still))
         ∙ ap length (prepared_here t typed out through.1)
         ∙ ap (λ (row : Option (List ℕ)). length (change_at k 0 row (row_coded schema out k))) (sym row_before)
         ∙ ap (λ (row : Option (List ℕ)). length (change_at k 0 (row_coded schema by.before k) row)) (sym row_after)
@@ -344,26 +344,26 @@ module _ (schema : List Table) (rules : MeetsRules schema) (m : Machine) (cs : L
             ∙ ap (λ (ts : List OpenTransaction). length (filter (is_at_key k) (all_prepared schema now 0 ts))) e
             ∙ ap (λ (l : List Change). length (filter (is_at_key k) l)) (append-nil (changes_prepared schema now 0 t))
 
-        by_open : (t : OpenTransaction) → IsIn t m.transactions → claims schema root 0 t ≡ true → filter (claims schema root 0) m.transactions ≡ t ∷ [] → is_committed t.outcome ≡ false
+        by_open : (t : OpenTransaction) → IsIn t m.transactions → claims schema root 0 t ≡ true → filter (claims schema root 0) m.transactions ≡ t ∷ [] → is_committed t.decision ≡ false
             → IsPreparedBy schema root k (commits_at schema root m.log) t.number t.mutations (prepared_at cs k) × HasRows schema root k (horizon_of m) (commits_at schema root m.log) (versions_at cs k) → has_count ≡ made_count + prepared_count
         by_open t at is alone open_still h =
             let prepared : is_prepared_at 0 t ≡ true = first_true (is_prepared_at 0 t) (is_some_of (filter (is_at schema root) t.mutations)) is in
             let one : prepared_count ≡ cond (is_some (prepared_at cs k)) 1 0 = one_alone t alone ∙ claimed_one t at prepared open_still (prepared_at cs k) h.0 in
             ap (λ (n : ℕ). n + cond (is_some (prepared_at cs k)) 1 0) (versions_count h.1) ∙ ap (λ (n : ℕ). made_count + n) (sym one)
 
-        by_outcome : (t : OpenTransaction) (o : Outcome) → t.outcome ≡ o → IsIn t m.transactions → claims schema root 0 t ≡ true → filter (claims schema root 0) m.transactions ≡ t ∷ []
+        by_decision : (t : OpenTransaction) (o : Decision) → t.decision ≡ o → IsIn t m.transactions → claims schema root 0 t ≡ true → filter (claims schema root 0) m.transactions ≡ t ∷ []
             → IsKeptUnder schema root k (horizon_of m) (commits_at schema root m.log) (versions_at cs k) (prepared_at cs k) t o → has_count ≡ made_count + prepared_count
-        by_outcome t (outcome.Committed ts) e at is alone h =
+        by_decision t (decision.Committed ts) e at is alone h =
             let prepared : is_prepared_at 0 t ≡ true = first_true (is_prepared_at 0 t) (is_some_of (filter (is_at schema root) t.mutations)) is in
             let late : horizon_of m < ts = above_horizon schema m reached root (coded_root schema root is_root) t ts at prepared e in
             let none : prepared_count ≡ 0 =
             one_alone t alone
-            ∙ ap (λ (o : Outcome). length (filter (is_at_key k) (cond (is_prepared_at 0 t && not (is_committed o)) (changes_between schema 0 now (after_mutations schema now t.mutations)) []))) e
+            ∙ ap (λ (o : Decision). length (filter (is_at_key k) (cond (is_prepared_at 0 t && not (is_committed o)) (changes_between schema 0 now (after_mutations schema now t.mutations)) []))) e
             ∙ ap (λ (b : Bool). length (filter (is_at_key k) (cond (b && false) (changes_between schema 0 now (after_mutations schema now t.mutations)) []))) prepared in
             let whole : made_count ≡ has_count = pending_count t ts late h in
             omega arith
-        by_outcome t outcome.Undecided e at is alone h = by_open t at is alone (ap is_committed e) h
-        by_outcome t outcome.Aborted e at is alone h = by_open t at is alone (ap is_committed e) h
+        by_decision t decision.Undecided e at is alone h = by_open t at is alone (ap is_committed e) h
+        by_decision t decision.Aborted e at is alone h = by_open t at is alone (ap is_committed e) h
 
         by_claims : (us : List OpenTransaction) → filter (claims schema root 0) m.transactions ≡ us → IsKeptBy schema root k (horizon_of m) (commits_at schema root m.log) (versions_at cs k) (prepared_at cs k) us → has_count ≡ made_count + prepared_count
         by_claims [] e h =
@@ -374,7 +374,7 @@ module _ (schema : List Table) (rules : MeetsRules schema) (m : Machine) (cs : L
         by_claims (t ∷ us) e h =
             let at : IsIn t m.transactions = kept_in (claims schema root 0) m.transactions t (0, ap (λ (l : List OpenTransaction). slice_get l 0) e) in
             let is : claims schema root 0 t ≡ true = (subst (AllByRecursion (λ u. claims schema root 0 u ≡ true)) e (all_filter_itself (claims schema root 0) m.transactions)).0 in
-            by_outcome t t.outcome refl at is (one_claims schema m reached root (coded_root schema root is_root) t at is) h
+            by_decision t t.decision refl at is (one_claims schema m reached root (coded_root schema root is_root) t at is) h
 
 -- ---- the keys of changes
 
@@ -394,9 +394,9 @@ of_rows schema change same (r ∷ rs) typed = (subst (IsCodedCoding schema) (sym
 -- the keys that change between two typed databases are coded
 pub coded_between : (schema : List Table) (ts : ℕ) (before after : List TableRow) → AreTyped schema before → AreTyped schema after → AllByRecursion (IsOfKey schema) (changes_between schema ts before after)
 coded_between schema ts before after typed_before typed_after =
-    all_append (IsOfKey schema) (map (put_at schema ts) (filter (λ r. not (list_any (is_same schema r) before)) after)) (map (gone_at schema ts) (filter (λ r. not (list_any (has_same_key schema r) after)) before))
+    all_append (IsOfKey schema) (map (put_at schema ts) (filter (λ r. not (list_any (is_same schema r) before)) after)) (map (deletion_at schema ts) (filter (λ r. not (list_any (has_same_key schema r) after)) before))
     (of_rows schema (put_at schema ts) (λ r. refl) (filter (λ r. not (list_any (is_same schema r) before)) after) (all_filtered (IsTyped schema) (λ r. not (list_any (is_same schema r) before)) after typed_after))
-    (of_rows schema (gone_at schema ts) (λ r. refl) (filter (λ r. not (list_any (has_same_key schema r) after)) before) (all_filtered (IsTyped schema) (λ r. not (list_any (has_same_key schema r) after)) before typed_before))
+    (of_rows schema (deletion_at schema ts) (λ r. refl) (filter (λ r. not (list_any (has_same_key schema r) after)) before) (all_filtered (IsTyped schema) (λ r. not (list_any (has_same_key schema r) after)) before typed_before))
 
 -- mutations leave typed rows, also where they have a fault
 typed_mutated : (schema : List Table) (db : List TableRow) (ms : List CheckedMutation) → AreTyped schema db → AreTypedMutations schema ms → AreTyped schema (after_mutations schema db ms)
@@ -422,7 +422,7 @@ typed_database schema db (c ∷ cs) typed by = typed_database schema (after_muta
 -- the keys of what is prepared are coded
 coded_prepared : (schema : List Table) (db : List TableRow) (ts : List OpenTransaction) → AreTyped schema db → AllByRecursion (IsBegunBy schema) ts → AllByRecursion (IsOfKey schema) (all_prepared schema db 0 ts)
 coded_prepared schema db [] typed by = tt
-coded_prepared schema db (t ∷ ts) typed by = all_append (IsOfKey schema) (changes_prepared schema db 0 t) (all_prepared schema db 0 ts) (cases (is_prepared_at 0 t && not (is_committed t.outcome))) (coded_prepared schema db ts typed by.1)
+coded_prepared schema db (t ∷ ts) typed by = all_append (IsOfKey schema) (changes_prepared schema db 0 t) (all_prepared schema db 0 ts) (cases (is_prepared_at 0 t && not (is_committed t.decision))) (coded_prepared schema db ts typed by.1)
   where
     cases : (b : Bool) → AllByRecursion (IsOfKey schema) (cond b (changes_between schema 0 db (after_mutations schema db t.mutations)) [])
     cases true = coded_between schema 0 db (after_mutations schema db t.mutations) typed (typed_mutated schema db t.mutations typed by.0)

@@ -23,19 +23,19 @@ use Rattle.span_shard.specs.Writes.{IsWrite, is_of}
 use Rattle.std.specs.declared.cmp.Ordering.TheVariants.{Less, Equal, Greater}
 use Rattle.span_keycode.specs.Order.{byte_order}
 use Rattle.span_shard.specs.Versions.{with_prepared}
-use Rattle.span_shard.specs.Shard.{is_key, versions_at, prepared_at, prepared_of, by_order, fresh, prepared_write, with_write, with_writes, live, IsNotOf, HasNoneOf, IsFree, IsNow}
+use Rattle.span_shard.specs.Shard.{is_key, versions_at, prepared_at, prepared_of, by_order, new_key, prepared_write, with_write, with_writes, live, IsNotOf, HasNoneOf, IsFree, IsNow}
 use Rattle.span_shard.proofs.Bytes.{bytes_same}
 use Rattle.span_shard.proofs.InOrder.{in_order_with_writes}
 use Rattle.span_shard.proofs.Undo.{used_with_writes}
-use Rattle.span_machine.specs.declared.slot.Book.{Book}
+use Rattle.span_machine.specs.declared.slot.SlotState.{SlotState}
 use Rattle.span_machine.specs.declared.transaction.OpenTransaction.{OpenTransaction}
 use Rattle.span_machine.specs.declared.transaction.Prepared.{Prepared}
 use Rattle.span_machine.specs.declared.transaction.Commit.{Commit}
 use Rattle.span_machine.specs.Sorting.{in_order}
 use Rattle.span_machine.specs.Tables.{is_before, upto, mutations_of, tables}
 use Rattle.span_machine.specs.Kept.{Change, changes_between, database_of, count_changes, live_with}
-use Rattle.span_machine.specs.Machine.{Machine, root_at, is_at, is_transaction, is_undecided, is_prepared_at, mutations_in, conflicts, prepare_refusal, prepare_timestamp, prepared, add_prepared, changed_first, faults, fault_of, first_cause}
-use Rattle.span_laws.proofs.Causes.{may_prepare, is_undecided_outcome}
+use Rattle.span_machine.specs.Machine.{Machine, root_at, is_at, is_transaction, is_undecided, is_prepared_at, mutations_in, has_conflict, prepare_refusal, prepare_timestamp, prepared, add_prepared, changed_first, mutations_refusal, refusal_of, first_cause}
+use Rattle.span_laws.proofs.Causes.{may_prepare, undecided_is}
 use Rattle.span_laws.proofs.Tests.{second_true, second_or, number_same}
 use Rattle.span_laws.proofs.Lists.{found_passes, all_found, all_weaker}
 use Rattle.span_laws.proofs.Locality.{is_at-itself, apply-directory, apply-database, empty_database, ok_same}
@@ -122,7 +122,7 @@ some_found (w ∷ ws) = (
 coded_with_write : (schema : List Table) (txn : ℕ) (w : Write) (cs : List KeyVersions) → IsCodedCoding schema w.key → AllByRecursion (λ (c : KeyVersions). IsCodedCoding schema c.key) cs → AllByRecursion (λ (c : KeyVersions). IsCodedCoding schema c.key) (with_write txn w cs)
 coded_with_write schema txn w [] here all = (here, tt)
 coded_with_write schema txn w (c ∷ cs) here all =
-    elim (byte_order w.key c.key) as (λ o. AllByRecursion (λ (d : KeyVersions). IsCodedCoding schema d.key) (by_order o (fresh txn w ∷ c ∷ cs) (with_prepared (prepared_write txn w) c ∷ cs) (c ∷ with_write txn w cs))) [
+    elim (byte_order w.key c.key) as (λ o. AllByRecursion (λ (d : KeyVersions). IsCodedCoding schema d.key) (by_order o (new_key txn w ∷ c ∷ cs) (with_prepared (prepared_write txn w) c ∷ cs) (c ∷ with_write txn w cs))) [
       | Less ↦ (here, all)
       | Equal ↦ (all.0, all.1)
       | Greater ↦ (all.0, coded_with_write schema txn w cs here all.1)
@@ -142,38 +142,38 @@ has_some u p c false e is = absurd (cc)
 
 -- ---- Prepare at slot 0
 
-module _ (schema : List Table) (rules : MeetsRules schema) (m : Machine) (reached : IsReached schema m) (cs : List KeyVersions) (kept : AreKept schema m cs) (owner txn : ℕ) (t : OpenTransaction) (book : Book)
-    (found : find (is_transaction owner txn) m.transactions ≡ Some t) (here : slice_get m.books 0 ≡ Some book) (accepted : prepare_refusal schema m 0 t book ≡ None) where
+module _ (schema : List Table) (rules : MeetsRules schema) (m : Machine) (reached : IsReached schema m) (cs : List KeyVersions) (kept : AreKept schema m cs) (owner txn : ℕ) (t : OpenTransaction) (slot_state : SlotState)
+    (found : find (is_transaction owner txn) m.transactions ≡ Some t) (here : slice_get m.slots 0 ≡ Some slot_state) (accepted : prepare_refusal schema m 0 t slot_state ≡ None) where
   abbrev its : List CheckedMutation
-  its = mutations_in schema book t.mutations
+  its = mutations_in schema slot_state t.mutations
 
-  may : (is_undecided t ≡ true) × (is_prepared_at 0 t ≡ false) × (conflicts schema m 0 (mutations_in schema book t.mutations) ≡ false)
-  may = may_prepare (is_undecided t) (is_prepared_at 0 t) (length (mutations_in schema book t.mutations) == 0) (conflicts schema m 0 (mutations_in schema book t.mutations)) accepted
+  may : (is_undecided t ≡ true) × (is_prepared_at 0 t ≡ false) × (has_conflict schema m 0 (mutations_in schema slot_state t.mutations) ≡ false)
+  may = may_prepare (is_undecided t) (is_prepared_at 0 t) (length (mutations_in schema slot_state t.mutations) == 0) (has_conflict schema m 0 (mutations_in schema slot_state t.mutations)) accepted
 
   txn_is : t.number ≡ txn
   txn_is = number_same t.number txn (second_true (t.owner == owner) (t.number == txn) (found_passes (is_transaction owner txn) m.transactions t found))
 
-  pub its_typed : AreTypedMutations schema (mutations_in schema book t.mutations)
-  its_typed = typed_in schema book t.mutations (all_found (IsBegunBy schema) (is_transaction owner txn) m.transactions t found reached.by_schema.transactions)
+  pub its_typed : AreTypedMutations schema (mutations_in schema slot_state t.mutations)
+  its_typed = typed_in schema slot_state t.mutations (all_found (IsBegunBy schema) (is_transaction owner txn) m.transactions t found reached.by_schema.transactions)
 
-  its_keyed : AreKeyed schema (mutations_in schema book t.mutations)
-  its_keyed = keyed_in schema book t.mutations (all_found (IsBegunBy schema) (is_transaction owner txn) m.transactions t found reached.by_schema.transactions)
+  its_keyed : AreKeyed schema (mutations_in schema slot_state t.mutations)
+  its_keyed = keyed_in schema slot_state t.mutations (all_found (IsBegunBy schema) (is_transaction owner txn) m.transactions t found reached.by_schema.transactions)
 
   -- no transaction claims a directory of the mutations
-  none_claims : (root : Root) → IsCodedRoot schema root → is_some_of (filter (is_at schema root) (mutations_in schema book t.mutations)) ≡ true → filter (claims schema root 0) m.transactions ≡ []
-  none_claims root is some = unclaimed schema root (coded_root schema root is) 0 (mutations_in schema book t.mutations) m.transactions some may.2
+  none_claims : (root : Root) → IsCodedRoot schema root → is_some_of (filter (is_at schema root) (mutations_in schema slot_state t.mutations)) ≡ true → filter (claims schema root 0) m.transactions ≡ []
+  none_claims root is some = unclaimed schema root (coded_root schema root is) 0 (mutations_in schema slot_state t.mutations) m.transactions some may.2
 
   not_yet : (root : Root) → claims schema root 0 t ≡ false
   not_yet root = false_and (is_prepared_at 0 t) (is_some_of (filter (is_at schema root) t.mutations)) may.1
 
-  none_kept : (root : Root) (is : IsCodedRoot schema root) (k : List ℕ) (under : is_under schema root k ≡ true) → is_some_of (filter (is_at schema root) (mutations_in schema book t.mutations)) ≡ true
+  none_kept : (root : Root) (is : IsCodedRoot schema root) (k : List ℕ) (under : is_under schema root k ≡ true) → is_some_of (filter (is_at schema root) (mutations_in schema slot_state t.mutations)) ≡ true
       → (prepared_at cs k ≡ None) × HasRows schema root k (horizon_of m) (commits_at schema root m.log) (versions_at cs k)
   none_kept root is k under some = subst (IsKeptBy schema root k (horizon_of m) (commits_at schema root m.log) (versions_at cs k) (prepared_at cs k)) (none_claims root is some) (kept.kept root is k under)
 
   -- nothing is prepared at a key that the mutations touch
-  pub prepare_free : IsFree schema (mutations_in schema book t.mutations) cs
-  prepare_free = all_by_key (λ (c : KeyVersions). is_touched schema (mutations_in schema book t.mutations) c.key ≡ true → c.prepared ≡ None) cs kept.keys
-      (λ c at touched. let at_root = touched_root schema rules c.key (mutations_in schema book t.mutations) its_typed touched in
+  pub prepare_free : IsFree schema (mutations_in schema slot_state t.mutations) cs
+  prepare_free = all_by_key (λ (c : KeyVersions). is_touched schema (mutations_in schema slot_state t.mutations) c.key ≡ true → c.prepared ≡ None) cs kept.keys
+      (λ c at touched. let at_root = touched_root schema rules c.key (mutations_in schema slot_state t.mutations) its_typed touched in
       sym (ap prepared_of at) ∙ (none_kept at_root.0 at_root.1 c.key at_root.2 at_root.3).0)
 
   -- nothing of the transaction is prepared: what is prepared at a coded key is of the transaction that claims its directory
@@ -195,54 +195,54 @@ module _ (schema : List Table) (rules : MeetsRules schema) (m : Machine) (reache
   made_typed = typed_stay schema [] (mutations_of (upto m.log (timestamp_end - 1))) made.0 tt (typed_upto schema m.log (timestamp_end - 1) reached.by_schema.log) made.1
 
   -- at the touched keys the shard's rows are those of the tables
-  made_now : IsNow schema (mutations_in schema book t.mutations) made.0 cs
+  made_now : IsNow schema (mutations_in schema slot_state t.mutations) made.0 cs
   made_now k touched =
-      let at_root = touched_root schema rules k (mutations_in schema book t.mutations) its_typed touched in
+      let at_root = touched_root schema rules k (mutations_in schema slot_state t.mutations) its_typed touched in
       row_now_of_tables schema rules m cs at_root.0 at_root.1 k at_root.2 made.0 reached kept made_typed (none_claims at_root.0 at_root.1 at_root.3) made.1
 
-  faults_on : faults schema m (mutations_in schema book t.mutations) ≡ fault_of (apply schema made.0 (mutations_in schema book t.mutations))
-  faults_on = ap (λ r. fault_of (and_then r (λ d. apply schema d (mutations_in schema book t.mutations)))) made.1
+  faults_on : mutations_refusal schema m (mutations_in schema slot_state t.mutations) ≡ refusal_of (apply schema made.0 (mutations_in schema slot_state t.mutations))
+  faults_on = ap (λ r. refusal_of (and_then r (λ d. apply schema d (mutations_in schema slot_state t.mutations)))) made.1
 
   -- what the mutations make of every database that the shard's rows are of
   abbrev pub Outcome_of : (List TableRow → Type 0) → Type 0
-  Outcome_of P = (db : List TableRow) → IsDatabase schema db → AreTyped schema db → IsNow schema (mutations_in schema book t.mutations) db cs → P db
+  Outcome_of P = (db : List TableRow) → IsDatabase schema db → AreTyped schema db → IsNow schema (mutations_in schema slot_state t.mutations) db cs → P db
 
   -- the fault that the shard answers is the machine's
-  pub prepare_fault : (why : Refusal) → Outcome_of (λ db. (why ≡ OutOfMemory) ⊎ (apply schema db (mutations_in schema book t.mutations) ≡ Err why)) → (why ≡ OutOfMemory) ⊎ (faults schema m (mutations_in schema book t.mutations) ≡ Some why)
+  pub prepare_fault : (why : Refusal) → Outcome_of (λ db. (why ≡ OutOfMemory) ⊎ (apply schema db (mutations_in schema slot_state t.mutations) ≡ Err why)) → (why ≡ OutOfMemory) ⊎ (mutations_refusal schema m (mutations_in schema slot_state t.mutations) ≡ Some why)
   prepare_fault why says = elim (says made.0 made_database made_typed made_now) [
     | inl memory ↦ inl memory
-    | inr bad ↦ inr (faults_on ∙ ap fault_of bad)
+    | inr bad ↦ inr (faults_on ∙ ap refusal_of bad)
   ]
 
   abbrev pub Changes : List Write → Type 0
-  Changes ws = Outcome_of (λ db. (after : List TableRow) × (apply schema db (mutations_in schema book t.mutations) ≡ Ok after) × AreChanges schema db after ws)
+  Changes ws = Outcome_of (λ db. (after : List TableRow) × (apply schema db (mutations_in schema slot_state t.mutations) ≡ Ok after) × AreChanges schema db after ws)
 
   -- mutations that make their writes meet no fault
-  pub prepare_well : (ws : List Write) → Changes ws → faults schema m (mutations_in schema book t.mutations) ≡ None
-  prepare_well ws says = faults_on ∙ ap fault_of (says made.0 made_database made_typed made_now).1
+  pub prepare_well : (ws : List Write) → Changes ws → mutations_refusal schema m (mutations_in schema slot_state t.mutations) ≡ None
+  prepare_well ws says = faults_on ∙ ap refusal_of (says made.0 made_database made_typed made_now).1
 
-  whole : (root : Root) → IsCodedRoot schema root → filter (is_at schema root) (mutations_in schema book t.mutations) ≡ filter (is_at schema root) t.mutations
-  whole root is = all_held schema root (coded_root schema root is) book t.mutations ((reached.placed root (coded_root schema root is)).held book here)
+  whole : (root : Root) → IsCodedRoot schema root → filter (is_at schema root) (mutations_in schema slot_state t.mutations) ≡ filter (is_at schema root) t.mutations
+  whole root is = all_held schema root (coded_root schema root is) slot_state t.mutations ((reached.placed root (coded_root schema root is)).held slot_state here)
 
   module _ (ws : List Write) (says : Changes ws) where
     abbrev after : List TableRow
     after = (says made.0 made_database made_typed made_now).0
 
-    applies : apply schema made.0 (mutations_in schema book t.mutations) ≡ Ok after
+    applies : apply schema made.0 (mutations_in schema slot_state t.mutations) ≡ Ok after
     applies = (says made.0 made_database made_typed made_now).1
 
     are : AreChanges schema made.0 after ws
     are = (says made.0 made_database made_typed made_now).2
 
     after_typed : AreTyped schema after
-    after_typed = typed_stay schema made.0 (mutations_in schema book t.mutations) after made_typed its_typed applies
+    after_typed = typed_stay schema made.0 (mutations_in schema slot_state t.mutations) after made_typed its_typed applies
 
     -- what the mutations make of one directory
-    in_one : (root : Root) → IsCodedRoot schema root → apply schema (directory schema root made.0) (filter (is_at schema root) (mutations_in schema book t.mutations)) ≡ Ok (directory schema root after)
-    in_one root is = apply-directory schema rules (mutations_in schema book t.mutations) made.0 after root (coded_root schema root is) made_database its_keyed applies
+    in_one : (root : Root) → IsCodedRoot schema root → apply schema (directory schema root made.0) (filter (is_at schema root) (mutations_in schema slot_state t.mutations)) ≡ Ok (directory schema root after)
+    in_one root is = apply-directory schema rules (mutations_in schema slot_state t.mutations) made.0 after root (coded_root schema root is) made_database its_keyed applies
 
     -- a directory of no mutation stays
-    row_stays : (root : Root) (is : IsCodedRoot schema root) (k : List ℕ) (under : is_under schema root k ≡ true) → filter (is_at schema root) (mutations_in schema book t.mutations) ≡ [] → row_coded schema after k ≡ row_coded schema made.0 k
+    row_stays : (root : Root) (is : IsCodedRoot schema root) (k : List ℕ) (under : is_under schema root k ≡ true) → filter (is_at schema root) (mutations_in schema slot_state t.mutations) ≡ [] → row_coded schema after k ≡ row_coded schema made.0 k
     row_stays root is k under none =
         let same : directory schema root made.0 ≡ directory schema root after = ok_same (sym (ap (apply schema (directory schema root made.0)) none) ∙ in_one root is) in
         sym (coded_in_directory schema rules root is k under after after_typed) ∙ ap (λ (l : List TableRow). row_coded schema l k) (sym same) ∙ coded_in_directory schema rules root is k under made.0 made_typed
@@ -257,28 +257,28 @@ module _ (schema : List Table) (rules : MeetsRules schema) (m : Machine) (reache
 
     -- what is kept at a key with its write prepared
     prepared_key : (root : Root) (is_root : IsCodedRoot schema root) (k : List ℕ) (under : is_under schema root k ≡ true)
-        → IsKeptBy schema root k (horizon_of m) (commits_at schema root m.log) (versions_at cs k) (prepared_by txn (find (is_of k) ws) (prepared_at cs k)) (filter (claims schema root 0) (changed_first (is_transaction owner txn) (add_prepared 0 (prepare_timestamp book)) m.transactions))
+        → IsKeptBy schema root k (horizon_of m) (commits_at schema root m.log) (versions_at cs k) (prepared_by txn (find (is_of k) ws) (prepared_at cs k)) (filter (claims schema root 0) (changed_first (is_transaction owner txn) (add_prepared 0 (prepare_timestamp slot_state)) m.transactions))
     prepared_key root is_root k under =
         let them = claimers_of schema m reached root (coded_root schema root is_root) (is_transaction owner txn) t found in
         elim (is_some_of (filter (is_at schema root) t.mutations)) as (λ v. is_some_of (filter (is_at schema root) t.mutations) ≡ v
-        → IsKeptBy schema root k (horizon_of m) (commits_at schema root m.log) (versions_at cs k) (prepared_by txn (find (is_of k) ws) (prepared_at cs k)) (filter (claims schema root 0) (changed_first (is_transaction owner txn) (add_prepared 0 (prepare_timestamp book)) m.transactions))) [
+        → IsKeptBy schema root k (horizon_of m) (commits_at schema root m.log) (versions_at cs k) (prepared_by txn (find (is_of k) ws) (prepared_at cs k)) (filter (claims schema root 0) (changed_first (is_transaction owner txn) (add_prepared 0 (prepare_timestamp slot_state)) m.transactions))) [
           | false ↦ λ e.
-              let none : filter (is_at schema root) (mutations_in schema book t.mutations) ≡ [] = whole root is_root ∙ none_of (filter (is_at schema root) t.mutations) e in
+              let none : filter (is_at schema root) (mutations_in schema slot_state t.mutations) ≡ [] = whole root is_root ∙ none_of (filter (is_at schema root) t.mutations) e in
               let nothing : find (is_of k) ws ≡ None = no_write k (row_coded schema made.0 k) (row_coded schema after k) (find (is_of k) ws) (row_stays root is_root k under none) (are k) in
-              let still : filter (claims schema root 0) (changed_first (is_transaction owner txn) (add_prepared 0 (prepare_timestamp book)) m.transactions) ≡ filter (claims schema root 0) m.transactions =
-              them.away (add_prepared 0 (prepare_timestamp book)) (not_yet root) (and_false (is_prepared_at 0 (add_prepared 0 (prepare_timestamp book) t)) (is_some_of (filter (is_at schema root) t.mutations)) e) in
+              let still : filter (claims schema root 0) (changed_first (is_transaction owner txn) (add_prepared 0 (prepare_timestamp slot_state)) m.transactions) ≡ filter (claims schema root 0) m.transactions =
+              them.away (add_prepared 0 (prepare_timestamp slot_state)) (not_yet root) (and_false (is_prepared_at 0 (add_prepared 0 (prepare_timestamp slot_state) t)) (is_some_of (filter (is_at schema root) t.mutations)) e) in
               subst (IsKeptBy schema root k (horizon_of m) (commits_at schema root m.log) (versions_at cs k) (prepared_by txn (find (is_of k) ws) (prepared_at cs k))) (sym still)
               (subst (λ f. IsKeptBy schema root k (horizon_of m) (commits_at schema root m.log) (versions_at cs k) (prepared_by txn f (prepared_at cs k)) (filter (claims schema root 0) m.transactions)) (sym nothing) (kept.kept root is_root k under))
           | true ↦ λ e.
-              let some : is_some_of (filter (is_at schema root) (mutations_in schema book t.mutations)) ≡ true = ap is_some_of (whole root is_root) ∙ e in
+              let some : is_some_of (filter (is_at schema root) (mutations_in schema slot_state t.mutations)) ≡ true = ap is_some_of (whole root is_root) ∙ e in
               let old = none_kept root is_root k under some in
-              let is : claims schema root 0 (add_prepared 0 (prepare_timestamp book) t) ≡ true = ap (λ b. b && is_some_of (filter (is_at schema root) t.mutations)) (prepared_here (prepare_timestamp book) t.prepared) ∙ e in
+              let is : claims schema root 0 (add_prepared 0 (prepare_timestamp slot_state) t) ≡ true = ap (λ b. b && is_some_of (filter (is_at schema root) t.mutations)) (prepared_here (prepare_timestamp slot_state) t.prepared) ∙ e in
               let write : IsWrite k (row_coded schema (directory schema root made.0) k) (row_coded schema (directory schema root after) k) (find (is_of k) ws) =
               subst (λ (b : Option (List ℕ)). IsWrite k b (row_coded schema (directory schema root after) k) (find (is_of k) ws)) (sym (coded_in_directory schema rules root is_root k under made.0 made_typed))
               (subst (λ (a : Option (List ℕ)). IsWrite k (row_coded schema made.0 k) a (find (is_of k) ws)) (sym (coded_in_directory schema rules root is_root k under after after_typed)) (are k)) in
               subst (IsKeptBy schema root k (horizon_of m) (commits_at schema root m.log) (versions_at cs k) (prepared_by txn (find (is_of k) ws) (prepared_at cs k)))
-              (sym (them.comes (add_prepared 0 (prepare_timestamp book)) (not_yet root) is (none_claims root is_root some)))
-              (subst (IsKeptUnder schema root k (horizon_of m) (commits_at schema root m.log) (versions_at cs k) (prepared_by txn (find (is_of k) ws) (prepared_at cs k)) (add_prepared 0 (prepare_timestamp book) t)) (sym (is_undecided_outcome t.outcome may.0)) (
+              (sym (them.comes (add_prepared 0 (prepare_timestamp slot_state)) (not_yet root) is (none_claims root is_root some)))
+              (subst (IsKeptUnder schema root k (horizon_of m) (commits_at schema root m.log) (versions_at cs k) (prepared_by txn (find (is_of k) ws) (prepared_at cs k)) (add_prepared 0 (prepare_timestamp slot_state) t)) (sym (undecided_is t.decision may.0)) (
                 record {
                   before = directory schema root made.0;
                   after = directory schema root after;
@@ -296,30 +296,30 @@ module _ (schema : List Table) (rules : MeetsRules schema) (m : Machine) (reache
         (λ w some. written_coding schema w.key made.0 after (find (is_of w.key) ws) made_typed after_typed (are w.key) some) ws (some_found ws)
 
     -- the writes of the transaction are prepared
-    pub kept_prepared : AreKept schema (prepared m owner txn 0 book).1 (with_writes txn ws cs)
+    pub kept_prepared : AreKept schema (prepared m owner txn 0 slot_state).1 (with_writes txn ws cs)
     kept_prepared = record {
       keys = in_order_with_writes txn ws cs kept.keys;
       used = used_with_writes txn ws cs kept.used;
       coded = coded_with_writes schema txn ws cs writes_coded kept.coded;
       kept = λ root is_root k under.
-          subst (λ h. IsKeptBy schema root k h (commits_at schema root m.log) (versions_at (with_writes txn ws cs) k) (prepared_at (with_writes txn ws cs) k) (filter (claims schema root 0) (changed_first (is_transaction owner txn) (add_prepared 0 (prepare_timestamp book)) m.transactions))) (sym (horizon_set m.books 0 book _ here refl))
-          (subst (λ vs. IsKeptBy schema root k (horizon_of m) (commits_at schema root m.log) vs (prepared_at (with_writes txn ws cs) k) (filter (claims schema root 0) (changed_first (is_transaction owner txn) (add_prepared 0 (prepare_timestamp book)) m.transactions))) (sym (versions_at-with_writes txn ws cs k kept.keys))
-          (subst (λ p. IsKeptBy schema root k (horizon_of m) (commits_at schema root m.log) (versions_at cs k) p (filter (claims schema root 0) (changed_first (is_transaction owner txn) (add_prepared 0 (prepare_timestamp book)) m.transactions))) (sym (prepared_at-with_writes txn ws cs k kept.keys))
+          subst (λ h. IsKeptBy schema root k h (commits_at schema root m.log) (versions_at (with_writes txn ws cs) k) (prepared_at (with_writes txn ws cs) k) (filter (claims schema root 0) (changed_first (is_transaction owner txn) (add_prepared 0 (prepare_timestamp slot_state)) m.transactions))) (sym (horizon_set m.slots 0 slot_state _ here refl))
+          (subst (λ vs. IsKeptBy schema root k (horizon_of m) (commits_at schema root m.log) vs (prepared_at (with_writes txn ws cs) k) (filter (claims schema root 0) (changed_first (is_transaction owner txn) (add_prepared 0 (prepare_timestamp slot_state)) m.transactions))) (sym (versions_at-with_writes txn ws cs k kept.keys))
+          (subst (λ p. IsKeptBy schema root k (horizon_of m) (commits_at schema root m.log) (versions_at cs k) p (filter (claims schema root 0) (changed_first (is_transaction owner txn) (add_prepared 0 (prepare_timestamp slot_state)) m.transactions))) (sym (prepared_at-with_writes txn ws cs k kept.keys))
           (prepared_key root is_root k under)));
     }
 
     -- ---- how many versions there are then
 
     -- there is a mutation
-    some_mutation : (l : List CheckedMutation) → mutations_in schema book t.mutations ≡ l → (l ≡ [] → ⊥) → AreTypedMutations schema l → (root : Root) × IsCodedRoot schema root
+    some_mutation : (l : List CheckedMutation) → mutations_in schema slot_state t.mutations ≡ l → (l ≡ [] → ⊥) → AreTypedMutations schema l → (root : Root) × IsCodedRoot schema root
     some_mutation [] e none typed = absurd (none refl)
     some_mutation (c ∷ l) e none typed = (root_at schema c, coded_root_at schema rules c typed.0)
 
-    not_none : mutations_in schema book t.mutations ≡ [] → ⊥
-    not_none e = has_some (is_undecided t) (is_prepared_at 0 t) (conflicts schema m 0 (mutations_in schema book t.mutations)) (length (mutations_in schema book t.mutations) == 0) accepted (ap (λ (l : List CheckedMutation). length l == 0) e)
+    not_none : mutations_in schema slot_state t.mutations ≡ [] → ⊥
+    not_none e = has_some (is_undecided t) (is_prepared_at 0 t) (has_conflict schema m 0 (mutations_in schema slot_state t.mutations)) (length (mutations_in schema slot_state t.mutations) == 0) accepted (ap (λ (l : List CheckedMutation). length l == 0) e)
 
     some_root : (root : Root) × IsCodedRoot schema root
-    some_root = some_mutation (mutations_in schema book t.mutations) refl not_none its_typed
+    some_root = some_mutation (mutations_in schema slot_state t.mutations) refl not_none its_typed
 
     -- the tables as they are have all commits of the log
     all_made : made.0 ≡ database_of schema m.log
@@ -336,7 +336,7 @@ module _ (schema : List Table) (rules : MeetsRules schema) (m : Machine) (reache
     before_is = record { database = made_database; typed = made_typed }
 
     after_is_one : IsTypedDatabase schema after
-    after_is_one = typed_after schema rules made.0 after (mutations_in schema book t.mutations) before_is its_typed applies
+    after_is_one = typed_after schema rules made.0 after (mutations_in schema slot_state t.mutations) before_is its_typed applies
 
     at_key : (k : List ℕ) → filter (is_at_key k) its_changes ≡ change_at k 0 (row_coded schema made.0 k) (row_coded schema after k)
     at_key k = changes_at_key schema k 0 made.0 after (apart_of schema rules made.0 before_is) (apart_of schema rules after after_is_one)
@@ -345,9 +345,9 @@ module _ (schema : List Table) (rules : MeetsRules schema) (m : Machine) (reache
     none_there : (k : List ℕ) → IsCodedCoding schema k → row_coded schema after k ≢ row_coded schema made.0 k → prepared_at cs k ≡ None
     none_there k coding off =
         let root = root_of_coding schema rules k coding in
-        elim (is_some_of (filter (is_at schema root.0) (mutations_in schema book t.mutations))) as (λ b. is_some_of (filter (is_at schema root.0) (mutations_in schema book t.mutations)) ≡ b → prepared_at cs k ≡ None) [
+        elim (is_some_of (filter (is_at schema root.0) (mutations_in schema slot_state t.mutations))) as (λ b. is_some_of (filter (is_at schema root.0) (mutations_in schema slot_state t.mutations)) ≡ b → prepared_at cs k ≡ None) [
           | true ↦ λ some. (none_kept root.0 root.1 k root.2 some).0
-          | false ↦ λ none. absurd (off (row_stays root.0 root.1 k root.2 (none_of (filter (is_at schema root.0) (mutations_in schema book t.mutations)) none)))
+          | false ↦ λ none. absurd (off (row_stays root.0 root.1 k root.2 (none_of (filter (is_at schema root.0) (mutations_in schema slot_state t.mutations)) none)))
         ] refl
 
     -- at a key as many are prepared with the writes as without them, and as the mutations change there
@@ -377,11 +377,11 @@ module _ (schema : List Table) (rules : MeetsRules schema) (m : Machine) (reache
         omega arith
 
     -- with the writes prepared there are as many versions as the machine counts
-    pub live_prepared : live (with_writes txn ws cs) ≡ live_with schema m.log m.transactions 0 (horizon_of m) (mutations_in schema book t.mutations)
+    pub live_prepared : live (with_writes txn ws cs) ≡ live_with schema m.log m.transactions 0 (horizon_of m) (mutations_in schema slot_state t.mutations)
     live_prepared =
-        let its : count_changes schema (database_of schema m.log) (mutations_in schema book t.mutations) ≡ length its_changes =
-        ap (λ (db : List TableRow). count_changes schema db (mutations_in schema book t.mutations)) (sym all_made)
-        ∙ ap (λ (db : List TableRow). length (changes_between schema 0 made.0 db)) (after_is schema made.0 after (mutations_in schema book t.mutations) applies) in
+        let its : count_changes schema (database_of schema m.log) (mutations_in schema slot_state t.mutations) ≡ length its_changes =
+        ap (λ (db : List TableRow). count_changes schema db (mutations_in schema slot_state t.mutations)) (sym all_made)
+        ∙ ap (λ (db : List TableRow). length (changes_between schema 0 made.0 db)) (after_is schema made.0 after (mutations_in schema slot_state t.mutations) applies) in
         let counted = counted_length schema rules m cs reached kept in
         live_by_keys schema (with_writes txn ws cs) (in_order_with_writes txn ws cs kept.keys) (coded_with_writes schema txn ws cs writes_coded kept.coded) (counted_changes schema rules m cs reached kept ++ its_changes)
         (all_append (IsOfKey schema) (counted_changes schema rules m cs reached kept) its_changes (all_coded schema rules m cs reached kept) (coded_between schema 0 made.0 after made_typed after_typed)) each_prepared

@@ -20,7 +20,7 @@ use Rattle.span_keycode.proofs.KeyLaws.{begins_own_rows}
 use Rattle.span_mutate.specs.declared.mutation.CheckedMutation.{CheckedMutation}
 use Rattle.span_mutate.specs.declared.row.TableRow.{TableRow}
 use Rattle.span_mutate.specs.Rows.{begins}
-use Rattle.span_mutate.specs.Directories.{Root, is_of, root_row, directory, key_len}
+use Rattle.span_mutate.specs.Directories.{Root, is_in_directory, root_row, directory, key_len}
 use Rattle.span_mutate.specs.Typed.{IsTyped, AreTyped, IsTypedMutation}
 use Rattle.span_mutate.proofs.Begins.{both_make, number_itself, taken_begins}
 use Rattle.span_mutate.proofs.Families.{root_is_table}
@@ -48,7 +48,7 @@ first_of_front (m ∷ ms) ns h = refl
 
 -- a row whose coding begins with that of the root row is in its directory
 pub in_directory : (schema : List Table) → MeetsRules schema → (root : Root) → IsCodedRoot schema root → (r : TableRow) → IsTyped schema r → begins_with (code_of schema r) (key_code schema root.table root.key) ≡ true
-    → is_of schema root r.table r.key ≡ true
+    → is_in_directory schema root r.table r.key ≡ true
 in_directory schema rules root is r typed front =
     let rest : List ℕ = drop (length (key_code schema root.table root.key)) (code_of schema r) in
     let whole : code_of schema r ≡ key_code schema root.table root.key ++ rest = sym (begins_front (code_of schema r) (key_code schema root.table root.key) front) in
@@ -61,12 +61,12 @@ in_directory schema rules root is r typed front =
 pub find_in_directory : (schema : List Table) → MeetsRules schema → (root : Root) → IsCodedRoot schema root → (k : List ℕ) → is_under schema root k ≡ true → (db : List TableRow) → AreTyped schema db
     → find (is_coded schema k) (directory schema root db) ≡ find (is_coded schema k) db
 find_in_directory schema rules root is k under [] typed = refl
-find_in_directory schema rules root is k under (r ∷ db) typed = cases (is_of schema root r.table r.key) (is_coded schema k r) refl refl (find_in_directory schema rules root is k under db typed.1)
+find_in_directory schema rules root is k under (r ∷ db) typed = cases (is_in_directory schema root r.table r.key) (is_coded schema k r) refl refl (find_in_directory schema rules root is k under db typed.1)
   where
     of_root : TableRow → Bool
-    of_root = λ (q : TableRow). is_of schema root q.table q.key
+    of_root = λ (q : TableRow). is_in_directory schema root q.table q.key
 
-    cases : (a b : Bool) → is_of schema root r.table r.key ≡ a → is_coded schema k r ≡ b → find (is_coded schema k) (directory schema root db) ≡ find (is_coded schema k) db
+    cases : (a b : Bool) → is_in_directory schema root r.table r.key ≡ a → is_coded schema k r ≡ b → find (is_coded schema k) (directory schema root db) ≡ find (is_coded schema k) db
         → find (is_coded schema k) (directory schema root (r ∷ db)) ≡ find (is_coded schema k) (r ∷ db)
     cases true b e f again = ap (find (is_coded schema k)) (filter_yes of_root r db e) ∙ ap (λ (o : Option TableRow). cond (is_coded schema k r) (Some r) o) again
     cases false true e f again =

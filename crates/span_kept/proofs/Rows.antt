@@ -21,8 +21,8 @@ use Rattle.span_shard.specs.Shard.{versions_at, prepared_at, row_now, end_of_tim
 use Rattle.span_shard.proofs.Undo.{IsOpenFor}
 use Rattle.span_machine.specs.declared.transaction.Commit.{Commit}
 use Rattle.span_machine.specs.declared.transaction.OpenTransaction.{OpenTransaction}
-use Rattle.span_machine.specs.declared.transaction.Outcome.{Outcome}
-use Rattle.span_machine.specs.declared.transaction.Outcome.TheVariants as outcome
+use Rattle.span_machine.specs.declared.transaction.Decision.{Decision}
+use Rattle.span_machine.specs.declared.transaction.Decision.TheVariants as decision
 use Rattle.span_machine.specs.Tables.{upto, mutations_of, tables}
 use Rattle.span_machine.specs.Machine.{Machine, is_at}
 use Rattle.span_laws.proofs.Tests.{not_both}
@@ -172,10 +172,10 @@ row_now_of_tables schema rules m cs root is k under db reached kept typed empty 
 
 -- ---- whose the prepared write of a key is
 
-open_under : (schema : List Table) (root : Root) (k : List ℕ) (h : ℕ) (cs : List Commit) (vs : List Version) (p : Option PreparedWrite) (t : OpenTransaction) (o : Outcome) → IsKeptUnder schema root k h cs vs p t o → IsOpenFor t.number p
-open_under schema root k h cs vs p t outcome.Undecided is = open_of_put t.number _ _ p is.0.put
-open_under schema root k h cs vs p t outcome.Aborted is = open_of_put t.number _ _ p is.0.put
-open_under schema root k h cs vs p t (outcome.Committed ts) is = open_of_put t.number _ _ p is.put.put
+open_under : (schema : List Table) (root : Root) (k : List ℕ) (h : ℕ) (cs : List Commit) (vs : List Version) (p : Option PreparedWrite) (t : OpenTransaction) (o : Decision) → IsKeptUnder schema root k h cs vs p t o → IsOpenFor t.number p
+open_under schema root k h cs vs p t decision.Undecided is = open_of_put t.number _ _ p is.0.put
+open_under schema root k h cs vs p t decision.Aborted is = open_of_put t.number _ _ p is.0.put
+open_under schema root k h cs vs p t (decision.Committed ts) is = open_of_put t.number _ _ p is.put.put
 
 not_of : (n txn : ℕ) (p : Option PreparedWrite) → IsOpenFor n p → n ≢ txn → IsNotOf txn p
 not_of n txn None is off = tt
@@ -184,7 +184,7 @@ not_of n txn (Some w) is off = λ same. off (sym is ∙ same)
 -- what is prepared at a key is of no other transaction than the one that claims it
 pub not_of_others : (schema : List Table) (root : Root) (k : List ℕ) (h : ℕ) (cs : List Commit) (vs : List Version) (p : Option PreparedWrite) (us : List OpenTransaction) (txn : ℕ) → IsKeptBy schema root k h cs vs p us → AllByRecursion (λ u. u.number ≢ txn) us → IsNotOf txn p
 not_of_others schema root k h cs vs p [] txn is off = subst (IsNotOf txn) (sym is.0) tt
-not_of_others schema root k h cs vs p (u ∷ us) txn is off = not_of u.number txn p (open_under schema root k h cs vs p u u.outcome is) off.0
+not_of_others schema root k h cs vs p (u ∷ us) txn is off = not_of u.number txn p (open_under schema root k h cs vs p u u.decision is) off.0
 
 -- the transactions that claim a directory have other numbers than one that does not
 pub others_apart : (schema : List Table) (m : Machine) → IsReached schema m → (root : Root) (test : OpenTransaction → Bool) (t : OpenTransaction) → find test m.transactions ≡ Some t → claims schema root 0 t ≡ false

@@ -32,10 +32,10 @@ use Rattle.span_shard.specs.Rows.{code_of, is_coded, row_coded}
 use Rattle.span_shard.specs.Versions.{row_at}
 use Rattle.span_shard.specs.Shard.{KeyRow, AreInOrder, is_key, versions_of, versions_at, prepared_at, seen_at, is_within, snapshot}
 use Rattle.span_shard.proofs.Bytes.{bytes_total, same_bytes, bytes_same}
-use Rattle.span_machine.specs.declared.slot.Book.{Book}
+use Rattle.span_machine.specs.declared.slot.SlotState.{SlotState}
 use Rattle.span_machine.specs.declared.transaction.OpenTransaction.{OpenTransaction}
-use Rattle.span_machine.specs.declared.transaction.Outcome.{Outcome}
-use Rattle.span_machine.specs.declared.transaction.Outcome.TheVariants as outcome
+use Rattle.span_machine.specs.declared.transaction.Decision.{Decision}
+use Rattle.span_machine.specs.declared.transaction.Decision.TheVariants as decision
 use Rattle.span_machine.specs.declared.transaction.Prepared.{Prepared}
 use Rattle.span_machine.specs.Tables.{upto, mutations_of, tables}
 use Rattle.span_mutate.proofs.TypedRows.{typed_stay}
@@ -170,11 +170,11 @@ module _ (schema : List Table) (rules : MeetsRules schema) (m : Machine) (cs : L
       ap (λ (vs : List Version). row_at vs s) has.versions ∙ row_kept_above (horizon_of m) s (versions.made schema root k commits) high
       ∙ row_of_tables schema rules m reached root is_root k under s (row_at (versions.made schema root k commits) s) db typed (now.0, ap (λ l. apply schema [] (changes_at schema root l)) same ∙ now.1, now.2) made
 
-  row_under : (root : Root) (is_root : IsCodedRoot schema root) (k : List ℕ) (under : is_under schema root k ≡ true) (u : OpenTransaction) (o : Outcome) → u.outcome ≡ o → IsIn u m.transactions → claims schema root 0 u ≡ true
+  row_under : (root : Root) (is_root : IsCodedRoot schema root) (k : List ℕ) (under : is_under schema root k ≡ true) (u : OpenTransaction) (o : Decision) → u.decision ≡ o → IsIn u m.transactions → claims schema root 0 u ≡ true
       → IsKeptUnder schema root k (horizon_of m) (commits_at schema root m.log) (versions_at cs k) (prepared_at cs k) u o → row_at (versions_at cs k) s ≡ row_coded schema db k
-  row_under root is_root k under u outcome.Undecided e at is h = row_seen root is_root k under (commits_at schema root m.log) h.1 refl
-  row_under root is_root k under u outcome.Aborted e at is h = row_seen root is_root k under (commits_at schema root m.log) h.1 refl
-  row_under root is_root k under u (outcome.Committed ts) e at is h =
+  row_under root is_root k under u decision.Undecided e at is h = row_seen root is_root k under (commits_at schema root m.log) h.1 refl
+  row_under root is_root k under u decision.Aborted e at is h = row_seen root is_root k under (commits_at schema root m.log) h.1 refl
+  row_under root is_root k under u (decision.Committed ts) e at is h =
       let upto_ts : AllByRecursion (λ (p : Prepared). p.timestamp ≤ ts) u.prepared = subst (λ o. IsUpto o u.prepared) e (all_in (IsHolding _) m.transactions u at reached.holding).timely in
       let later : s < ts = late s ts u.prepared (first_true (is_prepared_at 0 u) (is_some_of _) is) (all_in (IsAbove s 0) m.transactions u at above) upto_ts in
       row_seen root is_root k under h.front h.rows
@@ -188,7 +188,7 @@ module _ (schema : List Table) (rules : MeetsRules schema) (m : Machine) (cs : L
         | [] ↦ λ e h. row_seen root is_root k under (commits_at schema root m.log) h.1 refl
         | u ∷ us ↦ λ e h.
             let pass : AllByRecursion (λ x. claims schema root 0 x ≡ true) (u ∷ us) = subst (AllByRecursion (λ x. claims schema root 0 x ≡ true)) e (all_pass (claims schema root 0) m.transactions) in
-            row_under root is_root k under u u.outcome refl (kept_in (claims schema root 0) m.transactions u (0, ap (λ l. slice_get l 0) e)) pass.0 h
+            row_under root is_root k under u u.decision refl (kept_in (claims schema root 0) m.transactions u (0, ap (λ l. slice_get l 0) e)) pass.0 h
       ] refl (kept.kept root is_root k under)
 
   row_is_tables : (k : List ℕ) → IsCodedCoding schema k → row_at (versions_at cs k) s ≡ row_coded schema db k
@@ -353,13 +353,13 @@ module _ (schema : List Table) (rules : MeetsRules schema) (m : Machine) (cs : L
     snapshot_rows n family_is = record { rows = rows_from cs; typed = rows_typed cs; entries_are = entries_are cs all_seen; of_table = family_rows n family_is }
 
 -- a snapshot that a scan makes at a safe timestamp, not below the horizon, has the rows of the tables
-pub snapshot_when_safe : (schema : List Table) → MeetsRules schema → (m : Machine) (cs : List KeyVersions) (s : ℕ) (book : Book) → IsReached schema m → AreKept schema m cs → is_safe m 0 book s ≡ true → horizon_of m ≤ s → (db : List TableRow) → tables schema m.log s ≡ Ok db
+pub snapshot_when_safe : (schema : List Table) → MeetsRules schema → (m : Machine) (cs : List KeyVersions) (s : ℕ) (slot_state : SlotState) → IsReached schema m → AreKept schema m cs → is_safe m 0 slot_state s ≡ true → horizon_of m ≤ s → (db : List TableRow) → tables schema m.log s ≡ Ok db
     → (n : ℕ) → HasRowsOf schema n db (snapshot (family (root_of schema n)) s cs)
-snapshot_when_safe schema rules m cs s book reached kept safe high db made n =
+snapshot_when_safe schema rules m cs s slot_state reached kept safe high db made n =
     let above : AllByRecursion (IsAbove s 0) m.transactions =
     all_true (IsAbove s 0) (λ t. list_all (λ p. not (p.slot == 0) || nat_lt s p.timestamp) t.prepared)
     (λ t e. all_true (λ (p : Prepared). p.slot ≡ 0 → s < p.timestamp) (λ p. not (p.slot == 0) || nat_lt s p.timestamp) (λ p e same. above_by p.slot s p.timestamp e same) t.prepared e)
-    m.transactions (second_true (nat_le s book.floor) _ safe) in
+    m.transactions (second_true (nat_le s slot_state.floor) _ safe) in
     let is_db : IsDatabase schema db = apply-database schema rules (mutations_of (upto m.log s)) [] db (empty_database schema) (keyed_upto schema m.log s reached.by_schema.log) made in
     let typed : AreTyped schema db = typed_stay schema [] (mutations_of (upto m.log s)) db tt (typed_upto schema m.log s reached.by_schema.log) made in
     snapshot_rows schema rules m cs s reached kept above high db is_db typed made (root_of schema n) n refl

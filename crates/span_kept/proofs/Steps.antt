@@ -16,16 +16,16 @@ use Rattle.span_shard.specs.KeyVersions.{KeyVersions}
 use Rattle.span_shard.specs.Shard.{versions_at, prepared_at}
 use Rattle.span_shard.proofs.Undo.{IsOpenFor}
 use Rattle.span_query.specs.declared.query.Statement.{Statement}
-use Rattle.span_machine.specs.declared.slot.Book.{Book}
+use Rattle.span_machine.specs.declared.slot.SlotState.{SlotState}
 use Rattle.span_machine.specs.declared.step.Step.{Step}
 use Rattle.span_machine.specs.declared.step.Step.TheVariants.{Begin, Prepare, Decide, Apply, Advance, Trim, Open, Scan, Finish, Close}
 use Rattle.span_machine.specs.declared.step.Verdict.{Verdict}
 use Rattle.span_machine.specs.declared.transaction.Commit.{Commit}
 use Rattle.span_machine.specs.declared.transaction.OpenTransaction.{OpenTransaction}
-use Rattle.span_machine.specs.declared.transaction.Outcome.{Outcome}
-use Rattle.span_machine.specs.declared.transaction.Outcome.TheVariants as outcome
-use Rattle.span_machine.specs.Machine.{Machine, Answer, answer, start, begin, begun, decide, advance, open_query, scan, finish, close, is_transaction, is_undecided, is_prepared_at, is_all_prepared, is_prepared_for, commit_timestamp, commit_of, committed, aborted, with_outcome, with_last, coordinator_of, risen, if_some, changed_first, without_first, refused}
-use Rattle.span_laws.proofs.Causes.{may_commit, is_undecided_outcome}
+use Rattle.span_machine.specs.declared.transaction.Decision.{Decision}
+use Rattle.span_machine.specs.declared.transaction.Decision.TheVariants as decision
+use Rattle.span_machine.specs.Machine.{Machine, Answer, answer, start, begin, begun, decide, advance, open_query, scan, finish, close, is_transaction, is_undecided, is_prepared_at, is_all_prepared, is_prepared_for, commit_timestamp, commit_of, committed, aborted, with_decision, with_last, coordinator_slot, with_risen_floor, if_some, changed_first, without_first, refused}
+use Rattle.span_laws.proofs.Causes.{may_commit, undecided_is}
 use Rattle.span_laws.proofs.Tests.{second_true, both_of}
 use Rattle.span_laws.proofs.Stability.{is_some_of}
 use Rattle.span_laws.proofs.InPlace.{commits_at, claims}
@@ -48,8 +48,8 @@ open_of_put txn before after None put = tt
 open_of_put txn before after (Some w) put = put.0
 
 -- its only claimer was undecided and is committed
-pending_of : (schema : List Table) (root : Root) (k : List ℕ) (h : ℕ) (cs : List Commit) (vs : List Version) (p : Option PreparedWrite) (t : OpenTransaction) (ts : ℕ) → IsKeptUnder schema root k h cs vs p t outcome.Undecided
-    → IsPending schema root k h (cs ++ commit_of ts t ∷ []) vs p (with_outcome (outcome.Committed ts) t) ts
+pending_of : (schema : List Table) (root : Root) (k : List ℕ) (h : ℕ) (cs : List Commit) (vs : List Version) (p : Option PreparedWrite) (t : OpenTransaction) (ts : ℕ) → IsKeptUnder schema root k h cs vs p t decision.Undecided
+    → IsPending schema root k h (cs ++ commit_of ts t ∷ []) vs p (with_decision (decision.Committed ts) t) ts
 pending_of schema root k h cs vs p t ts is = record { front = cs; whole = refl; put = is.0; rows = is.1 }
 
 -- the same log, the same transactions and the same horizon
@@ -66,21 +66,21 @@ kept_same schema m n cs kept log ts horizon = record {
 
 -- ---- the horizon
 
-pub horizon_set : (books : List Book) (slot : ℕ) (old new : Book) → slice_get books slot ≡ Some old → new.horizon ≡ old.horizon → horizon_in (slice_set books slot new) ≡ horizon_in books
+pub horizon_set : (slots : List SlotState) (slot : ℕ) (old new : SlotState) → slice_get slots slot ≡ Some old → new.horizon ≡ old.horizon → horizon_in (slice_set slots slot new) ≡ horizon_in slots
 horizon_set [] slot old new here same = refl
-horizon_set (b ∷ books) zero old new here same = same ∙ ap (λ (o : Option Book). if_some o 0 (λ (c : Book). c.horizon)) (sym here)
-horizon_set (b ∷ books) (suc slot) old new here same = refl
+horizon_set (b ∷ slots) zero old new here same = same ∙ ap (λ (o : Option SlotState). if_some o 0 (λ (c : SlotState). c.horizon)) (sym here)
+horizon_set (b ∷ slots) (suc slot) old new here same = refl
 
-pub horizon_last : (books : List Book) (slot ts : ℕ) → horizon_in (with_last books slot ts) ≡ horizon_in books
-horizon_last books slot ts = elim (slice_get books slot) as (λ o. slice_get books slot ≡ o → horizon_in (if_some o books (λ book. slice_set books slot (record book { last = max book.last ts }))) ≡ horizon_in books) [
+pub horizon_last : (slots : List SlotState) (slot ts : ℕ) → horizon_in (with_last slots slot ts) ≡ horizon_in slots
+horizon_last slots slot ts = elim (slice_get slots slot) as (λ o. slice_get slots slot ≡ o → horizon_in (if_some o slots (λ slot_state. slice_set slots slot (record slot_state { last = max slot_state.last ts }))) ≡ horizon_in slots) [
   | None ↦ λ e. refl
-  | Some book ↦ λ e. horizon_set books slot book (record book { last = max book.last ts }) e refl
+  | Some slot_state ↦ λ e. horizon_set slots slot slot_state (record slot_state { last = max slot_state.last ts }) e refl
 ] refl
 
-horizon_risen : (books : List Book) (slot q : ℕ) (interval : Interval) (book : Book) → slice_get books slot ≡ Some book → horizon_in (slice_set books slot (risen book q interval)) ≡ horizon_in books
-horizon_risen books slot q interval book here = elim (nat_lt book.floor q && nat_le q interval.latest) as (λ v. horizon_in (slice_set books slot (cond v (record book { floor = q }) book)) ≡ horizon_in books) [
-  | true ↦ horizon_set books slot book (record book { floor = q }) here refl
-  | false ↦ horizon_set books slot book book here refl
+horizon_risen : (slots : List SlotState) (slot q : ℕ) (interval : Interval) (slot_state : SlotState) → slice_get slots slot ≡ Some slot_state → horizon_in (slice_set slots slot (with_risen_floor slot_state q interval)) ≡ horizon_in slots
+horizon_risen slots slot q interval slot_state here = elim (nat_lt slot_state.floor q && nat_le q interval.latest) as (λ v. horizon_in (slice_set slots slot (cond v (record slot_state { floor = q }) slot_state)) ≡ horizon_in slots) [
+  | true ↦ horizon_set slots slot slot_state (record slot_state { floor = q }) here refl
+  | false ↦ horizon_set slots slot slot_state slot_state here refl
 ]
 
 -- after a step that leaves the versions, they are kept; of a Prepare, an Apply and a Trim this says nothing
@@ -98,7 +98,7 @@ KeepsVersions schema cs (Close query) a = AreKept schema a.1 cs
 
 module _ (schema : List Table) (m : Machine) (reached : IsReached schema m) (cs : List KeyVersions) (kept : AreKept schema m cs) where
   -- what is kept at a key that the found transaction claims
-  pub kept_under : (root : Root) (is_root : IsCodedRoot schema root) (k : List ℕ) (under : is_under schema root k ≡ true) (test : OpenTransaction → Bool) (t : OpenTransaction) (o : Outcome) → find test m.transactions ≡ Some t → claims schema root 0 t ≡ true → t.outcome ≡ o
+  pub kept_under : (root : Root) (is_root : IsCodedRoot schema root) (k : List ℕ) (under : is_under schema root k ≡ true) (test : OpenTransaction → Bool) (t : OpenTransaction) (o : Decision) → find test m.transactions ≡ Some t → claims schema root 0 t ≡ true → t.decision ≡ o
       → IsKeptUnder schema root k (horizon_of m) (commits_at schema root m.log) (versions_at cs k) (prepared_at cs k) t o
   kept_under root is_root k under test t o found is e =
       subst (IsKeptUnder schema root k (horizon_of m) (commits_at schema root m.log) (versions_at cs k) (prepared_at cs k) t) e
@@ -110,33 +110,33 @@ module _ (schema : List Table) (m : Machine) (reached : IsReached schema m) (cs 
     used = kept.used;
     coded = kept.coded;
     kept = λ root is_root k under. subst (IsKeptBy schema root k (horizon_of m) (commits_at schema root m.log) (versions_at cs k) (prepared_at cs k))
-        (sym (filter-append (claims schema root 0) m.transactions ((record { owner = owner; number = m.next_transaction; mutations = ms; outcome = outcome.Undecided; prepared = [] }) ∷ []) ∙ append-nil _)) (kept.kept root is_root k under);
+        (sym (filter-append (claims schema root 0) m.transactions ((record { owner = owner; number = m.next_transaction; mutations = ms; decision = decision.Undecided; prepared = [] }) ∷ []) ∙ append-nil _)) (kept.kept root is_root k under);
   }
 
   decided_at : (root : Root) (is_root : IsCodedRoot schema root) (k : List ℕ) (under : is_under schema root k ≡ true) (owner txn ts : ℕ) (t : OpenTransaction) → find (is_transaction owner txn) m.transactions ≡ Some t → is_undecided t ≡ true → is_all_prepared schema m t ≡ true
-      → IsKeptBy schema root k (horizon_of m) (commits_at schema root (m.log ++ commit_of ts t ∷ [])) (versions_at cs k) (prepared_at cs k) (filter (claims schema root 0) (changed_first (is_transaction owner txn) (with_outcome (outcome.Committed ts)) m.transactions))
+      → IsKeptBy schema root k (horizon_of m) (commits_at schema root (m.log ++ commit_of ts t ∷ [])) (versions_at cs k) (prepared_at cs k) (filter (claims schema root 0) (changed_first (is_transaction owner txn) (with_decision (decision.Committed ts)) m.transactions))
   decided_at root is_root k under owner txn ts t found open_still ready =
       let them = claimers_of schema m reached root (coded_root schema root is_root) (is_transaction owner txn) t found in
       elim (is_some_of (filter (is_at schema root) t.mutations)) as (λ v. is_some_of (filter (is_at schema root) t.mutations) ≡ v
-      → IsKeptBy schema root k (horizon_of m) (commits_at schema root (m.log ++ commit_of ts t ∷ [])) (versions_at cs k) (prepared_at cs k) (filter (claims schema root 0) (changed_first (is_transaction owner txn) (with_outcome (outcome.Committed ts)) m.transactions))) [
+      → IsKeptBy schema root k (horizon_of m) (commits_at schema root (m.log ++ commit_of ts t ∷ [])) (versions_at cs k) (prepared_at cs k) (filter (claims schema root 0) (changed_first (is_transaction owner txn) (with_decision (decision.Committed ts)) m.transactions))) [
         | false ↦ λ e.
             let same : commits_at schema root (m.log ++ commit_of ts t ∷ []) ≡ commits_at schema root m.log =
             commits_at-push schema root m.log (commit_of ts t) ∙ ap (λ b. commits_at schema root m.log ++ cond b (commit_of ts t ∷ []) []) e ∙ append-nil _ in
             let off : claims schema root 0 t ≡ false = and_false (is_prepared_at 0 t) (is_some_of (filter (is_at schema root) t.mutations)) e in
-            subst (λ l. IsKeptBy schema root k (horizon_of m) l (versions_at cs k) (prepared_at cs k) (filter (claims schema root 0) (changed_first (is_transaction owner txn) (with_outcome (outcome.Committed ts)) m.transactions))) (sym same)
-            (subst (IsKeptBy schema root k (horizon_of m) (commits_at schema root m.log) (versions_at cs k) (prepared_at cs k)) (sym (them.away (with_outcome (outcome.Committed ts)) off off)) (kept.kept root is_root k under))
+            subst (λ l. IsKeptBy schema root k (horizon_of m) l (versions_at cs k) (prepared_at cs k) (filter (claims schema root 0) (changed_first (is_transaction owner txn) (with_decision (decision.Committed ts)) m.transactions))) (sym same)
+            (subst (IsKeptBy schema root k (horizon_of m) (commits_at schema root m.log) (versions_at cs k) (prepared_at cs k)) (sym (them.away (with_decision (decision.Committed ts)) off off)) (kept.kept root is_root k under))
         | true ↦ λ e.
             let all : list_all (is_prepared_for schema m t) t.mutations ≡ true = second_true (not (length t.prepared == 0)) (list_all (is_prepared_for schema m t) t.mutations) ready in
             let ready_at = prepared_root schema root (coded_root schema root is_root) m 0 t (reached.placed root (coded_root schema root is_root)).only t.mutations e all in
             let is : claims schema root 0 t ≡ true = both_of (is_prepared_at 0 t) (is_some_of (filter (is_at schema root) t.mutations)) ready_at.0 e in
             let more : commits_at schema root (m.log ++ commit_of ts t ∷ []) ≡ commits_at schema root m.log ++ commit_of ts t ∷ [] =
             commits_at-push schema root m.log (commit_of ts t) ∙ ap (λ b. commits_at schema root m.log ++ cond b (commit_of ts t ∷ []) []) e in
-            let now : filter (claims schema root 0) (changed_first (is_transaction owner txn) (with_outcome (outcome.Committed ts)) m.transactions) ≡ with_outcome (outcome.Committed ts) t ∷ [] =
-            them.changed (with_outcome (outcome.Committed ts)) is ∙ ap (λ b. cond b (with_outcome (outcome.Committed ts) t ∷ []) []) is in
+            let now : filter (claims schema root 0) (changed_first (is_transaction owner txn) (with_decision (decision.Committed ts)) m.transactions) ≡ with_decision (decision.Committed ts) t ∷ [] =
+            them.changed (with_decision (decision.Committed ts)) is ∙ ap (λ b. cond b (with_decision (decision.Committed ts) t ∷ []) []) is in
             subst (IsKeptBy schema root k (horizon_of m) (commits_at schema root (m.log ++ commit_of ts t ∷ [])) (versions_at cs k) (prepared_at cs k)) (sym now)
-            (subst (λ l. IsPending schema root k (horizon_of m) l (versions_at cs k) (prepared_at cs k) (with_outcome (outcome.Committed ts) t) ts) (sym more)
+            (subst (λ l. IsPending schema root k (horizon_of m) l (versions_at cs k) (prepared_at cs k) (with_decision (decision.Committed ts) t) ts) (sym more)
             (pending_of schema root k (horizon_of m) (commits_at schema root m.log) (versions_at cs k) (prepared_at cs k) t ts
-            (kept_under root is_root k under (is_transaction owner txn) t outcome.Undecided found is (is_undecided_outcome t.outcome open_still))))
+            (kept_under root is_root k under (is_transaction owner txn) t decision.Undecided found is (undecided_is t.decision open_still))))
       ] refl
 
   -- a commit is in the log before its versions are
@@ -146,8 +146,8 @@ module _ (schema : List Table) (m : Machine) (reached : IsReached schema m) (cs 
     used = kept.used;
     coded = kept.coded;
     kept = λ root is_root k under.
-        subst (λ h. IsKeptBy schema root k h (commits_at schema root (m.log ++ commit_of ts t ∷ [])) (versions_at cs k) (prepared_at cs k) (filter (claims schema root 0) (changed_first (is_transaction owner txn) (with_outcome (outcome.Committed ts)) m.transactions)))
-        (sym (horizon_last m.books (coordinator_of t.prepared) ts)) (decided_at root is_root k under owner txn ts t found open_still ready);
+        subst (λ h. IsKeptBy schema root k h (commits_at schema root (m.log ++ commit_of ts t ∷ [])) (versions_at cs k) (prepared_at cs k) (filter (claims schema root 0) (changed_first (is_transaction owner txn) (with_decision (decision.Committed ts)) m.transactions)))
+        (sym (horizon_last m.slots (coordinator_slot t.prepared) ts)) (decided_at root is_root k under owner txn ts t found open_still ready);
   }
 
   abort_at : (root : Root) (is_root : IsCodedRoot schema root) (k : List ℕ) (under : is_under schema root k ≡ true) (owner txn : ℕ) (t : OpenTransaction) → find (is_transaction owner txn) m.transactions ≡ Some t → is_undecided t ≡ true
@@ -155,18 +155,18 @@ module _ (schema : List Table) (m : Machine) (reached : IsReached schema m) (cs 
   abort_at root is_root k under owner txn t found open_still =
       let them = claimers_of schema m reached root (coded_root schema root is_root) (is_transaction owner txn) t found in
       elim (length t.prepared == 0) as (λ v. (length t.prepared == 0) ≡ v
-      → IsKeptBy schema root k (horizon_of m) (commits_at schema root m.log) (versions_at cs k) (prepared_at cs k) (filter (claims schema root 0) (cond v (without_first (is_transaction owner txn) m.transactions) (changed_first (is_transaction owner txn) (with_outcome outcome.Aborted) m.transactions)))) [
+      → IsKeptBy schema root k (horizon_of m) (commits_at schema root m.log) (versions_at cs k) (prepared_at cs k) (filter (claims schema root 0) (cond v (without_first (is_transaction owner txn) m.transactions) (changed_first (is_transaction owner txn) (with_decision decision.Aborted) m.transactions)))) [
         | true ↦ λ e.
             let off : claims schema root 0 t ≡ false = false_and (is_prepared_at 0 t) (is_some_of (filter (is_at schema root) t.mutations)) (none_left 0 t.prepared e) in
             subst (IsKeptBy schema root k (horizon_of m) (commits_at schema root m.log) (versions_at cs k) (prepared_at cs k)) (sym (them.away_gone off)) (kept.kept root is_root k under)
         | false ↦ λ e. elim (claims schema root 0 t) as (λ v. claims schema root 0 t ≡ v
-            → IsKeptBy schema root k (horizon_of m) (commits_at schema root m.log) (versions_at cs k) (prepared_at cs k) (filter (claims schema root 0) (changed_first (is_transaction owner txn) (with_outcome outcome.Aborted) m.transactions))) [
-              | false ↦ λ off. subst (IsKeptBy schema root k (horizon_of m) (commits_at schema root m.log) (versions_at cs k) (prepared_at cs k)) (sym (them.away (with_outcome outcome.Aborted) off off)) (kept.kept root is_root k under)
+            → IsKeptBy schema root k (horizon_of m) (commits_at schema root m.log) (versions_at cs k) (prepared_at cs k) (filter (claims schema root 0) (changed_first (is_transaction owner txn) (with_decision decision.Aborted) m.transactions))) [
+              | false ↦ λ off. subst (IsKeptBy schema root k (horizon_of m) (commits_at schema root m.log) (versions_at cs k) (prepared_at cs k)) (sym (them.away (with_decision decision.Aborted) off off)) (kept.kept root is_root k under)
               | true ↦ λ is.
-                  let now : filter (claims schema root 0) (changed_first (is_transaction owner txn) (with_outcome outcome.Aborted) m.transactions) ≡ with_outcome outcome.Aborted t ∷ [] =
-                  them.changed (with_outcome outcome.Aborted) is ∙ ap (λ b. cond b (with_outcome outcome.Aborted t ∷ []) []) is in
+                  let now : filter (claims schema root 0) (changed_first (is_transaction owner txn) (with_decision decision.Aborted) m.transactions) ≡ with_decision decision.Aborted t ∷ [] =
+                  them.changed (with_decision decision.Aborted) is ∙ ap (λ b. cond b (with_decision decision.Aborted t ∷ []) []) is in
                   subst (IsKeptBy schema root k (horizon_of m) (commits_at schema root m.log) (versions_at cs k) (prepared_at cs k)) (sym now)
-                  (kept_under root is_root k under (is_transaction owner txn) t outcome.Undecided found is (is_undecided_outcome t.outcome open_still))
+                  (kept_under root is_root k under (is_transaction owner txn) t decision.Undecided found is (undecided_is t.decision open_still))
             ] refl
       ] refl
 
@@ -189,18 +189,18 @@ module _ (schema : List Table) (m : Machine) (reached : IsReached schema m) (cs 
   kept_ends u = record {
     refuses = kept_refused;
     begins = λ owner ms accepted. kept_begun owner ms;
-    prepares = λ owner txn slot t book found here accepted well room low. tt;
+    prepares = λ owner txn slot t slot_state found here accepted well room low. tt;
     commits = λ owner txn interval t found accepted.
         let may = may_commit (is_undecided t) (is_all_prepared schema m t) (nat_le timestamp_end (commit_timestamp m t interval)) accepted in
         kept_decided owner txn (commit_timestamp m t interval) t found may.0 may.1;
     aborts = λ owner txn interval t found open_still. kept_abandoned owner txn t found open_still;
-    applies = λ owner txn slot interval t book found here accepted. tt;
-    advances = λ slot interval book here. kept_same schema m _ cs kept refl refl (horizon_set m.books slot book _ here refl);
-    trims = λ slot h book here accepted. tt;
+    applies = λ owner txn slot interval t slot_state found here accepted. tt;
+    advances = λ slot interval slot_state here. kept_same schema m _ cs kept refl refl (horizon_set m.slots slot slot_state _ here refl);
+    trims = λ slot h slot_state here accepted. tt;
     opens = λ text params bound interval asked is accepted. kept_same schema m _ cs kept refl refl refl;
     finds_nothing = λ query leaf slot interval. kept;
-    scans = λ query leaf slot interval q book found here above safe. kept_same schema m _ cs kept refl refl (horizon_risen m.books slot q.s interval book here);
-    waits = λ query leaf slot interval q book found here. kept_same schema m _ cs kept refl refl (horizon_risen m.books slot q.s interval book here);
+    scans = λ query leaf slot interval q slot_state found here above safe. kept_same schema m _ cs kept refl refl (horizon_risen m.slots slot q.s interval slot_state here);
+    waits = λ query leaf slot interval q slot_state found here. kept_same schema m _ cs kept refl refl (horizon_risen m.slots slot q.s interval slot_state here);
     finishes = λ query q found covered. kept;
     closes = λ query q found. kept_same schema m _ cs kept refl refl refl;
   }

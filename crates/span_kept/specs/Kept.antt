@@ -25,11 +25,11 @@ use Rattle.span_shard.specs.Versions.{row_at, kept_upto}
 use Rattle.span_shard.specs.Shard.{KeyRow, versions_at, prepared_at, AreInOrder, IsInUse}
 use Rattle.span_query.specs.Rows.{Row}
 use Rattle.span_machine.specs.declared.query.Leaf.{Leaf}
-use Rattle.span_machine.specs.declared.slot.Book.{Book}
+use Rattle.span_machine.specs.declared.slot.SlotState.{SlotState}
 use Rattle.span_machine.specs.declared.transaction.Commit.{Commit}
 use Rattle.span_machine.specs.declared.transaction.OpenTransaction.{OpenTransaction}
-use Rattle.span_machine.specs.declared.transaction.Outcome.{Outcome}
-use Rattle.span_machine.specs.declared.transaction.Outcome.TheVariants as outcome
+use Rattle.span_machine.specs.declared.transaction.Decision.{Decision}
+use Rattle.span_machine.specs.declared.transaction.Decision.TheVariants as decision
 use Rattle.span_machine.specs.Meaning.{declared_row, whole_table}
 use Rattle.span_machine.specs.Tables.{tables}
 use Rattle.span_machine.specs.Kept.{after_mutations}
@@ -100,22 +100,22 @@ pub record IsPending (schema : List Table) (root : Root) (k : List ℕ) (h : ℕ
   pub rows : HasRows schema root k h front vs
 
 -- what is kept at a key of a directory that a transaction claims, by what was decided of it
-abbrev pub IsKeptUnder : List Table → Root → List ℕ → ℕ → List Commit → List Version → Option PreparedWrite → OpenTransaction → Outcome → Type 0
-IsKeptUnder schema root k h commits vs prepared t outcome.Undecided = IsPreparedBy schema root k commits t.number t.mutations prepared × HasRows schema root k h commits vs
-IsKeptUnder schema root k h commits vs prepared t outcome.Aborted = IsPreparedBy schema root k commits t.number t.mutations prepared × HasRows schema root k h commits vs
-IsKeptUnder schema root k h commits vs prepared t (outcome.Committed ts) = IsPending schema root k h commits vs prepared t ts
+abbrev pub IsKeptUnder : List Table → Root → List ℕ → ℕ → List Commit → List Version → Option PreparedWrite → OpenTransaction → Decision → Type 0
+IsKeptUnder schema root k h commits vs prepared t decision.Undecided = IsPreparedBy schema root k commits t.number t.mutations prepared × HasRows schema root k h commits vs
+IsKeptUnder schema root k h commits vs prepared t decision.Aborted = IsPreparedBy schema root k commits t.number t.mutations prepared × HasRows schema root k h commits vs
+IsKeptUnder schema root k h commits vs prepared t (decision.Committed ts) = IsPending schema root k h commits vs prepared t ts
 
 -- what is kept at a key, by the commits of its directory and the transactions that claim it
 abbrev pub IsKeptBy : List Table → Root → List ℕ → ℕ → List Commit → List Version → Option PreparedWrite → List OpenTransaction → Type 0
 IsKeptBy schema root k h commits vs prepared [] = (prepared ≡ None) × HasRows schema root k h commits vs
-IsKeptBy schema root k h commits vs prepared (t ∷ ts) = IsKeptUnder schema root k h commits vs prepared t t.outcome
+IsKeptBy schema root k h commits vs prepared (t ∷ ts) = IsKeptUnder schema root k h commits vs prepared t t.decision
 
 -- the horizon of slot 0
-abbrev pub horizon_in : List Book → ℕ
-horizon_in books = if_some (slice_get books 0) 0 (λ book. book.horizon)
+abbrev pub horizon_in : List SlotState → ℕ
+horizon_in slots = if_some (slice_get slots 0) 0 (λ slot_state. slot_state.horizon)
 
 abbrev pub horizon_of : Machine → ℕ
-horizon_of m = horizon_in m.books
+horizon_of m = horizon_in m.slots
 
 -- what is kept at a key by a machine
 abbrev pub IsKeptAt : List Table → Machine → List KeyVersions → Root → List ℕ → Type 0

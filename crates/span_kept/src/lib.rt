@@ -16,14 +16,14 @@ ghost use Rattle.span_shard.specs.Shard.{live, snapshot};
 ghost use Rattle.span_machine.specs.Machine.{Machine, is_safe};
 ghost use Rattle.span_machine.specs.Kept as kept;
 ghost use Rattle.span_machine.specs.Tables.{tables};
-ghost use Rattle.span_machine.specs.declared.slot.Book.{Book};
+ghost use Rattle.span_machine.specs.declared.slot.SlotState.{SlotState};
 ghost use Rattle.span_laws.proofs.Reached.{IsReached};
 ghost use Rattle.span_kept.specs.Kept.{AreKept, HasRowsOf, family, horizon_of};
 
 /// In every machine that a run reaches, a snapshot that the shard kept for it gives of a table's family, at a timestamp that is safe
 /// and not below the horizon, has of that table just the rows of the tables at that timestamp, in order.
 pub fn snapshots_are_tables()
-    ensures { (schema : List Table) → MeetsRules schema → (m : Machine) (cs : List KeyVersions) (s : ℕ) (book : Book) → IsReached schema m → AreKept schema m cs → is_safe m 0 book s ≡ true → horizon_of m ≤ s
+    ensures { (schema : List Table) → MeetsRules schema → (m : Machine) (cs : List KeyVersions) (s : ℕ) (slot_state : SlotState) → IsReached schema m → AreKept schema m cs → is_safe m 0 slot_state s ≡ true → horizon_of m ≤ s
         → (db : List TableRow) → tables schema m.log s ≡ Ok db → (n : ℕ) → HasRowsOf schema n db (snapshot (family (root_of schema n)) s cs) }
 {}
 

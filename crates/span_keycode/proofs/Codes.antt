@@ -14,7 +14,7 @@ use Rattle.span_value.specs.declared.value.Kind.{Kind}
 use Rattle.span_value.specs.declared.value.Kind.TheVariants.{Int as Numbers, Str as Texts, Bytes as Strings, Bool as Flags}
 use Rattle.span_schema.specs.declared.layout.KeyPart.{KeyPart}
 use Rattle.span_keycode.specs.Order.{byte_order, Decides}
-use Rattle.span_keycode.specs.Coding.{lifted, escaped, escaped_byte, bit, plain, in_direction, column_code, AreBytes, Fits, value_cmp, directed, column_cmp, AreFit, tuple_code, tuple_cmp}
+use Rattle.span_keycode.specs.Coding.{to_unsigned, escaped, escaped_byte, bit, plain, in_direction, column_code, AreBytes, Fits, value_cmp, apply_direction, column_cmp, AreFit, tuple_code, tuple_cmp}
 use Rattle.std.proofs.lemmas.Bool.{cases_order}
 use Rattle.std.proofs.Math.Nat.{mul-le-mul_right, mod-lt, pow-suc, pow-succ'}
 use Rattle.std.proofs.Math.Arith.{mod-mul}
@@ -93,18 +93,18 @@ same_front : (a : ℕ) (p q : List ℕ) (o : Ordering) → Decides p q o → Dec
 same_front a p q o d = rw (equal_is a a refl) at (decides-cons a a p q o d)
 
 -- a number moved up compares as the number itself
-pub lifted_low : (i : ℤ) → FitsSigned w64 i → lifted i < 2 ^ 64
+pub lifted_low : (i : ℤ) → FitsSigned w64 i → to_unsigned i < 2 ^ 64
 lifted_low (pos n) f = omega (arith, ints)
 lifted_low (negsuc n) f = omega (arith, ints)
 
-lifted_order : (i j : ℤ) → FitsSigned w64 i → FitsSigned w64 j → nat_cmp (lifted i) (lifted j) ≡ int_cmp i j
+lifted_order : (i j : ℤ) → FitsSigned w64 i → FitsSigned w64 j → nat_cmp (to_unsigned i) (to_unsigned j) ≡ int_cmp i j
 lifted_order (pos m) (pos n) f g = grind (arith, ints, nat_tests)
 lifted_order (pos m) (negsuc n) f g = grind (arith, ints, nat_tests)
 lifted_order (negsuc m) (pos n) f g = grind (arith, ints, nat_tests)
 lifted_order (negsuc m) (negsuc n) f g = grind (arith, ints, nat_tests)
 
-decides-signed : (i j : ℤ) → FitsSigned w64 i → FitsSigned w64 j → Decides (to_be_bytes w64 (lifted i)) (to_be_bytes w64 (lifted j)) (int_cmp i j)
-decides-signed i j f g = rw (← lifted_order i j f g) (decides-number (lifted i) (lifted j) (lifted_low i f) (lifted_low j g))
+decides-signed : (i j : ℤ) → FitsSigned w64 i → FitsSigned w64 j → Decides (to_be_bytes w64 (to_unsigned i)) (to_be_bytes w64 (to_unsigned j)) (int_cmp i j)
+decides-signed i j f g = rw (← lifted_order i j f g) (decides-number (to_unsigned i) (to_unsigned j) (lifted_low i f) (lifted_low j g))
 
 marked_less : (p q : List ℕ) → Decides (0 ∷ p) (1 ∷ q) Less
 marked_less p q = decides-less 0 1 p q refl
@@ -122,7 +122,7 @@ decides-plain k (Int i) Null f g = marked_greater _ []
 decides-plain k (Str bs) Null f g = marked_greater _ []
 decides-plain k (Bytes bs) Null f g = marked_greater _ []
 decides-plain k (Flag a) Null f g = marked_greater _ []
-decides-plain Numbers (Int i) (Int j) f g = same_front 1 (to_be_bytes w64 (lifted i)) (to_be_bytes w64 (lifted j)) (int_cmp i j) (decides-signed i j f g)
+decides-plain Numbers (Int i) (Int j) f g = same_front 1 (to_be_bytes w64 (to_unsigned i)) (to_be_bytes w64 (to_unsigned j)) (int_cmp i j) (decides-signed i j f g)
 decides-plain Texts (Str bs) (Str cs) f g = same_front 1 (escaped bs) (escaped cs) (byte_order bs cs) (decides-escaped bs cs)
 decides-plain Strings (Bytes bs) (Bytes cs) f g = same_front 1 (escaped bs) (escaped cs) (byte_order bs cs) (decides-escaped bs cs)
 decides-plain Flags (Flag a) (Flag b) f g = same_front 1 (bit a ∷ []) (bit b ∷ []) (nat_cmp (bit a) (bit b)) (decides-byte (bit a) (bit b))
@@ -166,7 +166,7 @@ escaped_bytes (suc b ∷ bs) f = (f.0, escaped_bytes bs f.1)
 
 pub plain_bytes : (k : Kind) (v : Value) → Fits k v → AreBytes (plain v)
 plain_bytes k Null f = (omega arith, tt)
-plain_bytes Numbers (Int i) f = (omega arith, high_first_bytes 8 (lifted i))
+plain_bytes Numbers (Int i) f = (omega arith, high_first_bytes 8 (to_unsigned i))
 plain_bytes Texts (Str bs) f = (omega arith, escaped_bytes bs f.1)
 plain_bytes Strings (Bytes bs) f = (omega arith, escaped_bytes bs f)
 plain_bytes Flags (Flag true) f = (omega arith, (omega arith, tt))
@@ -184,13 +184,13 @@ plain_bytes Flags (Int i) f = absurd f
 plain_bytes Flags (Str bs) f = absurd f
 plain_bytes Flags (Bytes bs) f = absurd f
 
-decides-directed : (d : Bool) (p q : List ℕ) (o : Ordering) → AreBytes p → AreBytes q → Decides p q o → Decides (in_direction d p) (in_direction d q) (directed d o)
-decides-directed false p q o s t d = d
-decides-directed true p q o s t d = decides-complement p q o s t d
+decides-apply_direction : (d : Bool) (p q : List ℕ) (o : Ordering) → AreBytes p → AreBytes q → Decides p q o → Decides (in_direction d p) (in_direction d q) (apply_direction d o)
+decides-apply_direction false p q o s t d = d
+decides-apply_direction true p q o s t d = decides-complement p q o s t d
 
 -- the law of one column
 pub decides-column : (c : KeyPart) (v w : Value) → Fits c.kind v → Fits c.kind w → Decides (column_code c v) (column_code c w) (column_cmp c v w)
-decides-column c v w f g = decides-directed c.desc (plain v) (plain w) (value_cmp v w) (plain_bytes c.kind v f) (plain_bytes c.kind w g) (decides-plain c.kind v w f g)
+decides-column c v w f g = decides-apply_direction c.desc (plain v) (plain w) (value_cmp v w) (plain_bytes c.kind v f) (plain_bytes c.kind w g) (decides-plain c.kind v w f g)
 
 pub decides-tuple : (cs : List KeyPart) (vs ws : List Value) → AreFit cs vs → AreFit cs ws → Decides (tuple_code cs vs) (tuple_code cs ws) (tuple_cmp cs vs ws)
 decides-tuple [] [] [] f g = decides-nothing

@@ -13,7 +13,7 @@ use Rattle.span_value.specs.declared.value.Kind.TheVariants.{Int as Numbers, Str
 use Rattle.span_schema.specs.declared.table.Table.{Table}
 use Rattle.span_schema.specs.declared.layout.KeyPart.{KeyPart}
 use Rattle.span_schema.specs.Numbers.{own_key_columns}
-use Rattle.span_keycode.specs.Coding.{bit, Fits, AreFit, directed, value_cmp, column_cmp, tuple_code, tuple_cmp}
+use Rattle.span_keycode.specs.Coding.{bit, Fits, AreFit, apply_direction, value_cmp, column_cmp, tuple_code, tuple_cmp}
 use Rattle.span_keycode.specs.Keys.{Level, level_code, code_of, level_cmp}
 use Rattle.span_keycode.proofs.Order.{no_front}
 use Rattle.span_keycode.proofs.LevelLaws.{AreLevels, decides-level}
@@ -90,7 +90,7 @@ exact_value Strings (Flag i) (Int j) f g h = absurd f
 exact_value Strings (Flag i) (Str j) f g h = absurd f
 exact_value Strings (Flag i) (Bytes j) f g h = absurd f
 
-exact_directed : (d : Bool) (o : Ordering) → directed d o ≡ Equal → o ≡ Equal
+exact_directed : (d : Bool) (o : Ordering) → apply_direction d o ≡ Equal → o ≡ Equal
 exact_directed false o h = h
 exact_directed true Less h = absurd (let e : Greater ≡ Equal = h in cc)
 exact_directed true Equal h = refl

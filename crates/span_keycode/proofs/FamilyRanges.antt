@@ -10,9 +10,9 @@ use Rattle.span_schema.specs.declared.layout.KeyPart.{KeyPart}
 use Rattle.span_schema.specs.Lineages.{MeetsRules}
 use Rattle.span_schema.specs.Numbers.{IsTable, own_key_columns, key_columns, root_of}
 use Rattle.span_schema.proofs.Judged.{few_tables}
-use Rattle.span_keycode.specs.declared.range.Comparison.{Comparison}
+use Rattle.span_keycode.specs.declared.range.RangeComparison.{RangeComparison}
 use Rattle.span_keycode.specs.Order.{flipped, byte_order}
-use Rattle.span_keycode.specs.Coding.{AreBytes, Fits, AreFit, lifted, escaped, bit, plain, in_direction, column_code, tuple_code, value_cmp}
+use Rattle.span_keycode.specs.Coding.{AreBytes, Fits, AreFit, to_unsigned, escaped, bit, plain, in_direction, column_code, tuple_code, value_cmp}
 use Rattle.span_keycode.specs.Keys.{own_values, key_code, IsKey}
 use Rattle.span_keycode.specs.Ranges.{low_of, high_of, holds, is_null, compares, IsWithin}
 use Rattle.span_keycode.specs.Laws.{RangeOfComparison}
@@ -30,7 +30,7 @@ turned_bytes true (b ∷ bs) f = (flipped_byte b f.0, turned_bytes true bs f.1)
 
 abbrev behind_mark : Value → List ℕ
 behind_mark Null = []
-behind_mark (Int i) = to_be_bytes w64 (lifted i)
+behind_mark (Int i) = to_be_bytes w64 (to_unsigned i)
 behind_mark (Str s) = escaped s
 behind_mark (Bytes s) = escaped s
 behind_mark (Flag b) = bit b ∷ []
@@ -58,7 +58,7 @@ null_first (Str s) v p e = absurd (let f : false ≡ true = e in cc)
 null_first (Bytes s) v p e = absurd (let f : false ≡ true = e in cc)
 null_first (Flag b) v p e = absurd (let f : false ≡ true = e in cc)
 
-compared : (op : Comparison) (w v : Value) → is_null v ≡ false → verdict (is_null w) op (value_cmp w v) ≡ compares op w v
+compared : (op : RangeComparison) (w v : Value) → is_null v ≡ false → verdict (is_null w) op (value_cmp w v) ≡ compares op w v
 compared op Null v p = refl
 compared op (Int i) v p = sym (ap (λ b. not b && holds op (value_cmp (Int i) v)) p)
 compared op (Str s) v p = sym (ap (λ b. not b && holds op (value_cmp (Str s) v)) p)
@@ -66,7 +66,7 @@ compared op (Bytes s) v p = sym (ap (λ b. not b && holds op (value_cmp (Bytes s
 compared op (Flag b) v p = sym (ap (λ n. not n && holds op (value_cmp (Flag b) v)) p)
 
 -- nothing compares with NULL
-nothing : (op : Comparison) (w : Value) → compares op w Null ≡ true → ⊥
+nothing : (op : RangeComparison) (w : Value) → compares op w Null ≡ true → ⊥
 nothing op Null e = let f : false ≡ true = e in cc
 nothing op (Int i) e = let f : false ≡ true = e in cc
 nothing op (Str s) e = let f : false ≡ true = e in cc
@@ -87,7 +87,7 @@ first_taken (suc n) w u ws us e = (heads u w us (take n ws) e).0
 
 -- the law, for a value that is not NULL
 with_value : (tables : List Table) → MeetsRules tables → (n : ℕ) (w : Value) (ws : List Value) → IsKey tables n (w ∷ ws)
-    → (t : ℕ) (c : KeyPart) (cs : List KeyPart) → root_of tables n ≡ t → own_key_columns tables t ≡ c ∷ cs → (v : Value) → Fits c.kind v → is_null v ≡ false → (op : Comparison)
+    → (t : ℕ) (c : KeyPart) (cs : List KeyPart) → root_of tables n ≡ t → own_key_columns tables t ≡ c ∷ cs → (v : Value) → Fits c.kind v → is_null v ≡ false → (op : RangeComparison)
     → IsWithin (low_of t c.desc op (t ∷ column_code c v)) (high_of t c.desc op (t ∷ column_code c v)) (key_code tables n (w ∷ ws)) ↔ (compares op w v ≡ true)
 with_value tables rules n w ws k t c cs root own v f some op =
     let split = root_split tables rules n (w ∷ ws) k in

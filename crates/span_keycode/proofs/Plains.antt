@@ -11,7 +11,7 @@ use Rattle.span_value.specs.declared.value.Kind.{Kind}
 use Rattle.span_value.specs.declared.value.Kind.TheVariants.{Int as Numbers, Str as Texts, Bytes as Strings, Bool as Flags}
 use Rattle.span_schema.specs.declared.layout.KeyPart.{KeyPart}
 use Rattle.span_keycode.specs.Order.{flipped, complement}
-use Rattle.span_keycode.specs.Coding.{lifted, escaped, bit, plain, in_direction, column_code, Fits}
+use Rattle.span_keycode.specs.Coding.{to_unsigned, escaped, bit, plain, in_direction, column_code, Fits}
 use Rattle.span_keycode.specs.Texts.{text_at}
 use Rattle.span_keycode.specs.Reads.{IsNoPlain, IsPlain, IsNoColumn, IsColumn}
 use Rattle.span_keycode.proofs.Reading.{text_again, text_spelled}
@@ -51,7 +51,7 @@ column_missed c bytes p = record {
 -- what begins no value
 nothing_first : (kind : Kind) (v : Value) (rest : List ℕ) → Fits kind v → [] ≡ plain v ++ rest → ⊥
 nothing_first kind Null rest f e = absurd (let g : [] ≡ 0 ∷ rest = e in cc)
-nothing_first kind (Int i) rest f e = absurd (let g : [] ≡ 1 ∷ (to_be_bytes w64 (lifted i) ++ rest) = e in cc)
+nothing_first kind (Int i) rest f e = absurd (let g : [] ≡ 1 ∷ (to_be_bytes w64 (to_unsigned i) ++ rest) = e in cc)
 nothing_first kind (Str bs) rest f e = absurd (let g : [] ≡ 1 ∷ (escaped bs ++ rest) = e in cc)
 nothing_first kind (Bytes bs) rest f e = absurd (let g : [] ≡ 1 ∷ (escaped bs ++ rest) = e in cc)
 nothing_first kind (Flag b) rest f e = absurd (let g : [] ≡ 1 ∷ (bit b ∷ rest) = e in cc)
@@ -64,7 +64,7 @@ heads a b xs ys e = (cc, cc)
 
 other_first : (kind : Kind) (a : ℕ) (bs : List ℕ) → a ≢ 0 → a ≢ 1 → (v : Value) (rest : List ℕ) → Fits kind v → a ∷ bs ≡ plain v ++ rest → ⊥
 other_first kind a bs p q Null rest f e = p (heads a 0 bs rest e).0
-other_first kind a bs p q (Int i) rest f e = q (heads a 1 bs (to_be_bytes w64 (lifted i) ++ rest) e).0
+other_first kind a bs p q (Int i) rest f e = q (heads a 1 bs (to_be_bytes w64 (to_unsigned i) ++ rest) e).0
 other_first kind a bs p q (Str cs) rest f e = q (heads a 1 bs (escaped cs ++ rest) e).0
 other_first kind a bs p q (Bytes cs) rest f e = q (heads a 1 bs (escaped cs ++ rest) e).0
 other_first kind a bs p q (Flag b) rest f e = q (heads a 1 bs (bit b ∷ rest) e).0
@@ -78,8 +78,8 @@ one_is_zero bs rest e = let g = (heads 1 0 bs rest e).0 in omega arith
 short_number : (bs : List ℕ) → length bs < 8 → (v : Value) (rest : List ℕ) → Fits Numbers v → 1 ∷ bs ≡ plain v ++ rest → ⊥
 short_number bs h Null rest f e = one_is_zero bs rest e
 short_number bs h (Int i) rest f e =
-    let same = (heads 1 1 bs (to_be_bytes w64 (lifted i) ++ rest) e).1 in
-    let len : length bs ≡ 8 + length rest = ap length same ∙ length-append (to_be_bytes w64 (lifted i)) rest in
+    let same = (heads 1 1 bs (to_be_bytes w64 (to_unsigned i) ++ rest) e).1 in
+    let len : length bs ≡ 8 + length rest = ap length same ∙ length-append (to_be_bytes w64 (to_unsigned i)) rest in
     absurd (omega arith)
 short_number bs h (Str cs) rest f e = absurd f
 short_number bs h (Bytes cs) rest f e = absurd f

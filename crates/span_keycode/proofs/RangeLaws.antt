@@ -5,10 +5,10 @@ use Rattle.std.specs.declared.cmp.Ordering.{Ordering}
 use Rattle.std.specs.declared.cmp.Ordering.TheVariants.{Less, Equal, Greater}
 use Rattle.std.proofs.lemmas.Bool.{cases_order}
 use Rattle.std.proofs.lemmas.Map.Lookups.{exact_bytes}
-use Rattle.span_keycode.specs.declared.range.Comparison.{Comparison}
-use Rattle.span_keycode.specs.declared.range.Comparison.TheVariants.{Equal as OpEqual, Less as OpLess, AtMost, Greater as OpGreater, AtLeast}
+use Rattle.span_keycode.specs.declared.range.RangeComparison.{RangeComparison}
+use Rattle.span_keycode.specs.declared.range.RangeComparison.TheVariants.{Equal as OpEqual, Less as OpLess, AtMost, Greater as OpGreater, AtLeast}
 use Rattle.span_keycode.specs.Order.{byte_order, Decides}
-use Rattle.span_keycode.specs.Coding.{AreBytes, directed}
+use Rattle.span_keycode.specs.Coding.{AreBytes, apply_direction}
 use Rattle.span_keycode.specs.Ranges.{in_front, next_after, low_of, high_of, holds, IsWithin}
 use Rattle.span_keycode.proofs.Order.{decided}
 use Rattle.span_keycode.proofs.Bounds.{begun_before, less_before, greater_behind, front_same, front_less, front_greater, above_nothing, not_less, grown}
@@ -27,23 +27,23 @@ mark true false = 254
 -- a key t ∷ (k ++ more) compared with a bound that is made of t ∷ x; r is how the values compare
 pub record Stands (t : ℕ) (d null : Bool) (k x more : List ℕ) (r : Ordering) : Type 0 where
   pub small : t < 255
-  pub decides : Decides k x (directed d r)
+  pub decides : Decides k x (apply_direction d r)
   pub bytes : AreBytes k
   pub rest : List ℕ
   pub marked : k ≡ mark d null ∷ rest
   pub first : null ≡ true → r ≡ Less
 
 module _ {t : ℕ} {d null : Bool} {k x more : List ℕ} {r : Ordering} (s : Stands t d null k x more r) where
-  at_code : byte_order (t ∷ (k ++ more)) (t ∷ x) ≡ ordering_then (directed d r) (byte_order more [])
+  at_code : byte_order (t ∷ (k ++ more)) (t ∷ x) ≡ ordering_then (apply_direction d r) (byte_order more [])
   at_code = front_same t t (k ++ more) x refl ∙ ap (byte_order (k ++ more)) (sym (append_nothing x)) ∙ s.decides.at more []
 
-  pub code_less : directed d r ≡ Less → byte_order (t ∷ (k ++ more)) (t ∷ x) ≡ Less
+  pub code_less : apply_direction d r ≡ Less → byte_order (t ∷ (k ++ more)) (t ∷ x) ≡ Less
   code_less e = at_code ∙ ap (λ (o : Ordering). ordering_then o (byte_order more [])) e
 
-  pub code_equal : directed d r ≡ Equal → byte_order (t ∷ (k ++ more)) (t ∷ x) ≢ Less
+  pub code_equal : apply_direction d r ≡ Equal → byte_order (t ∷ (k ++ more)) (t ∷ x) ≢ Less
   code_equal e less = above_nothing more (sym (at_code ∙ ap (λ (o : Ordering). ordering_then o (byte_order more [])) e) ∙ less)
 
-  pub code_greater : directed d r ≡ Greater → byte_order (t ∷ (k ++ more)) (t ∷ x) ≢ Less
+  pub code_greater : apply_direction d r ≡ Greater → byte_order (t ∷ (k ++ more)) (t ∷ x) ≢ Less
   code_greater e less = not_less _ (at_code ∙ ap (λ (o : Ordering). ordering_then o (byte_order more [])) e) less
 
   pub top : byte_order (t ∷ (k ++ more)) ((t + 1) ∷ []) ≡ Less
@@ -54,16 +54,16 @@ module _ {t : ℕ} {d null : Bool} {k x more : List ℕ} {r : Ordering} (s : Sta
   before_next go (c ∷ cs) e =
       ap (λ (n : List ℕ). byte_order (t ∷ (k ++ more)) (in_front t n)) e ∙ front_same t t (k ++ more) (c ∷ cs) refl ∙ ap (byte_order (k ++ more)) (sym e) ∙ go (λ none. let f : c ∷ cs ≡ [] = sym e ∙ none in cc)
 
-  pub after_less : directed d r ≡ Less → byte_order (t ∷ (k ++ more)) (next_after (t ∷ x)) ≡ Less
+  pub after_less : apply_direction d r ≡ Less → byte_order (t ∷ (k ++ more)) (next_after (t ∷ x)) ≡ Less
   after_less e = let P : Ordering → Type 0 = λ o. Decides k x o in before_next (less_before k x more (subst P e s.decides)) (next_after x) refl
 
-  pub after_equal : directed d r ≡ Equal → byte_order (t ∷ (k ++ more)) (next_after (t ∷ x)) ≡ Less
+  pub after_equal : apply_direction d r ≡ Equal → byte_order (t ∷ (k ++ more)) (next_after (t ∷ x)) ≡ Less
   after_equal e =
-      let same : x ≡ k = sym (exact_bytes k x (decided k x (directed d r) s.decides ∙ e)) in
+      let same : x ≡ k = sym (exact_bytes k x (decided k x (apply_direction d r) s.decides ∙ e)) in
       let P : List ℕ → Type 0 = λ y. byte_order (y ++ more) (next_after x) ≡ Less in
       before_next (λ some. subst P same (begun_before x more some)) (next_after x) refl
 
-  pub after_greater : directed d r ≡ Greater → byte_order (t ∷ (k ++ more)) (next_after (t ∷ x)) ≢ Less
+  pub after_greater : apply_direction d r ≡ Greater → byte_order (t ∷ (k ++ more)) (next_after (t ∷ x)) ≢ Less
   after_greater e =
       let P : Ordering → Type 0 = λ o. Decides k x o in
       let behind = greater_behind k x more s.bytes (subst P e s.decides) in
@@ -88,7 +88,7 @@ module _ {t : ℕ} {d null : Bool} {k x more : List ℕ} {r : Ordering} (s : Sta
   ]
 
 -- NULL compares so with nothing
-abbrev pub verdict : Bool → Comparison → Ordering → Bool
+abbrev pub verdict : Bool → RangeComparison → Ordering → Bool
 verdict true c r = false
 verdict false c r = holds c r
 
@@ -99,7 +99,7 @@ wrong_first : {A : Type 0} (r : Ordering) → r ≢ Less → (true ≡ true → 
 wrong_first r h f = absurd (h (f refl))
 
 -- a key is in the range where its value compares so
-pub within_where : (c : Comparison) (t : ℕ) (d null : Bool) (k x more : List ℕ) (r : Ordering) → Stands t d null k x more r
+pub within_where : (c : RangeComparison) (t : ℕ) (d null : Bool) (k x more : List ℕ) (r : Ordering) → Stands t d null k x more r
     → IsWithin (low_of t d c (t ∷ x)) (high_of t d c (t ∷ x)) (t ∷ (k ++ more)) ↔ (verdict null c r ≡ true)
 within_where OpEqual t false true k x more Less s = ((λ w. absurd (w.0 (code_less s refl))), (λ e. no_truth e))
 within_where OpEqual t false true k x more Equal s = wrong_first Equal (λ e. let f : Equal ≡ Less = e in cc) s.first

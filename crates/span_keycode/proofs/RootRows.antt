@@ -55,14 +55,14 @@ root_split tables rules n vs k = by_path (path_at tables (n - 1)) refl
 heads : (a b : ℕ) (xs ys : List ℕ) → a ∷ xs ≡ b ∷ ys → (a ≡ b) × (xs ≡ ys)
 heads a b xs ys e = (cc, cc)
 
-first_of : (bs : List ℕ) (a : ℕ) (rest : List ℕ) → bs ≡ a ∷ rest → (0 < length bs) × (get_or bs 0 0 ≡ a) × (drop 1 bs ≡ rest)
-first_of bs a rest e = (let l : length bs ≡ suc (length rest) = ap length e in omega arith, ap (λ (xs : List ℕ). get_or xs 0 0) e, ap (drop 1) e)
+range_start : (bs : List ℕ) (a : ℕ) (rest : List ℕ) → bs ≡ a ∷ rest → (0 < length bs) × (get_or bs 0 0 ≡ a) × (drop 1 bs ≡ rest)
+range_start bs a rest e = (let l : length bs ≡ suc (length rest) = ap length e in omega arith, ap (λ (xs : List ℕ). get_or xs 0 0) e, ap (drop 1) e)
 
 -- what the bytes of a coded key begin with
 pub root_begins : (tables : List Table) → MeetsRules tables → (bs : List ℕ) → IsCoding tables bs → (0 < length bs) × IsTable tables (get_or bs 0 0)
 root_begins tables rules bs k =
     let split = root_split tables rules k.table k.values k.is in
-    let first = first_of bs split.root _ (k.code ∙ split.code) in
+    let first = range_start bs split.root _ (k.code ∙ split.code) in
     let P : ℕ → Type 0 = λ n. IsTable tables n in
     (first.0, subst P (sym first.1) split.is)
 
@@ -79,7 +79,7 @@ pub root_taken : (tables : List Table) → MeetsRules tables → (bs : List ℕ)
 root_taken tables rules bs c w e s = record {
   root = λ n vs k code.
       let split = root_split tables rules n vs k in
-      let first = first_of bs split.root _ (code ∙ split.code) in
+      let first = range_start bs split.root _ (code ∙ split.code) in
       let same : split.root ≡ c = sym (e ∙ first.1) in
       let P : ℕ → Type 0 = λ m. AreFit (own_key_columns tables m) (own_values tables split.root vs) in
       let Q : ℕ → Type 0 = λ m. drop 1 bs ≡ tuple_code (own_key_columns tables m) (own_values tables split.root vs) ++ split.more in

@@ -10,7 +10,7 @@ use Rattle.span_value.specs.declared.value.Kind.{Kind}
 use Rattle.span_value.specs.declared.value.Kind.TheVariants.{Int as Numbers, Str as Texts, Bytes as Strings, Bool as Flags}
 use Rattle.span_schema.specs.declared.layout.KeyPart.{KeyPart}
 use Rattle.span_keycode.specs.Order.{flipped}
-use Rattle.span_keycode.specs.Coding.{lifted, escaped, bit, plain, in_direction, column_code, tuple_code, Fits, AreFit}
+use Rattle.span_keycode.specs.Coding.{to_unsigned, escaped, bit, plain, in_direction, column_code, tuple_code, Fits, AreFit}
 use Rattle.span_keycode.specs.Texts.{text_at, with_first}
 use Rattle.span_keycode.specs.Roots.{IsSkip}
 use Rattle.span_keycode.proofs.Reading.{text_again}
@@ -37,7 +37,7 @@ marked c bs more asc v first f e = sym f ∙ ascending c.desc bs more v e
 
 null_only : (asc rest : List ℕ) (v : Value) → 0 ∷ asc ≡ plain v ++ rest → length (plain v) ≡ 1
 null_only asc rest Null e = refl
-null_only asc rest (Int i) e = absurd (let g = (heads 0 1 asc (to_be_bytes w64 (lifted i) ++ rest) e).0 in omega arith)
+null_only asc rest (Int i) e = absurd (let g = (heads 0 1 asc (to_be_bytes w64 (to_unsigned i) ++ rest) e).0 in omega arith)
 null_only asc rest (Str bs) e = absurd (let g = (heads 0 1 asc (escaped bs ++ rest) e).0 in omega arith)
 null_only asc rest (Bytes bs) e = absurd (let g = (heads 0 1 asc (escaped bs ++ rest) e).0 in omega arith)
 null_only asc rest (Flag b) e = absurd (let g = (heads 0 1 asc (bit b ∷ rest) e).0 in omega arith)

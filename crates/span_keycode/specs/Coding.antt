@@ -11,9 +11,9 @@ pub use Rattle.span_schema.specs.Fitting.{AreBytes, Fits, is_of_kind}
 use Rattle.span_keycode.specs.Order.{complement, byte_order}
 
 -- a signed number, moved up by 2^63 so that it is never below 0
-abbrev pub lifted : ℤ → ℕ
-lifted (pos n) = n + 2 ^ 63
-lifted (negsuc n) = 2 ^ 63 - suc n
+abbrev pub to_unsigned : ℤ → ℕ
+to_unsigned (pos n) = n + 2 ^ 63
+to_unsigned (negsuc n) = 2 ^ 63 - suc n
 
 abbrev pub escaped_byte : ℕ → List ℕ → List ℕ
 escaped_byte zero rest = 0 ∷ 255 ∷ rest
@@ -31,7 +31,7 @@ bit true = 1
 -- the coding in an ascending column
 abbrev pub plain : Value → List ℕ
 plain Null = 0 ∷ []
-plain (Int i) = 1 ∷ to_be_bytes w64 (lifted i)
+plain (Int i) = 1 ∷ to_be_bytes w64 (to_unsigned i)
 plain (Str bs) = 1 ∷ escaped bs
 plain (Bytes bs) = 1 ∷ escaped bs
 plain (Flag b) = 1 ∷ bit b ∷ []
@@ -55,12 +55,12 @@ value_cmp (Bytes bs) (Bytes cs) = byte_order bs cs
 value_cmp (Flag a) (Flag b) = nat_cmp (bit a) (bit b)
 value_cmp v w = Equal
 
-abbrev pub directed : Bool → Ordering → Ordering
-directed false o = o
-directed true o = ordering_reverse o
+abbrev pub apply_direction : Bool → Ordering → Ordering
+apply_direction false o = o
+apply_direction true o = ordering_reverse o
 
 abbrev pub column_cmp : KeyPart → Value → Value → Ordering
-column_cmp c v w = directed c.desc (value_cmp v w)
+column_cmp c v w = apply_direction c.desc (value_cmp v w)
 
 -- one value for each column, and each fits
 abbrev pub AreFit : List KeyPart → List Value → Type 0

@@ -8,8 +8,8 @@ use Rattle.span_schema.specs.declared.table.Table.{Table}
 use Rattle.span_schema.specs.Lineages.{MeetsRules}
 use Rattle.span_schema.specs.Numbers.{key_columns, own_key_columns, path_of, root_of}
 use Rattle.span_schema.specs.declared.layout.KeyPart.{KeyPart}
-use Rattle.span_keycode.specs.declared.range.Comparison.{Comparison}
-use Rattle.span_keycode.specs.Ranges.{first_of, behind_of, compares, IsWithin}
+use Rattle.span_keycode.specs.declared.range.RangeComparison.{RangeComparison}
+use Rattle.span_keycode.specs.Ranges.{range_start, range_end, compares, IsWithin}
 use Rattle.span_keycode.specs.Order.{byte_order, Decides}
 use Rattle.span_keycode.specs.Coding.{Fits, tuple_cmp}
 use Rattle.span_keycode.specs.Keys.{IsKey, key_code, key_cmp}
@@ -47,5 +47,5 @@ OrderOfTexts = (bs cs : List ℕ) → IsUtf8 bs → IsUtf8 cs → byte_order bs 
 -- none where the value is NULL
 abbrev pub RangeOfComparison : Type 0
 RangeOfComparison = (tables : List Table) → MeetsRules tables → (n : ℕ) (w : Value) (ws : List Value) → IsKey tables n (w ∷ ws)
-    → (t : ℕ) (c : KeyPart) (cs : List KeyPart) → root_of tables n ≡ t → own_key_columns tables t ≡ c ∷ cs → (v : Value) → Fits c.kind v → (op : Comparison)
-    → IsWithin (first_of t c op v) (behind_of t c op v) (key_code tables n (w ∷ ws)) ↔ (compares op w v ≡ true)
+    → (t : ℕ) (c : KeyPart) (cs : List KeyPart) → root_of tables n ≡ t → own_key_columns tables t ≡ c ∷ cs → (v : Value) → Fits c.kind v → (op : RangeComparison)
+    → IsWithin (range_start t c op v) (range_end t c op v) (key_code tables n (w ∷ ws)) ↔ (compares op w v ≡ true)

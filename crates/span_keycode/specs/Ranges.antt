@@ -1,7 +1,7 @@
 -- Ranges of coded keys, for a comparison with the first key column of a root table.
 use Rattle.std.specs.Prelude.{◌≡◌, ◌≢◌, not, ℕ, ◌+◌, ◌-◌, ◌<◌, ◌≤◌, List, [], ◌∷◌, Bool, true, false, ◌&&◌, length, take, nat_lt, slice_index, if◌then◌else◌}
-use Rattle.span_keycode.specs.declared.range.Comparison.{Comparison}
-use Rattle.span_keycode.specs.declared.range.Comparison.TheVariants.{Equal, Less, AtMost, Greater, AtLeast}
+use Rattle.span_keycode.specs.declared.range.RangeComparison.{RangeComparison}
+use Rattle.span_keycode.specs.declared.range.RangeComparison.TheVariants.{Equal, Less, AtMost, Greater, AtLeast}
 use Rattle.std.specs.Ordering.{is_eq, is_lt, is_gt}
 use Rattle.std.specs.declared.cmp.Ordering.{Ordering}
 use Rattle.std.specs.declared.cmp.Ordering.TheVariants as order
@@ -28,7 +28,7 @@ pub record IsKept (bytes : List ℕ) (n : ℕ) : Type 0 where
   pub last : 0 < n → slice_index bytes (n - 1) < 255
 
 -- the first bytes of the range; code is the table's number and the coding of the value
-abbrev pub low_of : ℕ → Bool → Comparison → List ℕ → List ℕ
+abbrev pub low_of : ℕ → Bool → RangeComparison → List ℕ → List ℕ
 low_of table d Equal code = code
 low_of table false Less code = table ∷ 1 ∷ []
 low_of table false AtMost code = table ∷ 1 ∷ []
@@ -40,7 +40,7 @@ low_of table true Greater code = table ∷ 254 ∷ []
 low_of table true AtLeast code = table ∷ 254 ∷ []
 
 -- the first bytes after the range
-abbrev pub high_of : ℕ → Bool → Comparison → List ℕ → List ℕ
+abbrev pub high_of : ℕ → Bool → RangeComparison → List ℕ → List ℕ
 high_of table d Equal code = next_after code
 high_of table false Less code = code
 high_of table false AtMost code = next_after code
@@ -52,7 +52,7 @@ high_of table true Greater code = code
 high_of table true AtLeast code = next_after code
 
 -- whether a comparison holds where its operands compare so
-abbrev pub holds : Comparison → Ordering → Bool
+abbrev pub holds : RangeComparison → Ordering → Bool
 holds Equal o = is_eq o
 holds Less o = is_lt o
 holds AtMost o = not (is_gt o)
@@ -67,15 +67,15 @@ is_null (Bytes s) = false
 is_null (Flag b) = false
 
 -- whether a value compares so with another; NULL compares with nothing
-abbrev pub compares : Comparison → Value → Value → Bool
+abbrev pub compares : RangeComparison → Value → Value → Bool
 compares op w v = not (is_null w) && (not (is_null v) && holds op (value_cmp w v))
 
 -- the first bytes of the range of a comparison with a value, and the first after it: none is between them where the value is NULL
-abbrev pub first_of : ℕ → KeyPart → Comparison → Value → List ℕ
-first_of t c op v = (if is_null v then [] else low_of t c.desc op (t ∷ column_code c v))
+abbrev pub range_start : ℕ → KeyPart → RangeComparison → Value → List ℕ
+range_start t c op v = (if is_null v then [] else low_of t c.desc op (t ∷ column_code c v))
 
-abbrev pub behind_of : ℕ → KeyPart → Comparison → Value → List ℕ
-behind_of t c op v = (if is_null v then [] else high_of t c.desc op (t ∷ column_code c v))
+abbrev pub range_end : ℕ → KeyPart → RangeComparison → Value → List ℕ
+range_end t c op v = (if is_null v then [] else high_of t c.desc op (t ∷ column_code c v))
 
 -- at or above the first bytes of a range, and before the first after it
 abbrev pub IsWithin : List ℕ → List ℕ → List ℕ → Type 0

@@ -1,10 +1,10 @@
 //! The coding of one column's value.
 ghost use Rattle.std.specs.Prelude.{◌≡◌, ◌++◌, ◌∷◌, [], OnOk, IsTrue, length};
 ghost use Rattle.std.specs.Int.{to_be_bytes, w64};
-ghost use Rattle.span_keycode.specs.Coding.{lifted, escaped, escaped_byte, in_direction, column_code, tuple_code, are_of_kinds, AreFit};
+ghost use Rattle.span_keycode.specs.Coding.{to_unsigned, escaped, escaped_byte, in_direction, column_code, tuple_code, are_of_kinds, AreFit};
 
 use crate::key::INLINE_BYTES;
-use crate::text::directed;
+use crate::text::apply_direction;
 use smallvec::SmallVec;
 use span_schema::fitting::is_of_kind;
 use span_schema::layout::KeyPart;
@@ -29,8 +29,8 @@ pub fn have_kinds(columns: &[KeyPart], values: &[Value]) -> bool
     true
 }
 
-fn lift(number: i64) -> u64
-    ensures { result ≡ lifted number }
+fn to_unsigned(number: i64) -> u64
+    ensures { result ≡ to_unsigned number }
 {
     if number < 0 {
         (number + i64::MAX + 1) as u64
@@ -42,7 +42,7 @@ fn lift(number: i64) -> u64
 fn push_directed(out: &mut Bytes, byte: u8, desc: bool) -> Result<(), AllocError>
     ensures { OnOk result (out.new.items ≡ out.old.items ++ in_direction desc (byte ∷ [])) }
 {
-    out.push(directed(byte, desc))?;
+    out.push(apply_direction(byte, desc))?;
     Ok(())
 }
 
@@ -90,7 +90,7 @@ pub(crate) fn push_value(out: &mut Bytes, column: KeyPart, value: &Value) -> Res
         Value::Null => push_directed(out, 0, desc),
         Value::Int(number) => {
             push_directed(out, 1, desc)?;
-            push_number(out, lift(*number), desc)
+            push_number(out, to_unsigned(*number), desc)
         }
         Value::Str(text) => {
             push_directed(out, 1, desc)?;

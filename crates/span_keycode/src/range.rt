@@ -1,6 +1,6 @@
 //! Ranges of coded keys, for a comparison with the first key column of a root table.
 ghost use Rattle.std.specs.Prelude.{◌≡◌, ◌<◌, IfOk};
-ghost use Rattle.span_keycode.specs.Ranges.{next_after, low_of, high_of, is_null, first_of, behind_of, IsKept};
+ghost use Rattle.span_keycode.specs.Ranges.{next_after, low_of, high_of, is_null, range_start, range_end, IsKept};
 
 use crate::column::push_value;
 use crate::key::Key;
@@ -11,7 +11,7 @@ use std::alloc::{AllocError, Global};
 
 /// How a column is compared with a value.
 #[derive(Clone, Copy, Debug, PartialEq, Eq)]
-pub enum Comparison {
+pub enum RangeComparison {
     Equal,
     Less,
     AtMost,
@@ -32,11 +32,11 @@ pub fn range_of(
     alloc: Global,
     table: u8,
     column: KeyPart,
-    comparison: Comparison,
+    comparison: RangeComparison,
     value: &Value,
 ) -> Result<KeyRange, AllocError>
     requires { table < 255 }
-    ensures { IfOk result (λ range. (range.low ≡ first_of table column comparison value.now) × (range.high ≡ behind_of table column comparison value.now)) }
+    ensures { IfOk result (λ range. (range.low ≡ range_start table column comparison value.now) × (range.high ≡ range_end table column comparison value.now)) }
 {
     if is_null(value) {
         return Ok(KeyRange {
@@ -63,21 +63,21 @@ fn low_key(
     alloc: Global,
     table: u8,
     desc: bool,
-    comparison: Comparison,
+    comparison: RangeComparison,
     code: &[u8],
 ) -> Result<Key, AllocError>
     ensures { IfOk result (λ key. key ≡ low_of table desc comparison code.now) }
 {
     match (desc, comparison) {
-        (_, Comparison::Equal) => Key::from_slice(alloc, code),
-        (false, Comparison::Less) => Key::from_slice(alloc, &[table, 1]),
-        (false, Comparison::AtMost) => Key::from_slice(alloc, &[table, 1]),
-        (false, Comparison::Greater) => key_after(alloc, code),
-        (false, Comparison::AtLeast) => Key::from_slice(alloc, code),
-        (true, Comparison::Less) => key_after(alloc, code),
-        (true, Comparison::AtMost) => Key::from_slice(alloc, code),
-        (true, Comparison::Greater) => Key::from_slice(alloc, &[table, 254]),
-        (true, Comparison::AtLeast) => Key::from_slice(alloc, &[table, 254]),
+        (_, RangeComparison::Equal) => Key::from_slice(alloc, code),
+        (false, RangeComparison::Less) => Key::from_slice(alloc, &[table, 1]),
+        (false, RangeComparison::AtMost) => Key::from_slice(alloc, &[table, 1]),
+        (false, RangeComparison::Greater) => key_after(alloc, code),
+        (false, RangeComparison::AtLeast) => Key::from_slice(alloc, code),
+        (true, RangeComparison::Less) => key_after(alloc, code),
+        (true, RangeComparison::AtMost) => Key::from_slice(alloc, code),
+        (true, RangeComparison::Greater) => Key::from_slice(alloc, &[table, 254]),
+        (true, RangeComparison::AtLeast) => Key::from_slice(alloc, &[table, 254]),
     }
 }
 
@@ -85,22 +85,22 @@ fn high_key(
     alloc: Global,
     table: u8,
     desc: bool,
-    comparison: Comparison,
+    comparison: RangeComparison,
     code: &[u8],
 ) -> Result<Key, AllocError>
     requires { table < 255 }
     ensures { IfOk result (λ key. key ≡ high_of table desc comparison code.now) }
 {
     match (desc, comparison) {
-        (_, Comparison::Equal) => key_after(alloc, code),
-        (false, Comparison::Less) => Key::from_slice(alloc, code),
-        (false, Comparison::AtMost) => key_after(alloc, code),
-        (false, Comparison::Greater) => Key::from_slice(alloc, &[table + 1]),
-        (false, Comparison::AtLeast) => Key::from_slice(alloc, &[table + 1]),
-        (true, Comparison::Less) => Key::from_slice(alloc, &[table, 255]),
-        (true, Comparison::AtMost) => Key::from_slice(alloc, &[table, 255]),
-        (true, Comparison::Greater) => Key::from_slice(alloc, code),
-        (true, Comparison::AtLeast) => key_after(alloc, code),
+        (_, RangeComparison::Equal) => key_after(alloc, code),
+        (false, RangeComparison::Less) => Key::from_slice(alloc, code),
+        (false, RangeComparison::AtMost) => key_after(alloc, code),
+        (false, RangeComparison::Greater) => Key::from_slice(alloc, &[table + 1]),
+        (false, RangeComparison::AtLeast) => Key::from_slice(alloc, &[table + 1]),
+        (true, RangeComparison::Less) => Key::from_slice(alloc, &[table, 255]),
+        (true, RangeComparison::AtMost) => Key::from_slice(alloc, &[table, 255]),
+        (true, RangeComparison::Greater) => Key::from_slice(alloc, code),
+        (true, RangeComparison::AtLeast) => key_after(alloc, code),
     }
 }
 

@@ -5,7 +5,7 @@ ghost use Rattle.span_keycode.specs.Texts.{text_at};
 ghost use Rattle.span_keycode.specs.Roots.{IsCoding, IsRootPrefix, IsSkip, IsTupleSkip};
 
 use crate::key::Key;
-use crate::text::{Step, directed, step_at};
+use crate::text::{LevelStep, apply_direction, step_at};
 use crate::value::after;
 use span_schema::layout::KeyPart;
 use span_schema::schema::Schema;
@@ -53,7 +53,7 @@ fn skip_value(column: KeyPart, bytes: &[u8]) -> usize
     if bytes.len() == 0 {
         return 0;
     }
-    if directed(bytes[0], column.desc) == 0 {
+    if apply_direction(bytes[0], column.desc) == 0 {
         return 1;
     }
     match column.kind {
@@ -70,9 +70,9 @@ fn skip_text(bytes: &[u8], desc: bool) -> usize
     let mut at = 0;
     loop {
         match step_at(after(bytes, at), desc) {
-            Step::Byte(_, width) => at += width,
-            Step::End => return at + 2,
-            Step::Bad => return at,
+            LevelStep::Byte(_, width) => at += width,
+            LevelStep::End => return at + 2,
+            LevelStep::Bad => return at,
         }
     }
 }

@@ -7,7 +7,7 @@ use std::alloc::{AllocError, Global};
 
 /// What is at the front of an escaped text.
 #[derive(Debug, Clone, Copy)]
-pub enum Step {
+pub enum LevelStep {
     /// A byte of the text, and how many bytes code it.
     Byte(u8, usize),
     End,
@@ -15,30 +15,30 @@ pub enum Step {
 }
 
 /// A byte as it is in a column that is descending or not.
-pub(crate) fn directed(byte: u8, desc: bool) -> u8
+pub(crate) fn apply_direction(byte: u8, desc: bool) -> u8
     ensures { in_direction desc (byte ∷ []) ≡ result ∷ [] }
 {
     if desc { 255 - byte } else { byte }
 }
 
 /// What is at the front of an escaped text.
-pub(crate) fn step_at(rest: &[u8], desc: bool) -> Step
+pub(crate) fn step_at(rest: &[u8], desc: bool) -> LevelStep
     ensures { AtStep desc rest.now result }
 {
     if rest.len() == 0 {
-        return Step::Bad;
+        return LevelStep::Bad;
     }
-    let first = directed(rest[0], desc);
+    let first = apply_direction(rest[0], desc);
     if first != 0 {
-        return Step::Byte(first, 1);
+        return LevelStep::Byte(first, 1);
     }
     if rest.len() == 1 {
-        return Step::Bad;
+        return LevelStep::Bad;
     }
-    match directed(rest[1], desc) {
-        1 => Step::End,
-        255 => Step::Byte(0, 2),
-        _ => Step::Bad,
+    match apply_direction(rest[1], desc) {
+        1 => LevelStep::End,
+        255 => LevelStep::Byte(0, 2),
+        _ => LevelStep::Bad,
     }
 }
 
@@ -55,12 +55,12 @@ pub(crate) fn read_text(
     let mut at = 0;
     loop {
         match step_at(&bytes[at..], desc) {
-            Step::Byte(byte, width) => {
+            LevelStep::Byte(byte, width) => {
                 text.push(byte)?;
                 at += width;
             }
-            Step::End => return Ok(Some((text, at + 2))),
-            Step::Bad => return Ok(None),
+            LevelStep::End => return Ok(Some((text, at + 2))),
+            LevelStep::Bad => return Ok(None),
         }
     }
 }

@@ -2,10 +2,10 @@
 ghost use Rattle.std.specs.Prelude.{◌≡◌, ◌≢◌, ◌⊎◌, ◌<◌, ◌≤◌, ◌∷◌, ◌++◌, IfOk, MatchOption, Some, None, drop, length, FitsSigned};
 ghost use Rattle.std.specs.Int.{to_be_bytes, w64};
 ghost use Rattle.span_value.specs.declared.value.Kind.TheVariants as kind;
-ghost use Rattle.span_keycode.specs.Coding.{bit, lifted, in_direction, Fits, AreBytes};
+ghost use Rattle.span_keycode.specs.Coding.{bit, to_unsigned, in_direction, Fits, AreBytes};
 ghost use Rattle.span_keycode.specs.Reads.{IsNoPlain, IsPlain, IsNoColumn, IsColumn};
 
-use crate::text::{directed, read_text};
+use crate::text::{apply_direction, read_text};
 use span_schema::layout::KeyPart;
 use span_value::seq::Seq;
 use span_value::text::Text;
@@ -23,7 +23,7 @@ pub(crate) fn read_value(
     if bytes.len() == 0 {
         return Ok(None);
     }
-    match directed(bytes[0], column.desc) {
+    match apply_direction(bytes[0], column.desc) {
         0 => Ok(Some((Value::Null, 1))),
         1 => match read_body(alloc, column.kind, column.desc, after(bytes, 1))? {
             None => Ok(None),
@@ -66,7 +66,7 @@ fn number_body(rest: &[u8], desc: bool) -> Option<(Value, usize)>
         return None;
     }
     Some((
-        Value::Int(lowered(u64::from_be_bytes(first_eight(rest, desc)))),
+        Value::Int(to_signed(u64::from_be_bytes(first_eight(rest, desc)))),
         8,
     ))
 }
@@ -77,19 +77,19 @@ fn first_eight(rest: &[u8], desc: bool) -> [u8; 8]
     ensures bytes { AreBytes result }
     ensures len { length result ≡ 8 }
 {
-    let a = directed(rest[0], desc);
-    let b = directed(rest[1], desc);
-    let c = directed(rest[2], desc);
-    let d = directed(rest[3], desc);
-    let e = directed(rest[4], desc);
-    let f = directed(rest[5], desc);
-    let g = directed(rest[6], desc);
-    let h = directed(rest[7], desc);
+    let a = apply_direction(rest[0], desc);
+    let b = apply_direction(rest[1], desc);
+    let c = apply_direction(rest[2], desc);
+    let d = apply_direction(rest[3], desc);
+    let e = apply_direction(rest[4], desc);
+    let f = apply_direction(rest[5], desc);
+    let g = apply_direction(rest[6], desc);
+    let h = apply_direction(rest[7], desc);
     [a, b, c, d, e, f, g, h]
 }
 
-fn lowered(number: u64) -> i64
-    ensures { lifted result ≡ number }
+fn to_signed(number: u64) -> i64
+    ensures { to_unsigned result ≡ number }
 {
     if number >= 1 << 63 {
         (number - (1 << 63)) as i64
@@ -105,7 +105,7 @@ fn flag_body(rest: &[u8], desc: bool) -> Option<(Value, usize)>
     if rest.len() == 0 {
         return None;
     }
-    match directed(rest[0], desc) {
+    match apply_direction(rest[0], desc) {
         0 => Some((Value::Bool(false), 1)),
         1 => Some((Value::Bool(true), 1)),
         _ => None,

@@ -13,7 +13,7 @@ use Rattle.std.proofs.lemmas.Slice.Eq.{bytes_eq-Decides}
 use Rattle.span_keycode.specs.Order.{byte_order}
 use Rattle.span_keyindex.specs.declared.entry.Entry.{Entry}
 use Rattle.span_keyindex.specs.Entries.{IsRising, entries_under}
-use Rattle.span_keyindex.specs.Places.{no_entry, key_at, IsFrom, IsEndOfFront, begins_with}
+use Rattle.span_keyindex.specs.Places.{no_entry, key_at, IsFrom, IsEndOfPrefix, begins_with}
 use Rattle.span_keyindex.proofs.Parts.{filter_part}
 
 abbrev begins : List ℕ → List ℕ → Bool
@@ -85,6 +85,6 @@ module _ (es : List Entry) (front : List ℕ) (low : ℕ) (rising : IsRising es)
         (not_greater _ (ap (byte_order (key_at es (low + i))) (begins_front (key_at es (low + j)) front yes2) ∙ order))))
   ]
 
-  pub under_is : (n : ℕ) → IsEndOfFront (drop low es) front n → entries_under front es ≡ take n (drop low es)
+  pub under_is : (n : ℕ) → IsEndOfPrefix (drop low es) front n → entries_under front es ≡ take n (drop low es)
   under_is n end =
       filter_part (begins_with front) no_entry es low n from.in_range end.in_range (λ k lt. before_begins_not (key_at es k) front (from.smaller k lt)) end.first end.others

@@ -14,7 +14,7 @@ use Rattle.span_keycode.specs.Order.{byte_order}
 use Rattle.span_keycode.specs.declared.range.KeyRange.{KeyRange}
 use Rattle.span_keyindex.specs.declared.entry.Entry.{Entry}
 use Rattle.span_keyindex.specs.Entries.{IsRising, HasChain, IsAbsent, with_entry, is_within, entries_in}
-use Rattle.span_keyindex.specs.Places.{no_entry, key_at, IsAt, IsGapFor, IsFrom}
+use Rattle.span_keyindex.specs.Places.{no_entry, key_at, IsAt, IsPlaceForNew, IsFrom}
 use Rattle.span_keyindex.proofs.Parts.{and_false, filter_front, filter_part}
 
 less_trans : (a b c : List ℕ) → byte_order a b ≡ Less → byte_order b c ≡ Less → byte_order a c ≡ Less
@@ -57,7 +57,7 @@ has_chain es key i e at read =
     subst P k (i, at.in_range, sym read)
 
 -- a key with a gap has no entry
-pub is_absent : (es : List Entry) (key : List ℕ) (i : ℕ) → IsGapFor es key i → IsAbsent es key
+pub is_absent : (es : List Entry) (key : List ℕ) (i : ℕ) → IsPlaceForNew es key i → IsAbsent es key
 is_absent es key i gap j d lt same =
     let here : key_at es j ≡ key = ap (λ (x : Entry). x.key) (get_or_default es j no_entry d lt) ∙ same in
     let tied : byte_order (key_at es j) key ≡ Equal = rw here (tied_itself nat_list_cmp_total key) in
@@ -68,11 +68,11 @@ is_absent es key i gap j d lt same =
 
 -- ---- an entry in the gap
 
-smaller_front : (es : List Entry) (key : List ℕ) (i : ℕ) → IsGapFor es key i → filter (λ (e : Entry). is_lt (byte_order e.key key)) es ≡ take i es
+smaller_front : (es : List Entry) (key : List ℕ) (i : ℕ) → IsPlaceForNew es key i → filter (λ (e : Entry). is_lt (byte_order e.key key)) es ≡ take i es
 smaller_front es key i gap =
     filter_front (λ (e : Entry). is_lt (byte_order e.key key)) no_entry es i gap.in_range (λ k lt. ap is_lt (gap.smaller k lt)) (λ k from lt. ap is_lt (gap.greater k from lt))
 
-greater_back : (es : List Entry) (key : List ℕ) (i : ℕ) → IsGapFor es key i → filter (λ (e : Entry). is_gt (byte_order e.key key)) es ≡ drop i es
+greater_back : (es : List Entry) (key : List ℕ) (i : ℕ) → IsPlaceForNew es key i → filter (λ (e : Entry). is_gt (byte_order e.key key)) es ≡ drop i es
 greater_back es key i gap =
     let len : length (drop i es) ≡ length es - i = length-drop i es in
     let le : length (drop i es) ≤ length (drop i es) = omega arith in
@@ -82,11 +82,11 @@ greater_back es key i gap =
     (λ k from lt. absurd (omega arith))
     ∙ take_all (length (drop i es)) (drop i es) le
 
-pub with_entry-gap : (es : List Entry) (new : Entry) (i : ℕ) → IsGapFor es new.key i → with_entry es new ≡ insert es i new
+pub with_entry-gap : (es : List Entry) (new : Entry) (i : ℕ) → IsPlaceForNew es new.key i → with_entry es new ≡ insert es i new
 with_entry-gap es new i gap = ap (λ (xs : List Entry). xs ++ new ∷ filter (λ (e : Entry). is_gt (byte_order e.key new.key)) es) (smaller_front es new.key i gap) ∙ ap (λ (xs : List Entry). take i es ++ new ∷ xs) (greater_back es new.key i gap)
 
 -- and the keys still rise
-pub rising-insert : (es : List Entry) (new : Entry) (at : ℕ) → IsRising es → IsGapFor es new.key at → IsRising (insert es at new)
+pub rising-insert : (es : List Entry) (new : Entry) (at : ℕ) → IsRising es → IsPlaceForNew es new.key at → IsRising (insert es at new)
 rising-insert es new at rising gap i j d lt in_range =
     let len = length-insert es at new gap.in_range in
     let dflt : (k : ℕ) → k < length (insert es at new) → get_or (insert es at new) k d ≡ get_or (insert es at new) k no_entry = λ k h. get_or_default (insert es at new) k d no_entry h in
@@ -104,10 +104,10 @@ rising-insert es new at rising gap i j d lt in_range =
     ])
 
 -- an entry put into the place of its key, after capacity was reserved
-pub inserted : (es gs hs : List Entry) (new : Entry) (at : ℕ) → IsGapFor es new.key at → gs ≡ es → hs ≡ insert gs at new → hs ≡ with_entry es new
+pub inserted : (es gs hs : List Entry) (new : Entry) (at : ℕ) → IsPlaceForNew es new.key at → gs ≡ es → hs ≡ insert gs at new → hs ≡ with_entry es new
 inserted es gs hs new at gap same is = is ∙ ap (λ (xs : List Entry). insert xs at new) same ∙ sym (with_entry-gap es new at gap)
 
-pub rising_inserted : (es gs hs : List Entry) (new : Entry) (at : ℕ) → IsRising es → IsGapFor es new.key at → gs ≡ es → hs ≡ insert gs at new → IsRising hs
+pub rising_inserted : (es gs hs : List Entry) (new : Entry) (at : ℕ) → IsRising es → IsPlaceForNew es new.key at → gs ≡ es → hs ≡ insert gs at new → IsRising hs
 rising_inserted es gs hs new at rising gap same is = rw (is ∙ ap (λ (xs : List Entry). insert xs at new) same) (rising-insert es new at rising gap)
 
 -- ---- the part of a range
@@ -125,7 +125,7 @@ from_at es key i rising at =
       ];
     }
 
-pub from_gap : (es : List Entry) (key : List ℕ) (i : ℕ) → IsGapFor es key i → IsFrom es key i
+pub from_gap : (es : List Entry) (key : List ℕ) (i : ℕ) → IsPlaceForNew es key i → IsFrom es key i
 from_gap es key i gap = record { in_range = gap.in_range; smaller = λ j lt. ap is_lt (gap.smaller j lt); others = λ j from lt. ap is_lt (gap.greater j from lt) }
 
 -- high is the end of the range, or where it begins if it would end before

@@ -19,7 +19,7 @@ pub record IsAt (es : List Entry) (key : List ℕ) (i : ℕ) : Type 0 where
   pub has_key : byte_order (key_at es i) key ≡ Equal
 
 -- the key is not there: the smaller ones are before the place, the greater ones from it on
-pub record IsGapFor (es : List Entry) (key : List ℕ) (i : ℕ) : Type 0 where
+pub record IsPlaceForNew (es : List Entry) (key : List ℕ) (i : ℕ) : Type 0 where
   pub in_range : i ≤ length es
   pub smaller : (j : ℕ) → j < i → byte_order (key_at es j) key ≡ Less
   pub greater : (j : ℕ) → i ≤ j → j < length es → byte_order (key_at es j) key ≡ Greater
@@ -35,7 +35,7 @@ abbrev pub begins_with : List ℕ → Entry → Bool
 begins_with front e = starts_with nat_eq e.key front
 
 -- the keys before the place begin with these bytes, and from it on none does
-pub record IsEndOfFront (es : List Entry) (front : List ℕ) (i : ℕ) : Type 0 where
+pub record IsEndOfPrefix (es : List Entry) (front : List ℕ) (i : ℕ) : Type 0 where
   pub in_range : i ≤ length es
   pub first : (k : ℕ) → k < i → begins_with front (slice_index_or es k no_entry) ≡ true
   pub others : (k : ℕ) → i ≤ k → k < length es → begins_with front (slice_index_or es k no_entry) ≡ false

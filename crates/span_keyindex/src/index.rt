@@ -5,7 +5,7 @@ ghost use Rattle.span_keyindex.specs.Entries.{IsRising, IsAbsent, HasChain, IsSl
 ghost use Rattle.span_keyindex.specs.Arenas.{IsArenaOf, in_use, IsWithoutUnused};
 
 use crate::entry::Entry;
-use crate::place::{part_in, part_under, place_of};
+use crate::place::{entries_in, entries_under, place_of};
 use crate::walk::Walk;
 use span_arena::arena::Arena;
 use span_arena::token::Chain;
@@ -75,7 +75,7 @@ impl KeyIndex {
         ensures rising { IsRising self.now }
     {
         Walk {
-            left: part_in(&self.entries, range),
+            left: entries_in(&self.entries, range),
         }
     }
 
@@ -88,7 +88,7 @@ impl KeyIndex {
         ensures rising { IsRising self.now }
     {
         Walk {
-            left: part_under(&self.entries, front),
+            left: entries_under(&self.entries, front),
         }
     }
 

@@ -2,7 +2,7 @@
 ghost use Rattle.std.specs.Prelude.{◌≡◌, IfOk, IfErr};
 ghost use Rattle.std.specs.List.Sorted.{IsPartitionedBy};
 ghost use Rattle.span_keyindex.specs.Entries.{IsRising, entries_in, entries_under};
-ghost use Rattle.span_keyindex.specs.Places.{IsAt, IsGapFor, IsFrom, IsEndOfFront, begins_with};
+ghost use Rattle.span_keyindex.specs.Places.{IsAt, IsPlaceForNew, IsFrom, IsEndOfPrefix, begins_with};
 
 use crate::entry::Entry;
 use span_keycode::range::KeyRange;
@@ -12,7 +12,7 @@ use std::cmp::Ordering;
 pub(crate) fn place_of(entries: &Vec<Entry>, key: &[u8]) -> Result<usize, usize>
     requires { IsRising entries.now.items }
     ensures found { IfOk result (IsAt entries.now.items key.now) }
-    ensures absent { IfErr result (IsGapFor entries.now.items key.now) }
+    ensures absent { IfErr result (IsPlaceForNew entries.now.items key.now) }
 {
     let mut low = 0;
     let mut high = entries.len();
@@ -39,7 +39,7 @@ fn first_from(entries: &Vec<Entry>, bytes: &[u8]) -> usize
 }
 
 /// The entries whose keys are in the range.
-pub(crate) fn part_in<'a>(entries: &'a Vec<Entry>, range: &KeyRange) -> &'a [Entry]
+pub(crate) fn entries_in<'a>(entries: &'a Vec<Entry>, range: &KeyRange) -> &'a [Entry]
     requires { IsRising entries.now.items }
     ensures { result.now ≡ entries_in range.now entries.now.items }
 {
@@ -49,19 +49,19 @@ pub(crate) fn part_in<'a>(entries: &'a Vec<Entry>, range: &KeyRange) -> &'a [Ent
 }
 
 // How many of the entries, of which those that begin with these bytes come first, begin with them.
-fn front_len(entries: &[Entry], front: &[u8]) -> usize
+fn prefix_len(entries: &[Entry], front: &[u8]) -> usize
     requires { IsPartitionedBy (begins_with front.now) entries.now }
-    ensures { IsEndOfFront entries.now front.now result }
+    ensures { IsEndOfPrefix entries.now front.now result }
 {
     entries.partition_point(|entry| entry.key.as_slice().starts_with(front))
 }
 
 /// The entries whose keys begin with these bytes. They are adjacent.
-pub(crate) fn part_under<'a>(entries: &'a Vec<Entry>, front: &[u8]) -> &'a [Entry]
+pub(crate) fn entries_under<'a>(entries: &'a Vec<Entry>, front: &[u8]) -> &'a [Entry]
     requires { IsRising entries.now.items }
     ensures { result.now ≡ entries_under front.now entries.now.items }
 {
     let low = first_from(entries, front);
     let behind = entries.as_slice().split_at(low).1;
-    behind.split_at(front_len(behind, front)).0
+    behind.split_at(prefix_len(behind, front)).0
 }

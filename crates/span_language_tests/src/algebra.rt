@@ -230,12 +230,12 @@ fn rows_that_where_drops(rt: HostRuntime) -> Result<(), Refusal> {
 }
 
 #[test]
-fn faults_behind_where(rt: HostRuntime) -> Result<(), Refusal> {
+fn faults_after_where(rt: HostRuntime) -> Result<(), Refusal> {
     let a = rt.alloc();
     // Only the row that WHERE keeps is in the output, and so can fault there.
     for (n, wanted) in [(5, "3 |"), (4, FAULT)] {
-        let shown = only(a, quotient(a, 0));
-        let kept = select_where(a, shown, 1, is_number(a, 1, n));
+        let output_expr = only(a, quotient(a, 0));
+        let kept = select_where(a, output_expr, 1, is_number(a, 1, n));
         assert!(rt; gives(a, kept, &["0 4 | 2 5 |"], wanted)?, "at {n}");
     }
     Ok(())
@@ -264,25 +264,25 @@ fn join(
 }
 
 /// Some columns of table 1 and other items, where a condition holds.
-fn joined(
+fn join_query(
     a: Global,
-    shown: &[usize],
+    output_expr: &[usize],
     joins: Result<Items<Join<BoundQuery>>, Refusal>,
     filter: Result<Option<Expr>, Refusal>,
 ) -> Result<BoundQuery, Refusal> {
-    let (outputs, (joins, filter)) = both(columns(a, shown), both(joins, filter))?;
+    let (outputs, (joins, filter)) = both(columns(a, output_expr), both(joins, filter))?;
     Ok(query(a, block(Item::Table(1), joins, filter, None, outputs)))
 }
 
 /// Some columns of tables 1 and 2, whose first columns are equal.
 fn two_tables(
     a: Global,
-    shown: &[usize],
+    output_expr: &[usize],
     is_left: bool,
     filter: Result<Option<Expr>, Refusal>,
 ) -> Result<BoundQuery, Refusal> {
     let second = join(is_left, Ok(Item::Table(2)), 2, are_equal(a, 0, 2));
-    joined(a, shown, only(a, second), filter)
+    join_query(a, output_expr, only(a, second), filter)
 }
 
 #[test]
@@ -307,7 +307,7 @@ fn left_joins(rt: HostRuntime) -> Result<(), Refusal> {
 }
 
 #[test]
-fn where_behind_a_left_join(rt: HostRuntime) -> Result<(), Refusal> {
+fn where_after_a_left_join(rt: HostRuntime) -> Result<(), Refusal> {
     let a = rt.alloc();
     let alone = two_tables(a, &[0, 3], true, is_null(a, 3).map(Some));
     assert!(rt; gives(a, alone, &[LEFT, RIGHT], "2 - |")?);
@@ -321,16 +321,16 @@ fn faults_of_an_on(rt: HostRuntime) -> Result<(), Refusal> {
     let a = rt.alloc();
     // ON is evaluated at every pair, also at one that WHERE would refuse.
     let second = join(false, Ok(Item::Table(2)), 1, is_null_quotient(a, 1));
-    let refused = joined(a, &[0], only(a, second), is_number(a, 0, 9).map(Some));
-    assert!(rt; gives(a, refused, &["1 |", "2 | 0 |"], FAULT)?);
+    let refusal = join_query(a, &[0], only(a, second), is_number(a, 0, 9).map(Some));
+    assert!(rt; gives(a, refusal, &["1 |", "2 | 0 |"], FAULT)?);
     Ok(())
 }
 
 #[test]
-fn an_on_beside_no_row(rt: HostRuntime) -> Result<(), Refusal> {
+fn on_without_rows(rt: HostRuntime) -> Result<(), Refusal> {
     let a = rt.alloc();
     let second = join(true, Ok(Item::Table(2)), 1, is_null_quotient(a, 0));
-    let unjudged = joined(a, &[0, 1], only(a, second), Ok(None));
+    let unjudged = join_query(a, &[0, 1], only(a, second), Ok(None));
     assert!(rt; gives(a, unjudged, &["0 | 1 |", ""], "0 - | 1 - |")?);
     Ok(())
 }
@@ -368,7 +368,7 @@ fn nulls_of_a_derived_table(rt: HostRuntime) -> Result<(), Refusal> {
     // The row of NULLs has the width of the derived table, so that table 3 follows it.
     let second = join(true, those_with(a, 3), 2, are_equal(a, 0, 2));
     let third = join(false, Ok(Item::Table(3)), 1, is_number(a, 4, 7));
-    let three = joined(a, &[0, 3, 4], with(only(a, second), third), Ok(None));
+    let three = join_query(a, &[0, 3, 4], with(only(a, second), third), Ok(None));
     let wanted = "1 - 7 | 2 - 7 | 3 300 7 |";
     assert!(rt; gives(a, three, &[LEFT, RIGHT, "7 | 8 |"], wanted)?);
     Ok(())
@@ -385,7 +385,7 @@ fn fault_of_a_derived_table(rt: HostRuntime) -> Result<(), Refusal> {
     let a = rt.alloc();
     // It comes beside no row as well.
     let second = join(false, quotients(a), 1, is_null(a, 0));
-    let pairs = joined(a, &[0], only(a, second), Ok(None));
+    let pairs = join_query(a, &[0], only(a, second), Ok(None));
     assert!(rt; gives(a, pairs, &["", "0 |"], FAULT)?);
     Ok(())
 }
@@ -393,16 +393,16 @@ fn fault_of_a_derived_table(rt: HostRuntime) -> Result<(), Refusal> {
 // ---- groups
 
 /// Some columns of the groups of table 1.
-fn grouped(
+fn group_query(
     a: Global,
-    shown: &[usize],
+    output_expr: &[usize],
     keys: &[usize],
     aggregates: Result<Items<Aggregate>, Refusal>,
     having: Result<Option<Expr>, Refusal>,
 ) -> Result<BoundQuery, Refusal> {
     let made = both(aggregates, having);
     let (outputs, (keys, (aggregates, having))) = both(
-        columns(a, shown),
+        columns(a, output_expr),
         both(copied(a, keys), made),
     )?;
     let grouping = Some(Grouping {
@@ -434,13 +434,13 @@ fn one_aggregate(
     operand: Result<Expr, Refusal>,
     having: Result<Option<Expr>, Refusal>,
 ) -> Result<BoundQuery, Refusal> {
-    grouped(a, &[0], &[], only(a, aggregate(function, operand)), having)
+    group_query(a, &[0], &[], only(a, aggregate(function, operand)), having)
 }
 
 #[test]
 fn groups(rt: HostRuntime) -> Result<(), Refusal> {
     let a = rt.alloc();
-    let all = grouped(a, &[0, 1, 2, 3, 4, 5], &[0], aggregates(a, 1), Ok(None));
+    let all = group_query(a, &[0, 1, 2, 3, 4, 5], &[0], aggregates(a, 1), Ok(None));
     let wanted = "2 2 2 12 5 7 | - 2 2 4 1 3 | 1 1 0 - - - |";
     assert!(rt; gives(a, all, &["2 5 | - 1 | 1 - | 2 7 | - 3 |"], wanted)?);
     Ok(())
@@ -450,9 +450,9 @@ fn groups(rt: HostRuntime) -> Result<(), Refusal> {
 fn groups_of_no_rows(rt: HostRuntime) -> Result<(), Refusal> {
     let a = rt.alloc();
     // Without key columns there is one group, also over no rows.
-    let one = grouped(a, &[0, 1, 2, 3, 4], &[], aggregates(a, 0), Ok(None));
+    let one = group_query(a, &[0, 1, 2, 3, 4], &[], aggregates(a, 0), Ok(None));
     assert!(rt; gives(a, one, &[""], "0 0 - - - |")?);
-    let none = grouped(a, &[0], &[0], aggregates(a, 0), Ok(None));
+    let none = group_query(a, &[0], &[0], aggregates(a, 0), Ok(None));
     assert!(rt; gives(a, none, &[""], "")?);
     Ok(())
 }
@@ -506,8 +506,8 @@ fn aggregates_that_having_hides(rt: HostRuntime) -> Result<(), Refusal> {
     let a = rt.alloc();
     // Every aggregate is computed, also where COUNT(*) = 0 is FALSE.
     let having = is_number(a, 0, 0).map(Some);
-    let refused = grouped(a, &[0], &[], aggregates(a, 0), having);
-    assert!(rt; gives(a, refused, &[OUTSIDE], FAULT)?);
+    let refusal = group_query(a, &[0], &[], aggregates(a, 0), having);
+    assert!(rt; gives(a, refusal, &[OUTSIDE], FAULT)?);
     Ok(())
 }
 
@@ -555,7 +555,7 @@ const SECOND_FALLING: SortKey = SortKey {
 };
 
 /// `SELECT outputs FROM table 1 ORDER BY keys LIMIT rows OFFSET skip`
-fn ordered(
+fn order_query(
     a: Global,
     outputs: Result<Items<Expr>, Refusal>,
     keys: &[SortKey],
@@ -587,7 +587,7 @@ fn orders(rt: HostRuntime) -> Result<(), Refusal> {
     let a = rt.alloc();
     sorting_is_stable();
     for (keys, wanted) in ORDERS {
-        let rows = ordered(a, columns(a, &[0, 1]), keys, None);
+        let rows = order_query(a, columns(a, &[0, 1]), keys, None);
         assert!(rt; gives(a, rows, &[MIXED], wanted)?, "in {wanted}");
     }
     Ok(())
@@ -607,7 +607,7 @@ fn limits(rt: HostRuntime) -> Result<(), Refusal> {
     let a = rt.alloc();
     for (rows, skip, table, wanted) in LIMITS {
         let limit = Some(Limit { rows, skip });
-        let part = ordered(a, only(a, quotient(a, 0)), &[], limit);
+        let part = order_query(a, only(a, quotient(a, 0)), &[], limit);
         assert!(rt; gives(a, part, &[table], wanted)?, "{rows} behind {skip}");
     }
     Ok(())

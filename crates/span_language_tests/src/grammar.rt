@@ -1,6 +1,6 @@
 //! Cases beyond the contracts: query texts checked by hand, and that the stack holds the deepest ones.
 use span_grammar::judge::Goal;
-use span_grammar::text::judge_text;
+use span_grammar::text::check_text;
 use span_value::refusal::Refusal;
 use std::alloc::{AllocError, Global};
 
@@ -10,7 +10,7 @@ const USERS: &str =
 const JOIN: &str =
     "SELECT u.uid FROM Users u JOIN Albums a ON a.uid = u.uid WHERE u.uid BETWEEN 2 AND 5";
 
-fn repeated(
+fn repeat_text(
     alloc: Global,
     head: &str,
     part: &str,
@@ -42,7 +42,7 @@ fn texts_in_the_grammar(rt: HostRuntime) {
     ];
     for text in texts {
         assert_eq!(rt;
-            judge_text(rt.alloc(), Goal::Statement, text),
+            check_text(rt.alloc(), Goal::Statement, text),
             Ok(()),
             "at {text}"
         );
@@ -86,7 +86,7 @@ fn texts_not_in_the_grammar(rt: HostRuntime) {
     ];
     for text in texts {
         assert_eq!(rt;
-            judge_text(rt.alloc(), Goal::Statement, text),
+            check_text(rt.alloc(), Goal::Statement, text),
             Err(Refusal::Syntax),
             "at {text}"
         );
@@ -96,17 +96,17 @@ fn texts_not_in_the_grammar(rt: HostRuntime) {
 #[test]
 fn schemas(rt: HostRuntime) -> Result<(), Refusal> {
     let a = rt.alloc();
-    assert_eq!(rt; judge_text(a, Goal::Schema, USERS), Ok(()));
+    assert_eq!(rt; check_text(a, Goal::Schema, USERS), Ok(()));
     assert_eq!(rt;
-        judge_text(a, Goal::Schema, format!(in a; "{USERS};")?.as_str()),
+        check_text(a, Goal::Schema, format!(in a; "{USERS};")?.as_str()),
         Ok(())
     );
     assert_eq!(rt;
-        judge_text(a, Goal::Schema, format!(in a; "{USERS};;")?.as_str()),
+        check_text(a, Goal::Schema, format!(in a; "{USERS};;")?.as_str()),
         Err(Refusal::Syntax)
     );
     assert_eq!(rt;
-        judge_text(
+        check_text(
             a,
             Goal::Schema,
             "create table key (max bytes(7), b bool not null) primary key (max desc, b asc), interleave in parent no on delete no action"
@@ -114,23 +114,23 @@ fn schemas(rt: HostRuntime) -> Result<(), Refusal> {
         Ok(())
     );
     assert_eq!(rt;
-        judge_text(a, Goal::Schema, "CREATE TABLE t (a STRING) PRIMARY KEY (a)"),
+        check_text(a, Goal::Schema, "CREATE TABLE t (a STRING) PRIMARY KEY (a)"),
         Err(Refusal::Syntax)
     );
     assert_eq!(rt;
-        judge_text(a, Goal::Schema, "CREATE TABLE t () PRIMARY KEY (a)"),
+        check_text(a, Goal::Schema, "CREATE TABLE t () PRIMARY KEY (a)"),
         Err(Refusal::Syntax)
     );
     assert_eq!(rt;
-        judge_text(
+        check_text(
             a,
             Goal::Schema,
             "CREATE TABLE t (a FLOAT64) PRIMARY KEY (a)"
         ),
         Err(Refusal::Syntax)
     );
-    assert_eq!(rt; judge_text(a, Goal::Schema, JOIN), Err(Refusal::Syntax));
-    assert_eq!(rt; judge_text(a, Goal::Statement, USERS), Err(Refusal::Syntax));
+    assert_eq!(rt; check_text(a, Goal::Schema, JOIN), Err(Refusal::Syntax));
+    assert_eq!(rt; check_text(a, Goal::Statement, USERS), Err(Refusal::Syntax));
     Ok(())
 }
 
@@ -145,54 +145,54 @@ fn nesting(rt: HostRuntime) -> Result<(), Refusal> {
         ("CASE WHEN ", " THEN 1 END"),
         ("1 IN (", ")"),
     ] {
-        let inner = repeated(a, "SELECT ", part, 32, "1")?;
-        let good = repeated(a, inner.as_str(), close, 32, " FROM t")?;
+        let inner = repeat_text(a, "SELECT ", part, 32, "1")?;
+        let good = repeat_text(a, inner.as_str(), close, 32, " FROM t")?;
         assert_eq!(rt;
-            judge_text(a, Goal::Statement, good.as_str()),
+            check_text(a, Goal::Statement, good.as_str()),
             Ok(()),
             "at {part}"
         );
-        let deeper = repeated(a, "SELECT ", part, 33, "1")?;
-        let deep = repeated(a, deeper.as_str(), close, 33, " FROM t")?;
+        let deeper = repeat_text(a, "SELECT ", part, 33, "1")?;
+        let deep = repeat_text(a, deeper.as_str(), close, 33, " FROM t")?;
         assert_eq!(rt;
-            judge_text(a, Goal::Statement, deep.as_str()),
+            check_text(a, Goal::Statement, deep.as_str()),
             Err(Refusal::TooDeep),
             "at {part}"
         );
     }
     // The 33rd opening is refused at its place, and a fault before it first.
     assert_eq!(rt;
-        judge_text(
+        check_text(
             a,
             Goal::Statement,
-            repeated(a, "SELECT ", "(", 33, ")")?.as_str()
+            repeat_text(a, "SELECT ", "(", 33, ")")?.as_str()
         ),
         Err(Refusal::TooDeep)
     );
     assert_eq!(rt;
-        judge_text(
+        check_text(
             a,
             Goal::Statement,
-            repeated(a, "SELECT ", "(", 32, ")")?.as_str()
+            repeat_text(a, "SELECT ", "(", 32, ")")?.as_str()
         ),
         Err(Refusal::Syntax)
     );
     assert_eq!(rt;
-        judge_text(
+        check_text(
             a,
             Goal::Statement,
-            repeated(a, "SELECT , ", "(", 33, "1")?.as_str()
+            repeat_text(a, "SELECT , ", "(", 33, "1")?.as_str()
         ),
         Err(Refusal::Syntax)
     );
-    let names = repeated(a, "SELECT ", "(", 32, "IF 1")?;
+    let names = repeat_text(a, "SELECT ", "(", 32, "IF 1")?;
     assert_eq!(rt;
-        judge_text(a, Goal::Statement, names.as_str()),
+        check_text(a, Goal::Statement, names.as_str()),
         Err(Refusal::Syntax)
     );
-    let calls = repeated(a, "SELECT ", "(", 32, "f(1")?;
+    let calls = repeat_text(a, "SELECT ", "(", 32, "f(1")?;
     assert_eq!(rt;
-        judge_text(a, Goal::Statement, calls.as_str()),
+        check_text(a, Goal::Statement, calls.as_str()),
         Err(Refusal::TooDeep)
     );
     Ok(())
@@ -201,18 +201,18 @@ fn nesting(rt: HostRuntime) -> Result<(), Refusal> {
 #[test]
 fn long_texts(rt: HostRuntime) -> Result<(), Refusal> {
     let a = rt.alloc();
-    let text = repeated(a, "SELECT a", " OR a", 13000, " FROM t")?;
-    assert_eq!(rt; judge_text(a, Goal::Statement, text.as_str()), Ok(()));
+    let text = repeat_text(a, "SELECT a", " OR a", 13000, " FROM t")?;
+    assert_eq!(rt; check_text(a, Goal::Statement, text.as_str()), Ok(()));
     assert_eq!(rt;
-        judge_text(
+        check_text(
             a,
             Goal::Statement,
-            repeated(a, "SELECT", " ", 65531, "")?.as_str()
+            repeat_text(a, "SELECT", " ", 65531, "")?.as_str()
         ),
         Err(Refusal::TextTooLong)
     );
     assert_eq!(rt;
-        judge_text(a, Goal::Statement, "SELECT 'abc"),
+        check_text(a, Goal::Statement, "SELECT 'abc"),
         Err(Refusal::BadToken)
     );
     Ok(())

@@ -1,12 +1,12 @@
 //! Cases beyond the contracts: tokens worked out by hand, the places of faults, and that calls succeed.
-use span_lexer::lexer::{LONGEST_TEXT, Misread, tokens};
+use span_lexer::lexer::{LONGEST_TEXT, ReadError, tokens};
 use span_lexer::token::{Sign, Token, TokenKind, WORDS, Word};
 use span_lexer::word::reserved_word;
 use span_value::refusal::Refusal;
 use std::alloc::Global;
 
 /// The kinds of the tokens of a query text.
-fn kinds(alloc: Global, text: &str) -> Result<Vec<TokenKind>, Misread> {
+fn kinds(alloc: Global, text: &str) -> Result<Vec<TokenKind>, ReadError> {
     let mut kinds = Vec::new(alloc);
     for token in tokens(alloc, text)?.as_slice() {
         kinds.push(token.kind)?;
@@ -19,7 +19,7 @@ fn at(kind: TokenKind, start: usize, end: usize) -> Token {
 }
 
 #[test]
-fn a_query(rt: HostRuntime) -> Result<(), Misread> {
+fn a_query(rt: HostRuntime) -> Result<(), ReadError> {
     let found = tokens(
         rt.alloc(),
         "SELECT u.uid, -1.5 FROM Users -- all\nWHERE @p<>'it''s'",
@@ -47,7 +47,7 @@ fn a_query(rt: HostRuntime) -> Result<(), Misread> {
 }
 
 #[test]
-fn the_longest_sign(rt: HostRuntime) -> Result<(), Misread> {
+fn the_longest_sign(rt: HostRuntime) -> Result<(), ReadError> {
     let a = rt.alloc();
     let want = [
         TokenKind::Sign(Sign::LessEqual),
@@ -80,7 +80,7 @@ fn the_longest_sign(rt: HostRuntime) -> Result<(), Misread> {
 }
 
 #[test]
-fn literals(rt: HostRuntime) -> Result<(), Misread> {
+fn literals(rt: HostRuntime) -> Result<(), ReadError> {
     let a = rt.alloc();
     for text in [
         "''",
@@ -117,7 +117,7 @@ fn literals(rt: HostRuntime) -> Result<(), Misread> {
 }
 
 #[test]
-fn where_no_token_stands(rt: HostRuntime) {
+fn places_of_no_token(rt: HostRuntime) {
     let faults = [
         ("SELECT 'abc", 7),
         ("a 'x\ny'", 2),
@@ -146,7 +146,7 @@ fn where_no_token_stands(rt: HostRuntime) {
             Ok(_) => assert!(rt; false, "read {text}"),
             Err(why) => assert_eq!(rt;
                 why,
-                Misread {
+                ReadError {
                     refusal: Refusal::BadToken,
                     place
                 },
@@ -157,7 +157,7 @@ fn where_no_token_stands(rt: HostRuntime) {
 }
 
 #[test]
-fn limits(rt: HostRuntime) -> Result<(), Misread> {
+fn limits(rt: HostRuntime) -> Result<(), ReadError> {
     let a = rt.alloc();
     let mut word = String::new(a);
     for _ in 0..128 {
@@ -170,7 +170,7 @@ fn limits(rt: HostRuntime) -> Result<(), Misread> {
     word.push('w')?;
     assert_eq!(rt;
         tokens(a, word.as_str()),
-        Err(Misread {
+        Err(ReadError {
             refusal: Refusal::BadToken,
             place: 0
         })
@@ -193,7 +193,7 @@ fn limits(rt: HostRuntime) -> Result<(), Misread> {
 }
 
 #[test]
-fn words_in_any_case(rt: HostRuntime) -> Result<(), Misread> {
+fn words_in_any_case(rt: HostRuntime) -> Result<(), ReadError> {
     assert_eq!(rt; WORDS.len(), 36);
     for word in WORDS {
         assert_eq!(rt; reserved_word(word.spelling().as_bytes()), Some(word));

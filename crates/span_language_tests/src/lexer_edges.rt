@@ -1,5 +1,5 @@
 //! Tokens at the edges of what is one: each escape, each digit of an escape, comments, the longest parameter.
-use span_lexer::lexer::{Misread, tokens};
+use span_lexer::lexer::{ReadError, tokens};
 use span_lexer::token::TokenKind;
 use span_value::refusal::Refusal;
 use std::alloc::{AllocError, Global};
@@ -30,7 +30,7 @@ fn are_literals(alloc: Global, escape: &str) -> Result<(bool, bool), AllocError>
 }
 
 #[test]
-fn each_character_behind_a_backslash(rt: HostRuntime) -> Result<(), AllocError> {
+fn each_character_after_a_backslash(rt: HostRuntime) -> Result<(), AllocError> {
     let a = rt.alloc();
     for byte in 0..128u8 {
         let letter = char::from(byte);
@@ -80,7 +80,7 @@ fn each_coded_character(rt: HostRuntime) -> Result<(), AllocError> {
 fn count(alloc: Global, text: &str) -> Result<usize, (Refusal, usize)> {
     match tokens(alloc, text) {
         Ok(found) => Ok(found.len()),
-        Err(Misread { refusal, place }) => Err((refusal, place)),
+        Err(ReadError { refusal, place }) => Err((refusal, place)),
     }
 }
 

@@ -1,8 +1,8 @@
 //! Queries read as trees, worked out by hand; the places of refusals; that the stack holds the deepest tree.
-use span_lexer::lexer::Misread;
+use span_lexer::lexer::ReadError;
 use span_parser::parse::parse_select;
 use span_parser::tree::{Item, Limit, Output, Query, SortColumn, SortKey};
-use span_syntax::tree::{Column, Comparison, Expr, Operator, Spelling};
+use span_syntax::tree::{Column, ComparisonOperator, Expr, Operator, Spelling};
 use span_value::refusal::Refusal;
 use std::alloc::{AllocError, Global};
 
@@ -10,14 +10,14 @@ use std::alloc::{AllocError, Global};
 fn discard<T: Drop>(_value: T) {}
 
 /// The refusal of a query text and its place, if it is refused.
-fn refused(alloc: Global, text: &str) -> Option<(Refusal, usize)> {
+fn refusal(alloc: Global, text: &str) -> Option<(Refusal, usize)> {
     match parse_select(alloc, text).err() {
-        Some(Misread { refusal, place }) => Some((refusal, place)),
+        Some(ReadError { refusal, place }) => Some((refusal, place)),
         None => None,
     }
 }
 
-fn repeated(
+fn repeat_text(
     alloc: Global,
     head: &str,
     part: &str,
@@ -33,7 +33,7 @@ fn repeated(
 }
 
 /// The output expression of a query at a place, counted from 0.
-fn shown(query: &Query, place: usize) -> Option<&Expr> {
+fn output_expr(query: &Query, place: usize) -> Option<&Expr> {
     match query.first.outputs.as_slice().get(place) {
         Some(Output::Value(value, _)) => Some(value),
         _ => None,
@@ -72,7 +72,7 @@ fn is_ordered_by_place(query: &Query, at: usize, place: u64, descends: bool) -> 
 }
 
 #[test]
-fn clauses(rt: HostRuntime) -> Result<(), Misread> {
+fn clauses(rt: HostRuntime) -> Result<(), ReadError> {
     let query = parse_select(
         rt.alloc(),
         "SELECT DISTINCT u.uid x, *, a.* FROM Users AS u LEFT JOIN (SELECT 1 FROM t) a ON TRUE GROUP BY b UNION ALL SELECT 2 FROM v ORDER BY y DESC, 2 LIMIT 3 OFFSET 4;",
@@ -94,7 +94,7 @@ fn clauses(rt: HostRuntime) -> Result<(), Misread> {
 /// Whether it is `x - a * b < y`, read as `(x - (a * b)) < y`.
 fn is_difference_below(expr: Option<&Expr>) -> bool {
     match expr {
-        Some(Expr::Compare(left, Comparison::Less, _)) => match left.get() {
+        Some(Expr::Compare(left, ComparisonOperator::Less, _)) => match left.get() {
             Expr::Chain(_, more) => match more.as_slice() {
                 [link] => {
                     link.operator == Operator::Minus && matches!(&link.operand, Expr::Chain(_, _))
@@ -108,9 +108,9 @@ fn is_difference_below(expr: Option<&Expr>) -> bool {
 }
 
 #[test]
-fn product_before_difference(rt: HostRuntime) -> Result<(), Misread> {
+fn product_before_difference(rt: HostRuntime) -> Result<(), ReadError> {
     let query = parse_select(rt.alloc(), "SELECT 1 - 2 * 3 < 4 FROM t")?;
-    assert!(rt; is_difference_below(shown(&query, 0)));
+    assert!(rt; is_difference_below(output_expr(&query, 0)));
     discard(query);
     Ok(())
 }
@@ -127,9 +127,9 @@ fn is_not_between_and(expr: Option<&Expr>) -> bool {
 }
 
 #[test]
-fn between_inside_not_inside_and(rt: HostRuntime) -> Result<(), Misread> {
+fn between_inside_not_inside_and(rt: HostRuntime) -> Result<(), ReadError> {
     let query = parse_select(rt.alloc(), "SELECT NOT a BETWEEN 1 AND 2 AND b FROM t")?;
-    assert!(rt; is_not_between_and(shown(&query, 0)));
+    assert!(rt; is_not_between_and(output_expr(&query, 0)));
     discard(query);
     Ok(())
 }
@@ -143,11 +143,11 @@ fn is_integer(expr: Option<&Expr>, is_negative: bool, value: u64) -> bool {
 }
 
 #[test]
-fn minus_before_an_integer(rt: HostRuntime) -> Result<(), Misread> {
+fn minus_before_an_integer(rt: HostRuntime) -> Result<(), ReadError> {
     let query = parse_select(rt.alloc(), "SELECT - 5, -(5), 007 FROM t")?;
-    assert!(rt; is_integer(shown(&query, 0), true, 5));
-    assert!(rt; matches!(shown(&query, 1), Some(Expr::Negative(_))));
-    assert!(rt; is_integer(shown(&query, 2), false, 7));
+    assert!(rt; is_integer(output_expr(&query, 0), true, 5));
+    assert!(rt; matches!(output_expr(&query, 1), Some(Expr::Negative(_))));
+    assert!(rt; is_integer(output_expr(&query, 2), false, 7));
     discard(query);
     Ok(())
 }
@@ -178,18 +178,18 @@ fn is_literal(expr: Option<&Expr>, text: &str) -> bool {
 }
 
 #[test]
-fn literals_and_columns(rt: HostRuntime) -> Result<(), Misread> {
+fn literals_and_columns(rt: HostRuntime) -> Result<(), ReadError> {
     let query = parse_select(
         rt.alloc(),
         "SELECT 'a\\n', B'\\xff', @p, u.a, TRUE, false, NULL FROM t",
     )?;
-    assert!(rt; is_literal(shown(&query, 0), "'a\\n'"));
-    assert!(rt; is_literal(shown(&query, 1), "B'\\xff'"));
-    assert!(rt; is_literal(shown(&query, 2), "@p"));
-    assert!(rt; is_column(shown(&query, 3), "u", "a"));
-    assert!(rt; matches!(shown(&query, 4), Some(Expr::Truth(true, _))));
-    assert!(rt; matches!(shown(&query, 5), Some(Expr::Truth(false, _))));
-    assert!(rt; matches!(shown(&query, 6), Some(Expr::Null(_))));
+    assert!(rt; is_literal(output_expr(&query, 0), "'a\\n'"));
+    assert!(rt; is_literal(output_expr(&query, 1), "B'\\xff'"));
+    assert!(rt; is_literal(output_expr(&query, 2), "@p"));
+    assert!(rt; is_column(output_expr(&query, 3), "u", "a"));
+    assert!(rt; matches!(output_expr(&query, 4), Some(Expr::Truth(true, _))));
+    assert!(rt; matches!(output_expr(&query, 5), Some(Expr::Truth(false, _))));
+    assert!(rt; matches!(output_expr(&query, 6), Some(Expr::Null(_))));
     discard(query);
     Ok(())
 }
@@ -213,16 +213,16 @@ fn is_case(expr: Option<&Expr>, arms: usize, is_full: bool) -> bool {
 }
 
 #[test]
-fn calls_and_cases(rt: HostRuntime) -> Result<(), Misread> {
+fn calls_and_cases(rt: HostRuntime) -> Result<(), ReadError> {
     let query = parse_select(
         rt.alloc(),
         "SELECT f(), COUNT(*), if(a, 1, 2), CASE a WHEN 1 THEN 2 WHEN 3 THEN 4 ELSE 5 END, CASE WHEN a THEN b END FROM t",
     )?;
-    assert!(rt; is_call(shown(&query, 0), "f", 0));
-    assert!(rt; matches!(shown(&query, 1), Some(Expr::CallStar(name)) if is_spelt(name, "COUNT")));
-    assert!(rt; is_call(shown(&query, 2), "if", 3));
-    assert!(rt; is_case(shown(&query, 3), 2, true));
-    assert!(rt; is_case(shown(&query, 4), 1, false));
+    assert!(rt; is_call(output_expr(&query, 0), "f", 0));
+    assert!(rt; matches!(output_expr(&query, 1), Some(Expr::CallStar(name)) if is_spelt(name, "COUNT")));
+    assert!(rt; is_call(output_expr(&query, 2), "if", 3));
+    assert!(rt; is_case(output_expr(&query, 3), 2, true));
+    assert!(rt; is_case(output_expr(&query, 4), 1, false));
     discard(query);
     Ok(())
 }
@@ -231,43 +231,43 @@ fn calls_and_cases(rt: HostRuntime) -> Result<(), Misread> {
 fn places(rt: HostRuntime) -> Result<(), AllocError> {
     let a = rt.alloc();
     assert_eq!(rt;
-        refused(a, "SELECT a FROM t WHERE"),
+        refusal(a, "SELECT a FROM t WHERE"),
         Some((Refusal::Syntax, 21))
     );
     assert_eq!(rt;
-        refused(a, "SELECT a FROM select"),
+        refusal(a, "SELECT a FROM select"),
         Some((Refusal::Syntax, 14))
     );
     assert_eq!(rt;
-        refused(a, "SELECT a AS from FROM t"),
+        refusal(a, "SELECT a AS from FROM t"),
         Some((Refusal::Syntax, 12))
     );
     assert_eq!(rt;
-        refused(a, "SELECT @from FROM t"),
+        refusal(a, "SELECT @from FROM t"),
         Some((Refusal::BadToken, 7))
     );
     assert_eq!(rt;
-        refused(a, "SELECT a FROM t; x"),
+        refusal(a, "SELECT a FROM t; x"),
         Some((Refusal::Syntax, 17))
     );
-    let deep = repeated(a, "SELECT ", "(", 33, "1")?;
-    assert_eq!(rt; refused(a, deep.as_str()), Some((Refusal::TooDeep, 39)));
+    let deep = repeat_text(a, "SELECT ", "(", 33, "1")?;
+    assert_eq!(rt; refusal(a, deep.as_str()), Some((Refusal::TooDeep, 39)));
     Ok(())
 }
 
 #[test]
 fn deepest_and_longest(rt: HostRuntime) -> Result<(), AllocError> {
     let a = rt.alloc();
-    let inner = repeated(a, "SELECT ", "CASE WHEN ", 32, "1")?;
-    let deep = repeated(a, inner.as_str(), " THEN 1 END", 32, " FROM t")?;
-    assert_eq!(rt; refused(a, deep.as_str()), None);
-    let long = repeated(a, "SELECT a", " OR a", 13000, " FROM t")?;
-    assert_eq!(rt; refused(a, long.as_str()), None);
-    let blanks = repeated(a, "SELECT a FROM t", " ", 65521, "")?;
-    assert_eq!(rt; refused(a, blanks.as_str()), None);
-    let longer = repeated(a, "SELECT a FROM t", " ", 65522, "")?;
+    let inner = repeat_text(a, "SELECT ", "CASE WHEN ", 32, "1")?;
+    let deep = repeat_text(a, inner.as_str(), " THEN 1 END", 32, " FROM t")?;
+    assert_eq!(rt; refusal(a, deep.as_str()), None);
+    let long = repeat_text(a, "SELECT a", " OR a", 13000, " FROM t")?;
+    assert_eq!(rt; refusal(a, long.as_str()), None);
+    let blanks = repeat_text(a, "SELECT a FROM t", " ", 65521, "")?;
+    assert_eq!(rt; refusal(a, blanks.as_str()), None);
+    let longer = repeat_text(a, "SELECT a FROM t", " ", 65522, "")?;
     assert_eq!(rt;
-        refused(a, longer.as_str()),
+        refusal(a, longer.as_str()),
         Some((Refusal::TextTooLong, 65536))
     );
     Ok(())

@@ -1,5 +1,5 @@
 //! Schemas read from their texts, worked out by hand.
-use span_lexer::lexer::Misread;
+use span_lexer::lexer::ReadError;
 use span_schema::table::Table;
 use span_schematext::text::{parse_schema, parse_tables};
 use span_value::refusal::Refusal;
@@ -77,7 +77,7 @@ fn two_tables(rt: HostRuntime) -> Result<(), Refusal> {
 }
 
 #[test]
-fn words_that_are_names(rt: HostRuntime) -> Result<(), Misread> {
+fn words_that_are_names(rt: HostRuntime) -> Result<(), ReadError> {
     let tables = parse_tables(
         rt.alloc(),
         "create table key (max bytes(7), b bool not null) primary key (max desc, b asc), interleave in parent no on delete no action;",
@@ -86,7 +86,7 @@ fn words_that_are_names(rt: HostRuntime) -> Result<(), Misread> {
     Ok(())
 }
 
-fn refused(alloc: Global, text: &str) -> Option<Refusal> {
+fn refusal(alloc: Global, text: &str) -> Option<Refusal> {
     parse_schema(alloc, text).err()
 }
 
@@ -131,7 +131,7 @@ fn refusals(rt: HostRuntime) {
         ),
     ];
     for (text, why) in cases {
-        assert_eq!(rt; refused(rt.alloc(), text), Some(why), "at {text}");
+        assert_eq!(rt; refusal(rt.alloc(), text), Some(why), "at {text}");
     }
 }
 
@@ -147,7 +147,7 @@ fn many(alloc: Global, count: usize) -> Result<String, AllocError> {
 #[test]
 fn most_tables(rt: HostRuntime) -> Result<(), AllocError> {
     let a = rt.alloc();
-    assert_eq!(rt; refused(a, many(a, 64)?.as_str()), None);
-    assert_eq!(rt; refused(a, many(a, 65)?.as_str()), Some(Refusal::TooMany));
+    assert_eq!(rt; refusal(a, many(a, 64)?.as_str()), None);
+    assert_eq!(rt; refusal(a, many(a, 65)?.as_str()), Some(Refusal::TooMany));
     Ok(())
 }

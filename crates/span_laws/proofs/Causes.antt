@@ -1,7 +1,7 @@
 use Rattle.std.proofs.Common.{◌≡◌, Bool, true, false, not, ◌||◌, [], ◌∷◌, None, refl}
 use Rattle.span_value.specs.declared.refusal.Refusal.TheVariants as refusal
-use Rattle.span_machine.specs.declared.transaction.Outcome.{Outcome}
-use Rattle.span_machine.specs.declared.transaction.Outcome.TheVariants as outcome
+use Rattle.span_machine.specs.declared.transaction.Decision.{Decision}
+use Rattle.span_machine.specs.declared.transaction.Decision.TheVariants as decision
 use Rattle.span_machine.specs.Machine.{first_cause, undecided}
 
 -- what a step that is not refused has found
@@ -38,10 +38,10 @@ may_apply false true true e = absurd (cc)
 may_apply false false early e = absurd (cc)
 may_apply true p early e = absurd (cc)
 
-pub is_undecided_outcome : (o : Outcome) → undecided o ≡ true → o ≡ outcome.Undecided
-is_undecided_outcome outcome.Undecided e = refl
-is_undecided_outcome (outcome.Committed ts) e = absurd (cc)
-is_undecided_outcome outcome.Aborted e = absurd (cc)
+pub undecided_is : (o : Decision) → undecided o ≡ true → o ≡ decision.Undecided
+undecided_is decision.Undecided e = refl
+undecided_is (decision.Committed ts) e = absurd (cc)
+undecided_is decision.Aborted e = absurd (cc)
 
 pub may_trim : (backward safe : Bool) → first_cause ((backward, refusal.TrimBackward) ∷ (not safe, refusal.TrimTooNew) ∷ []) ≡ None → (backward ≡ false) × (safe ≡ true)
 may_trim false true e = (refl, refl)

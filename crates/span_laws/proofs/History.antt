@@ -10,7 +10,7 @@ use Rattle.span_machine.specs.declared.step.Reply.TheVariants.{Rows, Refused}
 use Rattle.span_machine.specs.declared.transaction.Commit.{Commit}
 use Rattle.span_machine.specs.Tables.{tables, upto, mutations_of}
 use Rattle.span_machine.specs.Meaning.{means}
-use Rattle.span_machine.specs.Commits.{Begun, begun_by, committed_by, commits_after, commits_of, Asked, asked_by}
+use Rattle.span_machine.specs.Commits.{BegunTransaction, begun_by, committed_by, commits_after, commits_of, OpenedQuery, opened_by}
 use Rattle.span_machine.specs.Run.{Run, AreOfSchema, IsMeant, IsRight, AreRight, IsHistory}
 use Rattle.span_machine.specs.Machine.{Machine, Understanding, start}
 use Rattle.span_laws.proofs.Locality.{IsRoot, apply_alike, empty_database}
@@ -24,19 +24,19 @@ use Rattle.span_schema.specs.Lineages.{MeetsRules}
 
 module _ (understands : Understanding) (schema : List Table) (rules : MeetsRules schema) where
   -- the log grows by just what the replies commit
-  pub run_log : (begun : List Begun) (asked : List Asked) (m : Machine) (steps : List Step) (replies : List Reply) (last : Machine) → Run understands schema m steps replies last → AreOfSchema schema steps → IsReached schema m → IsKnown understands begun asked m
+  pub run_log : (begun : List BegunTransaction) (asked : List OpenedQuery) (m : Machine) (steps : List Step) (replies : List Reply) (last : Machine) → Run understands schema m steps replies last → AreOfSchema schema steps → IsReached schema m → IsKnown understands begun asked m
       → last.log ≡ m.log ++ commits_after begun steps replies
   run_log begun asked m [] [] last run of reached known = ap (λ (n : Machine). n.log) run ∙ sym (append-nil m.log)
   run_log begun asked m [] (r ∷ rs) last run of reached known = absurd run
   run_log begun asked m (x ∷ xs) [] last run of reached known = absurd run
   run_log begun asked m (x ∷ xs) (r ∷ rs) last run of reached known =
       let one = step_tells understands schema begun asked m x r run.0 run.1 reached.sound known (λ s. reached_tables schema rules m s reached) in
-      run_log (begun_by x r ++ begun) (asked_by x r ++ asked) run.0 xs rs last run.2 of.1 (step_reached schema rules understands m x r run.0 run.1 of.0 reached) one.known
+      run_log (begun_by x r ++ begun) (opened_by x r ++ asked) run.0 xs rs last run.2 of.1 (step_reached schema rules understands m x r run.0 run.1 of.0 reached) one.known
       ∙ ap (λ l. l ++ commits_after (begun_by x r ++ begun) xs rs) one.log
       ∙ append_assoc {A = Commit} m.log (committed_by begun x r) (commits_after (begun_by x r ++ begun) xs rs)
 
   -- what is meant by the log so far, and is sealed, is meant by all that the run commits
-  meant_sealed : (asked : List Asked) (m : Machine) (steps : List Step) (replies : List Reply) (last : Machine) (query s : ℕ) (meant : rows.Rows) → Run understands schema m steps replies last
+  meant_sealed : (asked : List OpenedQuery) (m : Machine) (steps : List Step) (replies : List Reply) (last : Machine) (query s : ℕ) (meant : rows.Rows) → Run understands schema m steps replies last
       → IsReached schema m → IsReached schema last → IsMeant understands schema m.log asked query s meant → ((root : Root) → IsRoot schema root → IsSealed root s m) → IsMeant understands schema last.log asked query s meant
   meant_sealed asked m steps replies last query s meant run reached reached_last now sealed = record {
     question = now.question;
@@ -51,7 +51,7 @@ module _ (understands : Understanding) (schema : List Table) (rules : MeetsRules
   }
 
   -- what is meant without a leaf is meant on any tables
-  meant_leafless : (asked : List Asked) (m last : Machine) (query s : ℕ) (meant : rows.Rows) → IsReached schema last → (now : IsMeant understands schema m.log asked query s meant) → now.statement.leaves ≡ [] → IsMeant understands schema last.log asked query s meant
+  meant_leafless : (asked : List OpenedQuery) (m last : Machine) (query s : ℕ) (meant : rows.Rows) → IsReached schema last → (now : IsMeant understands schema m.log asked query s meant) → now.statement.leaves ≡ [] → IsMeant understands schema last.log asked query s meant
   meant_leafless asked m last query s meant reached_last now none =
       let there = reached_tables schema rules last s reached_last in
       record {
@@ -65,7 +65,7 @@ module _ (understands : Understanding) (schema : List Table) (rules : MeetsRules
         is = now.is ∙ ap (λ l. means schema now.statement.query l now.db) none ∙ ap (λ l. means schema now.statement.query l there.0) (sym none);
       }
 
-  meant_at_end : (asked : List Asked) (m : Machine) (steps : List Step) (replies : List Reply) (last : Machine) (query s : ℕ) (meant : rows.Rows) → Run understands schema m steps replies last
+  meant_at_end : (asked : List OpenedQuery) (m : Machine) (steps : List Step) (replies : List Reply) (last : Machine) (query s : ℕ) (meant : rows.Rows) → Run understands schema m steps replies last
       → IsReached schema m → IsReached schema last → IsMeantNow understands schema m asked query s meant → IsMeant understands schema last.log asked query s meant
   meant_at_end asked m steps replies last query s meant run reached reached_last is = elim is.stays [
     | inl sealed ↦ meant_sealed asked m steps replies last query s meant run reached reached_last is.now sealed
@@ -73,14 +73,14 @@ module _ (understands : Understanding) (schema : List Table) (rules : MeetsRules
   ]
 
   -- an answer that is right now is right by all that the run commits
-  right_at_end : (asked : List Asked) (m : Machine) (steps : List Step) (replies : List Reply) (last : Machine) (x : Step) (r : Reply) → Run understands schema m steps replies last
+  right_at_end : (asked : List OpenedQuery) (m : Machine) (steps : List Step) (replies : List Reply) (last : Machine) (x : Step) (r : Reply) → Run understands schema m steps replies last
       → IsReached schema m → IsReached schema last → IsRightNow understands schema m asked x r → IsRight understands schema last.log asked x r
   right_at_end asked m steps replies last (Finish query) (Rows s found) run reached reached_last right = meant_at_end asked m steps replies last query s _ run reached reached_last right
   right_at_end asked m steps replies last (Finish query) (Refused why) run reached reached_last right = λ e. let fault = right e in (fault.0, meant_at_end asked m steps replies last query fault.0 _ run reached reached_last fault.1)
   right_at_end asked m steps replies last _ _ run reached reached_last right = tt
 
   -- every answer of a run is right by all that it commits
-  pub run_right : (begun : List Begun) (asked : List Asked) (m : Machine) (steps : List Step) (replies : List Reply) (last : Machine) → Run understands schema m steps replies last → AreOfSchema schema steps
+  pub run_right : (begun : List BegunTransaction) (asked : List OpenedQuery) (m : Machine) (steps : List Step) (replies : List Reply) (last : Machine) → Run understands schema m steps replies last → AreOfSchema schema steps
       → IsReached schema m → IsKnown understands begun asked m → AreRight understands schema last.log asked steps replies
   run_right begun asked m [] [] last run of reached known = tt
   run_right begun asked m [] (r ∷ rs) last run of reached known = absurd run
@@ -88,7 +88,7 @@ module _ (understands : Understanding) (schema : List Table) (rules : MeetsRules
   run_right begun asked m (x ∷ xs) (r ∷ rs) last run of reached known =
       let one = step_tells understands schema begun asked m x r run.0 run.1 reached.sound known (λ s. reached_tables schema rules m s reached) in (
         right_at_end asked m (x ∷ xs) (r ∷ rs) last x r run reached (run_reached schema rules understands m (x ∷ xs) (r ∷ rs) last run of reached) one.right,
-        run_right (begun_by x r ++ begun) (asked_by x r ++ asked) run.0 xs rs last run.2 of.1 (step_reached schema rules understands m x r run.0 run.1 of.0 reached) one.known,
+        run_right (begun_by x r ++ begun) (opened_by x r ++ asked) run.0 xs rs last run.2 of.1 (step_reached schema rules understands m x r run.0 run.1 of.0 reached) one.known,
       )
 
 -- the headline

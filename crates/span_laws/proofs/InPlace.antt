@@ -3,14 +3,14 @@ use Rattle.std.specs.Prelude.{slice_get, filter}
 use Rattle.std.proofs.lemmas.Bool.Decides.{nat_tests}
 use Rattle.std.proofs.lemmas.List.{append-nil}
 use Rattle.std.specs.List.{AllByRecursion}
-use Rattle.span_machine.specs.declared.slot.Book.{Book}
+use Rattle.span_machine.specs.declared.slot.SlotState.{SlotState}
 use Rattle.span_machine.specs.declared.transaction.Commit.{Commit}
 use Rattle.span_schema.specs.declared.table.Table.{Table}
 use Rattle.span_mutate.specs.declared.mutation.CheckedMutation.{CheckedMutation}
 use Rattle.span_machine.specs.declared.transaction.Prepared.{Prepared}
 use Rattle.span_machine.specs.declared.transaction.OpenTransaction.{OpenTransaction}
-use Rattle.span_machine.specs.declared.transaction.Outcome.{Outcome}
-use Rattle.span_machine.specs.declared.transaction.Outcome.TheVariants as outcome
+use Rattle.span_machine.specs.declared.transaction.Decision.{Decision}
+use Rattle.span_machine.specs.declared.transaction.Decision.TheVariants as decision
 use Rattle.span_mutate.specs.Checking.{and_then}
 use Rattle.span_mutate.specs.Database.{apply_one, apply}
 use Rattle.span_mutate.specs.declared.row.TableRow.{TableRow}
@@ -62,24 +62,24 @@ pub record IsPromised (schema : List Table) (root : Root) (last : ℕ) (cs : Lis
   pub through : Succeeds schema (changes_at schema root cs ++ filter (is_at schema root) t.mutations)
 
 -- what the one transaction that claims the directory says of its commits, by its decision
-abbrev pub IsClaimed : List Table → Root → ℕ → List Commit → OpenTransaction → Outcome → Type 0
-IsClaimed schema root last cs t outcome.Undecided = IsPromised schema root last cs t
-IsClaimed schema root last cs t (outcome.Committed ts) = IsBelow (max last ts) cs
-IsClaimed schema root last cs t outcome.Aborted = IsBelow last cs
+abbrev pub IsClaimed : List Table → Root → ℕ → List Commit → OpenTransaction → Decision → Type 0
+IsClaimed schema root last cs t decision.Undecided = IsPromised schema root last cs t
+IsClaimed schema root last cs t (decision.Committed ts) = IsBelow (max last ts) cs
+IsClaimed schema root last cs t decision.Aborted = IsBelow last cs
 
 -- at most one transaction claims the directory
 abbrev pub IsClaim : List Table → Root → ℕ → List Commit → List OpenTransaction → Type 0
 IsClaim schema root last cs [] = IsBelow last cs
-IsClaim schema root last cs (t ∷ ts) = (ts ≡ []) × IsClaimed schema root last cs t t.outcome
+IsClaim schema root last cs (t ∷ ts) = (ts ≡ []) × IsClaimed schema root last cs t t.decision
 
 -- the directory's commits are in the log in the order of their timestamps, and succeed
 pub record IsInPlace (schema : List Table) (root : Root) (slot : ℕ) (m : Machine) : Type 0 where
-  pub only : (i : ℕ) (b : Book) → slice_get m.books i ≡ Some b → holds b root ≡ true → i ≡ slot
-  pub held : (b : Book) → slice_get m.books slot ≡ Some b → holds b root ≡ true
+  pub only : (i : ℕ) (b : SlotState) → slice_get m.slots i ≡ Some b → holds b root ≡ true → i ≡ slot
+  pub held : (b : SlotState) → slice_get m.slots slot ≡ Some b → holds b root ≡ true
   pub in_range : IsUnder timestamp_end m.log
   pub rising : IsRising (commits_at schema root m.log)
   pub through : Succeeds schema (changes_at schema root (commits_at schema root m.log))
-  pub claim : (b : Book) → slice_get m.books slot ≡ Some b → IsClaim schema root b.last (commits_at schema root m.log) (filter (claims schema root slot) m.transactions)
+  pub claim : (b : SlotState) → slice_get m.slots slot ≡ Some b → IsClaim schema root b.last (commits_at schema root m.log) (filter (claims schema root slot) m.transactions)
 
 -- ---- lists
 
@@ -183,7 +183,7 @@ rising_filter s (c ∷ cs) up = elim (nat_le c.timestamp s) as (λ b. IsRising (
 pub changes_at-upto : (schema : List Table) (root : Root) (log : List Commit) (s : ℕ) → IsRising (commits_at schema root log) → changes_at schema root (upto log s) ≡ changes_at schema root (filter (λ d. nat_le d.timestamp s) (commits_at schema root log))
 changes_at-upto schema root log s up =
     sym (changes_at-filter schema root (upto log s))
-    ∙ ap (changes_at schema root) (filter-in_order is_before is_before-order (touches schema root) (filter (λ d. nat_le d.timestamp s) log)
+    ∙ ap (changes_at schema root) (filter-insertion_sort is_before is_before-order (touches schema root) (filter (λ d. nat_le d.timestamp s) log)
     ∙ ap (in_order is_before) (filter_swap (touches schema root) (λ d. nat_le d.timestamp s) log)
     ∙ in_order_rising (filter (λ d. nat_le d.timestamp s) (commits_at schema root log)) (rising_filter s (commits_at schema root log) up))
 

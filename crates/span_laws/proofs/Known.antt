@@ -24,14 +24,14 @@ use Rattle.span_machine.specs.declared.step.Reply.TheVariants as reply
 use Rattle.span_machine.specs.declared.step.Reply.TheVariants.{Rows, Refused}
 use Rattle.span_machine.specs.declared.step.Verdict.TheVariants as verdict
 use Rattle.span_machine.specs.declared.transaction.OpenTransaction.{OpenTransaction}
-use Rattle.span_machine.specs.declared.transaction.Outcome.{Outcome}
-use Rattle.span_machine.specs.declared.transaction.Outcome.TheVariants as outcome
+use Rattle.span_machine.specs.declared.transaction.Decision.{Decision}
+use Rattle.span_machine.specs.declared.transaction.Decision.TheVariants as decision
 use Rattle.span_machine.specs.Tables.{tables}
 use Rattle.span_machine.specs.Meaning.{means}
-use Rattle.span_machine.specs.Commits.{Begun, begun_by, commit_by, committed_by, Asked, asked_by}
+use Rattle.span_machine.specs.Commits.{BegunTransaction, begun_by, commit_by, committed_by, OpenedQuery, opened_by}
 use Rattle.span_machine.specs.Run.{IsMeant}
 use Rattle.span_machine.specs.Machine as machine
-use Rattle.span_machine.specs.Machine.{Machine, Understanding, IsUnderstood, committed, opened, as_opened, is_covered, tables_of, or_refusal, Answer, Steps, answer, start, is_transaction, is_query, changed_first, without_first, add_prepared, prepare_timestamp, commit_timestamp, commit_of, with_outcome, without_prepared, applied_at, cover, answer_on, meaning}
+use Rattle.span_machine.specs.Machine.{Machine, Understanding, IsUnderstood, committed, opened, as_opened, is_covered, tables_of, rows_or_refusal, Answer, Steps, answer, start, is_transaction, is_query, changed_first, without_first, add_prepared, prepare_timestamp, commit_timestamp, commit_of, with_decision, without_prepared, applied_at, cover, answer_on, meaning}
 use Rattle.span_laws.proofs.Tests.{first_true, second_true, number_same}
 use Rattle.span_laws.proofs.Lists.{found_passes, all_push, all_changed, all_without, all_found, all_weaker}
 use Rattle.span_laws.proofs.Sealed.{IsSealed}
@@ -43,12 +43,12 @@ use Rattle.span_machine.proofs.Leaves.{tables_covered, tables_opened, covered_or
 -- ---- the invariant
 
 -- the transaction as it was begun
-abbrev pub IsBegun : List Begun → OpenTransaction → Type 0
+abbrev pub IsBegun : List BegunTransaction → OpenTransaction → Type 0
 IsBegun begun t = find (λ b. b.number == t.number) begun ≡ Some (record { number = t.number; mutations = t.mutations })
 
 -- the query as it was asked: its query text is understood as a statement with its query and its leaves
-pub record IsAsked (understands : Understanding) (asked : List Asked) (q : OpenQuery) : Type 0 where
-  pub question : Asked
+pub record IsAsked (understands : Understanding) (asked : List OpenedQuery) (q : OpenQuery) : Type 0 where
+  pub question : OpenedQuery
   pub found : find (λ a. a.number == q.number) asked ≡ Some question
   pub number : question.number ≡ q.number
   pub at : question.s ≡ q.s
@@ -58,7 +58,7 @@ pub record IsAsked (understands : Understanding) (asked : List Asked) (q : OpenQ
   pub leaves : statement.leaves ≡ tables_of q.leaves
 
 -- the open transactions are as they were begun and the open queries as they were asked, and later ones get higher numbers
-pub record IsKnown (understands : Understanding) (begun : List Begun) (asked : List Asked) (m : Machine) : Type 0 where
+pub record IsKnown (understands : Understanding) (begun : List BegunTransaction) (asked : List OpenedQuery) (m : Machine) : Type 0 where
   pub transactions : AllByRecursion (IsBegun begun) m.transactions
   pub begun_below : AllByRecursion (λ b. b.number < m.next_transaction) begun
   pub queries : AllByRecursion (IsAsked understands asked) m.queries
@@ -66,28 +66,28 @@ pub record IsKnown (understands : Understanding) (begun : List Begun) (asked : L
 
 -- What is answered of a query is what it means by the log so far, and no later step changes that: what it is to see is sealed, or it
 -- has no leaf.
-pub record IsMeantNow (understands : Understanding) (schema : List Table) (m : Machine) (asked : List Asked) (query s : ℕ) (meant : rows.Rows) : Type 0 where
+pub record IsMeantNow (understands : Understanding) (schema : List Table) (m : Machine) (asked : List OpenedQuery) (query s : ℕ) (meant : rows.Rows) : Type 0 where
   pub now : IsMeant understands schema m.log asked query s meant
   pub stays : ((root : Root) → IsRoot schema root → IsSealed root s m) ⊎ (now.statement.leaves ≡ [])
 
-abbrev pub IsRightNow : Understanding → List Table → Machine → List Asked → Step → Reply → Type 0
+abbrev pub IsRightNow : Understanding → List Table → Machine → List OpenedQuery → Step → Reply → Type 0
 IsRightNow understands schema m asked (Finish query) (Rows s found) = IsMeantNow understands schema m asked query s (Some found)
 IsRightNow understands schema m asked (Finish query) (Refused why) = why ≡ refusal.ArithmeticFault → (s : ℕ) × IsMeantNow understands schema m asked query s None
 IsRightNow understands schema m asked _ _ = Unit {0}
 
 -- what a step owes: the machine is known after it, the log has what the reply commits, and the reply is right
-pub record Tells (understands : Understanding) (schema : List Table) (begun : List Begun) (asked : List Asked) (m : Machine) (step : Step) (r : Reply) (n : Machine) : Type 0 where
-  pub known : IsKnown understands (begun_by step r ++ begun) (asked_by step r ++ asked) n
+pub record Tells (understands : Understanding) (schema : List Table) (begun : List BegunTransaction) (asked : List OpenedQuery) (m : Machine) (step : Step) (r : Reply) (n : Machine) : Type 0 where
+  pub known : IsKnown understands (begun_by step r ++ begun) (opened_by step r ++ asked) n
   pub log : n.log ≡ m.log ++ committed_by begun step r
   pub right : IsRightNow understands schema m asked step r
 
 -- the step and its reply begin, ask and commit nothing
-pub record IsQuiet (begun : List Begun) (step : Step) (r : Reply) : Type 0 where
+pub record IsQuiet (begun : List BegunTransaction) (step : Step) (r : Reply) : Type 0 where
   pub no_begun : begun_by step r ≡ []
-  pub no_asked : asked_by step r ≡ []
+  pub no_asked : opened_by step r ≡ []
   pub no_commit : committed_by begun step r ≡ []
 
-refusal_quiet : (begun : List Begun) (step : Step) (why : Refusal) → IsQuiet begun step (Refused why)
+refusal_quiet : (begun : List BegunTransaction) (step : Step) (why : Refusal) → IsQuiet begun step (Refused why)
 refusal_quiet begun (Begin owner ms) why = record { no_begun = refl; no_asked = refl; no_commit = refl }
 refusal_quiet begun (Prepare owner txn slot) why = record { no_begun = refl; no_asked = refl; no_commit = refl }
 refusal_quiet begun (Decide owner txn v interval) why = record { no_begun = refl; no_asked = refl; no_commit = refl }
@@ -99,7 +99,7 @@ refusal_quiet begun (Scan query leaf slot interval) why = record { no_begun = re
 refusal_quiet begun (Finish query) why = record { no_begun = refl; no_asked = refl; no_commit = refl }
 refusal_quiet begun (Close query) why = record { no_begun = refl; no_asked = refl; no_commit = refl }
 
-refusal_right : (understands : Understanding) (schema : List Table) (m : Machine) (asked : List Asked) (step : Step) (why : Refusal) → MayRefuse step why → IsRightNow understands schema m asked step (Refused why)
+refusal_right : (understands : Understanding) (schema : List Table) (m : Machine) (asked : List OpenedQuery) (step : Step) (why : Refusal) → MayRefuse step why → IsRightNow understands schema m asked step (Refused why)
 refusal_right understands schema m asked (Finish query) why may = λ e. absurd (may e)
 refusal_right understands schema m asked (Begin owner ms) why may = tt
 refusal_right understands schema m asked (Prepare owner txn slot) why may = tt
@@ -131,17 +131,17 @@ higher : (n k : ℕ) → n < k → (k == n) ≡ false
 higher n k low = grind (arith, nat_tests)
 
 -- a transaction that was begun has a number below the next
-begun_low : (begun : List Begun) (n : ℕ) (t : OpenTransaction) → AllByRecursion (λ b. b.number < n) begun → IsBegun begun t → t.number < n
+begun_low : (begun : List BegunTransaction) (n : ℕ) (t : OpenTransaction) → AllByRecursion (λ b. b.number < n) begun → IsBegun begun t → t.number < n
 begun_low begun n t below is = all_found (λ b. b.number < n) (λ b. b.number == t.number) begun (record { number = t.number; mutations = t.mutations }) is below
 
-asked_low : (understands : Understanding) (asked : List Asked) (n : ℕ) (q : OpenQuery) → AllByRecursion (λ a. a.number < n) asked → IsAsked understands asked q → q.number < n
+asked_low : (understands : Understanding) (asked : List OpenedQuery) (n : ℕ) (q : OpenQuery) → AllByRecursion (λ a. a.number < n) asked → IsAsked understands asked q → q.number < n
 asked_low understands asked n q below is = subst (λ k. k < n) is.number (all_found (λ a. a.number < n) (λ a. a.number == q.number) asked is.question is.found below)
 
 -- what was begun stays so as more is begun
-begun_still : (begun : List Begun) (b : Begun) (n : ℕ) (t : OpenTransaction) → b.number ≡ n → t.number < n → IsBegun begun t → IsBegun (b ∷ begun) t
+begun_still : (begun : List BegunTransaction) (b : BegunTransaction) (n : ℕ) (t : OpenTransaction) → b.number ≡ n → t.number < n → IsBegun begun t → IsBegun (b ∷ begun) t
 begun_still begun b n t e low is = let off : (b.number == t.number) ≡ false = higher t.number b.number (omega arith) in rw off is
 
-asked_still : (understands : Understanding) (asked : List Asked) (a : Asked) (n : ℕ) (q : OpenQuery) → a.number ≡ n → q.number < n → IsAsked understands asked q → IsAsked understands (a ∷ asked) q
+asked_still : (understands : Understanding) (asked : List OpenedQuery) (a : OpenedQuery) (n : ℕ) (q : OpenQuery) → a.number ≡ n → q.number < n → IsAsked understands asked q → IsAsked understands (a ∷ asked) q
 asked_still understands asked a n q e low is =
     let off : (a.number == q.number) ≡ false = higher q.number a.number (omega arith) in
     let found : find (λ b. b.number == q.number) (a ∷ asked) ≡ Some is.question = rw off is.found in
@@ -160,14 +160,14 @@ itself : (n : ℕ) → (n == n) ≡ true
 itself n = grind (arith, nat_tests)
 
 -- the one just begun
-begun_now : (begun : List Begun) (t : OpenTransaction) → IsBegun ((record { number = t.number; mutations = t.mutations }) ∷ begun) t
+begun_now : (begun : List BegunTransaction) (t : OpenTransaction) → IsBegun ((record { number = t.number; mutations = t.mutations }) ∷ begun) t
 begun_now begun t = rw (itself t.number) refl
 
-asked_now : (asked : List Asked) (a : Asked) → find (λ b. b.number == a.number) (a ∷ asked) ≡ Some a
+asked_now : (asked : List OpenedQuery) (a : OpenedQuery) → find (λ b. b.number == a.number) (a ∷ asked) ≡ Some a
 asked_now asked a = rw (itself a.number) refl
 
 -- a query is asked as before once a leaf is covered
-asked_covered : (understands : Understanding) (asked : List Asked) (leaf : ℕ) (q : OpenQuery) → IsAsked understands asked q → IsAsked understands asked (cover leaf q)
+asked_covered : (understands : Understanding) (asked : List OpenedQuery) (leaf : ℕ) (q : OpenQuery) → IsAsked understands asked q → IsAsked understands asked (cover leaf q)
 asked_covered understands asked leaf q is = record {
   question = is.question;
   found = is.found;
@@ -180,7 +180,7 @@ asked_covered understands asked leaf q is = record {
 }
 
 -- what is committed of a transaction that was begun
-commit_begun : (begun : List Begun) (owner txn ts : ℕ) (t : OpenTransaction) → t.owner ≡ owner → t.number ≡ txn → IsBegun begun t → commit_by ts owner txn (find (λ b. b.number == txn) begun) ≡ commit_of ts t ∷ []
+commit_begun : (begun : List BegunTransaction) (owner txn ts : ℕ) (t : OpenTransaction) → t.owner ≡ owner → t.number ≡ txn → IsBegun begun t → commit_by ts owner txn (find (λ b. b.number == txn) begun) ≡ commit_of ts t ∷ []
 commit_begun begun owner txn ts t same_owner same is =
     ap (λ k. commit_by ts owner k (find (λ b. b.number == k) begun)) (sym same)
     ∙ ap (λ o. commit_by ts owner t.number o) is
@@ -188,12 +188,12 @@ commit_begun begun owner txn ts t same_owner same is =
 
 -- ---- the steps
 
-module _ (understands : Understanding) (schema : List Table) (begun : List Begun) (asked : List Asked) (m : Machine) (sound : IsSound schema m) (known : IsKnown understands begun asked m) (made : (s : ℕ) → (db : List TableRow) × (tables schema m.log s ≡ Ok db)) where
+module _ (understands : Understanding) (schema : List Table) (begun : List BegunTransaction) (asked : List OpenedQuery) (m : Machine) (sound : IsSound schema m) (known : IsKnown understands begun asked m) (made : (s : ℕ) → (db : List TableRow) × (tables schema m.log s ≡ Ok db)) where
   -- nothing is begun, asked or committed
   tells_quiet : (step : Step) (r : Reply) (n : Machine) → IsQuiet begun step r → AllByRecursion (IsBegun begun) n.transactions → AllByRecursion (IsAsked understands asked) n.queries
       → n.next_transaction ≡ m.next_transaction → n.next_query ≡ m.next_query → n.log ≡ m.log → IsRightNow understands schema m asked step r → Tells understands schema begun asked m step r n
   tells_quiet step r n quiet ts qs same_transaction same_query same_log right = record {
-    known = subst (λ bs. IsKnown understands (bs ++ begun) (asked_by step r ++ asked) n) (sym quiet.no_begun) (subst (λ l. IsKnown understands begun (l ++ asked) n) (sym quiet.no_asked) (record {
+    known = subst (λ bs. IsKnown understands (bs ++ begun) (opened_by step r ++ asked) n) (sym quiet.no_begun) (subst (λ l. IsKnown understands begun (l ++ asked) n) (sym quiet.no_asked) (record {
       transactions = ts;
       begun_below = subst (λ k. AllByRecursion (λ b. b.number < k) begun) (sym same_transaction) known.begun_below;
       queries = qs;
@@ -212,20 +212,20 @@ module _ (understands : Understanding) (schema : List Table) (begun : List Begun
   either_begun true test change keeps = all_without (IsBegun begun) test m.transactions known.transactions
   either_begun false test change keeps = all_changed (IsBegun begun) test change keeps m.transactions known.transactions
 
-  tells_applied : (o : Outcome) (owner txn slot : ℕ) (interval : Interval) (t : OpenTransaction) → Tells understands schema begun asked m (Apply owner txn slot interval) (applied_at o m owner txn slot t).0 (applied_at o m owner txn slot t).1
-  tells_applied outcome.Undecided owner txn slot interval t = tells_same (Apply owner txn slot interval) (Refused refusal.WrongState) (record { no_begun = refl; no_asked = refl; no_commit = refl }) tt
-  tells_applied outcome.Aborted owner txn slot interval t = tells_quiet (Apply owner txn slot interval) reply.Applied (applied_at outcome.Aborted m owner txn slot t).1 (record { no_begun = refl; no_asked = refl; no_commit = refl })
+  tells_applied : (o : Decision) (owner txn slot : ℕ) (interval : Interval) (t : OpenTransaction) → Tells understands schema begun asked m (Apply owner txn slot interval) (applied_at o m owner txn slot t).0 (applied_at o m owner txn slot t).1
+  tells_applied decision.Undecided owner txn slot interval t = tells_same (Apply owner txn slot interval) (Refused refusal.WrongState) (record { no_begun = refl; no_asked = refl; no_commit = refl }) tt
+  tells_applied decision.Aborted owner txn slot interval t = tells_quiet (Apply owner txn slot interval) reply.Applied (applied_at decision.Aborted m owner txn slot t).1 (record { no_begun = refl; no_asked = refl; no_commit = refl })
       (either_begun (length (without_prepared slot t).prepared == 0) (is_transaction owner txn) (without_prepared slot) (λ u is. is)) known.queries refl refl refl tt
-  tells_applied (outcome.Committed ts) owner txn slot interval t = tells_quiet (Apply owner txn slot interval) reply.Applied (applied_at (outcome.Committed ts) m owner txn slot t).1 (record { no_begun = refl; no_asked = refl; no_commit = refl })
+  tells_applied (decision.Committed ts) owner txn slot interval t = tells_quiet (Apply owner txn slot interval) reply.Applied (applied_at (decision.Committed ts) m owner txn slot t).1 (record { no_begun = refl; no_asked = refl; no_commit = refl })
       (either_begun (length (without_prepared slot t).prepared == 0) (is_transaction owner txn) (without_prepared slot) (λ u is. is)) known.queries refl refl refl tt
 
   tells_begun : (owner : ℕ) (ms : List CheckedMutation) → Tells understands schema begun asked m (Begin owner ms) (reply.Began m.next_transaction) (machine.begun m owner ms).1
   tells_begun owner ms = record {
     known = record {
-      transactions = all_push (IsBegun ((record { number = m.next_transaction; mutations = ms }) ∷ begun)) m.transactions (record { owner = owner; number = m.next_transaction; mutations = ms; outcome = outcome.Undecided; prepared = [] })
+      transactions = all_push (IsBegun ((record { number = m.next_transaction; mutations = ms }) ∷ begun)) m.transactions (record { owner = owner; number = m.next_transaction; mutations = ms; decision = decision.Undecided; prepared = [] })
           (all_weaker (IsBegun begun) (IsBegun ((record { number = m.next_transaction; mutations = ms }) ∷ begun))
           (λ t is. begun_still begun (record { number = m.next_transaction; mutations = ms }) m.next_transaction t refl (begun_low begun m.next_transaction t known.begun_below is) is) m.transactions known.transactions)
-          (begun_now begun (record { owner = owner; number = m.next_transaction; mutations = ms; outcome = outcome.Undecided; prepared = [] }));
+          (begun_now begun (record { owner = owner; number = m.next_transaction; mutations = ms; decision = decision.Undecided; prepared = [] }));
       begun_below = (omega arith, all_weaker (λ b. b.number < m.next_transaction) (λ b. b.number < m.next_transaction + 1) (λ b low. omega arith) begun known.begun_below);
       queries = known.queries;
       asked_below = known.asked_below;
@@ -236,7 +236,7 @@ module _ (understands : Understanding) (schema : List Table) (begun : List Begun
 
   tells_opened : (text : List ℕ) (params : List Parameter) (bound : Bound) (interval : Interval) (q : Statement) (s : ℕ) → understands text params (Ok q) → Tells understands schema begun asked m (Open text params bound interval) (opened m q s).0 (opened m q s).1
   tells_opened text params bound interval q s understood =
-      let a : Asked = record { number = m.next_query; text = text; params = params; s = s } in
+      let a : OpenedQuery = record { number = m.next_query; text = text; params = params; s = s } in
       record {
         known = record {
           transactions = known.transactions;
@@ -265,7 +265,7 @@ module _ (understands : Understanding) (schema : List Table) (begun : List Begun
       let is : is_transaction owner txn t ≡ true = found_passes (is_transaction owner txn) m.transactions t found in
       record {
         known = record {
-          transactions = all_changed (IsBegun begun) (is_transaction owner txn) (with_outcome (outcome.Committed ts)) (λ u h. h) m.transactions known.transactions;
+          transactions = all_changed (IsBegun begun) (is_transaction owner txn) (with_decision (decision.Committed ts)) (λ u h. h) m.transactions known.transactions;
           begun_below = known.begun_below;
           queries = known.queries;
           asked_below = known.asked_below;
@@ -300,7 +300,7 @@ module _ (understands : Understanding) (schema : List Table) (begun : List Begun
   }
 
   -- the answer to a Finish, by what the query means on the tables
-  right_answer : (query s : ℕ) (meant : rows.Rows) → IsMeantNow understands schema m asked query s meant → IsRightNow understands schema m asked (Finish query) (answer_on s (or_refusal meant))
+  right_answer : (query s : ℕ) (meant : rows.Rows) → IsMeantNow understands schema m asked query s meant → IsRightNow understands schema m asked (Finish query) (answer_on s (rows_or_refusal meant))
   right_answer query s (Some found) is = is
   right_answer query s None is = λ e. (s, is)
 
@@ -308,7 +308,7 @@ module _ (understands : Understanding) (schema : List Table) (begun : List Begun
   right_finish query q same is seals covered =
       let there = made q.s in
       let is_made : tables schema m.log q.s ≡ Ok there.0 = there.1 in
-      subst (λ (r : Result (List TableRow) Refusal). IsRightNow understands schema m asked (Finish query) (answer_on q.s (and_then r (λ db. or_refusal (means schema q.query (tables_of q.leaves) db))))) (sym is_made)
+      subst (λ (r : Result (List TableRow) Refusal). IsRightNow understands schema m asked (Finish query) (answer_on q.s (and_then r (λ db. rows_or_refusal (means schema q.query (tables_of q.leaves) db))))) (sym is_made)
       (right_answer query q.s (means schema q.query (tables_of q.leaves) there.0) (meant_now query q same is seals covered there.0 is_made))
 
   quiet_answer : (query s : ℕ) (r : Result (List rows.Row) Refusal) → IsQuiet begun (Finish query) (answer_on s r)
@@ -319,19 +319,19 @@ module _ (understands : Understanding) (schema : List Table) (begun : List Begun
   tells_ends u = record {
     refuses = λ step why may understood. tells_same step (Refused why) (refusal_quiet begun step why) (refusal_right understands schema m asked step why may);
     begins = λ owner ms accepted understood. tells_begun owner ms;
-    prepares = λ owner txn slot t book found here accepted well room low understood. tells_quiet _ _ _ (record { no_begun = refl; no_asked = refl; no_commit = refl })
-        (all_changed (IsBegun begun) (is_transaction owner txn) (add_prepared slot (prepare_timestamp book)) (λ u is. is) m.transactions known.transactions) known.queries refl refl refl tt;
+    prepares = λ owner txn slot t slot_state found here accepted well room low understood. tells_quiet _ _ _ (record { no_begun = refl; no_asked = refl; no_commit = refl })
+        (all_changed (IsBegun begun) (is_transaction owner txn) (add_prepared slot (prepare_timestamp slot_state)) (λ u is. is) m.transactions known.transactions) known.queries refl refl refl tt;
     commits = λ owner txn interval t found accepted understood. tells_committed owner txn (commit_timestamp m t interval) interval t found;
     aborts = λ owner txn interval t found open_still understood. tells_quiet _ _ _ (record { no_begun = refl; no_asked = refl; no_commit = refl })
-        (either_begun (length t.prepared == 0) (is_transaction owner txn) (with_outcome outcome.Aborted) (λ u is. is)) known.queries refl refl refl tt;
-    applies = λ owner txn slot interval t book found here accepted understood. tells_applied t.outcome owner txn slot interval t;
-    advances = λ slot interval book here understood. tells_quiet _ _ _ (record { no_begun = refl; no_asked = refl; no_commit = refl }) known.transactions known.queries refl refl refl tt;
-    trims = λ slot h book here accepted understood. tells_quiet _ _ _ (record { no_begun = refl; no_asked = refl; no_commit = refl }) known.transactions known.queries refl refl refl tt;
+        (either_begun (length t.prepared == 0) (is_transaction owner txn) (with_decision decision.Aborted) (λ u is. is)) known.queries refl refl refl tt;
+    applies = λ owner txn slot interval t slot_state found here accepted understood. tells_applied t.decision owner txn slot interval t;
+    advances = λ slot interval slot_state here understood. tells_quiet _ _ _ (record { no_begun = refl; no_asked = refl; no_commit = refl }) known.transactions known.queries refl refl refl tt;
+    trims = λ slot h slot_state here accepted understood. tells_quiet _ _ _ (record { no_begun = refl; no_asked = refl; no_commit = refl }) known.transactions known.queries refl refl refl tt;
     opens = λ text params bound interval q is accepted understood. tells_opened text params bound interval q (timestamp_of bound interval) (subst (λ v. understands text params v) is understood);
     finds_nothing = λ query leaf slot interval understood. tells_same _ _ (record { no_begun = refl; no_asked = refl; no_commit = refl }) tt;
-    scans = λ query leaf slot interval q book found here above safe understood. tells_quiet _ _ _ (record { no_begun = refl; no_asked = refl; no_commit = refl })
+    scans = λ query leaf slot interval q slot_state found here above safe understood. tells_quiet _ _ _ (record { no_begun = refl; no_asked = refl; no_commit = refl })
         known.transactions (all_changed (IsAsked understands asked) (is_query query) (cover leaf) (asked_covered understands asked leaf) m.queries known.queries) refl refl refl tt;
-    waits = λ query leaf slot interval q book found here understood. tells_quiet _ _ _ (record { no_begun = refl; no_asked = refl; no_commit = refl }) known.transactions known.queries refl refl refl tt;
+    waits = λ query leaf slot interval q slot_state found here understood. tells_quiet _ _ _ (record { no_begun = refl; no_asked = refl; no_commit = refl }) known.transactions known.queries refl refl refl tt;
     finishes = λ query q found covered understood. tells_same (Finish query) (answer_on q.s (meaning schema m q)) (quiet_answer query q.s (meaning schema m q))
         (right_finish query q (number_same q.number query (found_passes (is_query query) m.queries q found)) (all_found (IsAsked understands asked) (is_query query) m.queries q found known.queries)
         (all_found (IsCoveredSealed schema m) (is_query query) m.queries q found sound.queries) covered);
@@ -340,12 +340,12 @@ module _ (understands : Understanding) (schema : List Table) (begun : List Begun
   }
 
 -- every step reports what it begins, asks and commits
-pub answer_tells : (understands : Understanding) (schema : List Table) (begun : List Begun) (asked : List Asked) (m : Machine) (u : Result Statement Refusal) → IsSound schema m → IsKnown understands begun asked m → ((s : ℕ) → (db : List TableRow) × (tables schema m.log s ≡ Ok db))
+pub answer_tells : (understands : Understanding) (schema : List Table) (begun : List BegunTransaction) (asked : List OpenedQuery) (m : Machine) (u : Result Statement Refusal) → IsSound schema m → IsKnown understands begun asked m → ((s : ℕ) → (db : List TableRow) × (tables schema m.log s ≡ Ok db))
     → (step : Step) → IsUnderstood understands step u → Tells understands schema begun asked m step (answer schema m u step).0 (answer schema m u step).1
 answer_tells understands schema begun asked m u sound known made step understood = answer_by schema m u (λ s a. IsUnderstood understands s u → Tells understands schema begun asked m s a.0 a.1) (tells_ends understands schema begun asked m sound known made u) step understood
 
 -- one step, out of memory included
-pub step_tells : (understands : Understanding) (schema : List Table) (begun : List Begun) (asked : List Asked) (m : Machine) (step : Step) (r : Reply) (next : Machine) → Steps understands schema m step r next → IsSound schema m → IsKnown understands begun asked m
+pub step_tells : (understands : Understanding) (schema : List Table) (begun : List BegunTransaction) (asked : List OpenedQuery) (m : Machine) (step : Step) (r : Reply) (next : Machine) → Steps understands schema m step r next → IsSound schema m → IsKnown understands begun asked m
     → ((s : ℕ) → (db : List TableRow) × (tables schema m.log s ≡ Ok db)) → Tells understands schema begun asked m step r next
 step_tells understands schema begun asked m step r next (inl e) sound known made =
     subst (λ x. Tells understands schema begun asked m step x next) (sym e.2.0) (subst (λ n. Tells understands schema begun asked m step (answer schema m e.0 step).0 n) (sym e.2.1) (answer_tells understands schema begun asked m e.0 sound known made step e.1))

@@ -3,9 +3,9 @@ use Rattle.std.specs.Prelude.{slice_get}
 use Rattle.std.specs.List.{AllByRecursion}
 use Rattle.span_machine.specs.declared.step.Step.{Step}
 use Rattle.span_machine.specs.declared.transaction.OpenTransaction.{OpenTransaction}
-use Rattle.span_machine.specs.declared.transaction.Outcome.{Outcome}
-use Rattle.span_machine.specs.declared.transaction.Outcome.TheVariants as outcome
-use Rattle.span_machine.specs.Machine.{Machine, answer, start, changed_first, without_first, is_transaction, with_outcome, add_prepared, prepare_timestamp, commit_timestamp, without_prepared, applied_at}
+use Rattle.span_machine.specs.declared.transaction.Decision.{Decision}
+use Rattle.span_machine.specs.declared.transaction.Decision.TheVariants as decision
+use Rattle.span_machine.specs.Machine.{Machine, answer, start, changed_first, without_first, is_transaction, with_decision, add_prepared, prepare_timestamp, commit_timestamp, without_prepared, applied_at}
 use Rattle.span_laws.proofs.Lists.{IsIn, all_push, all_changed, all_without, all_at, all_weaker}
 use Rattle.span_laws.proofs.Walks.{Ends, answer_by}
 use Rattle.span_schema.specs.declared.table.Table.{Table}
@@ -101,29 +101,29 @@ module _ (schema : List Table) (m : Machine) (numbered : IsNumbered m) where
   numbered_either true n test change same e f = numbered_without n test e f
   numbered_either false n test change same e f = numbered_changed n test change same e f
 
-  numbered_applied : (o : Outcome) (owner txn slot : ℕ) (t : OpenTransaction) → IsNumbered (applied_at o m owner txn slot t).1
-  numbered_applied outcome.Undecided owner txn slot t = numbered
-  numbered_applied outcome.Aborted owner txn slot t = numbered_either (length (without_prepared slot t).prepared == 0) (applied_at outcome.Aborted m owner txn slot t).1 (is_transaction owner txn) (without_prepared slot) (λ _. refl) refl refl
-  numbered_applied (outcome.Committed ts) owner txn slot t = numbered_either (length (without_prepared slot t).prepared == 0) (applied_at (outcome.Committed ts) m owner txn slot t).1 (is_transaction owner txn) (without_prepared slot) (λ _. refl) refl refl
+  numbered_applied : (o : Decision) (owner txn slot : ℕ) (t : OpenTransaction) → IsNumbered (applied_at o m owner txn slot t).1
+  numbered_applied decision.Undecided owner txn slot t = numbered
+  numbered_applied decision.Aborted owner txn slot t = numbered_either (length (without_prepared slot t).prepared == 0) (applied_at decision.Aborted m owner txn slot t).1 (is_transaction owner txn) (without_prepared slot) (λ _. refl) refl refl
+  numbered_applied (decision.Committed ts) owner txn slot t = numbered_either (length (without_prepared slot t).prepared == 0) (applied_at (decision.Committed ts) m owner txn slot t).1 (is_transaction owner txn) (without_prepared slot) (λ _. refl) refl refl
 
   numbered_ends : (u : Result Statement Refusal) → Ends schema m u (λ step a. IsNumbered a.1)
   numbered_ends u = record {
     refuses = λ step why may. numbered;
     begins = λ owner ms accepted. record {
-      rising = rising_numbers_push m.next_transaction m.transactions (record { owner = owner; number = m.next_transaction; mutations = ms; outcome = outcome.Undecided; prepared = [] }) refl numbered.rising numbered.below;
-      below = all_push (λ t. t.number < m.next_transaction + 1) m.transactions (record { owner = owner; number = m.next_transaction; mutations = ms; outcome = outcome.Undecided; prepared = [] })
+      rising = rising_numbers_push m.next_transaction m.transactions (record { owner = owner; number = m.next_transaction; mutations = ms; decision = decision.Undecided; prepared = [] }) refl numbered.rising numbered.below;
+      below = all_push (λ t. t.number < m.next_transaction + 1) m.transactions (record { owner = owner; number = m.next_transaction; mutations = ms; decision = decision.Undecided; prepared = [] })
           (all_weaker (λ t. t.number < m.next_transaction) (λ t. t.number < m.next_transaction + 1) (λ t low. omega arith) m.transactions numbered.below) (omega arith);
     };
-    prepares = λ owner txn slot t book found here accepted well room low. numbered_changed _ (is_transaction owner txn) (add_prepared slot (prepare_timestamp book)) (λ _. refl) refl refl;
-    commits = λ owner txn interval t found accepted. numbered_changed _ (is_transaction owner txn) (with_outcome (outcome.Committed (commit_timestamp m t interval))) (λ _. refl) refl refl;
-    aborts = λ owner txn interval t found open_still. numbered_either (length t.prepared == 0) _ (is_transaction owner txn) (with_outcome outcome.Aborted) (λ _. refl) refl refl;
-    applies = λ owner txn slot interval t book found here accepted. numbered_applied t.outcome owner txn slot t;
-    advances = λ slot interval book here. numbered_same _ refl refl;
-    trims = λ slot h book here accepted. numbered_same _ refl refl;
+    prepares = λ owner txn slot t slot_state found here accepted well room low. numbered_changed _ (is_transaction owner txn) (add_prepared slot (prepare_timestamp slot_state)) (λ _. refl) refl refl;
+    commits = λ owner txn interval t found accepted. numbered_changed _ (is_transaction owner txn) (with_decision (decision.Committed (commit_timestamp m t interval))) (λ _. refl) refl refl;
+    aborts = λ owner txn interval t found open_still. numbered_either (length t.prepared == 0) _ (is_transaction owner txn) (with_decision decision.Aborted) (λ _. refl) refl refl;
+    applies = λ owner txn slot interval t slot_state found here accepted. numbered_applied t.decision owner txn slot t;
+    advances = λ slot interval slot_state here. numbered_same _ refl refl;
+    trims = λ slot h slot_state here accepted. numbered_same _ refl refl;
     opens = λ text params bound interval asked is accepted. numbered_same _ refl refl;
     finds_nothing = λ query leaf slot interval. numbered;
-    scans = λ query leaf slot interval q book found here above safe. numbered_same _ refl refl;
-    waits = λ query leaf slot interval q book found here. numbered_same _ refl refl;
+    scans = λ query leaf slot interval q slot_state found here above safe. numbered_same _ refl refl;
+    waits = λ query leaf slot interval q slot_state found here. numbered_same _ refl refl;
     finishes = λ query q found covered. numbered;
     closes = λ query q found. numbered_same _ refl refl;
   }

@@ -3,20 +3,20 @@ use Rattle.std.specs.Prelude.{slice_get, slice_set, find, filter}
 use Rattle.std.proofs.lemmas.List.{append-nil}
 use Rattle.std.proofs.lemmas.List.Elements.{filter-append}
 use Rattle.std.specs.List.{list_all}
-use Rattle.span_machine.specs.declared.slot.Book.{Book}
+use Rattle.span_machine.specs.declared.slot.SlotState.{SlotState}
 use Rattle.span_machine.specs.declared.transaction.Commit.{Commit}
 use Rattle.span_schema.specs.declared.table.Table.{Table}
 use Rattle.span_mutate.specs.declared.mutation.CheckedMutation.{CheckedMutation}
 use Rattle.span_machine.specs.declared.transaction.OpenTransaction.{OpenTransaction}
-use Rattle.span_machine.specs.declared.transaction.Outcome.{Outcome}
-use Rattle.span_machine.specs.declared.transaction.Outcome.TheVariants as outcome
+use Rattle.span_machine.specs.declared.transaction.Decision.{Decision}
+use Rattle.span_machine.specs.declared.transaction.Decision.TheVariants as decision
 use Rattle.span_mutate.specs.Directories.{Root}
 use Rattle.span_machine.specs.Machine.{is_at}
-use Rattle.span_machine.specs.Machine.{Machine, changed_first, without_first, is_prepared_at, greatest, with_last, mutations_in, faults, is_undecided, is_prepared_for, answer, begun, prepare_timestamp, prepare_refusal, prepared, conflicts, add_prepared, is_transaction, is_query, is_all_prepared, coordinator_of, commit_timestamp, commit_of, committed, aborted, with_outcome, without_prepared, applied, applied_at, advanced, opened, risen, with_book, cover, closed, start, trimmed}
+use Rattle.span_machine.specs.Machine.{Machine, changed_first, without_first, is_prepared_at, greatest, with_last, mutations_in, mutations_refusal, is_undecided, is_prepared_for, answer, begun, prepare_timestamp, prepare_refusal, prepared, has_conflict, add_prepared, is_transaction, is_query, is_all_prepared, coordinator_slot, commit_timestamp, commit_of, committed, aborted, with_decision, without_prepared, applied, applied_at, advanced, opened, with_risen_floor, with_slot_state, cover, closed, start, trimmed}
 use Rattle.span_truetime.specs.Time.{timestamp_end, timestamp_of}
 use Rattle.span_machine.specs.declared.step.Step.{Step}
 use Rattle.span_truetime.specs.declared.interval.Interval.{Interval}
-use Rattle.span_laws.proofs.Causes.{may_prepare, may_commit, is_undecided_outcome}
+use Rattle.span_laws.proofs.Causes.{may_prepare, may_commit, undecided_is}
 use Rattle.span_laws.proofs.Tests.{first_true, second_true, not_both, both_of, number_same, not_late}
 use Rattle.span_laws.proofs.Lists.{all_push}
 use Rattle.span_laws.proofs.Stability.{changes_at, is_some_of}
@@ -35,8 +35,8 @@ use Rattle.std.specs.Prelude.{Result}
 
 module _ (schema : List Table) (rules : MeetsRules schema) (root : Root) (is : IsRoot schema root) (slot : ℕ) (m : Machine) (by : IsBySchema schema m) (o : IsInPlace schema root slot m) where
   -- slot states rise, the log is the same, and the claim is kept
-  pub in_place_by : (n : Machine) → Lifts m.books n.books → n.log ≡ m.log
-      → ((a b : Book) → slice_get m.books slot ≡ Some a → slice_get n.books slot ≡ Some b → a.last ≤ b.last → IsClaim schema root a.last (commits_at schema root m.log) (filter (claims schema root slot) m.transactions) → IsClaim schema root b.last (commits_at schema root m.log) (filter (claims schema root slot) n.transactions))
+  pub in_place_by : (n : Machine) → Lifts m.slots n.slots → n.log ≡ m.log
+      → ((a b : SlotState) → slice_get m.slots slot ≡ Some a → slice_get n.slots slot ≡ Some b → a.last ≤ b.last → IsClaim schema root a.last (commits_at schema root m.log) (filter (claims schema root slot) m.transactions) → IsClaim schema root b.last (commits_at schema root m.log) (filter (claims schema root slot) n.transactions))
       → IsInPlace schema root slot n
   in_place_by n lifts same claim = record {
     only = λ i b h k. let old = lifts.from i b h in o.only i old.0 old.1 (sym (old.3 root) ∙ k);
@@ -50,63 +50,63 @@ module _ (schema : List Table) (rules : MeetsRules schema) (root : Root) (is : I
   -- ---- Begin
   begin_placed : (owner : ℕ) (ms : List CheckedMutation) → IsInPlace schema root slot (begun m owner ms).1
   begin_placed owner ms =
-      in_place_by (begun m owner ms).1 (lifts_same m.books) refl (λ a b p q low h.
-      subst (IsClaim schema root b.last (commits_at schema root m.log)) (sym (filter-append (claims schema root slot) m.transactions ((record { owner = owner; number = m.next_transaction; mutations = ms; outcome = outcome.Undecided; prepared = [] }) ∷ []) ∙ append-nil _))
+      in_place_by (begun m owner ms).1 (lifts_same m.slots) refl (λ a b p q low h.
+      subst (IsClaim schema root b.last (commits_at schema root m.log)) (sym (filter-append (claims schema root slot) m.transactions ((record { owner = owner; number = m.next_transaction; mutations = ms; decision = decision.Undecided; prepared = [] }) ∷ []) ∙ append-nil _))
       (claim_up schema root a.last b.last (commits_at schema root m.log) (filter (claims schema root slot) m.transactions) low h))
 
   -- ---- Prepare
-  pub prepare_here : (owner txn : ℕ) (t : OpenTransaction) (book : Book) → find (is_transaction owner txn) m.transactions ≡ Some t → slice_get m.books slot ≡ Some book
-      → prepare_refusal schema m slot t book ≡ None → faults schema m (mutations_in schema book t.mutations) ≡ None → IsInPlace schema root slot (prepared m owner txn slot book).1
-  prepare_here owner txn t book found here accepted well =
-      let may = may_prepare (is_undecided t) (is_prepared_at slot t) (length (mutations_in schema book t.mutations) == 0) (conflicts schema m slot (mutations_in schema book t.mutations)) accepted in
-      let whole : filter (is_at schema root) (mutations_in schema book t.mutations) ≡ filter (is_at schema root) t.mutations = all_held schema root is book t.mutations (o.held book here) in
-      in_place_by (prepared m owner txn slot book).1 (lifts_set m.books slot book (record book { last = prepare_timestamp book }) here (omega arith) (λ _. refl)) refl (λ a b p q low h.
-      let same : a ≡ book = cc in
-      claim_first schema root slot a.last b.last (commits_at schema root m.log) (commits_at schema root m.log) (is_transaction owner txn) (add_prepared slot (prepare_timestamp book)) m.transactions t found (λ rest empty. record {
+  pub prepare_here : (owner txn : ℕ) (t : OpenTransaction) (slot_state : SlotState) → find (is_transaction owner txn) m.transactions ≡ Some t → slice_get m.slots slot ≡ Some slot_state
+      → prepare_refusal schema m slot t slot_state ≡ None → mutations_refusal schema m (mutations_in schema slot_state t.mutations) ≡ None → IsInPlace schema root slot (prepared m owner txn slot slot_state).1
+  prepare_here owner txn t slot_state found here accepted well =
+      let may = may_prepare (is_undecided t) (is_prepared_at slot t) (length (mutations_in schema slot_state t.mutations) == 0) (has_conflict schema m slot (mutations_in schema slot_state t.mutations)) accepted in
+      let whole : filter (is_at schema root) (mutations_in schema slot_state t.mutations) ≡ filter (is_at schema root) t.mutations = all_held schema root is slot_state t.mutations (o.held slot_state here) in
+      in_place_by (prepared m owner txn slot slot_state).1 (lifts_set m.slots slot slot_state (record slot_state { last = prepare_timestamp slot_state }) here (omega arith) (λ _. refl)) refl (λ a b p q low h.
+      let same : a ≡ slot_state = cc in
+      claim_first schema root slot a.last b.last (commits_at schema root m.log) (commits_at schema root m.log) (is_transaction owner txn) (add_prepared slot (prepare_timestamp slot_state)) m.transactions t found (λ rest empty. record {
         neither = λ x y. (low, refl);
         both = λ x y. absurd (not_both (is_prepared_at slot t) (first_true (is_prepared_at slot t) (is_some_of (filter (is_at schema root) t.mutations)) x) may.1);
         leaves = λ x y. absurd (not_both (is_prepared_at slot t) (first_true (is_prepared_at slot t) (is_some_of (filter (is_at schema root) t.mutations)) x) may.1);
         comes = λ x y. (
-          empty x ∙ unclaimed schema root is slot (mutations_in schema book t.mutations) m.transactions (subst (λ l. is_some_of l ≡ true) (sym whole) (second_true (is_prepared_at slot (add_prepared slot (prepare_timestamp book) t)) (is_some_of (filter (is_at schema root) t.mutations)) y)) may.2,
-          λ below. subst (IsClaimed schema root b.last (commits_at schema root m.log) (add_prepared slot (prepare_timestamp book) t)) (sym (is_undecided_outcome t.outcome may.0)) (record {
+          empty x ∙ unclaimed schema root is slot (mutations_in schema slot_state t.mutations) m.transactions (subst (λ l. is_some_of l ≡ true) (sym whole) (second_true (is_prepared_at slot (add_prepared slot (prepare_timestamp slot_state) t)) (is_some_of (filter (is_at schema root) t.mutations)) y)) may.2,
+          λ below. subst (IsClaimed schema root b.last (commits_at schema root m.log) (add_prepared slot (prepare_timestamp slot_state) t)) (sym (undecided_is t.decision may.0)) (record {
             below = below_up a.last b.last (commits_at schema root m.log) low below;
-            under = all_under a.last (greatest (t.prepared ++ (record { slot = slot; timestamp = prepare_timestamp book }) ∷ [])) (commits_at schema root m.log) (prepared_last a book t.prepared slot same) below;
-            through = subst (λ l. Succeeds schema (changes_at schema root (commits_at schema root m.log) ++ l)) whole (go_through schema rules root is m (mutations_in schema book t.mutations) (keyed_upto schema m.log (timestamp_end - 1) by.log)
-                (keyed_in schema book t.mutations (all_found (IsBegunBy schema) (is_transaction owner txn) m.transactions t found by.transactions)) o.in_range o.rising well);
+            under = all_under a.last (greatest (t.prepared ++ (record { slot = slot; timestamp = prepare_timestamp slot_state }) ∷ [])) (commits_at schema root m.log) (prepared_last a slot_state t.prepared slot same) below;
+            through = subst (λ l. Succeeds schema (changes_at schema root (commits_at schema root m.log) ++ l)) whole (go_through schema rules root is m (mutations_in schema slot_state t.mutations) (keyed_upto schema m.log (timestamp_end - 1) by.log)
+                (keyed_in schema slot_state t.mutations (all_found (IsBegunBy schema) (is_transaction owner txn) m.transactions t found by.transactions)) o.in_range o.rising well);
           }),
         );
       }) h)
 
-  pub prepare_at : (owner txn i : ℕ) (t : OpenTransaction) (book : Book) → i ≡ slot → find (is_transaction owner txn) m.transactions ≡ Some t → slice_get m.books i ≡ Some book
-      → prepare_refusal schema m i t book ≡ None → faults schema m (mutations_in schema book t.mutations) ≡ None → IsInPlace schema root slot (prepared m owner txn i book).1
-  prepare_at owner txn i t book e = subst (λ j. find (is_transaction owner txn) m.transactions ≡ Some t → slice_get m.books j ≡ Some book
-      → prepare_refusal schema m j t book ≡ None → faults schema m (mutations_in schema book t.mutations) ≡ None → IsInPlace schema root slot (prepared m owner txn j book).1) (sym e) (prepare_here owner txn t book)
+  pub prepare_at : (owner txn i : ℕ) (t : OpenTransaction) (slot_state : SlotState) → i ≡ slot → find (is_transaction owner txn) m.transactions ≡ Some t → slice_get m.slots i ≡ Some slot_state
+      → prepare_refusal schema m i t slot_state ≡ None → mutations_refusal schema m (mutations_in schema slot_state t.mutations) ≡ None → IsInPlace schema root slot (prepared m owner txn i slot_state).1
+  prepare_at owner txn i t slot_state e = subst (λ j. find (is_transaction owner txn) m.transactions ≡ Some t → slice_get m.slots j ≡ Some slot_state
+      → prepare_refusal schema m j t slot_state ≡ None → mutations_refusal schema m (mutations_in schema slot_state t.mutations) ≡ None → IsInPlace schema root slot (prepared m owner txn j slot_state).1) (sym e) (prepare_here owner txn t slot_state)
 
-  pub prepare_away : (owner txn i : ℕ) (t : OpenTransaction) (book : Book) → (i == slot) ≡ false → find (is_transaction owner txn) m.transactions ≡ Some t → slice_get m.books i ≡ Some book
-      → is_undecided t ≡ true → IsInPlace schema root slot (prepared m owner txn i book).1
-  prepare_away owner txn i t book off found here open_still =
-      let alike : claims schema root slot (add_prepared i (prepare_timestamp book) t) ≡ claims schema root slot t = ap (λ b. b && is_some_of (filter (is_at schema root) t.mutations)) (away_push slot i (prepare_timestamp book) t.prepared off) in
-      in_place_by (prepared m owner txn i book).1 (lifts_set m.books i book (record book { last = prepare_timestamp book }) here (omega arith) (λ _. refl)) refl (λ a b p q low h.
-      claim_first schema root slot a.last b.last (commits_at schema root m.log) (commits_at schema root m.log) (is_transaction owner txn) (add_prepared i (prepare_timestamp book)) m.transactions t found (λ rest empty. record {
+  pub prepare_away : (owner txn i : ℕ) (t : OpenTransaction) (slot_state : SlotState) → (i == slot) ≡ false → find (is_transaction owner txn) m.transactions ≡ Some t → slice_get m.slots i ≡ Some slot_state
+      → is_undecided t ≡ true → IsInPlace schema root slot (prepared m owner txn i slot_state).1
+  prepare_away owner txn i t slot_state off found here open_still =
+      let alike : claims schema root slot (add_prepared i (prepare_timestamp slot_state) t) ≡ claims schema root slot t = ap (λ b. b && is_some_of (filter (is_at schema root) t.mutations)) (away_push slot i (prepare_timestamp slot_state) t.prepared off) in
+      in_place_by (prepared m owner txn i slot_state).1 (lifts_set m.slots i slot_state (record slot_state { last = prepare_timestamp slot_state }) here (omega arith) (λ _. refl)) refl (λ a b p q low h.
+      claim_first schema root slot a.last b.last (commits_at schema root m.log) (commits_at schema root m.log) (is_transaction owner txn) (add_prepared i (prepare_timestamp slot_state)) m.transactions t found (λ rest empty. record {
         neither = λ x y. (low, refl);
         both = λ x y g.
-            let old : IsPromised schema root a.last (commits_at schema root m.log) t = subst (IsClaimed schema root a.last (commits_at schema root m.log) t) (is_undecided_outcome t.outcome open_still) g in
-            subst (IsClaimed schema root b.last (commits_at schema root m.log) (add_prepared i (prepare_timestamp book) t)) (sym (is_undecided_outcome t.outcome open_still)) (record {
+            let old : IsPromised schema root a.last (commits_at schema root m.log) t = subst (IsClaimed schema root a.last (commits_at schema root m.log) t) (undecided_is t.decision open_still) g in
+            subst (IsClaimed schema root b.last (commits_at schema root m.log) (add_prepared i (prepare_timestamp slot_state) t)) (sym (undecided_is t.decision open_still)) (record {
               below = below_up a.last b.last (commits_at schema root m.log) low old.below;
-              under = under_up (greatest t.prepared) (greatest (t.prepared ++ (record { slot = i; timestamp = prepare_timestamp book }) ∷ [])) (commits_at schema root m.log) (greatest_more t.prepared (record { slot = i; timestamp = prepare_timestamp book })) old.under;
+              under = under_up (greatest t.prepared) (greatest (t.prepared ++ (record { slot = i; timestamp = prepare_timestamp slot_state }) ∷ [])) (commits_at schema root m.log) (greatest_more t.prepared (record { slot = i; timestamp = prepare_timestamp slot_state })) old.under;
               through = old.through;
             });
         leaves = λ x y. absurd (not_both (claims schema root slot t) x (sym alike ∙ y));
         comes = λ x y. absurd (not_both (claims schema root slot t) (sym alike ∙ y) x);
       }) h)
 
-  pub prepare_there : (owner txn i : ℕ) (t : OpenTransaction) (book : Book) → find (is_transaction owner txn) m.transactions ≡ Some t → slice_get m.books i ≡ Some book
-      → prepare_refusal schema m i t book ≡ None → faults schema m (mutations_in schema book t.mutations) ≡ None → IsInPlace schema root slot (prepared m owner txn i book).1
-  prepare_there owner txn i t book found here accepted well =
-      let may = may_prepare (is_undecided t) (is_prepared_at i t) (length (mutations_in schema book t.mutations) == 0) (conflicts schema m i (mutations_in schema book t.mutations)) accepted in
-      elim (i == slot) as (λ v. (i == slot) ≡ v → IsInPlace schema root slot (prepared m owner txn i book).1) [
-        | true ↦ λ e. prepare_at owner txn i t book (number_same i slot e) found here accepted well
-        | false ↦ λ e. prepare_away owner txn i t book e found here may.0
+  pub prepare_there : (owner txn i : ℕ) (t : OpenTransaction) (slot_state : SlotState) → find (is_transaction owner txn) m.transactions ≡ Some t → slice_get m.slots i ≡ Some slot_state
+      → prepare_refusal schema m i t slot_state ≡ None → mutations_refusal schema m (mutations_in schema slot_state t.mutations) ≡ None → IsInPlace schema root slot (prepared m owner txn i slot_state).1
+  prepare_there owner txn i t slot_state found here accepted well =
+      let may = may_prepare (is_undecided t) (is_prepared_at i t) (length (mutations_in schema slot_state t.mutations) == 0) (has_conflict schema m i (mutations_in schema slot_state t.mutations)) accepted in
+      elim (i == slot) as (λ v. (i == slot) ≡ v → IsInPlace schema root slot (prepared m owner txn i slot_state).1) [
+        | true ↦ λ e. prepare_at owner txn i t slot_state (number_same i slot e) found here accepted well
+        | false ↦ λ e. prepare_away owner txn i t slot_state e found here may.0
       ] refl
 
   -- ---- Decide
@@ -116,7 +116,7 @@ module _ (schema : List Table) (rules : MeetsRules schema) (root : Root) (is : I
       let c : Commit = commit_of ts t in
       let cs : List Commit = commits_at schema root m.log in
       let ds : List Commit = commits_at schema root (m.log ++ commit_of ts t ∷ []) in
-      let lifts : Lifts m.books (with_last m.books (coordinator_of t.prepared) ts) = lifts_last m.books (coordinator_of t.prepared) ts in
+      let lifts : Lifts m.slots (with_last m.slots (coordinator_slot t.prepared) ts) = lifts_last m.slots (coordinator_slot t.prepared) ts in
       let ranged : IsUnder timestamp_end (m.log ++ commit_of ts t ∷ []) = all_push (λ d. d.timestamp < timestamp_end) m.log (commit_of ts t) o.in_range low in
       elim (is_some_of (filter (is_at schema root) t.mutations)) as (λ v. is_some_of (filter (is_at schema root) t.mutations) ≡ v → IsInPlace schema root slot (committed m owner txn ts t).1) [
         | false ↦ λ e.
@@ -129,7 +129,7 @@ module _ (schema : List Table) (rules : MeetsRules schema) (root : Root) (is : I
               rising = subst IsRising (sym same) o.rising;
               through = subst (λ l. Succeeds schema (changes_at schema root l)) (sym same) o.through;
               claim = λ b h. let old = lifts.from slot b h in
-                  claim_first schema root slot old.0.last b.last (commits_at schema root m.log) (commits_at schema root (m.log ++ commit_of ts t ∷ [])) (is_transaction owner txn) (with_outcome (outcome.Committed ts)) m.transactions t found (λ rest empty. record {
+                  claim_first schema root slot old.0.last b.last (commits_at schema root m.log) (commits_at schema root (m.log ++ commit_of ts t ∷ [])) (is_transaction owner txn) (with_decision (decision.Committed ts)) m.transactions t found (λ rest empty. record {
                     neither = λ x y. (old.2, sym same);
                     both = λ x y. absurd (not_both (is_some_of (filter (is_at schema root) t.mutations)) (second_true (is_prepared_at slot t) (is_some_of (filter (is_at schema root) t.mutations)) x) e);
                     leaves = λ x y. absurd (not_both (claims schema root slot t) x y);
@@ -142,10 +142,10 @@ module _ (schema : List Table) (rules : MeetsRules schema) (root : Root) (is : I
             let all : list_all (is_prepared_for schema m t) t.mutations ≡ true = second_true (not (length t.prepared == 0)) (list_all (is_prepared_for schema m t) t.mutations) ready in
             let ready_at = prepared_root schema root is m slot t o.only t.mutations e all in
             let is : claims schema root slot t ≡ true = both_of (is_prepared_at slot t) (is_some_of (filter (is_at schema root) t.mutations)) ready_at.0 e in
-            let book = ready_at.1 in
-            let promised : IsPromised schema root book.0.last (commits_at schema root m.log) t =
-            subst (IsClaimed schema root book.0.last (commits_at schema root m.log) t) (is_undecided_outcome t.outcome open_still)
-            (claim_of schema root slot book.0.last (commits_at schema root m.log) (is_transaction owner txn) m.transactions t found is (o.claim book.0 book.1)) in
+            let slot_state = ready_at.1 in
+            let promised : IsPromised schema root slot_state.0.last (commits_at schema root m.log) t =
+            subst (IsClaimed schema root slot_state.0.last (commits_at schema root m.log) t) (undecided_is t.decision open_still)
+            (claim_of schema root slot slot_state.0.last (commits_at schema root m.log) (is_transaction owner txn) m.transactions t found is (o.claim slot_state.0 slot_state.1)) in
             record {
               only = λ i b h k. let old = lifts.from i b h in o.only i old.0 old.1 (sym (old.3 root) ∙ k);
               held = λ b h. let old = lifts.from slot b h in old.3 root ∙ o.held old.0 old.1;
@@ -153,7 +153,7 @@ module _ (schema : List Table) (rules : MeetsRules schema) (root : Root) (is : I
               rising = subst IsRising (sym same) (rising_push (commits_at schema root m.log) (commit_of ts t) o.rising (under_up (greatest t.prepared) ts (commits_at schema root m.log) high promised.under));
               through = subst (λ l. Succeeds schema (changes_at schema root l)) (sym same) (subst (Succeeds schema) (sym (changes_at-push schema root (commits_at schema root m.log) (commit_of ts t))) promised.through);
               claim = λ b h. let old = lifts.from slot b h in
-                  claim_first schema root slot old.0.last b.last (commits_at schema root m.log) (commits_at schema root (m.log ++ commit_of ts t ∷ [])) (is_transaction owner txn) (with_outcome (outcome.Committed ts)) m.transactions t found (λ rest empty. record {
+                  claim_first schema root slot old.0.last b.last (commits_at schema root m.log) (commits_at schema root (m.log ++ commit_of ts t ∷ [])) (is_transaction owner txn) (with_decision (decision.Committed ts)) m.transactions t found (λ rest empty. record {
                     neither = λ x y. absurd (not_both (claims schema root slot t) is x);
                     both = λ x y g. subst (IsBelow (max b.last ts)) (sym same)
                         (all_push (λ d. d.timestamp ≤ max b.last ts) (commits_at schema root m.log) (commit_of ts t) (under_below (greatest t.prepared) (max b.last ts) (commits_at schema root m.log) (omega arith) promised.under) (omega arith));
@@ -166,11 +166,11 @@ module _ (schema : List Table) (rules : MeetsRules schema) (root : Root) (is : I
   pub abort_claim : (owner txn : ℕ) (t : OpenTransaction) (n k : ℕ) → find (is_transaction owner txn) m.transactions ≡ Some t → is_undecided t ≡ true → n ≤ k → IsClaim schema root n (commits_at schema root m.log) (filter (claims schema root slot) m.transactions)
       → IsClaim schema root k (commits_at schema root m.log) (filter (claims schema root slot) (aborted m owner txn t).1.transactions)
   abort_claim owner txn t n k found open_still low h =
-      let drop : IsClaimed schema root n (commits_at schema root m.log) t t.outcome → IsBelow k (commits_at schema root m.log) =
-      λ g. let p : IsPromised schema root n (commits_at schema root m.log) t = subst (IsClaimed schema root n (commits_at schema root m.log) t) (is_undecided_outcome t.outcome open_still) g in below_up n k (commits_at schema root m.log) low p.below in
-      elim (length t.prepared == 0) as (λ v. IsClaim schema root k (commits_at schema root m.log) (filter (claims schema root slot) (cond v (without_first (is_transaction owner txn) m.transactions) (changed_first (is_transaction owner txn) (with_outcome outcome.Aborted) m.transactions)))) [
+      let drop : IsClaimed schema root n (commits_at schema root m.log) t t.decision → IsBelow k (commits_at schema root m.log) =
+      λ g. let p : IsPromised schema root n (commits_at schema root m.log) t = subst (IsClaimed schema root n (commits_at schema root m.log) t) (undecided_is t.decision open_still) g in below_up n k (commits_at schema root m.log) low p.below in
+      elim (length t.prepared == 0) as (λ v. IsClaim schema root k (commits_at schema root m.log) (filter (claims schema root slot) (cond v (without_first (is_transaction owner txn) m.transactions) (changed_first (is_transaction owner txn) (with_decision decision.Aborted) m.transactions)))) [
         | true ↦ claim_without schema root slot n k (commits_at schema root m.log) (is_transaction owner txn) m.transactions t found low (λ x g. drop g) h
-        | false ↦ claim_first schema root slot n k (commits_at schema root m.log) (commits_at schema root m.log) (is_transaction owner txn) (with_outcome outcome.Aborted) m.transactions t found (λ rest empty. record {
+        | false ↦ claim_first schema root slot n k (commits_at schema root m.log) (commits_at schema root m.log) (is_transaction owner txn) (with_decision decision.Aborted) m.transactions t found (λ rest empty. record {
           neither = λ x y. (low, refl);
           both = λ x y g. drop g;
           leaves = λ x y g. drop g;
@@ -179,7 +179,7 @@ module _ (schema : List Table) (rules : MeetsRules schema) (root : Root) (is : I
       ]
 
   -- ---- Apply
-  pub applied_claim : (owner txn : ℕ) (t : OpenTransaction) (n k : ℕ) → find (is_transaction owner txn) m.transactions ≡ Some t → n ≤ k → (IsClaimed schema root n (commits_at schema root m.log) t t.outcome → IsBelow k (commits_at schema root m.log))
+  pub applied_claim : (owner txn : ℕ) (t : OpenTransaction) (n k : ℕ) → find (is_transaction owner txn) m.transactions ≡ Some t → n ≤ k → (IsClaimed schema root n (commits_at schema root m.log) t t.decision → IsBelow k (commits_at schema root m.log))
       → IsClaim schema root n (commits_at schema root m.log) (filter (claims schema root slot) m.transactions) → IsClaim schema root k (commits_at schema root m.log) (filter (claims schema root slot) (applied m owner txn slot t))
   applied_claim owner txn t n k found low drop h =
       let gone : is_prepared_at slot (without_prepared slot t) ≡ false = left_slot slot t.prepared in
@@ -194,7 +194,7 @@ module _ (schema : List Table) (rules : MeetsRules schema) (root : Root) (is : I
       ]
 
   pub away_claim : (owner txn i : ℕ) (t : OpenTransaction) (n k : ℕ) → (i == slot) ≡ false → find (is_transaction owner txn) m.transactions ≡ Some t → n ≤ k
-      → (IsClaimed schema root n (commits_at schema root m.log) t t.outcome → IsClaimed schema root k (commits_at schema root m.log) (without_prepared i t) t.outcome)
+      → (IsClaimed schema root n (commits_at schema root m.log) t t.decision → IsClaimed schema root k (commits_at schema root m.log) (without_prepared i t) t.decision)
       → IsClaim schema root n (commits_at schema root m.log) (filter (claims schema root slot) m.transactions) → IsClaim schema root k (commits_at schema root m.log) (filter (claims schema root slot) (applied m owner txn i t))
   away_claim owner txn i t n k off found low keep h =
       let still : is_prepared_at slot (without_prepared i t) ≡ is_prepared_at slot t = away_left slot i t.prepared off in
@@ -210,59 +210,59 @@ module _ (schema : List Table) (rules : MeetsRules schema) (root : Root) (is : I
         }) h
       ] refl
 
-  pub apply_here : (owner txn : ℕ) (t : OpenTransaction) (c : Outcome) → t.outcome ≡ c → find (is_transaction owner txn) m.transactions ≡ Some t → IsInPlace schema root slot (applied_at c m owner txn slot t).1
-  apply_here owner txn t outcome.Undecided e found = o
-  apply_here owner txn t outcome.Aborted e found = in_place_by (applied_at outcome.Aborted m owner txn slot t).1 (lifts_same m.books) refl (λ a b p q low h.
+  pub apply_here : (owner txn : ℕ) (t : OpenTransaction) (c : Decision) → t.decision ≡ c → find (is_transaction owner txn) m.transactions ≡ Some t → IsInPlace schema root slot (applied_at c m owner txn slot t).1
+  apply_here owner txn t decision.Undecided e found = o
+  apply_here owner txn t decision.Aborted e found = in_place_by (applied_at decision.Aborted m owner txn slot t).1 (lifts_same m.slots) refl (λ a b p q low h.
       applied_claim owner txn t a.last b.last found low (λ g. let below : IsBelow a.last (commits_at schema root m.log) = subst (IsClaimed schema root a.last (commits_at schema root m.log) t) e g in below_up a.last b.last (commits_at schema root m.log) low below) h)
-  apply_here owner txn t (outcome.Committed ts) e found = in_place_by (applied_at (outcome.Committed ts) m owner txn slot t).1 (lifts_last m.books slot ts) refl (λ a b p q low h.
-      let risen_to : ts ≤ b.last = last_here m.books slot ts b q in
+  apply_here owner txn t (decision.Committed ts) e found = in_place_by (applied_at (decision.Committed ts) m owner txn slot t).1 (lifts_last m.slots slot ts) refl (λ a b p q low h.
+      let risen_to : ts ≤ b.last = last_here m.slots slot ts b q in
       applied_claim owner txn t a.last b.last found low (λ g. let below : IsBelow (max a.last ts) (commits_at schema root m.log) = subst (IsClaimed schema root a.last (commits_at schema root m.log) t) e g in below_up (max a.last ts) b.last (commits_at schema root m.log) (omega arith) below) h)
 
-  pub apply_away : (owner txn i : ℕ) (t : OpenTransaction) (c : Outcome) → (i == slot) ≡ false → t.outcome ≡ c → find (is_transaction owner txn) m.transactions ≡ Some t → IsInPlace schema root slot (applied_at c m owner txn i t).1
-  apply_away owner txn i t outcome.Undecided off e found = o
-  apply_away owner txn i t outcome.Aborted off e found = in_place_by (applied_at outcome.Aborted m owner txn i t).1 (lifts_same m.books) refl (λ a b p q low h.
+  pub apply_away : (owner txn i : ℕ) (t : OpenTransaction) (c : Decision) → (i == slot) ≡ false → t.decision ≡ c → find (is_transaction owner txn) m.transactions ≡ Some t → IsInPlace schema root slot (applied_at c m owner txn i t).1
+  apply_away owner txn i t decision.Undecided off e found = o
+  apply_away owner txn i t decision.Aborted off e found = in_place_by (applied_at decision.Aborted m owner txn i t).1 (lifts_same m.slots) refl (λ a b p q low h.
       away_claim owner txn i t a.last b.last off found low (λ g. subst (IsClaimed schema root b.last (commits_at schema root m.log) (without_prepared i t)) (sym e)
       (below_up a.last b.last (commits_at schema root m.log) low (let below : IsBelow a.last (commits_at schema root m.log) = subst (IsClaimed schema root a.last (commits_at schema root m.log) t) e g in below))) h)
-  apply_away owner txn i t (outcome.Committed ts) off e found = in_place_by (applied_at (outcome.Committed ts) m owner txn i t).1 (lifts_last m.books i ts) refl (λ a b p q low h.
+  apply_away owner txn i t (decision.Committed ts) off e found = in_place_by (applied_at (decision.Committed ts) m owner txn i t).1 (lifts_last m.slots i ts) refl (λ a b p q low h.
       away_claim owner txn i t a.last b.last off found low (λ g. subst (IsClaimed schema root b.last (commits_at schema root m.log) (without_prepared i t)) (sym e)
       (below_up (max a.last ts) (max b.last ts) (commits_at schema root m.log) (omega arith) (let below : IsBelow (max a.last ts) (commits_at schema root m.log) = subst (IsClaimed schema root a.last (commits_at schema root m.log) t) e g in below))) h)
 
-  pub apply_there : (owner txn i : ℕ) (t : OpenTransaction) → find (is_transaction owner txn) m.transactions ≡ Some t → IsInPlace schema root slot (applied_at t.outcome m owner txn i t).1
-  apply_there owner txn i t found = elim (i == slot) as (λ v. (i == slot) ≡ v → IsInPlace schema root slot (applied_at t.outcome m owner txn i t).1) [
-    | true ↦ λ e. subst (λ j. IsInPlace schema root slot (applied_at t.outcome m owner txn j t).1) (sym (number_same i slot e)) (apply_here owner txn t t.outcome refl found)
-    | false ↦ λ e. apply_away owner txn i t t.outcome e refl found
+  pub apply_there : (owner txn i : ℕ) (t : OpenTransaction) → find (is_transaction owner txn) m.transactions ≡ Some t → IsInPlace schema root slot (applied_at t.decision m owner txn i t).1
+  apply_there owner txn i t found = elim (i == slot) as (λ v. (i == slot) ≡ v → IsInPlace schema root slot (applied_at t.decision m owner txn i t).1) [
+    | true ↦ λ e. subst (λ j. IsInPlace schema root slot (applied_at t.decision m owner txn j t).1) (sym (number_same i slot e)) (apply_here owner txn t t.decision refl found)
+    | false ↦ λ e. apply_away owner txn i t t.decision e refl found
   ] refl
 
   -- ---- the steps that leave log and transactions
-  pub books_placed : (n : Machine) → Lifts m.books n.books → n.log ≡ m.log → n.transactions ≡ m.transactions → IsInPlace schema root slot n
-  books_placed n lifts same_log same = in_place_by n lifts same_log (λ a b p q low h.
+  pub slots_placed : (n : Machine) → Lifts m.slots n.slots → n.log ≡ m.log → n.transactions ≡ m.transactions → IsInPlace schema root slot n
+  slots_placed n lifts same_log same = in_place_by n lifts same_log (λ a b p q low h.
       subst (λ ts. IsClaim schema root b.last (commits_at schema root m.log) (filter (claims schema root slot) ts)) (sym same) (claim_up schema root a.last b.last (commits_at schema root m.log) (filter (claims schema root slot) m.transactions) low h))
 
-  pub lifts_risen : (i q : ℕ) (interval : Interval) (book : Book) → slice_get m.books i ≡ Some book → Lifts m.books (slice_set m.books i (risen book q interval))
-  lifts_risen i q interval book here = elim (nat_lt book.floor q && nat_le q interval.latest) as (λ v. Lifts m.books (slice_set m.books i (cond v (record book { floor = q }) book))) [
-    | true ↦ lifts_set m.books i book (record book { floor = q }) here (omega arith) (λ _. refl)
-    | false ↦ lifts_set m.books i book book here (omega arith) (λ _. refl)
+  pub lifts_risen : (i q : ℕ) (interval : Interval) (slot_state : SlotState) → slice_get m.slots i ≡ Some slot_state → Lifts m.slots (slice_set m.slots i (with_risen_floor slot_state q interval))
+  lifts_risen i q interval slot_state here = elim (nat_lt slot_state.floor q && nat_le q interval.latest) as (λ v. Lifts m.slots (slice_set m.slots i (cond v (record slot_state { floor = q }) slot_state))) [
+    | true ↦ lifts_set m.slots i slot_state (record slot_state { floor = q }) here (omega arith) (λ _. refl)
+    | false ↦ lifts_set m.slots i slot_state slot_state here (omega arith) (λ _. refl)
   ]
 
   placed_ends : (u : Result Statement Refusal) → Ends schema m u (λ step a. IsInPlace schema root slot a.1)
   placed_ends u = record {
     refuses = λ step why may. o;
     begins = λ owner ms accepted. begin_placed owner ms;
-    prepares = λ owner txn i t book found here accepted well room low. prepare_there owner txn i t book found here accepted well;
+    prepares = λ owner txn i t slot_state found here accepted well room low. prepare_there owner txn i t slot_state found here accepted well;
     commits = λ owner txn interval t found accepted.
         let may = may_commit (is_undecided t) (is_all_prepared schema m t) (nat_le timestamp_end (commit_timestamp m t interval)) accepted in
         commit_here owner txn (commit_timestamp m t interval) t found may.0 may.1 (omega arith) (not_late timestamp_end (commit_timestamp m t interval) may.2);
-    aborts = λ owner txn interval t found open_still. in_place_by (aborted m owner txn t).1 (lifts_same m.books) refl (λ a b p q low h. abort_claim owner txn t a.last b.last found open_still low h);
-    applies = λ owner txn i interval t book found here accepted. apply_there owner txn i t found;
-    advances = λ i interval book here. books_placed (advanced m i interval book).1 (lifts_set m.books i book (record book { floor = max book.floor interval.latest }) here (omega arith) (λ _. refl)) refl refl;
-    trims = λ i h book here accepted. books_placed (trimmed schema m i h book).1 (lifts_set m.books i book (record book { horizon = h }) here (omega arith) (λ _. refl)) refl refl;
-    opens = λ text params bound interval asked is accepted. books_placed (opened m asked (timestamp_of bound interval)).1 (lifts_same m.books) refl refl;
+    aborts = λ owner txn interval t found open_still. in_place_by (aborted m owner txn t).1 (lifts_same m.slots) refl (λ a b p q low h. abort_claim owner txn t a.last b.last found open_still low h);
+    applies = λ owner txn i interval t slot_state found here accepted. apply_there owner txn i t found;
+    advances = λ i interval slot_state here. slots_placed (advanced m i interval slot_state).1 (lifts_set m.slots i slot_state (record slot_state { floor = max slot_state.floor interval.latest }) here (omega arith) (λ _. refl)) refl refl;
+    trims = λ i h slot_state here accepted. slots_placed (trimmed schema m i h slot_state).1 (lifts_set m.slots i slot_state (record slot_state { horizon = h }) here (omega arith) (λ _. refl)) refl refl;
+    opens = λ text params bound interval asked is accepted. slots_placed (opened m asked (timestamp_of bound interval)).1 (lifts_same m.slots) refl refl;
     finds_nothing = λ query leaf i interval. o;
-    scans = λ query leaf i interval q book found here above safe.
-        books_placed (record (with_book m i (risen book q.s interval)) { queries = changed_first (is_query query) (cover leaf) m.queries }) (lifts_risen i q.s interval book here) refl refl;
-    waits = λ query leaf i interval q book found here. books_placed (with_book m i (risen book q.s interval)) (lifts_risen i q.s interval book here) refl refl;
+    scans = λ query leaf i interval q slot_state found here above safe.
+        slots_placed (record (with_slot_state m i (with_risen_floor slot_state q.s interval)) { queries = changed_first (is_query query) (cover leaf) m.queries }) (lifts_risen i q.s interval slot_state here) refl refl;
+    waits = λ query leaf i interval q slot_state found here. slots_placed (with_slot_state m i (with_risen_floor slot_state q.s interval)) (lifts_risen i q.s interval slot_state here) refl refl;
     finishes = λ query q found covered. o;
-    closes = λ query q found. books_placed (closed m query q).1 (lifts_same m.books) refl refl;
+    closes = λ query q found. slots_placed (closed m query q).1 (lifts_same m.slots) refl refl;
   }
 
 -- every step keeps the directory in place
@@ -270,9 +270,9 @@ pub answer_placed : (schema : List Table) → MeetsRules schema → (root : Root
     → IsInPlace schema root slot (answer schema m u step).1
 answer_placed schema rules root is slot m u by o step = answer_by schema m u (λ x a. IsInPlace schema root slot a.1) (placed_ends schema rules root is slot m by o u) step
 
-pub only_one : (book b : Book) (i : ℕ) → slice_get (book ∷ []) i ≡ Some b → i ≡ 0
-only_one book b zero e = refl
-only_one book b (suc i) e = cc
+pub only_one : (slot_state b : SlotState) (i : ℕ) → slice_get (slot_state ∷ []) i ≡ Some b → i ≡ 0
+only_one slot_state b zero e = refl
+only_one slot_state b (suc i) e = cc
 
 pub start_placed : (schema : List Table) (root : Root) → IsInPlace schema root 0 start
 start_placed schema root = record {

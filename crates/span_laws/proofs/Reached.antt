@@ -15,7 +15,7 @@ use Rattle.span_machine.specs.declared.step.Step.TheVariants.{Finish}
 use Rattle.span_machine.specs.declared.step.Reply.{Reply}
 use Rattle.span_machine.specs.Meaning.{means}
 use Rattle.span_machine.specs.Tables.{tables}
-use Rattle.span_machine.specs.Machine.{Machine, Understanding, Answer, Steps, answer, start, is_query, is_covered, tables_of, or_refusal, if_some, refused, meaning, answer_on, finish_found}
+use Rattle.span_machine.specs.Machine.{Machine, Understanding, Answer, Steps, answer, start, is_query, is_covered, tables_of, rows_or_refusal, if_some, refused, meaning, answer_on, finish_query}
 use Rattle.span_machine.specs.Run.{Run, IsOfSchema, AreOfSchema}
 use Rattle.span_laws.proofs.Locality.{IsRoot}
 use Rattle.span_laws.proofs.InPlace.{IsInPlace, tables_made}
@@ -73,8 +73,8 @@ module _ (schema : List Table) (rules : MeetsRules schema) where
 
 -- the Finish of a query whose leaves are all covered answers what the query means on the tables
 pub finish_meant : (schema : List Table) (m : Machine) (u : Result Statement Refusal) (number : ℕ) (q : OpenQuery) (db : List TableRow) → find (is_query number) m.queries ≡ Some q → list_all is_covered q.leaves ≡ true → tables schema m.log q.s ≡ Ok db
-    → answer schema m u (Finish number) ≡ (answer_on q.s (or_refusal (means schema q.query (tables_of q.leaves) db)), m)
+    → answer schema m u (Finish number) ≡ (answer_on q.s (rows_or_refusal (means schema q.query (tables_of q.leaves) db)), m)
 finish_meant schema m u number q db found covered made =
-    ap (λ o. if_some o (refused m refusal.UnknownQuery) (finish_found schema m)) found
+    ap (λ o. if_some o (refused m refusal.UnknownQuery) (finish_query schema m)) found
     ∙ ap (λ (b : Bool). cond {A = Answer} b (answer_on q.s (meaning schema m q), m) (refused m refusal.Incomplete)) covered
-    ∙ ap (λ (r : Result (List TableRow) Refusal). (answer_on q.s (and_then r (λ d. or_refusal (means schema q.query (tables_of q.leaves) d))), m)) made
+    ∙ ap (λ (r : Result (List TableRow) Refusal). (answer_on q.s (and_then r (λ d. rows_or_refusal (means schema q.query (tables_of q.leaves) d))), m)) made

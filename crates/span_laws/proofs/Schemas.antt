@@ -10,16 +10,16 @@ use Rattle.span_keycode.proofs.LevelLaws.{fit_length}
 use Rattle.span_keycode.specs.Keys.{IsCodedKey}
 use Rattle.span_mutate.specs.Directories.{IsKeyed, AreKeyed}
 use Rattle.span_mutate.specs.Typed.{IsTypedMutation, AreTypedMutations}
-use Rattle.span_machine.specs.declared.slot.Book.{Book}
+use Rattle.span_machine.specs.declared.slot.SlotState.{SlotState}
 use Rattle.span_machine.specs.declared.step.Step.{Step}
 use Rattle.span_machine.specs.declared.step.Reply.{Reply}
 use Rattle.span_machine.specs.declared.transaction.Commit.{Commit}
 use Rattle.span_machine.specs.declared.transaction.OpenTransaction.{OpenTransaction}
-use Rattle.span_machine.specs.declared.transaction.Outcome.{Outcome}
-use Rattle.span_machine.specs.declared.transaction.Outcome.TheVariants as outcome
+use Rattle.span_machine.specs.declared.transaction.Decision.{Decision}
+use Rattle.span_machine.specs.declared.transaction.Decision.TheVariants as decision
 use Rattle.span_machine.specs.Sorting.{placed, in_order}
 use Rattle.span_machine.specs.Tables.{is_before, upto, mutations_of}
-use Rattle.span_machine.specs.Machine.{Machine, Understanding, Steps, answer, start, is_transaction, root_at, holds, mutations_in, changed_first, without_first, with_outcome, add_prepared, prepare_timestamp, commit_timestamp, commit_of, without_prepared, applied_at}
+use Rattle.span_machine.specs.Machine.{Machine, Understanding, Steps, answer, start, is_transaction, root_at, holds, mutations_in, changed_first, without_first, with_decision, add_prepared, prepare_timestamp, commit_timestamp, commit_of, without_prepared, applied_at}
 use Rattle.span_machine.specs.Run.{IsOfSchema}
 use Rattle.span_laws.proofs.Lists.{all_push, all_changed, all_without, all_found, all_filtered, one_or_other}
 use Rattle.span_laws.proofs.Walks.{Ends, answer_by}
@@ -63,8 +63,8 @@ pub typed_upto : (schema : List Table) (log : List Commit) (s : ℕ) → AllByRe
 typed_upto schema log s all = typed_mutations schema (upto log s) (all_in_order (IsCommitBy schema) is_before (filter (λ c. nat_le c.timestamp s) log) (all_filtered (IsCommitBy schema) (λ c. nat_le c.timestamp s) log all))
 
 -- so are those in a slot
-pub typed_in : (schema : List Table) (book : Book) (ms : List CheckedMutation) → AreTypedMutations schema ms → AreTypedMutations schema (mutations_in schema book ms)
-typed_in schema book ms all = all_filtered (IsTypedMutation schema) (λ m. holds book (root_at schema m)) ms all
+pub typed_in : (schema : List Table) (slot_state : SlotState) (ms : List CheckedMutation) → AreTypedMutations schema ms → AreTypedMutations schema (mutations_in schema slot_state ms)
+typed_in schema slot_state ms all = all_filtered (IsTypedMutation schema) (λ m. holds slot_state (root_at schema m)) ms all
 
 -- what is typed has a value for each key column
 pub keyed_of : (schema : List Table) (n : ℕ) (key : List Value) → IsCodedKey schema n key → IsKeyed schema n key
@@ -77,8 +77,8 @@ keyed_all schema (m ∷ ms) all = (keyed_of schema m.table m.key all.0.0, keyed_
 pub keyed_upto : (schema : List Table) (log : List Commit) (s : ℕ) → AllByRecursion (IsCommitBy schema) log → AreKeyed schema (mutations_of (upto log s))
 keyed_upto schema log s all = keyed_all schema (mutations_of (upto log s)) (typed_upto schema log s all)
 
-pub keyed_in : (schema : List Table) (book : Book) (ms : List CheckedMutation) → AreTypedMutations schema ms → AreKeyed schema (mutations_in schema book ms)
-keyed_in schema book ms all = keyed_all schema (mutations_in schema book ms) (typed_in schema book ms all)
+pub keyed_in : (schema : List Table) (slot_state : SlotState) (ms : List CheckedMutation) → AreTypedMutations schema ms → AreKeyed schema (mutations_in schema slot_state ms)
+keyed_in schema slot_state ms all = keyed_all schema (mutations_in schema slot_state ms) (typed_in schema slot_state ms all)
 
 -- ---- the steps
 
@@ -93,31 +93,31 @@ module _ (schema : List Table) (m : Machine) (by : IsBySchema schema m) where
     log = subst (AllByRecursion (IsCommitBy schema)) (sym f) by.log;
   }
 
-  applied_by : (o : Outcome) (owner txn slot : ℕ) (t : OpenTransaction) → IsBySchema schema (applied_at o m owner txn slot t).1
-  applied_by outcome.Undecided owner txn slot t = by
-  applied_by outcome.Aborted owner txn slot t = either_by (length (without_prepared slot t).prepared == 0) _ (is_transaction owner txn) (without_prepared slot) (λ t k. k) refl refl
-  applied_by (outcome.Committed ts) owner txn slot t = either_by (length (without_prepared slot t).prepared == 0) _ (is_transaction owner txn) (without_prepared slot) (λ t k. k) refl refl
+  applied_by : (o : Decision) (owner txn slot : ℕ) (t : OpenTransaction) → IsBySchema schema (applied_at o m owner txn slot t).1
+  applied_by decision.Undecided owner txn slot t = by
+  applied_by decision.Aborted owner txn slot t = either_by (length (without_prepared slot t).prepared == 0) _ (is_transaction owner txn) (without_prepared slot) (λ t k. k) refl refl
+  applied_by (decision.Committed ts) owner txn slot t = either_by (length (without_prepared slot t).prepared == 0) _ (is_transaction owner txn) (without_prepared slot) (λ t k. k) refl refl
 
   by_ends : (u : Result Statement Refusal) → Ends schema m u (λ step a. IsOfSchema schema step → IsBySchema schema a.1)
   by_ends u = record {
     refuses = λ step why may of. by;
     begins = λ owner ms accepted of. record {
-      transactions = all_push (IsBegunBy schema) m.transactions (record { owner = owner; number = m.next_transaction; mutations = ms; outcome = outcome.Undecided; prepared = [] }) by.transactions of;
+      transactions = all_push (IsBegunBy schema) m.transactions (record { owner = owner; number = m.next_transaction; mutations = ms; decision = decision.Undecided; prepared = [] }) by.transactions of;
       log = by.log;
     };
-    prepares = λ owner txn slot t book found here accepted well room low of. either_by false _ (is_transaction owner txn) (add_prepared slot (prepare_timestamp book)) (λ t k. k) refl refl;
+    prepares = λ owner txn slot t slot_state found here accepted well room low of. either_by false _ (is_transaction owner txn) (add_prepared slot (prepare_timestamp slot_state)) (λ t k. k) refl refl;
     commits = λ owner txn interval t found accepted of. record {
-      transactions = all_changed (IsBegunBy schema) (is_transaction owner txn) (with_outcome (outcome.Committed (commit_timestamp m t interval))) (λ t k. k) m.transactions by.transactions;
+      transactions = all_changed (IsBegunBy schema) (is_transaction owner txn) (with_decision (decision.Committed (commit_timestamp m t interval))) (λ t k. k) m.transactions by.transactions;
       log = all_push (IsCommitBy schema) m.log (commit_of (commit_timestamp m t interval) t) by.log (all_found (IsBegunBy schema) (is_transaction owner txn) m.transactions t found by.transactions);
     };
-    aborts = λ owner txn interval t found open_still of. either_by (length t.prepared == 0) _ (is_transaction owner txn) (with_outcome outcome.Aborted) (λ t k. k) refl refl;
-    applies = λ owner txn slot interval t book found here accepted of. applied_by t.outcome owner txn slot t;
-    advances = λ slot interval book here of. same_by _ refl refl;
-    trims = λ slot h book here accepted of. same_by _ refl refl;
+    aborts = λ owner txn interval t found open_still of. either_by (length t.prepared == 0) _ (is_transaction owner txn) (with_decision decision.Aborted) (λ t k. k) refl refl;
+    applies = λ owner txn slot interval t slot_state found here accepted of. applied_by t.decision owner txn slot t;
+    advances = λ slot interval slot_state here of. same_by _ refl refl;
+    trims = λ slot h slot_state here accepted of. same_by _ refl refl;
     opens = λ text params bound interval asked is accepted of. same_by _ refl refl;
     finds_nothing = λ query leaf slot interval of. by;
-    scans = λ query leaf slot interval q book found here above safe of. same_by _ refl refl;
-    waits = λ query leaf slot interval q book found here of. same_by _ refl refl;
+    scans = λ query leaf slot interval q slot_state found here above safe of. same_by _ refl refl;
+    waits = λ query leaf slot interval q slot_state found here of. same_by _ refl refl;
     finishes = λ query q found covered of. by;
     closes = λ query q found of. same_by _ refl refl;
   }

@@ -4,25 +4,25 @@ use Rattle.span_value.specs.declared.refusal.Refusal.{Refusal}
 use Rattle.span_value.specs.declared.refusal.Refusal.TheVariants as refusal
 use Rattle.span_lexer.specs.declared.token.Token.{Token}
 use Rattle.span_lexer.specs.declared.lexer.TheConstants.{LONGEST_TEXT}
-use Rattle.span_lexer.specs.Lexing.{lexed}
-use Rattle.span_lexer.specs.Readings.{IsMisread}
+use Rattle.span_lexer.specs.Lexing.{lex_from}
+use Rattle.span_lexer.specs.Readings.{IsReadError}
 use Rattle.span_lexer.specs.Tokens.{Item, AreItems, text_of, tokens_of}
 use Rattle.span_lexer.proofs.Complete.{items_read}
 
 some_is : (x y : List Token) → Some x ≡ Some y → x ≡ y
 some_is x y e = cc
 
-pub read_is : (text : List ℕ) (found : List Token) → lexed 0 0 text ≡ Some found → (is : List Item) → AreItems is → text ≡ text_of is → found ≡ tokens_of 0 is
-read_is text found e is are same = some_is found (tokens_of 0 is) (sym e ∙ ap (lexed 0 0) same ∙ items_read 0 is are)
+pub read_is : (text : List ℕ) (found : List Token) → lex_from 0 0 text ≡ Some found → (is : List Item) → AreItems is → text ≡ text_of is → found ≡ tokens_of 0 is
+read_is text found e is are same = some_is found (tokens_of 0 is) (sym e ∙ ap (lex_from 0 0) same ∙ items_read 0 is are)
 
-pub read_is_not : (text : List ℕ) → lexed 0 0 text ≡ None → (is : List Item) → AreItems is → text ≡ text_of is → ⊥
-read_is_not text e is are same = let t : None ≡ Some (tokens_of 0 is) = sym e ∙ ap (lexed 0 0) same ∙ items_read 0 is are in cc
+pub read_is_not : (text : List ℕ) → lex_from 0 0 text ≡ None → (is : List Item) → AreItems is → text ≡ text_of is → ⊥
+read_is_not text e is are same = let t : None ≡ Some (tokens_of 0 is) = sym e ∙ ap (lex_from 0 0) same ∙ items_read 0 is are in cc
 
-pub misread_is : (text : List ℕ) (r : Refusal) → length text ≤ LONGEST_TEXT → (r ≡ refusal.OutOfMemory) ⊎ ((r ≡ refusal.BadToken) × (lexed 0 0 text ≡ None)) → IsMisread text r
-misread_is text r l (inl e) = subst (IsMisread text) (sym e) tt
-misread_is text r l (inr h) = subst (IsMisread text) (sym h.0) (l, read_is_not text h.1)
+pub misread_is : (text : List ℕ) (r : Refusal) → length text ≤ LONGEST_TEXT → (r ≡ refusal.OutOfMemory) ⊎ ((r ≡ refusal.BadToken) × (lex_from 0 0 text ≡ None)) → IsReadError text r
+misread_is text r l (inl e) = subst (IsReadError text) (sym e) tt
+misread_is text r l (inr h) = subst (IsReadError text) (sym h.0) (l, read_is_not text h.1)
 
-pub items_refused : (text : List ℕ) (r : Refusal) (is : List Item) → AreItems is → text ≡ text_of is → (r ≡ refusal.OutOfMemory) ⊎ ((r ≡ refusal.BadToken) × (lexed 0 0 text ≡ None)) → r ≡ refusal.OutOfMemory
+pub items_refused : (text : List ℕ) (r : Refusal) (is : List Item) → AreItems is → text ≡ text_of is → (r ≡ refusal.OutOfMemory) ⊎ ((r ≡ refusal.BadToken) × (lex_from 0 0 text ≡ None)) → r ≡ refusal.OutOfMemory
 items_refused text r is are same (inl e) = e
 items_refused text r is are same (inr h) = absurd (read_is_not text h.1 is are same)
 

@@ -2,22 +2,22 @@
 use Rattle.std.proofs.Common.{◌≡◌, ◌≢◌, ℕ, zero, suc, ◌+◌, ◌-◌, ◌<◌, ◌≤◌, ◌==◌, Bool, true, false, List, [], ◌∷◌, length, drop, get_or, Option, Some, None, if◌then◌else◌, refl, sym, ap, ◌∙◌, arith, eqb-true, eq-eqb}
 use Rattle.std.proofs.lemmas.Grind.{common_steps}
 use Rattle.span_lexer.specs.declared.literal.Literal.{Literal}
-use Rattle.span_lexer.specs.Literals.{closed, piece_end, one_more, with_more}
+use Rattle.span_lexer.specs.Literals.{closing_quote, piece_length, one_more, with_more}
 use Rattle.span_lexer.proofs.Words.{if_true, if_false}
 
 abbrev behind : Literal → ℕ → List ℕ → Option ℕ → Option ℕ
-behind t q bs o = elim o [ None ↦ None | Some n ↦ one_more (closed t q (n - 1) bs) ]
+behind t q bs o = elim o [ None ↦ None | Some n ↦ one_more (closing_quote t q (n - 1) bs) ]
 
-pub closed_nil : (t : Literal) (q k : ℕ) → closed t q k [] ≡ None
-unfolding closed
+pub closed_nil : (t : Literal) (q k : ℕ) → closing_quote t q k [] ≡ None
+unfolding closing_quote
 closed_nil t q k = refl
 
-closed_in : (t : Literal) (q k b : ℕ) (bs : List ℕ) → closed t q (suc k) (b ∷ bs) ≡ one_more (closed t q k bs)
-unfolding closed
+closed_in : (t : Literal) (q k b : ℕ) (bs : List ℕ) → closing_quote t q (suc k) (b ∷ bs) ≡ one_more (closing_quote t q k bs)
+unfolding closing_quote
 closed_in t q k b bs = refl
 
-closed_at : (t : Literal) (q b : ℕ) (bs : List ℕ) → closed t q 0 (b ∷ bs) ≡ (if b == q then Some 1 else behind t q bs (piece_end t (b ∷ bs)))
-unfolding closed
+closed_at : (t : Literal) (q b : ℕ) (bs : List ℕ) → closing_quote t q 0 (b ∷ bs) ≡ (if b == q then Some 1 else behind t q bs (piece_length t (b ∷ bs)))
+unfolding closing_quote
 closed_at t q b bs = refl
 
 differ : (b q : ℕ) (v : Bool) → (b == q) ≡ v → b ≢ q → v ≡ false
@@ -37,35 +37,35 @@ with_with j k None = refl
 with_with j k (Some n) = ap Some (omega arith)
 
 -- the bytes of the piece before are skipped
-pub skipped : (t : Literal) (q k : ℕ) (bs : List ℕ) → closed t q k bs ≡ with_more k (closed t q 0 (drop k bs))
-skipped t q zero bs = sym (with_zero (closed t q 0 bs))
+pub skipped : (t : Literal) (q k : ℕ) (bs : List ℕ) → closing_quote t q k bs ≡ with_more k (closing_quote t q 0 (drop k bs))
+skipped t q zero bs = sym (with_zero (closing_quote t q 0 bs))
 skipped t q (suc k) [] = closed_nil t q (suc k) ∙ sym (ap (with_more (suc k)) (closed_nil t q 0))
-skipped t q (suc k) (b ∷ bs) = closed_in t q k b bs ∙ ap one_more (skipped t q k bs) ∙ with_suc k (closed t q 0 (drop k bs))
+skipped t q (suc k) (b ∷ bs) = closed_in t q k b bs ∙ ap one_more (skipped t q k bs) ∙ with_suc k (closing_quote t q 0 (drop k bs))
 
 pub one_plus : (o : Option ℕ) → one_more o ≡ with_more 1 o
 one_plus None = refl
 one_plus (Some n) = ap Some (omega arith)
 
 -- a piece of n bytes, then the rest
-pub piece_then : (t : Literal) (q b n : ℕ) (bs : List ℕ) → b ≢ q → piece_end t (b ∷ bs) ≡ Some n → 0 < n → closed t q 0 (b ∷ bs) ≡ with_more n (closed t q 0 (drop n (b ∷ bs)))
+pub piece_then : (t : Literal) (q b n : ℕ) (bs : List ℕ) → b ≢ q → piece_length t (b ∷ bs) ≡ Some n → 0 < n → closing_quote t q 0 (b ∷ bs) ≡ with_more n (closing_quote t q 0 (drop n (b ∷ bs)))
 piece_then t q b zero bs ne e pos = absurd (omega arith)
 piece_then t q b (suc n) bs ne e pos =
-    closed_at t q b bs ∙ if_false (b == q) (Some 1) (behind t q bs (piece_end t (b ∷ bs))) (differ b q (b == q) refl ne)
-    ∙ ap (behind t q bs) e ∙ ap (λ (k : ℕ). one_more (closed t q k bs)) (let m : suc n - 1 ≡ n = omega arith in m) ∙ ap one_more (skipped t q n bs) ∙ with_suc n (closed t q 0 (drop n bs))
+    closed_at t q b bs ∙ if_false (b == q) (Some 1) (behind t q bs (piece_length t (b ∷ bs))) (differ b q (b == q) refl ne)
+    ∙ ap (behind t q bs) e ∙ ap (λ (k : ℕ). one_more (closing_quote t q k bs)) (let m : suc n - 1 ≡ n = omega arith in m) ∙ ap one_more (skipped t q n bs) ∙ with_suc n (closing_quote t q 0 (drop n bs))
 
-pub no_piece : (t : Literal) (q b : ℕ) (bs : List ℕ) → b ≢ q → piece_end t (b ∷ bs) ≡ None → closed t q 0 (b ∷ bs) ≡ None
-no_piece t q b bs ne e = closed_at t q b bs ∙ if_false (b == q) (Some 1) (behind t q bs (piece_end t (b ∷ bs))) (differ b q (b == q) refl ne) ∙ ap (behind t q bs) e
+pub no_piece : (t : Literal) (q b : ℕ) (bs : List ℕ) → b ≢ q → piece_length t (b ∷ bs) ≡ None → closing_quote t q 0 (b ∷ bs) ≡ None
+no_piece t q b bs ne e = closed_at t q b bs ∙ if_false (b == q) (Some 1) (behind t q bs (piece_length t (b ∷ bs))) (differ b q (b == q) refl ne) ∙ ap (behind t q bs) e
 
-pub closed_here : (t : Literal) (q b : ℕ) (bs : List ℕ) → b ≡ q → closed t q 0 (b ∷ bs) ≡ Some 1
-closed_here t q b bs e = closed_at t q b bs ∙ if_true (b == q) (Some 1) (behind t q bs (piece_end t (b ∷ bs))) (eq-eqb b q e)
+pub closed_here : (t : Literal) (q b : ℕ) (bs : List ℕ) → b ≡ q → closing_quote t q 0 (b ∷ bs) ≡ Some 1
+closed_here t q b bs e = closed_at t q b bs ∙ if_true (b == q) (Some 1) (behind t q bs (piece_length t (b ∷ bs))) (eq-eqb b q e)
 
 -- ---- for the loop
 
 abbrev pub IsClosedFrom : Literal → ℕ → List ℕ → ℕ → Type 0
-IsClosedFrom t q bytes at = with_more at (closed t q 0 (drop at bytes)) ≡ closed t q 0 bytes
+IsClosedFrom t q bytes at = with_more at (closing_quote t q 0 (drop at bytes)) ≡ closing_quote t q 0 bytes
 
 pub closing_begins : (t : Literal) (q : ℕ) (bytes : List ℕ) → IsClosedFrom t q bytes 0
-closing_begins t q bytes = with_zero (closed t q 0 bytes)
+closing_begins t q bytes = with_zero (closing_quote t q 0 bytes)
 
 at_front : (bytes : List ℕ) (at : ℕ) → at < length bytes → drop at bytes ≡ get_or bytes at 0 ∷ drop (at + 1) bytes
 at_front bytes at h = grind (arith, common_steps)
@@ -73,22 +73,22 @@ at_front bytes at h = grind (arith, common_steps)
 drop_drop : (n at : ℕ) (bytes : List ℕ) → drop n (drop at bytes) ≡ drop (at + n) bytes
 drop_drop n at bytes = grind (arith, common_steps)
 
-pub closing_steps : (t : Literal) (q : ℕ) (bytes : List ℕ) (at n : ℕ) → IsClosedFrom t q bytes at → at < length bytes → get_or bytes at 0 ≢ q → piece_end t (drop at bytes) ≡ Some n → 0 < n → IsClosedFrom t q bytes (at + n)
+pub closing_steps : (t : Literal) (q : ℕ) (bytes : List ℕ) (at n : ℕ) → IsClosedFrom t q bytes at → at < length bytes → get_or bytes at 0 ≢ q → piece_length t (drop at bytes) ≡ Some n → 0 < n → IsClosedFrom t q bytes (at + n)
 closing_steps t q bytes at n h l ne e pos =
     let f = at_front bytes at l in
-    let step : closed t q 0 (drop at bytes) ≡ with_more n (closed t q 0 (drop n (drop at bytes))) =
-    ap (closed t q 0) f ∙ piece_then t q (get_or bytes at 0) n (drop (at + 1) bytes) ne (ap (piece_end t) (sym f) ∙ e) pos ∙ ap (λ (w : List ℕ). with_more n (closed t q 0 (drop n w))) (sym f) in
-    sym (with_with at n (closed t q 0 (drop (at + n) bytes))) ∙ ap (λ (w : List ℕ). with_more at (with_more n (closed t q 0 w))) (sym (drop_drop n at bytes)) ∙ ap (with_more at) (sym step) ∙ h
+    let step : closing_quote t q 0 (drop at bytes) ≡ with_more n (closing_quote t q 0 (drop n (drop at bytes))) =
+    ap (closing_quote t q 0) f ∙ piece_then t q (get_or bytes at 0) n (drop (at + 1) bytes) ne (ap (piece_length t) (sym f) ∙ e) pos ∙ ap (λ (w : List ℕ). with_more n (closing_quote t q 0 (drop n w))) (sym f) in
+    sym (with_with at n (closing_quote t q 0 (drop (at + n) bytes))) ∙ ap (λ (w : List ℕ). with_more at (with_more n (closing_quote t q 0 w))) (sym (drop_drop n at bytes)) ∙ ap (with_more at) (sym step) ∙ h
 
-pub closing_fails : (t : Literal) (q : ℕ) (bytes : List ℕ) (at : ℕ) → IsClosedFrom t q bytes at → at < length bytes → get_or bytes at 0 ≢ q → piece_end t (drop at bytes) ≡ None → closed t q 0 bytes ≡ None
+pub closing_fails : (t : Literal) (q : ℕ) (bytes : List ℕ) (at : ℕ) → IsClosedFrom t q bytes at → at < length bytes → get_or bytes at 0 ≢ q → piece_length t (drop at bytes) ≡ None → closing_quote t q 0 bytes ≡ None
 closing_fails t q bytes at h l ne e =
     let f = at_front bytes at l in
-    sym h ∙ ap (with_more at) (ap (closed t q 0) f ∙ no_piece t q (get_or bytes at 0) (drop (at + 1) bytes) ne (ap (piece_end t) (sym f) ∙ e))
+    sym h ∙ ap (with_more at) (ap (closing_quote t q 0) f ∙ no_piece t q (get_or bytes at 0) (drop (at + 1) bytes) ne (ap (piece_length t) (sym f) ∙ e))
 
-pub closing_here : (t : Literal) (q : ℕ) (bytes : List ℕ) (at : ℕ) → IsClosedFrom t q bytes at → at < length bytes → get_or bytes at 0 ≡ q → closed t q 0 bytes ≡ Some (at + 1)
-closing_here t q bytes at h l e = sym h ∙ ap (with_more at) (ap (closed t q 0) (at_front bytes at l) ∙ closed_here t q (get_or bytes at 0) (drop (at + 1) bytes) e)
+pub closing_here : (t : Literal) (q : ℕ) (bytes : List ℕ) (at : ℕ) → IsClosedFrom t q bytes at → at < length bytes → get_or bytes at 0 ≡ q → closing_quote t q 0 bytes ≡ Some (at + 1)
+closing_here t q bytes at h l e = sym h ∙ ap (with_more at) (ap (closing_quote t q 0) (at_front bytes at l) ∙ closed_here t q (get_or bytes at 0) (drop (at + 1) bytes) e)
 
-pub closing_over : (t : Literal) (q : ℕ) (bytes : List ℕ) (at : ℕ) → IsClosedFrom t q bytes at → length bytes ≤ at → closed t q 0 bytes ≡ None
-closing_over t q bytes at h l = sym h ∙ ap (with_more at) (ap (closed t q 0) (let e : drop at bytes ≡ [] = grind (arith, common_steps) in e) ∙ closed_nil t q 0)
+pub closing_over : (t : Literal) (q : ℕ) (bytes : List ℕ) (at : ℕ) → IsClosedFrom t q bytes at → length bytes ≤ at → closing_quote t q 0 bytes ≡ None
+closing_over t q bytes at h l = sym h ∙ ap (with_more at) (ap (closing_quote t q 0) (let e : drop at bytes ≡ [] = grind (arith, common_steps) in e) ∙ closed_nil t q 0)
 
 pub ruleset closing_rules = (closing_begins, closing_steps, closing_fails, closing_here, closing_over)

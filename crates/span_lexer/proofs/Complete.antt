@@ -7,14 +7,14 @@ use Rattle.span_lexer.specs.declared.token.TokenKind.TheVariants as kind
 use Rattle.span_lexer.specs.declared.token.Token.{Token}
 use Rattle.span_lexer.specs.declared.token.Sign.{Sign}
 use Rattle.span_lexer.specs.declared.token.Sign.TheVariants as sgn
-use Rattle.span_lexer.specs.declared.lexer.Front.{Front}
-use Rattle.span_lexer.specs.declared.lexer.Front.TheVariants as front
+use Rattle.span_lexer.specs.declared.lexer.LexResult.{LexResult}
+use Rattle.span_lexer.specs.declared.lexer.LexResult.TheVariants as lex_result
 use Rattle.span_lexer.specs.declared.literal.Literal.TheVariants as literal
 use Rattle.span_lexer.specs.Characters.{is_blank, is_letter, is_digit, is_word, is_quote, is_mark, begins}
-use Rattle.span_lexer.specs.Spellings.{reserved, sign}
-use Rattle.span_lexer.specs.Literals.{closed}
-use Rattle.span_lexer.specs.Lexing.{run, word_front, word_or_name, integer, next_integer, integer_front, int_or_wrong, parameter_front, name_or_wrong, literal_or_wrong, bytes_front, sign_front, on_line, front_of, greatest_integer, longest_word, lexed, with_token}
-use Rattle.span_lexer.specs.Tokens.{Each, Stops, IsName, NoMark, number_behind, IsInteger, is_pair, NoPair, IsToken, Item, Blank, Comment, Lexeme, item_bytes, IsItem, AreItems, text_of, tokens_of}
+use Rattle.span_lexer.specs.Spellings.{reserved_word, sign}
+use Rattle.span_lexer.specs.Literals.{closing_quote}
+use Rattle.span_lexer.specs.Lexing.{word_length, lex_word, word_or_name, integer, next_integer, lex_integer, int_or_wrong, lex_parameter, name_or_wrong, literal_or_wrong, lex_bytes, lex_sign, is_on_line, lex_first, greatest_integer, longest_word, lex_from, with_token}
+use Rattle.span_lexer.specs.Tokens.{Each, Stops, IsName, NoMark, number_after, IsInteger, is_pair, NoPair, IsToken, Item, Blank, Comment, Lexeme, item_bytes, IsItem, AreItems, text_of, tokens_of}
 use Rattle.span_lexer.proofs.Words.{if_true, if_false}
 use Rattle.span_lexer.proofs.Pieces.{body_closes}
 use Rattle.span_lexer.proofs.Fronts.{run_whole, digit_is_word, Holds, IsGap, front_holds}
@@ -55,35 +55,35 @@ quote_is q e = elim (q == 39) as (λ v. (q == 39) ≡ v → (v || (q == 34)) ≡
 
 -- ---- what a text begins with, case by case
 
-to_word : (b : ℕ) (bs : List ℕ) → is_letter b ≡ true → (is_mark b && begins is_quote bs) ≡ false → front_of (b ∷ bs) ≡ word_front (b ∷ bs)
-unfolding front_of
+to_word : (b : ℕ) (bs : List ℕ) → is_letter b ≡ true → (is_mark b && begins is_quote bs) ≡ false → lex_first (b ∷ bs) ≡ lex_word (b ∷ bs)
+unfolding lex_first
 to_word b bs e m = if_false (is_blank b) _ _ (letter_not_blank b e) ∙ if_false (is_mark b && begins is_quote bs) _ _ m ∙ if_true (is_letter b) _ _ e
 
-to_integer : (b : ℕ) (bs : List ℕ) → is_digit b ≡ true → front_of (b ∷ bs) ≡ integer_front (b ∷ bs)
-unfolding front_of
+to_integer : (b : ℕ) (bs : List ℕ) → is_digit b ≡ true → lex_first (b ∷ bs) ≡ lex_integer (b ∷ bs)
+unfolding lex_first
 to_integer b bs e =
     if_false (is_blank b) _ _ (digit_not_blank b e) ∙ if_false (is_mark b && begins is_quote bs) _ _ (ap (λ (v : Bool). v && begins is_quote bs) (digit_not_mark b e))
     ∙ if_false (is_letter b) _ _ (digit_not_letter b e) ∙ if_true (is_digit b) _ _ e
 
-to_parameter : (bs : List ℕ) → front_of (64 ∷ bs) ≡ parameter_front bs
-unfolding front_of is_blank is_mark is_letter is_digit
+to_parameter : (bs : List ℕ) → lex_first (64 ∷ bs) ≡ lex_parameter bs
+unfolding lex_first is_blank is_mark is_letter is_digit
 to_parameter bs = refl
 
-to_single : (bs : List ℕ) → front_of (39 ∷ bs) ≡ literal_or_wrong kind.Str 1 (closed literal.Text 39 0 bs)
-unfolding front_of is_blank is_mark is_letter is_digit is_quote
+to_single : (bs : List ℕ) → lex_first (39 ∷ bs) ≡ literal_or_wrong kind.Str 1 (closing_quote literal.Text 39 0 bs)
+unfolding lex_first is_blank is_mark is_letter is_digit is_quote
 to_single bs = refl
 
-to_double : (bs : List ℕ) → front_of (34 ∷ bs) ≡ literal_or_wrong kind.Str 1 (closed literal.Text 34 0 bs)
-unfolding front_of is_blank is_mark is_letter is_digit is_quote
+to_double : (bs : List ℕ) → lex_first (34 ∷ bs) ≡ literal_or_wrong kind.Str 1 (closing_quote literal.Text 34 0 bs)
+unfolding lex_first is_blank is_mark is_letter is_digit is_quote
 to_double bs = refl
 
-to_string : (q : ℕ) (bs : List ℕ) → is_quote q ≡ true → front_of (q ∷ bs) ≡ literal_or_wrong kind.Str 1 (closed literal.Text q 0 bs)
+to_string : (q : ℕ) (bs : List ℕ) → is_quote q ≡ true → lex_first (q ∷ bs) ≡ literal_or_wrong kind.Str 1 (closing_quote literal.Text q 0 bs)
 to_string q bs e =
-    let P : ℕ → Type 0 = λ y. front_of (y ∷ bs) ≡ literal_or_wrong kind.Str 1 (closed literal.Text y 0 bs) in
+    let P : ℕ → Type 0 = λ y. lex_first (y ∷ bs) ≡ literal_or_wrong kind.Str 1 (closing_quote literal.Text y 0 bs) in
     elim (quote_is q e) [ inl h ↦ subst P (sym h) (to_single bs) | inr h ↦ subst P (sym h) (to_double bs) ]
 
-to_bytes : (m q : ℕ) (bs : List ℕ) → is_mark m ≡ true → is_quote q ≡ true → front_of (m ∷ q ∷ bs) ≡ literal_or_wrong kind.Bytes 2 (closed literal.Bytes q 0 bs)
-unfolding front_of bytes_front
+to_bytes : (m q : ℕ) (bs : List ℕ) → is_mark m ≡ true → is_quote q ≡ true → lex_first (m ∷ q ∷ bs) ≡ literal_or_wrong kind.Bytes 2 (closing_quote literal.Bytes q 0 bs)
+unfolding lex_first lex_bytes
 to_bytes m q bs e f = if_false (is_blank m) _ _ (mark_not_blank m e) ∙ if_true (is_mark m && is_quote q) _ _ (ap (λ (v : Bool). v && is_quote q) e ∙ f)
 
 -- ---- words, parameters, numbers
@@ -100,15 +100,15 @@ drop_whole (x ∷ xs) ys = drop_whole xs ys
 not_over : (a b : ℕ) → b ≤ a → nat_lt a b ≡ false
 not_over a b l = grind arith
 
-name_run : (w rest : List ℕ) → IsName w rest → run (w ++ rest) ≡ length w
+name_run : (w rest : List ℕ) → IsName w rest → word_length (w ++ rest) ≡ length w
 name_run w rest h = run_whole is_word w rest h.only h.whole
 
-read_word : (w rest : List ℕ) → IsName w rest → word_front (w ++ rest) ≡ front.Lexeme (word_or_name (reserved w)) (length w)
-unfolding word_front
+read_word : (w rest : List ℕ) → IsName w rest → lex_word (w ++ rest) ≡ lex_result.Lexeme (word_or_name (reserved_word w)) (length w)
+unfolding lex_word
 read_word w rest h =
     let n = name_run w rest h in
-    if_false (nat_lt longest_word (run (w ++ rest))) front.Wrong _ (ap (nat_lt longest_word) n ∙ not_over longest_word (length w) h.short)
-    ∙ ap (λ (k : ℕ). front.Lexeme (word_or_name (reserved (take k (w ++ rest)))) k) n ∙ ap (λ (v : List ℕ). front.Lexeme (word_or_name (reserved v)) (length w)) (take_whole w rest)
+    if_false (nat_lt longest_word (word_length (w ++ rest))) lex_result.Wrong _ (ap (nat_lt longest_word) n ∙ not_over longest_word (length w) h.short)
+    ∙ ap (λ (k : ℕ). lex_result.Lexeme (word_or_name (reserved_word (take k (w ++ rest)))) k) n ∙ ap (λ (v : List ℕ). lex_result.Lexeme (word_or_name (reserved_word v)) (length w)) (take_whole w rest)
 
 unmarked : (b : ℕ) (w rest : List ℕ) → Each is_word w → NoMark (b ∷ w) rest → (is_mark b && begins is_quote (w ++ rest)) ≡ false
 unmarked b (c ∷ w) rest h n = ap (λ (v : Bool). is_mark b && v) (word_not_quote c h.0) ∙ and_false (is_mark b)
@@ -122,7 +122,7 @@ unmarked b [] rest h n =
       | true ↦ λ e. elim (begins is_quote rest) as (λ v. begins is_quote rest ≡ v → v ≡ false) [ false ↦ λ f. refl | true ↦ λ f. absurd (n b refl e f) ] refl
     ] refl
 
-name_front : (w rest : List ℕ) → IsName w rest → NoMark w rest → front_of (w ++ rest) ≡ front.Lexeme (word_or_name (reserved w)) (length w)
+name_front : (w rest : List ℕ) → IsName w rest → NoMark w rest → lex_first (w ++ rest) ≡ lex_result.Lexeme (word_or_name (reserved_word w)) (length w)
 name_front [] rest h n = absurd (let t : false ≡ true = h.first in cc)
 name_front (b ∷ w) rest h n = to_word b (w ++ rest) h.first (unmarked b w rest h.only.1 n) ∙ read_word (b ∷ w) rest h
 
@@ -130,15 +130,15 @@ begins_whole : (w rest : List ℕ) → begins is_letter w ≡ true → begins is
 begins_whole [] rest e = absurd (let t : false ≡ true = e in cc)
 begins_whole (b ∷ w) rest e = e
 
-parameter_read : (w rest : List ℕ) → IsName w rest → reserved w ≡ None → parameter_front (w ++ rest) ≡ front.Lexeme kind.Parameter (length w + 1)
-unfolding parameter_front
+parameter_read : (w rest : List ℕ) → IsName w rest → reserved_word w ≡ None → lex_parameter (w ++ rest) ≡ lex_result.Lexeme kind.Parameter (length w + 1)
+unfolding lex_parameter
 parameter_read w rest h r =
     let n = name_run w rest h in
-    if_false (not (begins is_letter (w ++ rest)) || nat_lt longest_word (run (w ++ rest))) front.Wrong _
-    (ap (λ (v : Bool). not v || nat_lt longest_word (run (w ++ rest))) (begins_whole w rest h.first) ∙ ap (nat_lt longest_word) n ∙ not_over longest_word (length w) h.short)
-    ∙ ap (λ (k : ℕ). name_or_wrong k (reserved (take k (w ++ rest)))) n ∙ ap (λ (v : List ℕ). name_or_wrong (length w) (reserved v)) (take_whole w rest) ∙ ap (name_or_wrong (length w)) r
+    if_false (not (begins is_letter (w ++ rest)) || nat_lt longest_word (word_length (w ++ rest))) lex_result.Wrong _
+    (ap (λ (v : Bool). not v || nat_lt longest_word (word_length (w ++ rest))) (begins_whole w rest h.first) ∙ ap (nat_lt longest_word) n ∙ not_over longest_word (length w) h.short)
+    ∙ ap (λ (k : ℕ). name_or_wrong k (reserved_word (take k (w ++ rest)))) n ∙ ap (λ (v : List ℕ). name_or_wrong (length w) (reserved_word v)) (take_whole w rest) ∙ ap (name_or_wrong (length w)) r
 
-grows : (n : ℕ) (ds : List ℕ) → n ≤ number_behind n ds
+grows : (n : ℕ) (ds : List ℕ) → n ≤ number_after n ds
 grows n [] = omega arith
 grows n (c ∷ cs) = let l = grows (n * 10 + (c - 48)) cs in omega (arith, l)
 
@@ -146,7 +146,7 @@ next_is : (n c : ℕ) → is_digit c ≡ true → n * 10 + (c - 48) ≤ greatest
 unfolding next_integer
 next_is n c d l = if_true (is_digit c) _ None d ∙ if_false (nat_lt greatest_integer (n * 10 + (c - 48))) None _ (not_over greatest_integer (n * 10 + (c - 48)) l)
 
-integer_read : (n : ℕ) (ds : List ℕ) → Each is_digit ds → number_behind n ds ≤ greatest_integer → integer n ds ≡ Some (number_behind n ds)
+integer_read : (n : ℕ) (ds : List ℕ) → Each is_digit ds → number_after n ds ≤ greatest_integer → integer n ds ≡ Some (number_after n ds)
 unfolding integer
 integer_read n [] h l = refl
 integer_read n (c ∷ cs) h l =
@@ -157,13 +157,13 @@ digits_are_words : (ds : List ℕ) → Each is_digit ds → Each is_word ds
 digits_are_words [] h = tt
 digits_are_words (d ∷ ds) h = (digit_is_word d h.0, digits_are_words ds h.1)
 
-integer_front_read : (ds rest : List ℕ) (v : ℕ) → IsInteger ds v rest → integer_front (ds ++ rest) ≡ front.Lexeme (kind.Int v) (length ds)
-unfolding integer_front
+integer_front_read : (ds rest : List ℕ) (v : ℕ) → IsInteger ds v rest → lex_integer (ds ++ rest) ≡ lex_result.Lexeme (kind.Int v) (length ds)
+unfolding lex_integer
 integer_front_read ds rest v h =
     let n = run_whole is_word ds rest (digits_are_words ds h.only) h.whole in
-    let small : number_behind 0 ds ≤ greatest_integer = let e = h.says in let l = h.small in omega (arith, e, l) in
+    let small : number_after 0 ds ≤ greatest_integer = let e = h.says in let l = h.small in omega (arith, e, l) in
     ap (λ (k : ℕ). int_or_wrong k (integer 0 (take k (ds ++ rest)))) n ∙ ap (λ (w : List ℕ). int_or_wrong (length ds) (integer 0 w)) (take_whole ds rest)
-    ∙ ap (int_or_wrong (length ds)) (integer_read 0 ds h.only small) ∙ ap (λ (k : ℕ). front.Lexeme (kind.Int k) (length ds)) h.says
+    ∙ ap (int_or_wrong (length ds)) (integer_read 0 ds h.only small) ∙ ap (λ (k : ℕ). lex_result.Lexeme (kind.Int k) (length ds)) h.says
 
 -- ---- signs
 
@@ -190,16 +190,16 @@ pair_minus : (c : ℕ) → is_pair 45 c ≡ false → (c == 45) ≡ false
 unfolding is_pair
 pair_minus c e = e
 
-less_front : (bs : List ℕ) → sign_front 60 bs ≡ (if begins (λ c. c == 61) bs then front.Lexeme (kind.Sign sgn.LessEqual) 2 else (if begins (λ c. c == 62) bs then front.Lexeme (kind.Sign sgn.LessGreater) 2 else front.Lexeme (kind.Sign sgn.Less) 1))
-unfolding sign_front
+less_front : (bs : List ℕ) → lex_sign 60 bs ≡ (if begins (λ c. c == 61) bs then lex_result.Lexeme (kind.Sign sgn.LessEqual) 2 else (if begins (λ c. c == 62) bs then lex_result.Lexeme (kind.Sign sgn.LessGreater) 2 else lex_result.Lexeme (kind.Sign sgn.Less) 1))
+unfolding lex_sign
 less_front bs = refl
 
-greater_front : (bs : List ℕ) → sign_front 62 bs ≡ (if begins (λ c. c == 61) bs then front.Lexeme (kind.Sign sgn.GreaterEqual) 2 else front.Lexeme (kind.Sign sgn.Greater) 1)
-unfolding sign_front
+greater_front : (bs : List ℕ) → lex_sign 62 bs ≡ (if begins (λ c. c == 61) bs then lex_result.Lexeme (kind.Sign sgn.GreaterEqual) 2 else lex_result.Lexeme (kind.Sign sgn.Greater) 1)
+unfolding lex_sign
 greater_front bs = refl
 
-sign_read : (s : Sign) (rest : List ℕ) → NoPair (sign s) rest → front_of (sign s ++ rest) ≡ front.Lexeme (kind.Sign s) (length (sign s))
-unfolding front_of is_blank is_mark is_letter is_digit is_quote sign_front
+sign_read : (s : Sign) (rest : List ℕ) → NoPair (sign s) rest → lex_first (sign s ++ rest) ≡ lex_result.Lexeme (kind.Sign s) (length (sign s))
+unfolding lex_first is_blank is_mark is_letter is_digit is_quote lex_sign
 sign_read sgn.Open rest h = refl
 sign_read sgn.Close rest h = refl
 sign_read sgn.Comma rest h = refl
@@ -221,63 +221,63 @@ sign_read sgn.Concat rest h = refl
 
 -- ---- items
 
-abbrev front_for : Item → Front
-front_for (Blank b) = front.Gap 1
-front_for (Comment bytes) = front.Gap (2 + length bytes)
-front_for (Lexeme k bytes) = front.Lexeme k (length bytes)
+abbrev front_for : Item → LexResult
+front_for (Blank b) = lex_result.Skip 1
+front_for (Comment bytes) = lex_result.Skip (2 + length bytes)
+front_for (Lexeme k bytes) = lex_result.Lexeme k (length bytes)
 
-comment_read : (bytes rest : List ℕ) → Each on_line bytes → Stops on_line rest → front_of (45 ∷ 45 ∷ (bytes ++ rest)) ≡ front.Gap (2 + length bytes)
-unfolding front_of is_blank is_mark is_letter is_digit is_quote on_line
-comment_read bytes rest h s = ap front.Gap (ap (λ (n : ℕ). 1 + (1 + n)) (run_whole on_line bytes rest h s) ∙ omega arith)
+comment_read : (bytes rest : List ℕ) → Each is_on_line bytes → Stops is_on_line rest → lex_first (45 ∷ 45 ∷ (bytes ++ rest)) ≡ lex_result.Skip (2 + length bytes)
+unfolding lex_first is_blank is_mark is_letter is_digit is_quote is_on_line
+comment_read bytes rest h s = ap lex_result.Skip (ap (λ (n : ℕ). 1 + (1 + n)) (run_whole is_on_line bytes rest h s) ∙ omega arith)
 
-token_read : (k : TokenKind) (bytes rest : List ℕ) → IsToken k bytes rest → front_of (bytes ++ rest) ≡ front.Lexeme k (length bytes)
-token_read (kind.Word w) bytes rest h = name_front bytes rest h.0 h.1 ∙ ap (λ o. front.Lexeme (word_or_name o) (length bytes)) h.2
-token_read kind.Name bytes rest h = name_front bytes rest h.0 h.1 ∙ ap (λ o. front.Lexeme (word_or_name o) (length bytes)) h.2
+token_read : (k : TokenKind) (bytes rest : List ℕ) → IsToken k bytes rest → lex_first (bytes ++ rest) ≡ lex_result.Lexeme k (length bytes)
+token_read (kind.Word w) bytes rest h = name_front bytes rest h.0 h.1 ∙ ap (λ o. lex_result.Lexeme (word_or_name o) (length bytes)) h.2
+token_read kind.Name bytes rest h = name_front bytes rest h.0 h.1 ∙ ap (λ o. lex_result.Lexeme (word_or_name o) (length bytes)) h.2
 token_read kind.Parameter bytes rest h =
-    ap (λ (v : List ℕ). front_of (v ++ rest)) h.1 ∙ to_parameter (h.0 ++ rest) ∙ parameter_read h.0 rest h.2 h.3
-    ∙ ap (front.Lexeme kind.Parameter) (let e : length bytes ≡ suc (length h.0) = ap length h.1 in omega (arith, e))
+    ap (λ (v : List ℕ). lex_first (v ++ rest)) h.1 ∙ to_parameter (h.0 ++ rest) ∙ parameter_read h.0 rest h.2 h.3
+    ∙ ap (lex_result.Lexeme kind.Parameter) (let e : length bytes ≡ suc (length h.0) = ap length h.1 in omega (arith, e))
 token_read (kind.Int v) bytes rest h = integer_whole bytes rest v h
   where
-    integer_whole : (ds rest : List ℕ) (v : ℕ) → IsInteger ds v rest → front_of (ds ++ rest) ≡ front.Lexeme (kind.Int v) (length ds)
+    integer_whole : (ds rest : List ℕ) (v : ℕ) → IsInteger ds v rest → lex_first (ds ++ rest) ≡ lex_result.Lexeme (kind.Int v) (length ds)
     integer_whole [] rest v h = absurd (let l = h.some in omega (arith, l))
     integer_whole (d ∷ ds) rest v h = to_integer d (ds ++ rest) h.only.0 ∙ integer_front_read (d ∷ ds) rest v h
 token_read kind.Str bytes rest h =
-    ap (λ (v : List ℕ). front_of (v ++ rest)) h.3 ∙ to_string h.0 (h.1 ++ rest) h.2 ∙ ap (literal_or_wrong kind.Str 1) (body_closes literal.Text h.0 h.1 rest h.2 h.4)
-    ∙ ap (front.Lexeme kind.Str) (let e : length bytes ≡ suc (length h.1) = ap length h.3 in omega (arith, e))
+    ap (λ (v : List ℕ). lex_first (v ++ rest)) h.3 ∙ to_string h.0 (h.1 ++ rest) h.2 ∙ ap (literal_or_wrong kind.Str 1) (body_closes literal.Text h.0 h.1 rest h.2 h.4)
+    ∙ ap (lex_result.Lexeme kind.Str) (let e : length bytes ≡ suc (length h.1) = ap length h.3 in omega (arith, e))
 token_read kind.Bytes bytes rest h =
-    ap (λ (v : List ℕ). front_of (v ++ rest)) h.5 ∙ to_bytes h.0 h.1 (h.2 ++ rest) h.3 h.4 ∙ ap (literal_or_wrong kind.Bytes 2) (body_closes literal.Bytes h.1 h.2 rest h.4 h.6)
-    ∙ ap (front.Lexeme kind.Bytes) (let e : length bytes ≡ suc (suc (length h.2)) = ap length h.5 in omega (arith, e))
+    ap (λ (v : List ℕ). lex_first (v ++ rest)) h.5 ∙ to_bytes h.0 h.1 (h.2 ++ rest) h.3 h.4 ∙ ap (literal_or_wrong kind.Bytes 2) (body_closes literal.Bytes h.1 h.2 rest h.4 h.6)
+    ∙ ap (lex_result.Lexeme kind.Bytes) (let e : length bytes ≡ suc (suc (length h.2)) = ap length h.5 in omega (arith, e))
 token_read (kind.Sign s) bytes rest h =
-    ap (λ (v : List ℕ). front_of (v ++ rest)) h.0 ∙ sign_read s rest (λ a b more same after. h.1 a b more (h.0 ∙ same) after) ∙ ap (λ (v : List ℕ). front.Lexeme (kind.Sign s) (length v)) (sym h.0)
+    ap (λ (v : List ℕ). lex_first (v ++ rest)) h.0 ∙ sign_read s rest (λ a b more same after. h.1 a b more (h.0 ∙ same) after) ∙ ap (λ (v : List ℕ). lex_result.Lexeme (kind.Sign s) (length v)) (sym h.0)
 
 token_some : (k : TokenKind) (bytes rest : List ℕ) → IsToken k bytes rest → 0 < length bytes
-token_some k bytes rest h = token_long k bytes rest (front_of (bytes ++ rest)) (token_read k bytes rest h) (front_holds (bytes ++ rest))
+token_some k bytes rest h = token_long k bytes rest (lex_first (bytes ++ rest)) (token_read k bytes rest h) (front_holds (bytes ++ rest))
   where
-    token_long : (k : TokenKind) (bytes rest : List ℕ) (f : Front) → f ≡ front.Lexeme k (length bytes) → Holds (bytes ++ rest) f → 0 < length bytes
-    token_long k bytes rest f e h = (let P : Front → Type 0 = λ g. Holds (bytes ++ rest) g in subst P e h).1
+    token_long : (k : TokenKind) (bytes rest : List ℕ) (f : LexResult) → f ≡ lex_result.Lexeme k (length bytes) → Holds (bytes ++ rest) f → 0 < length bytes
+    token_long k bytes rest f e h = (let P : LexResult → Type 0 = λ g. Holds (bytes ++ rest) g in subst P e h).1
 
-blank_read : (b : ℕ) (rest : List ℕ) → is_blank b ≡ true → front_of (b ∷ rest) ≡ front.Gap 1
-unfolding front_of
-blank_read b rest e = if_true (is_blank b) (front.Gap 1) _ e
+blank_read : (b : ℕ) (rest : List ℕ) → is_blank b ≡ true → lex_first (b ∷ rest) ≡ lex_result.Skip 1
+unfolding lex_first
+blank_read b rest e = if_true (is_blank b) (lex_result.Skip 1) _ e
 
 -- ---- texts
 
 -- the tokens of items are read
-pub items_read : (at : ℕ) (is : List Item) → AreItems is → lexed 0 at (text_of is) ≡ Some (tokens_of at is)
+pub items_read : (at : ℕ) (is : List Item) → AreItems is → lex_from 0 at (text_of is) ≡ Some (tokens_of at is)
 items_read at [] h = lexed_nil 0 at
 items_read at (Blank b ∷ is) h = gap_then at b 1 (text_of is) (blank_read b (text_of is) h.0) (omega arith) ∙ items_read (at + 1) is h.1
 items_read at (Comment bytes ∷ is) h =
     gap_then at 45 (2 + length bytes) (45 ∷ (bytes ++ text_of is)) (comment_read bytes (text_of is) h.0.0 h.0.1) (omega arith)
-    ∙ ap (λ (v : List ℕ). lexed 0 (at + (2 + length bytes)) v) (ap (λ (n : ℕ). drop n (45 ∷ 45 ∷ (bytes ++ text_of is))) (let e : 2 + length bytes ≡ suc (suc (length bytes)) = omega arith in e) ∙ drop_whole bytes (text_of is))
-    ∙ ap (λ (n : ℕ). lexed 0 (at + n) (text_of is)) (let e : 2 + length bytes ≡ length bytes + 2 = omega arith in e) ∙ items_read (at + (length bytes + 2)) is h.1
+    ∙ ap (λ (v : List ℕ). lex_from 0 (at + (2 + length bytes)) v) (ap (λ (n : ℕ). drop n (45 ∷ 45 ∷ (bytes ++ text_of is))) (let e : 2 + length bytes ≡ suc (suc (length bytes)) = omega arith in e) ∙ drop_whole bytes (text_of is))
+    ∙ ap (λ (n : ℕ). lex_from 0 (at + n) (text_of is)) (let e : 2 + length bytes ≡ length bytes + 2 = omega arith in e) ∙ items_read (at + (length bytes + 2)) is h.1
 items_read at (Lexeme k bytes ∷ is) h = token_first at k bytes (text_of is) h.0 (items_read (at + length bytes) is h.1)
   where
-    token_first : (at : ℕ) (k : TokenKind) (bytes rest : List ℕ) {ts : List Token} → IsToken k bytes rest → lexed 0 (at + length bytes) rest ≡ Some ts
-        → lexed 0 at (bytes ++ rest) ≡ Some (record { kind = k; start = at; end = at + length bytes } ∷ ts)
+    token_first : (at : ℕ) (k : TokenKind) (bytes rest : List ℕ) {ts : List Token} → IsToken k bytes rest → lex_from 0 (at + length bytes) rest ≡ Some ts
+        → lex_from 0 at (bytes ++ rest) ≡ Some (record { kind = k; start = at; end = at + length bytes } ∷ ts)
     token_first at k [] rest h e = absurd (let l = token_some k [] rest h in omega (arith, l))
     token_first at k (b ∷ bytes) rest h e =
         lexeme_then at b (length (b ∷ bytes)) k (bytes ++ rest) (token_read k (b ∷ bytes) rest h) (omega arith)
-        ∙ ap (with_token (record { kind = k; start = at; end = at + length (b ∷ bytes) })) (ap (lexed 0 (at + length (b ∷ bytes))) (drop_whole bytes rest) ∙ e)
+        ∙ ap (with_token (record { kind = k; start = at; end = at + length (b ∷ bytes) })) (ap (lex_from 0 (at + length (b ∷ bytes))) (drop_whole bytes rest) ∙ e)
 
 -- what is read is items
 abbrev ReadsItems : ℕ → List ℕ → Option (List Token) → Type 0
@@ -294,13 +294,13 @@ gap_length (Blank b) at n is bytes g e l = ap (λ (k : ℕ). tokens_of (at + k) 
 gap_length (Comment w) at n is bytes g e l = ap (λ (k : ℕ). tokens_of (at + k) is) (let same : suc (suc (length w)) ≡ length (take n bytes) = ap length e in grind (arith, common_steps, same))
 gap_length (Lexeme k w) at n is bytes g e l = absurd g
 
-gap_before : (at n : ℕ) (bytes : List ℕ) → Holds bytes (front.Gap n) → (o : Option (List Token)) → ReadsItems (at + n) (drop n bytes) o → ReadsItems at bytes o
+gap_before : (at n : ℕ) (bytes : List ℕ) → Holds bytes (lex_result.Skip n) → (o : Option (List Token)) → ReadsItems (at + n) (drop n bytes) o → ReadsItems at bytes o
 gap_before at n bytes h None r = tt
 gap_before at n bytes h (Some ts) r =
     let made = item_first h.0 r.0 n bytes h.2 h.3 r.1 r.2 in
     (h.0 ∷ r.0, made.0, made.1, r.3 ∙ gap_length h.0 at n r.0 bytes h.1 h.3 h.5)
 
-token_before : (at n : ℕ) (k : TokenKind) (bytes : List ℕ) → Holds bytes (front.Lexeme k n) → (o : Option (List Token)) → ReadsItems (at + n) (drop n bytes) o
+token_before : (at n : ℕ) (k : TokenKind) (bytes : List ℕ) → Holds bytes (lex_result.Lexeme k n) → (o : Option (List Token)) → ReadsItems (at + n) (drop n bytes) o
     → ReadsItems at bytes (with_token (record { kind = k; start = at; end = at + n }) o)
 token_before at n k bytes h None r = tt
 token_before at n k bytes h (Some ts) r =
@@ -312,18 +312,18 @@ token_before at n k bytes h (Some ts) r =
       ap (λ (w : List Token). record { kind = k; start = at; end = at + n } ∷ w) r.3 ∙ ap (λ (j : ℕ). record { kind = k; start = at; end = at + j } ∷ tokens_of (at + j) r.0) long,
     )
 
-by_front : (m at b : ℕ) (bytes : List ℕ) → length (b ∷ bytes) ≤ suc m → (f : Front) → front_of (b ∷ bytes) ≡ f → Holds (b ∷ bytes) f
-    → ((at' : ℕ) (ws : List ℕ) → length ws ≤ m → ReadsItems at' ws (lexed 0 at' ws)) → ReadsItems at (b ∷ bytes) (lexed 0 at (b ∷ bytes))
-by_front m at b bytes l front.Wrong e h shorter = subst (ReadsItems at (b ∷ bytes)) (sym (wrong_then at b bytes e)) tt
-by_front m at b bytes l (front.Gap n) e h shorter =
-    subst (ReadsItems at (b ∷ bytes)) (sym (gap_then at b n bytes e h.4)) (gap_before at n (b ∷ bytes) h (lexed 0 (at + n) (drop n (b ∷ bytes))) (shorter (at + n) (drop n (b ∷ bytes)) (let p = h.4 in let q = h.5 in grind (arith, common_steps, p, q))))
-by_front m at b bytes l (front.Lexeme k n) e h shorter =
-    subst (ReadsItems at (b ∷ bytes)) (sym (lexeme_then at b n k bytes e h.1)) (token_before at n k (b ∷ bytes) h (lexed 0 (at + n) (drop n (b ∷ bytes))) (shorter (at + n) (drop n (b ∷ bytes)) (let p = h.1 in let q = h.2 in grind (arith, common_steps, p, q))))
+by_front : (m at b : ℕ) (bytes : List ℕ) → length (b ∷ bytes) ≤ suc m → (f : LexResult) → lex_first (b ∷ bytes) ≡ f → Holds (b ∷ bytes) f
+    → ((at' : ℕ) (ws : List ℕ) → length ws ≤ m → ReadsItems at' ws (lex_from 0 at' ws)) → ReadsItems at (b ∷ bytes) (lex_from 0 at (b ∷ bytes))
+by_front m at b bytes l lex_result.Wrong e h shorter = subst (ReadsItems at (b ∷ bytes)) (sym (wrong_then at b bytes e)) tt
+by_front m at b bytes l (lex_result.Skip n) e h shorter =
+    subst (ReadsItems at (b ∷ bytes)) (sym (gap_then at b n bytes e h.4)) (gap_before at n (b ∷ bytes) h (lex_from 0 (at + n) (drop n (b ∷ bytes))) (shorter (at + n) (drop n (b ∷ bytes)) (let p = h.4 in let q = h.5 in grind (arith, common_steps, p, q))))
+by_front m at b bytes l (lex_result.Lexeme k n) e h shorter =
+    subst (ReadsItems at (b ∷ bytes)) (sym (lexeme_then at b n k bytes e h.1)) (token_before at n k (b ∷ bytes) h (lex_from 0 (at + n) (drop n (b ∷ bytes))) (shorter (at + n) (drop n (b ∷ bytes)) (let p = h.1 in let q = h.2 in grind (arith, common_steps, p, q))))
 
-reads_items : (m at : ℕ) (bytes : List ℕ) → length bytes ≤ m → ReadsItems at bytes (lexed 0 at bytes)
+reads_items : (m at : ℕ) (bytes : List ℕ) → length bytes ≤ m → ReadsItems at bytes (lex_from 0 at bytes)
 reads_items m at [] l = subst (ReadsItems at []) (sym (lexed_nil 0 at)) ([], tt, refl, refl)
 reads_items zero at (b ∷ bytes) l = absurd (omega arith)
-reads_items (suc m) at (b ∷ bytes) l = by_front m at b bytes l (front_of (b ∷ bytes)) refl (front_holds (b ∷ bytes)) (λ k ws h. reads_items m k ws h)
+reads_items (suc m) at (b ∷ bytes) l = by_front m at b bytes l (lex_first (b ∷ bytes)) refl (front_holds (b ∷ bytes)) (λ k ws h. reads_items m k ws h)
 
-pub items_of : (bytes : List ℕ) (ts : List Token) → lexed 0 0 bytes ≡ Some ts → (is : List Item) × AreItems is × (bytes ≡ text_of is) × (ts ≡ tokens_of 0 is)
+pub items_of : (bytes : List ℕ) (ts : List Token) → lex_from 0 0 bytes ≡ Some ts → (is : List Item) × AreItems is × (bytes ≡ text_of is) × (ts ≡ tokens_of 0 is)
 items_of bytes ts e = subst (ReadsItems 0 bytes) e (reads_items (length bytes) 0 bytes (omega arith))

@@ -4,51 +4,51 @@ use Rattle.std.specs.Option.{option_map}
 use Rattle.std.proofs.lemmas.Grind.{common_steps}
 use Rattle.span_lexer.specs.declared.token.TokenKind.{TokenKind}
 use Rattle.span_lexer.specs.declared.token.Token.{Token}
-use Rattle.span_lexer.specs.declared.lexer.Front.{Front}
-use Rattle.span_lexer.specs.declared.lexer.Front.TheVariants as front
-use Rattle.span_lexer.specs.Lexing.{front_of, lexed, with_token}
+use Rattle.span_lexer.specs.declared.lexer.LexResult.{LexResult}
+use Rattle.span_lexer.specs.declared.lexer.LexResult.TheVariants as lex_result
+use Rattle.span_lexer.specs.Lexing.{lex_first, lex_from, with_token}
 
-abbrev going : ℕ → List ℕ → Front → Option (List Token)
+abbrev going : ℕ → List ℕ → LexResult → Option (List Token)
 going at bs f = elim f [
-  | front.Gap n ↦ lexed (n - 1) (at + 1) bs
-  | front.Lexeme k n ↦ with_token (record { kind = k; start = at; end = at + n }) (lexed (n - 1) (at + 1) bs)
-  | front.Wrong ↦ None
+  | lex_result.Skip n ↦ lex_from (n - 1) (at + 1) bs
+  | lex_result.Lexeme k n ↦ with_token (record { kind = k; start = at; end = at + n }) (lex_from (n - 1) (at + 1) bs)
+  | lex_result.Wrong ↦ None
 ]
 
-pub lexed_nil : (skip at : ℕ) → lexed skip at [] ≡ Some []
-unfolding lexed
+pub lexed_nil : (skip at : ℕ) → lex_from skip at [] ≡ Some []
+unfolding lex_from
 lexed_nil skip at = refl
 
-lexed_in : (skip at b : ℕ) (bs : List ℕ) → lexed (suc skip) at (b ∷ bs) ≡ lexed skip (at + 1) bs
-unfolding lexed
+lexed_in : (skip at b : ℕ) (bs : List ℕ) → lex_from (suc skip) at (b ∷ bs) ≡ lex_from skip (at + 1) bs
+unfolding lex_from
 lexed_in skip at b bs = refl
 
-lexed_at : (at b : ℕ) (bs : List ℕ) → lexed 0 at (b ∷ bs) ≡ going at bs (front_of (b ∷ bs))
-unfolding lexed
+lexed_at : (at b : ℕ) (bs : List ℕ) → lex_from 0 at (b ∷ bs) ≡ going at bs (lex_first (b ∷ bs))
+unfolding lex_from
 lexed_at at b bs = refl
 
 -- the bytes of the item before are skipped
-pub skipped : (k at : ℕ) (bs : List ℕ) → lexed k at bs ≡ lexed 0 (at + k) (drop k bs)
-skipped zero at bs = ap (λ (n : ℕ). lexed 0 n bs) (omega arith)
+pub skipped : (k at : ℕ) (bs : List ℕ) → lex_from k at bs ≡ lex_from 0 (at + k) (drop k bs)
+skipped zero at bs = ap (λ (n : ℕ). lex_from 0 n bs) (omega arith)
 skipped (suc k) at [] = lexed_nil (suc k) at ∙ sym (lexed_nil 0 (at + suc k))
-skipped (suc k) at (b ∷ bs) = lexed_in k at b bs ∙ skipped k (at + 1) bs ∙ ap (λ (n : ℕ). lexed 0 n (drop k bs)) (omega arith)
+skipped (suc k) at (b ∷ bs) = lexed_in k at b bs ∙ skipped k (at + 1) bs ∙ ap (λ (n : ℕ). lex_from 0 n (drop k bs)) (omega arith)
 
 less_one : (n : ℕ) → suc n - 1 ≡ n
 less_one n = omega arith
 
-pub gap_then : (at b n : ℕ) (bs : List ℕ) → front_of (b ∷ bs) ≡ front.Gap n → 0 < n → lexed 0 at (b ∷ bs) ≡ lexed 0 (at + n) (drop n (b ∷ bs))
+pub gap_then : (at b n : ℕ) (bs : List ℕ) → lex_first (b ∷ bs) ≡ lex_result.Skip n → 0 < n → lex_from 0 at (b ∷ bs) ≡ lex_from 0 (at + n) (drop n (b ∷ bs))
 gap_then at b zero bs e pos = absurd (omega arith)
 gap_then at b (suc n) bs e pos =
-    lexed_at at b bs ∙ ap (going at bs) e ∙ ap (λ (k : ℕ). lexed k (at + 1) bs) (less_one n) ∙ skipped n (at + 1) bs ∙ ap (λ (k : ℕ). lexed 0 k (drop n bs)) (omega arith)
+    lexed_at at b bs ∙ ap (going at bs) e ∙ ap (λ (k : ℕ). lex_from k (at + 1) bs) (less_one n) ∙ skipped n (at + 1) bs ∙ ap (λ (k : ℕ). lex_from 0 k (drop n bs)) (omega arith)
 
-pub lexeme_then : (at b n : ℕ) (k : TokenKind) (bs : List ℕ) → front_of (b ∷ bs) ≡ front.Lexeme k n → 0 < n
-    → lexed 0 at (b ∷ bs) ≡ with_token (record { kind = k; start = at; end = at + n }) (lexed 0 (at + n) (drop n (b ∷ bs)))
+pub lexeme_then : (at b n : ℕ) (k : TokenKind) (bs : List ℕ) → lex_first (b ∷ bs) ≡ lex_result.Lexeme k n → 0 < n
+    → lex_from 0 at (b ∷ bs) ≡ with_token (record { kind = k; start = at; end = at + n }) (lex_from 0 (at + n) (drop n (b ∷ bs)))
 lexeme_then at b zero k bs e pos = absurd (omega arith)
 lexeme_then at b (suc n) k bs e pos =
     lexed_at at b bs ∙ ap (going at bs) e
-    ∙ ap (with_token (record { kind = k; start = at; end = at + suc n })) (ap (λ (j : ℕ). lexed j (at + 1) bs) (less_one n) ∙ skipped n (at + 1) bs ∙ ap (λ (j : ℕ). lexed 0 j (drop n bs)) (omega arith))
+    ∙ ap (with_token (record { kind = k; start = at; end = at + suc n })) (ap (λ (j : ℕ). lex_from j (at + 1) bs) (less_one n) ∙ skipped n (at + 1) bs ∙ ap (λ (j : ℕ). lex_from 0 j (drop n bs)) (omega arith))
 
-pub wrong_then : (at b : ℕ) (bs : List ℕ) → front_of (b ∷ bs) ≡ front.Wrong → lexed 0 at (b ∷ bs) ≡ None
+pub wrong_then : (at b : ℕ) (bs : List ℕ) → lex_first (b ∷ bs) ≡ lex_result.Wrong → lex_from 0 at (b ∷ bs) ≡ None
 wrong_then at b bs e = lexed_at at b bs ∙ ap (going at bs) e
 
 -- ---- for the loop
@@ -57,7 +57,7 @@ abbrev pub put : List Token → Option (List Token) → Option (List Token)
 put out o = option_map (λ ts. out ++ ts) o
 
 abbrev pub IsLexedFrom : List ℕ → List Token → ℕ → Type 0
-IsLexedFrom bytes out at = put out (lexed 0 at (drop at bytes)) ≡ lexed 0 0 bytes
+IsLexedFrom bytes out at = put out (lex_from 0 at (drop at bytes)) ≡ lex_from 0 0 bytes
 
 put_nil : (o : Option (List Token)) → put [] o ≡ o
 put_nil None = refl
@@ -72,7 +72,7 @@ append_nil [] = refl
 append_nil (t ∷ out) = ap (λ (w : List Token). t ∷ w) (append_nil out)
 
 pub lexing_begins : (bytes : List ℕ) → IsLexedFrom bytes [] 0
-lexing_begins bytes = put_nil (lexed 0 0 bytes)
+lexing_begins bytes = put_nil (lex_from 0 0 bytes)
 
 at_front : (bytes : List ℕ) (at : ℕ) → at < length bytes → drop at bytes ≡ get_or bytes at 0 ∷ drop (at + 1) bytes
 at_front bytes at h = grind (arith, common_steps)
@@ -80,25 +80,25 @@ at_front bytes at h = grind (arith, common_steps)
 drop_drop : (n at : ℕ) (bytes : List ℕ) → drop n (drop at bytes) ≡ drop (at + n) bytes
 drop_drop n at bytes = grind (arith, common_steps)
 
-pub gap_steps : (bytes : List ℕ) (out : List Token) (at n : ℕ) → IsLexedFrom bytes out at → at < length bytes → front_of (drop at bytes) ≡ front.Gap n → 0 < n → IsLexedFrom bytes out (at + n)
+pub gap_steps : (bytes : List ℕ) (out : List Token) (at n : ℕ) → IsLexedFrom bytes out at → at < length bytes → lex_first (drop at bytes) ≡ lex_result.Skip n → 0 < n → IsLexedFrom bytes out (at + n)
 gap_steps bytes out at n h l e pos =
     let f = at_front bytes at l in
-    sym (ap (put out) (ap (lexed 0 at) f ∙ gap_then at (get_or bytes at 0) n (drop (at + 1) bytes) (ap front_of (sym f) ∙ e) pos ∙ ap (λ (w : List ℕ). lexed 0 (at + n) (drop n w)) (sym f) ∙ ap (lexed 0 (at + n)) (drop_drop n at bytes))) ∙ h
+    sym (ap (put out) (ap (lex_from 0 at) f ∙ gap_then at (get_or bytes at 0) n (drop (at + 1) bytes) (ap lex_first (sym f) ∙ e) pos ∙ ap (λ (w : List ℕ). lex_from 0 (at + n) (drop n w)) (sym f) ∙ ap (lex_from 0 (at + n)) (drop_drop n at bytes))) ∙ h
 
-pub lexeme_steps : (bytes : List ℕ) (out : List Token) (at n : ℕ) (k : TokenKind) → IsLexedFrom bytes out at → at < length bytes → front_of (drop at bytes) ≡ front.Lexeme k n → 0 < n
+pub lexeme_steps : (bytes : List ℕ) (out : List Token) (at n : ℕ) (k : TokenKind) → IsLexedFrom bytes out at → at < length bytes → lex_first (drop at bytes) ≡ lex_result.Lexeme k n → 0 < n
     → IsLexedFrom bytes (out ++ (record { kind = k; start = at; end = at + n } ∷ [])) (at + n)
 lexeme_steps bytes out at n k h l e pos =
     let f = at_front bytes at l in
-    sym (put_token out (record { kind = k; start = at; end = at + n }) (lexed 0 (at + n) (drop (at + n) bytes)))
-    ∙ sym (ap (put out) (ap (lexed 0 at) f ∙ lexeme_then at (get_or bytes at 0) n k (drop (at + 1) bytes) (ap front_of (sym f) ∙ e) pos
-    ∙ ap (with_token (record { kind = k; start = at; end = at + n })) (ap (λ (w : List ℕ). lexed 0 (at + n) (drop n w)) (sym f) ∙ ap (lexed 0 (at + n)) (drop_drop n at bytes)))) ∙ h
+    sym (put_token out (record { kind = k; start = at; end = at + n }) (lex_from 0 (at + n) (drop (at + n) bytes)))
+    ∙ sym (ap (put out) (ap (lex_from 0 at) f ∙ lexeme_then at (get_or bytes at 0) n k (drop (at + 1) bytes) (ap lex_first (sym f) ∙ e) pos
+    ∙ ap (with_token (record { kind = k; start = at; end = at + n })) (ap (λ (w : List ℕ). lex_from 0 (at + n) (drop n w)) (sym f) ∙ ap (lex_from 0 (at + n)) (drop_drop n at bytes)))) ∙ h
 
-pub lexing_fails : (bytes : List ℕ) (out : List Token) (at : ℕ) → IsLexedFrom bytes out at → at < length bytes → front_of (drop at bytes) ≡ front.Wrong → lexed 0 0 bytes ≡ None
+pub lexing_fails : (bytes : List ℕ) (out : List Token) (at : ℕ) → IsLexedFrom bytes out at → at < length bytes → lex_first (drop at bytes) ≡ lex_result.Wrong → lex_from 0 0 bytes ≡ None
 lexing_fails bytes out at h l e =
     let f = at_front bytes at l in
-    sym h ∙ ap (put out) (ap (lexed 0 at) f ∙ wrong_then at (get_or bytes at 0) (drop (at + 1) bytes) (ap front_of (sym f) ∙ e))
+    sym h ∙ ap (put out) (ap (lex_from 0 at) f ∙ wrong_then at (get_or bytes at 0) (drop (at + 1) bytes) (ap lex_first (sym f) ∙ e))
 
-pub lexing_over : (bytes : List ℕ) (out : List Token) (at : ℕ) → IsLexedFrom bytes out at → length bytes ≤ at → lexed 0 0 bytes ≡ Some out
-lexing_over bytes out at h l = sym h ∙ ap (put out) (ap (lexed 0 at) (let e : drop at bytes ≡ [] = grind (arith, common_steps) in e) ∙ lexed_nil 0 at) ∙ ap Some (append_nil out)
+pub lexing_over : (bytes : List ℕ) (out : List Token) (at : ℕ) → IsLexedFrom bytes out at → length bytes ≤ at → lex_from 0 0 bytes ≡ Some out
+lexing_over bytes out at h l = sym h ∙ ap (put out) (ap (lex_from 0 at) (let e : drop at bytes ≡ [] = grind (arith, common_steps) in e) ∙ lexed_nil 0 at) ∙ ap Some (append_nil out)
 
 pub ruleset lexed_rules = (lexing_begins, gap_steps, lexeme_steps, lexing_fails, lexing_over)

@@ -5,7 +5,7 @@ use Rattle.std.specs.Str.{bytes_eq, str_to_ascii_lowercase}
 use Rattle.std.specs.Cmp.Lexicographic.{same_text, nat_list_eq_equiv}
 use Rattle.span_lexer.specs.declared.token.Word.{Word}
 use Rattle.span_lexer.specs.declared.token.Word.TheVariants as w
-use Rattle.span_lexer.specs.Spellings.{word, spelled_by}
+use Rattle.span_lexer.specs.Spellings.{word, matching_word}
 
 pub if_true : {A : Type 0} (b : Bool) (x y : A) → b ≡ true → (if b then x else y) ≡ x
 if_true true x y h = refl
@@ -64,28 +64,28 @@ not_equal_texts : (xs ys : List ℕ) → xs ≢ ys → bytes_eq xs ys ≡ false
 not_equal_texts xs ys n = elim (bytes_eq xs ys) as (λ v. bytes_eq xs ys ≡ v → v ≡ false) [ true ↦ λ h. absurd (n (same_text xs ys (sym h))) | false ↦ λ h. refl ] refl
 
 -- one look at a word
-pub spelled_here : (v : Word) (vs : List Word) (bytes : List ℕ) → str_to_ascii_lowercase bytes ≡ str_to_ascii_lowercase (word v) → spelled_by (v ∷ vs) bytes ≡ Some v
-unfolding spelled_by
+pub spelled_here : (v : Word) (vs : List Word) (bytes : List ℕ) → str_to_ascii_lowercase bytes ≡ str_to_ascii_lowercase (word v) → matching_word (v ∷ vs) bytes ≡ Some v
+unfolding matching_word
 spelled_here v vs bytes e = if_true (bytes_eq (str_to_ascii_lowercase bytes) (word v)) _ _ (equal_texts _ _ (e ∙ in_lower_case v))
 
-pub spelled_later : (v : Word) (vs : List Word) (bytes : List ℕ) → str_to_ascii_lowercase bytes ≢ str_to_ascii_lowercase (word v) → spelled_by (v ∷ vs) bytes ≡ spelled_by vs bytes
-unfolding spelled_by
+pub spelled_later : (v : Word) (vs : List Word) (bytes : List ℕ) → str_to_ascii_lowercase bytes ≢ str_to_ascii_lowercase (word v) → matching_word (v ∷ vs) bytes ≡ matching_word vs bytes
+unfolding matching_word
 spelled_later v vs bytes n = if_false (bytes_eq (str_to_ascii_lowercase bytes) (word v)) _ _ (not_equal_texts _ _ (λ e. n (e ∙ sym (in_lower_case v))))
 
-pub spelled_nowhere : (bytes : List ℕ) → spelled_by [] bytes ≡ None
-unfolding spelled_by
+pub spelled_nowhere : (bytes : List ℕ) → matching_word [] bytes ≡ None
+unfolding matching_word
 spelled_nowhere bytes = refl
 
 at_word : (words : List Word) (at : ℕ) (d : Word) → at < length words → drop at words ≡ get_or words at d ∷ drop (at + 1) words
 at_word words at d h = grind (arith, common_steps)
 
-pub word_found : (words : List Word) (bytes : List ℕ) (at : ℕ) (d : Word) → spelled_by (drop at words) bytes ≡ spelled_by words bytes → at < length words
-    → str_to_ascii_lowercase bytes ≡ str_to_ascii_lowercase (word (get_or words at d)) → spelled_by words bytes ≡ Some (get_or words at d)
-word_found words bytes at d h l e = sym h ∙ ap (λ (v : List Word). spelled_by v bytes) (at_word words at d l) ∙ spelled_here (get_or words at d) (drop (at + 1) words) bytes e
+pub word_found : (words : List Word) (bytes : List ℕ) (at : ℕ) (d : Word) → matching_word (drop at words) bytes ≡ matching_word words bytes → at < length words
+    → str_to_ascii_lowercase bytes ≡ str_to_ascii_lowercase (word (get_or words at d)) → matching_word words bytes ≡ Some (get_or words at d)
+word_found words bytes at d h l e = sym h ∙ ap (λ (v : List Word). matching_word v bytes) (at_word words at d l) ∙ spelled_here (get_or words at d) (drop (at + 1) words) bytes e
 
-pub word_passed : (words : List Word) (bytes : List ℕ) (at : ℕ) (d : Word) → spelled_by (drop at words) bytes ≡ spelled_by words bytes → at < length words
-    → str_to_ascii_lowercase bytes ≢ str_to_ascii_lowercase (word (get_or words at d)) → spelled_by (drop (at + 1) words) bytes ≡ spelled_by words bytes
-word_passed words bytes at d h l n = sym (spelled_later (get_or words at d) (drop (at + 1) words) bytes n) ∙ ap (λ (v : List Word). spelled_by v bytes) (sym (at_word words at d l)) ∙ h
+pub word_passed : (words : List Word) (bytes : List ℕ) (at : ℕ) (d : Word) → matching_word (drop at words) bytes ≡ matching_word words bytes → at < length words
+    → str_to_ascii_lowercase bytes ≢ str_to_ascii_lowercase (word (get_or words at d)) → matching_word (drop (at + 1) words) bytes ≡ matching_word words bytes
+word_passed words bytes at d h l n = sym (spelled_later (get_or words at d) (drop (at + 1) words) bytes n) ∙ ap (λ (v : List Word). matching_word v bytes) (sym (at_word words at d l)) ∙ h
 
-pub words_over : (words : List Word) (bytes : List ℕ) (at : ℕ) → spelled_by (drop at words) bytes ≡ spelled_by words bytes → length words ≤ at → spelled_by words bytes ≡ None
-words_over words bytes at h l = sym h ∙ ap (λ (v : List Word). spelled_by v bytes) (let e : drop at words ≡ [] = grind (arith, common_steps) in e) ∙ spelled_nowhere bytes
+pub words_over : (words : List Word) (bytes : List ℕ) (at : ℕ) → matching_word (drop at words) bytes ≡ matching_word words bytes → length words ≤ at → matching_word words bytes ≡ None
+words_over words bytes at h l = sym h ∙ ap (λ (v : List Word). matching_word v bytes) (let e : drop at words ≡ [] = grind (arith, common_steps) in e) ∙ spelled_nowhere bytes

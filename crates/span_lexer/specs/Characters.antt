@@ -29,8 +29,8 @@ is_mark c = c == 98 || c == 66
 unfoldable pub is_escape : ℕ → Bool
 is_escape c = ((c == 92 || c == 39) || (c == 34 || c == 110)) || (c == 114 || c == 116)
 
-unfoldable pub is_below_8 : ℕ → Bool
-is_below_8 c = is_in_range 48 55 c
+unfoldable pub is_octal : ℕ → Bool
+is_octal c = is_in_range 48 55 c
 
 -- the test of the first byte; false where there is none
 abbrev pub begins : (ℕ → Bool) → List ℕ → Bool

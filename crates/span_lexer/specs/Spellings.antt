@@ -64,10 +64,10 @@ sign s.GreaterEqual = 62 ∷ 61 ∷ []
 sign s.Concat = 124 ∷ 124 ∷ []
 
 -- the first of some words that the bytes spell in any case
-unfoldable pub spelled_by : List Word → List ℕ → Option Word
-spelled_by [] bytes = None
-spelled_by (v ∷ vs) bytes = if bytes_eq (str_to_ascii_lowercase bytes) (word v) then Some v else spelled_by vs bytes
+unfoldable pub matching_word : List Word → List ℕ → Option Word
+matching_word [] bytes = None
+matching_word (v ∷ vs) bytes = if bytes_eq (str_to_ascii_lowercase bytes) (word v) then Some v else matching_word vs bytes
 
 -- the reserved word that the bytes spell in any case
-abbrev pub reserved : List ℕ → Option Word
-reserved bytes = spelled_by WORDS bytes
+abbrev pub reserved_word : List ℕ → Option Word
+reserved_word bytes = matching_word WORDS bytes

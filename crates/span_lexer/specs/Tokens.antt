@@ -5,10 +5,10 @@ use Rattle.span_lexer.specs.declared.token.TokenKind.TheVariants as kind
 use Rattle.span_lexer.specs.declared.token.Token.{Token}
 use Rattle.span_lexer.specs.declared.literal.Literal.{Literal}
 use Rattle.span_lexer.specs.declared.literal.Literal.TheVariants as literal
-use Rattle.span_lexer.specs.Characters.{is_blank, is_letter, is_digit, is_word, is_hex, is_quote, is_mark, is_escape, is_below_8, begins}
-use Rattle.span_lexer.specs.Spellings.{reserved, sign}
+use Rattle.span_lexer.specs.Characters.{is_blank, is_letter, is_digit, is_word, is_hex, is_quote, is_mark, is_escape, is_octal, begins}
+use Rattle.span_lexer.specs.Spellings.{reserved_word, sign}
 use Rattle.span_lexer.specs.Literals.{is_bytes, is_d}
-use Rattle.span_lexer.specs.Lexing.{on_line, greatest_integer, longest_word}
+use Rattle.span_lexer.specs.Lexing.{is_on_line, greatest_integer, longest_word}
 
 -- each byte passes the test; the bytes do not go on with one that passes
 abbrev pub Each : (ℕ → Bool) → List ℕ → Type 0
@@ -41,8 +41,8 @@ piece_bytes (Unicode a b c d) = 92 ∷ 117 ∷ a ∷ b ∷ c ∷ d ∷ []
 abbrev pub IsPiece : Literal → ℕ → Piece → Type 0
 IsPiece t q (Plain b) = ((b == q) ≡ false) × ((b == 92) ≡ false) × ((b == 10 || (is_bytes t && nat_lt 127 b)) ≡ false)
 IsPiece t q (Escaped e) = is_escape e ≡ true
-IsPiece t q (Hex h l) = ((is_hex h && is_hex l) && (is_bytes t || is_below_8 h)) ≡ true
-IsPiece t q (Unicode a b c d) = (is_bytes t ≡ false) × ((((is_hex a && is_hex b) && (is_hex c && is_hex d)) && not (is_d a && not (is_below_8 b))) ≡ true)
+IsPiece t q (Hex h l) = ((is_hex h && is_hex l) && (is_bytes t || is_octal h)) ≡ true
+IsPiece t q (Unicode a b c d) = (is_bytes t ≡ false) × ((((is_hex a && is_hex b) && (is_hex c && is_hex d)) && not (is_d a && not (is_octal b))) ≡ true)
 
 abbrev pub ArePieces : Literal → ℕ → List Piece → Type 0
 ArePieces t q [] = Unit {0}
@@ -72,14 +72,14 @@ abbrev pub NoMark : List ℕ → List ℕ → Type 0
 NoMark bytes rest = (m : ℕ) → bytes ≡ m ∷ [] → is_mark m ≡ true → begins is_quote rest ≡ true → ⊥
 
 -- the number that decimal digits write, when n was written before them
-abbrev pub number_behind : ℕ → List ℕ → ℕ
-number_behind n [] = n
-number_behind n (c ∷ cs) = number_behind (n * 10 + (c - 48)) cs
+abbrev pub number_after : ℕ → List ℕ → ℕ
+number_after n [] = n
+number_after n (c ∷ cs) = number_after (n * 10 + (c - 48)) cs
 
 pub record IsInteger (bytes : List ℕ) (value : ℕ) (rest : List ℕ) : Type 0 where
   pub some : 0 < length bytes
   pub only : Each is_digit bytes
-  pub says : number_behind 0 bytes ≡ value
+  pub says : number_after 0 bytes ≡ value
   pub small : value ≤ greatest_integer
   pub whole : Stops is_word rest
 
@@ -97,9 +97,9 @@ NoPair bytes rest = (a b : ℕ) (more : List ℕ) → bytes ≡ a ∷ [] → res
 
 -- the bytes are a token of the kind, followed by the rest
 abbrev pub IsToken : TokenKind → List ℕ → List ℕ → Type 0
-IsToken (kind.Word w) bytes rest = IsName bytes rest × NoMark bytes rest × (reserved bytes ≡ Some w)
-IsToken kind.Name bytes rest = IsName bytes rest × NoMark bytes rest × (reserved bytes ≡ None)
-IsToken kind.Parameter bytes rest = (w : List ℕ) × (bytes ≡ 64 ∷ w) × IsName w rest × (reserved w ≡ None)
+IsToken (kind.Word w) bytes rest = IsName bytes rest × NoMark bytes rest × (reserved_word bytes ≡ Some w)
+IsToken kind.Name bytes rest = IsName bytes rest × NoMark bytes rest × (reserved_word bytes ≡ None)
+IsToken kind.Parameter bytes rest = (w : List ℕ) × (bytes ≡ 64 ∷ w) × IsName w rest × (reserved_word w ≡ None)
 IsToken (kind.Int v) bytes rest = IsInteger bytes v rest
 IsToken kind.Str bytes rest = (q : ℕ) × (body : List ℕ) × (is_quote q ≡ true) × (bytes ≡ q ∷ body) × IsBody literal.Text q body
 IsToken kind.Bytes bytes rest = (m : ℕ) × (q : ℕ) × (body : List ℕ) × (is_mark m ≡ true) × (is_quote q ≡ true) × (bytes ≡ m ∷ q ∷ body) × IsBody literal.Bytes q body
@@ -124,7 +124,7 @@ text_of (i ∷ is) = item_bytes i ++ text_of is
 
 abbrev pub IsItem : Item → List ℕ → Type 0
 IsItem (Blank b) rest = is_blank b ≡ true
-IsItem (Comment bytes) rest = Each on_line bytes × Stops on_line rest
+IsItem (Comment bytes) rest = Each is_on_line bytes × Stops is_on_line rest
 IsItem (Lexeme k bytes) rest = IsToken k bytes rest
 
 -- each is an item before what follows it

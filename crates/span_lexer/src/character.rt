@@ -65,9 +65,9 @@ pub(crate) fn is_escape(byte: u8) -> bool
 }
 
 /// Whether the byte is an octal digit: the first digit of `\xhh` in a string, up to `7f`.
-#[tactic(auto, unfolding(crate::specs::Characters::is_below_8))]
-pub(crate) fn is_below_8(byte: u8) -> bool
-    ensures { result ≡ character.is_below_8 byte }
+#[tactic(auto, unfolding(crate::specs::Characters::is_octal))]
+pub(crate) fn is_octal(byte: u8) -> bool
+    ensures { result ≡ character.is_octal byte }
 {
     matches!(byte, b'0'..=b'7')
 }

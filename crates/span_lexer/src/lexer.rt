@@ -5,7 +5,7 @@ ghost use Rattle.std.specs.Prelude.{◌≡◌, ◌==◌, ◌⊎◌, ◌+◌, ◌
 ghost use Rattle.std.specs.List.{prefix_len};
 ghost use Rattle.span_lexer.specs.Characters as character;
 ghost use Rattle.span_lexer.specs.Lexing as spec;
-ghost use Rattle.span_lexer.specs.Readings.{ReadsOrNoMemory, IsMisread};
+ghost use Rattle.span_lexer.specs.Readings.{ReadsOrOutOfMemory, IsReadError};
 ghost use Rattle.span_lexer.specs.Tokens.{Item, AreItems, text_of, tokens_of};
 ghost use Rattle.span_lexer.specs.Literals as literal;
 
@@ -20,9 +20,9 @@ use std::fmt;
 
 /// What a text begins with, and its length in bytes.
 #[derive(Clone, Copy, Debug, PartialEq, Eq)]
-pub(crate) enum Front {
+pub(crate) enum LexResult {
     /// A blank or a comment.
-    Gap(usize),
+    Skip(usize),
     Lexeme(TokenKind, usize),
     /// There is no token here.
     Wrong,
@@ -39,39 +39,39 @@ pub const LONGEST_WORD: usize = 128;
 
 /// Why a text was refused, and the byte where the error is.
 #[derive(Clone, Copy, Debug, PartialEq, Eq)]
-pub struct Misread {
+pub struct ReadError {
     pub refusal: Refusal,
     pub place: usize,
 }
 
-impl fmt::Display for Misread {
+impl fmt::Display for ReadError {
     fn fmt<W: fmt::Write>(&self, f: &mut fmt::Formatter<W>) -> fmt::Result {
         write!(f, "refused {} at byte {}", self.refusal, self.place)
     }
 }
 
-impl From<AllocError> for Misread {
+impl From<AllocError> for ReadError {
     ghost use Rattle.std.specs.Prelude.{◌≡◌};
     ghost use Rattle.span_value.specs.declared.refusal.Refusal.TheVariants.{OutOfMemory};
 
     ghost from_gives = { λ _ e. e.refusal ≡ OutOfMemory };
 
-    fn from(_error: AllocError) -> Misread {
-        Misread {
+    fn from(_error: AllocError) -> ReadError {
+        ReadError {
             refusal: Refusal::OutOfMemory,
             place: 0,
         }
     }
 }
 
-impl<T: Drop> From<AllocFailed<T>> for Misread {
+impl<T: Drop> From<AllocFailed<T>> for ReadError {
     ghost use Rattle.std.specs.Prelude.{◌≡◌};
     ghost use Rattle.span_value.specs.declared.refusal.Refusal.TheVariants.{OutOfMemory};
 
     ghost from_gives = { λ _ e. e.refusal ≡ OutOfMemory };
 
-    fn from(_error: AllocFailed<T>) -> Misread {
-        Misread {
+    fn from(_error: AllocFailed<T>) -> ReadError {
+        ReadError {
             refusal: Refusal::OutOfMemory,
             place: 0,
         }
@@ -79,8 +79,8 @@ impl<T: Drop> From<AllocFailed<T>> for Misread {
 }
 
 /// The number of letters, digits and `_` that the bytes begin with.
-fn run(bytes: &[u8]) -> usize
-    ensures count { result ≡ spec.run bytes.now }
+fn word_length(bytes: &[u8]) -> usize
+    ensures count { result ≡ spec.word_length bytes.now }
     ensures within { result ≤ length bytes.now }
 {
     bytes.iter().take_while(|byte| is_word(**byte)).count()
@@ -88,31 +88,31 @@ fn run(bytes: &[u8]) -> usize
 
 /// The number of bytes before the first LF, or before the end.
 fn line_length(bytes: &[u8]) -> usize
-    ensures count { result ≡ prefix_len spec.on_line bytes.now }
+    ensures count { result ≡ prefix_len spec.is_on_line bytes.now }
     ensures within { result ≤ length bytes.now }
 {
     bytes.iter().take_while(|byte| is_on_line(**byte)).count()
 }
 
-#[tactic(auto, unfolding(crate::specs::Lexing::on_line))]
+#[tactic(auto, unfolding(crate::specs::Lexing::is_on_line))]
 fn is_on_line(byte: u8) -> bool
-    ensures { result ≡ spec.on_line byte }
+    ensures { result ≡ spec.is_on_line byte }
 {
     byte != b'\n'
 }
 
 /// A reserved word or a name.
-#[tactic(auto, unfolding(crate::specs::Lexing::word_front))]
-fn word_front(bytes: &[u8]) -> Front
-    ensures { result ≡ spec.word_front bytes.now }
+#[tactic(auto, unfolding(crate::specs::Lexing::lex_word))]
+fn lex_word(bytes: &[u8]) -> LexResult
+    ensures { result ≡ spec.lex_word bytes.now }
 {
-    let length = run(bytes);
+    let length = word_length(bytes);
     if length > LONGEST_WORD {
-        return Front::Wrong;
+        return LexResult::Wrong;
     }
     match reserved_word(&bytes[..length]) {
-        Some(word) => Front::Lexeme(TokenKind::Word(word), length),
-        None => Front::Lexeme(TokenKind::Name, length),
+        Some(word) => LexResult::Lexeme(TokenKind::Word(word), length),
+        None => LexResult::Lexeme(TokenKind::Name, length),
     }
 }
 
@@ -123,13 +123,13 @@ fn integer(digits: &[u8]) -> Option<u64>
 {
     let mut value: u64 = 0;
     for digit in digits {
-        value = one_digit_more(value, *digit)?;
+        value = next_integer(value, *digit)?;
     }
     Some(value)
 }
 
 #[tactic(auto, unfolding(crate::specs::Lexing::next_integer, crate::specs::Characters::is_digit))]
-fn one_digit_more(value: u64, digit: u8) -> Option<u64>
+fn next_integer(value: u64, digit: u8) -> Option<u64>
     requires { value ≤ spec.greatest_integer }
     ensures next { result ≡ spec.next_integer value digit }
     ensures within { IfSome result (λ n. n ≤ spec.greatest_integer) }
@@ -144,29 +144,29 @@ fn one_digit_more(value: u64, digit: u8) -> Option<u64>
     Some(value * 10 + unit)
 }
 
-#[tactic(auto, unfolding(crate::specs::Lexing::integer_front))]
-fn integer_front(bytes: &[u8]) -> Front
-    ensures { result ≡ spec.integer_front bytes.now }
+#[tactic(auto, unfolding(crate::specs::Lexing::lex_integer))]
+fn lex_integer(bytes: &[u8]) -> LexResult
+    ensures { result ≡ spec.lex_integer bytes.now }
 {
-    let length = run(bytes);
+    let length = word_length(bytes);
     match integer(&bytes[..length]) {
-        Some(value) => Front::Lexeme(TokenKind::Int(value), length),
-        None => Front::Wrong,
+        Some(value) => LexResult::Lexeme(TokenKind::Int(value), length),
+        None => LexResult::Wrong,
     }
 }
 
 /// A parameter: what is after its `@`.
-#[tactic(auto, unfolding(crate::specs::Lexing::parameter_front))]
-fn parameter_front(bytes: &[u8]) -> Front
-    ensures { result ≡ spec.parameter_front bytes.now }
+#[tactic(auto, unfolding(crate::specs::Lexing::lex_parameter))]
+fn lex_parameter(bytes: &[u8]) -> LexResult
+    ensures { result ≡ spec.lex_parameter bytes.now }
 {
-    let length = run(bytes);
+    let length = word_length(bytes);
     if !starts_with_letter(bytes) || length > LONGEST_WORD {
-        return Front::Wrong;
+        return LexResult::Wrong;
     }
     match reserved_word(&bytes[..length]) {
-        Some(_) => Front::Wrong,
-        None => Front::Lexeme(TokenKind::Parameter, length + 1),
+        Some(_) => LexResult::Wrong,
+        None => LexResult::Lexeme(TokenKind::Parameter, length + 1),
     }
 }
 
@@ -198,35 +198,35 @@ fn starts_with(bytes: &[u8], byte: u8) -> bool
 }
 
 /// A bytes literal, whose mark was read: its quote comes first.
-#[tactic(auto, unfolding(crate::specs::Lexing::bytes_front))]
-fn bytes_front(bytes: &[u8]) -> Front
+#[tactic(auto, unfolding(crate::specs::Lexing::lex_bytes))]
+fn lex_bytes(bytes: &[u8]) -> LexResult
     requires { length bytes.now ≤ LONGEST_TEXT }
-    ensures { result ≡ spec.bytes_front bytes.now }
+    ensures { result ≡ spec.lex_bytes bytes.now }
 {
     let Some((quote, body)) = bytes.split_first() else {
-        return Front::Wrong;
+        return LexResult::Wrong;
     };
     match closing_quote(Literal::Bytes, *quote, body) {
-        Some(length) => Front::Lexeme(TokenKind::Bytes, 2 + length),
-        None => Front::Wrong,
+        Some(length) => LexResult::Lexeme(TokenKind::Bytes, 2 + length),
+        None => LexResult::Wrong,
     }
 }
 
 /// A string literal, whose quote was read: the bytes come after it.
-fn string_front(quote: u8, body: &[u8]) -> Front
+fn lex_string(quote: u8, body: &[u8]) -> LexResult
     requires { length body.now ≤ LONGEST_TEXT }
-    ensures { result ≡ spec.literal_or_wrong TokenKind.Str 1 (literal.closed Literal.Text quote 0 body.now) }
+    ensures { result ≡ spec.literal_or_wrong TokenKind.Str 1 (literal.closing_quote Literal.Text quote 0 body.now) }
 {
     match closing_quote(Literal::Text, quote, body) {
-        Some(length) => Front::Lexeme(TokenKind::Str, 1 + length),
-        None => Front::Wrong,
+        Some(length) => LexResult::Lexeme(TokenKind::Str, 1 + length),
+        None => LexResult::Wrong,
     }
 }
 
 /// The longest sign that begins with `first` and goes on in `rest`.
-#[tactic(auto, unfolding(crate::specs::Lexing::sign_front))]
-fn sign_front(first: u8, rest: &[u8]) -> Front
-    ensures { result ≡ spec.sign_front first rest.now }
+#[tactic(auto, unfolding(crate::specs::Lexing::lex_sign))]
+fn lex_sign(first: u8, rest: &[u8]) -> LexResult
+    ensures { result ≡ spec.lex_sign first rest.now }
 {
     let (sign, length) = match first {
         b'(' => (Sign::Open, 1),
@@ -245,67 +245,67 @@ fn sign_front(first: u8, rest: &[u8]) -> Front
         b'>' => (Sign::Greater, 1),
         b'!' if starts_with(rest, b'=') => (Sign::BangEqual, 2),
         b'|' if starts_with(rest, b'|') => (Sign::Concat, 2),
-        _ => return Front::Wrong,
+        _ => return LexResult::Wrong,
     };
-    Front::Lexeme(TokenKind::Sign(sign), length)
+    LexResult::Lexeme(TokenKind::Sign(sign), length)
 }
 
 /// What a text begins with.
-#[tactic(auto, unfolding(crate::specs::Lexing::front_of))]
-fn front_of(bytes: &[u8]) -> Front
+#[tactic(auto, unfolding(crate::specs::Lexing::lex_first))]
+fn lex_first(bytes: &[u8]) -> LexResult
     requires { length bytes.now ≤ LONGEST_TEXT }
-    ensures { result ≡ spec.front_of bytes.now }
+    ensures { result ≡ spec.lex_first bytes.now }
 {
     let Some((first, rest)) = bytes.split_first() else {
-        return Front::Wrong;
+        return LexResult::Wrong;
     };
     if is_blank(*first) {
-        return Front::Gap(1);
+        return LexResult::Skip(1);
     }
     if is_mark(*first) && starts_with_quote(rest) {
-        return bytes_front(rest);
+        return lex_bytes(rest);
     }
     if is_letter(*first) {
-        return word_front(bytes);
+        return lex_word(bytes);
     }
     if is_digit(*first) {
-        return integer_front(bytes);
+        return lex_integer(bytes);
     }
     if *first == b'@' {
-        return parameter_front(rest);
+        return lex_parameter(rest);
     }
     if is_quote(*first) {
-        return string_front(*first, rest);
+        return lex_string(*first, rest);
     }
     if *first == b'-' && starts_with(rest, b'-') {
-        return Front::Gap(1 + line_length(rest));
+        return LexResult::Skip(1 + line_length(rest));
     }
-    sign_front(*first, rest)
+    lex_sign(*first, rest)
 }
 
 /// What is at a place of a text: it is not empty and does not reach past the end.
-fn front_at(bytes: &[u8], place: usize) -> Front
+fn lex_at(bytes: &[u8], place: usize) -> LexResult
     requires text { length bytes.now ≤ LONGEST_TEXT }
     requires inside { place < length bytes.now }
-    ensures front { result ≡ spec.front_of (drop place bytes.now) }
+    ensures lex_result { result ≡ spec.lex_first (drop place bytes.now) }
     ensures reaches { spec.Reaches (length bytes.now - place) result }
 {
-    front_of(from_place(bytes, place))
+    lex_first(from_place(bytes, place))
 }
 
 /// The tokens of a text of at most `LONGEST_TEXT` bytes.
 #[tactic(auto, using(crate::proofs::Whole::lexed_rules))]
-fn lexemes(alloc: Global, bytes: &[u8]) -> Result<Vec<Token>, Misread>
+fn lexemes(alloc: Global, bytes: &[u8]) -> Result<Vec<Token>, ReadError>
     requires { length bytes.now ≤ LONGEST_TEXT }
-    ensures ok { IfOk result (λ found. spec.lexed 0 0 bytes.now ≡ Some found.items) }
-    ensures err { IfErr result (λ e. (e.refusal ≡ Refusal.OutOfMemory) ⊎ ((e.refusal ≡ Refusal.BadToken) × (spec.lexed 0 0 bytes.now ≡ None))) }
+    ensures ok { IfOk result (λ found. spec.lex_from 0 0 bytes.now ≡ Some found.items) }
+    ensures err { IfErr result (λ e. (e.refusal ≡ Refusal.OutOfMemory) ⊎ ((e.refusal ≡ Refusal.BadToken) × (spec.lex_from 0 0 bytes.now ≡ None))) }
 {
     let mut found = Vec::new(alloc);
     let mut at = 0;
     while at < bytes.len() {
-        match front_at(bytes, at) {
-            Front::Gap(length) => at += length,
-            Front::Lexeme(kind, length) => {
+        match lex_at(bytes, at) {
+            LexResult::Skip(length) => at += length,
+            LexResult::Lexeme(kind, length) => {
                 found.push(Token {
                     kind,
                     start: at,
@@ -313,8 +313,8 @@ fn lexemes(alloc: Global, bytes: &[u8]) -> Result<Vec<Token>, Misread>
                 })?;
                 at += length;
             }
-            Front::Wrong => {
-                return Err(Misread {
+            LexResult::Wrong => {
+                return Err(ReadError {
                     refusal: Refusal::BadToken,
                     place: at,
                 });
@@ -328,17 +328,17 @@ fn lexemes(alloc: Global, bytes: &[u8]) -> Result<Vec<Token>, Misread>
 ///
 /// The error is `TextTooLong` for a text of more than `LONGEST_TEXT` bytes; else `BadToken` where there is no token, at the
 /// first such byte; or `OutOfMemory`.
-pub fn tokens(alloc: Global, text: &str) -> Result<Seq<Token>, Misread>
+pub fn tokens(alloc: Global, text: &str) -> Result<Seq<Token>, ReadError>
     // The result is the tokens of the items that the text consists of.
     ensures read { IfOk result (λ found. (is : List Item) × AreItems is × (text.now ≡ text_of is) × (found ≡ tokens_of 0 is)) }
     ensures short { OnOk result (length text.now ≤ LONGEST_TEXT) }
     // A text that consists of items, and is not too long, is read.
-    ensures read_all { (is : List Item) → AreItems is → text.now ≡ text_of is → length text.now ≤ LONGEST_TEXT → ReadsOrNoMemory (tokens_of 0 is) result }
+    ensures read_all { (is : List Item) → AreItems is → text.now ≡ text_of is → length text.now ≤ LONGEST_TEXT → ReadsOrOutOfMemory (tokens_of 0 is) result }
     // The refusal distinguishes a text that is too long from one that does not consist of items.
-    ensures refused { IfErr result (λ e. IsMisread text.now e.refusal) }
+    ensures refused { IfErr result (λ e. IsReadError text.now e.refusal) }
 {
     if text.len() > LONGEST_TEXT {
-        return Err(Misread {
+        return Err(ReadError {
             refusal: Refusal::TextTooLong,
             place: LONGEST_TEXT,
         });

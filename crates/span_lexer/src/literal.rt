@@ -2,7 +2,7 @@
 ghost use Rattle.std.specs.Prelude.{◌≡◌, ◌+◌, ◌<◌, ◌≤◌, length, IfSome};
 ghost use Rattle.span_lexer.specs.Literals as spec;
 
-use super::character::{from_place, is_below_8, is_escape, is_hex};
+use super::character::{from_place, is_octal, is_escape, is_hex};
 
 /// The two kinds of literals in quotes.
 #[derive(Clone, Copy, Debug, PartialEq, Eq)]
@@ -15,7 +15,7 @@ pub enum Literal {
 /// or there is a wrong escape or character before the quote.
 #[tactic(auto, using(crate::proofs::Closing::closing_rules))]
 pub(crate) fn closing_quote(literal: Literal, quote: u8, bytes: &[u8]) -> Option<usize>
-    ensures end { result ≡ spec.closed literal quote 0 bytes.now }
+    ensures end { result ≡ spec.closing_quote literal quote 0 bytes.now }
     ensures within { IfSome result (λ n. n ≤ length bytes.now) }
 {
     let mut at = 0;
@@ -30,9 +30,9 @@ pub(crate) fn closing_quote(literal: Literal, quote: u8, bytes: &[u8]) -> Option
 }
 
 /// The length of the character or escape that the bytes begin with.
-#[tactic(auto, unfolding(crate::specs::Literals::piece_end))]
+#[tactic(auto, unfolding(crate::specs::Literals::piece_length))]
 fn piece_length(literal: Literal, bytes: &[u8]) -> Option<usize>
-    ensures end { result ≡ spec.piece_end literal bytes.now }
+    ensures end { result ≡ spec.piece_length literal bytes.now }
     ensures some { IfSome result (λ n. (0 < n) × (n ≤ length bytes.now)) }
 {
     let (first, rest) = bytes.split_first()?;
@@ -46,9 +46,9 @@ fn piece_length(literal: Literal, bytes: &[u8]) -> Option<usize>
 }
 
 /// The length of an escape with its backslash, by its letter and digits.
-#[tactic(auto, unfolding(crate::specs::Literals::escape_end))]
+#[tactic(auto, unfolding(crate::specs::Literals::escape_length))]
 fn escape_length(literal: Literal, bytes: &[u8]) -> Option<usize>
-    ensures end { result ≡ spec.escape_end literal bytes.now }
+    ensures end { result ≡ spec.escape_length literal bytes.now }
     ensures some { IfSome result (λ n. (0 < n) × (n ≤ length bytes.now + 1)) }
 {
     let (letter, digits) = bytes.split_first()?;
@@ -64,14 +64,14 @@ fn escape_length(literal: Literal, bytes: &[u8]) -> Option<usize>
     None
 }
 
-#[tactic(auto, unfolding(crate::specs::Literals::hex_end))]
+#[tactic(auto, unfolding(crate::specs::Literals::hex_length))]
 fn hex_length(literal: Literal, digits: &[u8]) -> Option<usize>
-    ensures end { result ≡ spec.hex_end literal digits.now }
+    ensures end { result ≡ spec.hex_length literal digits.now }
     ensures some { IfSome result (λ n. (0 < n) × (n ≤ length digits.now + 2)) }
 {
     match digits {
         [high, low, ..] => {
-            if is_hex(*high) && is_hex(*low) && (literal == Literal::Bytes || is_below_8(*high)) {
+            if is_hex(*high) && is_hex(*low) && (literal == Literal::Bytes || is_octal(*high)) {
                 Some(4)
             } else {
                 None
@@ -81,14 +81,14 @@ fn hex_length(literal: Literal, digits: &[u8]) -> Option<usize>
     }
 }
 
-#[tactic(auto, unfolding(crate::specs::Literals::unicode_end, crate::specs::Literals::is_d))]
+#[tactic(auto, unfolding(crate::specs::Literals::unicode_length, crate::specs::Literals::is_d))]
 fn unicode_length(digits: &[u8]) -> Option<usize>
-    ensures end { result ≡ spec.unicode_end digits.now }
+    ensures end { result ≡ spec.unicode_length digits.now }
     ensures some { IfSome result (λ n. (0 < n) × (n ≤ length digits.now + 2)) }
 {
     match digits {
         [a, b, c, d, ..] => {
-            let is_surrogate = (*a == b'D' || *a == b'd') && !is_below_8(*b);
+            let is_surrogate = (*a == b'D' || *a == b'd') && !is_octal(*b);
             if is_hex(*a) && is_hex(*b) && is_hex(*c) && is_hex(*d) && !is_surrogate {
                 Some(6)
             } else {

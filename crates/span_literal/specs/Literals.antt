@@ -30,35 +30,35 @@ abbrev pub code_of : ℕ → List ℕ → Option (ℕ × List ℕ)
 code_of c cs = if c == 120 then two_digits cs else (if c == 117 then four_digits cs else None)
 
 -- the character of an escape that has no digits: n is LF, r is CR, t is a tab, and a quote or a backslash is itself
-abbrev pub named : ℕ → ℕ
-named c = if c == 110 then 10 else (if c == 114 then 13 else (if c == 116 then 9 else c))
+abbrev pub letter_escape : ℕ → ℕ
+letter_escape c = if c == 110 then 10 else (if c == 114 then 13 else (if c == 116 then 9 else c))
 
 -- the character of an escape, by its letter and the characters after that, and the rest
-abbrev pub escaped_as : Option (ℕ × List ℕ) → ℕ → List ℕ → ℕ × List ℕ
-escaped_as None c cs = (named c, cs)
-escaped_as (Some p) c cs = (character p.0, p.1)
+abbrev pub escape_or_letter : Option (ℕ × List ℕ) → ℕ → List ℕ → ℕ × List ℕ
+escape_or_letter None c cs = (letter_escape c, cs)
+escape_or_letter (Some p) c cs = (character p.0, p.1)
 
-abbrev pub escaped : ℕ → List ℕ → ℕ × List ℕ
-escaped c cs = escaped_as (code_of c cs) c cs
+abbrev pub read_escape : ℕ → List ℕ → ℕ × List ℕ
+read_escape c cs = escape_or_letter (code_of c cs) c cs
 
 -- the character of the escape that a backslash begins, and the rest; no literal ends in a backslash
-abbrev pub behind_backslash : List ℕ → ℕ × List ℕ
-behind_backslash [] = (92, [])
-behind_backslash (c ∷ cs) = escaped c cs
+abbrev pub read_after_backslash : List ℕ → ℕ × List ℕ
+read_after_backslash [] = (92, [])
+read_after_backslash (c ∷ cs) = read_escape c cs
 
 -- the first character of the value, and the rest
-abbrev pub first_of : ℕ → List ℕ → ℕ × List ℕ
-first_of c cs = if c == 92 then behind_backslash cs else (c, cs)
+abbrev pub decode_first : ℕ → List ℕ → ℕ × List ℕ
+decode_first c cs = if c == 92 then read_after_backslash cs else (c, cs)
 
 -- at most n characters of the value
-unfoldable pub characters : ℕ → List ℕ → List ℕ
-characters zero cs = []
-characters (suc n) [] = []
-characters (suc n) (c ∷ cs) = (first_of c cs).0 ∷ characters n (first_of c cs).1
+unfoldable pub decode_up_to : ℕ → List ℕ → List ℕ
+decode_up_to zero cs = []
+decode_up_to (suc n) [] = []
+decode_up_to (suc n) (c ∷ cs) = (decode_first c cs).0 ∷ decode_up_to n (decode_first c cs).1
 
 -- all characters of the value: each is written with one character at least
-unfoldable pub meant : List ℕ → List ℕ
-meant cs = characters (length cs) cs
+unfoldable pub decode_all : List ℕ → List ℕ
+decode_all cs = decode_up_to (length cs) cs
 
 -- all but the last one
 abbrev pub before_last : List ℕ → List ℕ
@@ -70,7 +70,7 @@ between_quotes cs = before_last (drop 1 cs)
 
 -- the text of a string literal, spelt with its quotes
 abbrev pub text_of : List ℕ → List ℕ
-text_of spelled = encode_utf8_all (meant (between_quotes (chars spelled)))
+text_of spelled = encode_utf8_all (decode_all (between_quotes (chars spelled)))
 
 -- each as a byte; no character of a BYTES literal has another code
 abbrev pub as_bytes : List ℕ → List ℕ
@@ -78,4 +78,4 @@ as_bytes cs = map (λ (c : ℕ). c % 256) cs
 
 -- the bytes of a BYTES literal, spelt with its mark and its quotes
 abbrev pub bytes_of : List ℕ → List ℕ
-bytes_of spelled = as_bytes (meant (between_quotes (drop 1 (chars spelled))))
+bytes_of spelled = as_bytes (decode_all (between_quotes (drop 1 (chars spelled))))

@@ -22,11 +22,11 @@ fn first_char(text: &str) -> Option<(char, &str)>
 }
 
 /// The text after the first character; empty for the empty text.
-fn behind_first(text: &str) -> &str
+fn after_first(text: &str) -> &str
     ensures { chars result.now ≡ drop 1 (chars text.now) }
 {
     match first_char(text) {
-        Some((_, behind)) => behind,
+        Some((_, after)) => after,
         None => text,
     }
 }
@@ -47,7 +47,7 @@ fn before_last(text: &str) -> &str
 fn between_quotes(spelled: &str) -> &str
     ensures { chars result.now ≡ spec.between_quotes (chars spelled.now) }
 {
-    before_last(behind_first(spelled))
+    before_last(after_first(spelled))
 }
 
 /// The value of a hexadecimal digit.
@@ -102,8 +102,8 @@ fn code_of(letter: char, text: &str) -> Option<(u32, &str)>
 }
 
 /// The character of an escape that has no digits.
-fn named(letter: char) -> char
-    ensures { result ≡ spec.named letter }
+fn letter_escape(letter: char) -> char
+    ensures { result ≡ spec.letter_escape letter }
 {
     match letter {
         'n' => '\n',
@@ -114,23 +114,23 @@ fn named(letter: char) -> char
 }
 
 /// The character of an escape, by its letter and the text after that, and the rest.
-fn escaped(letter: char, text: &str) -> (char, &str)
-    ensures value { spec.escaped letter (chars text.now) ≡ (result.0, chars result.1.now) }
+fn read_escape(letter: char, text: &str) -> (char, &str)
+    ensures value { spec.read_escape letter (chars text.now) ≡ (result.0, chars result.1.now) }
     ensures within { length result.1.now ≤ length text.now }
 {
     match code_of(letter, text) {
-        Some((code, behind)) => (character(code), behind),
-        None => (named(letter), text),
+        Some((code, after)) => (character(code), after),
+        None => (letter_escape(letter), text),
     }
 }
 
 /// The character of the escape that a backslash begins, and the rest.
-fn behind_backslash(text: &str) -> (char, &str)
-    ensures value { spec.behind_backslash (chars text.now) ≡ (result.0, chars result.1.now) }
+fn read_after_backslash(text: &str) -> (char, &str)
+    ensures value { spec.read_after_backslash (chars text.now) ≡ (result.0, chars result.1.now) }
     ensures within { length result.1.now ≤ length text.now }
 {
     match first_char(text) {
-        Some((letter, behind)) => escaped(letter, behind),
+        Some((letter, after)) => read_escape(letter, after),
         None => ('\\', text),
     }
 }
@@ -138,14 +138,14 @@ fn behind_backslash(text: &str) -> (char, &str)
 /// The first character of a literal's value, and the rest of its inside; none where nothing is left.
 #[tactic(auto, using(crate::proofs::Meaning::meaning_steps))]
 fn read_char(text: &str) -> Option<(char, &str)>
-    ensures first { MatchOption result (spec.meant (chars text.now) ≡ []) (λ p. spec.meant (chars text.now) ≡ p.0 ∷ spec.meant (chars p.1.now)) }
+    ensures first { MatchOption result (spec.decode_all (chars text.now) ≡ []) (λ p. spec.decode_all (chars text.now) ≡ p.0 ∷ spec.decode_all (chars p.1.now)) }
     ensures shorter { IfSome result (λ p. length p.1.now < length text.now) }
 {
-    let (c, behind) = first_char(text)?;
+    let (c, after) = first_char(text)?;
     if c == '\\' {
-        return Some(behind_backslash(behind));
+        return Some(read_after_backslash(after));
     }
-    Some((c, behind))
+    Some((c, after))
 }
 
 /// The text of a string literal, which is spelt with its quotes. The only error is out of memory.
@@ -155,9 +155,9 @@ pub fn text_of(alloc: Global, spelled: &str) -> Result<Text, AllocError>
 {
     let mut out = String::new(alloc);
     let mut rest = between_quotes(spelled);
-    while let Some((c, behind)) = read_char(rest) {
+    while let Some((c, after)) = read_char(rest) {
         out.push(c)?;
-        rest = behind;
+        rest = after;
     }
     Ok(Text::from_string(out))
 }
@@ -174,10 +174,10 @@ pub fn bytes_of(alloc: Global, spelled: &str) -> Result<Seq<u8>, AllocError>
     ensures { IfOk result (λ bytes. bytes ≡ spec.bytes_of spelled.now) }
 {
     let mut out = Seq::new(alloc);
-    let mut rest = between_quotes(behind_first(spelled));
-    while let Some((c, behind)) = read_char(rest) {
+    let mut rest = between_quotes(after_first(spelled));
+    while let Some((c, after)) = read_char(rest) {
         out.push(as_byte(c))?;
-        rest = behind;
+        rest = after;
     }
     Ok(out)
 }

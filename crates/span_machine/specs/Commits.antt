@@ -8,26 +8,26 @@ use Rattle.span_machine.specs.declared.step.Reply.{Reply}
 use Rattle.span_machine.specs.declared.step.Reply.TheVariants.{Began, Decided, Opened}
 
 -- a transaction as it was begun
-pub record Begun : Type 0 where
+pub record BegunTransaction : Type 0 where
   pub number : ℕ
   pub mutations : List CheckedMutation
 
 -- what a Begin that was answered Began has begun
-abbrev pub begun_by : Step → Reply → List Begun
+abbrev pub begun_by : Step → Reply → List BegunTransaction
 begun_by (Begin owner transaction) (Began number) = (record { number = number; mutations = transaction }) ∷ []
 begun_by _ _ = []
 
-abbrev pub commit_by : ℕ → ℕ → ℕ → Option Begun → List Commit
+abbrev pub commit_by : ℕ → ℕ → ℕ → Option BegunTransaction → List Commit
 commit_by ts owner number None = []
 commit_by ts owner number (Some b) = (record { timestamp = ts; number = number; owner = owner; mutations = b.mutations }) ∷ []
 
 -- what a Decide that was answered Decided commits: the mutations that were begun under the number
-abbrev pub committed_by : List Begun → Step → Reply → List Commit
+abbrev pub committed_by : List BegunTransaction → Step → Reply → List Commit
 committed_by begun (Decide owner txn v interval) (Decided ts) = commit_by ts owner txn (find (λ b. b.number == txn) begun)
 committed_by begun _ _ = []
 
 -- the commits of steps and the replies to them, in order, after what was begun before
-abbrev pub commits_after : List Begun → List Step → List Reply → List Commit
+abbrev pub commits_after : List BegunTransaction → List Step → List Reply → List Commit
 commits_after begun [] replies = []
 commits_after begun (s ∷ ss) [] = []
 commits_after begun (s ∷ ss) (r ∷ rs) = committed_by begun s r ++ commits_after (begun_by s r ++ begun) ss rs
@@ -37,13 +37,13 @@ abbrev pub commits_of : List Step → List Reply → List Commit
 commits_of steps replies = commits_after [] steps replies
 
 -- a query as it was opened
-pub record Asked : Type 0 where
+pub record OpenedQuery : Type 0 where
   pub number : ℕ
   pub text : List ℕ
   pub params : List Parameter
   pub s : ℕ
 
 -- what an Open that was answered Opened asks
-abbrev pub asked_by : Step → Reply → List Asked
-asked_by (Open text params bound interval) (Opened query s leaves) = (record { number = query; text = text; params = params; s = s }) ∷ []
-asked_by _ _ = []
+abbrev pub opened_by : Step → Reply → List OpenedQuery
+opened_by (Open text params bound interval) (Opened query s leaves) = (record { number = query; text = text; params = params; s = s }) ∷ []
+opened_by _ _ = []

@@ -11,8 +11,8 @@ use Rattle.span_mutate.specs.declared.row.TableRow.{TableRow}
 use Rattle.span_mutate.specs.Database.{apply}
 use Rattle.span_machine.specs.declared.transaction.Commit.{Commit}
 use Rattle.span_machine.specs.declared.transaction.OpenTransaction.{OpenTransaction}
-use Rattle.span_machine.specs.declared.transaction.Outcome.{Outcome}
-use Rattle.span_machine.specs.declared.transaction.Outcome.TheVariants.{Committed}
+use Rattle.span_machine.specs.declared.transaction.Decision.{Decision}
+use Rattle.span_machine.specs.declared.transaction.Decision.TheVariants.{Committed}
 use Rattle.span_machine.specs.Sorting.{in_order}
 use Rattle.span_machine.specs.Tables.{is_before}
 
@@ -37,14 +37,14 @@ is_same schema q r = has_same_key schema q r && bytes_eq (row_code q.cells) (row
 abbrev pub put_at : List Table → ℕ → TableRow → Change
 put_at schema ts r = record { key = code_of schema r; timestamp = ts; row = Some (row_code r.cells) }
 
-abbrev pub gone_at : List Table → ℕ → TableRow → Change
-gone_at schema ts r = record { key = code_of schema r; timestamp = ts; row = None }
+abbrev pub deletion_at : List Table → ℕ → TableRow → Change
+deletion_at schema ts r = record { key = code_of schema r; timestamp = ts; row = None }
 
 -- the rows after that were not the same before, and the keys of rows before that have no row after
 abbrev pub changes_between : List Table → ℕ → List TableRow → List TableRow → List Change
 changes_between schema ts before after =
     map (put_at schema ts) (filter (λ r. not (list_any (is_same schema r) before)) after)
-    ++ map (gone_at schema ts) (filter (λ r. not (list_any (has_same_key schema r) after)) before)
+    ++ map (deletion_at schema ts) (filter (λ r. not (list_any (has_same_key schema r) after)) before)
 
 -- a database after mutations, where they have no fault
 abbrev pub ok_or : Result (List TableRow) Refusal → List TableRow → List TableRow
@@ -86,7 +86,7 @@ kept horizon cs = filter (is_kept horizon cs) cs
 
 -- ---- how many
 
-abbrev pub is_committed : Outcome → Bool
+abbrev pub is_committed : Decision → Bool
 is_committed (Committed ts) = true
 is_committed o = false
 
@@ -95,18 +95,18 @@ abbrev pub count_changes : List Table → List TableRow → List CheckedMutation
 count_changes schema db ms = length (changes_between schema 0 db (after_mutations schema db ms))
 
 -- how many changes the transaction has prepared in the slot, where it is not committed: its commit's are among those of the log
-abbrev pub prepared_changes : List Table → List TableRow → ℕ → OpenTransaction → ℕ
-prepared_changes schema db slot t =
-    if list_any (λ p. p.slot == slot) t.prepared && not (is_committed t.outcome) then count_changes schema db t.mutations else 0
+abbrev pub count_prepared_changes : List Table → List TableRow → ℕ → OpenTransaction → ℕ
+count_prepared_changes schema db slot t =
+    if list_any (λ p. p.slot == slot) t.prepared && not (is_committed t.decision) then count_changes schema db t.mutations else 0
 
 -- how many versions a slot with this horizon keeps: one for each kept change, also one that is prepared and not applied yet
 abbrev pub live : List Table → List Commit → List OpenTransaction → ℕ → ℕ → ℕ
 live schema log transactions slot horizon =
-    length (kept horizon (changes_of schema log)) + sum_by (prepared_changes schema (database_of schema log) slot) transactions
+    length (kept horizon (changes_of schema log)) + sum_by (count_prepared_changes schema (database_of schema log) slot) transactions
 
 -- the most versions that a slot may keep
-abbrev pub most : ℕ
-most = 2 ^ 24
+abbrev pub most_versions : ℕ
+most_versions = 2 ^ 24
 
 -- how many versions the slot would keep once the mutations are prepared there too
 abbrev pub live_with : List Table → List Commit → List OpenTransaction → ℕ → ℕ → List CheckedMutation → ℕ

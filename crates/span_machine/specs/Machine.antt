@@ -19,23 +19,23 @@ use Rattle.span_query.specs.Rows.{Row, Rows}
 use Rattle.span_truetime.specs.Time.{timestamp_end, timestamp_of}
 use Rattle.span_truetime.specs.declared.interval.Interval.{Interval}
 use Rattle.span_machine.specs.declared.transaction.Prepared.{Prepared}
-use Rattle.span_machine.specs.declared.transaction.Outcome.{Outcome}
-use Rattle.span_machine.specs.declared.transaction.Outcome.TheVariants as outcome
-use Rattle.span_machine.specs.declared.transaction.Outcome.TheVariants.{Undecided, Committed}
+use Rattle.span_machine.specs.declared.transaction.Decision.{Decision}
+use Rattle.span_machine.specs.declared.transaction.Decision.TheVariants as decision
+use Rattle.span_machine.specs.declared.transaction.Decision.TheVariants.{Undecided, Committed}
 use Rattle.span_machine.specs.declared.transaction.OpenTransaction.{OpenTransaction}
-use Rattle.span_machine.specs.declared.slot.Book.{Book}
+use Rattle.span_machine.specs.declared.slot.SlotState.{SlotState}
 use Rattle.span_machine.specs.declared.query.Leaf.{Leaf}
 use Rattle.span_machine.specs.declared.query.OpenQuery.{OpenQuery}
 use Rattle.span_mutate.specs.Checking.{and_then}
 use Rattle.span_mutate.specs.Database.{apply}
-use Rattle.span_mutate.specs.Directories.{Root, is_of, root_row}
+use Rattle.span_mutate.specs.Directories.{Root, is_in_directory, root_row}
 use Rattle.span_machine.specs.Tables.{tables}
 use Rattle.span_machine.specs.Meaning.{means}
 use Rattle.span_machine.specs.Kept as kept
 
 -- the state of the journal: no versions and no rows
 pub record Machine : Type 0 where
-  pub books : List Book
+  pub slots : List SlotState
   pub transactions : List OpenTransaction
   pub log : List Commit
   pub queries : List OpenQuery
@@ -62,9 +62,9 @@ first_cause [] = None
 first_cause (c ∷ cs) = if c.0 then Some c.1 else first_cause cs
 
 -- why there is nothing, if so
-abbrev pub fault_of : {A : Type 0} → Result A Refusal → Option Refusal
-fault_of (Ok x) = None
-fault_of (Err why) = Some why
+abbrev pub refusal_of : {A : Type 0} → Result A Refusal → Option Refusal
+refusal_of (Ok x) = None
+refusal_of (Err why) = Some why
 
 -- the answer, unless there is a refusal, which leaves the machine
 abbrev pub unless_refused : Machine → Option Refusal → Answer → Answer
@@ -81,8 +81,8 @@ is_query number q = q.number == number
 abbrev pub for_transaction : Machine → ℕ → ℕ → (OpenTransaction → Answer) → Answer
 for_transaction m owner number make = if_some (find (is_transaction owner number) m.transactions) (refused m refusal.UnknownTransaction) make
 
-abbrev pub for_slot : Machine → ℕ → (Book → Answer) → Answer
-for_slot m slot make = if_some (slice_get m.books slot) (refused m refusal.NoSlot) make
+abbrev pub for_slot : Machine → ℕ → (SlotState → Answer) → Answer
+for_slot m slot make = if_some (slice_get m.slots slot) (refused m refusal.NoSlot) make
 
 abbrev pub for_query : Machine → ℕ → (OpenQuery → Answer) → Answer
 for_query m number make = if_some (find (is_query number) m.queries) (refused m refusal.UnknownQuery) make
@@ -105,14 +105,14 @@ root_at schema m = root_row schema m.table m.key
 
 -- the mutation is in the directory of this root row
 abbrev pub is_at : List Table → Root → CheckedMutation → Bool
-is_at schema root m = is_of schema root m.table m.key
+is_at schema root m = is_in_directory schema root m.table m.key
 
 -- the slot's range has the root row
-abbrev pub holds : Book → Root → Bool
-holds book root = true
+abbrev pub holds : SlotState → Root → Bool
+holds slot_state root = true
 
-abbrev pub mutations_in : List Table → Book → List CheckedMutation → List CheckedMutation
-mutations_in schema book ms = filter (λ m. holds book (root_at schema m)) ms
+abbrev pub mutations_in : List Table → SlotState → List CheckedMutation → List CheckedMutation
+mutations_in schema slot_state ms = filter (λ m. holds slot_state (root_at schema m)) ms
 
 abbrev pub is_prepared_at : ℕ → OpenTransaction → Bool
 is_prepared_at slot t = list_any (λ p. p.slot == slot) t.prepared
@@ -122,18 +122,18 @@ abbrev pub have_common_root : List Table → List CheckedMutation → List Check
 have_common_root schema ms ns = list_any (λ m. list_any (is_at schema (root_at schema m)) ns) ms
 
 -- s is at most the safe time of the slot
-abbrev pub is_safe : Machine → ℕ → Book → ℕ → Bool
-is_safe m slot book s = nat_le s book.floor && list_all (λ t. list_all (λ p. not (p.slot == slot) || nat_lt s p.timestamp) t.prepared) m.transactions
+abbrev pub is_safe : Machine → ℕ → SlotState → ℕ → Bool
+is_safe m slot slot_state s = nat_le s slot_state.floor && list_all (λ t. list_all (λ p. not (p.slot == slot) || nat_lt s p.timestamp) t.prepared) m.transactions
 
 -- ---- steps
 
-abbrev pub undecided : Outcome → Bool
+abbrev pub undecided : Decision → Bool
 undecided Undecided = true
 undecided (Committed ts) = false
-undecided outcome.Aborted = false
+undecided decision.Aborted = false
 
 abbrev pub is_undecided : OpenTransaction → Bool
-is_undecided t = undecided t.outcome
+is_undecided t = undecided t.decision
 
 abbrev pub begin_refusal : Machine → Option Refusal
 begin_refusal m = first_cause (
@@ -144,7 +144,7 @@ abbrev pub begun : Machine → ℕ → List CheckedMutation → Answer
 begun m owner ms = (
   reply.Began m.next_transaction,
   record m {
-    transactions = m.transactions ++ (record { owner = owner; number = m.next_transaction; mutations = ms; outcome = Undecided; prepared = [] }) ∷ [];
+    transactions = m.transactions ++ (record { owner = owner; number = m.next_transaction; mutations = ms; decision = Undecided; prepared = [] }) ∷ [];
     next_transaction = m.next_transaction + 1;
   },
 )
@@ -153,51 +153,51 @@ abbrev pub begin : Machine → ℕ → List CheckedMutation → Answer
 begin m owner ms = unless_refused m (begin_refusal m) (begun m owner ms)
 
 -- the fault that the mutations meet on the tables as they are, if any
-abbrev pub faults : List Table → Machine → List CheckedMutation → Option Refusal
-faults schema m ms = fault_of (and_then (tables schema m.log (timestamp_end - 1)) (λ db. apply schema db ms))
+abbrev pub mutations_refusal : List Table → Machine → List CheckedMutation → Option Refusal
+mutations_refusal schema m ms = refusal_of (and_then (tables schema m.log (timestamp_end - 1)) (λ db. apply schema db ms))
 
-abbrev pub conflicts : List Table → Machine → ℕ → List CheckedMutation → Bool
-conflicts schema m slot ms = list_any (λ t. is_prepared_at slot t && have_common_root schema ms t.mutations) m.transactions
+abbrev pub has_conflict : List Table → Machine → ℕ → List CheckedMutation → Bool
+has_conflict schema m slot ms = list_any (λ t. is_prepared_at slot t && have_common_root schema ms t.mutations) m.transactions
 
 abbrev pub add_prepared : ℕ → ℕ → OpenTransaction → OpenTransaction
 add_prepared slot ts t = record t { prepared = t.prepared ++ (record { slot = slot; timestamp = ts }) ∷ [] }
 
-abbrev pub prepare_timestamp : Book → ℕ
-prepare_timestamp book = max book.last book.floor + 1
+abbrev pub prepare_timestamp : SlotState → ℕ
+prepare_timestamp slot_state = max slot_state.last slot_state.floor + 1
 
 -- why a Prepare is refused before its mutations are checked
-abbrev pub prepare_refusal : List Table → Machine → ℕ → OpenTransaction → Book → Option Refusal
-prepare_refusal schema m slot t book = first_cause (
-    (not (is_undecided t) || is_prepared_at slot t || (length (mutations_in schema book t.mutations) == 0), refusal.WrongState)
-    ∷ (conflicts schema m slot (mutations_in schema book t.mutations), refusal.Conflict) ∷ [])
+abbrev pub prepare_refusal : List Table → Machine → ℕ → OpenTransaction → SlotState → Option Refusal
+prepare_refusal schema m slot t slot_state = first_cause (
+    (not (is_undecided t) || is_prepared_at slot t || (length (mutations_in schema slot_state t.mutations) == 0), refusal.WrongState)
+    ∷ (has_conflict schema m slot (mutations_in schema slot_state t.mutations), refusal.Conflict) ∷ [])
 
 -- the slot would keep more versions than it may
-abbrev pub room_refusal : List Table → Machine → ℕ → Book → List CheckedMutation → Option Refusal
-room_refusal schema m slot book ms = first_cause ((nat_lt kept.most (kept.live_with schema m.log m.transactions slot book.horizon ms), refusal.ShardFull) ∷ [])
+abbrev pub capacity_refusal : List Table → Machine → ℕ → SlotState → List CheckedMutation → Option Refusal
+capacity_refusal schema m slot slot_state ms = first_cause ((nat_lt kept.most_versions (kept.live_with schema m.log m.transactions slot slot_state.horizon ms), refusal.ShardFull) ∷ [])
 
-abbrev pub prepared : Machine → ℕ → ℕ → ℕ → Book → Answer
-prepared m owner txn slot book = (
-  reply.Prepared (prepare_timestamp book),
+abbrev pub prepared : Machine → ℕ → ℕ → ℕ → SlotState → Answer
+prepared m owner txn slot slot_state = (
+  reply.Prepared (prepare_timestamp slot_state),
   record m {
-    books = slice_set m.books slot (record book { last = prepare_timestamp book });
-    transactions = changed_first (is_transaction owner txn) (add_prepared slot (prepare_timestamp book)) m.transactions;
+    slots = slice_set m.slots slot (record slot_state { last = prepare_timestamp slot_state });
+    transactions = changed_first (is_transaction owner txn) (add_prepared slot (prepare_timestamp slot_state)) m.transactions;
   },
 )
 
-abbrev pub prepare_found : List Table → Machine → ℕ → ℕ → ℕ → OpenTransaction → Book → Answer
-prepare_found schema m owner txn slot t book =
-    unless_refused m (prepare_refusal schema m slot t book)
-    (unless_refused m (faults schema m (mutations_in schema book t.mutations))
-    (unless_refused m (room_refusal schema m slot book (mutations_in schema book t.mutations))
-    (unless_refused m (first_cause ((nat_le timestamp_end (prepare_timestamp book), refusal.TimestampRange) ∷ []))
-    (prepared m owner txn slot book))))
+abbrev pub prepare_transaction : List Table → Machine → ℕ → ℕ → ℕ → OpenTransaction → SlotState → Answer
+prepare_transaction schema m owner txn slot t slot_state =
+    unless_refused m (prepare_refusal schema m slot t slot_state)
+    (unless_refused m (mutations_refusal schema m (mutations_in schema slot_state t.mutations))
+    (unless_refused m (capacity_refusal schema m slot slot_state (mutations_in schema slot_state t.mutations))
+    (unless_refused m (first_cause ((nat_le timestamp_end (prepare_timestamp slot_state), refusal.TimestampRange) ∷ []))
+    (prepared m owner txn slot slot_state))))
 
 abbrev pub prepare : List Table → Machine → ℕ → ℕ → ℕ → Answer
-prepare schema m owner txn slot = for_transaction m owner txn (λ t. for_slot m slot (prepare_found schema m owner txn slot t))
+prepare schema m owner txn slot = for_transaction m owner txn (λ t. for_slot m slot (prepare_transaction schema m owner txn slot t))
 
 -- every mutation is of a slot where the transaction is prepared
 abbrev pub is_prepared_for : List Table → Machine → OpenTransaction → CheckedMutation → Bool
-is_prepared_for schema m t mutation = list_any (λ p. if_some (slice_get m.books p.slot) false (λ book. holds book (root_at schema mutation))) t.prepared
+is_prepared_for schema m t mutation = list_any (λ p. if_some (slice_get m.slots p.slot) false (λ slot_state. holds slot_state (root_at schema mutation))) t.prepared
 
 abbrev pub is_all_prepared : List Table → Machine → OpenTransaction → Bool
 is_all_prepared schema m t = not (length t.prepared == 0) && list_all (is_prepared_for schema m t) t.mutations
@@ -208,23 +208,23 @@ greatest [] = 0
 greatest (p ∷ ps) = max p.timestamp (greatest ps)
 
 -- the slot of the lowest number
-abbrev pub coordinator : ℕ → List Prepared → ℕ
-coordinator slot [] = slot
-coordinator slot (p ∷ ps) = if nat_lt p.slot slot then coordinator p.slot ps else coordinator slot ps
+abbrev pub lowest_slot : ℕ → List Prepared → ℕ
+lowest_slot slot [] = slot
+lowest_slot slot (p ∷ ps) = if nat_lt p.slot slot then lowest_slot p.slot ps else lowest_slot slot ps
 
-abbrev pub coordinator_of : List Prepared → ℕ
-coordinator_of [] = 0
-coordinator_of (p ∷ ps) = coordinator p.slot ps
+abbrev pub coordinator_slot : List Prepared → ℕ
+coordinator_slot [] = 0
+coordinator_slot (p ∷ ps) = lowest_slot p.slot ps
 
-abbrev pub with_last : List Book → ℕ → ℕ → List Book
-with_last books slot ts = if_some (slice_get books slot) books (λ book. slice_set books slot (record book { last = max book.last ts }))
+abbrev pub with_last : List SlotState → ℕ → ℕ → List SlotState
+with_last slots slot ts = if_some (slice_get slots slot) slots (λ slot_state. slice_set slots slot (record slot_state { last = max slot_state.last ts }))
 
 abbrev pub commit_timestamp : Machine → OpenTransaction → Interval → ℕ
 commit_timestamp m t interval =
-    max (greatest t.prepared) (max (interval.latest + 1) (if_some (slice_get m.books (coordinator_of t.prepared)) 0 (λ book. book.last) + 1))
+    max (greatest t.prepared) (max (interval.latest + 1) (if_some (slice_get m.slots (coordinator_slot t.prepared)) 0 (λ slot_state. slot_state.last) + 1))
 
-abbrev pub with_outcome : Outcome → OpenTransaction → OpenTransaction
-with_outcome o t = record t { outcome = o }
+abbrev pub with_decision : Decision → OpenTransaction → OpenTransaction
+with_decision o t = record t { decision = o }
 
 abbrev pub commit_refusal : List Table → Machine → OpenTransaction → Interval → Option Refusal
 commit_refusal schema m t interval = first_cause (
@@ -238,9 +238,9 @@ abbrev pub committed : Machine → ℕ → ℕ → ℕ → OpenTransaction → A
 committed m owner txn ts t = (
   reply.Decided ts,
   record m {
-    books = with_last m.books (coordinator_of t.prepared) ts;
+    slots = with_last m.slots (coordinator_slot t.prepared) ts;
     log = m.log ++ commit_of ts t ∷ [];
-    transactions = changed_first (is_transaction owner txn) (with_outcome (Committed ts)) m.transactions;
+    transactions = changed_first (is_transaction owner txn) (with_decision (Committed ts)) m.transactions;
   },
 )
 
@@ -249,18 +249,18 @@ aborted m owner txn t = (
   reply.Aborted,
   record m {
     transactions = if length t.prepared == 0 then without_first (is_transaction owner txn) m.transactions
-        else changed_first (is_transaction owner txn) (with_outcome outcome.Aborted) m.transactions;
+        else changed_first (is_transaction owner txn) (with_decision decision.Aborted) m.transactions;
   },
 )
 
-abbrev pub decide_found : List Table → Machine → ℕ → ℕ → Verdict → Interval → OpenTransaction → Answer
-decide_found schema m owner txn verdict.Commit interval t =
+abbrev pub decide_transaction : List Table → Machine → ℕ → ℕ → Verdict → Interval → OpenTransaction → Answer
+decide_transaction schema m owner txn verdict.Commit interval t =
     unless_refused m (commit_refusal schema m t interval) (committed m owner txn (commit_timestamp m t interval) t)
-decide_found schema m owner txn verdict.Abort interval t =
+decide_transaction schema m owner txn verdict.Abort interval t =
     unless_refused m (first_cause ((not (is_undecided t), refusal.WrongState) ∷ [])) (aborted m owner txn t)
 
 abbrev pub decide : List Table → Machine → ℕ → ℕ → Verdict → Interval → Answer
-decide schema m owner txn v interval = for_transaction m owner txn (decide_found schema m owner txn v interval)
+decide schema m owner txn v interval = for_transaction m owner txn (decide_transaction schema m owner txn v interval)
 
 abbrev pub without_prepared : ℕ → OpenTransaction → OpenTransaction
 without_prepared slot t = record t { prepared = filter (λ p. not (p.slot == slot)) t.prepared }
@@ -272,39 +272,39 @@ applied m owner txn slot t =
     then without_first (is_transaction owner txn) m.transactions
     else changed_first (is_transaction owner txn) (without_prepared slot) m.transactions
 
-abbrev pub applied_at : Outcome → Machine → ℕ → ℕ → ℕ → OpenTransaction → Answer
+abbrev pub applied_at : Decision → Machine → ℕ → ℕ → ℕ → OpenTransaction → Answer
 applied_at Undecided m owner txn slot t = refused m refusal.WrongState
-applied_at outcome.Aborted m owner txn slot t = (reply.Applied, record m { transactions = applied m owner txn slot t })
+applied_at decision.Aborted m owner txn slot t = (reply.Applied, record m { transactions = applied m owner txn slot t })
 applied_at (Committed ts) m owner txn slot t = (
   reply.Applied,
   record m {
-    books = with_last m.books slot ts;
+    slots = with_last m.slots slot ts;
     transactions = applied m owner txn slot t;
   },
 )
 
 -- a commit whose timestamp has not surely passed
-abbrev pub is_early : Interval → Outcome → Bool
+abbrev pub is_early : Interval → Decision → Bool
 is_early interval Undecided = false
-is_early interval outcome.Aborted = false
+is_early interval decision.Aborted = false
 is_early interval (Committed ts) = nat_le interval.earliest ts
 
 abbrev pub apply_refusal : ℕ → OpenTransaction → Interval → Option Refusal
 apply_refusal slot t interval = first_cause (
     (is_undecided t || not (is_prepared_at slot t), refusal.WrongState)
-    ∷ (is_early interval t.outcome, refusal.TooEarly) ∷ [])
+    ∷ (is_early interval t.decision, refusal.TooEarly) ∷ [])
 
-abbrev pub apply_found : Machine → ℕ → ℕ → ℕ → Interval → OpenTransaction → Book → Answer
-apply_found m owner txn slot interval t book = unless_refused m (apply_refusal slot t interval) (applied_at t.outcome m owner txn slot t)
+abbrev pub apply_transaction : Machine → ℕ → ℕ → ℕ → Interval → OpenTransaction → SlotState → Answer
+apply_transaction m owner txn slot interval t slot_state = unless_refused m (apply_refusal slot t interval) (applied_at t.decision m owner txn slot t)
 
 abbrev pub apply_step : Machine → ℕ → ℕ → ℕ → Interval → Answer
-apply_step m owner txn slot interval = for_transaction m owner txn (λ t. for_slot m slot (apply_found m owner txn slot interval t))
+apply_step m owner txn slot interval = for_transaction m owner txn (λ t. for_slot m slot (apply_transaction m owner txn slot interval t))
 
-abbrev pub advanced : Machine → ℕ → Interval → Book → Answer
-advanced m slot interval book = (
-  reply.Floor (max book.floor interval.latest),
+abbrev pub advanced : Machine → ℕ → Interval → SlotState → Answer
+advanced m slot interval slot_state = (
+  reply.Floor (max slot_state.floor interval.latest),
   record m {
-    books = slice_set m.books slot (record book { floor = max book.floor interval.latest });
+    slots = slice_set m.slots slot (record slot_state { floor = max slot_state.floor interval.latest });
   },
 )
 
@@ -312,28 +312,28 @@ abbrev pub advance : Machine → ℕ → Interval → Answer
 advance m slot interval = for_slot m slot (advanced m slot interval)
 
 -- the horizon may rise to h, which is at most safe time
-abbrev pub trim_refusal : Machine → ℕ → ℕ → Book → Option Refusal
-trim_refusal m slot h book = first_cause (
-    (nat_lt h book.horizon, refusal.TrimBackward)
-    ∷ (not (is_safe m slot book h), refusal.TrimTooNew) ∷ [])
+abbrev pub trim_refusal : Machine → ℕ → ℕ → SlotState → Option Refusal
+trim_refusal m slot h slot_state = first_cause (
+    (nat_lt h slot_state.horizon, refusal.TrimBackward)
+    ∷ (not (is_safe m slot slot_state h), refusal.TrimTooNew) ∷ [])
 
 -- how many versions are kept from the horizon h on
 abbrev pub live_after : List Table → Machine → ℕ → ℕ → ℕ
 live_after schema m slot h = kept.live schema m.log m.transactions slot h
 
-abbrev pub trimmed : List Table → Machine → ℕ → ℕ → Book → Answer
-trimmed schema m slot h book = (
+abbrev pub trimmed : List Table → Machine → ℕ → ℕ → SlotState → Answer
+trimmed schema m slot h slot_state = (
   reply.Trimmed (live_after schema m slot h),
   record m {
-    books = slice_set m.books slot (record book { horizon = h });
+    slots = slice_set m.slots slot (record slot_state { horizon = h });
   },
 )
 
-abbrev pub trim_found : List Table → Machine → ℕ → ℕ → Book → Answer
-trim_found schema m slot h book = unless_refused m (trim_refusal m slot h book) (trimmed schema m slot h book)
+abbrev pub trim_slot : List Table → Machine → ℕ → ℕ → SlotState → Answer
+trim_slot schema m slot h slot_state = unless_refused m (trim_refusal m slot h slot_state) (trimmed schema m slot h slot_state)
 
 abbrev pub trim : List Table → Machine → ℕ → ℕ → Answer
-trim schema m slot h = for_slot m slot (trim_found schema m slot h)
+trim schema m slot h = for_slot m slot (trim_slot schema m slot h)
 
 abbrev pub open_refusal : Machine → ℕ → Option Refusal
 open_refusal m s = first_cause (
@@ -363,11 +363,11 @@ open_query m (Err why) bound interval = refused m why
 open_query m (Ok q) bound interval = unless_refused m (open_refusal m (timestamp_of bound interval)) (opened m q (timestamp_of bound interval))
 
 -- the floor rises to s where the clock has passed it
-abbrev pub risen : Book → ℕ → Interval → Book
-risen book s interval = if nat_lt book.floor s && nat_le s interval.latest then record book { floor = s } else book
+abbrev pub with_risen_floor : SlotState → ℕ → Interval → SlotState
+with_risen_floor slot_state s interval = if nat_lt slot_state.floor s && nat_le s interval.latest then record slot_state { floor = s } else slot_state
 
-abbrev pub with_book : Machine → ℕ → Book → Machine
-with_book m slot book = record m { books = slice_set m.books slot book }
+abbrev pub with_slot_state : Machine → ℕ → SlotState → Machine
+with_slot_state m slot slot_state = record m { slots = slice_set m.slots slot slot_state }
 
 abbrev pub is_covered : Leaf → Bool
 is_covered l = l.covered
@@ -380,28 +380,28 @@ abbrev pub cover : ℕ → OpenQuery → OpenQuery
 cover leaf q = record q { leaves = with_covered q.leaves leaf }
 
 -- with the floor risen
-abbrev pub scanned : Machine → ℕ → ℕ → ℕ → Book → ℕ → Answer
-scanned m query leaf slot book s =
-    if is_safe m slot book s
-    then (reply.Scanned, record (with_book m slot book) { queries = changed_first (is_query query) (cover leaf) m.queries })
-    else (Refused refusal.NotYet, with_book m slot book)
+abbrev pub scanned : Machine → ℕ → ℕ → ℕ → SlotState → ℕ → Answer
+scanned m query leaf slot slot_state s =
+    if is_safe m slot slot_state s
+    then (reply.Scanned, record (with_slot_state m slot slot_state) { queries = changed_first (is_query query) (cover leaf) m.queries })
+    else (Refused refusal.NotYet, with_slot_state m slot slot_state)
 
 -- below the horizon nothing is read, and the floor stays
-abbrev pub scan_gap : Machine → ℕ → ℕ → ℕ → Interval → OpenQuery → Book → Answer
-scan_gap m query leaf slot interval q book =
-    if nat_lt q.s book.horizon then refused m refusal.Trimmed else scanned m query leaf slot (risen book q.s interval) q.s
+abbrev pub scan_gap : Machine → ℕ → ℕ → ℕ → Interval → OpenQuery → SlotState → Answer
+scan_gap m query leaf slot interval q slot_state =
+    if nat_lt q.s slot_state.horizon then refused m refusal.Trimmed else scanned m query leaf slot (with_risen_floor slot_state q.s interval) q.s
 
-abbrev pub scan_at : Machine → ℕ → ℕ → ℕ → Interval → OpenQuery → Leaf → Book → Answer
-scan_at m query leaf slot interval q l book =
-    if l.covered then (reply.Nothing, m) else scan_gap m query leaf slot interval q book
+abbrev pub scan_leaf : Machine → ℕ → ℕ → ℕ → Interval → OpenQuery → Leaf → SlotState → Answer
+scan_leaf m query leaf slot interval q l slot_state =
+    if l.covered then (reply.Nothing, m) else scan_gap m query leaf slot interval q slot_state
 
 -- leaves are counted from 0
-abbrev pub scan_found : Machine → ℕ → ℕ → ℕ → Interval → OpenQuery → Answer
-scan_found m query leaf slot interval q =
-    if_some (slice_get q.leaves leaf) (refused m refusal.UnknownQuery) (λ l. for_slot m slot (scan_at m query leaf slot interval q l))
+abbrev pub scan_query : Machine → ℕ → ℕ → ℕ → Interval → OpenQuery → Answer
+scan_query m query leaf slot interval q =
+    if_some (slice_get q.leaves leaf) (refused m refusal.UnknownQuery) (λ l. for_slot m slot (scan_leaf m query leaf slot interval q l))
 
 abbrev pub scan : Machine → ℕ → ℕ → ℕ → Interval → Answer
-scan m query leaf slot interval = for_query m query (scan_found m query leaf slot interval)
+scan m query leaf slot interval = for_query m query (scan_query m query leaf slot interval)
 
 -- the rows at s, or why there are none
 abbrev pub answer_on : ℕ → Result (List Row) Refusal → Reply
@@ -409,9 +409,9 @@ answer_on s (Ok rows) = reply.Rows s rows
 answer_on s (Err why) = Refused why
 
 -- rows, or the refusal that the fault is
-abbrev pub or_refusal : Rows → Result (List Row) Refusal
-or_refusal None = Err refusal.ArithmeticFault
-or_refusal (Some rows) = Ok rows
+abbrev pub rows_or_refusal : Rows → Result (List Row) Refusal
+rows_or_refusal None = Err refusal.ArithmeticFault
+rows_or_refusal (Some rows) = Ok rows
 
 -- the tables of leaves, by their numbers
 abbrev pub tables_of : List Leaf → List ℕ
@@ -419,13 +419,13 @@ tables_of leaves = map (λ (l : Leaf). l.table) leaves
 
 -- what the query means on the tables at its timestamp, by the log so far
 abbrev pub meaning : List Table → Machine → OpenQuery → Result (List Row) Refusal
-meaning schema m q = and_then (tables schema m.log q.s) (λ db. or_refusal (means schema q.query (tables_of q.leaves) db))
+meaning schema m q = and_then (tables schema m.log q.s) (λ db. rows_or_refusal (means schema q.query (tables_of q.leaves) db))
 
-abbrev pub finish_found : List Table → Machine → OpenQuery → Answer
-finish_found schema m q = if list_all is_covered q.leaves then (answer_on q.s (meaning schema m q), m) else refused m refusal.Incomplete
+abbrev pub finish_query : List Table → Machine → OpenQuery → Answer
+finish_query schema m q = if list_all is_covered q.leaves then (answer_on q.s (meaning schema m q), m) else refused m refusal.Incomplete
 
 abbrev pub finish : List Table → Machine → ℕ → Answer
-finish schema m query = for_query m query (finish_found schema m)
+finish schema m query = for_query m query (finish_query schema m)
 
 abbrev pub closed : Machine → ℕ → OpenQuery → Answer
 closed m query q = (reply.Closed, record m { queries = without_first (is_query query) m.queries })
@@ -447,17 +447,17 @@ answer schema m u (Finish query) = finish schema m query
 answer schema m u (Close query) = close m query
 
 -- the step may run out of memory
-abbrev pub may_grow : Step → Bool
-may_grow (Begin owner transaction) = true
-may_grow (Prepare owner txn slot) = true
-may_grow (Decide owner txn v interval) = false
-may_grow (Apply owner txn slot interval) = false
-may_grow (Advance slot interval) = false
-may_grow (Trim slot h) = false
-may_grow (Open text params bound interval) = true
-may_grow (Scan query leaf slot interval) = true
-may_grow (Finish query) = true
-may_grow (Close query) = false
+abbrev pub may_take_memory : Step → Bool
+may_take_memory (Begin owner transaction) = true
+may_take_memory (Prepare owner txn slot) = true
+may_take_memory (Decide owner txn v interval) = false
+may_take_memory (Apply owner txn slot interval) = false
+may_take_memory (Advance slot interval) = false
+may_take_memory (Trim slot h) = false
+may_take_memory (Open text params bound interval) = true
+may_take_memory (Scan query leaf slot interval) = true
+may_take_memory (Finish query) = true
+may_take_memory (Close query) = false
 
 -- Which query texts, with which parameters, are understood as which statements, and which are refused why. The definitions below are for
 -- any such relation.
@@ -474,18 +474,18 @@ abbrev pub IsAnswer : Answer → Reply → Machine → Type 0
 IsAnswer a r next = (r ≡ a.0) × (next ≡ a.1)
 
 -- out of memory: that refusal takes the place of the reply, and nothing changes
-abbrev pub WantsMemory : Machine → Reply → Machine → Type 0
-WantsMemory m r next = (r ≡ Refused refusal.OutOfMemory) × (next ≡ m)
+abbrev pub MayRunOutOfMemory : Machine → Reply → Machine → Type 0
+MayRunOutOfMemory m r next = (r ≡ Refused refusal.OutOfMemory) × (next ≡ m)
 
 -- the answer, or out of memory in its place
 abbrev pub Answers : Machine → Answer → Reply → Machine → Type 0
-Answers m a r next = IsAnswer a r next ⊎ WantsMemory m r next
+Answers m a r next = IsAnswer a r next ⊎ MayRunOutOfMemory m r next
 
 -- from m, the reply to the step and the machine after it: the machine's answer, or out of memory where the step may run out of it
 abbrev pub Steps : Understanding → List Table → Machine → Step → Reply → Machine → Type 0
 Steps understands schema m s r next =
     ((u : Result Statement Refusal) × IsUnderstood understands s u × IsAnswer (answer schema m u s) r next)
-    ⊎ ((may_grow s ≡ true) × WantsMemory m r next)
+    ⊎ ((may_take_memory s ≡ true) × MayRunOutOfMemory m r next)
 
 abbrev pub start : Machine
-start = record { books = (record { last = 0; floor = 0; horizon = 0 }) ∷ []; transactions = []; log = []; queries = []; next_transaction = 1; next_query = 1 }
+start = record { slots = (record { last = 0; floor = 0; horizon = 0 }) ∷ []; transactions = []; log = []; queries = []; next_transaction = 1; next_query = 1 }

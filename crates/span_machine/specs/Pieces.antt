@@ -1,7 +1,7 @@
 use Rattle.std.specs.Prelude.{ℕ, List, [], map, slice_set}
 use Rattle.span_query.specs.Rows.{Row}
 use Rattle.span_query.specs.declared.query.Statement.{Statement}
-use Rattle.span_machine.specs.declared.slot.Book.{Book}
+use Rattle.span_machine.specs.declared.slot.SlotState.{SlotState}
 use Rattle.span_machine.specs.declared.transaction.OpenTransaction.{OpenTransaction}
 use Rattle.span_machine.specs.declared.transaction.Commit.{Commit}
 use Rattle.span_machine.specs.declared.query.OpenQuery.{OpenQuery}
@@ -14,7 +14,7 @@ pub record Pieced : Type 0 where
 
 -- what a journal keeps: the machine's state, with the pieces of each open query
 pub record Journaled : Type 0 where
-  pub books : List Book
+  pub slots : List SlotState
   pub transactions : List OpenTransaction
   pub log : List Commit
   pub queries : List Pieced
@@ -39,4 +39,4 @@ queries_of ps = map (λ p. p.query) ps
 
 -- the machine's state alone
 abbrev pub machine_of : Journaled → Machine
-machine_of j = record { books = j.books; transactions = j.transactions; log = j.log; queries = queries_of j.queries; next_transaction = j.next_transaction; next_query = j.next_query }
+machine_of j = record { slots = j.slots; transactions = j.transactions; log = j.log; queries = queries_of j.queries; next_transaction = j.next_transaction; next_query = j.next_query }

@@ -13,7 +13,7 @@ use Rattle.span_mutate.specs.declared.row.TableRow.{TableRow}
 use Rattle.span_mutate.specs.Typed.{AreTypedMutations}
 use Rattle.span_machine.specs.Tables.{tables}
 use Rattle.span_machine.specs.Meaning.{means}
-use Rattle.span_machine.specs.Commits.{Asked, asked_by, commits_of}
+use Rattle.span_machine.specs.Commits.{OpenedQuery, opened_by, commits_of}
 use Rattle.span_machine.specs.Machine.{Machine, Understanding, Steps, start}
 
 -- the mutations of a transaction that is begun were checked against the schema
@@ -33,8 +33,8 @@ Run understands schema m (s ∷ ss) (r ∷ rs) last = (mid : Machine) × Steps u
 
 -- This is what the query of this number means, its rows in order or the fault: its query text is understood as a statement that means it on
 -- the tables of the commits, at the timestamp that the query was opened at.
-pub record IsMeant (understands : Understanding) (schema : List Table) (commits : List Commit) (asked : List Asked) (query s : ℕ) (meant : rows.Rows) : Type 0 where
-  pub question : Asked
+pub record IsMeant (understands : Understanding) (schema : List Table) (commits : List Commit) (asked : List OpenedQuery) (query s : ℕ) (meant : rows.Rows) : Type 0 where
+  pub question : OpenedQuery
   pub opened : find (λ a. a.number == query) asked ≡ Some question
   pub at : s ≡ question.s
   pub statement : Statement
@@ -44,16 +44,16 @@ pub record IsMeant (understands : Understanding) (schema : List Table) (commits 
   pub is : meant ≡ means schema statement.query statement.leaves db
 
 -- a query that was answered with rows, or refused for an arithmetic fault, was answered rightly by these commits
-abbrev pub IsRight : Understanding → List Table → List Commit → List Asked → Step → Reply → Type 0
+abbrev pub IsRight : Understanding → List Table → List Commit → List OpenedQuery → Step → Reply → Type 0
 IsRight understands schema commits asked (Finish query) (Rows s found) = IsMeant understands schema commits asked query s (Some found)
 IsRight understands schema commits asked (Finish query) (Refused why) = why ≡ ArithmeticFault → (s : ℕ) × IsMeant understands schema commits asked query s None
 IsRight understands schema commits asked _ _ = Unit {0}
 
 -- every answer of a run is right by these commits
-abbrev pub AreRight : Understanding → List Table → List Commit → List Asked → List Step → List Reply → Type 0
+abbrev pub AreRight : Understanding → List Table → List Commit → List OpenedQuery → List Step → List Reply → Type 0
 AreRight understands schema commits asked [] replies = Unit {0}
 AreRight understands schema commits asked (s ∷ ss) [] = Unit {0}
-AreRight understands schema commits asked (s ∷ ss) (r ∷ rs) = IsRight understands schema commits asked s r × AreRight understands schema commits (asked_by s r ++ asked) ss rs
+AreRight understands schema commits asked (s ∷ ss) (r ∷ rs) = IsRight understands schema commits asked s r × AreRight understands schema commits (opened_by s r ++ asked) ss rs
 
 -- The headline. The replies are the machine's; the log of the machine holds just the commits that were answered Decided, in order;
 -- every one of them applies at its place, so that the tables at any timestamp are made; and every answer has exactly the rows, in

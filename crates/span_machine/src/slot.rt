@@ -2,7 +2,7 @@
 
 /// The timestamps of a slot in use.
 #[derive(Clone, Copy, Debug, PartialEq, Eq)]
-pub struct Book {
+pub struct SlotState {
     /// The greatest timestamp given to a transaction here.
     pub last: u64,
     /// No later prepare here gets a timestamp at or below this.

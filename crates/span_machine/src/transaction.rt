@@ -11,7 +11,7 @@ pub struct Prepared {
 
 /// The decision on a transaction.
 #[derive(Clone, Copy, Debug, PartialEq, Eq)]
-pub enum Outcome {
+pub enum Decision {
     Undecided,
     /// Committed at this timestamp.
     Committed(u64),
@@ -24,7 +24,7 @@ pub struct OpenTransaction {
     pub owner: u64,
     pub number: u64,
     pub mutations: Seq<CheckedMutation>,
-    pub outcome: Outcome,
+    pub decision: Decision,
     /// Where it is prepared, and not applied yet.
     pub prepared: Seq<Prepared>,
 }

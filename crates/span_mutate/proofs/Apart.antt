@@ -5,7 +5,7 @@ use Rattle.std.specs.declared.cmp.Ordering.TheVariants.{Less, Equal}
 use Rattle.std.specs.Cmp.{tied_itself}
 use Rattle.span_schema.specs.declared.table.Table.{Table}
 use Rattle.span_mutate.specs.declared.row.TableRow.{TableRow}
-use Rattle.span_mutate.specs.Directories.{Root, is_of, directory, IsKeyed, root_row, rows_cmp, OneDatabase}
+use Rattle.span_mutate.specs.Directories.{Root, is_in_directory, directory, IsKeyed, root_row, rows_cmp, OneDatabase}
 use Rattle.span_mutate.proofs.Filters.{filter_yes, filter_no}
 use Rattle.span_mutate.proofs.Orders.{rows_total}
 use Rattle.span_mutate.proofs.Placing.{all_filter}
@@ -13,7 +13,7 @@ use Rattle.span_mutate.proofs.Families.{root_is_table}
 use Rattle.span_mutate.proofs.ByRoots.{root_keyed, in_own}
 
 abbrev of_root : List Table → Root → TableRow → Bool
-of_root tables root q = is_of tables root q.table q.key
+of_root tables root q = is_in_directory tables root q.table q.key
 
 -- the directory of the first row begins with it
 own_first : (tables : List Table) (x : TableRow) (xs : List TableRow) → directory tables (root_row tables x.table x.key) (x ∷ xs) ≡ x ∷ directory tables (root_row tables x.table x.key) xs

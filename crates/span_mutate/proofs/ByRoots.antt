@@ -10,7 +10,7 @@ use Rattle.span_mutate.specs.declared.mutation.CheckedMutation.{CheckedMutation}
 use Rattle.span_mutate.specs.declared.row.TableRow.{TableRow}
 use Rattle.span_mutate.specs.Checking.{and_then}
 use Rattle.span_mutate.specs.Database.{apply_one, apply}
-use Rattle.span_mutate.specs.Directories.{is_of, directory, mutations_in, key_len, IsKeyed, root_row, IsDatabase, RunsTo, FirstFault, IsPutTogether, RootByRoot}
+use Rattle.span_mutate.specs.Directories.{is_in_directory, directory, mutations_in, key_len, IsKeyed, root_row, IsDatabase, RunsTo, FirstFault, IsPutTogether, RootByRoot}
 use Rattle.span_mutate.proofs.Begins.{both_make, number_itself, taken_begins}
 use Rattle.span_mutate.proofs.Families.{root_short}
 use Rattle.span_mutate.proofs.Filters.{filter_yes, filter_no}
@@ -20,16 +20,16 @@ use Rattle.span_mutate.proofs.Runs.{run_on}
 -- one mutation more in front
 runs_on : (tables : List Table) → MeetsRules tables → (db next after : List TableRow) (m : CheckedMutation) (ms : List CheckedMutation) → IsDatabase tables db → IsKeyed tables m.table m.key
     → apply_one tables db m ≡ Ok next → RunsTo tables next ms after → RunsTo tables db (m ∷ ms) after
-runs_on tables rules db next after m ms is_db keyed e runs root is = cases (is_of tables root m.table m.key) refl
+runs_on tables rules db next after m ms is_db keyed e runs root is = cases (is_in_directory tables root m.table m.key) refl
   where
-    cases : (b : Bool) → is_of tables root m.table m.key ≡ b → apply tables (directory tables root db) (mutations_in tables root (m ∷ ms)) ≡ Ok (directory tables root after)
+    cases : (b : Bool) → is_in_directory tables root m.table m.key ≡ b → apply tables (directory tables root db) (mutations_in tables root (m ∷ ms)) ≡ Ok (directory tables root after)
     cases true h =
-        ap (apply tables (directory tables root db)) (filter_yes (λ (m : CheckedMutation). is_of tables root m.table m.key) m ms h)
+        ap (apply tables (directory tables root db)) (filter_yes (λ (m : CheckedMutation). is_in_directory tables root m.table m.key) m ms h)
         ∙ run_on tables (directory tables root db) m (mutations_in tables root ms) (directory tables root next)
         (step_same tables rules root is.1 m keyed.0 h db ∙ ap (with_rows (directory tables root)) e)
         ∙ runs root is
     cases false h =
-        ap (apply tables (directory tables root db)) (filter_no (λ (m : CheckedMutation). is_of tables root m.table m.key) m ms h)
+        ap (apply tables (directory tables root db)) (filter_no (λ (m : CheckedMutation). is_in_directory tables root m.table m.key) m ms h)
         ∙ ap (λ (rows : List TableRow). apply tables rows (mutations_in tables root ms)) (step_apart tables rules root is.1 m keyed h db is_db.0 next e)
         ∙ runs root is
 
@@ -37,7 +37,7 @@ runs_on tables rules db next after m ms is_db keyed e runs root is = cases (is_o
 pub root_keyed : (tables : List Table) → MeetsRules tables → (n : ℕ) (key : List Value) → IsKeyed tables n key → length (root_row tables n key).key ≡ key_len tables (root_of tables n)
 root_keyed tables rules n key keyed = length-take-le (key_len tables (root_of tables n)) key (omega (arith, root_short tables rules n keyed.0, keyed.1))
 
-pub in_own : (tables : List Table) (n : ℕ) (key : List Value) → is_of tables (root_row tables n key) n key ≡ true
+pub in_own : (tables : List Table) (n : ℕ) (key : List Value) → is_in_directory tables (root_row tables n key) n key ≡ true
 in_own tables n key = both_make _ _ (number_itself (root_of tables n) (root_of tables n) refl) (taken_begins key (key_len tables (root_of tables n)))
 
 faults_here : (tables : List Table) → MeetsRules tables → (db : List TableRow) (m : CheckedMutation) (ms : List CheckedMutation) (why : Refusal) → IsKeyed tables m.table m.key → apply_one tables db m ≡ Err why

@@ -17,9 +17,9 @@ use Rattle.span_mutate.specs.declared.mutation.CheckedMutation.{CheckedMutation}
 use Rattle.span_mutate.specs.declared.row.TableRow.{TableRow}
 use Rattle.span_mutate.specs.Columns.{is_delete}
 use Rattle.span_mutate.specs.Checking.{unless}
-use Rattle.span_mutate.specs.Rows.{begins, is_same_key, is_at, row_at, placed}
-use Rattle.span_mutate.specs.Database.{is_at_or_below, cascades, is_holding, tables_under, tables_holding, all_tables, is_in, is_under, is_held, lacks_parent, is_insert, is_update, cells_after, causes, row_after, without, changed, apply_to, apply_one}
-use Rattle.span_mutate.specs.Directories.{Root, is_of, directory, key_len, IsKeyed, rows_cmp, IsInOrder, IsDatabase}
+use Rattle.span_mutate.specs.Rows.{begins, is_same_key, is_at, row_at, with_row}
+use Rattle.span_mutate.specs.Database.{is_at_or_below, cascades, blocks_delete, tables_under, tables_blocking_delete, all_tables, is_in, is_under, is_delete_blocked, lacks_parent, is_insert, is_update, cells_after, causes, row_after, without_rows, changed, apply_to, apply_one}
+use Rattle.span_mutate.specs.Directories.{Root, is_in_directory, directory, key_len, IsKeyed, rows_cmp, IsInOrder, IsDatabase}
 use Rattle.span_mutate.proofs.Begins.{both_hold, both_make, same_key, same_number, number_itself, front_on, front_of_front, front_of_taken}
 use Rattle.span_mutate.proofs.Families.{parent_family, below_root, root_short}
 use Rattle.span_mutate.proofs.Filters.{filters_turned, filter_within, find_kept, found_passes}
@@ -30,21 +30,21 @@ abbrev AreKeyedRows : List Table → List TableRow → Type 0
 AreKeyedRows tables db = AllByRecursion (λ (r : TableRow). IsKeyed tables r.table r.key) db
 
 -- keys of one family and with one front are of one directory
-moved : (tables : List Table) (root : Root) (n m : ℕ) (vs ws : List Value) → is_of tables root n vs ≡ true → root_of tables m ≡ root_of tables n → begins root.key ws ≡ true → is_of tables root m ws ≡ true
+moved : (tables : List Table) (root : Root) (n m : ℕ) (vs ws : List Value) → is_in_directory tables root n vs ≡ true → root_of tables m ≡ root_of tables n → begins root.key ws ≡ true → is_in_directory tables root m ws ≡ true
 moved tables root n m vs ws h same front =
     both_make _ _ (ap (λ (t : ℕ). t == root.table) same ∙ (both_hold (root_of tables n == root.table) (begins root.key vs) h).0) front
 
 -- a row at a key of the directory is of it
-at_is_of : (tables : List Table) (root : Root) (n : ℕ) (key : List Value) → is_of tables root n key ≡ true → (q : TableRow) → is_at n key q ≡ true → is_of tables root q.table q.key ≡ true
+at_is_of : (tables : List Table) (root : Root) (n : ℕ) (key : List Value) → is_in_directory tables root n key ≡ true → (q : TableRow) → is_at n key q ≡ true → is_in_directory tables root q.table q.key ≡ true
 at_is_of tables root n key h q at =
     let parts = both_hold (q.table == n) (is_same_key key q.key) at in
     let table : n ≡ q.table = sym (same_number q.table n parts.0) in
-    ap (λ (m : ℕ). is_of tables root m q.key) (sym table) ∙ ap (is_of tables root n) (sym (same_key key q.key parts.1)) ∙ h
+    ap (λ (m : ℕ). is_in_directory tables root m q.key) (sym table) ∙ ap (is_in_directory tables root n) (sym (same_key key q.key parts.1)) ∙ h
 
-pub row_same : (tables : List Table) (root : Root) (n : ℕ) (key : List Value) → is_of tables root n key ≡ true → (db : List TableRow) → row_at n key (directory tables root db) ≡ row_at n key db
-row_same tables root n key h db = find_kept (is_at n key) (λ (q : TableRow). is_of tables root q.table q.key) (at_is_of tables root n key h) db
+pub row_same : (tables : List Table) (root : Root) (n : ℕ) (key : List Value) → is_in_directory tables root n key ≡ true → (db : List TableRow) → row_at n key (directory tables root db) ≡ row_at n key db
+row_same tables root n key h db = find_kept (is_at n key) (λ (q : TableRow). is_in_directory tables root q.table q.key) (at_is_of tables root n key h) db
 
-parent_same : (tables : List Table) → MeetsRules tables → (root : Root) → length root.key ≡ key_len tables root.table → (n : ℕ) (key : List Value) → IsTable tables n → is_of tables root n key ≡ true
+parent_same : (tables : List Table) → MeetsRules tables → (root : Root) → length root.key ≡ key_len tables root.table → (n : ℕ) (key : List Value) → IsTable tables n → is_in_directory tables root n key ≡ true
     → (o : Option ℕ) → parent_of tables n ≡ o → (db : List TableRow) → lacks_parent tables o key (directory tables root db) ≡ lacks_parent tables o key db
 parent_same tables rules root len n key is h None e db = refl
 parent_same tables rules root len n key is h (Some q) e db =
@@ -57,20 +57,20 @@ parent_same tables rules root len n key is h (Some q) e db =
     (moved tables root n q key (take (key_len tables q) key) h above.1 (front_of_taken root.key key (key_len tables q) parts.1 short)) db)
 
 -- a row of a table below, whose key begins with one of the directory, is of it
-pub under_is_of : (tables : List Table) (root : Root) (n : ℕ) (key : List Value) → is_of tables root n key ≡ true → (q : TableRow) → root_of tables q.table ≡ root_of tables n → begins key q.key ≡ true → is_of tables root q.table q.key ≡ true
+pub under_is_of : (tables : List Table) (root : Root) (n : ℕ) (key : List Value) → is_in_directory tables root n key ≡ true → (q : TableRow) → root_of tables q.table ≡ root_of tables n → begins key q.key ≡ true → is_in_directory tables root q.table q.key ≡ true
 under_is_of tables root n key h q same front =
     moved tables root n q.table key q.key h same (front_on root.key key q.key (both_hold (root_of tables n == root.table) (begins root.key key) h).1 front)
 
-holding_root : (tables : List Table) (n m : ℕ) → is_holding tables n m ≡ true → root_of tables m ≡ root_of tables n
+holding_root : (tables : List Table) (n m : ℕ) → blocks_delete tables n m ≡ true → root_of tables m ≡ root_of tables n
 holding_root tables n m h =
     below_root tables n m (both_hold (is_at_or_below tables n m) (not (m == n)) (both_hold (is_at_or_below tables n m && not (m == n)) (not (cascades (table_at tables m))) h).0).0
 
-held_same : (tables : List Table) (root : Root) (n : ℕ) (key : List Value) → is_of tables root n key ≡ true → (db : List TableRow) → is_held tables n key (directory tables root db) ≡ is_held tables n key db
+held_same : (tables : List Table) (root : Root) (n : ℕ) (key : List Value) → is_in_directory tables root n key ≡ true → (db : List TableRow) → is_delete_blocked tables n key (directory tables root db) ≡ is_delete_blocked tables n key db
 held_same tables root n key h db =
-    any-filter_same (is_in (tables_holding tables n) key) (λ (q : TableRow). is_of tables root q.table q.key) true
+    any-filter_same (is_in (tables_blocking_delete tables n) key) (λ (q : TableRow). is_in_directory tables root q.table q.key) true
     (λ q t.
-    let parts = both_hold (list_any (λ (k : ℕ). k == q.table) (tables_holding tables n)) (begins key q.key) t in
-    under_is_of tables root n key h q (holding_root tables n q.table (found_passes (is_holding tables n) q.table (all_tables tables) parts.0)) parts.1) db
+    let parts = both_hold (list_any (λ (k : ℕ). k == q.table) (tables_blocking_delete tables n)) (begins key q.key) t in
+    under_is_of tables root n key h q (holding_root tables n q.table (found_passes (blocks_delete tables n) q.table (all_tables tables) parts.0)) parts.1) db
 
 -- the first cause, by whether the parent row is absent and whether a row below holds
 abbrev cause_by : CheckedMutation → Option TableRow → Bool → Bool → Option Refusal
@@ -84,32 +84,32 @@ cause_by m before orphan held = first_cause (
     )
 
 -- the causes are the same on the directory
-causes_same : (tables : List Table) → MeetsRules tables → (root : Root) → length root.key ≡ key_len tables root.table → (m : CheckedMutation) → IsTable tables m.table → is_of tables root m.table m.key ≡ true
+causes_same : (tables : List Table) → MeetsRules tables → (root : Root) → length root.key ≡ key_len tables root.table → (m : CheckedMutation) → IsTable tables m.table → is_in_directory tables root m.table m.key ≡ true
     → (db : List TableRow) (before : Option TableRow) → first_cause (causes tables (directory tables root db) m before) ≡ first_cause (causes tables db m before)
 causes_same tables rules root len m is h db before =
-    ap (λ (b : Bool). cause_by m before b (is_held tables m.table m.key (directory tables root db))) (parent_same tables rules root len m.table m.key is h (parent_of tables m.table) refl db)
+    ap (λ (b : Bool). cause_by m before b (is_delete_blocked tables m.table m.key (directory tables root db))) (parent_same tables rules root len m.table m.key is h (parent_of tables m.table) refl db)
     ∙ ap (cause_by m before (lacks_parent tables (parent_of tables m.table) m.key db)) (held_same tables root m.table m.key h db)
 
 -- what a mutation of the directory makes of it is the directory of what it makes of all rows
-changed_same : (tables : List Table) (root : Root) (m : CheckedMutation) → is_of tables root m.table m.key ≡ true → (db : List TableRow) (before : Option TableRow)
+changed_same : (tables : List Table) (root : Root) (m : CheckedMutation) → is_in_directory tables root m.table m.key ≡ true → (db : List TableRow) (before : Option TableRow)
     → changed tables (directory tables root db) m before ≡ directory tables root (changed tables db m before)
 changed_same tables root m h db before = pick (is_delete m.kind)
   where
-    removed : (o : Option TableRow) → without tables m.table m.key o (directory tables root db) ≡ directory tables root (without tables m.table m.key o db)
+    removed : (o : Option TableRow) → without_rows tables m.table m.key o (directory tables root db) ≡ directory tables root (without_rows tables m.table m.key o db)
     removed None = refl
-    removed (Some r) = filters_turned (λ (q : TableRow). not (is_under tables m.table m.key q)) (λ (q : TableRow). is_of tables root q.table q.key) db
+    removed (Some r) = filters_turned (λ (q : TableRow). not (is_under tables m.table m.key q)) (λ (q : TableRow). is_in_directory tables root q.table q.key) db
 
-    pick : (b : Bool) → cond b (without tables m.table m.key before (directory tables root db)) (placed (key_columns tables m.table) (row_after m before) (directory tables root db))
-        ≡ directory tables root (cond b (without tables m.table m.key before db) (placed (key_columns tables m.table) (row_after m before) db))
+    pick : (b : Bool) → cond b (without_rows tables m.table m.key before (directory tables root db)) (with_row (key_columns tables m.table) (row_after m before) (directory tables root db))
+        ≡ directory tables root (cond b (without_rows tables m.table m.key before db) (with_row (key_columns tables m.table) (row_after m before) db))
     pick true = removed before
-    pick false = sym (put_kept (rows_cmp tables) (λ (q : TableRow). is_of tables root q.table q.key) (row_after m before) db h)
+    pick false = sym (put_kept (rows_cmp tables) (λ (q : TableRow). is_in_directory tables root q.table q.key) (row_after m before) db h)
 
 -- a mutation of another directory leaves this one alone
-changed_apart : (tables : List Table) → MeetsRules tables → (root : Root) → length root.key ≡ key_len tables root.table → (m : CheckedMutation) → IsKeyed tables m.table m.key → is_of tables root m.table m.key ≡ false
+changed_apart : (tables : List Table) → MeetsRules tables → (root : Root) → length root.key ≡ key_len tables root.table → (m : CheckedMutation) → IsKeyed tables m.table m.key → is_in_directory tables root m.table m.key ≡ false
     → (db : List TableRow) → IsInOrder tables db → (before : Option TableRow) → directory tables root (changed tables db m before) ≡ directory tables root db
 changed_apart tables rules root len m keyed h db sorted before = pick (is_delete m.kind)
   where
-    other : (q : TableRow) → is_of tables root q.table q.key ≡ true → (b : Bool) → is_under tables m.table m.key q ≡ b → not b ≡ true
+    other : (q : TableRow) → is_in_directory tables root q.table q.key ≡ true → (b : Bool) → is_under tables m.table m.key q ≡ b → not b ≡ true
     other q t false e = refl
     other q t true e =
         let parts = both_hold (list_any (λ (k : ℕ). k == q.table) (tables_under tables m.table)) (begins m.key q.key) e in
@@ -117,31 +117,31 @@ changed_apart tables rules root len m keyed h db sorted before = pick (is_delete
         let mine = both_hold (root_of tables q.table == root.table) (begins root.key q.key) t in
         let named : root_of tables m.table ≡ root.table = sym family ∙ same_number (root_of tables q.table) root.table mine.0 in
         let short : length root.key ≤ length m.key = omega (arith, len, ap (key_len tables) named, root_short tables rules m.table keyed.0, keyed.1) in
-        let inside : is_of tables root m.table m.key ≡ true = both_make _ _ (number_itself (root_of tables m.table) root.table named) (front_of_front root.key m.key q.key mine.1 parts.1 short) in
+        let inside : is_in_directory tables root m.table m.key ≡ true = both_make _ _ (number_itself (root_of tables m.table) root.table named) (front_of_front root.key m.key q.key mine.1 parts.1 short) in
         absurd (let g : false ≡ true = sym h ∙ inside in cc)
 
-    removed : (o : Option TableRow) → directory tables root (without tables m.table m.key o db) ≡ directory tables root db
+    removed : (o : Option TableRow) → directory tables root (without_rows tables m.table m.key o db) ≡ directory tables root db
     removed None = refl
-    removed (Some r) = filter_within (λ (q : TableRow). is_of tables root q.table q.key) (λ (q : TableRow). not (is_under tables m.table m.key q)) (λ q t. other q t (is_under tables m.table m.key q) refl) db
+    removed (Some r) = filter_within (λ (q : TableRow). is_in_directory tables root q.table q.key) (λ (q : TableRow). not (is_under tables m.table m.key q)) (λ q t. other q t (is_under tables m.table m.key q) refl) db
 
-    lost : (q : TableRow) → rows_cmp tables q (row_after m before) ≡ Equal → is_of tables root q.table q.key ≡ false
+    lost : (q : TableRow) → rows_cmp tables q (row_after m before) ≡ Equal → is_in_directory tables root q.table q.key ≡ false
     lost q e =
         let same = rows_equal tables q (row_after m before) e in
-        ap (λ (n : ℕ). is_of tables root n q.key) same.0 ∙ ap (is_of tables root m.table) same.1 ∙ h
+        ap (λ (n : ℕ). is_in_directory tables root n q.key) same.0 ∙ ap (is_in_directory tables root m.table) same.1 ∙ h
 
-    pick : (b : Bool) → directory tables root (cond b (without tables m.table m.key before db) (placed (key_columns tables m.table) (row_after m before) db)) ≡ directory tables root db
+    pick : (b : Bool) → directory tables root (cond b (without_rows tables m.table m.key before db) (with_row (key_columns tables m.table) (row_after m before) db)) ≡ directory tables root db
     pick true = removed before
-    pick false = put_lost (rows_cmp tables) (rows_total tables) (λ (q : TableRow). is_of tables root q.table q.key) (row_after m before) h lost db sorted
+    pick false = put_lost (rows_cmp tables) (rows_total tables) (λ (q : TableRow). is_in_directory tables root q.table q.key) (row_after m before) h lost db sorted
 
 -- the rows stay in order
 changed_in_order : (tables : List Table) (m : CheckedMutation) (db : List TableRow) → IsInOrder tables db → (before : Option TableRow) → IsInOrder tables (changed tables db m before)
 changed_in_order tables m db sorted before = pick (is_delete m.kind)
   where
-    removed : (o : Option TableRow) → IsInOrder tables (without tables m.table m.key o db)
+    removed : (o : Option TableRow) → IsInOrder tables (without_rows tables m.table m.key o db)
     removed None = sorted
     removed (Some r) = rising_filter (rows_cmp tables) (λ (q : TableRow). not (is_under tables m.table m.key q)) db sorted
 
-    pick : (b : Bool) → IsInOrder tables (cond b (without tables m.table m.key before db) (placed (key_columns tables m.table) (row_after m before) db))
+    pick : (b : Bool) → IsInOrder tables (cond b (without_rows tables m.table m.key before db) (with_row (key_columns tables m.table) (row_after m before) db))
     pick true = removed before
     pick false = put_in_order (rows_cmp tables) (rows_total tables) (row_after m before) db sorted
 
@@ -151,7 +151,7 @@ with_rows f (Ok rows) = Ok (f rows)
 with_rows f (Err why) = Err why
 
 -- a mutation of the directory has the same outcome on it
-pub step_same : (tables : List Table) → MeetsRules tables → (root : Root) → length root.key ≡ key_len tables root.table → (m : CheckedMutation) → IsTable tables m.table → is_of tables root m.table m.key ≡ true
+pub step_same : (tables : List Table) → MeetsRules tables → (root : Root) → length root.key ≡ key_len tables root.table → (m : CheckedMutation) → IsTable tables m.table → is_in_directory tables root m.table m.key ≡ true
     → (db : List TableRow) → apply_one tables (directory tables root db) m ≡ with_rows (directory tables root) (apply_one tables db m)
 step_same tables rules root len m is h db =
     ap (apply_to tables (directory tables root db) m) (row_same tables root m.table m.key h db) ∙ at (row_at m.table m.key db)
@@ -171,7 +171,7 @@ unless_ok None x y e = cc
 unless_ok (Some why) x y e = absurd cc
 
 -- a mutation of another directory changes nothing here
-pub step_apart : (tables : List Table) → MeetsRules tables → (root : Root) → length root.key ≡ key_len tables root.table → (m : CheckedMutation) → IsKeyed tables m.table m.key → is_of tables root m.table m.key ≡ false
+pub step_apart : (tables : List Table) → MeetsRules tables → (root : Root) → length root.key ≡ key_len tables root.table → (m : CheckedMutation) → IsKeyed tables m.table m.key → is_in_directory tables root m.table m.key ≡ false
     → (db : List TableRow) → IsInOrder tables db → (next : List TableRow) → apply_one tables db m ≡ Ok next → directory tables root db ≡ directory tables root next
 step_apart tables rules root len m keyed h db sorted next e =
     sym (changed_apart tables rules root len m keyed h db sorted (row_at m.table m.key db))
@@ -186,11 +186,11 @@ step_in_order tables m db sorted next e =
 changed_keyed : (tables : List Table) (m : CheckedMutation) → IsKeyed tables m.table m.key → (db : List TableRow) → AreKeyedRows tables db → (before : Option TableRow) → AreKeyedRows tables (changed tables db m before)
 changed_keyed tables m keyed db each before = pick (is_delete m.kind)
   where
-    removed : (o : Option TableRow) → AreKeyedRows tables (without tables m.table m.key o db)
+    removed : (o : Option TableRow) → AreKeyedRows tables (without_rows tables m.table m.key o db)
     removed None = each
     removed (Some r) = all_filter (λ (r : TableRow). IsKeyed tables r.table r.key) (λ (q : TableRow). not (is_under tables m.table m.key q)) db each
 
-    pick : (b : Bool) → AreKeyedRows tables (cond b (without tables m.table m.key before db) (placed (key_columns tables m.table) (row_after m before) db))
+    pick : (b : Bool) → AreKeyedRows tables (cond b (without_rows tables m.table m.key before db) (with_row (key_columns tables m.table) (row_after m before) db))
     pick true = removed before
     pick false = put_all (λ (r : TableRow). IsKeyed tables r.table r.key) (rows_cmp tables) (row_after m before) db keyed each
 

@@ -19,7 +19,7 @@ use Rattle.span_schema.specs.Lineages.{MeetsRules}
 use Rattle.span_schema.specs.Numbers.{table_at, key_in, columns_in, other_kinds}
 use Rattle.span_schema.proofs.Judged.{passes_at}
 use Rattle.span_schema.specs.Rules.{first_cause, has_repeated_column, has_bad_column, has_unknown_key, has_repeated_key, has_bad_lengths}
-use Rattle.span_mutate.specs.declared.mutation.Cell.{Cell}
+use Rattle.span_mutate.specs.declared.mutation.NamedValue.{NamedValue}
 use Rattle.span_mutate.specs.declared.mutation.Mutation.{Mutation}
 use Rattle.span_mutate.specs.declared.mutation.MutationKind.{MutationKind}
 use Rattle.span_mutate.specs.Columns.{column_named, cell_column, has_wrong_type, is_null_refused, is_too_long, is_named, is_delete, value_named, other_columns, values_named}
@@ -122,7 +122,7 @@ names_apart (c ∷ cs) h =
 -- ---- cells
 
 -- a cell of a column outside the key has a value of its kind
-pub record IsKindly (t : Table) (x : Cell) : Type 0 where
+pub record IsKindly (t : Table) (x : NamedValue) : Type 0 where
   pub there : is_none (cell_column t x.column) ≡ false
   pub right : has_wrong_type (cell_column t x.column) x.value ≡ false
 
@@ -134,7 +134,7 @@ or_none_both : (a b : Option Refusal) → option_or a b ≡ None → (a ≡ None
 or_none_both None b e = (refl, e)
 or_none_both (Some w) b e = absurd cc
 
-kindly : (t : Table) (kind : MutationKind) (before : List Cell) (x : Cell) → first_cause (cell_causes t kind before x) ≡ None → IsKindly t x
+kindly : (t : Table) (kind : MutationKind) (before : List NamedValue) (x : NamedValue) → first_cause (cell_causes t kind before x) ≡ None → IsKindly t x
 kindly t kind before x e =
     let a = first_none (is_delete kind || is_none (cell_column t x.column) || is_named before x.column) NoColumn (
     (has_wrong_type (cell_column t x.column) x.value, WrongType)
@@ -157,14 +157,14 @@ kindly t kind before x e =
           ) b;
     }
 
-all_kindly : (t : Table) (kind : MutationKind) (before cells : List Cell) → cells_cause t kind before cells ≡ None → AllByRecursion (IsKindly t) cells
+all_kindly : (t : Table) (kind : MutationKind) (before cells : List NamedValue) → cells_cause t kind before cells ≡ None → AllByRecursion (IsKindly t) cells
 all_kindly t kind before [] e = tt
 all_kindly t kind before (x ∷ xs) e =
     let parts = or_none_both (first_cause (cell_causes t kind before x)) (cells_cause t kind (before ++ x ∷ []) xs) e in
     (kindly t kind before x parts.0, all_kindly t kind (before ++ x ∷ []) xs parts.1)
 
 -- the value that a cell of the column's name has is of its kind
-cell_kind : (t : Table) (c : Column) (x : Cell) → IsNamedSelf t.columns c → is_same_name x.column c.name ≡ true → IsKindly t x → is_of_kind (kind_of c.kind) x.value ≡ true
+cell_kind : (t : Table) (c : Column) (x : NamedValue) → IsNamedSelf t.columns c → is_same_name x.column c.name ≡ true → IsKindly t x → is_of_kind (kind_of c.kind) x.value ≡ true
 cell_kind t c x self same k = cases (is_key_name t.key x.column) k.there k.right
   where
     named : column_named t.columns x.column ≡ Some c
@@ -174,19 +174,19 @@ cell_kind t c x self same k = cases (is_key_name t.key x.column) k.there k.right
     cases true e f = absurd (let g : true ≡ false = e in cc)
     cases false e f = not_not (is_of_kind (kind_of c.kind) x.value) (sym (ap (λ (o : Option Column). has_wrong_type o x.value) named) ∙ f)
 
-value_kind : (t : Table) (c : Column) → IsNamedSelf t.columns c → (cells : List Cell) → AllByRecursion (IsKindly t) cells → is_named_kind (kind_of c.kind) (value_named cells c.name) ≡ true
+value_kind : (t : Table) (c : Column) → IsNamedSelf t.columns c → (cells : List NamedValue) → AllByRecursion (IsKindly t) cells → is_named_kind (kind_of c.kind) (value_named cells c.name) ≡ true
 value_kind t c self [] h = refl
 value_kind t c self (x ∷ xs) h = cases (is_same_name x.column c.name) refl (value_kind t c self xs h.1)
   where
     cases : (b : Bool) → is_same_name x.column c.name ≡ b → is_named_kind (kind_of c.kind) (value_named xs c.name) ≡ true
-        → is_named_kind (kind_of c.kind) (option_map (λ (y : Cell). y.value) (cond b (Some x) (find (λ (y : Cell). is_same_name y.column c.name) xs))) ≡ true
+        → is_named_kind (kind_of c.kind) (option_map (λ (y : NamedValue). y.value) (cond b (Some x) (find (λ (y : NamedValue). is_same_name y.column c.name) xs))) ≡ true
     cases true e again = cell_kind t c x self e h.0
     cases false e again = again
 
 and_true : (a b : Bool) → a ≡ true → b ≡ true → (a && b) ≡ true
 and_true a b e f = ap (λ (x : Bool). x && b) e ∙ f
 
-values_kinds : (t : Table) (cells : List Cell) → AllByRecursion (IsKindly t) cells → (cs : List Column) → AllByRecursion (IsNamedSelf t.columns) cs → are_named_kinds (layout.other_kinds t.key cs) (values_named t.key cells cs) ≡ true
+values_kinds : (t : Table) (cells : List NamedValue) → AllByRecursion (IsKindly t) cells → (cs : List Column) → AllByRecursion (IsNamedSelf t.columns) cs → are_named_kinds (layout.other_kinds t.key cs) (values_named t.key cells cs) ≡ true
 values_kinds t cells h [] g = refl
 values_kinds t cells h (c ∷ cs) g = cases (is_key_name t.key c.name) (values_kinds t cells h cs g.1)
   where
@@ -204,7 +204,7 @@ columns_differ t h =
     (two_false (has_repeated_column t.columns) (length t.key == 0) d.0).0
 
 -- the cells of a mutation that nothing refuses are of the kinds of the columns outside the key
-pub named_kinds : (t : Table) → has_bad_column t ≡ false → (kind : MutationKind) (cells : List Cell) → cells_cause t kind [] cells ≡ None → are_named_kinds (layout.other_kinds t.key t.columns) (values_named t.key cells t.columns) ≡ true
+pub named_kinds : (t : Table) → has_bad_column t ≡ false → (kind : MutationKind) (cells : List NamedValue) → cells_cause t kind [] cells ≡ None → are_named_kinds (layout.other_kinds t.key t.columns) (values_named t.key cells t.columns) ≡ true
 named_kinds t rules kind cells e = values_kinds t cells (all_kindly t kind [] cells e) t.columns (names_apart t.columns (columns_differ t rules))
 
 -- and so those of a mutation of a table of the schema

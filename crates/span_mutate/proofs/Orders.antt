@@ -13,14 +13,14 @@ use Rattle.span_value.proofs.Total.{value_order_total, value_order_equal}
 use Rattle.span_schema.specs.declared.table.Table.{Table}
 use Rattle.span_schema.specs.declared.layout.KeyPart.{KeyPart}
 use Rattle.span_schema.specs.Numbers.{key_columns}
-use Rattle.span_keycode.specs.Coding.{directed}
+use Rattle.span_keycode.specs.Coding.{apply_direction}
 use Rattle.span_mutate.specs.declared.row.TableRow.{TableRow}
 use Rattle.span_mutate.specs.Rows.{is_descending, order_from, key_order}
 use Rattle.span_mutate.specs.Directories.{rows_cmp}
 
 -- one column
 abbrev column_order : Bool → Value → Value → Ordering
-column_order d v w = directed d (value_order v w)
+column_order d v w = apply_direction d (value_order v w)
 
 turned : (v w : Value) → flip_args value_order v w ≡ column_order true v w
 turned v w = value_order_total.antisymm w v

@@ -21,8 +21,8 @@ use Rattle.span_keycode.proofs.LevelLaws.{path_child}
 use Rattle.span_mutate.specs.declared.mutation.CheckedMutation.{CheckedMutation}
 use Rattle.span_mutate.specs.declared.row.TableRow.{TableRow}
 use Rattle.span_mutate.specs.Columns.{is_delete}
-use Rattle.span_mutate.specs.Rows.{begins, is_same_key, is_at, row_at, placed}
-use Rattle.span_mutate.specs.Database.{is_at_or_below, all_tables, tables_under, is_under, is_held, lacks_parent, is_insert, is_update, cells_after, causes, row_after, without, changed, apply_one, apply}
+use Rattle.span_mutate.specs.Rows.{begins, is_same_key, is_at, row_at, with_row}
+use Rattle.span_mutate.specs.Database.{is_at_or_below, all_tables, tables_under, is_under, is_delete_blocked, lacks_parent, is_insert, is_update, cells_after, causes, row_after, without_rows, changed, apply_one, apply}
 use Rattle.span_mutate.specs.Directories.{key_len, IsKeyed, rows_cmp, IsDatabase, HasParents, ParentsStay}
 use Rattle.span_mutate.proofs.Begins.{both_hold, both_make, same_key, same_number, front_on, taken_begins}
 use Rattle.span_mutate.proofs.Families.{number_here}
@@ -202,13 +202,13 @@ changed_parents : (tables : List Table) (m : CheckedMutation) (db : List TableRo
     → HasParents tables (changed tables db m before)
 changed_parents tables m db is has before own = pick (is_delete m.kind) refl
   where
-    removed : (o : Option TableRow) → HasParents tables (without tables m.table m.key o db)
+    removed : (o : Option TableRow) → HasParents tables (without_rows tables m.table m.key o db)
     removed None = has
     removed (Some r) =
-        kept_all (λ (r : TableRow). IsKeyed tables r.table r.key) (Has tables db) (Has tables (without tables m.table m.key (Some r) db)) (λ (q : TableRow). not (is_under tables m.table m.key q))
+        kept_all (λ (r : TableRow). IsKeyed tables r.table r.key) (Has tables db) (Has tables (without_rows tables m.table m.key (Some r) db)) (λ (q : TableRow). not (is_under tables m.table m.key q))
         (λ x keyed h out. parent_left tables m.table m.key db x keyed.0 (not_true (is_under tables m.table m.key x) out) (parent_of tables x.table) refl ∙ h) db is.1 has
 
-    pick : (b : Bool) → is_delete m.kind ≡ b → HasParents tables (cond b (without tables m.table m.key before db) (placed (key_columns tables m.table) (row_after m before) db))
+    pick : (b : Bool) → is_delete m.kind ≡ b → HasParents tables (cond b (without_rows tables m.table m.key before db) (with_row (key_columns tables m.table) (row_after m before) db))
     pick true e = removed before
     pick false e =
         let r = row_after m before in
@@ -220,7 +220,7 @@ step_parents tables m db next is has e =
     let before = row_at m.table m.key db in
     let parts = unless_none (first_cause (causes tables db m before)) (changed tables db m before) next e in
     let orphan = third (is_insert m.kind && is_some before) (is_update m.kind && is_none before) (not (is_delete m.kind) && lacks_parent tables (parent_of tables m.table) m.key db) Exists Missing ParentMissing (
-    (is_delete m.kind && is_some before && is_held tables m.table m.key db, HasChildren)
+    (is_delete m.kind && is_some before && is_delete_blocked tables m.table m.key db, HasChildren)
     ∷ (not (is_delete m.kind) && nat_lt MOST_BYTES (length (row_code (cells_after m before))), RowTooLong)
     ∷ []
     ) parts.0 in

@@ -12,9 +12,9 @@ use Rattle.span_mutate.specs.declared.mutation.CheckedMutation.{CheckedMutation}
 use Rattle.span_mutate.specs.declared.row.TableRow.{TableRow}
 use Rattle.span_mutate.specs.Columns.{is_delete}
 use Rattle.span_mutate.specs.Checking.{and_then}
-use Rattle.span_mutate.specs.Rows.{begins, row_at, placed}
-use Rattle.span_mutate.specs.Database.{is_at_or_below, tables_under, all_tables, is_under, causes, row_after, without, changed, apply_one, apply}
-use Rattle.span_mutate.specs.Directories.{Root, is_of, directory, IsKeyed, AreKeyed, root_row, rows_cmp, IsInOrder, IsDatabase}
+use Rattle.span_mutate.specs.Rows.{begins, row_at, with_row}
+use Rattle.span_mutate.specs.Database.{is_at_or_below, tables_under, all_tables, is_under, causes, row_after, without_rows, changed, apply_one, apply}
+use Rattle.span_mutate.specs.Directories.{Root, is_in_directory, directory, IsKeyed, AreKeyed, root_row, rows_cmp, IsInOrder, IsDatabase}
 use Rattle.span_mutate.specs.Touched.{is_touched, IsSameOutcome, TouchedAlone}
 use Rattle.span_mutate.proofs.Begins.{both_hold}
 use Rattle.span_mutate.proofs.Families.{below_root}
@@ -26,7 +26,7 @@ use Rattle.span_mutate.proofs.ByRoots.{root_keyed, in_own}
 
 -- a test that passes all keys of the directory of a mutation
 abbrev Covers : List Table → (ℕ → List Value → Bool) → CheckedMutation → Type 0
-Covers tables q m = (n : ℕ) (key : List Value) → is_of tables (root_row tables m.table m.key) n key ≡ true → q n key ≡ true
+Covers tables q m = (n : ℕ) (key : List Value) → is_in_directory tables (root_row tables m.table m.key) n key ≡ true → q n key ≡ true
 
 abbrev kept : (ℕ → List Value → Bool) → List TableRow → List TableRow
 kept q db = filter (λ (r : TableRow). q r.table r.key) db
@@ -42,12 +42,12 @@ changed_kept : (tables : List Table) (q : ℕ → List Value → Bool) (m : Chec
     → changed tables (kept q db) m before ≡ kept q (changed tables db m before)
 changed_kept tables q m h db before = pick (is_delete m.kind)
   where
-    removed : (o : Option TableRow) → without tables m.table m.key o (kept q db) ≡ kept q (without tables m.table m.key o db)
+    removed : (o : Option TableRow) → without_rows tables m.table m.key o (kept q db) ≡ kept q (without_rows tables m.table m.key o db)
     removed None = refl
     removed (Some r) = filters_turned (λ (p : TableRow). not (is_under tables m.table m.key p)) (λ (p : TableRow). q p.table p.key) db
 
-    pick : (b : Bool) → cond b (without tables m.table m.key before (kept q db)) (placed (key_columns tables m.table) (row_after m before) (kept q db))
-        ≡ kept q (cond b (without tables m.table m.key before db) (placed (key_columns tables m.table) (row_after m before) db))
+    pick : (b : Bool) → cond b (without_rows tables m.table m.key before (kept q db)) (with_row (key_columns tables m.table) (row_after m before) (kept q db))
+        ≡ kept q (cond b (without_rows tables m.table m.key before db) (with_row (key_columns tables m.table) (row_after m before) db))
     pick true = removed before
     pick false = sym (put_kept (rows_cmp tables) (λ (p : TableRow). q p.table p.key) (row_after m before) db h)
 
@@ -69,7 +69,7 @@ changed_others tables q m covers db sorted before = pick (is_delete m.kind)
     other p t false e = refl
     other p t true e = absurd (let g : false ≡ true = sym (not_true (q p.table p.key) (inside p e)) ∙ t in cc)
 
-    removed : (o : Option TableRow) → others q (without tables m.table m.key o db) ≡ others q db
+    removed : (o : Option TableRow) → others q (without_rows tables m.table m.key o db) ≡ others q db
     removed None = refl
     removed (Some r) = filter_within (λ (p : TableRow). not (q p.table p.key)) (λ (p : TableRow). not (is_under tables m.table m.key p)) (λ p t. other p t (is_under tables m.table m.key p) refl) db
 
@@ -78,7 +78,7 @@ changed_others tables q m covers db sorted before = pick (is_delete m.kind)
         let same = rows_equal tables p (row_after m before) e in
         not_true (q p.table p.key) (ap (λ (n : ℕ). q n p.key) same.0 ∙ ap (q m.table) same.1 ∙ own)
 
-    pick : (b : Bool) → others q (cond b (without tables m.table m.key before db) (placed (key_columns tables m.table) (row_after m before) db)) ≡ others q db
+    pick : (b : Bool) → others q (cond b (without_rows tables m.table m.key before db) (with_row (key_columns tables m.table) (row_after m before) db)) ≡ others q db
     pick true = removed before
     pick false = put_lost (rows_cmp tables) (rows_total tables) (λ (p : TableRow). not (q p.table p.key)) (row_after m before) (not_true (q m.table m.key) own) lost db sorted
 
@@ -86,7 +86,7 @@ changed_others tables q m covers db sorted before = pick (is_delete m.kind)
 directory_kept : (tables : List Table) (q : ℕ → List Value → Bool) (m : CheckedMutation) → Covers tables q m → (db : List TableRow)
     → directory tables (root_row tables m.table m.key) (kept q db) ≡ directory tables (root_row tables m.table m.key) db
 directory_kept tables q m covers db =
-    filter_within (λ (r : TableRow). is_of tables (root_row tables m.table m.key) r.table r.key) (λ (r : TableRow). q r.table r.key) (λ r e. covers r.table r.key e) db
+    filter_within (λ (r : TableRow). is_in_directory tables (root_row tables m.table m.key) r.table r.key) (λ (r : TableRow). q r.table r.key) (λ r e. covers r.table r.key e) db
 
 same_directory : (tables : List Table) (q : ℕ → List Value → Bool) (m : CheckedMutation) → Covers tables q m → (a b : List TableRow) → kept q a ≡ kept q b
     → directory tables (root_row tables m.table m.key) a ≡ directory tables (root_row tables m.table m.key) b
@@ -168,7 +168,7 @@ same_run tables rules q (m ∷ ms) keyed covers a b is_a is_b e =
 
 -- the touched keys have the directory of each mutation
 more_touched : (tables : List Table) (ms : List CheckedMutation) (m : CheckedMutation) (n : ℕ) (key : List Value) → is_touched tables ms n key ≡ true → is_touched tables (m ∷ ms) n key ≡ true
-more_touched tables ms m n key e = or_true (is_of tables (root_row tables m.table m.key) n key) (is_touched tables ms n key) e
+more_touched tables ms m n key e = or_true (is_in_directory tables (root_row tables m.table m.key) n key) (is_touched tables ms n key) e
   where
     or_true : (a b : Bool) → b ≡ true → (a || b) ≡ true
     or_true true b e = refl

@@ -18,8 +18,8 @@ use Rattle.span_mutate.specs.declared.mutation.CheckedMutation.{CheckedMutation}
 use Rattle.span_mutate.specs.declared.row.TableRow.{TableRow}
 use Rattle.span_mutate.specs.Columns.{is_delete}
 use Rattle.span_mutate.specs.Checking.{and_then}
-use Rattle.span_mutate.specs.Rows.{is_same_key, is_at, row_at, placed}
-use Rattle.span_mutate.specs.Database.{is_insert, is_update, is_held, lacks_parent, is_under, cells_over, cells_after, causes, row_after, without, changed, apply_one, apply}
+use Rattle.span_mutate.specs.Rows.{is_same_key, is_at, row_at, with_row}
+use Rattle.span_mutate.specs.Database.{is_insert, is_update, is_delete_blocked, lacks_parent, is_under, merge_cells, cells_after, causes, row_after, without_rows, changed, apply_one, apply}
 use Rattle.span_mutate.specs.Directories.{rows_cmp}
 use Rattle.span_mutate.specs.Typed.{IsTyped, AreTyped, AreNamed, IsTypedMutation, TypedStay}
 use Rattle.span_mutate.proofs.Begins.{both_hold, same_number}
@@ -31,13 +31,13 @@ over_fits : (k : Kind) (o : Option Value) (v : Value) → IfSome o (Fits k) → 
 over_fits k None v h g = g
 over_fits k (Some w) v h g = h
 
-over_none : (ks : List Kind) (ns : List (Option Value)) → AreNamed ks ns → AreCells ks (cells_over ns [])
+over_none : (ks : List Kind) (ns : List (Option Value)) → AreNamed ks ns → AreCells ks (merge_cells ns [])
 over_none [] [] h = tt
 over_none [] (n ∷ ns) h = absurd h
 over_none (k ∷ ks) [] h = absurd h
 over_none (k ∷ ks) (n ∷ ns) h = (over_fits k n Null h.0 tt, over_none ks ns h.1)
 
-over_typed : (ks : List Kind) (ns : List (Option Value)) (vs : List Value) → AreNamed ks ns → AreCells ks vs → AreCells ks (cells_over ns vs)
+over_typed : (ks : List Kind) (ns : List (Option Value)) (vs : List Value) → AreNamed ks ns → AreCells ks vs → AreCells ks (merge_cells ns vs)
 over_typed [] [] vs h g = tt
 over_typed [] (n ∷ ns) vs h g = absurd h
 over_typed (k ∷ ks) [] vs h g = absurd h
@@ -74,22 +74,22 @@ short_enough tables db m before kind e =
     let e1 = rest_none (is_insert m.kind && is_some before) Exists (
     (is_update m.kind && is_none before, Missing)
     ∷ (not (is_delete m.kind) && lacks_parent tables (parent_of tables m.table) m.key db, ParentMissing)
-    ∷ (is_delete m.kind && is_some before && is_held tables m.table m.key db, HasChildren)
+    ∷ (is_delete m.kind && is_some before && is_delete_blocked tables m.table m.key db, HasChildren)
     ∷ (not (is_delete m.kind) && nat_lt MOST_BYTES (length (row_code (cells_after m before))), RowTooLong)
     ∷ []
     ) e in
     let e2 = rest_none (is_update m.kind && is_none before) Missing (
     (not (is_delete m.kind) && lacks_parent tables (parent_of tables m.table) m.key db, ParentMissing)
-    ∷ (is_delete m.kind && is_some before && is_held tables m.table m.key db, HasChildren)
+    ∷ (is_delete m.kind && is_some before && is_delete_blocked tables m.table m.key db, HasChildren)
     ∷ (not (is_delete m.kind) && nat_lt MOST_BYTES (length (row_code (cells_after m before))), RowTooLong)
     ∷ []
     ) e1 in
     let e3 = rest_none (not (is_delete m.kind) && lacks_parent tables (parent_of tables m.table) m.key db) ParentMissing (
-    (is_delete m.kind && is_some before && is_held tables m.table m.key db, HasChildren)
+    (is_delete m.kind && is_some before && is_delete_blocked tables m.table m.key db, HasChildren)
     ∷ (not (is_delete m.kind) && nat_lt MOST_BYTES (length (row_code (cells_after m before))), RowTooLong)
     ∷ []
     ) e2 in
-    let e4 = rest_none (is_delete m.kind && is_some before && is_held tables m.table m.key db) HasChildren (
+    let e4 = rest_none (is_delete m.kind && is_some before && is_delete_blocked tables m.table m.key db) HasChildren (
     (not (is_delete m.kind) && nat_lt MOST_BYTES (length (row_code (cells_after m before))), RowTooLong)
     ∷ []
     ) e3 in
@@ -107,12 +107,12 @@ step_typed tables db m next rows typed e =
     let parts = unless_none (first_cause (causes tables db m (row_at m.table m.key db))) (changed tables db m (row_at m.table m.key db)) next e in
     subst (AreTyped tables) parts.1 (pick (is_delete m.kind) refl parts.0)
   where
-    removed : (o : Option TableRow) → AreTyped tables (without tables m.table m.key o db)
+    removed : (o : Option TableRow) → AreTyped tables (without_rows tables m.table m.key o db)
     removed None = rows
     removed (Some r) = all_filter (IsTyped tables) (λ (q : TableRow). not (is_under tables m.table m.key q)) db rows
 
     pick : (b : Bool) → is_delete m.kind ≡ b → first_cause (causes tables db m (row_at m.table m.key db)) ≡ None
-        → AreTyped tables (cond b (without tables m.table m.key (row_at m.table m.key db) db) (placed (key_columns tables m.table) (row_after m (row_at m.table m.key db)) db))
+        → AreTyped tables (cond b (without_rows tables m.table m.key (row_at m.table m.key db) db) (with_row (key_columns tables m.table) (row_after m (row_at m.table m.key db)) db))
     pick true kind none = removed (row_at m.table m.key db)
     pick false kind none =
         put_all (IsTyped tables) (rows_cmp tables) (row_after m (row_at m.table m.key db)) db

@@ -10,7 +10,7 @@ use Rattle.span_schema.specs.declared.table.Column.{Column}
 use Rattle.span_schema.specs.declared.table.KeyColumn.{KeyColumn}
 use Rattle.span_mutate.specs.declared.mutation.MutationKind.{MutationKind}
 use Rattle.span_mutate.specs.declared.mutation.MutationKind.TheVariants.{Insert, Update, InsertOrUpdate, Delete}
-use Rattle.span_mutate.specs.declared.mutation.Cell.{Cell}
+use Rattle.span_mutate.specs.declared.mutation.NamedValue.{NamedValue}
 use Rattle.span_mutate.specs.declared.mutation.Mutation.{Mutation}
 use Rattle.span_mutate.specs.declared.mutation.CheckedMutation.{CheckedMutation}
 use Rattle.span_mutate.specs.declared.row.TableRow.{TableRow}
@@ -138,10 +138,10 @@ in_order = refl
 first_fault : apply (schema true true) (a1 ∷ []) (mutation Insert 2 (two ∷ one ∷ []) [] ∷ mutation Insert 1 (one ∷ []) (None ∷ None ∷ []) ∷ []) ≡ Err ParentMissing
 first_fault = refl
 
-abbrev asked : MutationKind → ℕ → List Value → List Cell → Mutation
+abbrev asked : MutationKind → ℕ → List Value → List NamedValue → Mutation
 asked kind name key cells = record { kind = kind; table = name ∷ []; key = key; cells = cells }
 
-abbrev cell : ℕ → Value → Cell
+abbrev cell : ℕ → Value → NamedValue
 cell name v = record { column = name ∷ []; value = v }
 
 -- names of either case; the cells in the order of declaration

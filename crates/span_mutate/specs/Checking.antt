@@ -10,7 +10,7 @@ use Rattle.span_schema.specs.Numbers.{number_named, table_at, key_columns}
 use Rattle.span_keycode.specs.Coding.{are_of_kinds}
 use Rattle.span_keycode.specs.Keys.{key_code}
 use Rattle.span_keycode.specs.declared.key.TheConstants.{MOST_BYTES}
-use Rattle.span_mutate.specs.declared.mutation.Cell.{Cell}
+use Rattle.span_mutate.specs.declared.mutation.NamedValue.{NamedValue}
 use Rattle.span_mutate.specs.declared.mutation.MutationKind.{MutationKind}
 use Rattle.span_mutate.specs.declared.mutation.Mutation.{Mutation}
 use Rattle.span_mutate.specs.declared.mutation.CheckedMutation.{CheckedMutation}
@@ -36,7 +36,7 @@ key_causes tables n t key =
     ∷ []
 
 -- a cell, given those before it: it names a column outside the key that none before it names, and a Delete has none; then its value
-abbrev pub cell_causes : Table → MutationKind → List Cell → Cell → List (Bool × Refusal)
+abbrev pub cell_causes : Table → MutationKind → List NamedValue → NamedValue → List (Bool × Refusal)
 cell_causes t kind before c =
     (is_delete kind || is_none (cell_column t c.column) || is_named before c.column, NoColumn)
     ∷ (has_wrong_type (cell_column t c.column) c.value, WrongType)
@@ -45,7 +45,7 @@ cell_causes t kind before c =
     ∷ []
 
 -- the cells in turn
-abbrev pub cells_cause : Table → MutationKind → List Cell → List Cell → Option Refusal
+abbrev pub cells_cause : Table → MutationKind → List NamedValue → List NamedValue → Option Refusal
 cells_cause t kind before [] = None
 cells_cause t kind before (c ∷ cs) = option_or (first_cause (cell_causes t kind before c)) (cells_cause t kind (before ++ c ∷ []) cs)
 

@@ -20,7 +20,7 @@ use Rattle.span_mutate.specs.declared.mutation.CheckedMutation.{CheckedMutation}
 use Rattle.span_mutate.specs.declared.row.TableRow.{TableRow}
 use Rattle.span_mutate.specs.Columns.{is_delete}
 use Rattle.span_mutate.specs.Checking.{unless, and_then}
-use Rattle.span_mutate.specs.Rows.{begins, row_at, placed}
+use Rattle.span_mutate.specs.Rows.{begins, row_at, with_row}
 
 -- the rows of table n, in the order of its primary key
 abbrev pub rows_of : ℕ → List TableRow → List TableRow
@@ -46,11 +46,11 @@ cascades None = true
 cascades (Some t) = is_cascading t.parent
 
 -- a row of table m stays where a row above it, of table n, is to be deleted: the table is below, without ON DELETE CASCADE
-abbrev pub is_holding : List Table → ℕ → ℕ → Bool
-is_holding tables n m = is_at_or_below tables n m && not (m == n) && not (cascades (table_at tables m))
+abbrev pub blocks_delete : List Table → ℕ → ℕ → Bool
+blocks_delete tables n m = is_at_or_below tables n m && not (m == n) && not (cascades (table_at tables m))
 
-abbrev pub tables_holding : List Table → ℕ → List ℕ
-tables_holding tables n = filter (is_holding tables n) (all_tables tables)
+abbrev pub tables_blocking_delete : List Table → ℕ → List ℕ
+tables_blocking_delete tables n = filter (blocks_delete tables n) (all_tables tables)
 
 -- a row of one of the tables whose key begins with this one
 abbrev pub is_in : List ℕ → List Value → TableRow → Bool
@@ -61,8 +61,8 @@ abbrev pub is_under : List Table → ℕ → List Value → TableRow → Bool
 is_under tables n key r = is_in (tables_under tables n) key r
 
 -- a row below it is of a table without ON DELETE CASCADE
-abbrev pub is_held : List Table → ℕ → List Value → List TableRow → Bool
-is_held tables n key db = list_any (is_in (tables_holding tables n) key) db
+abbrev pub is_delete_blocked : List Table → ℕ → List Value → List TableRow → Bool
+is_delete_blocked tables n key db = list_any (is_in (tables_blocking_delete tables n) key) db
 
 -- its parent row is absent
 abbrev pub lacks_parent : List Table → Option ℕ → List Value → List TableRow → Bool
@@ -74,13 +74,13 @@ cells_of None = []
 cells_of (Some r) = r.cells
 
 -- the cells of a row once those that are named have changed; what is not named is kept, or NULL where there is no row
-abbrev pub cells_over : List (Option Value) → List Value → List Value
-cells_over [] old = []
-cells_over (n ∷ ns) [] = unwrap_or n Null ∷ cells_over ns []
-cells_over (n ∷ ns) (v ∷ vs) = unwrap_or n v ∷ cells_over ns vs
+abbrev pub merge_cells : List (Option Value) → List Value → List Value
+merge_cells [] old = []
+merge_cells (n ∷ ns) [] = unwrap_or n Null ∷ merge_cells ns []
+merge_cells (n ∷ ns) (v ∷ vs) = unwrap_or n v ∷ merge_cells ns vs
 
 abbrev pub cells_after : CheckedMutation → Option TableRow → List Value
-cells_after m before = cells_over m.cells (cells_of before)
+cells_after m before = merge_cells m.cells (cells_of before)
 
 abbrev pub is_insert : MutationKind → Bool
 is_insert Insert = true
@@ -96,7 +96,7 @@ causes tables db m before =
     (is_insert m.kind && is_some before, Exists)
     ∷ (is_update m.kind && is_none before, Missing)
     ∷ (not (is_delete m.kind) && lacks_parent tables (parent_of tables m.table) m.key db, ParentMissing)
-    ∷ (is_delete m.kind && is_some before && is_held tables m.table m.key db, HasChildren)
+    ∷ (is_delete m.kind && is_some before && is_delete_blocked tables m.table m.key db, HasChildren)
     ∷ (not (is_delete m.kind) && nat_lt MOST_BYTES (length (row_code (cells_after m before))), RowTooLong)
     ∷ []
 
@@ -104,14 +104,14 @@ abbrev pub row_after : CheckedMutation → Option TableRow → TableRow
 row_after m before = record { table = m.table; key = m.key; cells = cells_after m before }
 
 -- the database without the row and all rows below it; an absent row changes nothing
-abbrev pub without : List Table → ℕ → List Value → Option TableRow → List TableRow → List TableRow
-without tables n key None db = db
-without tables n key (Some r) db = filter (λ (q : TableRow). not (is_under tables n key q)) db
+abbrev pub without_rows : List Table → ℕ → List Value → Option TableRow → List TableRow → List TableRow
+without_rows tables n key None db = db
+without_rows tables n key (Some r) db = filter (λ (q : TableRow). not (is_under tables n key q)) db
 
 -- what a mutation makes of a database in which its key has this row
 abbrev pub changed : List Table → List TableRow → CheckedMutation → Option TableRow → List TableRow
 changed tables db m before =
-    (if is_delete m.kind then without tables m.table m.key before db else placed (key_columns tables m.table) (row_after m before) db)
+    (if is_delete m.kind then without_rows tables m.table m.key before db else with_row (key_columns tables m.table) (row_after m before) db)
 
 abbrev pub apply_to : List Table → List TableRow → CheckedMutation → Option TableRow → Result (List TableRow) Refusal
 apply_to tables db m before = unless (first_cause (causes tables db m before)) (changed tables db m before)

@@ -19,16 +19,16 @@ pub record Root : Type 0 where
   pub key : List Value
 
 -- a key of table n is in the directory of a root row: its root table is that row's, and it begins with that row's key
-abbrev pub is_of : List Table → Root → ℕ → List Value → Bool
-is_of tables root n key = (root_of tables n == root.table) && begins root.key key
+abbrev pub is_in_directory : List Table → Root → ℕ → List Value → Bool
+is_in_directory tables root n key = (root_of tables n == root.table) && begins root.key key
 
 -- the rows of a directory
 abbrev pub directory : List Table → Root → List TableRow → List TableRow
-directory tables root db = filter (λ (r : TableRow). is_of tables root r.table r.key) db
+directory tables root db = filter (λ (r : TableRow). is_in_directory tables root r.table r.key) db
 
 -- the mutations of a directory
 abbrev pub mutations_in : List Table → Root → List CheckedMutation → List CheckedMutation
-mutations_in tables root ms = filter (λ (m : CheckedMutation). is_of tables root m.table m.key) ms
+mutations_in tables root ms = filter (λ (m : CheckedMutation). is_in_directory tables root m.table m.key) ms
 
 abbrev pub key_len : List Table → ℕ → ℕ
 key_len tables n = length (key_columns tables n)

@@ -6,7 +6,7 @@ use Rattle.std.specs.Ordering.{nat_cmp, ordering_then, eq_by_cmp, is_lt, is_gt}
 use Rattle.span_value.specs.declared.value.Value.{Value}
 use Rattle.span_value.specs.Orders.{value_order}
 use Rattle.span_schema.specs.declared.layout.KeyPart.{KeyPart}
-use Rattle.span_keycode.specs.Coding.{directed}
+use Rattle.span_keycode.specs.Coding.{apply_direction}
 use Rattle.span_mutate.specs.declared.row.TableRow.{TableRow}
 
 -- the values at the front of a list
@@ -35,7 +35,7 @@ abbrev pub order_from : List KeyPart → ℕ → List Value → List Value → O
 order_from columns i [] [] = Equal
 order_from columns i [] (w ∷ ws) = Less
 order_from columns i (v ∷ vs) [] = Greater
-order_from columns i (v ∷ vs) (w ∷ ws) = ordering_then (directed (is_descending (slice_get columns i)) (value_order v w)) (order_from columns (i + 1) vs ws)
+order_from columns i (v ∷ vs) (w ∷ ws) = ordering_then (apply_direction (is_descending (slice_get columns i)) (value_order v w)) (order_from columns (i + 1) vs ws)
 
 abbrev pub key_order : List KeyPart → List Value → List Value → Ordering
 key_order columns vs ws = order_from columns 0 vs ws
@@ -45,5 +45,5 @@ abbrev pub row_order : List KeyPart → TableRow → TableRow → Ordering
 row_order columns q r = ordering_then (nat_cmp q.table r.table) (key_order columns q.key r.key)
 
 -- the rows before a row, the row, and the rows after it; a row that was at its key is gone
-abbrev pub placed : List KeyPart → TableRow → List TableRow → List TableRow
-placed columns r db = filter (λ (q : TableRow). is_lt (row_order columns q r)) db ++ r ∷ filter (λ (q : TableRow). is_gt (row_order columns q r)) db
+abbrev pub with_row : List KeyPart → TableRow → List TableRow → List TableRow
+with_row columns r db = filter (λ (q : TableRow). is_lt (row_order columns q r)) db ++ r ∷ filter (λ (q : TableRow). is_gt (row_order columns q r)) db

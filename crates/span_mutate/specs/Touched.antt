@@ -8,11 +8,11 @@ use Rattle.span_schema.specs.Lineages.{MeetsRules}
 use Rattle.span_mutate.specs.declared.mutation.CheckedMutation.{CheckedMutation}
 use Rattle.span_mutate.specs.declared.row.TableRow.{TableRow}
 use Rattle.span_mutate.specs.Database.{apply}
-use Rattle.span_mutate.specs.Directories.{is_of, root_row, IsDatabase, AreKeyed}
+use Rattle.span_mutate.specs.Directories.{is_in_directory, root_row, IsDatabase, AreKeyed}
 
 -- a key of table n is in the directory of the root row of one of the mutations
 abbrev pub is_touched : List Table → List CheckedMutation → ℕ → List Value → Bool
-is_touched tables ms n key = list_any (λ (m : CheckedMutation). is_of tables (root_row tables m.table m.key) n key) ms
+is_touched tables ms n key = list_any (λ (m : CheckedMutation). is_in_directory tables (root_row tables m.table m.key) n key) ms
 
 -- the rows of the touched directories
 abbrev pub touched : List Table → List CheckedMutation → List TableRow → List TableRow

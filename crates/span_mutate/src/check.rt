@@ -10,7 +10,7 @@ use super::column::{
     cell_column, has_long, has_null, has_wrong_type, have_named_kinds, is_named, is_null_refused,
     is_too_long, lacks_cell, values_named,
 };
-use super::mutation::{Cell, CheckedMutation, Mutation, MutationKind, is_delete, may_insert};
+use super::mutation::{NamedValue, CheckedMutation, Mutation, MutationKind, is_delete, may_insert};
 use span_keycode::column::have_kinds;
 use span_keycode::encode::encode_key;
 use span_schema::schema::Schema;
@@ -21,7 +21,7 @@ use span_value::value::Value;
 use std::alloc::Global;
 
 // Whether the key may be one of the table with this number.
-fn judge_key(
+fn check_key(
     alloc: Global,
     schema: &Schema,
     number: usize,
@@ -46,11 +46,11 @@ fn judge_key(
 }
 
 // Whether a cell may follow those before it.
-fn judge_cell(
+fn check_cell(
     table: &Table,
     kind: MutationKind,
-    before: &[Cell],
-    cell: &Cell,
+    before: &[NamedValue],
+    cell: &NamedValue,
 ) -> Result<(), Refusal>
     ensures { MatchResult result (λ _. first_cause (cell_causes table.now kind before.now cell.now) ≡ None) (λ why. first_cause (cell_causes table.now kind before.now cell.now) ≡ Some why) }
 {
@@ -70,16 +70,16 @@ fn judge_cell(
     Ok(())
 }
 
-fn judge_cells(table: &Table, kind: MutationKind, cells: &[Cell]) -> Result<(), Refusal>
+fn check_cells(table: &Table, kind: MutationKind, cells: &[NamedValue]) -> Result<(), Refusal>
     ensures { MatchResult result (λ _. cells_cause table.now kind [] cells.now ≡ None) (λ why. cells_cause table.now kind [] cells.now ≡ Some why) }
 {
     for i in 0..cells.len() {
-        judge_cell(table, kind, &cells[..i], &cells[i])?;
+        check_cell(table, kind, &cells[..i], &cells[i])?;
     }
     Ok(())
 }
 
-fn judge_lack(table: &Table, mutation: &Mutation) -> Result<(), Refusal>
+fn check_required(table: &Table, mutation: &Mutation) -> Result<(), Refusal>
     ensures { MatchResult result (λ _. first_cause (lack_causes table.now mutation.now) ≡ None) (λ why. first_cause (lack_causes table.now mutation.now) ≡ Some why) }
 {
     if may_insert(mutation.kind)
@@ -95,7 +95,7 @@ fn judge_lack(table: &Table, mutation: &Mutation) -> Result<(), Refusal>
 }
 
 // Whether a mutation of the table with this number breaks no rule.
-fn judge(
+fn check_rules(
     alloc: Global,
     schema: &Schema,
     number: usize,
@@ -106,9 +106,9 @@ fn judge(
     ensures cause { MatchResult result (λ _. mutation_cause schema.now number table.now mutation.now ≡ None) (λ why. (mutation_cause schema.now number table.now mutation.now ≡ Some why) ⊎ (why ≡ Refusal.OutOfMemory)) }
     ensures coded { IfOk result (λ _. IsCodedKey schema.now number mutation.now.key) }
 {
-    judge_key(alloc, schema, number, table, mutation.key.as_slice())?;
-    judge_cells(table, mutation.kind, mutation.cells.as_slice())?;
-    judge_lack(table, mutation)?;
+    check_key(alloc, schema, number, table, mutation.key.as_slice())?;
+    check_cells(table, mutation.kind, mutation.cells.as_slice())?;
+    check_required(table, mutation)?;
     Ok(())
 }
 
@@ -125,7 +125,7 @@ fn check_at(
 {
     let _tables = schema.tables();
     let table = schema.table(number);
-    judge(alloc, schema, number, table, &mutation)?;
+    check_rules(alloc, schema, number, table, &mutation)?;
     let cells = values_named(
         alloc,
         table.key.as_slice(),

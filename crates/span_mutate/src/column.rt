@@ -4,9 +4,9 @@ ghost use Rattle.std.specs.Option.{option_copied};
 ghost use Rattle.std.specs.Str.{chars};
 ghost use Rattle.span_schema.specs.Fitting.{Fits};
 ghost use Rattle.span_mutate.specs.Typed.{AreNamed, is_named_kind, are_named_kinds};
-ghost use Rattle.span_mutate.specs.Columns.{column_named, cell_column, has_wrong_type, is_null, is_null_refused, is_over, is_over_type, is_too_long, key_breaks, is_named, is_lacking, lacks_cell, value_named, values_named};
+ghost use Rattle.span_mutate.specs.Columns.{column_named, cell_column, has_wrong_type, is_null, is_null_refused, exceeds, exceeds_type, is_too_long, key_breaks, is_named, is_lacking, lacks_cell, value_named, values_named};
 
-use super::mutation::Cell;
+use super::mutation::NamedValue;
 use span_schema::fitting::is_of_kind;
 use span_schema::table::{Column, KeyColumn, Table, are_same, is_in_key, kind_of_type};
 use span_value::refusal::Refusal;
@@ -58,8 +58,8 @@ pub(crate) fn is_null_refused(column: Option<&Column>, value: &Value) -> bool
     }
 }
 
-fn is_over(most: Option<u64>, len: usize) -> bool
-    ensures { result ≡ is_over most len }
+fn exceeds(most: Option<u64>, len: usize) -> bool
+    ensures { result ≡ exceeds most len }
 {
     match most {
         None => false,
@@ -73,12 +73,12 @@ fn char_count(text: &str) -> usize
     text.chars().count()
 }
 
-fn is_over_type(kind: ColumnType, value: &Value) -> bool
-    ensures { result ≡ is_over_type kind value.now }
+fn exceeds_type(kind: ColumnType, value: &Value) -> bool
+    ensures { result ≡ exceeds_type kind value.now }
 {
     match (kind, value) {
-        (ColumnType::Str(most), Value::Str(text)) => is_over(most, char_count(text.as_str())),
-        (ColumnType::Bytes(most), Value::Bytes(bytes)) => is_over(most, bytes.len()),
+        (ColumnType::Str(most), Value::Str(text)) => exceeds(most, char_count(text.as_str())),
+        (ColumnType::Bytes(most), Value::Bytes(bytes)) => exceeds(most, bytes.len()),
         _ => false,
     }
 }
@@ -89,7 +89,7 @@ pub(crate) fn is_too_long(column: Option<&Column>, value: &Value) -> bool
 {
     match column {
         None => false,
-        Some(c) => is_over_type(c.kind, value),
+        Some(c) => exceeds_type(c.kind, value),
     }
 }
 
@@ -118,20 +118,20 @@ pub(crate) fn has_long(columns: &[Column], key: &[KeyColumn], values: &[Value]) 
 }
 
 /// Whether a cell is of the column with this name.
-pub(crate) fn is_named(cells: &[Cell], name: &str) -> bool
+pub(crate) fn is_named(cells: &[NamedValue], name: &str) -> bool
     ensures { result ≡ is_named cells.now name.now }
 {
     cells.iter().any(|c| are_same(c.column.as_str(), name))
 }
 
 /// Whether the cells name not all NOT NULL columns outside the key.
-pub(crate) fn lacks_cell(key: &[KeyColumn], cells: &[Cell], columns: &[Column]) -> bool
+pub(crate) fn lacks_cell(key: &[KeyColumn], cells: &[NamedValue], columns: &[Column]) -> bool
     ensures { result ≡ lacks_cell key.now cells.now columns.now }
 {
     columns.iter().any(|c| is_lacking(key, cells, c))
 }
 
-fn is_lacking(key: &[KeyColumn], cells: &[Cell], column: &Column) -> bool
+fn is_lacking(key: &[KeyColumn], cells: &[NamedValue], column: &Column) -> bool
     ensures { result ≡ is_lacking key.now cells.now column.now }
 {
     column.not_null
@@ -140,7 +140,7 @@ fn is_lacking(key: &[KeyColumn], cells: &[Cell], column: &Column) -> bool
 }
 
 // The value that the cells give the column with a name.
-fn value_named(alloc: Global, cells: &[Cell], name: &str) -> Result<Option<Value>, Refusal>
+fn value_named(alloc: Global, cells: &[NamedValue], name: &str) -> Result<Option<Value>, Refusal>
     ensures { MatchResult result (λ value. value ≡ value_named cells.now name.now) (λ why. why ≡ Refusal.OutOfMemory) }
 {
     match cells.iter().find(|c| are_same(c.column.as_str(), name)) {
@@ -154,7 +154,7 @@ fn value_named(alloc: Global, cells: &[Cell], name: &str) -> Result<Option<Value
 pub(crate) fn values_named(
     alloc: Global,
     key: &[KeyColumn],
-    cells: &[Cell],
+    cells: &[NamedValue],
     columns: &[Column],
 ) -> Result<Vec<Option<Value>>, Refusal>
     ensures { MatchResult result (λ values. values.items ≡ values_named key.now cells.now columns.now) (λ why. why ≡ Refusal.OutOfMemory) }

@@ -1,7 +1,7 @@
 //! Copies of mutations, and of the values in them.
 ghost use Rattle.std.specs.Prelude.{◌≡◌, MatchResult};
 
-use super::mutation::{Cell, CheckedMutation, Mutation};
+use super::mutation::{NamedValue, CheckedMutation, Mutation};
 use span_value::refusal::Refusal;
 use span_value::seq::Seq;
 use span_value::text::Text;
@@ -70,16 +70,16 @@ fn copy_of_named(alloc: Global, all: &[Option<Value>]) -> Result<Vec<Option<Valu
     Ok(copy)
 }
 
-fn copy_of_cell(alloc: Global, cell: &Cell) -> Result<Cell, Refusal>
+fn copy_of_cell(alloc: Global, cell: &NamedValue) -> Result<NamedValue, Refusal>
     ensures { MatchResult result (λ copy. copy ≡ cell.now) (λ why. why ≡ Refusal.OutOfMemory) }
 {
-    Ok(Cell {
+    Ok(NamedValue {
         column: Text::from_str(alloc, cell.column.as_str())?,
         value: cell.value.copy(alloc)?,
     })
 }
 
-fn copy_of_cells(alloc: Global, cells: &[Cell]) -> Result<Vec<Cell>, Refusal>
+fn copy_of_cells(alloc: Global, cells: &[NamedValue]) -> Result<Vec<NamedValue>, Refusal>
     ensures { MatchResult result (λ copy. copy.items ≡ cells.now) (λ why. why ≡ Refusal.OutOfMemory) }
 {
     let mut copy = Vec::with_capacity(alloc, cells.len())?;

@@ -1,7 +1,7 @@
 //! Which mutations are of one directory.
 ghost use Rattle.std.specs.Prelude.{◌≡◌, take};
 ghost use Rattle.span_schema.specs.Numbers.{root_of};
-ghost use Rattle.span_mutate.specs.Directories.{is_of, key_len, root_row};
+ghost use Rattle.span_mutate.specs.Directories.{is_in_directory, key_len, root_row};
 
 use super::mutation::CheckedMutation;
 use super::row::begins;
@@ -15,12 +15,12 @@ pub fn is_in_directory_of(
     other: &CheckedMutation,
     mutation: &CheckedMutation,
 ) -> bool
-    ensures { result ≡ is_of schema.now (root_row schema.now other.now.table other.now.key) mutation.now.table mutation.now.key }
+    ensures { result ≡ is_in_directory schema.now (root_row schema.now other.now.table other.now.key) mutation.now.table mutation.now.key }
 {
     let root = root_table(schema, other.table);
     let len = key_length(schema, root);
     root_table(schema, mutation.table) == root
-        && begins(front(other.key.as_slice(), len), mutation.key.as_slice())
+        && begins(first_values(other.key.as_slice(), len), mutation.key.as_slice())
 }
 
 // The root table of a table; for a number that is no table's itself, and for 0 the first table.
@@ -46,7 +46,7 @@ fn key_length(schema: &Schema, table: usize) -> usize
 }
 
 // The first `len` values, or all where there are fewer.
-fn front(values: &[Value], len: usize) -> &[Value]
+fn first_values(values: &[Value], len: usize) -> &[Value]
     ensures { result.now ≡ take len values.now }
 {
     &values[..len.min(values.len())]

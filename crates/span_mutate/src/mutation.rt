@@ -21,7 +21,7 @@ pub enum MutationKind {
 
 /// A cell that a mutation names: a column outside the primary key, and its value.
 #[derive(Debug, Drop, PartialEq, Eq)]
-pub struct Cell {
+pub struct NamedValue {
     pub column: Text,
     pub value: Value,
 }
@@ -34,7 +34,7 @@ pub struct Mutation {
     pub table: Text,
     /// The values of the whole primary key, in its order.
     pub key: Seq<Value>,
-    pub cells: Seq<Cell>,
+    pub cells: Seq<NamedValue>,
 }
 
 /// A mutation that was checked against the schema.

@@ -9,11 +9,11 @@ ghost use Rattle.span_rowcode.specs.Rows.{row_code};
 ghost use Rattle.span_rowcode.specs.declared.pack.TheConstants.{MOST_BYTES};
 ghost use Rattle.span_mutate.specs.Columns.{is_delete};
 ghost use Rattle.span_mutate.specs.Rows.{row_at};
-ghost use Rattle.span_mutate.specs.Database.{is_at_or_below, tables_under, cascades, is_holding, tables_holding, is_in, is_under, is_held, lacks_parent, cells_of, cells_over, apply_one, apply};
+ghost use Rattle.span_mutate.specs.Database.{is_at_or_below, tables_under, cascades, blocks_delete, tables_blocking_delete, is_in, is_under, is_delete_blocked, lacks_parent, cells_of, merge_cells, apply_one, apply};
 
 use super::copy::copy_of_values;
 use super::mutation::{CheckedMutation, MutationKind, is_delete};
-use super::row::{TableRow, begins, placed, row_at};
+use super::row::{TableRow, begins, with_row, row_at};
 use span_rowcode::pack::pack;
 use span_schema::schema::Schema;
 use span_schema::table::Table;
@@ -40,9 +40,9 @@ fn cascades(table: &Table) -> bool
 }
 
 // Whether a row of a table stays where a row of this table, above it, is to be deleted.
-fn is_holding(schema: &Schema, table: usize, below: usize) -> bool
+fn blocks_delete(schema: &Schema, table: usize, below: usize) -> bool
     requires { IsTable schema.now below }
-    ensures { result ≡ is_holding schema.now table below }
+    ensures { result ≡ blocks_delete schema.now table below }
 {
     is_at_or_below(schema, table, below) && below != table && !cascades(schema.table(below))
 }
@@ -61,12 +61,12 @@ fn tables_under(alloc: Global, schema: &Schema, table: usize) -> Result<Vec<usiz
 }
 
 // The tables below this one whose rows stay.
-fn tables_holding(alloc: Global, schema: &Schema, table: usize) -> Result<Vec<usize>, AllocError>
-    ensures { IfOk result (λ found. found.items ≡ tables_holding schema.now table) }
+fn tables_blocking_delete(alloc: Global, schema: &Schema, table: usize) -> Result<Vec<usize>, AllocError>
+    ensures { IfOk result (λ found. found.items ≡ tables_blocking_delete schema.now table) }
 {
     let mut found = Vec::new(alloc);
     for i in 0..schema.len() {
-        if is_holding(schema, table, i + 1) {
+        if blocks_delete(schema, table, i + 1) {
             found.push(i + 1)?;
         }
     }
@@ -99,16 +99,16 @@ fn is_any_in(tables: &[usize], key: &[Value], rows: &[TableRow]) -> bool
 }
 
 // Whether a row below the one with this key is of a table without ON DELETE CASCADE.
-fn is_held(
+fn is_delete_blocked(
     alloc: Global,
     schema: &Schema,
     table: usize,
     key: &[Value],
     rows: &[TableRow],
 ) -> Result<bool, AllocError>
-    ensures { IfOk result (λ held. held ≡ is_held schema.now table key.now rows.now) }
+    ensures { IfOk result (λ held. held ≡ is_delete_blocked schema.now table key.now rows.now) }
 {
-    let holding = tables_holding(alloc, schema, table)?;
+    let holding = tables_blocking_delete(alloc, schema, table)?;
     Ok(is_any_in(holding.as_slice(), key, rows))
 }
 
@@ -121,19 +121,19 @@ fn lacks_parent(schema: &Schema, table: usize, key: &[Value], rows: &[TableRow])
         None => false,
         Some(parent) => {
             let len = schema.key_columns(parent).len();
-            row_at(parent, front(key, len), rows).is_none()
+            row_at(parent, first_values(key, len), rows).is_none()
         }
     }
 }
 
 // The first `len` values, or all where there are fewer.
-fn front(values: &[Value], len: usize) -> &[Value]
+fn first_values(values: &[Value], len: usize) -> &[Value]
     ensures { result.now ≡ take len values.now }
 {
     &values[..len.min(values.len())]
 }
 
-fn cell_over(alloc: Global, named: &Option<Value>, old: Option<&Value>) -> Result<Value, Refusal>
+fn merge_cell(alloc: Global, named: &Option<Value>, old: Option<&Value>) -> Result<Value, Refusal>
     ensures { MatchResult result (λ value. value ≡ unwrap_or named.now (unwrap_or (option_copied old.entry) Value.Null)) (λ why. why ≡ Refusal.OutOfMemory) }
 {
     match (named, old) {
@@ -144,18 +144,18 @@ fn cell_over(alloc: Global, named: &Option<Value>, old: Option<&Value>) -> Resul
 }
 
 // The cells of a row once those that are named have changed.
-fn cells_over(alloc: Global, named: &[Option<Value>], old: &[Value]) -> Result<Vec<Value>, Refusal>
-    ensures { MatchResult result (λ cells. cells.items ≡ cells_over named.now old.now) (λ why. why ≡ Refusal.OutOfMemory) }
+fn merge_cells(alloc: Global, named: &[Option<Value>], old: &[Value]) -> Result<Vec<Value>, Refusal>
+    ensures { MatchResult result (λ cells. cells.items ≡ merge_cells named.now old.now) (λ why. why ≡ Refusal.OutOfMemory) }
 {
     let mut cells = Vec::with_capacity(alloc, named.len())?;
     for i in 0..named.len() {
-        cells.push(cell_over(alloc, &named[i], old.get(i))?)?;
+        cells.push(merge_cell(alloc, &named[i], old.get(i))?)?;
     }
     Ok(cells)
 }
 
 // The refusal of a row that is too long to be packed.
-fn judge_length(alloc: Global, cells: &[Value]) -> Result<(), Refusal>
+fn check_length(alloc: Global, cells: &[Value]) -> Result<(), Refusal>
     ensures { MatchResult result (λ _. nat_lt MOST_BYTES (length (row_code cells.now)) ≡ false) (λ why. ((why ≡ Refusal.RowTooLong) × (nat_lt MOST_BYTES (length (row_code cells.now)) ≡ true)) ⊎ (why ≡ Refusal.OutOfMemory)) }
 {
     let _packed = pack(alloc, cells)?;
@@ -192,18 +192,18 @@ fn put(
     if lacks_parent(schema, mutation.table, key, rows.as_slice()) {
         return Err(Refusal::ParentMissing);
     }
-    let cells = cells_over(alloc, mutation.cells.as_slice(), cells_of(before))?;
-    judge_length(alloc, cells.as_slice())?;
+    let cells = merge_cells(alloc, mutation.cells.as_slice(), cells_of(before))?;
+    check_length(alloc, cells.as_slice())?;
     let row = TableRow {
         table: mutation.table,
         key: Seq::from_vec(copy_of_values(alloc, key)?),
         cells: Seq::from_vec(cells),
     };
-    Ok(placed(alloc, schema.key_columns(mutation.table), rows, row)?)
+    Ok(with_row(alloc, schema.key_columns(mutation.table), rows, row)?)
 }
 
 // The rows but those of these tables whose keys begin with this one.
-fn without(tables: &[usize], key: &[Value], rows: Vec<TableRow>) -> Vec<TableRow>
+fn without_rows(tables: &[usize], key: &[Value], rows: Vec<TableRow>) -> Vec<TableRow>
     ensures { result.items ≡ filter (λ q. not (is_in tables.now key.now q)) rows.items }
 {
     let mut rows = rows;
@@ -222,10 +222,10 @@ fn without_under(
     ensures { IfOk result (λ rest. rest.items ≡ filter (λ q. not (is_under schema.now table key.now q)) rows.items) }
 {
     let under = tables_under(alloc, schema, table)?;
-    Ok(without(under.as_slice(), key, rows))
+    Ok(without_rows(under.as_slice(), key, rows))
 }
 
-fn is_there(table: usize, key: &[Value], rows: &[TableRow]) -> bool
+fn has_row(table: usize, key: &[Value], rows: &[TableRow]) -> bool
     ensures { result ≡ is_some (row_at table key.now rows.now) }
 {
     row_at(table, key, rows).is_some()
@@ -241,10 +241,10 @@ fn delete(
     ensures { MatchResult result (λ after. apply_one schema.now rows.items mutation.now ≡ Ok after.items) (λ why. (apply_one schema.now rows.items mutation.now ≡ Err why) ⊎ (why ≡ Refusal.OutOfMemory)) }
 {
     let key = mutation.key.as_slice();
-    if !is_there(mutation.table, key, rows.as_slice()) {
+    if !has_row(mutation.table, key, rows.as_slice()) {
         return Ok(rows);
     }
-    let held = is_held(alloc, schema, mutation.table, key, rows.as_slice())?;
+    let held = is_delete_blocked(alloc, schema, mutation.table, key, rows.as_slice())?;
     if held {
         return Err(Refusal::HasChildren);
     }

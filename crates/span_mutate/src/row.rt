@@ -1,8 +1,8 @@
 //! Rows of tables, and their order.
 ghost use Rattle.std.specs.Prelude.{◌≡◌, IfOk, slice_get};
 ghost use Rattle.std.specs.Option.{option_copied};
-ghost use Rattle.span_keycode.specs.Coding.{directed};
-ghost use Rattle.span_mutate.specs.Rows.{begins, is_same_key, is_at, row_at, is_descending, key_order, row_order, placed};
+ghost use Rattle.span_keycode.specs.Coding.{apply_direction};
+ghost use Rattle.span_mutate.specs.Rows.{begins, is_same_key, is_at, row_at, is_descending, key_order, row_order, with_row};
 
 use span_schema::layout::KeyPart;
 use span_value::order::compare;
@@ -56,8 +56,8 @@ pub(crate) fn row_at<'a>(table: usize, key: &[Value], rows: &'a [TableRow]) -> O
     rows.iter().find(|r| is_at(table, key, r))
 }
 
-fn directed(desc: bool, order: Ordering) -> Ordering
-    ensures { result ≡ directed desc order }
+fn apply_direction(desc: bool, order: Ordering) -> Ordering
+    ensures { result ≡ apply_direction desc order }
 {
     if desc { order.reverse() } else { order }
 }
@@ -76,7 +76,7 @@ pub(crate) fn key_order(columns: &[KeyPart], left: &[Value], right: &[Value]) ->
     ensures { result ≡ key_order columns.now left.now right.now }
 {
     for i in 0..left.len().min(right.len()) {
-        let order = directed(is_descending(columns, i), compare(&left[i], &right[i]));
+        let order = apply_direction(is_descending(columns, i), compare(&left[i], &right[i]));
         if order != Ordering::Equal {
             return order;
         }
@@ -92,13 +92,13 @@ pub(crate) fn row_order(columns: &[KeyPart], left: &TableRow, right: &TableRow) 
 
 /// The rows with this one at its place among them, where a row with its key was or after those that come before it. The columns
 /// are those of its key.
-pub(crate) fn placed(
+pub(crate) fn with_row(
     alloc: Global,
     columns: &[KeyPart],
     rows: Vec<TableRow>,
     row: TableRow,
 ) -> Result<Vec<TableRow>, AllocError>
-    ensures { IfOk result (λ all. all.items ≡ placed columns.now row rows.items) }
+    ensures { IfOk result (λ all. all.items ≡ with_row columns.now row rows.items) }
 {
     let mut front = Vec::new(alloc);
     let mut behind = Vec::new(alloc);

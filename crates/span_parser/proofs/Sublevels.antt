@@ -2,23 +2,23 @@
 use Rattle.std.proofs.Common.{◌≡◌, ℕ, zero, suc, ◌<◌, ◌-◌, List, Result, sym, ap, subst, ◌∙◌, arith}
 use denote.Ref.{Bor}
 use Rattle.span_grammar.specs.declared.class.Lexeme.{Lexeme}
-use Rattle.span_syntax.specs.declared.fault.Fault.{Fault}
+use Rattle.span_syntax.specs.declared.fault.SyntaxError.{SyntaxError}
 use Rattle.span_parser.specs.declared.tree.Query.{Query}
 use Rattle.span_syntax.specs.Pieces.{Piece, Gives}
-use Rattle.span_parser.specs.Queries.{query, query_behind}
+use Rattle.span_parser.specs.Queries.{query, nested_query}
 
 before : (n : ℕ) → suc n - 1 ≡ n
 before n = omega arith
 
 at : List ℕ → ℕ → Piece Query
-at text n = query text n (query_behind text n)
+at text n = query text n (nested_query text n)
 
-behind_is : (text : List ℕ) (n : ℕ) → 0 < n → query text (n - 1) (query_behind text (n - 1)) ≡ query_behind text n
-unfolding query_behind at
+behind_is : (text : List ℕ) (n : ℕ) → 0 < n → query text (n - 1) (nested_query text (n - 1)) ≡ nested_query text n
+unfolding nested_query at
 behind_is text zero h = absurd (omega arith)
 behind_is text (suc n) h = ap (at text) (before n)
 
-pub gives_behind : (text : List ℕ) (n : ℕ) (ts : List Lexeme) (r : Result (Query × Bor (List Lexeme)) Fault) → 0 < n → Gives r ((query text (n - 1) (query_behind text (n - 1))).read ts) → Gives r ((query_behind text n).read ts)
+pub gives_behind : (text : List ℕ) (n : ℕ) (ts : List Lexeme) (r : Result (Query × Bor (List Lexeme)) SyntaxError) → 0 < n → Gives r ((query text (n - 1) (nested_query text (n - 1))).read ts) → Gives r ((nested_query text n).read ts)
 gives_behind text n ts r h g = subst (λ (p : Piece Query). Gives r (p.read ts)) (behind_is text n h) g
 
 pub ruleset level_steps = (gives_behind)

@@ -7,13 +7,13 @@ use Rattle.span_grammar.specs.declared.class.Sort.TheVariants as sort
 use Rattle.span_grammar.specs.declared.grammar.Part.TheVariants as part
 use Rattle.span_grammar.specs.declared.judge.Goal.TheVariants as goal
 use Rattle.span_grammar.specs.Rules.{limit}
-use Rattle.span_syntax.specs.declared.fault.Fault.TheVariants as fault
+use Rattle.span_syntax.specs.declared.fault.SyntaxError.TheVariants as fault
 use Rattle.span_syntax.specs.declared.tree.Span.{Span}
 use Rattle.span_syntax.specs.declared.tree.Spelling.{Spelling}
 use Rattle.span_syntax.specs.declared.tree.Column.{Column}
 use Rattle.span_syntax.specs.declared.tree.Expr.{Expr}
 use Rattle.span_parser.specs.declared.tree.Output.{Output}
-use Rattle.span_parser.specs.declared.tree.Output.TheVariants as shown
+use Rattle.span_parser.specs.declared.tree.Output.TheVariants as output_item
 use Rattle.span_parser.specs.declared.tree.SortKey.{SortKey}
 use Rattle.span_parser.specs.declared.tree.SortColumn.{SortColumn}
 use Rattle.span_parser.specs.declared.tree.SortColumn.TheVariants as by
@@ -23,9 +23,9 @@ use Rattle.span_parser.specs.declared.tree.Item.TheVariants as source
 use Rattle.span_parser.specs.declared.tree.Join.{Join, roll-Join}
 use Rattle.span_parser.specs.declared.tree.Block.{Block, roll-Block}
 use Rattle.span_parser.specs.declared.tree.Query.{Query, roll-Query}
-use Rattle.span_syntax.specs.Pieces.{Piece, token, nothing, ◌<$>◌, ◌>>=◌, ◌>>◌, either, optional, each, beside, opening}
-use Rattle.span_syntax.specs.Expressions.{value_of, integer_of, spelling, column, direction, closed, behind, expression}
-use Rattle.span_syntax.specs.Parsed.{Stands}
+use Rattle.span_syntax.specs.Pieces.{Piece, token, nothing, ◌<$>◌, ◌>>=◌, ◌>>◌, either, optional, each, pair_with, opening}
+use Rattle.span_syntax.specs.Expressions.{value_of, integer_of, spelling, column, direction, in_parentheses, after, expression}
+use Rattle.span_syntax.specs.Parsed.{ParsesAs}
 
 -- ---- names
 
@@ -101,7 +101,7 @@ unfoldable pub all_of_table : List ℕ → Piece Output
 all_of_table text = do
   name ← spelling text sort.AllOf
   token (sort.Sign sign.Dot)
-  (λ t. shown.AllOf name) <$> token (sort.Sign sign.Star)
+  (λ t. output_item.AllOf name) <$> token (sort.Sign sign.Star)
 
 unfoldable pub maybe_outer : Piece Bool
 maybe_outer = either (part.Token (sort.Word word.Outer)) ((λ t. true) <$> token (sort.Word word.Outer)) (nothing false)
@@ -149,14 +149,14 @@ unfoldable pub query_of : Block × (List Block × (List SortKey × Option Limit)
 query_of parts = roll-Query (record { first = parts.0; others = parts.1.0; order = parts.1.1.0; limit = parts.1.1.1 })
 
 -- ORDER BY and LIMIT
-unfoldable pub ordered : List ℕ → Piece (List SortKey × Option Limit)
-ordered text = maybe_order_by text >>= (λ order. beside order maybe_limit)
+unfoldable pub order_and_limit : List ℕ → Piece (List SortKey × Option Limit)
+order_and_limit text = maybe_order_by text >>= (λ order. pair_with order maybe_limit)
 
 -- ---- what has expressions in it; the text, and the number of openings left
 
 module _ (text : List ℕ) (left : ℕ) where
   abbrev pub expr : Piece Expr
-  expr = expression text left (behind text left)
+  expr = expression text left (after text left)
 
   unfoldable pub where_clause : Piece Expr
   where_clause = token (sort.Word word.Where) >> expr
@@ -171,16 +171,16 @@ module _ (text : List ℕ) (left : ℕ) where
   maybe_having = optional part.Having having
 
   unfoldable pub output_expression : Piece Output
-  output_expression = expr >>= (λ value. (λ both. shown.Value both.0 both.1) <$> beside value (alias text))
+  output_expression = expr >>= (λ value. (λ both. output_item.Value both.0 both.1) <$> pair_with value (alias text))
 
   unfoldable pub output : Piece Output
-  output = either (part.Token (sort.Sign sign.Star)) ((λ t. shown.All) <$> token (sort.Sign sign.Star)) (either part.AllOfTable (all_of_table text) output_expression)
+  output = either (part.Token (sort.Sign sign.Star)) ((λ t. output_item.All) <$> token (sort.Sign sign.Star)) (either part.AllOfTable (all_of_table text) output_expression)
 
   unfoldable pub output_more : Piece Output
   output_more = token (sort.Sign sign.Comma) >> output
 
   unfoldable pub outputs : Piece (List Output)
-  outputs = output >>= (λ first. (λ all. all.0 ∷ all.1) <$> beside first (each part.OutputMore output_more))
+  outputs = output >>= (λ first. (λ all. all.0 ∷ all.1) <$> pair_with first (each part.OutputMore output_more))
 
   -- ON expr
   unfoldable pub join_on : Piece Expr
@@ -188,54 +188,54 @@ module _ (text : List ℕ) (left : ℕ) where
 
   -- the columns of GROUP BY, and HAVING
   unfoldable pub block_groups : Piece (List Column × Option Expr)
-  block_groups = maybe_group_by text >>= (λ groups. beside groups maybe_having)
+  block_groups = maybe_group_by text >>= (λ groups. pair_with groups maybe_having)
 
   -- WHERE, and what is after it
   unfoldable pub block_filter : Piece Conditions
-  block_filter = maybe_where >>= (λ filter. beside filter block_groups)
+  block_filter = maybe_where >>= (λ filter. pair_with filter block_groups)
 
   -- ---- queries; also what is a query one opening deeper
 
   module _ (query_inside : Piece Query) where
     unfoldable pub subquery : Piece Query
-    subquery = opening left (sort.Sign sign.Open) (closed query_inside)
+    subquery = opening left (sort.Sign sign.Open) (in_parentheses query_inside)
 
     unfoldable pub named_item : Piece Item
     named_item = spelling text sort.Name >>= (λ name. source.Table name <$> alias text)
 
     unfoldable pub derived_item : Piece Item
-    derived_item = subquery >>= (λ query. (λ both. source.Derived both.0 both.1) <$> beside query (required_alias text))
+    derived_item = subquery >>= (λ query. (λ both. source.Derived both.0 both.1) <$> pair_with query (required_alias text))
 
     unfoldable pub item : Piece Item
     item = either part.NamedItem named_item derived_item
 
     unfoldable pub join : Piece Join
-    join = join_kind >>= (λ is_left. item >>= (λ joined. (λ both. join_of is_left both.0 both.1) <$> beside joined join_on))
+    join = join_kind >>= (λ is_left. item >>= (λ joined. (λ both. join_of is_left both.0 both.1) <$> pair_with joined join_on))
 
     -- the joins, and what is after them
     unfoldable pub block_joins : Piece (List Join × Conditions)
-    block_joins = each part.Join join >>= (λ joins. beside joins block_filter)
+    block_joins = each part.Join join >>= (λ joins. pair_with joins block_filter)
 
     -- FROM, and what is after it
     unfoldable pub block_from : Piece (Item × (List Join × Conditions))
-    block_from = token (sort.Word word.From) >> (item >>= (λ from. beside from block_joins))
+    block_from = token (sort.Word word.From) >> (item >>= (λ from. pair_with from block_joins))
 
     -- what is after SELECT
-    unfoldable pub block_shown : Piece Block
-    block_shown = quantifier >>= (λ is_distinct. outputs >>= (λ shows. block_of is_distinct <$> beside shows block_from))
+    unfoldable pub block_body : Piece Block
+    block_body = quantifier >>= (λ is_distinct. outputs >>= (λ output_list. block_of is_distinct <$> pair_with output_list block_from))
 
     unfoldable pub block : Piece Block
-    block = token (sort.Word word.Select) >> block_shown
+    block = token (sort.Word word.Select) >> block_body
 
     unfoldable pub union_more : Piece Block
     union_more = token (sort.Word word.Union) >> (token (sort.Word word.All) >> block)
 
     -- the other blocks, and what is after them
     unfoldable pub unions : Piece (List Block × (List SortKey × Option Limit))
-    unions = each part.UnionMore union_more >>= (λ others. beside others (ordered text))
+    unions = each part.UnionMore union_more >>= (λ others. pair_with others (order_and_limit text))
 
     unfoldable pub query : Piece Query
-    query = block >>= (λ first. query_of <$> beside first unions)
+    query = block >>= (λ first. query_of <$> pair_with first unions)
 
 pub no_spelling : Spelling
 no_spelling = record { text = []; span = record { start = 0; end = 0 } }
@@ -244,17 +244,17 @@ pub no_block : Block
 no_block = roll-Block (record { is_distinct = false; outputs = []; from = source.Table no_spelling None; joins = []; filter = None; groups = []; having = None })
 
 -- a query after an opening, with a number of openings left
-unfoldable pub query_behind : List ℕ → ℕ → Piece Query
-query_behind text zero = record {
+unfoldable pub nested_query : List ℕ → ℕ → Piece Query
+nested_query text zero = record {
   of = λ x. roll-Query (record { first = no_block; others = []; order = []; limit = None });
   read = λ ts. Err (fault.TooDeep 0);
 }
-query_behind text (suc n) = query text n (query_behind text n)
+nested_query text (suc n) = query text n (nested_query text n)
 
 -- the query of a text, with a semicolon or none
 unfoldable pub statement : List ℕ → ℕ → Piece Query
-statement text n = query text n (query_behind text n) >>= (λ q. (λ both. both.0) <$> beside q maybe_semicolon)
+statement text n = query text n (nested_query text n) >>= (λ q. (λ both. both.0) <$> pair_with q maybe_semicolon)
 
 -- the text has a tree, and the query is that of the tree
 abbrev pub IsQuery : List ℕ → Query → Type 0
-IsQuery text query = Stands goal.Statement (statement text limit).of text query
+IsQuery text query = ParsesAs goal.Statement (statement text limit).of text query

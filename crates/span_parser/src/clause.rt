@@ -11,9 +11,9 @@ use span_grammar::reader::goes_on;
 use span_lexer::token::{Sign, Word};
 use span_syntax::column::{column, direction};
 use span_syntax::expression::read_expression;
-use span_syntax::fault::Fault;
-use span_syntax::operator::first_and;
-use span_syntax::token::{beside, integer_of, integer_value, next_is, spelling, take};
+use span_syntax::fault::SyntaxError;
+use span_syntax::operator::prepend;
+use span_syntax::token::{pair_with, integer_of, integer_value, next_is, spelling, take};
 use span_syntax::tree::{Column, Expr, Spelling};
 use sqlite_items::Items;
 use std::alloc::Global;
@@ -24,7 +24,7 @@ fn as_name<'a>(
     alloc: Global,
     text: &[u8],
     tokens: &'a [Lexeme],
-) -> Result<(Spelling, &'a [Lexeme]), Fault>
+) -> Result<(Spelling, &'a [Lexeme]), SyntaxError>
     ensures { Gives result ((spec.as_name text.now).read tokens.now) }
 {
     let (_, rest) = take(Sort::Word(Word::As), tokens)?;
@@ -37,7 +37,7 @@ pub(crate) fn alias<'a>(
     alloc: Global,
     text: &[u8],
     tokens: &'a [Lexeme],
-) -> Result<(Option<Spelling>, &'a [Lexeme]), Fault>
+) -> Result<(Option<Spelling>, &'a [Lexeme]), SyntaxError>
     ensures { Gives result ((spec.alias text.now).read tokens.now) }
 {
     if goes_on(Part::AsName, tokens) {
@@ -57,7 +57,7 @@ pub(crate) fn required_alias<'a>(
     alloc: Global,
     text: &[u8],
     tokens: &'a [Lexeme],
-) -> Result<(Spelling, &'a [Lexeme]), Fault>
+) -> Result<(Spelling, &'a [Lexeme]), SyntaxError>
     ensures { Gives result ((spec.required_alias text.now).read tokens.now) }
 {
     if goes_on(Part::AsName, tokens) {
@@ -68,7 +68,7 @@ pub(crate) fn required_alias<'a>(
 
 /// `[ALL | DISTINCT]`: whether it is DISTINCT.
 #[tactic(auto, unfolding(crate::specs::Queries::quantifier))]
-pub(crate) fn quantifier(tokens: &[Lexeme]) -> Result<(bool, &[Lexeme]), Fault>
+pub(crate) fn quantifier(tokens: &[Lexeme]) -> Result<(bool, &[Lexeme]), SyntaxError>
     ensures { Gives result (spec.quantifier.read tokens.now) }
 {
     if next_is(Sort::Word(Word::All), tokens) {
@@ -84,7 +84,7 @@ pub(crate) fn quantifier(tokens: &[Lexeme]) -> Result<(bool, &[Lexeme]), Fault>
 
 /// `[OUTER]`
 #[tactic(auto, unfolding(crate::specs::Queries::maybe_outer))]
-fn maybe_outer(tokens: &[Lexeme]) -> Result<(bool, &[Lexeme]), Fault>
+fn maybe_outer(tokens: &[Lexeme]) -> Result<(bool, &[Lexeme]), SyntaxError>
     ensures { Gives result (spec.maybe_outer.read tokens.now) }
 {
     if next_is(Sort::Word(Word::Outer), tokens) {
@@ -100,7 +100,7 @@ fn sort_column<'a>(
     alloc: Global,
     text: &[u8],
     tokens: &'a [Lexeme],
-) -> Result<(SortColumn, &'a [Lexeme]), Fault>
+) -> Result<(SortColumn, &'a [Lexeme]), SyntaxError>
     ensures { Gives result ((spec.sort_column text.now).read tokens.now) }
 {
     if next_is(Sort::Name, tokens) {
@@ -117,7 +117,7 @@ fn sort_key<'a>(
     alloc: Global,
     text: &[u8],
     tokens: &'a [Lexeme],
-) -> Result<(SortKey, &'a [Lexeme]), Fault>
+) -> Result<(SortKey, &'a [Lexeme]), SyntaxError>
     ensures { Gives result ((spec.sort_key text.now).read tokens.now) }
 {
     let (column, rest) = sort_column(alloc, text, tokens)?;
@@ -137,7 +137,7 @@ fn sort_key_more<'a>(
     alloc: Global,
     text: &[u8],
     tokens: &'a [Lexeme],
-) -> Result<(SortKey, &'a [Lexeme]), Fault>
+) -> Result<(SortKey, &'a [Lexeme]), SyntaxError>
     ensures { Gives result ((spec.sort_key_more text.now).read tokens.now) }
 {
     let (_, rest) = take(Sort::Sign(Sign::Comma), tokens)?;
@@ -150,15 +150,15 @@ fn sort_key_rest<'a>(
     alloc: Global,
     text: &[u8],
     tokens: &'a [Lexeme],
-) -> Result<(Items<SortKey>, &'a [Lexeme]), Fault>
+) -> Result<(Items<SortKey>, &'a [Lexeme]), SyntaxError>
     ensures { Gives result ((each Part.SortKeyMore (spec.sort_key_more text.now)).read tokens.now) }
 {
     let mut found = Items::new(alloc);
     let mut rest = tokens;
     'turns: while goes_on(Part::SortKeyMore, rest) {
-        let (next, behind) = sort_key_more(alloc, text, rest)?;
+        let (next, after) = sort_key_more(alloc, text, rest)?;
         found.push(next)?;
-        rest = behind;
+        rest = after;
     }
     Ok((found, rest))
 }
@@ -169,12 +169,12 @@ fn sort_keys<'a>(
     alloc: Global,
     text: &[u8],
     tokens: &'a [Lexeme],
-) -> Result<(Items<SortKey>, &'a [Lexeme]), Fault>
+) -> Result<(Items<SortKey>, &'a [Lexeme]), SyntaxError>
     ensures { Gives result ((spec.sort_keys text.now).read tokens.now) }
 {
     let (first, rest) = sort_key(alloc, text, tokens)?;
     let (more, rest) = sort_key_rest(alloc, text, rest)?;
-    Ok((first_and(alloc, first, more)?, rest))
+    Ok((prepend(alloc, first, more)?, rest))
 }
 
 /// `ORDER BY key {"," key}`
@@ -183,7 +183,7 @@ fn order_by<'a>(
     alloc: Global,
     text: &[u8],
     tokens: &'a [Lexeme],
-) -> Result<(Items<SortKey>, &'a [Lexeme]), Fault>
+) -> Result<(Items<SortKey>, &'a [Lexeme]), SyntaxError>
     ensures { Gives result ((spec.order_by text.now).read tokens.now) }
 {
     let (_, rest) = take(Sort::Word(Word::Order), tokens)?;
@@ -197,7 +197,7 @@ pub(crate) fn maybe_order_by<'a>(
     alloc: Global,
     text: &[u8],
     tokens: &'a [Lexeme],
-) -> Result<(Items<SortKey>, &'a [Lexeme]), Fault>
+) -> Result<(Items<SortKey>, &'a [Lexeme]), SyntaxError>
     ensures { Gives result ((spec.maybe_order_by text.now).read tokens.now) }
 {
     if !goes_on(Part::OrderBy, tokens) {
@@ -208,7 +208,7 @@ pub(crate) fn maybe_order_by<'a>(
 
 /// `OFFSET int`
 #[tactic(auto, unfolding(crate::specs::Queries::skip))]
-pub(crate) fn skip(tokens: &[Lexeme]) -> Result<(u64, &[Lexeme]), Fault>
+pub(crate) fn skip(tokens: &[Lexeme]) -> Result<(u64, &[Lexeme]), SyntaxError>
     ensures { Gives result (spec.skip.read tokens.now) }
 {
     let (_, rest) = take(Sort::Context(Context::Offset), tokens)?;
@@ -218,7 +218,7 @@ pub(crate) fn skip(tokens: &[Lexeme]) -> Result<(u64, &[Lexeme]), Fault>
 
 /// The number of rows that are skipped.
 #[tactic(auto, unfolding(crate::specs::Queries::maybe_skip))]
-fn maybe_skip(tokens: &[Lexeme]) -> Result<(u64, &[Lexeme]), Fault>
+fn maybe_skip(tokens: &[Lexeme]) -> Result<(u64, &[Lexeme]), SyntaxError>
     ensures { Gives result (spec.maybe_skip.read tokens.now) }
 {
     if !goes_on(Part::Skip, tokens) {
@@ -229,7 +229,7 @@ fn maybe_skip(tokens: &[Lexeme]) -> Result<(u64, &[Lexeme]), Fault>
 
 /// `LIMIT int [OFFSET int]`
 #[tactic(auto, unfolding(crate::specs::Queries::limit_clause))]
-fn limit_clause(tokens: &[Lexeme]) -> Result<(Limit, &[Lexeme]), Fault>
+fn limit_clause(tokens: &[Lexeme]) -> Result<(Limit, &[Lexeme]), SyntaxError>
     ensures { Gives result (spec.limit_clause.read tokens.now) }
 {
     let (_, rest) = take(Sort::Word(Word::Limit), tokens)?;
@@ -241,7 +241,7 @@ fn limit_clause(tokens: &[Lexeme]) -> Result<(Limit, &[Lexeme]), Fault>
 
 /// A LIMIT, if there is one.
 #[tactic(auto, unfolding(crate::specs::Queries::maybe_limit))]
-pub(crate) fn maybe_limit(tokens: &[Lexeme]) -> Result<(Option<Limit>, &[Lexeme]), Fault>
+pub(crate) fn maybe_limit(tokens: &[Lexeme]) -> Result<(Option<Limit>, &[Lexeme]), SyntaxError>
     ensures { Gives result (spec.maybe_limit.read tokens.now) }
 {
     if !goes_on(Part::Limit, tokens) {
@@ -257,7 +257,7 @@ fn column_more<'a>(
     alloc: Global,
     text: &[u8],
     tokens: &'a [Lexeme],
-) -> Result<(Column, &'a [Lexeme]), Fault>
+) -> Result<(Column, &'a [Lexeme]), SyntaxError>
     ensures { Gives result ((spec.column_more text.now).read tokens.now) }
 {
     let (_, rest) = take(Sort::Sign(Sign::Comma), tokens)?;
@@ -270,15 +270,15 @@ fn column_rest<'a>(
     alloc: Global,
     text: &[u8],
     tokens: &'a [Lexeme],
-) -> Result<(Items<Column>, &'a [Lexeme]), Fault>
+) -> Result<(Items<Column>, &'a [Lexeme]), SyntaxError>
     ensures { Gives result ((each Part.ColumnMore (spec.column_more text.now)).read tokens.now) }
 {
     let mut found = Items::new(alloc);
     let mut rest = tokens;
     'turns: while goes_on(Part::ColumnMore, rest) {
-        let (next, behind) = column_more(alloc, text, rest)?;
+        let (next, after) = column_more(alloc, text, rest)?;
         found.push(next)?;
-        rest = behind;
+        rest = after;
     }
     Ok((found, rest))
 }
@@ -289,12 +289,12 @@ fn columns<'a>(
     alloc: Global,
     text: &[u8],
     tokens: &'a [Lexeme],
-) -> Result<(Items<Column>, &'a [Lexeme]), Fault>
+) -> Result<(Items<Column>, &'a [Lexeme]), SyntaxError>
     ensures { Gives result ((spec.columns text.now).read tokens.now) }
 {
     let (first, rest) = column(alloc, text, tokens)?;
     let (more, rest) = column_rest(alloc, text, rest)?;
-    Ok((first_and(alloc, first, more)?, rest))
+    Ok((prepend(alloc, first, more)?, rest))
 }
 
 /// `GROUP BY col {"," col}`
@@ -303,7 +303,7 @@ fn group_by<'a>(
     alloc: Global,
     text: &[u8],
     tokens: &'a [Lexeme],
-) -> Result<(Items<Column>, &'a [Lexeme]), Fault>
+) -> Result<(Items<Column>, &'a [Lexeme]), SyntaxError>
     ensures { Gives result ((spec.group_by text.now).read tokens.now) }
 {
     let (_, rest) = take(Sort::Word(Word::Group), tokens)?;
@@ -317,7 +317,7 @@ fn maybe_group_by<'a>(
     alloc: Global,
     text: &[u8],
     tokens: &'a [Lexeme],
-) -> Result<(Items<Column>, &'a [Lexeme]), Fault>
+) -> Result<(Items<Column>, &'a [Lexeme]), SyntaxError>
     ensures { Gives result ((spec.maybe_group_by text.now).read tokens.now) }
 {
     if !goes_on(Part::GroupBy, tokens) {
@@ -332,7 +332,7 @@ fn all_of_table<'a>(
     alloc: Global,
     text: &[u8],
     tokens: &'a [Lexeme],
-) -> Result<(Output, &'a [Lexeme]), Fault>
+) -> Result<(Output, &'a [Lexeme]), SyntaxError>
     ensures { Gives result ((spec.all_of_table text.now).read tokens.now) }
 {
     let (name, rest) = spelling(alloc, text, Sort::AllOf, tokens)?;
@@ -343,7 +343,7 @@ fn all_of_table<'a>(
 
 /// `INNER JOIN`
 #[tactic(auto, unfolding(crate::specs::Queries::inner_join))]
-fn inner_join(tokens: &[Lexeme]) -> Result<(bool, &[Lexeme]), Fault>
+fn inner_join(tokens: &[Lexeme]) -> Result<(bool, &[Lexeme]), SyntaxError>
     ensures { Gives result (spec.inner_join.read tokens.now) }
 {
     let (_, rest) = take(Sort::Word(Word::Inner), tokens)?;
@@ -353,7 +353,7 @@ fn inner_join(tokens: &[Lexeme]) -> Result<(bool, &[Lexeme]), Fault>
 
 /// `LEFT [OUTER] JOIN`
 #[tactic(auto, unfolding(crate::specs::Queries::left_join))]
-fn left_join(tokens: &[Lexeme]) -> Result<(bool, &[Lexeme]), Fault>
+fn left_join(tokens: &[Lexeme]) -> Result<(bool, &[Lexeme]), SyntaxError>
     ensures { Gives result (spec.left_join.read tokens.now) }
 {
     let (_, rest) = take(Sort::Word(Word::Left), tokens)?;
@@ -364,7 +364,7 @@ fn left_join(tokens: &[Lexeme]) -> Result<(bool, &[Lexeme]), Fault>
 
 /// Whether a join is a LEFT JOIN.
 #[tactic(auto, unfolding(crate::specs::Queries::join_kind))]
-pub(crate) fn join_kind(tokens: &[Lexeme]) -> Result<(bool, &[Lexeme]), Fault>
+pub(crate) fn join_kind(tokens: &[Lexeme]) -> Result<(bool, &[Lexeme]), SyntaxError>
     ensures { Gives result (spec.join_kind.read tokens.now) }
 {
     if goes_on(Part::InnerJoin, tokens) {
@@ -379,7 +379,7 @@ pub(crate) fn join_kind(tokens: &[Lexeme]) -> Result<(bool, &[Lexeme]), Fault>
 
 /// `[";"]`
 #[tactic(auto, unfolding(crate::specs::Queries::maybe_semicolon))]
-pub(crate) fn maybe_semicolon(tokens: &[Lexeme]) -> Result<(bool, &[Lexeme]), Fault>
+pub(crate) fn maybe_semicolon(tokens: &[Lexeme]) -> Result<(bool, &[Lexeme]), SyntaxError>
     ensures { Gives result (spec.maybe_semicolon.read tokens.now) }
 {
     if !next_is(Sort::AnySemicolon, tokens) {
@@ -403,7 +403,7 @@ pub(crate) struct Clauses<'t> {
 
 impl<'t> Clauses<'t> {
     /// An expression.
-    pub(crate) fn expr<'a>(&self, tokens: &'a [Lexeme]) -> Result<(Expr, &'a [Lexeme]), Fault>
+    pub(crate) fn expr<'a>(&self, tokens: &'a [Lexeme]) -> Result<(Expr, &'a [Lexeme]), SyntaxError>
         requires { self.now.left ≤ limit }
         ensures { Gives result ((spec.expr self.now.text.now self.now.left).read tokens.now) }
     {
@@ -412,7 +412,7 @@ impl<'t> Clauses<'t> {
 
     /// `WHERE expr`
     #[tactic(auto, unfolding(crate::specs::Queries::where_clause))]
-    fn where_clause<'a>(&self, tokens: &'a [Lexeme]) -> Result<(Expr, &'a [Lexeme]), Fault>
+    fn where_clause<'a>(&self, tokens: &'a [Lexeme]) -> Result<(Expr, &'a [Lexeme]), SyntaxError>
         requires { self.now.left ≤ limit }
         ensures { Gives result ((spec.where_clause self.now.text.now self.now.left).read tokens.now) }
     {
@@ -422,7 +422,7 @@ impl<'t> Clauses<'t> {
 
     /// The condition of a WHERE, if there is one.
     #[tactic(auto, unfolding(crate::specs::Queries::maybe_where))]
-    fn maybe_where<'a>(&self, tokens: &'a [Lexeme]) -> Result<(Option<Expr>, &'a [Lexeme]), Fault>
+    fn maybe_where<'a>(&self, tokens: &'a [Lexeme]) -> Result<(Option<Expr>, &'a [Lexeme]), SyntaxError>
         requires { self.now.left ≤ limit }
         ensures { Gives result ((spec.maybe_where self.now.text.now self.now.left).read tokens.now) }
     {
@@ -435,7 +435,7 @@ impl<'t> Clauses<'t> {
 
     /// `HAVING expr`
     #[tactic(auto, unfolding(crate::specs::Queries::having))]
-    fn having<'a>(&self, tokens: &'a [Lexeme]) -> Result<(Expr, &'a [Lexeme]), Fault>
+    fn having<'a>(&self, tokens: &'a [Lexeme]) -> Result<(Expr, &'a [Lexeme]), SyntaxError>
         requires { self.now.left ≤ limit }
         ensures { Gives result ((spec.having self.now.text.now self.now.left).read tokens.now) }
     {
@@ -445,7 +445,7 @@ impl<'t> Clauses<'t> {
 
     /// The condition of a HAVING, if there is one.
     #[tactic(auto, unfolding(crate::specs::Queries::maybe_having))]
-    fn maybe_having<'a>(&self, tokens: &'a [Lexeme]) -> Result<(Option<Expr>, &'a [Lexeme]), Fault>
+    fn maybe_having<'a>(&self, tokens: &'a [Lexeme]) -> Result<(Option<Expr>, &'a [Lexeme]), SyntaxError>
         requires { self.now.left ≤ limit }
         ensures { Gives result ((spec.maybe_having self.now.text.now self.now.left).read tokens.now) }
     {
@@ -458,18 +458,18 @@ impl<'t> Clauses<'t> {
 
     /// `expr [[AS] name]`
     #[tactic(auto, unfolding(crate::specs::Queries::output_expression))]
-    fn output_expression<'a>(&self, tokens: &'a [Lexeme]) -> Result<(Output, &'a [Lexeme]), Fault>
+    fn output_expression<'a>(&self, tokens: &'a [Lexeme]) -> Result<(Output, &'a [Lexeme]), SyntaxError>
         requires { self.now.left ≤ limit }
         ensures { Gives result ((spec.output_expression self.now.text.now self.now.left).read tokens.now) }
     {
         let (value, rest) = self.expr(tokens)?;
-        let ((value, name), rest) = beside(value, alias(self.alloc, self.text, rest))?;
+        let ((value, name), rest) = pair_with(value, alias(self.alloc, self.text, rest))?;
         Ok((Output::Value(value, name), rest))
     }
 
     /// `out`
     #[tactic(auto, unfolding(crate::specs::Queries::output))]
-    fn output<'a>(&self, tokens: &'a [Lexeme]) -> Result<(Output, &'a [Lexeme]), Fault>
+    fn output<'a>(&self, tokens: &'a [Lexeme]) -> Result<(Output, &'a [Lexeme]), SyntaxError>
         requires { self.now.left ≤ limit }
         ensures { Gives result ((spec.output self.now.text.now self.now.left).read tokens.now) }
     {
@@ -485,7 +485,7 @@ impl<'t> Clauses<'t> {
 
     /// `, out`
     #[tactic(auto, unfolding(crate::specs::Queries::output_more))]
-    fn output_more<'a>(&self, tokens: &'a [Lexeme]) -> Result<(Output, &'a [Lexeme]), Fault>
+    fn output_more<'a>(&self, tokens: &'a [Lexeme]) -> Result<(Output, &'a [Lexeme]), SyntaxError>
         requires { self.now.left ≤ limit }
         ensures { Gives result ((spec.output_more self.now.text.now self.now.left).read tokens.now) }
     {
@@ -495,16 +495,16 @@ impl<'t> Clauses<'t> {
 
     /// `{"," out}`
     #[tactic(auto, using(crate::proofs::Falling::loop_steps))]
-    fn output_rest<'a>(&self, tokens: &'a [Lexeme]) -> Result<(Items<Output>, &'a [Lexeme]), Fault>
+    fn output_rest<'a>(&self, tokens: &'a [Lexeme]) -> Result<(Items<Output>, &'a [Lexeme]), SyntaxError>
         requires { self.now.left ≤ limit }
         ensures { Gives result ((each Part.OutputMore (spec.output_more self.now.text.now self.now.left)).read tokens.now) }
     {
         let mut found = Items::new(self.alloc);
         let mut rest = tokens;
         while goes_on(Part::OutputMore, rest) {
-            let (next, behind) = self.output_more(rest)?;
+            let (next, after) = self.output_more(rest)?;
             found.push(next)?;
-            rest = behind;
+            rest = after;
         }
         Ok((found, rest))
     }
@@ -514,18 +514,18 @@ impl<'t> Clauses<'t> {
     pub(crate) fn outputs<'a>(
         &self,
         tokens: &'a [Lexeme],
-    ) -> Result<(Items<Output>, &'a [Lexeme]), Fault>
+    ) -> Result<(Items<Output>, &'a [Lexeme]), SyntaxError>
         requires { self.now.left ≤ limit }
         ensures { Gives result ((spec.outputs self.now.text.now self.now.left).read tokens.now) }
     {
         let (first, rest) = self.output(tokens)?;
-        let ((first, more), rest) = beside(first, self.output_rest(rest))?;
-        Ok((first_and(self.alloc, first, more)?, rest))
+        let ((first, more), rest) = pair_with(first, self.output_rest(rest))?;
+        Ok((prepend(self.alloc, first, more)?, rest))
     }
 
     /// `ON expr`
     #[tactic(auto, unfolding(crate::specs::Queries::join_on))]
-    pub(crate) fn join_on<'a>(&self, tokens: &'a [Lexeme]) -> Result<(Expr, &'a [Lexeme]), Fault>
+    pub(crate) fn join_on<'a>(&self, tokens: &'a [Lexeme]) -> Result<(Expr, &'a [Lexeme]), SyntaxError>
         requires { self.now.left ≤ limit }
         ensures { Gives result ((spec.join_on self.now.text.now self.now.left).read tokens.now) }
     {
@@ -538,12 +538,12 @@ impl<'t> Clauses<'t> {
     fn block_groups<'a>(
         &self,
         tokens: &'a [Lexeme],
-    ) -> Result<((Items<Column>, Option<Expr>), &'a [Lexeme]), Fault>
+    ) -> Result<((Items<Column>, Option<Expr>), &'a [Lexeme]), SyntaxError>
         requires { self.now.left ≤ limit }
         ensures { Gives result ((spec.block_groups self.now.text.now self.now.left).read tokens.now) }
     {
         let (groups, rest) = maybe_group_by(self.alloc, self.text, tokens)?;
-        beside(groups, self.maybe_having(rest))
+        pair_with(groups, self.maybe_having(rest))
     }
 
     /// The conditions of a block.
@@ -551,11 +551,11 @@ impl<'t> Clauses<'t> {
     pub(crate) fn block_filter<'a>(
         &self,
         tokens: &'a [Lexeme],
-    ) -> Result<(Conditions, &'a [Lexeme]), Fault>
+    ) -> Result<(Conditions, &'a [Lexeme]), SyntaxError>
         requires { self.now.left ≤ limit }
         ensures { Gives result ((spec.block_filter self.now.text.now self.now.left).read tokens.now) }
     {
         let (filter, rest) = self.maybe_where(tokens)?;
-        beside(filter, self.block_groups(rest))
+        pair_with(filter, self.block_groups(rest))
     }
 }

@@ -16,8 +16,8 @@ use span_grammar::class::{Lexeme, Sort};
 use span_grammar::grammar::Part;
 use span_grammar::reader::goes_on;
 use span_lexer::token::{Sign, Word};
-use span_syntax::fault::Fault;
-use span_syntax::token::{beside, closed, enter, spelling, take};
+use span_syntax::fault::SyntaxError;
+use span_syntax::token::{pair_with, close_parenthesis, enter, spelling, take};
 use sqlite_items::{Boxed, Items};
 use std::alloc::Global;
 
@@ -30,15 +30,15 @@ struct QueryReader<'t, F> {
 }
 
 impl<
-    F: for<'a> Fn(Global, &[u8], usize, &'a [Lexeme]) -> Result<(Query, &'a [Lexeme]), Fault>,
+    F: for<'a> Fn(Global, &[u8], usize, &'a [Lexeme]) -> Result<(Query, &'a [Lexeme]), SyntaxError>,
 > QueryReader<'_, F> {
     /// A query after an opening.
     #[tactic(auto, using(crate::proofs::Sublevels::level_steps))]
-    fn behind<'a>(&self, tokens: &'a [Lexeme]) -> Result<(Query, &'a [Lexeme]), Fault>
+    fn after<'a>(&self, tokens: &'a [Lexeme]) -> Result<(Query, &'a [Lexeme]), SyntaxError>
         requires nests { NestsQueries self.now.clauses.text.now self.now.clauses.left (F.pre self.now.read) (F.post self.now.read) }
         requires limited { self.now.clauses.left ≤ limit }
         requires deeper { 0 < self.now.clauses.left }
-        ensures { Gives result ((spec.query_behind self.now.clauses.text.now self.now.clauses.left).read tokens.now) }
+        ensures { Gives result ((spec.nested_query self.now.clauses.text.now self.now.clauses.left).read tokens.now) }
     {
         (self.read)(
             self.clauses.alloc,
@@ -50,22 +50,22 @@ impl<
 
     /// `"(" query ")"`
     #[tactic(auto, unfolding(crate::specs::Queries::subquery))]
-    fn subquery<'a>(&self, tokens: &'a [Lexeme]) -> Result<(Query, &'a [Lexeme]), Fault>
+    fn subquery<'a>(&self, tokens: &'a [Lexeme]) -> Result<(Query, &'a [Lexeme]), SyntaxError>
         requires nests { NestsQueries self.now.clauses.text.now self.now.clauses.left (F.pre self.now.read) (F.post self.now.read) }
         requires limited { self.now.clauses.left ≤ limit }
-        ensures { Gives result ((spec.subquery self.now.clauses.text.now self.now.clauses.left (spec.query_behind self.now.clauses.text.now self.now.clauses.left)).read tokens.now) }
+        ensures { Gives result ((spec.subquery self.now.clauses.text.now self.now.clauses.left (spec.nested_query self.now.clauses.text.now self.now.clauses.left)).read tokens.now) }
     {
         let (_, rest) = enter(self.clauses.left, Sort::Sign(Sign::Open), tokens)?;
-        let (query, rest) = self.behind(rest)?;
-        closed(query, rest)
+        let (query, rest) = self.after(rest)?;
+        close_parenthesis(query, rest)
     }
 
     /// `name [[AS] name]`
     #[tactic(auto, unfolding(crate::specs::Queries::named_item))]
-    fn named_item<'a>(&self, tokens: &'a [Lexeme]) -> Result<(Item, &'a [Lexeme]), Fault>
+    fn named_item<'a>(&self, tokens: &'a [Lexeme]) -> Result<(Item, &'a [Lexeme]), SyntaxError>
         requires nests { NestsQueries self.now.clauses.text.now self.now.clauses.left (F.pre self.now.read) (F.post self.now.read) }
         requires limited { self.now.clauses.left ≤ limit }
-        ensures { Gives result ((spec.named_item self.now.clauses.text.now self.now.clauses.left (spec.query_behind self.now.clauses.text.now self.now.clauses.left)).read tokens.now) }
+        ensures { Gives result ((spec.named_item self.now.clauses.text.now self.now.clauses.left (spec.nested_query self.now.clauses.text.now self.now.clauses.left)).read tokens.now) }
     {
         let (name, rest) = spelling(self.clauses.alloc, self.clauses.text, Sort::Name, tokens)?;
         let (other, rest) = alias(self.clauses.alloc, self.clauses.text, rest)?;
@@ -74,14 +74,14 @@ impl<
 
     /// `"(" query ")" [AS] name`
     #[tactic(auto, unfolding(crate::specs::Queries::derived_item))]
-    fn derived_item<'a>(&self, tokens: &'a [Lexeme]) -> Result<(Item, &'a [Lexeme]), Fault>
+    fn derived_item<'a>(&self, tokens: &'a [Lexeme]) -> Result<(Item, &'a [Lexeme]), SyntaxError>
         requires nests { NestsQueries self.now.clauses.text.now self.now.clauses.left (F.pre self.now.read) (F.post self.now.read) }
         requires limited { self.now.clauses.left ≤ limit }
-        ensures { Gives result ((spec.derived_item self.now.clauses.text.now self.now.clauses.left (spec.query_behind self.now.clauses.text.now self.now.clauses.left)).read tokens.now) }
+        ensures { Gives result ((spec.derived_item self.now.clauses.text.now self.now.clauses.left (spec.nested_query self.now.clauses.text.now self.now.clauses.left)).read tokens.now) }
     {
         let (query, rest) = self.subquery(tokens)?;
         let name = required_alias(self.clauses.alloc, self.clauses.text, rest);
-        let ((query, name), rest) = beside(query, name)?;
+        let ((query, name), rest) = pair_with(query, name)?;
         Ok((
             Item::Derived(Boxed::new(self.clauses.alloc, query)?, name),
             rest,
@@ -90,10 +90,10 @@ impl<
 
     /// `item`
     #[tactic(auto, unfolding(crate::specs::Queries::item))]
-    fn item<'a>(&self, tokens: &'a [Lexeme]) -> Result<(Item, &'a [Lexeme]), Fault>
+    fn item<'a>(&self, tokens: &'a [Lexeme]) -> Result<(Item, &'a [Lexeme]), SyntaxError>
         requires nests { NestsQueries self.now.clauses.text.now self.now.clauses.left (F.pre self.now.read) (F.post self.now.read) }
         requires limited { self.now.clauses.left ≤ limit }
-        ensures { Gives result ((spec.item self.now.clauses.text.now self.now.clauses.left (spec.query_behind self.now.clauses.text.now self.now.clauses.left)).read tokens.now) }
+        ensures { Gives result ((spec.item self.now.clauses.text.now self.now.clauses.left (spec.nested_query self.now.clauses.text.now self.now.clauses.left)).read tokens.now) }
     {
         if goes_on(Part::NamedItem, tokens) {
             return self.named_item(tokens);
@@ -103,30 +103,30 @@ impl<
 
     /// `join`
     #[tactic(auto, unfolding(crate::specs::Queries::join, crate::specs::Queries::join_of))]
-    fn join<'a>(&self, tokens: &'a [Lexeme]) -> Result<(Join, &'a [Lexeme]), Fault>
+    fn join<'a>(&self, tokens: &'a [Lexeme]) -> Result<(Join, &'a [Lexeme]), SyntaxError>
         requires nests { NestsQueries self.now.clauses.text.now self.now.clauses.left (F.pre self.now.read) (F.post self.now.read) }
         requires limited { self.now.clauses.left ≤ limit }
-        ensures { Gives result ((spec.join self.now.clauses.text.now self.now.clauses.left (spec.query_behind self.now.clauses.text.now self.now.clauses.left)).read tokens.now) }
+        ensures { Gives result ((spec.join self.now.clauses.text.now self.now.clauses.left (spec.nested_query self.now.clauses.text.now self.now.clauses.left)).read tokens.now) }
     {
         let (is_left, rest) = join_kind(tokens)?;
         let (item, rest) = self.item(rest)?;
-        let ((item, on), rest) = beside(item, self.clauses.join_on(rest))?;
+        let ((item, on), rest) = pair_with(item, self.clauses.join_on(rest))?;
         Ok((Join { is_left, item, on }, rest))
     }
 
     /// `{join}`
     #[tactic(auto, using(crate::proofs::Falling::loop_steps))]
-    fn joins<'a>(&self, tokens: &'a [Lexeme]) -> Result<(Items<Join>, &'a [Lexeme]), Fault>
+    fn joins<'a>(&self, tokens: &'a [Lexeme]) -> Result<(Items<Join>, &'a [Lexeme]), SyntaxError>
         requires nests { NestsQueries self.now.clauses.text.now self.now.clauses.left (F.pre self.now.read) (F.post self.now.read) }
         requires limited { self.now.clauses.left ≤ limit }
-        ensures { Gives result ((each Part.Join (spec.join self.now.clauses.text.now self.now.clauses.left (spec.query_behind self.now.clauses.text.now self.now.clauses.left))).read tokens.now) }
+        ensures { Gives result ((each Part.Join (spec.join self.now.clauses.text.now self.now.clauses.left (spec.nested_query self.now.clauses.text.now self.now.clauses.left))).read tokens.now) }
     {
         let mut found = Items::new(self.clauses.alloc);
         let mut rest = tokens;
         while goes_on(Part::Join, rest) {
-            let (next, behind) = self.join(rest)?;
+            let (next, after) = self.join(rest)?;
             found.push(next)?;
-            rest = behind;
+            rest = after;
         }
         Ok((found, rest))
     }
@@ -136,13 +136,13 @@ impl<
     fn block_joins<'a>(
         &self,
         tokens: &'a [Lexeme],
-    ) -> Result<((Items<Join>, Conditions), &'a [Lexeme]), Fault>
+    ) -> Result<((Items<Join>, Conditions), &'a [Lexeme]), SyntaxError>
         requires nests { NestsQueries self.now.clauses.text.now self.now.clauses.left (F.pre self.now.read) (F.post self.now.read) }
         requires limited { self.now.clauses.left ≤ limit }
-        ensures { Gives result ((spec.block_joins self.now.clauses.text.now self.now.clauses.left (spec.query_behind self.now.clauses.text.now self.now.clauses.left)).read tokens.now) }
+        ensures { Gives result ((spec.block_joins self.now.clauses.text.now self.now.clauses.left (spec.nested_query self.now.clauses.text.now self.now.clauses.left)).read tokens.now) }
     {
         let (joins, rest) = self.joins(tokens)?;
-        beside(joins, self.clauses.block_filter(rest))
+        pair_with(joins, self.clauses.block_filter(rest))
     }
 
     /// FROM, and what is after it.
@@ -150,26 +150,26 @@ impl<
     fn block_from<'a>(
         &self,
         tokens: &'a [Lexeme],
-    ) -> Result<((Item, (Items<Join>, Conditions)), &'a [Lexeme]), Fault>
+    ) -> Result<((Item, (Items<Join>, Conditions)), &'a [Lexeme]), SyntaxError>
         requires nests { NestsQueries self.now.clauses.text.now self.now.clauses.left (F.pre self.now.read) (F.post self.now.read) }
         requires limited { self.now.clauses.left ≤ limit }
-        ensures { Gives result ((spec.block_from self.now.clauses.text.now self.now.clauses.left (spec.query_behind self.now.clauses.text.now self.now.clauses.left)).read tokens.now) }
+        ensures { Gives result ((spec.block_from self.now.clauses.text.now self.now.clauses.left (spec.nested_query self.now.clauses.text.now self.now.clauses.left)).read tokens.now) }
     {
         let (_, rest) = take(Sort::Word(Word::From), tokens)?;
         let (from, rest) = self.item(rest)?;
-        beside(from, self.block_joins(rest))
+        pair_with(from, self.block_joins(rest))
     }
 
     /// What is after SELECT.
-    #[tactic(auto, unfolding(crate::specs::Queries::block_shown, crate::specs::Queries::block_of))]
-    fn block_shown<'a>(&self, tokens: &'a [Lexeme]) -> Result<(Block, &'a [Lexeme]), Fault>
+    #[tactic(auto, unfolding(crate::specs::Queries::block_body, crate::specs::Queries::block_of))]
+    fn block_body<'a>(&self, tokens: &'a [Lexeme]) -> Result<(Block, &'a [Lexeme]), SyntaxError>
         requires nests { NestsQueries self.now.clauses.text.now self.now.clauses.left (F.pre self.now.read) (F.post self.now.read) }
         requires limited { self.now.clauses.left ≤ limit }
-        ensures { Gives result ((spec.block_shown self.now.clauses.text.now self.now.clauses.left (spec.query_behind self.now.clauses.text.now self.now.clauses.left)).read tokens.now) }
+        ensures { Gives result ((spec.block_body self.now.clauses.text.now self.now.clauses.left (spec.nested_query self.now.clauses.text.now self.now.clauses.left)).read tokens.now) }
     {
         let (is_distinct, rest) = quantifier(tokens)?;
         let (outputs, rest) = self.clauses.outputs(rest)?;
-        let ((outputs, (from, (joins, conditions))), rest) = beside(
+        let ((outputs, (from, (joins, conditions))), rest) = pair_with(
             outputs,
             self.block_from(rest),
         )?;
@@ -188,21 +188,21 @@ impl<
 
     /// `block`
     #[tactic(auto, unfolding(crate::specs::Queries::block))]
-    fn block<'a>(&self, tokens: &'a [Lexeme]) -> Result<(Block, &'a [Lexeme]), Fault>
+    fn block<'a>(&self, tokens: &'a [Lexeme]) -> Result<(Block, &'a [Lexeme]), SyntaxError>
         requires nests { NestsQueries self.now.clauses.text.now self.now.clauses.left (F.pre self.now.read) (F.post self.now.read) }
         requires limited { self.now.clauses.left ≤ limit }
-        ensures { Gives result ((spec.block self.now.clauses.text.now self.now.clauses.left (spec.query_behind self.now.clauses.text.now self.now.clauses.left)).read tokens.now) }
+        ensures { Gives result ((spec.block self.now.clauses.text.now self.now.clauses.left (spec.nested_query self.now.clauses.text.now self.now.clauses.left)).read tokens.now) }
     {
         let (_, rest) = take(Sort::Word(Word::Select), tokens)?;
-        self.block_shown(rest)
+        self.block_body(rest)
     }
 
     /// `UNION ALL block`
     #[tactic(auto, unfolding(crate::specs::Queries::union_more))]
-    fn union_more<'a>(&self, tokens: &'a [Lexeme]) -> Result<(Block, &'a [Lexeme]), Fault>
+    fn union_more<'a>(&self, tokens: &'a [Lexeme]) -> Result<(Block, &'a [Lexeme]), SyntaxError>
         requires nests { NestsQueries self.now.clauses.text.now self.now.clauses.left (F.pre self.now.read) (F.post self.now.read) }
         requires limited { self.now.clauses.left ≤ limit }
-        ensures { Gives result ((spec.union_more self.now.clauses.text.now self.now.clauses.left (spec.query_behind self.now.clauses.text.now self.now.clauses.left)).read tokens.now) }
+        ensures { Gives result ((spec.union_more self.now.clauses.text.now self.now.clauses.left (spec.nested_query self.now.clauses.text.now self.now.clauses.left)).read tokens.now) }
     {
         let (_, rest) = take(Sort::Word(Word::Union), tokens)?;
         let (_, rest) = take(Sort::Word(Word::All), rest)?;
@@ -211,17 +211,17 @@ impl<
 
     /// `{UNION ALL block}`
     #[tactic(auto, using(crate::proofs::Falling::loop_steps))]
-    fn union_rest<'a>(&self, tokens: &'a [Lexeme]) -> Result<(Items<Block>, &'a [Lexeme]), Fault>
+    fn union_rest<'a>(&self, tokens: &'a [Lexeme]) -> Result<(Items<Block>, &'a [Lexeme]), SyntaxError>
         requires nests { NestsQueries self.now.clauses.text.now self.now.clauses.left (F.pre self.now.read) (F.post self.now.read) }
         requires limited { self.now.clauses.left ≤ limit }
-        ensures { Gives result ((each Part.UnionMore (spec.union_more self.now.clauses.text.now self.now.clauses.left (spec.query_behind self.now.clauses.text.now self.now.clauses.left))).read tokens.now) }
+        ensures { Gives result ((each Part.UnionMore (spec.union_more self.now.clauses.text.now self.now.clauses.left (spec.nested_query self.now.clauses.text.now self.now.clauses.left))).read tokens.now) }
     {
         let mut found = Items::new(self.clauses.alloc);
         let mut rest = tokens;
         while goes_on(Part::UnionMore, rest) {
-            let (next, behind) = self.union_more(rest)?;
+            let (next, after) = self.union_more(rest)?;
             found.push(next)?;
-            rest = behind;
+            rest = after;
         }
         Ok((found, rest))
     }
@@ -236,26 +236,26 @@ impl<
             (Items<Block>, (Items<SortKey>, Option<Limit>)),
             &'a [Lexeme],
         ),
-        Fault,
+        SyntaxError,
     >
         requires nests { NestsQueries self.now.clauses.text.now self.now.clauses.left (F.pre self.now.read) (F.post self.now.read) }
         requires limited { self.now.clauses.left ≤ limit }
-        ensures { Gives result ((spec.unions self.now.clauses.text.now self.now.clauses.left (spec.query_behind self.now.clauses.text.now self.now.clauses.left)).read tokens.now) }
+        ensures { Gives result ((spec.unions self.now.clauses.text.now self.now.clauses.left (spec.nested_query self.now.clauses.text.now self.now.clauses.left)).read tokens.now) }
     {
         let (others, rest) = self.union_rest(tokens)?;
-        let order = ordered(self.clauses.alloc, self.clauses.text, rest);
-        beside(others, order)
+        let order = order_and_limit(self.clauses.alloc, self.clauses.text, rest);
+        pair_with(others, order)
     }
 
     /// `query`
     #[tactic(auto, unfolding(crate::specs::Queries::query, crate::specs::Queries::query_of))]
-    fn query<'a>(&self, tokens: &'a [Lexeme]) -> Result<(Query, &'a [Lexeme]), Fault>
+    fn query<'a>(&self, tokens: &'a [Lexeme]) -> Result<(Query, &'a [Lexeme]), SyntaxError>
         requires nests { NestsQueries self.now.clauses.text.now self.now.clauses.left (F.pre self.now.read) (F.post self.now.read) }
         requires limited { self.now.clauses.left ≤ limit }
-        ensures { Gives result ((spec.query self.now.clauses.text.now self.now.clauses.left (spec.query_behind self.now.clauses.text.now self.now.clauses.left)).read tokens.now) }
+        ensures { Gives result ((spec.query self.now.clauses.text.now self.now.clauses.left (spec.nested_query self.now.clauses.text.now self.now.clauses.left)).read tokens.now) }
     {
         let (first, rest) = self.block(tokens)?;
-        let ((first, (others, (order, limit))), rest) = beside(first, self.unions(rest))?;
+        let ((first, (others, (order, limit))), rest) = pair_with(first, self.unions(rest))?;
         let query = Query {
             first,
             others,
@@ -267,16 +267,16 @@ impl<
 }
 
 /// ORDER BY and LIMIT.
-#[tactic(auto, unfolding(crate::specs::Queries::ordered))]
-fn ordered<'a>(
+#[tactic(auto, unfolding(crate::specs::Queries::order_and_limit))]
+fn order_and_limit<'a>(
     alloc: Global,
     text: &[u8],
     tokens: &'a [Lexeme],
-) -> Result<((Items<SortKey>, Option<Limit>), &'a [Lexeme]), Fault>
-    ensures { Gives result ((spec.ordered text.now).read tokens.now) }
+) -> Result<((Items<SortKey>, Option<Limit>), &'a [Lexeme]), SyntaxError>
+    ensures { Gives result ((spec.order_and_limit text.now).read tokens.now) }
 {
     let (order, rest) = maybe_order_by(alloc, text, tokens)?;
-    beside(order, maybe_limit(rest))
+    pair_with(order, maybe_limit(rest))
 }
 
 /// A query, with `left` openings left. This function alone recurses.
@@ -286,9 +286,9 @@ fn read_query<'a>(
     text: &[u8],
     left: usize,
     tokens: &'a [Lexeme],
-) -> Result<(Query, &'a [Lexeme]), Fault>
+) -> Result<(Query, &'a [Lexeme]), SyntaxError>
     requires { left ≤ limit }
-    ensures { Gives result ((spec.query text.now left (spec.query_behind text.now left)).read tokens.now) }
+    ensures { Gives result ((spec.query text.now left (spec.nested_query text.now left)).read tokens.now) }
 {
     let clauses = Clauses { alloc, text, left };
     let reader = QueryReader {
@@ -305,11 +305,11 @@ pub(crate) fn statement<'a>(
     text: &[u8],
     left: usize,
     tokens: &'a [Lexeme],
-) -> Result<(Query, &'a [Lexeme]), Fault>
+) -> Result<(Query, &'a [Lexeme]), SyntaxError>
     requires { left ≤ limit }
     ensures { Gives result ((spec.statement text.now left).read tokens.now) }
 {
     let (query, rest) = read_query(alloc, text, left, tokens)?;
-    let ((query, _), rest) = beside(query, maybe_semicolon(rest))?;
+    let ((query, _), rest) = pair_with(query, maybe_semicolon(rest))?;
     Ok((query, rest))
 }

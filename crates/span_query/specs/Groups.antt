@@ -16,23 +16,23 @@ use Rattle.span_query.specs.declared.query.Aggregate.TheVariants.{CountRows, Of}
 use Rattle.span_query.specs.declared.query.Function.{Function}
 use Rattle.span_query.specs.declared.query.Function.TheVariants.{Count, Sum, Min, Max}
 use Rattle.span_query.specs.declared.query.Grouping.{Grouping}
-use Rattle.span_query.specs.Rows.{Row, OrFault, Rows, ◌>>=◌, value_of, each, kept_where}
+use Rattle.span_query.specs.Rows.{Row, OrFault, Rows, ◌>>=◌, value_of, each, filter_where}
 
 -- ---- rows that are equal
 
 -- NULL equals NULL
-abbrev pub is_like : Value → Value → Bool
-is_like v w = is_eq (value_order v w)
+abbrev pub is_equal : Value → Value → Bool
+is_equal v w = is_eq (value_order v w)
 
-abbrev pub are_alike : Row → Row → Bool
-are_alike [] [] = true
-are_alike (v ∷ vs) (w ∷ ws) = is_like v w && are_alike vs ws
-are_alike vs ws = false
+abbrev pub are_equal : Row → Row → Bool
+are_equal [] [] = true
+are_equal (v ∷ vs) (w ∷ ws) = is_equal v w && are_equal vs ws
+are_equal vs ws = false
 
 -- each once, at its first place
 abbrev pub distinct : List Row → List Row
 distinct [] = []
-distinct (x ∷ xs) = x ∷ filter (λ (y : Row). not (are_alike x y)) (distinct xs)
+distinct (x ∷ xs) = x ∷ filter (λ (y : Row). not (are_equal x y)) (distinct xs)
 
 -- ---- groups
 
@@ -47,7 +47,7 @@ group_keys (p ∷ ps) rows = distinct (map (columns_at (p ∷ ps)) rows)
 
 -- the rows of one group
 abbrev pub rows_with : List ℕ → Row → List Row → List Row
-rows_with places key rows = filter (λ (row : Row). are_alike key (columns_at places row)) rows
+rows_with places key rows = filter (λ (row : Row). are_equal key (columns_at places row)) rows
 
 -- ---- aggregates
 
@@ -95,6 +95,6 @@ abbrev pub groups : Grouping → List Row → Rows
 groups g rows = each (group_row g rows) (group_keys g.keys rows)
 
 -- the rows of the groups where HAVING is TRUE; every aggregate is computed of every group before
-abbrev pub grouped : Option Grouping → List Row → Rows
-grouped None rows = Some rows
-grouped (Some g) rows = groups g rows >>= kept_where g.having
+abbrev pub group_rows : Option Grouping → List Row → Rows
+group_rows None rows = Some rows
+group_rows (Some g) rows = groups g rows >>= filter_where g.having

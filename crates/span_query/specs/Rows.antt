@@ -39,24 +39,24 @@ is_true v = false
 -- ---- lists
 
 -- both lists, or the fault where either is one
-abbrev pub followed : {A : Type 0} → OrFault (List A) → OrFault (List A) → OrFault (List A)
-followed a b = a >>= (λ xs. b >>= (λ ys. Some (xs ++ ys)))
+abbrev pub append_results : {A : Type 0} → OrFault (List A) → OrFault (List A) → OrFault (List A)
+append_results a b = a >>= (λ xs. b >>= (λ ys. Some (xs ++ ys)))
 
 -- the lists that each gives, in order
-abbrev pub gathered : {A B : Type 0} → (A → OrFault (List B)) → List A → OrFault (List B)
-gathered f [] = Some []
-gathered f (x ∷ xs) = followed (f x) (gathered f xs)
+abbrev pub concat_map : {A B : Type 0} → (A → OrFault (List B)) → List A → OrFault (List B)
+concat_map f [] = Some []
+concat_map f (x ∷ xs) = append_results (f x) (concat_map f xs)
 
-abbrev pub only : {A : Type 0} → A → List A
-only x = x ∷ []
+abbrev pub singleton : {A : Type 0} → A → List A
+singleton x = x ∷ []
 
 -- what each gives, in order
 abbrev pub each : {A B : Type 0} → (A → OrFault B) → List A → OrFault (List B)
-each f xs = gathered (λ x. option_map only (f x)) xs
+each f xs = concat_map (λ x. option_map singleton (f x)) xs
 
-abbrev pub only_if : {A : Type 0} → A → Bool → List A
-only_if x true = x ∷ []
-only_if x false = []
+abbrev pub keep_if : {A : Type 0} → A → Bool → List A
+keep_if x true = x ∷ []
+keep_if x false = []
 
 -- ---- conditions
 
@@ -65,13 +65,13 @@ abbrev pub holds : Expr → Row → OrFault Bool
 holds e row = value_of (val row e) >>= (λ v. Some (is_true v))
 
 -- the rows at which the condition is TRUE; it is evaluated at each
-abbrev pub kept : Expr → List Row → Rows
-kept e rows = gathered (λ row. holds e row >>= (λ b. Some (only_if row b))) rows
+abbrev pub filter_rows : Expr → List Row → Rows
+filter_rows e rows = concat_map (λ row. holds e row >>= (λ b. Some (keep_if row b))) rows
 
 -- the same, where there may be no condition
-abbrev pub kept_where : Option Expr → List Row → Rows
-kept_where None rows = Some rows
-kept_where (Some e) rows = kept e rows
+abbrev pub filter_where : Option Expr → List Row → Rows
+filter_where None rows = Some rows
+filter_where (Some e) rows = filter_rows e rows
 
 -- ---- the select list
 
@@ -79,5 +79,5 @@ abbrev pub values : List Expr → Row → OrFault Row
 values es row = each (λ e. value_of (val row e)) es
 
 -- the select list at each row
-abbrev pub selected : List Expr → List Row → Rows
-selected es rows = each (values es) rows
+abbrev pub project_rows : List Expr → List Row → Rows
+project_rows es rows = each (values es) rows

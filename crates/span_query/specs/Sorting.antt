@@ -8,10 +8,10 @@ use Rattle.span_expr.specs.Operators.{column_of}
 use Rattle.span_query.specs.declared.query.SortKey.{SortKey}
 use Rattle.span_query.specs.Rows.{Row}
 
-abbrev pub turned : Bool → Ordering → Ordering
-turned true Less = Greater
-turned true Greater = Less
-turned b o = o
+abbrev pub reverse_if : Bool → Ordering → Ordering
+reverse_if true Less = Greater
+reverse_if true Greater = Less
+reverse_if b o = o
 
 abbrev pub or_next : Ordering → Ordering → Ordering
 or_next Equal next = next
@@ -19,7 +19,7 @@ or_next o next = o
 
 -- NULL first, or last where the values descend
 abbrev pub key_order : SortKey → Row → Row → Ordering
-key_order key r s = turned key.is_descending (value_order (column_of r key.column) (column_of s key.column))
+key_order key r s = reverse_if key.is_descending (value_order (column_of r key.column) (column_of s key.column))
 
 -- by the first key at which they differ
 abbrev pub row_order : List SortKey → Row → Row → Ordering
@@ -30,14 +30,14 @@ abbrev pub comes_before : List SortKey → Row → Row → Bool
 comes_before keys r s = is_lt (row_order keys r s)
 
 -- the list with x in front of the first item that does not come before it
-abbrev pub placed : {A : Type 0} → (A → A → Bool) → A → List A → List A
-placed before x [] = x ∷ []
-placed before x (y ∷ ys) = if before y x then y ∷ placed before x ys else x ∷ y ∷ ys
+abbrev pub insert_sorted : {A : Type 0} → (A → A → Bool) → A → List A → List A
+insert_sorted before x [] = x ∷ []
+insert_sorted before x (y ∷ ys) = if before y x then y ∷ insert_sorted before x ys else x ∷ y ∷ ys
 
 -- the list in order; items of which neither comes before the other keep their order
-abbrev pub in_order : {A : Type 0} → (A → A → Bool) → List A → List A
-in_order before [] = []
-in_order before (x ∷ xs) = placed before x (in_order before xs)
+abbrev pub insertion_sort : {A : Type 0} → (A → A → Bool) → List A → List A
+insertion_sort before [] = []
+insertion_sort before (x ∷ xs) = insert_sorted before x (insertion_sort before xs)
 
 abbrev pub sorted : List SortKey → List Row → List Row
-sorted keys rows = in_order (comes_before keys) rows
+sorted keys rows = insertion_sort (comes_before keys) rows

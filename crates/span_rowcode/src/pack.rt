@@ -16,7 +16,7 @@ pub const MOST_BYTES: usize = 1_048_576;
 pub fn pack(alloc: Global, cells: &[Value]) -> Result<Vec<u8>, Refusal>
     ensures { MatchResult result (λ bytes. (bytes.items ≡ row_code cells.now) × (length (row_code cells.now) ≤ MOST_BYTES)) (λ why. ((why ≡ Refusal.RowTooLong) × (MOST_BYTES < length (row_code cells.now))) ⊎ (why ≡ Refusal.OutOfMemory)) }
 {
-    match room_after(cells) {
+    match bytes_left(cells) {
         None => Err(Refusal::RowTooLong),
         Some(left) => {
             let mut bytes = Vec::with_capacity(alloc, MOST_BYTES - left)?;
@@ -27,12 +27,12 @@ pub fn pack(alloc: Global, cells: &[Value]) -> Result<Vec<u8>, Refusal>
 }
 
 // What is left of the most bytes.
-fn room_after(cells: &[Value]) -> Option<usize>
+fn bytes_left(cells: &[Value]) -> Option<usize>
     ensures { MatchOption result (MOST_BYTES < length (row_code cells.now)) (λ left. left + length (row_code cells.now) ≡ MOST_BYTES) }
 {
     let mut left = MOST_BYTES;
     for cell in cells {
-        match room_after_cell(cell, left) {
+        match bytes_left_after_cell(cell, left) {
             None => return None,
             Some(rest) => left = rest,
         }
@@ -40,7 +40,7 @@ fn room_after(cells: &[Value]) -> Option<usize>
     Some(left)
 }
 
-fn room_after_cell(cell: &Value, left: usize) -> Option<usize>
+fn bytes_left_after_cell(cell: &Value, left: usize) -> Option<usize>
     requires { left ≤ MOST_BYTES }
     ensures { MatchOption result (left < length (cell_code cell.now)) (λ rest. rest + length (cell_code cell.now) ≡ left) }
 {
@@ -48,12 +48,12 @@ fn room_after_cell(cell: &Value, left: usize) -> Option<usize>
         Value::Null => left.checked_sub(1),
         Value::Int(_) => left.checked_sub(9),
         Value::Bool(_) => left.checked_sub(2),
-        Value::Str(text) => room_after_bytes(text.as_str().as_bytes(), left),
-        Value::Bytes(bytes) => room_after_bytes(bytes.as_slice(), left),
+        Value::Str(text) => bytes_left_after_bytes(text.as_str().as_bytes(), left),
+        Value::Bytes(bytes) => bytes_left_after_bytes(bytes.as_slice(), left),
     }
 }
 
-fn room_after_bytes(bytes: &[u8], left: usize) -> Option<usize>
+fn bytes_left_after_bytes(bytes: &[u8], left: usize) -> Option<usize>
     requires { left ≤ MOST_BYTES }
     ensures { MatchOption result (left < length bytes.now + 5) (λ rest. rest + (length bytes.now + 5) ≡ left) }
 {

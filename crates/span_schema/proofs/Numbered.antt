@@ -51,7 +51,7 @@ above_within tables rules i h = in_parent (parent_at tables i) refl
           | inl here ↦ elim (slice_get_cases tables p).1 [
             | inl there ↦ (let goes = key_goes_on tables rules i p here.0 there.0 here.2 there.2 e in
                 omega (arith, ap (length {A = KeyPart}) goes.1, length-append (key_at tables p) goes.0))
-            | inr past ↦ absurd (omega arith)
+            | inr parts_after ↦ absurd (omega arith)
           ]
-          | inr past ↦ absurd (omega arith)
+          | inr parts_after ↦ absurd (omega arith)
         ]

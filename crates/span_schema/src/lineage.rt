@@ -5,7 +5,7 @@ ghost use Rattle.span_schema.specs.Tables.{parent_place};
 ghost use Rattle.span_schema.specs.Rules.{first_cause, causes_of};
 ghost use Rattle.span_schema.specs.Lineages.{lineage_at, path_below, path_at, lineage_in, is_parent, children_at, judged_in, MeetsRules, IsFirstCause};
 
-use super::rules::judge_table;
+use super::rules::check_table;
 use super::table::{Table, place_of_parent};
 use span_value::refusal::Refusal;
 use span_value::seq::Seq;
@@ -43,7 +43,7 @@ fn lineage_of(
 {
     let parent = place_of_parent(before, table);
     let mut path = path_of_parent(alloc, lines, parent)?;
-    judge_table(before, table, path.len() + 1)?;
+    check_table(before, table, path.len() + 1)?;
     path.push(before.len() + 1)?;
     Ok(Lineage {
         parent,

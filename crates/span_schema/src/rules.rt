@@ -23,7 +23,7 @@ pub const MOST_LEVELS: usize = 7;
 pub const LONGEST: u64 = 1_048_576;
 
 /// The first rule that a table breaks, if it breaks one. The tables before it meet the rules; `level` is its own level.
-pub(crate) fn judge_table(before: &[Table], table: &Table, level: usize) -> Result<(), Refusal>
+pub(crate) fn check_table(before: &[Table], table: &Table, level: usize) -> Result<(), Refusal>
     ensures { MatchResult result (λ _. first_cause (causes_of before.now table.now level) ≡ None) (λ why. first_cause (causes_of before.now table.now level) ≡ Some why) }
 {
     if is_too_many(before, table) {
@@ -147,7 +147,7 @@ fn begins(above: &Table, table: &Table) -> bool
     let first = above.key.as_slice();
     let second = table.key.as_slice();
     for i in 0..first.len() {
-        if !is_alike(
+        if !is_same_key_column(
             above.columns.as_slice(),
             table.columns.as_slice(),
             &first[i],
@@ -159,7 +159,7 @@ fn begins(above: &Table, table: &Table) -> bool
     true
 }
 
-fn is_alike(columns: &[Column], others: &[Column], a: &KeyColumn, b: &KeyColumn) -> bool
+fn is_same_key_column(columns: &[Column], others: &[Column], a: &KeyColumn, b: &KeyColumn) -> bool
     ensures { result ≡ is_same_key_column columns.now others.now a.now b.now }
 {
     are_same(a.name.as_str(), b.name.as_str())

@@ -156,7 +156,7 @@ impl Schema {
         requires { IsTable self.now table }
         ensures { result.now ≡ own_key_columns self.now table }
     {
-        past(self.key_columns(table), self.columns_above(table))
+        parts_after(self.key_columns(table), self.columns_above(table))
     }
 
     /// The numbers of the tables whose parent this is, in the order of their declaration.
@@ -208,7 +208,7 @@ impl Schema {
     }
 }
 
-fn past(key: &[KeyPart], above: usize) -> &[KeyPart]
+fn parts_after(key: &[KeyPart], above: usize) -> &[KeyPart]
     requires { above ≤ length key.now }
     ensures { result.now ≡ drop above key.now }
 {

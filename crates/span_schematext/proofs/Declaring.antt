@@ -14,11 +14,11 @@ use Rattle.span_grammar.specs.declared.grammar.Place.TheVariants as place
 use Rattle.span_grammar.specs.declared.grammar.Shape.TheVariants as shape
 use Rattle.span_grammar.specs.Shapes.{shape_of, part_inside}
 use Rattle.span_grammar.specs.Grammar.{rule_of}
-use Rattle.span_syntax.specs.Pieces.{Piece, token, nothing, ◌<$>◌, ◌>>=◌, either, each, beside, opening}
+use Rattle.span_syntax.specs.Pieces.{Piece, token, nothing, ◌<$>◌, ◌>>=◌, either, each, pair_with, opening}
 use Rattle.span_syntax.specs.Expressions.{direction}
 use Rattle.span_syntax.proofs.Good.{Good, token_good, nothing_good, map_good, then_good, or_good, many_good, open_good}
 use Rattle.span_syntax.proofs.Expressing.{direction_good}
-use Rattle.span_schematext.specs.Declarations.{name_of, name, at_most, unbounded, length_bound, in_length, long_kind, long_of, not_null, maybe_not_null, no_action, action, on_delete, maybe_on_delete, maybe_last_semicolon, parent, in_parent, interleave, maybe_interleave, key_column, key_column_more, in_key_columns, length_parenthesis, long_type, column_type, table_column, table_column_more, in_table_columns, key_columns, table_columns, keyed, with_key, named_table, table, table_more, tables}
+use Rattle.span_schematext.specs.Declarations.{name_of, name, at_most, unbounded, length_bound, in_length, long_kind, long_of, not_null, maybe_not_null, no_action, action, on_delete, maybe_on_delete, maybe_last_semicolon, parent, in_parent, interleave, maybe_interleave, key_column, key_column_more, in_key_columns, length_parenthesis, long_type, column_type, table_column, table_column_more, in_table_columns, key_columns, table_columns, key_and_parent, primary_key, named_table, table, table_more, tables}
 
 module _ (n : ℕ) where
   pub length_bound_good : Good n (rule_of part.LengthBound) (length_bound)
@@ -135,17 +135,17 @@ module _ (text : List ℕ) (n : ℕ) where
   unfolding table_columns shape_of part_inside
   table_columns_good = open_good n part.TableColumns (sort.Sign sign.Open) place.InTableColumns refl (in_table_columns text (n - 1)) (λ m e. (in_columns m e))
 
-  pub keyed_good : (table : List ℕ) → (columns : List Column) → Good n (rule_of part.TableFromKeyColumns) (keyed text n table columns)
-  unfolding keyed shape_of part_inside
+  pub keyed_good : (table : List ℕ) → (columns : List Column) → Good n (rule_of part.TableFromKeyColumns) (key_and_parent text n table columns)
+  unfolding key_and_parent shape_of part_inside
   keyed_good table columns = then_good n part.TableFromKeyColumns part.KeyColumns part.MaybeInterleave refl (key_columns text n) (λ key. ((λ above. record { name = table; columns = columns; key = key; parent = above }) <$> (maybe_interleave text))) (key_columns_good) (λ key. (map_good (λ above. record { name = table; columns = columns; key = key; parent = above }) (maybe_interleave text) (maybe_interleave_good text n)))
 
-  pub with_key_good : (table : List ℕ) → (columns : List Column) → Good n (rule_of part.TableFromWordPrimary) (with_key text n table columns)
-  unfolding with_key shape_of part_inside
-  with_key_good table columns = then_good n part.TableFromWordPrimary (part.Token (sort.Context context.Primary)) part.TableFromWordKey refl (token (sort.Context context.Primary)) (λ _. ((token (sort.Context context.Key)) >>= (λ _. (keyed text n table columns)))) (token_good n (sort.Context context.Primary)) (λ _. (then_good n part.TableFromWordKey (part.Token (sort.Context context.Key)) part.TableFromKeyColumns refl (token (sort.Context context.Key)) (λ _. (keyed text n table columns)) (token_good n (sort.Context context.Key)) (λ _. (keyed_good table columns))))
+  pub with_key_good : (table : List ℕ) → (columns : List Column) → Good n (rule_of part.TableFromWordPrimary) (primary_key text n table columns)
+  unfolding primary_key shape_of part_inside
+  with_key_good table columns = then_good n part.TableFromWordPrimary (part.Token (sort.Context context.Primary)) part.TableFromWordKey refl (token (sort.Context context.Primary)) (λ _. ((token (sort.Context context.Key)) >>= (λ _. (key_and_parent text n table columns)))) (token_good n (sort.Context context.Primary)) (λ _. (then_good n part.TableFromWordKey (part.Token (sort.Context context.Key)) part.TableFromKeyColumns refl (token (sort.Context context.Key)) (λ _. (key_and_parent text n table columns)) (token_good n (sort.Context context.Key)) (λ _. (keyed_good table columns))))
 
   pub named_table_good : Good n (rule_of part.TableFromAName) (named_table text n)
   unfolding named_table shape_of part_inside
-  named_table_good = then_good n part.TableFromAName (part.Token sort.Name) part.TableFromTableColumns refl (name text) (λ table. ((table_columns text n) >>= (λ columns. (with_key text n table columns)))) (name_good text n) (λ table. (then_good n part.TableFromTableColumns part.TableColumns part.TableFromWordPrimary refl (table_columns text n) (λ columns. (with_key text n table columns)) (table_columns_good) (λ columns. (with_key_good table columns))))
+  named_table_good = then_good n part.TableFromAName (part.Token sort.Name) part.TableFromTableColumns refl (name text) (λ table. ((table_columns text n) >>= (λ columns. (primary_key text n table columns)))) (name_good text n) (λ table. (then_good n part.TableFromTableColumns part.TableColumns part.TableFromWordPrimary refl (table_columns text n) (λ columns. (primary_key text n table columns)) (table_columns_good) (λ columns. (with_key_good table columns))))
 
   pub table_good : Good n (rule_of part.Table) (table text n)
   unfolding table shape_of part_inside

@@ -10,8 +10,8 @@ use Rattle.span_schema.specs.Lineages.{path_at, cause_in, cause_at, MeetsRules, 
 use Rattle.span_grammar.specs.declared.judge.Goal.TheVariants as goal
 use Rattle.span_grammar.specs.Rules.{limit}
 use Rattle.span_grammar.specs.Judged.{IsRefused}
-use Rattle.span_syntax.specs.Parsed.{Stands}
-use Rattle.span_schematext.specs.SchemaTexts.{AreTables, IsSchemaText, IsSchemaRefused, IsSchemaOrNoMemory, RefusesSchema}
+use Rattle.span_syntax.specs.Parsed.{ParsesAs}
+use Rattle.span_schematext.specs.SchemaTexts.{AreTables, IsSchemaText, IsSchemaRefused, IsSchemaOrOutOfMemory, RefusesSchema}
 use Rattle.span_schematext.specs.Declarations.{tables}
 use Rattle.span_schematext.proofs.Declaring.{tables_good}
 use Rattle.span_syntax.proofs.Parsing.{one_value, value_not_refused}
@@ -37,7 +37,7 @@ one_cause tables a b c d = elim (cases_order c.place d.place) [
   | inl same ↦ some_is a b (sym c.here ∙ ap (cause_at tables) same ∙ d.here)
   | inr apart ↦ elim apart [
     | inl before ↦ absurd (none_not_some (cause_at tables c.place) a (d.before c.place before) c.here)
-    | inr behind ↦ absurd (none_not_some (cause_at tables d.place) b (c.before d.place behind) d.here)
+    | inr after ↦ absurd (none_not_some (cause_at tables d.place) b (c.before d.place after) d.here)
   ]
 ]
 
@@ -52,7 +52,7 @@ module _ (text : List ℕ) (found : List Table) (are : AreTables text found) (on
   schema_read (Ok s) h = subst (IsSchemaText text) (sym h.0) (are, h.1)
   schema_read (Err e) h = tt
 
-  pub schema_read_all : (r : Answer) → Judged found r → (other : List Table) → IsSchemaText text other → IsSchemaOrNoMemory r other
+  pub schema_read_all : (r : Answer) → Judged found r → (other : List Table) → IsSchemaText text other → IsSchemaOrOutOfMemory r other
   schema_read_all (Ok s) h other t = h.0 ∙ sym (one other t.0)
   schema_read_all (Err e) (inl c) other t = absurd (not_both found e (subst MeetsRules (one other t.0) t.1) c)
   schema_read_all (Err e) (inr m) other t = m

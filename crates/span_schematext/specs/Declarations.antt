@@ -133,16 +133,16 @@ module _ (text : List ℕ) where
 
   module _ (left : ℕ) where
     -- what is after PRIMARY KEY
-    unfoldable pub keyed : List ℕ → List Column → Piece Table
-    keyed table columns = key_columns left >>= (λ key. (λ above. record { name = table; columns = columns; key = key; parent = above }) <$> maybe_interleave)
+    unfoldable pub key_and_parent : List ℕ → List Column → Piece Table
+    key_and_parent table columns = key_columns left >>= (λ key. (λ above. record { name = table; columns = columns; key = key; parent = above }) <$> maybe_interleave)
 
     -- what is after the columns
-    unfoldable pub with_key : List ℕ → List Column → Piece Table
-    with_key table columns = token (sort.Context context.Primary) >> (token (sort.Context context.Key) >> keyed table columns)
+    unfoldable pub primary_key : List ℕ → List Column → Piece Table
+    primary_key table columns = token (sort.Context context.Primary) >> (token (sort.Context context.Key) >> key_and_parent table columns)
 
     -- what is after CREATE TABLE
     unfoldable pub named_table : Piece Table
-    named_table = name text >>= (λ table. table_columns left >>= with_key table)
+    named_table = name text >>= (λ table. table_columns left >>= primary_key table)
 
     unfoldable pub table : Piece Table
     table = token (sort.Word word.Create) >> (token (sort.Context context.Table) >> named_table)

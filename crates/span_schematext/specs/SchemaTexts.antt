@@ -7,12 +7,12 @@ use Rattle.span_schema.specs.Lineages.{MeetsRules, IsFirstCause}
 use Rattle.span_grammar.specs.declared.judge.Goal.TheVariants as goal
 use Rattle.span_grammar.specs.Rules.{limit}
 use Rattle.span_grammar.specs.Judged.{IsRefused}
-use Rattle.span_syntax.specs.Parsed.{Stands}
+use Rattle.span_syntax.specs.Parsed.{ParsesAs}
 use Rattle.span_schematext.specs.Declarations.{tables}
 
 -- the text has a tree, and the tables are those of the tree
 abbrev pub AreTables : List ℕ → List Table → Type 0
-AreTables text found = Stands goal.Schema (tables text limit).of text found
+AreTables text found = ParsesAs goal.Schema (tables text limit).of text found
 
 -- the text declares the tables, and they meet the rules
 abbrev pub IsSchemaText : List ℕ → List Table → Type 0
@@ -23,9 +23,9 @@ abbrev pub IsSchemaRefused : List ℕ → Refusal → Type 0
 IsSchemaRefused text why = IsRefused goal.Schema text why ⊎ ((found : List Table) × AreTables text found × IsFirstCause found why)
 
 -- these tables, unless memory ran out
-abbrev pub IsSchemaOrNoMemory : Result (List Table) Refusal → List Table → Type 0
-IsSchemaOrNoMemory (Ok x) y = x ≡ y
-IsSchemaOrNoMemory (Err e) y = e ≡ refusal.OutOfMemory
+abbrev pub IsSchemaOrOutOfMemory : Result (List Table) Refusal → List Table → Type 0
+IsSchemaOrOutOfMemory (Ok x) y = x ≡ y
+IsSchemaOrOutOfMemory (Err e) y = e ≡ refusal.OutOfMemory
 
 -- this refusal, unless memory ran out
 abbrev pub RefusesSchema : Result (List Table) Refusal → Refusal → Type 0

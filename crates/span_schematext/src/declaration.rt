@@ -11,7 +11,7 @@ use span_grammar::reader::goes_on;
 use span_lexer::token::{Sign, Word};
 use span_schema::table::{Column, KeyColumn, Parent, Table};
 use span_syntax::column::direction;
-use span_syntax::fault::Fault;
+use span_syntax::fault::SyntaxError;
 use span_syntax::token::{enter, integer_value, next_is, take};
 use span_value::seq::Seq;
 use span_value::text::Text;
@@ -20,7 +20,7 @@ use std::alloc::{AllocError, Global};
 
 /// A name.
 #[tactic(auto, unfolding(crate::specs::Declarations::name))]
-fn name<'a>(alloc: Global, text: &[u8], tokens: &'a [Lexeme]) -> Result<(Text, &'a [Lexeme]), Fault>
+fn name<'a>(alloc: Global, text: &[u8], tokens: &'a [Lexeme]) -> Result<(Text, &'a [Lexeme]), SyntaxError>
     ensures { Gives result ((spec.name text.now).read tokens.now) }
 {
     let (lexeme, rest) = take(Sort::Name, tokens)?;
@@ -29,7 +29,7 @@ fn name<'a>(alloc: Global, text: &[u8], tokens: &'a [Lexeme]) -> Result<(Text, &
 }
 
 /// A list: the first item, then the others.
-fn first_and<T: Drop>(alloc: Global, first: T, more: Seq<T>) -> Result<Seq<T>, AllocError>
+fn prepend<T: Drop>(alloc: Global, first: T, more: Seq<T>) -> Result<Seq<T>, AllocError>
     ensures { IfOk result (λ all. all ≡ first ∷ more) }
 {
     let mut all = Vec::new(alloc);
@@ -41,7 +41,7 @@ fn first_and<T: Drop>(alloc: Global, first: T, more: Seq<T>) -> Result<Seq<T>, A
 
 /// `int | MAX`: the greatest length, or none.
 #[tactic(auto, unfolding(crate::specs::Declarations::length_bound))]
-fn length_bound(tokens: &[Lexeme]) -> Result<(Option<u64>, &[Lexeme]), Fault>
+fn length_bound(tokens: &[Lexeme]) -> Result<(Option<u64>, &[Lexeme]), SyntaxError>
     ensures { Gives result (spec.length_bound.read tokens.now) }
 {
     if next_is(Sort::Int, tokens) {
@@ -54,7 +54,7 @@ fn length_bound(tokens: &[Lexeme]) -> Result<(Option<u64>, &[Lexeme]), Fault>
 
 /// `(int | MAX) ")"`
 #[tactic(auto, unfolding(crate::specs::Declarations::in_length))]
-fn in_length(tokens: &[Lexeme]) -> Result<(Option<u64>, &[Lexeme]), Fault>
+fn in_length(tokens: &[Lexeme]) -> Result<(Option<u64>, &[Lexeme]), SyntaxError>
     ensures { Gives result (spec.in_length.read tokens.now) }
 {
     let (most, rest) = length_bound(tokens)?;
@@ -64,7 +64,7 @@ fn in_length(tokens: &[Lexeme]) -> Result<(Option<u64>, &[Lexeme]), Fault>
 
 /// `"(" (int | MAX) ")"`
 #[tactic(auto, unfolding(crate::specs::Declarations::length_parenthesis))]
-fn length_parenthesis(left: usize, tokens: &[Lexeme]) -> Result<(Option<u64>, &[Lexeme]), Fault>
+fn length_parenthesis(left: usize, tokens: &[Lexeme]) -> Result<(Option<u64>, &[Lexeme]), SyntaxError>
     ensures { Gives result ((spec.length_parenthesis left).read tokens.now) }
 {
     let (_, rest) = enter(left, Sort::Sign(Sign::Open), tokens)?;
@@ -73,7 +73,7 @@ fn length_parenthesis(left: usize, tokens: &[Lexeme]) -> Result<(Option<u64>, &[
 
 /// `STRING | BYTES`: whether it is STRING.
 #[tactic(auto, unfolding(crate::specs::Declarations::long_kind))]
-fn long_kind(tokens: &[Lexeme]) -> Result<(bool, &[Lexeme]), Fault>
+fn long_kind(tokens: &[Lexeme]) -> Result<(bool, &[Lexeme]), SyntaxError>
     ensures { Gives result (spec.long_kind.read tokens.now) }
 {
     if next_is(Sort::Context(Context::String), tokens) {
@@ -97,7 +97,7 @@ fn long_of(is_string: bool, most: Option<u64>) -> ColumnType
 
 /// `(STRING | BYTES) "(" (int | MAX) ")"`
 #[tactic(auto, unfolding(crate::specs::Declarations::long_type))]
-fn long_type(left: usize, tokens: &[Lexeme]) -> Result<(ColumnType, &[Lexeme]), Fault>
+fn long_type(left: usize, tokens: &[Lexeme]) -> Result<(ColumnType, &[Lexeme]), SyntaxError>
     ensures { Gives result ((spec.long_type left).read tokens.now) }
 {
     let (is_string, rest) = long_kind(tokens)?;
@@ -107,7 +107,7 @@ fn long_type(left: usize, tokens: &[Lexeme]) -> Result<(ColumnType, &[Lexeme]), 
 
 /// `type`
 #[tactic(auto, unfolding(crate::specs::Declarations::column_type))]
-fn column_type(left: usize, tokens: &[Lexeme]) -> Result<(ColumnType, &[Lexeme]), Fault>
+fn column_type(left: usize, tokens: &[Lexeme]) -> Result<(ColumnType, &[Lexeme]), SyntaxError>
     ensures { Gives result ((spec.column_type left).read tokens.now) }
 {
     if next_is(Sort::Context(Context::Int64), tokens) {
@@ -123,7 +123,7 @@ fn column_type(left: usize, tokens: &[Lexeme]) -> Result<(ColumnType, &[Lexeme])
 
 /// `NOT NULL`
 #[tactic(auto, unfolding(crate::specs::Declarations::not_null))]
-fn not_null(tokens: &[Lexeme]) -> Result<(bool, &[Lexeme]), Fault>
+fn not_null(tokens: &[Lexeme]) -> Result<(bool, &[Lexeme]), SyntaxError>
     ensures { Gives result (spec.not_null.read tokens.now) }
 {
     let (_, rest) = take(Sort::Word(Word::Not), tokens)?;
@@ -133,7 +133,7 @@ fn not_null(tokens: &[Lexeme]) -> Result<(bool, &[Lexeme]), Fault>
 
 /// `[NOT NULL]`: whether NULL is refused.
 #[tactic(auto, unfolding(crate::specs::Declarations::maybe_not_null))]
-fn maybe_not_null(tokens: &[Lexeme]) -> Result<(bool, &[Lexeme]), Fault>
+fn maybe_not_null(tokens: &[Lexeme]) -> Result<(bool, &[Lexeme]), SyntaxError>
     ensures { Gives result (spec.maybe_not_null.read tokens.now) }
 {
     if !goes_on(Part::NotNull, tokens) {
@@ -144,7 +144,7 @@ fn maybe_not_null(tokens: &[Lexeme]) -> Result<(bool, &[Lexeme]), Fault>
 
 /// `NO ACTION`
 #[tactic(auto, unfolding(crate::specs::Declarations::no_action))]
-fn no_action(tokens: &[Lexeme]) -> Result<(bool, &[Lexeme]), Fault>
+fn no_action(tokens: &[Lexeme]) -> Result<(bool, &[Lexeme]), SyntaxError>
     ensures { Gives result (spec.no_action.read tokens.now) }
 {
     let (_, rest) = take(Sort::Context(Context::No), tokens)?;
@@ -154,7 +154,7 @@ fn no_action(tokens: &[Lexeme]) -> Result<(bool, &[Lexeme]), Fault>
 
 /// `CASCADE | NO ACTION`: whether it is CASCADE.
 #[tactic(auto, unfolding(crate::specs::Declarations::action))]
-fn action(tokens: &[Lexeme]) -> Result<(bool, &[Lexeme]), Fault>
+fn action(tokens: &[Lexeme]) -> Result<(bool, &[Lexeme]), SyntaxError>
     ensures { Gives result (spec.action.read tokens.now) }
 {
     if next_is(Sort::Context(Context::Cascade), tokens) {
@@ -166,7 +166,7 @@ fn action(tokens: &[Lexeme]) -> Result<(bool, &[Lexeme]), Fault>
 
 /// `ON DELETE (CASCADE | NO ACTION)`
 #[tactic(auto, unfolding(crate::specs::Declarations::on_delete))]
-fn on_delete(tokens: &[Lexeme]) -> Result<(bool, &[Lexeme]), Fault>
+fn on_delete(tokens: &[Lexeme]) -> Result<(bool, &[Lexeme]), SyntaxError>
     ensures { Gives result (spec.on_delete.read tokens.now) }
 {
     let (_, rest) = take(Sort::Word(Word::On), tokens)?;
@@ -176,7 +176,7 @@ fn on_delete(tokens: &[Lexeme]) -> Result<(bool, &[Lexeme]), Fault>
 
 /// Whether the rows are deleted with their parent row.
 #[tactic(auto, unfolding(crate::specs::Declarations::maybe_on_delete))]
-fn maybe_on_delete(tokens: &[Lexeme]) -> Result<(bool, &[Lexeme]), Fault>
+fn maybe_on_delete(tokens: &[Lexeme]) -> Result<(bool, &[Lexeme]), SyntaxError>
     ensures { Gives result (spec.maybe_on_delete.read tokens.now) }
 {
     if !goes_on(Part::OnDelete, tokens) {
@@ -191,7 +191,7 @@ fn parent<'a>(
     alloc: Global,
     text: &[u8],
     tokens: &'a [Lexeme],
-) -> Result<(Parent, &'a [Lexeme]), Fault>
+) -> Result<(Parent, &'a [Lexeme]), SyntaxError>
     ensures { Gives result ((spec.parent text.now).read tokens.now) }
 {
     let (name, rest) = name(alloc, text, tokens)?;
@@ -205,7 +205,7 @@ fn in_parent<'a>(
     alloc: Global,
     text: &[u8],
     tokens: &'a [Lexeme],
-) -> Result<(Parent, &'a [Lexeme]), Fault>
+) -> Result<(Parent, &'a [Lexeme]), SyntaxError>
     ensures { Gives result ((spec.in_parent text.now).read tokens.now) }
 {
     let (_, rest) = take(Sort::Word(Word::In), tokens)?;
@@ -219,7 +219,7 @@ fn interleave<'a>(
     alloc: Global,
     text: &[u8],
     tokens: &'a [Lexeme],
-) -> Result<(Parent, &'a [Lexeme]), Fault>
+) -> Result<(Parent, &'a [Lexeme]), SyntaxError>
     ensures { Gives result ((spec.interleave text.now).read tokens.now) }
 {
     let (_, rest) = take(Sort::Sign(Sign::Comma), tokens)?;
@@ -233,7 +233,7 @@ fn maybe_interleave<'a>(
     alloc: Global,
     text: &[u8],
     tokens: &'a [Lexeme],
-) -> Result<(Option<Parent>, &'a [Lexeme]), Fault>
+) -> Result<(Option<Parent>, &'a [Lexeme]), SyntaxError>
     ensures { Gives result ((spec.maybe_interleave text.now).read tokens.now) }
 {
     if !goes_on(Part::Interleave, tokens) {
@@ -249,7 +249,7 @@ fn key_column<'a>(
     alloc: Global,
     text: &[u8],
     tokens: &'a [Lexeme],
-) -> Result<(KeyColumn, &'a [Lexeme]), Fault>
+) -> Result<(KeyColumn, &'a [Lexeme]), SyntaxError>
     ensures { Gives result ((spec.key_column text.now).read tokens.now) }
 {
     let (name, rest) = name(alloc, text, tokens)?;
@@ -263,7 +263,7 @@ fn key_column_more<'a>(
     alloc: Global,
     text: &[u8],
     tokens: &'a [Lexeme],
-) -> Result<(KeyColumn, &'a [Lexeme]), Fault>
+) -> Result<(KeyColumn, &'a [Lexeme]), SyntaxError>
     ensures { Gives result ((spec.key_column_more text.now).read tokens.now) }
 {
     let (_, rest) = take(Sort::Sign(Sign::Comma), tokens)?;
@@ -276,15 +276,15 @@ fn key_column_rest<'a>(
     alloc: Global,
     text: &[u8],
     tokens: &'a [Lexeme],
-) -> Result<(Seq<KeyColumn>, &'a [Lexeme]), Fault>
+) -> Result<(Seq<KeyColumn>, &'a [Lexeme]), SyntaxError>
     ensures { Gives result ((each Part.KeyColumnMore (spec.key_column_more text.now)).read tokens.now) }
 {
     let mut found = Seq::new(alloc);
     let mut rest = tokens;
     while goes_on(Part::KeyColumnMore, rest) {
-        let (next, behind) = key_column_more(alloc, text, rest)?;
+        let (next, after) = key_column_more(alloc, text, rest)?;
         found.push(next)?;
-        rest = behind;
+        rest = after;
     }
     Ok((found, rest))
 }
@@ -295,13 +295,13 @@ fn in_key_columns<'a>(
     alloc: Global,
     text: &[u8],
     tokens: &'a [Lexeme],
-) -> Result<(Seq<KeyColumn>, &'a [Lexeme]), Fault>
+) -> Result<(Seq<KeyColumn>, &'a [Lexeme]), SyntaxError>
     ensures { Gives result ((spec.in_key_columns text.now).read tokens.now) }
 {
     let (first, rest) = key_column(alloc, text, tokens)?;
     let (more, rest) = key_column_rest(alloc, text, rest)?;
     let (_, rest) = take(Sort::Sign(Sign::Close), rest)?;
-    Ok((first_and(alloc, first, more)?, rest))
+    Ok((prepend(alloc, first, more)?, rest))
 }
 
 /// `column`
@@ -311,7 +311,7 @@ fn table_column<'a>(
     text: &[u8],
     left: usize,
     tokens: &'a [Lexeme],
-) -> Result<(Column, &'a [Lexeme]), Fault>
+) -> Result<(Column, &'a [Lexeme]), SyntaxError>
     ensures { Gives result ((spec.table_column text.now left).read tokens.now) }
 {
     let (name, rest) = name(alloc, text, tokens)?;
@@ -334,7 +334,7 @@ fn table_column_more<'a>(
     text: &[u8],
     left: usize,
     tokens: &'a [Lexeme],
-) -> Result<(Column, &'a [Lexeme]), Fault>
+) -> Result<(Column, &'a [Lexeme]), SyntaxError>
     ensures { Gives result ((spec.table_column_more text.now left).read tokens.now) }
 {
     let (_, rest) = take(Sort::Sign(Sign::Comma), tokens)?;
@@ -348,16 +348,16 @@ fn table_column_rest<'a>(
     text: &[u8],
     left: usize,
     tokens: &'a [Lexeme],
-) -> Result<(Seq<Column>, &'a [Lexeme]), Fault>
+) -> Result<(Seq<Column>, &'a [Lexeme]), SyntaxError>
     requires { left ≤ limit }
     ensures { Gives result ((each Part.TableColumnMore (spec.table_column_more text.now left)).read tokens.now) }
 {
     let mut found = Seq::new(alloc);
     let mut rest = tokens;
     while goes_on(Part::TableColumnMore, rest) {
-        let (next, behind) = table_column_more(alloc, text, left, rest)?;
+        let (next, after) = table_column_more(alloc, text, left, rest)?;
         found.push(next)?;
-        rest = behind;
+        rest = after;
     }
     Ok((found, rest))
 }
@@ -369,14 +369,14 @@ fn in_table_columns<'a>(
     text: &[u8],
     left: usize,
     tokens: &'a [Lexeme],
-) -> Result<(Seq<Column>, &'a [Lexeme]), Fault>
+) -> Result<(Seq<Column>, &'a [Lexeme]), SyntaxError>
     requires { left ≤ limit }
     ensures { Gives result ((spec.in_table_columns text.now left).read tokens.now) }
 {
     let (first, rest) = table_column(alloc, text, left, tokens)?;
     let (more, rest) = table_column_rest(alloc, text, left, rest)?;
     let (_, rest) = take(Sort::Sign(Sign::Close), rest)?;
-    Ok((first_and(alloc, first, more)?, rest))
+    Ok((prepend(alloc, first, more)?, rest))
 }
 
 /// `"(" keycol {"," keycol} ")"`
@@ -386,7 +386,7 @@ fn key_columns<'a>(
     text: &[u8],
     left: usize,
     tokens: &'a [Lexeme],
-) -> Result<(Seq<KeyColumn>, &'a [Lexeme]), Fault>
+) -> Result<(Seq<KeyColumn>, &'a [Lexeme]), SyntaxError>
     ensures { Gives result ((spec.key_columns text.now left).read tokens.now) }
 {
     let (_, rest) = enter(left, Sort::Sign(Sign::Open), tokens)?;
@@ -400,7 +400,7 @@ fn table_columns<'a>(
     text: &[u8],
     left: usize,
     tokens: &'a [Lexeme],
-) -> Result<(Seq<Column>, &'a [Lexeme]), Fault>
+) -> Result<(Seq<Column>, &'a [Lexeme]), SyntaxError>
     requires { left ≤ limit }
     ensures { Gives result ((spec.table_columns text.now left).read tokens.now) }
 {
@@ -409,16 +409,16 @@ fn table_columns<'a>(
 }
 
 /// What is after PRIMARY KEY.
-#[tactic(auto, unfolding(crate::specs::Declarations::keyed))]
-fn keyed<'a>(
+#[tactic(auto, unfolding(crate::specs::Declarations::key_and_parent))]
+fn key_and_parent<'a>(
     alloc: Global,
     text: &[u8],
     left: usize,
     name: Text,
     columns: Seq<Column>,
     tokens: &'a [Lexeme],
-) -> Result<(Table, &'a [Lexeme]), Fault>
-    ensures { Gives result ((spec.keyed text.now left name columns).read tokens.now) }
+) -> Result<(Table, &'a [Lexeme]), SyntaxError>
+    ensures { Gives result ((spec.key_and_parent text.now left name columns).read tokens.now) }
 {
     let (key, rest) = key_columns(alloc, text, left, tokens)?;
     let (parent, rest) = maybe_interleave(alloc, text, rest)?;
@@ -434,20 +434,20 @@ fn keyed<'a>(
 }
 
 /// What is after the columns of a table.
-#[tactic(auto, unfolding(crate::specs::Declarations::with_key))]
-fn with_key<'a>(
+#[tactic(auto, unfolding(crate::specs::Declarations::primary_key))]
+fn primary_key<'a>(
     alloc: Global,
     text: &[u8],
     left: usize,
     name: Text,
     columns: Seq<Column>,
     tokens: &'a [Lexeme],
-) -> Result<(Table, &'a [Lexeme]), Fault>
-    ensures { Gives result ((spec.with_key text.now left name columns).read tokens.now) }
+) -> Result<(Table, &'a [Lexeme]), SyntaxError>
+    ensures { Gives result ((spec.primary_key text.now left name columns).read tokens.now) }
 {
     let (_, rest) = take(Sort::Context(Context::Primary), tokens)?;
     let (_, rest) = take(Sort::Context(Context::Key), rest)?;
-    keyed(alloc, text, left, name, columns, rest)
+    key_and_parent(alloc, text, left, name, columns, rest)
 }
 
 /// What is after CREATE TABLE.
@@ -457,13 +457,13 @@ fn named_table<'a>(
     text: &[u8],
     left: usize,
     tokens: &'a [Lexeme],
-) -> Result<(Table, &'a [Lexeme]), Fault>
+) -> Result<(Table, &'a [Lexeme]), SyntaxError>
     requires { left ≤ limit }
     ensures { Gives result ((spec.named_table text.now left).read tokens.now) }
 {
     let (name, rest) = name(alloc, text, tokens)?;
     let (columns, rest) = table_columns(alloc, text, left, rest)?;
-    with_key(alloc, text, left, name, columns, rest)
+    primary_key(alloc, text, left, name, columns, rest)
 }
 
 /// `table`
@@ -473,7 +473,7 @@ fn table<'a>(
     text: &[u8],
     left: usize,
     tokens: &'a [Lexeme],
-) -> Result<(Table, &'a [Lexeme]), Fault>
+) -> Result<(Table, &'a [Lexeme]), SyntaxError>
     requires { left ≤ limit }
     ensures { Gives result ((spec.table text.now left).read tokens.now) }
 {
@@ -489,7 +489,7 @@ fn table_more<'a>(
     text: &[u8],
     left: usize,
     tokens: &'a [Lexeme],
-) -> Result<(Table, &'a [Lexeme]), Fault>
+) -> Result<(Table, &'a [Lexeme]), SyntaxError>
     requires { left ≤ limit }
     ensures { Gives result ((spec.table_more text.now left).read tokens.now) }
 {
@@ -504,23 +504,23 @@ fn table_rest<'a>(
     text: &[u8],
     left: usize,
     tokens: &'a [Lexeme],
-) -> Result<(Seq<Table>, &'a [Lexeme]), Fault>
+) -> Result<(Seq<Table>, &'a [Lexeme]), SyntaxError>
     requires { left ≤ limit }
     ensures { Gives result ((each Part.TableMore (spec.table_more text.now left)).read tokens.now) }
 {
     let mut found = Seq::new(alloc);
     let mut rest = tokens;
     while goes_on(Part::TableMore, rest) {
-        let (next, behind) = table_more(alloc, text, left, rest)?;
+        let (next, after) = table_more(alloc, text, left, rest)?;
         found.push(next)?;
-        rest = behind;
+        rest = after;
     }
     Ok((found, rest))
 }
 
 /// `[";"]`
 #[tactic(auto, unfolding(crate::specs::Declarations::maybe_last_semicolon))]
-fn maybe_last_semicolon(tokens: &[Lexeme]) -> Result<(bool, &[Lexeme]), Fault>
+fn maybe_last_semicolon(tokens: &[Lexeme]) -> Result<(bool, &[Lexeme]), SyntaxError>
     ensures { Gives result (spec.maybe_last_semicolon.read tokens.now) }
 {
     if !next_is(Sort::LastSemicolon, tokens) {
@@ -537,12 +537,12 @@ pub(crate) fn tables<'a>(
     text: &[u8],
     left: usize,
     tokens: &'a [Lexeme],
-) -> Result<(Seq<Table>, &'a [Lexeme]), Fault>
+) -> Result<(Seq<Table>, &'a [Lexeme]), SyntaxError>
     requires { left ≤ limit }
     ensures { Gives result ((spec.tables text.now left).read tokens.now) }
 {
     let (first, rest) = table(alloc, text, left, tokens)?;
     let (more, rest) = table_rest(alloc, text, left, rest)?;
     let (_, rest) = maybe_last_semicolon(rest)?;
-    Ok((first_and(alloc, first, more)?, rest))
+    Ok((prepend(alloc, first, more)?, rest))
 }

@@ -2,17 +2,17 @@
 use Rattle.std.proofs.Common.{◌≡◌, ◌∙◌, ◌+◌, ℕ, List, [], ◌∷◌, ◌++◌, refl, sym, ap, subst, length, append_assoc, arith, codes}
 use Rattle.std.proofs.lemmas.List.{append-nil, length-append}
 use Rattle.span_machine.specs.Machine.{Machine}
-use Rattle.span_core.specs.declared.slot.SlotState.{SlotState}
+use Rattle.span_core.specs.declared.slot.SlotReport.{SlotReport}
 use Rattle.span_script.specs.Lines.{IsState, AreStates, AreShards, slot_line, slot_lines, number_line}
 
 -- the lines after those before report the first slots
-abbrev pub Told : Machine → List ℕ → ℕ → List ℕ → Type 0
-Told m before slot lines = (states : List SlotState) × (length states ≡ slot) × AreStates m 0 states × (lines ≡ before ++ slot_lines 0 states)
+abbrev pub AreReported : Machine → List ℕ → ℕ → List ℕ → Type 0
+AreReported m before slot lines = (states : List SlotReport) × (length states ≡ slot) × AreStates m 0 states × (lines ≡ before ++ slot_lines 0 states)
 
-pub none_told : (m : Machine) (before : List ℕ) → Told m before 0 before
+pub none_told : (m : Machine) (before : List ℕ) → AreReported m before 0 before
 none_told m before = ([], refl, tt, sym (append-nil before))
 
-states_push : (m : Machine) (slot : ℕ) (states : List SlotState) (state : SlotState) → AreStates m slot states → IsState m (slot + length states) state
+states_push : (m : Machine) (slot : ℕ) (states : List SlotReport) (state : SlotReport) → AreStates m slot states → IsState m (slot + length states) state
     → AreStates m slot (states ++ state ∷ [])
 states_push m slot [] state are is =
     let same : slot + 0 ≡ slot = omega arith in
@@ -21,7 +21,7 @@ states_push m slot (first ∷ states) state are is =
     let same : slot + length (first ∷ states) ≡ slot + 1 + length states = omega arith in
     (are.0, states_push m (slot + 1) states state are.1 (subst (λ k. IsState m k state) same is))
 
-lines_push : (slot : ℕ) (states : List SlotState) (state : SlotState)
+lines_push : (slot : ℕ) (states : List SlotReport) (state : SlotReport)
     → slot_lines slot (states ++ state ∷ []) ≡ slot_lines slot states ++ slot_line (slot + length states) state
 lines_push slot [] state =
     let same : slot + 0 ≡ slot = omega arith in
@@ -31,8 +31,8 @@ lines_push slot (first ∷ states) state =
     ap (λ (w : List ℕ). slot_line slot first ++ w) (lines_push (slot + 1) states state ∙ ap (λ k. slot_lines (slot + 1) states ++ slot_line k state) (sym same))
     ∙ sym (append_assoc (slot_line slot first) (slot_lines (slot + 1) states) (slot_line (slot + length (first ∷ states)) state))
 
-pub one_more : (m : Machine) (before : List ℕ) (slot : ℕ) (lines : List ℕ) (state : SlotState)
-    → Told m before slot lines → IsState m slot state → Told m before (slot + 1) (lines ++ slot_line slot state)
+pub one_more : (m : Machine) (before : List ℕ) (slot : ℕ) (lines : List ℕ) (state : SlotReport)
+    → AreReported m before slot lines → IsState m slot state → AreReported m before (slot + 1) (lines ++ slot_line slot state)
 one_more m before slot lines state told is =
     let states = told.0 in
     let here : length states ≡ slot = told.1 in
@@ -46,10 +46,10 @@ one_more m before slot lines state told is =
           ∙ ap (λ (w : List ℕ). before ++ w) (sym (lines_push 0 states state)),
     )
 
-pub all_told : (m : Machine) (old header lines : List ℕ) (n : ℕ) → n ≡ length m.books
-    → header ≡ number_line (codes "shards") (length m.books)
-    → Told m (old ++ header) n lines → (told : List ℕ) × AreShards m told × (lines ≡ old ++ told)
-all_told m old header lines n all is told = (
+pub all_reported : (m : Machine) (old header lines : List ℕ) (n : ℕ) → n ≡ length m.slots
+    → header ≡ number_line (codes "shards") (length m.slots)
+    → AreReported m (old ++ header) n lines → (told : List ℕ) × AreShards m told × (lines ≡ old ++ told)
+all_reported m old header lines n all is told = (
   header ++ slot_lines 0 told.0,
   (told.0, told.1 ∙ all, told.2, ap (λ (w : List ℕ). w ++ slot_lines 0 told.0) is),
   told.3 ∙ append_assoc old header (slot_lines 0 told.0),

@@ -7,7 +7,7 @@ use Rattle.span_machine.specs.declared.step.Reply.{Reply}
 use Rattle.span_machine.specs.declared.step.Reply.TheVariants as reply
 use Rattle.span_value.specs.declared.value.Value.{Value}
 use Rattle.span_record.specs.Record.{row_records}
-use Rattle.span_core.specs.declared.slot.SlotState.{SlotState}
+use Rattle.span_core.specs.declared.slot.SlotReport.{SlotReport}
 
 -- a word and a number
 abbrev pub numbered : List ℕ → ℕ → List ℕ
@@ -29,14 +29,14 @@ opened_line query s leaves = numbered (codes "query") query ++ numbered (codes "
 abbrev pub slot_range : ℕ → List ℕ
 slot_range slot = numbered (codes "shard") slot ++ codes " [-,-)"
 
-abbrev pub slot_times : SlotState → List ℕ
+abbrev pub slot_times : SlotReport → List ℕ
 slot_times state = numbered (codes " last") state.last ++ numbered (codes " floor") state.floor ++ numbered (codes " horizon") state.horizon
 
-abbrev pub slot_counts : SlotState → List ℕ
+abbrev pub slot_counts : SlotReport → List ℕ
 slot_counts state = numbered (codes " live") state.live ++ number_line (codes " prepared") state.prepared
 
 -- the line of a slot
-abbrev pub slot_line : ℕ → SlotState → List ℕ
+abbrev pub slot_line : ℕ → SlotReport → List ℕ
 slot_line slot state = slot_range slot ++ slot_times state ++ slot_counts state
 
 -- how many rows there are, and their records
@@ -60,23 +60,23 @@ reply_text reply.Closed = word_line (codes "closed")
 reply_text (reply.Refused why) = number_line (codes "refused") (number_of why)
 
 -- the report of a slot has its state's timestamps, and how many transactions are prepared there
-abbrev pub IsState : Machine → ℕ → SlotState → Type 0
+abbrev pub IsState : Machine → ℕ → SlotReport → Type 0
 IsState m slot state =
-    (slice_get m.books slot ≡ Some (record { last = state.last; floor = state.floor; horizon = state.horizon }))
+    (slice_get m.slots slot ≡ Some (record { last = state.last; floor = state.floor; horizon = state.horizon }))
     × (state.prepared ≡ count_by (is_prepared_at slot) m.transactions)
 
 -- the states are those of the slots from this one on, in order
-abbrev pub AreStates : Machine → ℕ → List SlotState → Type 0
+abbrev pub AreStates : Machine → ℕ → List SlotReport → Type 0
 AreStates m slot [] = ⊤
 AreStates m slot (state ∷ states) = IsState m slot state × AreStates m (slot + 1) states
 
 -- the lines of the slots from this one on
-abbrev pub slot_lines : ℕ → List SlotState → List ℕ
+abbrev pub slot_lines : ℕ → List SlotReport → List ℕ
 slot_lines slot [] = []
 slot_lines slot (state ∷ states) = slot_line slot state ++ slot_lines (slot + 1) states
 
 -- how many slots are in use, and the line of each
 abbrev pub AreShards : Machine → List ℕ → Type 0
 AreShards m lines =
-    (states : List SlotState) × (length states ≡ length m.books) × AreStates m 0 states
-    × (lines ≡ number_line (codes "shards") (length m.books) ++ slot_lines 0 states)
+    (states : List SlotReport) × (length states ≡ length m.slots) × AreStates m 0 states
+    × (lines ≡ number_line (codes "shards") (length m.slots) ++ slot_lines 0 states)

@@ -8,7 +8,7 @@ ghost use Rattle.span_command.specs.Device.{risen};
 use itoa::Buffer;
 use span_command::device::Output;
 use span_core::database::Core;
-use span_core::slot::SlotState;
+use span_core::slot::SlotReport;
 use span_core::{Refusal, Reply, Row};
 use span_record::write::rows_text;
 use std::alloc::Global;
@@ -18,7 +18,7 @@ use std::marker::Model;
 const MOST_KEPT: usize = 65_536;
 
 /// Reserved capacity for the answers of one line, in bytes.
-const ROOM: usize = 4_096;
+const LINE_CAPACITY: usize = 4_096;
 
 /// The answers that are not written yet.
 #[derive(Drop)]
@@ -41,7 +41,7 @@ impl Answers {
         ensures memory { IsOkUnless result Refusal.OutOfMemory }
     {
         Ok(Answers {
-            bytes: Vec::with_capacity(alloc, MOST_KEPT + ROOM)?,
+            bytes: Vec::with_capacity(alloc, MOST_KEPT + LINE_CAPACITY)?,
         })
     }
 
@@ -181,7 +181,7 @@ impl Answers {
     {
         self.number_line("shards", core.slots() as u64)?;
         for slot in 0..core.slots() {
-            if let Some(state) = core.slot_state(slot) {
+            if let Some(state) = core.slot_report(slot) {
                 self.slot(slot, state)?;
             }
         }
@@ -189,7 +189,7 @@ impl Answers {
     }
 
     /// The line of a slot.
-    fn slot(&mut self, slot: usize, state: SlotState) -> Result<(), Refusal>
+    fn slot(&mut self, slot: usize, state: SlotReport) -> Result<(), Refusal>
         ensures added { OnOk result (self.new ≡ self.old ++ slot_line slot state) }
         ensures memory { IsOkUnless result Refusal.OutOfMemory }
     {
@@ -207,7 +207,7 @@ impl Answers {
         self.text(" [-,-)")
     }
 
-    fn slot_times(&mut self, state: SlotState) -> Result<(), Refusal>
+    fn slot_times(&mut self, state: SlotReport) -> Result<(), Refusal>
         ensures added { OnOk result (self.new ≡ self.old ++ slot_times state) }
         ensures memory { IsOkUnless result Refusal.OutOfMemory }
     {
@@ -216,7 +216,7 @@ impl Answers {
         self.numbered(" horizon", state.horizon)
     }
 
-    fn slot_counts(&mut self, state: SlotState) -> Result<(), Refusal>
+    fn slot_counts(&mut self, state: SlotReport) -> Result<(), Refusal>
         ensures added { OnOk result (self.new ≡ self.old ++ slot_counts state) }
         ensures memory { IsOkUnless result Refusal.OutOfMemory }
     {

@@ -27,7 +27,7 @@ use Rattle.span_shard.specs.KeyVersions.{KeyVersions}
 use Rattle.span_shard.specs.Writes.{IsWrite, is_of}
 use Rattle.span_shard.specs.Rows.{code_of, is_coded, row_coded, is_touched}
 use Rattle.span_shard.specs.Shard.{is_key, row_now, IsNow}
-use Rattle.span_shard.specs.Reading.{is_under, row_of, is_same_row, coded, IsFound, AreDiffs, AreWrites, IsFault}
+use Rattle.span_shard.specs.Reading.{is_under, row_of, is_same_row, coded, AreKeysUnder, AreDiffs, AreWrites, IsFault}
 use Rattle.span_shard.proofs.Lists.{all_map, all_both, all_append, all_filter_itself, any_all, found_all, found_any, none_any, any_none, none_passes, filter_all, filter_none}
 use Rattle.span_shard.proofs.Bytes.{same_bytes}
 use Rattle.span_shard.proofs.Sorting.{all_permuted, any_permuted}
@@ -164,7 +164,7 @@ abbrev is_new : List KeyVersions → Write → Bool
 is_new cs w = not (is_same_row (row_now cs w.key) w.row)
 
 pub goods : (tables : List Table) → MeetsRules tables → (ms : List CheckedMutation) (roots : List (List ℕ)) (cs found : List KeyVersions) (after : List TableRow) (ws : List Write) → ((k : List ℕ) → is_under roots k ≡ is_touched tables ms k)
-    → IsFound roots cs found → IsAfter tables ms after → AreDiffs tables cs found after ws → AllByRecursion (IsGood tables ms cs after) ws
+    → AreKeysUnder roots cs found → IsAfter tables ms after → AreDiffs tables cs found after ws → AllByRecursion (IsGood tables ms cs after) ws
 goods tables rules ms roots cs found after ws same f a d =
     subst (AllByRecursion (IsGood tables ms cs after)) d.whole
     (all_append (IsGood tables ms cs after) (filter (is_new cs) d.left) d.gone
@@ -203,7 +203,7 @@ or_none true b e = absurd (let f : true ≡ false = e in cc)
 or_none false b e = (refl, e)
 
 pub nothing_new : (tables : List Table) → MeetsRules tables → (ms : List CheckedMutation) (roots : List (List ℕ)) (cs found : List KeyVersions) (after : List TableRow) (ws : List Write) → ((k : List ℕ) → is_under roots k ≡ is_touched tables ms k)
-    → IsFound roots cs found → IsAfter tables ms after → AreDiffs tables cs found after ws → (k : List ℕ) → list_any (is_of k) ws ≡ false → row_coded tables after k ≡ visible tables ms cs k
+    → AreKeysUnder roots cs found → IsAfter tables ms after → AreDiffs tables cs found after ws → (k : List ℕ) → list_any (is_of k) ws ≡ false → row_coded tables after k ≡ visible tables ms cs k
 nothing_new tables rules ms roots cs found after ws same f a d k none = by_left (list_any (is_of k) d.left) refl
   where
     split : (list_any (is_of k) (filter (is_new cs) d.left) ≡ false) × (list_any (is_of k) d.gone ≡ false)
@@ -246,7 +246,7 @@ nothing_new tables rules ms roots cs found after ws same f a d k none = by_left 
 -- ---- on each database
 
 pub changes_of : (tables : List Table) → MeetsRules tables → (ms : List CheckedMutation) (roots : List (List ℕ)) (cs found : List KeyVersions) (after : List TableRow) (ws : List Write) → ((k : List ℕ) → is_under roots k ≡ is_touched tables ms k)
-    → IsFound roots cs found → IsAfter tables ms after → AreDiffs tables cs found after ws → (k : List ℕ) → IsWrite k (visible tables ms cs k) (row_coded tables after k) (find (is_of k) ws)
+    → AreKeysUnder roots cs found → IsAfter tables ms after → AreDiffs tables cs found after ws → (k : List ℕ) → IsWrite k (visible tables ms cs k) (row_coded tables after k) (find (is_of k) ws)
 changes_of tables rules ms roots cs found after ws same f a d k = by_found (find (is_of k) ws) refl
   where
     by_found : (o : Option Write) → find (is_of k) ws ≡ o → IsWrite k (visible tables ms cs k) (row_coded tables after k) o
@@ -306,7 +306,7 @@ no_write k u v None e h = refl
 no_write k u v (Some w) e h = absurd (h.2 (sym e))
 
 pub writes_of : (tables : List Table) → MeetsRules tables → (ms : List CheckedMutation) → AreTypedMutations tables ms → (roots : List (List ℕ)) (cs found : List KeyVersions) (b after : List TableRow) (ws : List Write) → ((k : List ℕ) → is_under roots k ≡ is_touched tables ms k)
-    → IsFound roots cs found → IsPart tables ms cs b → apply tables b ms ≡ Ok after → AreDiffs tables cs found after ws → AreWrites tables ms cs ws
+    → AreKeysUnder roots cs found → IsPart tables ms cs b → apply tables b ms ≡ Ok after → AreDiffs tables cs found after ws → AreWrites tables ms cs ws
 writes_of tables rules ms typed roots cs found b after ws same f p e d = record {
   touched = all_map (IsGood tables ms cs after) (λ (w : Write). is_touched tables ms w.key ≡ true) (λ w h. h.touched) ws (goods tables rules ms roots cs found after ws same f a d);
   changes = λ db is tdb now.

@@ -18,7 +18,7 @@ use Rattle.span_shard.specs.declared.chain.PreparedWrite.{PreparedWrite}
 use Rattle.span_shard.specs.declared.node.PreparedNode.{PreparedNode}
 use Rattle.span_shard.specs.KeyVersions.{KeyVersions}
 use Rattle.span_shard.specs.Versions.{with_version, applied_write, applied_to_key}
-use Rattle.span_shard.specs.Stored.{version_of, chain_versions, is_for, write_of, write_for, kept, kept_entry, all_kept, IsNodeOf, AreOwned, HasEnded, ended, is_other, left_of}
+use Rattle.span_shard.specs.Stored.{version_of, chain_versions, is_for, write_of, write_for, kept, kept_entry, all_kept, IsNodeOf, AreOwned, HasEnded, ended, is_other, remaining_nodes}
 use Rattle.span_shard.proofs.Lists.{all_filter_itself}
 use Rattle.span_shard.proofs.Owned.{all_back_of, kept_equal, owned_without, write_elsewhere, write_gone, write_was}
 
@@ -105,23 +105,23 @@ module _ (ps : List PreparedNode) (i : ℕ) (p : PreparedNode) (lt : i < length 
   passed : filter (is_other txn) (take (i + 1) ps) ≡ filter (is_other txn) (take i ps) ++ cond (is_other txn p) (p ∷ []) []
   passed = ap (filter (is_other txn)) front_is ∙ filter-append (is_other txn) (take i ps) (p ∷ [])
 
-  pub before : left_of txn i ps ≡ filter (is_other txn) (take i ps) ++ p ∷ drop (i + 1) ps
+  pub before : remaining_nodes txn i ps ≡ filter (is_other txn) (take i ps) ++ p ∷ drop (i + 1) ps
   before = ap (λ (l : List PreparedNode). filter (is_other txn) (take i ps) ++ l) first
 
-  pub own_next : p.txn ≡ txn → left_of txn (i + 1) ps ≡ filter (is_other txn) (take i ps) ++ drop (i + 1) ps
+  pub own_next : p.txn ≡ txn → remaining_nodes txn (i + 1) ps ≡ filter (is_other txn) (take i ps) ++ drop (i + 1) ps
   own_next e =
       let t : (p.txn == txn) ≡ true = grind (arith, nat_tests) in
       ap (λ (l : List PreparedNode). l ++ drop (i + 1) ps)
       (passed ∙ ap (λ b. filter (is_other txn) (take i ps) ++ cond (not b) (p ∷ []) []) t ∙ append-nil (filter (is_other txn) (take i ps)))
 
-  pub other_next : p.txn ≢ txn → left_of txn (i + 1) ps ≡ left_of txn i ps
+  pub other_next : p.txn ≢ txn → remaining_nodes txn (i + 1) ps ≡ remaining_nodes txn i ps
   other_next e =
       let t : (p.txn == txn) ≡ false = grind (arith, nat_tests) in
       ap (λ (l : List PreparedNode). l ++ drop (i + 1) ps)
       (passed ∙ ap (λ b. filter (is_other txn) (take i ps) ++ cond (not b) (p ∷ []) []) t)
       ∙ append_assoc (filter (is_other txn) (take i ps)) (p ∷ []) (drop (i + 1) ps) ∙ sym before
 
-  module _ (committed : Option ℕ) (a b : Content) (so_far : HasEnded txn committed a b ps (left_of txn i ps)) where
+  module _ (committed : Option ℕ) (a b : Content) (so_far : HasEnded txn committed a b ps (remaining_nodes txn i ps)) where
     owned_here : AreOwned b (filter (is_other txn) (take i ps) ++ p ∷ drop (i + 1) ps)
     owned_here = subst (AreOwned b) before so_far.owned
 
@@ -130,7 +130,7 @@ module _ (ps : List PreparedNode) (i : ℕ) (p : PreparedNode) (lt : i < length 
         let at = (all_back_of (IsNodeOf b) (filter (is_other txn) (take i ps)) (p ∷ drop (i + 1) ps) owned_here.nodes).0 in
         subst (λ (o : Option Prepared). IsSomePrepared o (λ _. Unit {0})) (sym at.prepared) tt
 
-    pub ends_own : p.txn ≡ txn → (d : Content) → d ≡ ended b p.node.number committed → HasEnded txn committed a d ps (left_of txn (i + 1) ps)
+    pub ends_own : p.txn ≡ txn → (d : Content) → d ≡ ended b p.node.number committed → HasEnded txn committed a d ps (remaining_nodes txn (i + 1) ps)
     ends_own e d is =
         let xs = filter (is_other txn) (take i ps) in
         let ys = drop (i + 1) ps in
@@ -141,15 +141,15 @@ module _ (ps : List PreparedNode) (i : ℕ) (p : PreparedNode) (lt : i < length 
           keys = λ key c. ended_key b d xs ys p owned_here txn committed e is key c ∙ ap (λ (l : List PreparedNode). applied_to_key txn committed (kept b l key c)) (sym before) ∙ so_far.keys key c;
         })
 
-    pub ends_other : p.txn ≢ txn → HasEnded txn committed a b ps (left_of txn (i + 1) ps)
+    pub ends_other : p.txn ≢ txn → HasEnded txn committed a b ps (remaining_nodes txn (i + 1) ps)
     ends_other e = subst (HasEnded txn committed a b ps) (sym (other_next e)) so_far
 
-pub ends_start : (txn : ℕ) (committed : Option ℕ) (a : Content) (ps : List PreparedNode) → AreOwned a ps → HasEnded txn committed a a ps (left_of txn 0 ps)
+pub ends_start : (txn : ℕ) (committed : Option ℕ) (a : Content) (ps : List PreparedNode) → AreOwned a ps → HasEnded txn committed a a ps (remaining_nodes txn 0 ps)
 ends_start txn committed a ps owned = record { owned = owned; most = refl; same = λ c. refl; keys = λ key c. refl }
 
-pub ends_all : (txn : ℕ) (committed : Option ℕ) (a b : Content) (ps : List PreparedNode) (i : ℕ) → length ps ≤ i → HasEnded txn committed a b ps (left_of txn i ps) → HasEnded txn committed a b ps (filter (is_other txn) ps)
+pub ends_all : (txn : ℕ) (committed : Option ℕ) (a b : Content) (ps : List PreparedNode) (i : ℕ) → length ps ≤ i → HasEnded txn committed a b ps (remaining_nodes txn i ps) → HasEnded txn committed a b ps (filter (is_other txn) ps)
 ends_all txn committed a b ps i le h =
-    let e : left_of txn i ps ≡ filter (is_other txn) ps =
+    let e : remaining_nodes txn i ps ≡ filter (is_other txn) ps =
     ap (λ (l : List PreparedNode). filter (is_other txn) l ++ drop i ps) (take_all i ps le) ∙ ap (λ (l : List PreparedNode). filter (is_other txn) ps ++ l) (drop_all i ps le) ∙ append-nil (filter (is_other txn) ps) in
     subst (HasEnded txn committed a b ps) e h
 

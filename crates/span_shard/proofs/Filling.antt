@@ -18,7 +18,7 @@ use Rattle.span_shard.specs.declared.node.PreparedNode.{PreparedNode}
 use Rattle.span_shard.specs.declared.write.Write.{Write}
 use Rattle.span_shard.specs.KeyVersions.{KeyVersions}
 use Rattle.span_shard.specs.Versions.{with_prepared}
-use Rattle.span_shard.specs.Shard.{IsInUse, is_key, prepared_of, prepared_at, by_order, fresh, prepared_write, with_write, with_writes, kept_of, live, IsPutRefused, ArePutsRefused}
+use Rattle.span_shard.specs.Shard.{IsInUse, is_key, prepared_of, prepared_at, by_order, new_key, prepared_write, with_write, with_writes, kept_of, live, IsPutRefused, ArePutsRefused}
 use Rattle.span_shard.specs.Stored.{all_kept, IsStored, IsRefusedFor}
 use Rattle.span_shard.proofs.Slots.{IsSlot}
 use Rattle.span_shard.proofs.Counting.{live_is}
@@ -54,21 +54,21 @@ one_more w c none =
     omega (arith, e)
 
 pub live_more : (txn : ℕ) (w : Write) (cs : List KeyVersions) → live cs ≤ live (with_write txn w cs)
-live_more txn w [] = omega (arith, sum_by-cons kept_of (fresh txn w) [])
+live_more txn w [] = omega (arith, sum_by-cons kept_of (new_key txn w) [])
 live_more txn w (c ∷ cs) =
-    elim (byte_order w.key c.key) as (λ o. live (c ∷ cs) ≤ live (by_order o (fresh txn w ∷ c ∷ cs) (with_prepared (prepared_write txn w) c ∷ cs) (c ∷ with_write txn w cs))) [
-      | Less ↦ omega (arith, sum_by-cons kept_of (fresh txn w) (c ∷ cs))
+    elim (byte_order w.key c.key) as (λ o. live (c ∷ cs) ≤ live (by_order o (new_key txn w ∷ c ∷ cs) (with_prepared (prepared_write txn w) c ∷ cs) (c ∷ with_write txn w cs))) [
+      | Less ↦ omega (arith, sum_by-cons kept_of (new_key txn w) (c ∷ cs))
       | Equal ↦ omega (arith, sum_by-cons kept_of c cs, sum_by-cons kept_of (with_prepared (prepared_write txn w) c) cs, more_kept (prepared_write txn w) c)
       | Greater ↦ omega (arith, sum_by-cons kept_of c cs, sum_by-cons kept_of c (with_write txn w cs), live_more txn w cs)
     ]
 
 pub live_one_more : (txn : ℕ) (w : Write) (cs : List KeyVersions) → prepared_at cs w.key ≡ None → live (with_write txn w cs) ≡ live cs + 1
-live_one_more txn w [] none = omega (arith, sum_by-cons kept_of (fresh txn w) [])
+live_one_more txn w [] none = omega (arith, sum_by-cons kept_of (new_key txn w) [])
 live_one_more txn w (c ∷ cs) none = cases (byte_order w.key c.key) refl none (live_one_more txn w cs)
   where
     cases : (o : Ordering) → byte_order w.key c.key ≡ o → prepared_of (cond (is_eq o) (Some c) (find (is_key w.key) cs)) ≡ None → (prepared_at cs w.key ≡ None → live (with_write txn w cs) ≡ live cs + 1)
-        → live (by_order o (fresh txn w ∷ c ∷ cs) (with_prepared (prepared_write txn w) c ∷ cs) (c ∷ with_write txn w cs)) ≡ live (c ∷ cs) + 1
-    cases Less is vacant again = omega (arith, sum_by-cons kept_of (fresh txn w) (c ∷ cs))
+        → live (by_order o (new_key txn w ∷ c ∷ cs) (with_prepared (prepared_write txn w) c ∷ cs) (c ∷ with_write txn w cs)) ≡ live (c ∷ cs) + 1
+    cases Less is vacant again = omega (arith, sum_by-cons kept_of (new_key txn w) (c ∷ cs))
     cases Equal is vacant again = omega (arith, sum_by-cons kept_of c cs, sum_by-cons kept_of (with_prepared (prepared_write txn w) c) cs, one_more (prepared_write txn w) c vacant)
     cases Greater is vacant again = omega (arith, sum_by-cons kept_of c cs, sum_by-cons kept_of c (with_write txn w cs), again vacant)
 

@@ -12,7 +12,7 @@ use Rattle.span_shard.specs.KeyVersions.{KeyVersions}
 use Rattle.span_shard.specs.Versions.{row_at}
 use Rattle.span_shard.specs.Rows.{begins_with}
 use Rattle.span_shard.specs.Shard.{AreInOrder, keys_cmp, is_key, row_now, versions_of, end_of_time}
-use Rattle.span_shard.specs.Reading.{bare, is_under, row_of, IsFound}
+use Rattle.span_shard.specs.Reading.{versions_alone, is_under, row_of, AreKeysUnder}
 use Rattle.span_shard.proofs.Lists.{all_map, all_both, all_append, all_filter_itself, any_found}
 use Rattle.span_shard.proofs.Bytes.{bytes_total, same_bytes}
 
@@ -58,25 +58,25 @@ has_key cs k some = cases (find (is_key k) cs) refl some
 abbrev IsOwn : List KeyVersions → List (List ℕ) → KeyVersions → Type 0
 IsOwn cs roots c = (is_under roots c.key ≡ true) × (row_now cs c.key ≡ row_of c)
 
-all_bare : (P : KeyVersions → Type 0) (xs : List KeyVersions) → AllByRecursion (λ c. P (bare c)) xs → AllByRecursion P (map bare xs)
+all_bare : (P : KeyVersions → Type 0) (xs : List KeyVersions) → AllByRecursion (λ c. P (versions_alone c)) xs → AllByRecursion P (map versions_alone xs)
 all_bare P [] h = tt
 all_bare P (x ∷ xs) h = (h.0, all_bare P xs h.1)
 
-any_bare : (k : List ℕ) (xs : List KeyVersions) → list_any (is_key k) (map bare xs) ≡ list_any (is_key k) xs
+any_bare : (k : List ℕ) (xs : List KeyVersions) → list_any (is_key k) (map versions_alone xs) ≡ list_any (is_key k) xs
 any_bare k [] = refl
 any_bare k (x ∷ xs) = ap (λ (b : Bool). is_key k x || b) (any_bare k xs)
 
 -- the keys under one root more
-pub found_more : (cs : List KeyVersions) → AreInOrder cs → (done : List (List ℕ)) (p : List ℕ) (found : List KeyVersions) → IsFound done cs found → IsFound (done ++ p ∷ []) cs (found ++ map bare (filter (λ (c : KeyVersions). begins_with c.key p) cs))
+pub found_more : (cs : List KeyVersions) → AreInOrder cs → (done : List (List ℕ)) (p : List ℕ) (found : List KeyVersions) → AreKeysUnder done cs found → AreKeysUnder (done ++ p ∷ []) cs (found ++ map versions_alone (filter (λ (c : KeyVersions). begins_with c.key p) cs))
 found_more cs sorted done p found h = record {
-  sound = all_append (IsOwn cs (done ++ p ∷ [])) found (map bare (filter (λ (c : KeyVersions). begins_with c.key p) cs))
+  sound = all_append (IsOwn cs (done ++ p ∷ [])) found (map versions_alone (filter (λ (c : KeyVersions). begins_with c.key p) cs))
       (all_map (IsOwn cs done) (IsOwn cs (done ++ p ∷ [])) (λ c g. (under_more done p c.key ∙ or_left (is_under done c.key) (begins_with c.key p || false) g.0, g.1)) found h.sound)
       (all_bare (IsOwn cs (done ++ p ∷ [])) (filter (λ (c : KeyVersions). begins_with c.key p) cs) (all_map (λ (c : KeyVersions). (begins_with c.key p ≡ true) × (row_now cs c.key ≡ row_of c)) (IsOwn cs (done ++ p ∷ []))
       (λ c g. (under_more done p c.key ∙ or_right (is_under done c.key) (begins_with c.key p || false) (or_left (begins_with c.key p) false g.0), g.1)) (filter (λ (c : KeyVersions). begins_with c.key p) cs)
       (all_both (λ (c : KeyVersions). begins_with c.key p ≡ true) (λ (c : KeyVersions). row_now cs c.key ≡ row_of c) (filter (λ (c : KeyVersions). begins_with c.key p) cs)
       (all_filter_itself (λ (c : KeyVersions). begins_with c.key p) cs) (all_filter (λ (c : KeyVersions). row_now cs c.key ≡ row_of c) (λ (c : KeyVersions). begins_with c.key p) cs (own_rows cs sorted)))));
   complete = λ k under some.
-      list_any-append (is_key k) found (map bare (filter (λ (c : KeyVersions). begins_with c.key p) cs))
+      list_any-append (is_key k) found (map versions_alone (filter (λ (c : KeyVersions). begins_with c.key p) cs))
       ∙ ap (λ (b : Bool). list_any (is_key k) found || b) (any_bare k (filter (λ (c : KeyVersions). begins_with c.key p) cs))
       ∙ or_either ((list_any (is_key k) found || list_any (is_key k) (filter (λ (c : KeyVersions). begins_with c.key p) cs)) ≡ true) (is_under done k) (begins_with k p || false)
       (λ e. or_left (list_any (is_key k) found) (list_any (is_key k) (filter (λ (c : KeyVersions). begins_with c.key p) cs)) (h.complete k e some))
@@ -91,13 +91,13 @@ found_more cs sorted done p found h = record {
         (find_kept (is_key k) (λ (d : KeyVersions). begins_with d.key p) (λ d f. ap (λ (l : List ℕ). begins_with l p) (sym (same_bytes k d.key f)) ∙ e) cs ∙ c.1)
 
 -- a root that was there before
-pub found_same : (cs : List KeyVersions) (done : List (List ℕ)) (p : List ℕ) (found : List KeyVersions) → ((k : List ℕ) → begins_with k p ≡ true → is_under done k ≡ true) → IsFound done cs found → IsFound (done ++ p ∷ []) cs found
+pub found_same : (cs : List KeyVersions) (done : List (List ℕ)) (p : List ℕ) (found : List KeyVersions) → ((k : List ℕ) → begins_with k p ≡ true → is_under done k ≡ true) → AreKeysUnder done cs found → AreKeysUnder (done ++ p ∷ []) cs found
 found_same cs done p found known h = record {
   sound = all_map (IsOwn cs done) (IsOwn cs (done ++ p ∷ [])) (λ c g. (under_more done p c.key ∙ or_left (is_under done c.key) (begins_with c.key p || false) g.0, g.1)) found h.sound;
   complete = λ k under some. h.complete k (or_either (is_under done k ≡ true) (is_under done k) (begins_with k p || false) (λ e. e) (λ e. known k (or_false (begins_with k p) e)) (sym (under_more done p k) ∙ under)) some;
 }
 
-pub found_none : (cs : List KeyVersions) → IsFound [] cs []
+pub found_none : (cs : List KeyVersions) → AreKeysUnder [] cs []
 found_none cs = record { sound = tt; complete = λ k under some. absurd (let f : false ≡ true = under in cc) }
 
 -- an item that passes is among those taken

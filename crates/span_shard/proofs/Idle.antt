@@ -13,7 +13,7 @@ use Rattle.span_shard.specs.declared.write.Write.{Write}
 use Rattle.span_shard.specs.KeyVersions.{KeyVersions}
 use Rattle.span_shard.specs.Versions.{is_used, with_prepared, with_version, applied_write, applied_to_key}
 use Rattle.span_shard.specs.Rows.{is_touched}
-use Rattle.span_shard.specs.Shard.{by_order, fresh, prepared_write, with_write, with_writes, applied, IsNotOf, HasNoneOf, IsFree}
+use Rattle.span_shard.specs.Shard.{by_order, new_key, prepared_write, with_write, with_writes, applied, IsNotOf, HasNoneOf, IsFree}
 use Rattle.span_shard.specs.Tested.{IsIdle}
 use Rattle.span_shard.proofs.Lists.{all_map}
 use Rattle.span_shard.proofs.Undo.{IsOpenFor}
@@ -30,7 +30,7 @@ OnlyOf txn cs = AllByRecursion (λ (c : KeyVersions). IsOpenFor txn c.prepared) 
 only_with_write : (txn : ℕ) (w : Write) (cs : List KeyVersions) → OnlyOf txn cs → OnlyOf txn (with_write txn w cs)
 only_with_write txn w [] h = (refl, tt)
 only_with_write txn w (c ∷ cs) h =
-    elim (byte_order w.key c.key) as (λ o. OnlyOf txn (by_order o (fresh txn w ∷ c ∷ cs) (with_prepared (prepared_write txn w) c ∷ cs) (c ∷ with_write txn w cs))) [
+    elim (byte_order w.key c.key) as (λ o. OnlyOf txn (by_order o (new_key txn w ∷ c ∷ cs) (with_prepared (prepared_write txn w) c ∷ cs) (c ∷ with_write txn w cs))) [
       | Less ↦ (refl, h)
       | Equal ↦ (refl, h.1)
       | Greater ↦ (h.0, only_with_write txn w cs h.1)

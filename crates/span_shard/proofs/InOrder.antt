@@ -10,7 +10,7 @@ use Rattle.span_shard.specs.declared.chain.PreparedWrite.{PreparedWrite}
 use Rattle.span_shard.specs.declared.write.Write.{Write}
 use Rattle.span_shard.specs.KeyVersions.{KeyVersions}
 use Rattle.span_shard.specs.Versions.{is_used, with_prepared, with_version, applied_write, applied_to_key}
-use Rattle.span_shard.specs.Shard.{keys_cmp, AreInOrder, by_order, fresh, prepared_write, with_write, with_writes, applied, trimmed_key, trimmed}
+use Rattle.span_shard.specs.Shard.{keys_cmp, AreInOrder, by_order, new_key, prepared_write, with_write, with_writes, applied, trimmed_key, trimmed}
 use Rattle.span_shard.proofs.Bytes.{bytes_total}
 
 -- ---- prepare
@@ -18,7 +18,7 @@ use Rattle.span_shard.proofs.Bytes.{bytes_total}
 all_with_write : (d : KeyVersions) (txn : ℕ) (w : Write) (cs : List KeyVersions) → byte_order d.key w.key ≡ Less → AllByRecursion (λ c. keys_cmp d c ≡ Less) cs → AllByRecursion (λ c. keys_cmp d c ≡ Less) (with_write txn w cs)
 all_with_write d txn w [] e h = (e, tt)
 all_with_write d txn w (c ∷ cs) e h =
-    elim (byte_order w.key c.key) as (λ o. AllByRecursion (λ c. keys_cmp d c ≡ Less) (by_order o (fresh txn w ∷ c ∷ cs) (with_prepared (prepared_write txn w) c ∷ cs) (c ∷ with_write txn w cs))) [
+    elim (byte_order w.key c.key) as (λ o. AllByRecursion (λ c. keys_cmp d c ≡ Less) (by_order o (new_key txn w ∷ c ∷ cs) (with_prepared (prepared_write txn w) c ∷ cs) (c ∷ with_write txn w cs))) [
       | Less ↦ (e, h)
       | Equal ↦ (h.0, h.1)
       | Greater ↦ (h.0, all_with_write d txn w cs e h.1)
@@ -31,7 +31,7 @@ all_behind key c (d ∷ cs) e h = (bytes_total.trans key c.key d.key e h.0, all_
 pub in_order_with_write : (txn : ℕ) (w : Write) (cs : List KeyVersions) → AreInOrder cs → AreInOrder (with_write txn w cs)
 in_order_with_write txn w [] h = (tt, tt)
 in_order_with_write txn w (c ∷ cs) h =
-    elim (byte_order w.key c.key) as (λ o. byte_order w.key c.key ≡ o → AreInOrder (by_order o (fresh txn w ∷ c ∷ cs) (with_prepared (prepared_write txn w) c ∷ cs) (c ∷ with_write txn w cs))) [
+    elim (byte_order w.key c.key) as (λ o. byte_order w.key c.key ≡ o → AreInOrder (by_order o (new_key txn w ∷ c ∷ cs) (with_prepared (prepared_write txn w) c ∷ cs) (c ∷ with_write txn w cs))) [
       | Less ↦ λ e. ((e, all_behind w.key c cs e h.0), h)
       | Equal ↦ λ e. (h.0, h.1)
       | Greater ↦ λ e. (all_with_write c txn w cs (bytes_total.antisymm c.key w.key ∙ ap ordering_reverse e) h.0, in_order_with_write txn w cs h.1)

@@ -16,7 +16,7 @@ use Rattle.span_shard.specs.KeyVersions.{KeyVersions}
 use Rattle.span_shard.specs.Writes.{is_of}
 use Rattle.span_shard.specs.Rows.{code_of, is_coded}
 use Rattle.span_shard.specs.Shard.{is_key}
-use Rattle.span_shard.specs.Reading.{row_of, is_same_row, is_row_of, AreRead, IsUnread, HasUnread, AreDeletions, is_behind, each_once}
+use Rattle.span_shard.specs.Reading.{row_of, is_same_row, is_row_of, AreRead, IsUnread, HasUnread, AreDeletions, is_after_last, without_repeats}
 use Rattle.span_shard.proofs.Lists.{all_map, all_append}
 use Rattle.span_shard.proofs.Bytes.{bytes_same}
 
@@ -120,11 +120,11 @@ last_there (y ∷ ys) x = last_there ys x
 last_place : {X : Type 0} (xs : List X) (x : X) → length (xs ++ x ∷ []) - 1 ≡ length xs
 last_place {X} xs x = omega (arith, length-append xs (x ∷ []))
 
-pub once_pushed : (tables : List Table) (once more : List TableRow) (r : TableRow) (left rest all : List TableRow) → more ≡ once ++ r ∷ [] → left ≡ r ∷ rest → is_behind tables (slice_get once (length once - 1)) r ≡ true
-    → once ++ each_once tables (slice_get once (length once - 1)) left ≡ all → more ++ each_once tables (slice_get more (length more - 1)) rest ≡ all
+pub once_pushed : (tables : List Table) (once more : List TableRow) (r : TableRow) (left rest all : List TableRow) → more ≡ once ++ r ∷ [] → left ≡ r ∷ rest → is_after_last tables (slice_get once (length once - 1)) r ≡ true
+    → once ++ without_repeats tables (slice_get once (length once - 1)) left ≡ all → more ++ without_repeats tables (slice_get more (length more - 1)) rest ≡ all
 once_pushed tables once more r left rest all e f behind so_far =
-    ap (λ (l : List TableRow). l ++ each_once tables (slice_get l (length l - 1)) rest) e
-    ∙ ap (λ (o : Option TableRow). (once ++ r ∷ []) ++ each_once tables o rest) (ap (slice_get (once ++ r ∷ [])) (last_place once r) ∙ last_there once r)
-    ∙ append_assoc once (r ∷ []) (each_once tables (Some r) rest)
-    ∙ sym (ap (λ (l : List TableRow). once ++ each_once tables (slice_get once (length once - 1)) l) f ∙ ap (λ (b : Bool). once ++ cond b (r ∷ each_once tables (Some r) rest) (each_once tables (slice_get once (length once - 1)) rest)) behind)
+    ap (λ (l : List TableRow). l ++ without_repeats tables (slice_get l (length l - 1)) rest) e
+    ∙ ap (λ (o : Option TableRow). (once ++ r ∷ []) ++ without_repeats tables o rest) (ap (slice_get (once ++ r ∷ [])) (last_place once r) ∙ last_there once r)
+    ∙ append_assoc once (r ∷ []) (without_repeats tables (Some r) rest)
+    ∙ sym (ap (λ (l : List TableRow). once ++ without_repeats tables (slice_get once (length once - 1)) l) f ∙ ap (λ (b : Bool). once ++ cond b (r ∷ without_repeats tables (Some r) rest) (without_repeats tables (slice_get once (length once - 1)) rest)) behind)
     ∙ so_far

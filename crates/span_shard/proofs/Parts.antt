@@ -24,7 +24,7 @@ use Rattle.span_mutate.proofs.Orders.{rows_total, rows_equal}
 use Rattle.span_shard.specs.KeyVersions.{KeyVersions}
 use Rattle.span_shard.specs.Rows.{begins_with, code_of, is_coded, row_coded, root_code, is_touched}
 use Rattle.span_shard.specs.Shard.{is_key, row_now, IsNow}
-use Rattle.span_shard.specs.Reading.{is_under, row_of, is_same_row, is_row_of, IsFound, AreRead, IsUnread, HasUnread, is_behind, each_once, AreInOrderOnce}
+use Rattle.span_shard.specs.Reading.{is_under, row_of, is_same_row, is_row_of, AreKeysUnder, AreRead, IsUnread, HasUnread, is_after_last, without_repeats, AreInOrderOnce}
 use Rattle.span_shard.proofs.Lists.{all_map, all_both, any_all, found_all, found_any}
 use Rattle.span_shard.proofs.Bytes.{same_bytes}
 use Rattle.span_shard.proofs.Sorting.{AreSorted, sorted_by, all_permuted, any_permuted}
@@ -52,7 +52,7 @@ same_rows : (o : Option (List ℕ)) (row : List ℕ) → is_same_row o (Some row
 same_rows None row e = absurd (let f : false ≡ true = e in cc)
 same_rows (Some a) row e = ap Some ((bytes_eq-Decides a row).0 e)
 
-seen : (tables : List Table) (ms : List CheckedMutation) (roots : List (List ℕ)) (cs found : List KeyVersions) → ((k : List ℕ) → is_under roots k ≡ is_touched tables ms k) → IsFound roots cs found
+seen : (tables : List Table) (ms : List CheckedMutation) (roots : List (List ℕ)) (cs found : List KeyVersions) → ((k : List ℕ) → is_under roots k ≡ is_touched tables ms k) → AreKeysUnder roots cs found
     → (r : TableRow) → IsTyped tables r × (list_any (is_row_of tables r) found ≡ true) → IsSeen tables ms cs r
 seen tables ms roots cs found same f r h =
     let at = any_all (λ (c : KeyVersions). (is_under roots c.key ≡ true) × (row_now cs c.key ≡ row_of c)) (is_row_of tables r) found f.sound h.1 in
@@ -67,10 +67,10 @@ seen tables ms roots cs found same f r h =
 
 -- ---- each key once
 
-once_all : (P : TableRow → Type 0) (tables : List Table) (last : Option TableRow) (xs : List TableRow) → AllByRecursion P xs → AllByRecursion P (each_once tables last xs)
+once_all : (P : TableRow → Type 0) (tables : List Table) (last : Option TableRow) (xs : List TableRow) → AllByRecursion P xs → AllByRecursion P (without_repeats tables last xs)
 once_all P tables last [] h = tt
 once_all P tables last (x ∷ xs) h =
-    elim (is_behind tables last x) as (λ b. AllByRecursion P (cond b (x ∷ each_once tables (Some x) xs) (each_once tables last xs))) [
+    elim (is_after_last tables last x) as (λ b. AllByRecursion P (cond b (x ∷ without_repeats tables (Some x) xs) (without_repeats tables last xs))) [
       | true ↦ (h.0, once_all P tables (Some x) xs h.1)
       | false ↦ once_all P tables last xs h.1
     ]
@@ -83,19 +83,19 @@ less_is Greater e = absurd cc
 all_behind : (tables : List Table) (q r : TableRow) → rows_cmp tables q r ≡ Less → (xs : List TableRow) → AllByRecursion (λ x. rows_cmp tables r x ≡ Less) xs → AllByRecursion (λ x. rows_cmp tables q x ≡ Less) xs
 all_behind tables q r e xs h = all_map (λ (x : TableRow). rows_cmp tables r x ≡ Less) (λ (x : TableRow). rows_cmp tables q x ≡ Less) (λ x f. (rows_total tables).trans q r x e f) xs h
 
-once_behind : (tables : List Table) (last : TableRow) (xs : List TableRow) → AllByRecursion (λ x. rows_cmp tables last x ≡ Less) (each_once tables (Some last) xs)
+once_behind : (tables : List Table) (last : TableRow) (xs : List TableRow) → AllByRecursion (λ x. rows_cmp tables last x ≡ Less) (without_repeats tables (Some last) xs)
 once_behind tables last [] = tt
-once_behind tables last (x ∷ xs) = cases (is_behind tables (Some last) x) refl (once_behind tables last xs) (once_behind tables x xs)
+once_behind tables last (x ∷ xs) = cases (is_after_last tables (Some last) x) refl (once_behind tables last xs) (once_behind tables x xs)
   where
-    cases : (b : Bool) → is_behind tables (Some last) x ≡ b → AllByRecursion (λ x. rows_cmp tables last x ≡ Less) (each_once tables (Some last) xs) → AllByRecursion (λ y. rows_cmp tables x y ≡ Less) (each_once tables (Some x) xs)
-        → AllByRecursion (λ x. rows_cmp tables last x ≡ Less) (cond b (x ∷ each_once tables (Some x) xs) (each_once tables (Some last) xs))
-    cases true e old new = let less : rows_cmp tables last x ≡ Less = less_is (rows_cmp tables last x) e in (less, all_behind tables last x less (each_once tables (Some x) xs) new)
+    cases : (b : Bool) → is_after_last tables (Some last) x ≡ b → AllByRecursion (λ x. rows_cmp tables last x ≡ Less) (without_repeats tables (Some last) xs) → AllByRecursion (λ y. rows_cmp tables x y ≡ Less) (without_repeats tables (Some x) xs)
+        → AllByRecursion (λ x. rows_cmp tables last x ≡ Less) (cond b (x ∷ without_repeats tables (Some x) xs) (without_repeats tables (Some last) xs))
+    cases true e old new = let less : rows_cmp tables last x ≡ Less = less_is (rows_cmp tables last x) e in (less, all_behind tables last x less (without_repeats tables (Some x) xs) new)
     cases false e old new = old
 
-once_rising : (tables : List Table) (last : Option TableRow) (xs : List TableRow) → IsInOrder tables (each_once tables last xs)
+once_rising : (tables : List Table) (last : Option TableRow) (xs : List TableRow) → IsInOrder tables (without_repeats tables last xs)
 once_rising tables last [] = tt
 once_rising tables last (x ∷ xs) =
-    elim (is_behind tables last x) as (λ b. IsInOrder tables (cond b (x ∷ each_once tables (Some x) xs) (each_once tables last xs))) [
+    elim (is_after_last tables last x) as (λ b. IsInOrder tables (cond b (x ∷ without_repeats tables (Some x) xs) (without_repeats tables last xs))) [
       | true ↦ (once_behind tables x xs, once_rising tables (Some x) xs)
       | false ↦ once_rising tables last xs
     ]
@@ -118,24 +118,24 @@ lt tables q r = is_lt (rows_cmp tables q r)
 
 -- a coded key that is there is kept
 once_kept : (tables : List Table) (k : List ℕ) (last : TableRow) (xs : List TableRow) → AllByRecursion (λ y. lt tables y last ≡ false) xs → AreSorted (lt tables) xs → list_any (is_coded tables k) (last ∷ xs) ≡ true
-    → list_any (is_coded tables k) (last ∷ each_once tables (Some last) xs) ≡ true
+    → list_any (is_coded tables k) (last ∷ without_repeats tables (Some last) xs) ≡ true
 once_kept tables k last [] h s e = e
 once_kept tables k last (x ∷ xs) h s e =
-    cases (is_behind tables (Some last) x) refl (is_coded tables k last) refl e (once_kept tables k x xs s.0 s.1) (once_kept tables k last xs h.1 s.1)
+    cases (is_after_last tables (Some last) x) refl (is_coded tables k last) refl e (once_kept tables k x xs s.0 s.1) (once_kept tables k last xs h.1 s.1)
   where
-    cases : (b : Bool) → is_behind tables (Some last) x ≡ b → (c : Bool) → is_coded tables k last ≡ c → (c || list_any (is_coded tables k) (x ∷ xs)) ≡ true
-        → (list_any (is_coded tables k) (x ∷ xs) ≡ true → list_any (is_coded tables k) (x ∷ each_once tables (Some x) xs) ≡ true)
-        → (list_any (is_coded tables k) (last ∷ xs) ≡ true → list_any (is_coded tables k) (last ∷ each_once tables (Some last) xs) ≡ true)
-        → (c || list_any (is_coded tables k) (cond b (x ∷ each_once tables (Some x) xs) (each_once tables (Some last) xs))) ≡ true
+    cases : (b : Bool) → is_after_last tables (Some last) x ≡ b → (c : Bool) → is_coded tables k last ≡ c → (c || list_any (is_coded tables k) (x ∷ xs)) ≡ true
+        → (list_any (is_coded tables k) (x ∷ xs) ≡ true → list_any (is_coded tables k) (x ∷ without_repeats tables (Some x) xs) ≡ true)
+        → (list_any (is_coded tables k) (last ∷ xs) ≡ true → list_any (is_coded tables k) (last ∷ without_repeats tables (Some last) xs) ≡ true)
+        → (c || list_any (is_coded tables k) (cond b (x ∷ without_repeats tables (Some x) xs) (without_repeats tables (Some last) xs))) ≡ true
     cases b f true g i new old = refl
     cases true f false g i new old = new i
     cases false f false g i new old =
         let equal = rows_equal tables last x (tied tables last x f h.0) in
         let other : is_coded tables k x ≡ false = sym (ap (λ (n : ℕ). eq_by_cmp byte_order k (key_code tables n last.key)) equal.0 ∙ ap (λ (vs : List Value). eq_by_cmp byte_order k (key_code tables x.table vs)) equal.1) ∙ g in
         let rest : list_any (is_coded tables k) xs ≡ true = sym (ap (λ (b : Bool). b || list_any (is_coded tables k) xs) other) ∙ i in
-        sym (ap (λ (b : Bool). b || list_any (is_coded tables k) (each_once tables (Some last) xs)) g) ∙ old (or_true (is_coded tables k last) (list_any (is_coded tables k) xs) (inr rest))
+        sym (ap (λ (b : Bool). b || list_any (is_coded tables k) (without_repeats tables (Some last) xs)) g) ∙ old (or_true (is_coded tables k last) (list_any (is_coded tables k) xs) (inr rest))
 
-once_any : (tables : List Table) (k : List ℕ) (xs : List TableRow) → AreSorted (lt tables) xs → list_any (is_coded tables k) xs ≡ true → list_any (is_coded tables k) (each_once tables None xs) ≡ true
+once_any : (tables : List Table) (k : List ℕ) (xs : List TableRow) → AreSorted (lt tables) xs → list_any (is_coded tables k) xs ≡ true → list_any (is_coded tables k) (without_repeats tables None xs) ≡ true
 once_any tables k [] s e = e
 once_any tables k (x ∷ xs) s e = once_kept tables k x xs s.0 s.1 e
 
@@ -159,14 +159,14 @@ some_is None = inl refl
 some_is (Some x) = inr refl
 
 pub part_read : (tables : List Table) (ms : List CheckedMutation) (roots : List (List ℕ)) (cs found : List KeyVersions) (rows s : List TableRow) → ((k : List ℕ) → is_under roots k ≡ is_touched tables ms k)
-    → IsFound roots cs found → AreRead tables found rows → IsPermutation rows s → AreSorted (lt tables) s → IsPart tables ms cs (each_once tables None s)
-part_read tables ms roots cs found rows s same f read perm sorted = record { order = once_rising tables None s; seen = all; coded = λ k. by_found k (find (is_coded tables k) (each_once tables None s)) refl }
+    → AreKeysUnder roots cs found → AreRead tables found rows → IsPermutation rows s → AreSorted (lt tables) s → IsPart tables ms cs (without_repeats tables None s)
+part_read tables ms roots cs found rows s same f read perm sorted = record { order = once_rising tables None s; seen = all; coded = λ k. by_found k (find (is_coded tables k) (without_repeats tables None s)) refl }
   where
-    all : AllByRecursion (IsSeen tables ms cs) (each_once tables None s)
+    all : AllByRecursion (IsSeen tables ms cs) (without_repeats tables None s)
     all = once_all (IsSeen tables ms cs) tables None s (all_permuted (IsSeen tables ms cs) rows s perm
         (all_map (λ (r : TableRow). IsTyped tables r × (list_any (is_row_of tables r) found ≡ true)) (IsSeen tables ms cs) (λ r h. seen tables ms roots cs found same f r h) rows read.sound))
 
-    there : (k : List ℕ) → is_touched tables ms k ≡ true → is_some (row_now cs k) ≡ true → list_any (is_coded tables k) (each_once tables None s) ≡ true
+    there : (k : List ℕ) → is_touched tables ms k ≡ true → is_some (row_now cs k) ≡ true → list_any (is_coded tables k) (without_repeats tables None s) ≡ true
     there k touched some =
         let at = any_all (λ (c : KeyVersions). (row_now cs c.key ≡ row_of c) × (is_some (row_of c) ≡ true → list_any (is_coded tables c.key) rows ≡ true)) (is_key k) found
         (all_both (λ (c : KeyVersions). row_now cs c.key ≡ row_of c) (λ (c : KeyVersions). is_some (row_of c) ≡ true → list_any (is_coded tables c.key) rows ≡ true) found
@@ -177,9 +177,9 @@ part_read tables ms roots cs found rows s same f read perm sorted = record { ord
         let now : is_some (row_of c) ≡ true = ap (λ (o : Option (List ℕ)). is_some o) (sym at.1.0) ∙ ap (λ (l : List ℕ). is_some (row_now cs l)) (sym key) ∙ some in
         once_any tables k s sorted (sym (any_permuted (is_coded tables k) rows s perm) ∙ ap (λ (l : List ℕ). list_any (is_coded tables l) rows) key ∙ at.1.1 now)
 
-    by_found : (k : List ℕ) (o : Option TableRow) → find (is_coded tables k) (each_once tables None s) ≡ o → option_map (λ (r : TableRow). row_code r.cells) o ≡ visible tables ms cs k
+    by_found : (k : List ℕ) (o : Option TableRow) → find (is_coded tables k) (without_repeats tables None s) ≡ o → option_map (λ (r : TableRow). row_code r.cells) o ≡ visible tables ms cs k
     by_found k (Some r) e =
-        let at = found_all (IsSeen tables ms cs) (is_coded tables k) (each_once tables None s) r all e in
+        let at = found_all (IsSeen tables ms cs) (is_coded tables k) (without_repeats tables None s) r all e in
         let key : k ≡ code_of tables r = same_bytes k (code_of tables r) at.1 in
         sym (ap (visible tables ms cs) key ∙ ap (λ (b : Bool). cond b (row_now cs (code_of tables r)) None) at.0.touched ∙ at.0.now)
     by_found k None e = by_touched (is_touched tables ms k) refl
@@ -188,11 +188,11 @@ part_read tables ms roots cs found rows s same f read perm sorted = record { ord
         by_touched false g = refl
         by_touched true g = elim (some_is (row_now cs k)) [
           | inl none ↦ sym none
-          | inr some ↦ absurd (let i : true ≡ false = sym (there k g some) ∙ none_found (is_coded tables k) (each_once tables None s) e in cc)
+          | inr some ↦ absurd (let i : true ≡ false = sym (there k g some) ∙ none_found (is_coded tables k) (without_repeats tables None s) e in cc)
         ]
 
 -- the same, by what the code knows
-pub part_made : (tables : List Table) (ms : List CheckedMutation) (roots : List (List ℕ)) (cs found : List KeyVersions) (rows once : List TableRow) → IsPermutation (map (root_code tables) ms) roots → IsFound roots cs found → AreRead tables found rows
+pub part_made : (tables : List Table) (ms : List CheckedMutation) (roots : List (List ℕ)) (cs found : List KeyVersions) (rows once : List TableRow) → IsPermutation (map (root_code tables) ms) roots → AreKeysUnder roots cs found → AreRead tables found rows
     → AreInOrderOnce tables rows once → IsPart tables ms cs once
 part_made tables ms roots cs found rows once perm f read o =
     subst (IsPart tables ms cs) o.once_each
@@ -201,7 +201,7 @@ part_made tables ms roots cs found rows once perm f read o =
 -- ---- bytes that are no rows
 
 -- of no database are these the rows now
-pub none_now : (tables : List Table) (ms : List CheckedMutation) (roots : List (List ℕ)) (cs found : List KeyVersions) → ((k : List ℕ) → is_under roots k ≡ is_touched tables ms k) → IsFound roots cs found → HasUnread tables found
+pub none_now : (tables : List Table) (ms : List CheckedMutation) (roots : List (List ℕ)) (cs found : List KeyVersions) → ((k : List ℕ) → is_under roots k ≡ is_touched tables ms k) → AreKeysUnder roots cs found → HasUnread tables found
     → (db : List TableRow) → AreTyped tables db → IsNow tables ms db cs → ⊥
 none_now tables ms roots cs found same f unread db typed now = among found f.sound unread
   where

@@ -14,7 +14,7 @@ use Rattle.span_shard.specs.Versions.{newest_at, row_at}
 use Rattle.span_shard.specs.Rows.{begins_with}
 use Rattle.span_shard.specs.Shard.{is_within, seen_at, snapshot}
 use Rattle.span_shard.specs.Stored.{version_of, kept_entry, all_kept}
-use Rattle.span_shard.specs.Reading.{bare, bare_entry, seen_entry}
+use Rattle.span_shard.specs.Reading.{versions_alone, versions_alone_at, seen_entry}
 use Rattle.span_shard.proofs.Unused.{filter-map}
 
 pub row_found : (vs : List arena.Version) (s : ℕ) (v : arena.Version) → newest_upto s vs ≡ Some v → row_at (map version_of vs) s ≡ v.image
@@ -33,13 +33,13 @@ row_missing (x ∷ xs) s e = cases (nat_le x.timestamp s) (row_missing xs s) e
     cases true again f = absurd (let g : Some x ≡ None = f in cc)
     cases false again f = again f
 
-bare_map : (a : Content) (ps : List PreparedNode) (es : List Entry) → map bare (all_kept a ps es) ≡ map (bare_entry a) es
+bare_map : (a : Content) (ps : List PreparedNode) (es : List Entry) → map versions_alone (all_kept a ps es) ≡ map (versions_alone_at a) es
 bare_map a ps [] = refl
-bare_map a ps (e ∷ es) = ap (λ (l : List KeyVersions). bare_entry a e ∷ l) (bare_map a ps es)
+bare_map a ps (e ∷ es) = ap (λ (l : List KeyVersions). versions_alone_at a e ∷ l) (bare_map a ps es)
 
-pub under_is : (a : Content) (ps : List PreparedNode) (es fs : List Entry) (front : List ℕ) → fs ≡ entries_under front es → map (bare_entry a) fs ≡ map bare (filter (λ (c : KeyVersions). begins_with c.key front) (all_kept a ps es))
+pub under_is : (a : Content) (ps : List PreparedNode) (es fs : List Entry) (front : List ℕ) → fs ≡ entries_under front es → map (versions_alone_at a) fs ≡ map versions_alone (filter (λ (c : KeyVersions). begins_with c.key front) (all_kept a ps es))
 under_is a ps es fs front is =
-    ap (map (bare_entry a)) is ∙ sym (ap (map bare) (filter-map (λ (c : KeyVersions). begins_with c.key front) (kept_entry a ps) es) ∙ bare_map a ps (entries_under front es))
+    ap (map (versions_alone_at a)) is ∙ sym (ap (map versions_alone) (filter-map (λ (c : KeyVersions). begins_with c.key front) (kept_entry a ps) es) ∙ bare_map a ps (entries_under front es))
 
 seen_map : (a : Content) (ps : List PreparedNode) (s : ℕ) (es : List Entry) → filter_map (seen_at s) (all_kept a ps es) ≡ filter_map (seen_entry a s) es
 seen_map a ps s [] = refl

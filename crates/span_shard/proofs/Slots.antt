@@ -26,7 +26,7 @@ use Rattle.span_shard.specs.declared.node.PreparedNode.{PreparedNode}
 use Rattle.span_shard.specs.declared.write.Write.{Write}
 use Rattle.span_shard.specs.KeyVersions.{KeyVersions}
 use Rattle.span_shard.specs.Versions.{is_used, with_prepared}
-use Rattle.span_shard.specs.Shard.{keys_cmp, AreInOrder, IsInUse, is_key, prepared_of, prepared_at, by_order, fresh, prepared_write, with_write}
+use Rattle.span_shard.specs.Shard.{keys_cmp, AreInOrder, IsInUse, is_key, prepared_of, prepared_at, by_order, new_key, prepared_write, with_write}
 use Rattle.span_shard.specs.Stored.{version_of, chain_versions, write_for, kept, kept_entry, all_kept, IsNodeOf, AreOwned, HasPrepared, count_for}
 use Rattle.span_shard.proofs.Bytes.{bytes_total}
 use Rattle.span_shard.proofs.Lists.{all_map, all_filter_itself, all_whole, filter_all}
@@ -37,17 +37,17 @@ use Rattle.span_shard.proofs.Unused.{map_alike, keys_used, owned_used}
 
 pub with_write-here : (txn : ℕ) (w : Write) (xs ys : List KeyVersions) (c : KeyVersions) → AllByRecursion (λ d. byte_order w.key d.key ≡ Greater) xs → byte_order w.key c.key ≡ Equal
     → with_write txn w (xs ++ c ∷ ys) ≡ xs ++ with_prepared (prepared_write txn w) c ∷ ys
-with_write-here txn w [] ys c behind same = ap (λ o. by_order o (fresh txn w ∷ c ∷ ys) (with_prepared (prepared_write txn w) c ∷ ys) (c ∷ with_write txn w ys)) same
+with_write-here txn w [] ys c behind same = ap (λ o. by_order o (new_key txn w ∷ c ∷ ys) (with_prepared (prepared_write txn w) c ∷ ys) (c ∷ with_write txn w ys)) same
 with_write-here txn w (x ∷ xs) ys c behind same =
-    ap (λ o. by_order o (fresh txn w ∷ x ∷ (xs ++ c ∷ ys)) (with_prepared (prepared_write txn w) x ∷ (xs ++ c ∷ ys)) (x ∷ with_write txn w (xs ++ c ∷ ys))) behind.0
+    ap (λ o. by_order o (new_key txn w ∷ x ∷ (xs ++ c ∷ ys)) (with_prepared (prepared_write txn w) x ∷ (xs ++ c ∷ ys)) (x ∷ with_write txn w (xs ++ c ∷ ys))) behind.0
     ∙ ap (λ (l : List KeyVersions). x ∷ l) (with_write-here txn w xs ys c behind.1 same)
 
 pub with_write-between : (txn : ℕ) (w : Write) (xs ys : List KeyVersions) → AllByRecursion (λ d. byte_order w.key d.key ≡ Greater) xs → AllByRecursion (λ d. byte_order w.key d.key ≡ Less) ys
-    → with_write txn w (xs ++ ys) ≡ xs ++ fresh txn w ∷ ys
+    → with_write txn w (xs ++ ys) ≡ xs ++ new_key txn w ∷ ys
 with_write-between txn w [] [] behind before = refl
-with_write-between txn w [] (y ∷ ys) behind before = ap (λ o. by_order o (fresh txn w ∷ y ∷ ys) (with_prepared (prepared_write txn w) y ∷ ys) (y ∷ with_write txn w ys)) before.0
+with_write-between txn w [] (y ∷ ys) behind before = ap (λ o. by_order o (new_key txn w ∷ y ∷ ys) (with_prepared (prepared_write txn w) y ∷ ys) (y ∷ with_write txn w ys)) before.0
 with_write-between txn w (x ∷ xs) ys behind before =
-    ap (λ o. by_order o (fresh txn w ∷ x ∷ (xs ++ ys)) (with_prepared (prepared_write txn w) x ∷ (xs ++ ys)) (x ∷ with_write txn w (xs ++ ys))) behind.0
+    ap (λ o. by_order o (new_key txn w ∷ x ∷ (xs ++ ys)) (with_prepared (prepared_write txn w) x ∷ (xs ++ ys)) (x ∷ with_write txn w (xs ++ ys))) behind.0
     ∙ ap (λ (l : List KeyVersions). x ∷ l) (with_write-between txn w xs ys behind.1 before)
 
 turned : (a b : List ℕ) (o : Ordering) → byte_order a b ≡ o → byte_order b a ≡ ordering_reverse o
@@ -246,7 +246,7 @@ module _ (es : List Entry) (a b : Content) (ps : List PreparedNode) (key : List 
   in_back = all_mapped (λ (d : KeyVersions). byte_order key d.key ≡ Less) (kept_entry a ps) (filter (behind key) es)
       (all_map (λ (e : Entry). behind key e ≡ true) (λ (e : Entry). byte_order key e.key ≡ Less) (λ e h. turned e.key key Greater (greater_is (byte_order e.key key) h)) (filter (behind key) es) (all_filter_itself (behind key) es))
 
-  fresh_is : (txn : ℕ) (w : Write) → w.key ≡ key → fresh txn w ≡ with_prepared (prepared_write txn w) (kept_entry b ps (entry key chain))
+  fresh_is : (txn : ℕ) (w : Write) → w.key ≡ key → new_key txn w ≡ with_prepared (prepared_write txn w) (kept_entry b ps (entry key chain))
   fresh_is txn w is =
       ap (λ (k : List ℕ). made k [] (Some (prepared_write txn w))) is ∙ sym (ap (with_prepared (prepared_write txn w)) nothing)
 

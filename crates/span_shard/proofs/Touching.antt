@@ -18,7 +18,7 @@ use Rattle.span_keycode.proofs.KeyLaws.{begins_own_rows}
 use Rattle.span_keycode.proofs.RootRows.{root_split}
 use Rattle.span_mutate.specs.declared.mutation.CheckedMutation.{CheckedMutation}
 use Rattle.span_mutate.specs.Rows.{begins}
-use Rattle.span_mutate.specs.Directories.{is_of, root_row, key_len, IsKeyed, AreKeyed}
+use Rattle.span_mutate.specs.Directories.{is_in_directory, root_row, key_len, IsKeyed, AreKeyed}
 use Rattle.span_mutate.specs.Touched as rows
 use Rattle.span_mutate.specs.Typed.{AreTypedMutations}
 use Rattle.span_mutate.proofs.Begins.{both_hold, both_make, same_number, number_itself, same_key, front_of_taken, front_within, taken_begins}
@@ -68,10 +68,10 @@ front_taken us vs e =
 
 -- in bytes and in rows, one mutation
 touched_by : (tables : List Table) → MeetsRules tables → (m : CheckedMutation) → IsKey tables m.table m.key → (n : ℕ) (vs : List Value) → IsKey tables n vs
-    → begins_with (key_code tables n vs) (root_code tables m) ≡ is_of tables (root_row tables m.table m.key) n vs
-touched_by tables rules m mk n vs k = same_truth (begins_with (key_code tables n vs) (root_code tables m)) (is_of tables (root_row tables m.table m.key) n vs) there back_again
+    → begins_with (key_code tables n vs) (root_code tables m) ≡ is_in_directory tables (root_row tables m.table m.key) n vs
+touched_by tables rules m mk n vs k = same_truth (begins_with (key_code tables n vs) (root_code tables m)) (is_in_directory tables (root_row tables m.table m.key) n vs) there back_again
   where
-    there : begins_with (key_code tables n vs) (root_code tables m) ≡ true → is_of tables (root_row tables m.table m.key) n vs ≡ true
+    there : begins_with (key_code tables n vs) (root_code tables m) ≡ true → is_in_directory tables (root_row tables m.table m.key) n vs ≡ true
     there e =
         let root = root_key tables rules m.table m.key mk in
         let us = take (key_len tables (root_of tables m.table)) m.key in
@@ -80,7 +80,7 @@ touched_by tables rules m mk n vs k = same_truth (begins_with (key_code tables n
         both_make _ _ (number_itself (root_of tables n) (root_of tables m.table) named)
         (ap (begins us) at.values ∙ ap (λ (ws : List Value). begins ws (us ++ at.values_below)) (sym (take-append_seam us at.values_below)) ∙ taken_begins (us ++ at.values_below) (length us))
 
-    back_again : is_of tables (root_row tables m.table m.key) n vs ≡ true → begins_with (key_code tables n vs) (root_code tables m) ≡ true
+    back_again : is_in_directory tables (root_row tables m.table m.key) n vs ≡ true → begins_with (key_code tables n vs) (root_code tables m) ≡ true
     back_again e =
         let parts = both_hold (root_of tables n == root_of tables m.table) (begins (root_row tables m.table m.key).key vs) e in
         let named : root_of tables n ≡ root_of tables m.table = same_number (root_of tables n) (root_of tables m.table) parts.0 in
@@ -99,7 +99,7 @@ pub touched_code : (tables : List Table) → MeetsRules tables → (ms : List Ch
 touched_code tables rules [] typed n vs k = refl
 touched_code tables rules (m ∷ ms) typed n vs k =
     ap (λ (b : Bool). b || is_touched tables ms (key_code tables n vs)) (touched_by tables rules m typed.0.0.0 n vs k)
-    ∙ ap (λ (b : Bool). is_of tables (root_row tables m.table m.key) n vs || b) (touched_code tables rules ms typed.1 n vs k)
+    ∙ ap (λ (b : Bool). is_in_directory tables (root_row tables m.table m.key) n vs || b) (touched_code tables rules ms typed.1 n vs k)
 
 -- typed mutations have whole keys
 pub typed_keyed : (tables : List Table) (ms : List CheckedMutation) → AreTypedMutations tables ms → AreKeyed tables ms

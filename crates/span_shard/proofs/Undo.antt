@@ -12,7 +12,7 @@ use Rattle.span_shard.specs.declared.write.Write.{Write}
 use Rattle.span_shard.specs.Rows.{is_touched}
 use Rattle.span_shard.specs.KeyVersions.{KeyVersions}
 use Rattle.span_shard.specs.Versions.{is_empty, is_used, with_prepared, with_version, applied_write, applied_to_key}
-use Rattle.span_shard.specs.Shard.{by_order, with_write, with_writes, fresh, prepared_write, applied, IsInUse, IsNotOf, HasNoneOf, HasSomeOf, IsFree}
+use Rattle.span_shard.specs.Shard.{by_order, with_write, with_writes, new_key, prepared_write, applied, IsInUse, IsNotOf, HasNoneOf, HasSomeOf, IsFree}
 
 same_number : (n : ℕ) → (n == n) ≡ true
 same_number n = grind (arith, nat_tests)
@@ -71,15 +71,15 @@ given_up txn w (Some q) c is vacant =
     ap (λ b. cond b (record c { prepared = None }) (with_prepared (prepared_write txn w) c)) (same_number txn)
     ∙ sym (ap (λ b. cond b (record c { prepared = None }) c) (ap (λ n. n == txn) vacant ∙ same_number txn))
 
-fresh_gone : (txn : ℕ) (w : Write) (ds : List KeyVersions) → applied txn None (fresh txn w ∷ ds) ≡ applied txn None ds
+fresh_gone : (txn : ℕ) (w : Write) (ds : List KeyVersions) → applied txn None (new_key txn w ∷ ds) ≡ applied txn None ds
 fresh_gone txn w ds =
-    let f : Bool → KeyVersions = λ b. cond b (record { key = w.key; versions = []; prepared = None }) (fresh txn w) in
+    let f : Bool → KeyVersions = λ b. cond b (record { key = w.key; versions = []; prepared = None }) (new_key txn w) in
     ap (λ b. cond (is_used (f b)) (f b ∷ applied txn None ds) (applied txn None ds)) (same_number txn)
 
 pub applied-with_write : (txn : ℕ) (w : Write) (cs : List KeyVersions) → IsOpenAt txn w.key cs → applied txn None (with_write txn w cs) ≡ applied txn None cs
 applied-with_write txn w [] vacant = fresh_gone txn w []
 applied-with_write txn w (c ∷ cs) vacant =
-    elim (byte_order w.key c.key) as (λ o. byte_order w.key c.key ≡ o → applied txn None (by_order o (fresh txn w ∷ c ∷ cs) (with_prepared (prepared_write txn w) c ∷ cs) (c ∷ with_write txn w cs)) ≡ applied txn None (c ∷ cs)) [
+    elim (byte_order w.key c.key) as (λ o. byte_order w.key c.key ≡ o → applied txn None (by_order o (new_key txn w ∷ c ∷ cs) (with_prepared (prepared_write txn w) c ∷ cs) (c ∷ with_write txn w cs)) ≡ applied txn None (c ∷ cs)) [
       | Less ↦ λ e. fresh_gone txn w (c ∷ cs)
       | Equal ↦ λ e. ap (λ (d : KeyVersions). cond (is_used d) (d ∷ applied txn None cs) (applied txn None cs)) (given_up txn w c.prepared c refl (vacant.0 e))
       | Greater ↦ λ e. ap (λ l. cond (is_used (applied_to_key txn None c)) (applied_to_key txn None c ∷ l) l) (applied-with_write txn w cs vacant.1)
@@ -88,7 +88,7 @@ applied-with_write txn w (c ∷ cs) vacant =
 open_with_write : (txn : ℕ) (w : Write) (key : List ℕ) (cs : List KeyVersions) → IsOpenAt txn key cs → IsOpenAt txn key (with_write txn w cs)
 open_with_write txn w key [] vacant = (λ _. refl, tt)
 open_with_write txn w key (c ∷ cs) vacant =
-    elim (byte_order w.key c.key) as (λ o. IsOpenAt txn key (by_order o (fresh txn w ∷ c ∷ cs) (with_prepared (prepared_write txn w) c ∷ cs) (c ∷ with_write txn w cs))) [
+    elim (byte_order w.key c.key) as (λ o. IsOpenAt txn key (by_order o (new_key txn w ∷ c ∷ cs) (with_prepared (prepared_write txn w) c ∷ cs) (c ∷ with_write txn w cs))) [
       | Less ↦ (λ _. refl, vacant)
       | Equal ↦ (λ _. refl, vacant.1)
       | Greater ↦ (vacant.0, open_with_write txn w key cs vacant.1)
@@ -137,7 +137,7 @@ used_prepared w c = or_true (not (is_empty c.versions))
 
 pub used_with_write : (txn : ℕ) (w : Write) (cs : List KeyVersions) → AllByRecursion IsInUse cs → AllByRecursion IsInUse (with_write txn w cs)
 used_with_write txn w [] used = (refl, tt)
-used_with_write txn w (c ∷ cs) used = elim (byte_order w.key c.key) as (λ o. AllByRecursion IsInUse (by_order o (fresh txn w ∷ c ∷ cs) (with_prepared (prepared_write txn w) c ∷ cs) (c ∷ with_write txn w cs))) [
+used_with_write txn w (c ∷ cs) used = elim (byte_order w.key c.key) as (λ o. AllByRecursion IsInUse (by_order o (new_key txn w ∷ c ∷ cs) (with_prepared (prepared_write txn w) c ∷ cs) (c ∷ with_write txn w cs))) [
   | Less ↦ (refl, used)
   | Equal ↦ (used_prepared (prepared_write txn w) c, used.1)
   | Greater ↦ (used.0, used_with_write txn w cs used.1)

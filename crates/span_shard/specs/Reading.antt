@@ -27,19 +27,19 @@ use Rattle.span_shard.specs.Stored.{chain_versions}
 use Rattle.span_shard.specs.Shard.{KeyRow, is_key, end_of_time, row_now, seen_at, IsNow, with_writes, live}
 
 -- the key and row that an entry lends
-abbrev pub shown : Entry → KeyRow
-shown e = record { key = e.key.now; row = e.row.now }
+abbrev pub entry_row : Entry → KeyRow
+entry_row e = record { key = e.key.now; row = e.row.now }
 
 -- a key with its versions alone
-abbrev pub bare : KeyVersions → KeyVersions
-bare c = record { key = c.key; versions = c.versions; prepared = None }
+abbrev pub versions_alone : KeyVersions → KeyVersions
+versions_alone c = record { key = c.key; versions = c.versions; prepared = None }
 
-abbrev pub bare_entry : Content → IndexEntry → KeyVersions
-bare_entry a e = record { key = e.key; versions = chain_versions a e.chain.number; prepared = None }
+abbrev pub versions_alone_at : Content → IndexEntry → KeyVersions
+versions_alone_at a e = record { key = e.key; versions = chain_versions a e.chain.number; prepared = None }
 
 -- the row that is seen of a key at s, if there is one
 abbrev pub seen_entry : Content → ℕ → IndexEntry → Option KeyRow
-seen_entry a s e = seen_at s (bare_entry a e)
+seen_entry a s e = seen_at s (versions_alone_at a e)
 
 -- the key begins with one of these
 abbrev pub is_under : List (List ℕ) → List ℕ → Bool
@@ -50,7 +50,7 @@ abbrev pub row_of : KeyVersions → Option (List ℕ)
 row_of c = row_at c.versions end_of_time
 
 -- the keys under the roots, each that has a row among them
-pub record IsFound (roots : List (List ℕ)) (cs found : List KeyVersions) : Type 0 where
+pub record AreKeysUnder (roots : List (List ℕ)) (cs found : List KeyVersions) : Type 0 where
   pub sound : AllByRecursion (λ (c : KeyVersions). (is_under roots c.key ≡ true) × (row_now cs c.key ≡ row_of c)) found
   pub complete : (k : List ℕ) → is_under roots k ≡ true → is_some (row_now cs k) ≡ true → list_any (is_key k) found ≡ true
 
@@ -83,14 +83,14 @@ HasUnread tables [] = ⊥
 HasUnread tables (c ∷ cs) = IsUnread tables c (row_of c) ⊎ HasUnread tables cs
 
 -- the row comes after the last that is kept
-abbrev pub is_behind : List Table → Option TableRow → TableRow → Bool
-is_behind tables None r = true
-is_behind tables (Some last) r = is_lt (rows_cmp tables last r)
+abbrev pub is_after_last : List Table → Option TableRow → TableRow → Bool
+is_after_last tables None r = true
+is_after_last tables (Some last) r = is_lt (rows_cmp tables last r)
 
 -- rows in order, each key once
-abbrev pub each_once : List Table → Option TableRow → List TableRow → List TableRow
-each_once tables last [] = []
-each_once tables last (r ∷ rs) = (if is_behind tables last r then r ∷ each_once tables (Some r) rs else each_once tables last rs)
+abbrev pub without_repeats : List Table → Option TableRow → List TableRow → List TableRow
+without_repeats tables last [] = []
+without_repeats tables last (r ∷ rs) = (if is_after_last tables last r then r ∷ without_repeats tables (Some r) rs else without_repeats tables last rs)
 
 -- a row, coded
 abbrev pub coded : List Table → TableRow → Write
@@ -114,7 +114,7 @@ pub record AreInOrderOnce (tables : List Table) (rows once : List TableRow) : Ty
   pub sorted : List TableRow
   pub permuted : IsPermutation rows sorted
   pub order : IsSortedBy (λ (q r : TableRow). is_lt (rows_cmp tables q r)) sorted
-  pub once_each : each_once tables None sorted ≡ once
+  pub once_each : without_repeats tables None sorted ≡ once
 
 -- what mutations write: in touched directories alone; of each database whose rows these are now, what changes of it
 pub record AreWrites (tables : List Table) (ms : List CheckedMutation) (cs : List KeyVersions) (ws : List Write) : Type 0 where

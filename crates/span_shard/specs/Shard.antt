@@ -68,13 +68,13 @@ abbrev pub prepared_write : ℕ → Write → PreparedWrite
 prepared_write txn w = record { txn = txn; row = w.row }
 
 -- a key with no version, where a write is prepared
-abbrev pub fresh : ℕ → Write → KeyVersions
-fresh txn w = record { key = w.key; versions = []; prepared = Some (prepared_write txn w) }
+abbrev pub new_key : ℕ → Write → KeyVersions
+new_key txn w = record { key = w.key; versions = []; prepared = Some (prepared_write txn w) }
 
 -- with the write prepared at its key, which takes its place in order if it was not there
 abbrev pub with_write : ℕ → Write → List KeyVersions → List KeyVersions
-with_write txn w [] = fresh txn w ∷ []
-with_write txn w (c ∷ cs) = by_order (byte_order w.key c.key) (fresh txn w ∷ c ∷ cs) (with_prepared (prepared_write txn w) c ∷ cs) (c ∷ with_write txn w cs)
+with_write txn w [] = new_key txn w ∷ []
+with_write txn w (c ∷ cs) = by_order (byte_order w.key c.key) (new_key txn w ∷ c ∷ cs) (with_prepared (prepared_write txn w) c ∷ cs) (c ∷ with_write txn w cs)
 
 -- with all the writes prepared
 abbrev pub with_writes : ℕ → List Write → List KeyVersions → List KeyVersions

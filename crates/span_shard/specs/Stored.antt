@@ -103,8 +103,8 @@ abbrev pub is_other : ℕ → PreparedNode → Bool
 is_other txn p = not (p.txn == txn)
 
 -- after the first i nodes were ended, where they are of the transaction
-abbrev pub left_of : ℕ → ℕ → List PreparedNode → List PreparedNode
-left_of txn i ps = filter (is_other txn) (take i ps) ++ drop i ps
+abbrev pub remaining_nodes : ℕ → ℕ → List PreparedNode → List PreparedNode
+remaining_nodes txn i ps = filter (is_other txn) (take i ps) ++ drop i ps
 
 -- some of the transaction's nodes were ended: with the others ended too each key is what it is to be
 pub record HasEnded (txn : ℕ) (committed : Option ℕ) (a b : Content) (ps qs : List PreparedNode) : Type 0 where

@@ -39,7 +39,7 @@ fn coded(alloc: Global, schema: &Schema, row: &TableRow) -> Result<Write, Refusa
     })
 }
 
-fn all_coded(alloc: Global, schema: &Schema, rows: &[TableRow]) -> Result<Vec<Write>, Refusal>
+fn writes_of_rows(alloc: Global, schema: &Schema, rows: &[TableRow]) -> Result<Vec<Write>, Refusal>
     requires { AreTyped schema.now rows.now }
     ensures { MatchResult result (λ ws. ws.items ≡ map (coded schema.now) rows.now) (λ why. why ≡ Refusal.OutOfMemory) }
 {
@@ -70,7 +70,7 @@ fn has_key(writes: &[Write], key: &[u8]) -> bool
 }
 
 /// Whether the key has a row now and none is left.
-fn is_gone(found: &StoredKey<'_>, left: &[Write]) -> bool
+fn is_deleted(found: &StoredKey<'_>, left: &[Write]) -> bool
     requires { IsSortedBy (λ v w. is_lt (byte_order v.key w.key)) left.now }
     ensures { result ≡ (is_some (row_of found.now) && not (list_any (is_of found.now.key) left.now)) }
 {
@@ -97,7 +97,7 @@ fn deletions(
 {
     let mut writes = Vec::new(alloc);
     for key in found {
-        if is_gone(key, left) {
+        if is_deleted(key, left) {
             writes.push(deletion(alloc, key)?)?;
         }
     }
@@ -124,7 +124,7 @@ fn is_change(store: &Store, write: &Write) -> bool
 }
 
 /// The writes that change the row of their key.
-fn changing(store: &Store, writes: Vec<Write>) -> Vec<Write>
+fn keep_changes(store: &Store, writes: Vec<Write>) -> Vec<Write>
     requires { AreInOrder store.now }
     ensures { result.items ≡ filter (λ w. not (is_same_row (row_now store.now w.key) w.row)) writes.items }
 {
@@ -145,10 +145,10 @@ fn changes(
     requires typed { AreTyped schema.now after.now }
     ensures { MatchResult result (λ ws. AreDiffs schema.now store.now found.now after.now ws.items) (λ why. why ≡ Refusal.OutOfMemory) }
 {
-    let all = all_coded(alloc, schema, after)?;
+    let all = writes_of_rows(alloc, schema, after)?;
     let left = sorted(all)?;
     let mut gone = deletions(alloc, found, left.as_slice())?;
-    let mut writes = changing(store, left);
+    let mut writes = keep_changes(store, left);
     writes.append(&mut gone)?;
     Ok(writes)
 }

@@ -7,7 +7,7 @@ ghost use Rattle.span_shard.specs.Rows.{begins_with};
 ghost use Rattle.span_shard.specs.Shard.{AreInOrder, row_now, snapshot};
 ghost use Rattle.span_shard.specs.Versions.{row_at};
 ghost use Rattle.span_shard.specs.Stored.{chain_versions};
-ghost use Rattle.span_shard.specs.Reading.{shown, bare, bare_entry, seen_entry};
+ghost use Rattle.span_shard.specs.Reading.{entry_row, versions_alone, versions_alone_at, seen_entry};
 
 use super::shard::Entry;
 use super::store::Store;
@@ -84,7 +84,7 @@ fn push_keys<'a>(
     walk: Walk<'a>,
 ) -> Result<(), AllocError>
     requires { All (λ e. IsChain arena.now e.chain.number) walk }
-    ensures { OnOk result (found.new.items ≡ found.old.items ++ map (bare_entry arena.now) walk.entry) }
+    ensures { OnOk result (found.new.items ≡ found.old.items ++ map (versions_alone_at arena.now) walk.entry) }
 {
     let mut walk = walk;
     while let Some((key, chain)) = walk.next() {
@@ -99,7 +99,7 @@ pub(crate) fn push_beginning<'a>(
     store: &'a Store,
     front: &[u8],
 ) -> Result<(), AllocError>
-    ensures { OnOk result (found.new.items ≡ found.old.items ++ map bare (filter (λ c. begins_with c.key front.now) store.now)) }
+    ensures { OnOk result (found.new.items ≡ found.old.items ++ map versions_alone (filter (λ c. begins_with c.key front.now) store.now)) }
 {
     push_keys(
         found,
@@ -116,7 +116,7 @@ fn entries_at<'a>(
     s: u64,
 ) -> Result<Vec<Entry<'a>>, AllocError>
     requires { All (λ e. IsChain arena.now e.chain.number) walk }
-    ensures { IfOk result (λ es. map shown es.items ≡ filter_map (seen_entry arena.now s) walk.entry) }
+    ensures { IfOk result (λ es. map entry_row es.items ≡ filter_map (seen_entry arena.now s) walk.entry) }
 {
     let mut entries = Vec::new(alloc);
     let mut walk = walk;
@@ -138,7 +138,7 @@ pub(crate) fn rows_in<'a>(
     range: &KeyRange,
     s: u64,
 ) -> Result<Vec<Entry<'a>>, AllocError>
-    ensures { IfOk result (λ es. map shown es.items ≡ snapshot range.now s store.now) }
+    ensures { IfOk result (λ es. map entry_row es.items ≡ snapshot range.now s store.now) }
 {
     entries_at(
         alloc,

@@ -7,7 +7,7 @@ ghost use Rattle.span_rowcode.specs.Rows.{row_code};
 ghost use Rattle.span_mutate.specs.Directories.{rows_cmp};
 ghost use Rattle.span_mutate.specs.Typed.{IsTyped};
 ghost use Rattle.span_shard.specs.Rows.{code_of};
-ghost use Rattle.span_shard.specs.Reading.{row_of, AreRead, IsNoTableRow, IsUnread, HasUnread, is_behind, each_once, AreInOrderOnce};
+ghost use Rattle.span_shard.specs.Reading.{row_of, AreRead, IsNoTableRow, IsUnread, HasUnread, is_after_last, without_repeats, AreInOrderOnce};
 
 use super::place::StoredKey;
 use span_keycode::decode::decode_key;
@@ -83,8 +83,8 @@ fn sorted(schema: &Schema, rows: Vec<TableRow>) -> Result<Vec<TableRow>, AllocEr
     Ok(rows)
 }
 
-fn is_behind(schema: &Schema, last: Option<&TableRow>, row: &TableRow) -> bool
-    ensures { result ≡ is_behind schema.now (option_copied last.entry) row.now }
+fn is_after_last(schema: &Schema, last: Option<&TableRow>, row: &TableRow) -> bool
+    ensures { result ≡ is_after_last schema.now (option_copied last.entry) row.now }
 {
     match last {
         None => true,
@@ -93,16 +93,16 @@ fn is_behind(schema: &Schema, last: Option<&TableRow>, row: &TableRow) -> bool
 }
 
 /// Sorted rows, each key once.
-fn each_once(
+fn without_repeats(
     alloc: Global,
     schema: &Schema,
     rows: Vec<TableRow>,
 ) -> Result<Vec<TableRow>, AllocError>
-    ensures { IfOk result (λ once. once.items ≡ each_once schema.now None rows.items) }
+    ensures { IfOk result (λ once. once.items ≡ without_repeats schema.now None rows.items) }
 {
     let mut once = Vec::with_capacity(alloc, rows.len())?;
     for row in rows {
-        if is_behind(schema, once.last(), &row) {
+        if is_after_last(schema, once.last(), &row) {
             once.push(row)?;
         }
     }
@@ -118,6 +118,6 @@ pub(crate) fn in_order(
     ensures { IfOk result (λ once. AreInOrderOnce schema.now rows.items once.items) }
 {
     let all = sorted(schema, rows)?;
-    let once = each_once(alloc, schema, all)?;
+    let once = without_repeats(alloc, schema, all)?;
     Ok(once)
 }

@@ -3,7 +3,7 @@ ghost use Rattle.std.specs.Prelude.{◌≡◌, ◌<◌, ◌-◌, IsTrue, IfOk, M
 ghost use Rattle.std.specs.List.Sorted.{IsPermutation};
 ghost use Rattle.span_mutate.specs.Typed.{IsTypedMutation, AreTypedMutations};
 ghost use Rattle.span_shard.specs.Rows.{root_code};
-ghost use Rattle.span_shard.specs.Reading.{IsFound};
+ghost use Rattle.span_shard.specs.Reading.{AreKeysUnder};
 ghost use Rattle.span_shard.specs.Shard.{AreInOrder};
 
 use super::place::{StoredKey, push_beginning};
@@ -79,7 +79,7 @@ pub(crate) fn keys_under<'a>(
     roots: &[Key],
 ) -> Result<Vec<StoredKey<'a>>, AllocError>
     requires { AreInOrder store.now }
-    ensures { IfOk result (λ found. IsFound roots.now store.now found.items) }
+    ensures { IfOk result (λ found. AreKeysUnder roots.now store.now found.items) }
 {
     let mut found = Vec::new(alloc);
     for i in 0..roots.len() {

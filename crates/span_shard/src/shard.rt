@@ -2,7 +2,7 @@
 ghost use Rattle.std.specs.Prelude.{◌≡◌, ◌≤◌, ◌⊎◌, ℕ, [], List, map, IfOk, IfErr, OnOk, OnErr};
 ghost use Rattle.span_keycode.specs.declared.range.KeyRange.{KeyRange};
 ghost use Rattle.span_mutate.specs.Typed.{AreTypedMutations};
-ghost use Rattle.span_shard.specs.Reading.{shown, AreWrites, IsFault, IsFull};
+ghost use Rattle.span_shard.specs.Reading.{entry_row, AreWrites, IsFault, IsFull};
 ghost use Rattle.std.specs.List.{AllByRecursion};
 ghost use Rattle.span_shard.specs.Shard.{with_writes, applied, trimmed, trimmed_key, snapshot, live, IsFree, HasNoneOf, HasSomeOf, ArePutsRefused, AreInOrder, IsInUse};
 ghost use Rattle.span_shard.specs.declared.write.Write.{Write};
@@ -65,14 +65,14 @@ impl Shard {
         range: &KeyRange,
         s: u64,
     ) -> Result<Vec<Entry<'a>>, Refusal>
-        ensures rows { IfOk result (λ es. map shown es.items ≡ snapshot range.now s self.now) }
+        ensures rows { IfOk result (λ es. map entry_row es.items ≡ snapshot range.now s self.now) }
         ensures memory { IfErr result (λ why. why ≡ Refusal.OutOfMemory) }
     {
         Ok(rows_in(alloc, &self.store, range, s)?)
     }
 
     /// A law, which takes no time: the keys are in order, each once.
-    pub fn keys_stand_in_order(&self)
+    pub fn keys_are_in_order(&self)
         ensures { AreInOrder self.now }
     {
         let _ = &self.store;
@@ -138,7 +138,7 @@ impl Shard {
     }
 
     /// Leaves of each key the newest version at or below the horizon h, a timestamp, unless it is a deletion, and all later ones. At
-    /// and above h every snapshot is as before (`trim_shows_all`). It takes no memory.
+    /// and above h every snapshot is as before (`trim_keeps_snapshots`). It takes no memory.
     pub fn trim(&mut self, h: u64)
         ensures { self.new ≡ trimmed h self.old }
     {
@@ -147,7 +147,7 @@ impl Shard {
     }
 
     /// A law, which takes no time: what a trim at h leaves reads as before at and above h, and the keys that go had nothing.
-    pub fn trim_shows_all(&self, h: u64)
+    pub fn trim_keeps_snapshots(&self, h: u64)
         ensures seen { (range : KeyRange) (s : ℕ) → h ≤ s → snapshot range s (trimmed h self.now) ≡ snapshot range s self.now }
         ensures live { live (trimmed h self.now) ≡ live (map (trimmed_key h) self.now) }
     {

@@ -4,7 +4,7 @@ use Rattle.span_value.specs.declared.value.Kind.{Kind}
 use Rattle.span_value.specs.declared.value.Kind.TheVariants as kind
 use Rattle.span_value.specs.declared.refusal.Refusal.{Refusal}
 use Rattle.span_value.specs.declared.refusal.Refusal.TheVariants.{TypeMismatch}
-use Rattle.span_typing.specs.Kinds.{takes, agreed, agreed_with, all_agreed, or_int, text_kind}
+use Rattle.span_typing.specs.Kinds.{takes, common_kind, common_kind_with, common_kind_of_all, or_int, text_kind}
 use Rattle.span_typing.specs.Steps.{and_then}
 use Rattle.span_soundness.specs.Types.{are_same, is_text}
 use Rattle.span_soundness.proofs.Sameness.{same_kind, is_same}
@@ -38,8 +38,8 @@ AllCovered j (k ∷ ks) = Covers j k × AllCovered j ks
 abbrev pub CoversBoth : Option Kind → Option Kind → Option Kind → Type 0
 CoversBoth a b j = Covers j a × Covers j b
 
-pub agreed_covers : (a b : Option Kind) → Made (CoversBoth a b) (agreed a b)
-unfolding agreed
+pub agreed_covers : (a b : Option Kind) → Made (CoversBoth a b) (common_kind a b)
+unfolding common_kind
 agreed_covers None b = (λ wanted is. refl, λ wanted is. is)
 agreed_covers (Some j) None = (λ wanted is. is, λ wanted is. refl)
 agreed_covers (Some j) (Some k) = made_if (CoversBoth (Some j) (Some k)) (are_same j k) (Some j) TypeMismatch (λ same. (λ wanted is. is, λ wanted is. subst (λ (t : Kind). takes wanted (Some t) ≡ true) (same_kind j k same) is))
@@ -47,7 +47,7 @@ agreed_covers (Some j) (Some k) = made_if (CoversBoth (Some j) (Some k)) (are_sa
 abbrev pub CoversAll : Option Kind → List (Option Kind) → Option Kind → Type 0
 CoversAll j ks r = Covers r j × AllCovered r ks
 
-refused : (P : Option Kind → Type 0) (ks : List (Option Kind)) (why : Refusal) → Made P (agreed_with ks (Err why))
+refused : (P : Option Kind → Type 0) (ks : List (Option Kind)) (why : Refusal) → Made P (common_kind_with ks (Err why))
 refused P [] why = tt {0}
 refused P (k ∷ ks) why = tt {0}
 
@@ -55,15 +55,15 @@ covers_more : (ks : List (Option Kind)) (j k i : Option Kind) → CoversBoth j k
 covers_more ks j k i both (Ok r) all = (λ wanted is. both.0 wanted (all.0 wanted is), (λ wanted is. both.1 wanted (all.0 wanted is), all.1))
 covers_more ks j k i both (Err why) all = tt {0}
 
-with_covers : (ks : List (Option Kind)) (j : Option Kind) → Made (CoversAll j ks) (agreed_with ks (Ok j))
+with_covers : (ks : List (Option Kind)) (j : Option Kind) → Made (CoversAll j ks) (common_kind_with ks (Ok j))
 with_covers [] j = (λ wanted is. is, tt {0})
-with_covers (k ∷ ks) j = go (with_covers ks) (agreed j k) (agreed_covers j k) where
-  go : ((i : Option Kind) → Made (CoversAll i ks) (agreed_with ks (Ok i))) → (o : Result (Option Kind) Refusal) → Made (CoversBoth j k) o → Made (CoversAll j (k ∷ ks)) (agreed_with ks o)
-  go rest (Ok i) both = covers_more ks j k i both (agreed_with ks (Ok i)) (rest i)
+with_covers (k ∷ ks) j = go (with_covers ks) (common_kind j k) (agreed_covers j k) where
+  go : ((i : Option Kind) → Made (CoversAll i ks) (common_kind_with ks (Ok i))) → (o : Result (Option Kind) Refusal) → Made (CoversBoth j k) o → Made (CoversAll j (k ∷ ks)) (common_kind_with ks o)
+  go rest (Ok i) both = covers_more ks j k i both (common_kind_with ks (Ok i)) (rest i)
   go rest (Err why) both = refused (CoversAll j (k ∷ ks)) ks why
 
-pub all_covered : (ks : List (Option Kind)) → Made (λ (r : Option Kind). AllCovered r ks) (all_agreed ks)
-all_covered ks = go (all_agreed ks) (with_covers ks None) where
+pub all_covered : (ks : List (Option Kind)) → Made (λ (r : Option Kind). AllCovered r ks) (common_kind_of_all ks)
+all_covered ks = go (common_kind_of_all ks) (with_covers ks None) where
   go : (r : Result (Option Kind) Refusal) → Made (CoversAll None ks) r → Made (λ (r : Option Kind). AllCovered r ks) r
   go (Ok r) all = all.1
   go (Err why) all = tt {0}

@@ -31,13 +31,13 @@ use Rattle.span_typing.specs.declared.typed.TypedArm.{TypedArm}
 use Rattle.span_typing.specs.declared.typed.Chain.{Chain}
 use Rattle.span_typing.specs.declared.typed.Mode.{Mode}
 use Rattle.span_typing.specs.declared.typed.Mode.TheVariants.{Rows, Groups}
-use Rattle.span_typing.specs.declared.function.Called.{Called}
-use Rattle.span_typing.specs.declared.function.Called.TheVariants as called
-use Rattle.span_typing.specs.Kinds.{takes, agreed, or_int}
+use Rattle.span_typing.specs.declared.function.CalledFunction.{CalledFunction}
+use Rattle.span_typing.specs.declared.function.CalledFunction.TheVariants as called
+use Rattle.span_typing.specs.Kinds.{takes, common_kind, or_int}
 use Rattle.span_typing.specs.Functions.{function_named}
-use Rattle.span_typing.specs.Steps.{given, ◌>>=◌}
-use Rattle.span_typing.specs.Operators.{integer, negative, denied, null_test, compared, between, among, liked, are_conditions, case_of, match_of, applied, operand_of, aggregate_kind}
-use Rattle.span_typing.specs.Typing.{Operand, string, bytes, truth, null, column, parameter_typed, parameter, each, condition_of, condition, conditions, all_true, some_true, linked, chained, next_link, links, arm_typed, arm, arms, alike, compared_arm, compared_arms, optional, of_one, of_two, of_three, membership, chain, junction, searched_case, simple_case, new_aggregate, aggregate, unknown_call, aggregate_call, function_call, call, call_star, arm_at, link_at, at_operands, typing}
+use Rattle.span_typing.specs.Steps.{from_result, ◌>>=◌}
+use Rattle.span_typing.specs.Operators.{integer, unary_minus, logical_not, null_test, comparison_test, between, in_list, like_test, are_conditions, case_of, match_of, apply_function, operand_of, aggregate_kind}
+use Rattle.span_typing.specs.Typing.{Operand, string, bytes, truth, null, column, parameter_typed, parameter, each, condition_of, condition, conditions, all_true, some_true, append_link, chain_of, next_link, links, arm_typed, arm, arms, check_kind, compared_arm, compared_arms, optional, of_one, of_two, of_three, membership, chain, junction, searched_case, simple_case, new_aggregate, aggregate, unknown_call, aggregate_call, function_call, call, call_star, arm_at, link_at, at_operands, typing}
 use Rattle.span_soundness.specs.Bindings.{column_types, row_types, is_aggregate_of, AreTyped, IsTyped}
 use Rattle.span_soundness.specs.Laws.{ParametersStayTyped, TypesAreRight}
 use Rattle.span_soundness.proofs.Sameness.{both_true}
@@ -101,9 +101,9 @@ condition_right types k x x_is = made_if (IsCondition types k) (are_conditions k
 abbrev IsAlike : List Kind → Option Kind → Typed → Type 0
 IsAlike types k x = IsTyped types x × ((j : Kind) × Takes j k × Takes j x.kind)
 
-alike_right : (types : List Kind) (k : Option Kind) (x : Typed) → IsTyped types x → Made (IsAlike types k) (alike k x)
-unfolding alike
-alike_right types k x x_is = then_made (CoversBoth k x.kind) (IsAlike types k) (agreed k x.kind) (λ j. Ok x) (agreed_covers k x.kind) (λ j both. (x_is, (or_int j, both.0 (or_int j) (takes_own j), both.1 (or_int j) (takes_own j))))
+alike_right : (types : List Kind) (k : Option Kind) (x : Typed) → IsTyped types x → Made (IsAlike types k) (check_kind k x)
+unfolding check_kind
+alike_right types k x x_is = then_made (CoversBoth k x.kind) (IsAlike types k) (common_kind k x.kind) (λ j. Ok x) (agreed_covers k x.kind) (λ j both. (x_is, (or_int j, both.0 (or_int j) (takes_own j), both.1 (or_int j) (takes_own j))))
 
 module _ (scope : Scope) where
   -- the types of the rows of the FROM
@@ -121,21 +121,21 @@ module _ (scope : Scope) where
 
   of_one_sound : (make : Typed → Result Typed Refusal) (a : Operand) → ((types : List Kind) (x : Typed) → IsTyped types x → Made (IsTyped types) (make x)) → Sound a → Sound (of_one make a)
   unfolding of_one
-  of_one_sound make a right a_is m kinds = then_keeps From (At m) (At m) kinds (a m) (λ x. given (make x)) (a_is m kinds)
+  of_one_sound make a right a_is m kinds = then_keeps From (At m) (At m) kinds (a m) (λ x. from_result (make x)) (a_is m kinds)
       (λ more x x_is. given_keeps From (At m) (kinds ++ more) (make x) (λ later. right (row_types scope m ((kinds ++ more) ++ later)) x (x_is later)))
 
   of_two_sound : (make : Typed → Typed → Result Typed Refusal) (a b : Operand) → ((types : List Kind) (x y : Typed) → IsTyped types x → IsTyped types y → Made (IsTyped types) (make x y)) → Sound a → Sound b → Sound (of_two make a b)
   unfolding of_two
-  of_two_sound make a b right a_is b_is m kinds = then_keeps From (At m) (At m) kinds (a m) (λ x. b m >>= (λ y. given (make x y))) (a_is m kinds)
-      (λ more x x_is. then_keeps From (At m) (At m) (kinds ++ more) (b m) (λ y. given (make x y)) (b_is m (kinds ++ more))
+  of_two_sound make a b right a_is b_is m kinds = then_keeps From (At m) (At m) kinds (a m) (λ x. b m >>= (λ y. from_result (make x y))) (a_is m kinds)
+      (λ more x x_is. then_keeps From (At m) (At m) (kinds ++ more) (b m) (λ y. from_result (make x y)) (b_is m (kinds ++ more))
       (λ more2 y y_is. given_keeps From (At m) ((kinds ++ more) ++ more2) (make x y)
       (λ later. right (row_types scope m (((kinds ++ more) ++ more2) ++ later)) x y (later_on (At m) (kinds ++ more) more2 x x_is later) (y_is later))))
 
   of_three_sound : (make : Typed → Typed → Typed → Result Typed Refusal) (a b c : Operand) → ((types : List Kind) (x y z : Typed) → IsTyped types x → IsTyped types y → IsTyped types z → Made (IsTyped types) (make x y z)) → Sound a → Sound b → Sound c → Sound (of_three make a b c)
   unfolding of_three
-  of_three_sound make a b c right a_is b_is c_is m kinds = then_keeps From (At m) (At m) kinds (a m) (λ x. b m >>= (λ y. c m >>= (λ z. given (make x y z)))) (a_is m kinds)
-      (λ more x x_is. then_keeps From (At m) (At m) (kinds ++ more) (b m) (λ y. c m >>= (λ z. given (make x y z))) (b_is m (kinds ++ more))
-      (λ more2 y y_is. then_keeps From (At m) (At m) ((kinds ++ more) ++ more2) (c m) (λ z. given (make x y z)) (c_is m ((kinds ++ more) ++ more2))
+  of_three_sound make a b c right a_is b_is c_is m kinds = then_keeps From (At m) (At m) kinds (a m) (λ x. b m >>= (λ y. c m >>= (λ z. from_result (make x y z)))) (a_is m kinds)
+      (λ more x x_is. then_keeps From (At m) (At m) (kinds ++ more) (b m) (λ y. c m >>= (λ z. from_result (make x y z))) (b_is m (kinds ++ more))
+      (λ more2 y y_is. then_keeps From (At m) (At m) ((kinds ++ more) ++ more2) (c m) (λ z. from_result (make x y z)) (c_is m ((kinds ++ more) ++ more2))
       (λ more3 z z_is. given_keeps From (At m) (((kinds ++ more) ++ more2) ++ more3) (make x y z)
       (λ later. right (row_types scope m ((((kinds ++ more) ++ more2) ++ more3) ++ later)) x y z
       (later_on (At m) ((kinds ++ more) ++ more2) more3 x (later_on (At m) (kinds ++ more) more2 x x_is) later)
@@ -149,9 +149,9 @@ module _ (scope : Scope) where
 
   membership_sound : (a : Operand) (os : List Operand) → Sound a → AllOf Sound os → Sound (membership a os)
   unfolding membership
-  membership_sound a os a_is all m kinds = then_keeps From (At m) (At m) kinds (a m) (λ x. each os m >>= (λ ys. given (among x ys))) (a_is m kinds)
-      (λ more x x_is. then_keeps From (Each From (At m)) (At m) (kinds ++ more) (each os m) (λ ys. given (among x ys)) (each_sound os m all (kinds ++ more))
-      (λ more2 ys ys_are. given_keeps From (At m) ((kinds ++ more) ++ more2) (among x ys)
+  membership_sound a os a_is all m kinds = then_keeps From (At m) (At m) kinds (a m) (λ x. each os m >>= (λ ys. from_result (in_list x ys))) (a_is m kinds)
+      (λ more x x_is. then_keeps From (Each From (At m)) (At m) (kinds ++ more) (each os m) (λ ys. from_result (in_list x ys)) (each_sound os m all (kinds ++ more))
+      (λ more2 ys ys_are. given_keeps From (At m) ((kinds ++ more) ++ more2) (in_list x ys)
       (λ later. among_right (row_types scope m (((kinds ++ more) ++ more2) ++ later)) x ys (later_on (At m) (kinds ++ more) more2 x x_is later) (ys_are later))))
 
   -- ---- chains
@@ -163,8 +163,8 @@ module _ (scope : Scope) where
   ChainAt m x kinds c = IsChain (row_types scope m kinds) x c
 
   next_link_sound : (m : Mode) (x : Typed) (c : Chain) (l : Operator × Operand) (kinds : List Kind) → SoundLink l → Always (ChainAt m x) kinds c → Keeps From (ChainAt m x) kinds (next_link m c l)
-  next_link_sound m x c l kinds l_is c_is = then_keeps From (At m) (ChainAt m x) kinds (l.1 m) (λ y. given (linked c l.0 y)) (l_is m kinds)
-      (λ more y y_is. given_keeps From (ChainAt m x) (kinds ++ more) (linked c l.0 y)
+  next_link_sound m x c l kinds l_is c_is = then_keeps From (At m) (ChainAt m x) kinds (l.1 m) (λ y. from_result (append_link c l.0 y)) (l_is m kinds)
+      (λ more y y_is. given_keeps From (ChainAt m x) (kinds ++ more) (append_link c l.0 y)
       (λ later. linked_right (row_types scope m ((kinds ++ more) ++ later)) x c l.0 y (later_on (ChainAt m x) kinds more c c_is later) (y_is later)))
 
   links_sound : (m : Mode) (x : Typed) (ls : List (Operator × Operand)) (kinds : List Kind) → AllOf SoundLink ls → Always (At m) kinds x → Keeps From (ChainAt m x) kinds (links x.kind ls m)
@@ -173,9 +173,9 @@ module _ (scope : Scope) where
 
   chain_sound : (a : Operand) (ls : List (Operator × Operand)) → Sound a → AllOf SoundLink ls → Sound (chain a ls)
   unfolding chain
-  chain_sound a ls a_is all m kinds = then_keeps From (At m) (At m) kinds (a m) (λ x. links x.kind ls m >>= (λ c. given (Ok (chained x c)))) (a_is m kinds)
-      (λ more x x_is. then_keeps From (ChainAt m x) (At m) (kinds ++ more) (links x.kind ls m) (λ c. given (Ok (chained x c))) (links_sound m x ls (kinds ++ more) all x_is)
-      (λ more2 c c_is. given_keeps From (At m) ((kinds ++ more) ++ more2) (Ok (chained x c))
+  chain_sound a ls a_is all m kinds = then_keeps From (At m) (At m) kinds (a m) (λ x. links x.kind ls m >>= (λ c. from_result (Ok (chain_of x c)))) (a_is m kinds)
+      (λ more x x_is. then_keeps From (ChainAt m x) (At m) (kinds ++ more) (links x.kind ls m) (λ c. from_result (Ok (chain_of x c))) (links_sound m x ls (kinds ++ more) all x_is)
+      (λ more2 c c_is. given_keeps From (At m) ((kinds ++ more) ++ more2) (Ok (chain_of x c))
       (λ later. chained_right (row_types scope m (((kinds ++ more) ++ more2) ++ later)) x c (c_is later))))
 
   -- ---- AND and OR
@@ -184,7 +184,7 @@ module _ (scope : Scope) where
   ConditionAt m k kinds e = IsCondition (row_types scope m kinds) k e
 
   condition_sound : (k : Option Kind) (a : Operand) (m : Mode) → Sound a → (kinds : List Kind) → Keeps From (ConditionAt m k) kinds (condition k a m)
-  condition_sound k a m a_is kinds = then_keeps From (At m) (ConditionAt m k) kinds (a m) (λ x. given (condition_of k x)) (a_is m kinds)
+  condition_sound k a m a_is kinds = then_keeps From (At m) (ConditionAt m k) kinds (a m) (λ x. from_result (condition_of k x)) (a_is m kinds)
       (λ more x x_is. given_keeps From (ConditionAt m k) (kinds ++ more) (condition_of k x) (λ later. condition_right (row_types scope m ((kinds ++ more) ++ later)) k x (x_is later)))
 
   conditions_sound : (k : Option Kind) (os : List Operand) (m : Mode) → AllOf Sound os → (kinds : List Kind) → Keeps From (Each From (ConditionAt m k)) kinds (conditions k os m)
@@ -192,8 +192,8 @@ module _ (scope : Scope) where
 
   junction_sound : (join : Typed → List TypedExpr → Typed) (a : Operand) (os : List Operand) → ((types : List Kind) (x : Typed) (es : List TypedExpr) → IsTyped types x → AllOf (IsCondition types x.kind) es → IsTyped types (join x es)) → Sound a → AllOf Sound os → Sound (junction join a os)
   unfolding junction
-  junction_sound join a os right a_is all m kinds = then_keeps From (At m) (At m) kinds (a m) (λ x. conditions x.kind os m >>= (λ es. given (Ok (join x es)))) (a_is m kinds)
-      (λ more x x_is. then_keeps From (Each From (ConditionAt m x.kind)) (At m) (kinds ++ more) (conditions x.kind os m) (λ es. given (Ok (join x es))) (conditions_sound x.kind os m all (kinds ++ more))
+  junction_sound join a os right a_is all m kinds = then_keeps From (At m) (At m) kinds (a m) (λ x. conditions x.kind os m >>= (λ es. from_result (Ok (join x es)))) (a_is m kinds)
+      (λ more x x_is. then_keeps From (Each From (ConditionAt m x.kind)) (At m) (kinds ++ more) (conditions x.kind os m) (λ es. from_result (Ok (join x es))) (conditions_sound x.kind os m all (kinds ++ more))
       (λ more2 es es_are. given_keeps From (At m) ((kinds ++ more) ++ more2) (Ok (join x es))
       (λ later. right (row_types scope m (((kinds ++ more) ++ more2) ++ later)) x es (later_on (At m) (kinds ++ more) more2 x x_is later) (es_are later))))
 
@@ -206,8 +206,8 @@ module _ (scope : Scope) where
   ArmAt m kinds a = IsTypedArm (row_types scope m kinds) a
 
   arm_sound : (a : Operand × Operand) (m : Mode) → SoundArm a → (kinds : List Kind) → Keeps From (ArmAt m) kinds (arm a m)
-  arm_sound a m a_is kinds = then_keeps From (At m) (ArmAt m) kinds (a.0 m) (λ c. a.1 m >>= (λ v. given (Ok (arm_typed c v)))) (a_is.0 m kinds)
-      (λ more c c_is. then_keeps From (At m) (ArmAt m) (kinds ++ more) (a.1 m) (λ v. given (Ok (arm_typed c v))) (a_is.1 m (kinds ++ more))
+  arm_sound a m a_is kinds = then_keeps From (At m) (ArmAt m) kinds (a.0 m) (λ c. a.1 m >>= (λ v. from_result (Ok (arm_typed c v)))) (a_is.0 m kinds)
+      (λ more c c_is. then_keeps From (At m) (ArmAt m) (kinds ++ more) (a.1 m) (λ v. from_result (Ok (arm_typed c v))) (a_is.1 m (kinds ++ more))
       (λ more2 v v_is. given_keeps From (ArmAt m) ((kinds ++ more) ++ more2) (Ok (arm_typed c v)) (λ later. (later_on (At m) (kinds ++ more) more2 c c_is later, v_is later))))
 
   arms_sound : (os : List (Operand × Operand)) (m : Mode) → AllOf SoundArm os → (kinds : List Kind) → Keeps From (Each From (ArmAt m)) kinds (arms os m)
@@ -220,9 +220,9 @@ module _ (scope : Scope) where
   ComparedArmAt m k kinds a = IsComparedArm (row_types scope m kinds) k a
 
   compared_arm_sound : (k : Option Kind) (a : Operand × Operand) (m : Mode) → SoundArm a → (kinds : List Kind) → Keeps From (ComparedArmAt m k) kinds (compared_arm k a m)
-  compared_arm_sound k a m a_is kinds = then_keeps From (AlikeAt m k) (ComparedArmAt m k) kinds (a.0 m >>= (λ x. given (alike k x))) (λ c. a.1 m >>= (λ v. given (Ok (arm_typed c v))))
-      (then_keeps From (At m) (AlikeAt m k) kinds (a.0 m) (λ x. given (alike k x)) (a_is.0 m kinds) (λ more x x_is. given_keeps From (AlikeAt m k) (kinds ++ more) (alike k x) (λ later. alike_right (row_types scope m ((kinds ++ more) ++ later)) k x (x_is later))))
-      (λ more c c_is. then_keeps From (At m) (ComparedArmAt m k) (kinds ++ more) (a.1 m) (λ v. given (Ok (arm_typed c v))) (a_is.1 m (kinds ++ more))
+  compared_arm_sound k a m a_is kinds = then_keeps From (AlikeAt m k) (ComparedArmAt m k) kinds (a.0 m >>= (λ x. from_result (check_kind k x))) (λ c. a.1 m >>= (λ v. from_result (Ok (arm_typed c v))))
+      (then_keeps From (At m) (AlikeAt m k) kinds (a.0 m) (λ x. from_result (check_kind k x)) (a_is.0 m kinds) (λ more x x_is. given_keeps From (AlikeAt m k) (kinds ++ more) (check_kind k x) (λ later. alike_right (row_types scope m ((kinds ++ more) ++ later)) k x (x_is later))))
+      (λ more c c_is. then_keeps From (At m) (ComparedArmAt m k) (kinds ++ more) (a.1 m) (λ v. from_result (Ok (arm_typed c v))) (a_is.1 m (kinds ++ more))
       (λ more2 v v_is. given_keeps From (ComparedArmAt m k) ((kinds ++ more) ++ more2) (Ok (arm_typed c v))
       (λ later. let c_later : IsAlike (row_types scope m (((kinds ++ more) ++ more2) ++ later)) k c = later_on (AlikeAt m k) (kinds ++ more) more2 c c_is later in (c_later.0, v_is later, c_later.1))))
 
@@ -238,21 +238,21 @@ module _ (scope : Scope) where
 
   optional_sound : (other : Option Operand) (m : Mode) → SoundElse other → (kinds : List Kind) → Keeps From (ElseAt m) kinds (optional other m)
   optional_sound None m other_is kinds = given_keeps From (ElseAt m) kinds (Ok None) (λ later. tt {0})
-  optional_sound (Some a) m other_is kinds = then_keeps From (At m) (ElseAt m) kinds (a m) (λ x. given (Ok (Some x))) (other_is m kinds)
+  optional_sound (Some a) m other_is kinds = then_keeps From (At m) (ElseAt m) kinds (a m) (λ x. from_result (Ok (Some x))) (other_is m kinds)
       (λ more x x_is. given_keeps From (ElseAt m) (kinds ++ more) (Ok (Some x)) (λ later. x_is later))
 
   searched_sound : (os : List (Operand × Operand)) (other : Option Operand) → AllOf SoundArm os → SoundElse other → Sound (searched_case os other)
   unfolding searched_case
-  searched_sound os other all other_is m kinds = then_keeps From (Each From (ArmAt m)) (At m) kinds (arms os m) (λ xs. optional other m >>= (λ y. given (case_of xs y))) (arms_sound os m all kinds)
-      (λ more xs xs_are. then_keeps From (ElseAt m) (At m) (kinds ++ more) (optional other m) (λ y. given (case_of xs y)) (optional_sound other m other_is (kinds ++ more))
+  searched_sound os other all other_is m kinds = then_keeps From (Each From (ArmAt m)) (At m) kinds (arms os m) (λ xs. optional other m >>= (λ y. from_result (case_of xs y))) (arms_sound os m all kinds)
+      (λ more xs xs_are. then_keeps From (ElseAt m) (At m) (kinds ++ more) (optional other m) (λ y. from_result (case_of xs y)) (optional_sound other m other_is (kinds ++ more))
       (λ more2 y y_is. given_keeps From (At m) ((kinds ++ more) ++ more2) (case_of xs y)
       (λ later. case_right (row_types scope m (((kinds ++ more) ++ more2) ++ later)) xs y (later_on (Each From (ArmAt m)) (kinds ++ more) more2 xs xs_are later) (y_is later))))
 
   simple_sound : (a : Operand) (os : List (Operand × Operand)) (other : Option Operand) → Sound a → AllOf SoundArm os → SoundElse other → Sound (simple_case a os other)
   unfolding simple_case
-  simple_sound a os other a_is all other_is m kinds = then_keeps From (At m) (At m) kinds (a m) (λ x. compared_arms x.kind os m >>= (λ xs. optional other m >>= (λ y. given (match_of x xs y)))) (a_is m kinds)
-      (λ more x x_is. then_keeps From (Each From (ComparedArmAt m x.kind)) (At m) (kinds ++ more) (compared_arms x.kind os m) (λ xs. optional other m >>= (λ y. given (match_of x xs y))) (compared_arms_sound x.kind os m all (kinds ++ more))
-      (λ more2 xs xs_are. then_keeps From (ElseAt m) (At m) ((kinds ++ more) ++ more2) (optional other m) (λ y. given (match_of x xs y)) (optional_sound other m other_is ((kinds ++ more) ++ more2))
+  simple_sound a os other a_is all other_is m kinds = then_keeps From (At m) (At m) kinds (a m) (λ x. compared_arms x.kind os m >>= (λ xs. optional other m >>= (λ y. from_result (match_of x xs y)))) (a_is m kinds)
+      (λ more x x_is. then_keeps From (Each From (ComparedArmAt m x.kind)) (At m) (kinds ++ more) (compared_arms x.kind os m) (λ xs. optional other m >>= (λ y. from_result (match_of x xs y))) (compared_arms_sound x.kind os m all (kinds ++ more))
+      (λ more2 xs xs_are. then_keeps From (ElseAt m) (At m) ((kinds ++ more) ++ more2) (optional other m) (λ y. from_result (match_of x xs y)) (optional_sound other m other_is ((kinds ++ more) ++ more2))
       (λ more3 y y_is. given_keeps From (At m) (((kinds ++ more) ++ more2) ++ more3) (match_of x xs y)
       (λ later. match_right (row_types scope m ((((kinds ++ more) ++ more2) ++ more3) ++ later)) x xs y
       (later_on (At m) ((kinds ++ more) ++ more2) more3 x (later_on (At m) (kinds ++ more) more2 x x_is) later)
@@ -263,12 +263,12 @@ module _ (scope : Scope) where
 
   unknown_sound : (os : List Operand) → AllOf Sound os → Sound (unknown_call os)
   unfolding unknown_call
-  unknown_sound os all m kinds = then_keeps From (Each From (At m)) (At m) kinds (each os m) (λ xs. given (Err TypeMismatch)) (each_sound os m all kinds) (λ more xs xs_are. given_keeps From (At m) (kinds ++ more) (Err TypeMismatch) (λ later. tt {0}))
+  unknown_sound os all m kinds = then_keeps From (Each From (At m)) (At m) kinds (each os m) (λ xs. from_result (Err TypeMismatch)) (each_sound os m all kinds) (λ more xs xs_are. given_keeps From (At m) (kinds ++ more) (Err TypeMismatch) (λ later. tt {0}))
 
-  function_sound : (f : Called) (os : List Operand) → AllOf Sound os → Sound (function_call f os)
+  function_sound : (f : CalledFunction) (os : List Operand) → AllOf Sound os → Sound (function_call f os)
   unfolding function_call
-  function_sound f os all m kinds = then_keeps From (Each From (At m)) (At m) kinds (each os m) (λ xs. given (applied f xs)) (each_sound os m all kinds)
-      (λ more xs xs_are. given_keeps From (At m) (kinds ++ more) (applied f xs) (λ later. applied_right (row_types scope m ((kinds ++ more) ++ later)) f xs (xs_are later)))
+  function_sound f os all m kinds = then_keeps From (Each From (At m)) (At m) kinds (each os m) (λ xs. from_result (apply_function f xs)) (each_sound os m all kinds)
+      (λ more xs xs_are. given_keeps From (At m) (kinds ++ more) (apply_function f xs) (λ later. applied_right (row_types scope m ((kinds ++ more) ++ later)) f xs (xs_are later)))
 
   new_sound : (m : Mode) (a : Aggregate) (k : Kind) (kinds : List Kind) → is_aggregate_of From a k ≡ true → Keeps From (At m) kinds (new_aggregate scope m a k)
   unfolding new_aggregate
@@ -281,7 +281,7 @@ module _ (scope : Scope) where
 
   aggregate_sound : (m : Mode) (f : Function) (xs : List Typed) (kinds : List Kind) → AllOf (IsTyped From) xs → Keeps From (At m) kinds (aggregate scope m f xs)
   unfolding aggregate
-  aggregate_sound m f xs kinds all = then_keeps From (OperandAt f) (At m) kinds (given (operand_of f xs)) (λ x. new_aggregate scope m (Of f x.expr) (aggregate_kind f x.kind))
+  aggregate_sound m f xs kinds all = then_keeps From (OperandAt f) (At m) kinds (from_result (operand_of f xs)) (λ x. new_aggregate scope m (Of f x.expr) (aggregate_kind f x.kind))
       (given_keeps From (OperandAt f) kinds (operand_of f xs) (λ later. operand_right From f xs all))
       (λ more x x_is. new_sound m (Of f x.expr) (aggregate_kind f x.kind) (kinds ++ more) (x_is []))
 
@@ -289,7 +289,7 @@ module _ (scope : Scope) where
   unfolding aggregate_call
   aggregate_call_sound f os all m kinds = then_keeps From (Each From (At Rows)) (At m) kinds (each os Rows) (aggregate scope m f) (each_sound os Rows all kinds) (λ more xs xs_are. aggregate_sound m f xs (kinds ++ more) (xs_are []))
 
-  call_sound : (f : Option Called) (os : List Operand) → AllOf Sound os → Sound (call scope f os)
+  call_sound : (f : Option CalledFunction) (os : List Operand) → AllOf Sound os → Sound (call scope f os)
   call_sound None os all = unknown_sound os all
   call_sound (Some (called.Aggregate f)) os all = aggregate_call_sound f os all
   call_sound (Some called.Divide) os all = function_sound called.Divide os all
@@ -300,10 +300,10 @@ module _ (scope : Scope) where
   call_sound (Some called.IfNull) os all = function_sound called.IfNull os all
   call_sound (Some called.Coalesce) os all = function_sound called.Coalesce os all
 
-  refused_sound : Sound (λ m. given (Err TypeMismatch))
+  refused_sound : Sound (λ m. from_result (Err TypeMismatch))
   refused_sound m kinds = given_keeps From (At m) kinds (Err TypeMismatch) (λ later. tt {0})
 
-  star_sound : (f : Option Called) → Sound (call_star scope f)
+  star_sound : (f : Option CalledFunction) → Sound (call_star scope f)
   unfolding call_star
   star_sound None m kinds = refused_sound m kinds
   star_sound (Some (called.Aggregate Count)) m kinds = new_sound m CountRows kind.Int kinds refl
@@ -318,10 +318,10 @@ module _ (scope : Scope) where
   star_sound (Some called.IfNull) m kinds = refused_sound m kinds
   star_sound (Some called.Coalesce) m kinds = refused_sound m kinds
 
-  given_sound : (r : Result Typed Refusal) → ((types : List Kind) → Made (IsTyped types) r) → Sound (λ m. given r)
+  given_sound : (r : Result Typed Refusal) → ((types : List Kind) → Made (IsTyped types) r) → Sound (λ m. from_result r)
   given_sound r right m kinds = given_keeps From (At m) kinds r (λ later. right (row_types scope m (kinds ++ later)))
 
-  column_sound : (c : Column) → Sound (λ m. given (column scope m c))
+  column_sound : (c : Column) → Sound (λ m. from_result (column scope m c))
   column_sound c m kinds = given_keeps From (At m) kinds (column scope m c) (λ later. column_right scope m (kinds ++ later) c)
 
   -- ---- trees
@@ -390,14 +390,14 @@ module _ (scope : Scope) where
     layer_sound (Expr-F.Case None os (Some b)) = searched_sound (map arm_fold (map arm_of os)) (Some (typing scope params b.0)) (tree_arms_sound os) b.1
     layer_sound (Expr-F.Case (Some a) os None) = simple_sound (typing scope params a.0) (map arm_fold (map arm_of os)) None a.1 (tree_arms_sound os) (tt {0})
     layer_sound (Expr-F.Case (Some a) os (Some b)) = simple_sound (typing scope params a.0) (map arm_fold (map arm_of os)) (Some (typing scope params b.0)) a.1 (tree_arms_sound os) b.1
-    layer_sound (Expr-F.Negative a) = of_one_sound negative (typing scope params a.0) negative_right a.1
+    layer_sound (Expr-F.Negative a) = of_one_sound unary_minus (typing scope params a.0) negative_right a.1
     layer_sound (Expr-F.Chain a ls) = chain_sound (typing scope params a.0) (map link_fold (map link_of ls)) a.1 (tree_links_sound ls)
-    layer_sound (Expr-F.Compare a c b) = of_two_sound (compared c) (typing scope params a.0) (typing scope params b.0) (λ types. compared_right types c) a.1 b.1
+    layer_sound (Expr-F.Compare a c b) = of_two_sound (comparison_test c) (typing scope params a.0) (typing scope params b.0) (λ types. compared_right types c) a.1 b.1
     layer_sound (Expr-F.IsNull a) = of_one_sound (λ x. Ok (null_test x)) (typing scope params a.0) null_test_right a.1
-    layer_sound (Expr-F.Like a pattern) = of_one_sound (liked pattern.text) (typing scope params a.0) (λ types. liked_right types pattern.text) a.1
+    layer_sound (Expr-F.Like a pattern) = of_one_sound (like_test pattern.text) (typing scope params a.0) (λ types. liked_right types pattern.text) a.1
     layer_sound (Expr-F.Between a low high) = of_three_sound between (typing scope params a.0) (typing scope params low.0) (typing scope params high.0) between_right a.1 low.1 high.1
     layer_sound (Expr-F.In a os) = membership_sound (typing scope params a.0) (map (typing scope params) (map tree_of os)) a.1 (trees_sound os)
-    layer_sound (Expr-F.Not a) = of_one_sound denied (typing scope params a.0) denied_right a.1
+    layer_sound (Expr-F.Not a) = of_one_sound logical_not (typing scope params a.0) denied_right a.1
     layer_sound (Expr-F.And a os) = junction_sound all_true (typing scope params a.0) (map (typing scope params) (map tree_of os)) all_true_right a.1 (trees_sound os)
     layer_sound (Expr-F.Or a os) = junction_sound some_true (typing scope params a.0) (map (typing scope params) (map tree_of os)) some_true_right a.1 (trees_sound os)
 

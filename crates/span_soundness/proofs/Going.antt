@@ -5,7 +5,7 @@ use Rattle.std.specs.List.{fold}
 use Rattle.span_value.specs.declared.value.Kind.{Kind}
 use Rattle.span_value.specs.declared.refusal.Refusal.{Refusal}
 use Rattle.span_query.specs.declared.query.Aggregate.{Aggregate}
-use Rattle.span_typing.specs.Steps.{and_then, pure, given, ◌>>=◌, next_of, along, behind, all_of}
+use Rattle.span_typing.specs.Steps.{and_then, pure, from_result, ◌>>=◌, next_of, fold_steps, append_step, all_of}
 use Rattle.span_typing.specs.Typing.{Finds}
 use Rattle.span_soundness.specs.Bindings.{AreAggregatesOf}
 use Rattle.span_soundness.proofs.Agreeing.{Made, AllOf}
@@ -55,7 +55,7 @@ module _ (types : List Kind) where
         further S found leads.0 p.1 kinds leads.1 (next p.0 p.1) leads.2 leads.3
         (follows leads.1 p.0 leads.4 p.1 (subst (λ (l : List Aggregate). AreAggregatesOf types l (kinds ++ leads.1)) (sym leads.2) (both_are_of found kinds leads.0 leads.1 are leads.3)))
 
-  pub given_keeps : {A : Type 0} (R : List Kind → A → Type 0) (kinds : List Kind) (r : Result A Refusal) → ((later : List Kind) → Made (R (kinds ++ later)) r) → Keeps R kinds (given r)
+  pub given_keeps : {A : Type 0} (R : List Kind → A → Type 0) (kinds : List Kind) (r : Result A Refusal) → ((later : List Kind) → Made (R (kinds ++ later)) r) → Keeps R kinds (from_result r)
   given_keeps R kinds (Ok x) is found are = ([], [], sym (append-nil found), tt {0}, later_on R kinds [] x is)
   given_keeps R kinds (Err why) is found are = tt {0}
 
@@ -65,15 +65,15 @@ module _ (types : List Kind) where
   refused_stays step why [] = refl
   refused_stays step why (x ∷ xs) = refused_stays step why xs
 
-  rejoined : {X A : Type 0} (step : A → X → Finds A) (xs : List X) (o : Result (A × List Aggregate) Refusal) → and_then o (λ p. along step p.0 xs p.1) ≡ fold (next_of step) o xs
+  rejoined : {X A : Type 0} (step : A → X → Finds A) (xs : List X) (o : Result (A × List Aggregate) Refusal) → and_then o (λ p. fold_steps step p.0 xs p.1) ≡ fold (next_of step) o xs
   rejoined step xs (Ok p) = refl
   rejoined step xs (Err why) = sym (refused_stays step why xs)
 
-  pub along_keeps : {X A : Type 0} (R : List Kind → A → Type 0) (P : X → Type 0) (step : A → X → Finds A) → ((kinds : List Kind) (a : A) (x : X) → P x → Always R kinds a → Keeps R kinds (step a x)) → (xs : List X) → AllOf P xs → (kinds : List Kind) (a : A) → Always R kinds a → Keeps R kinds (along step a xs)
+  pub along_keeps : {X A : Type 0} (R : List Kind → A → Type 0) (P : X → Type 0) (step : A → X → Finds A) → ((kinds : List Kind) (a : A) (x : X) → P x → Always R kinds a → Keeps R kinds (step a x)) → (xs : List X) → AllOf P xs → (kinds : List Kind) (a : A) → Always R kinds a → Keeps R kinds (fold_steps step a xs)
   along_keeps R P step keeps [] all kinds a is found are = ([], [], sym (append-nil found), tt {0}, later_on R kinds [] a is)
   along_keeps R P step keeps (x ∷ xs) all kinds a is found are =
       subst (λ (o : Result (_ × List Aggregate) Refusal). Leads R found kinds o) (rejoined step xs (step a x found))
-      (then_keeps R R kinds (step a x) (λ b. along step b xs) (keeps kinds a x all.0 is) (λ more b b_is. along_keeps R P step keeps xs all.1 (kinds ++ more) b b_is) found are)
+      (then_keeps R R kinds (step a x) (λ b. fold_steps step b xs) (keeps kinds a x all.0 is) (λ more b b_is. along_keeps R P step keeps xs all.1 (kinds ++ more) b b_is) found are)
 
   one_behind : {A : Type 0} (P : A → Type 0) (xs : List A) (x : A) → AllOf P xs → P x → AllOf P (xs ++ x ∷ [])
   one_behind P [] x all is = (is, tt {0})
@@ -84,7 +84,7 @@ module _ (types : List Kind) where
 
   pub all_keep : {X A : Type 0} (R : List Kind → A → Type 0) (P : X → Type 0) (step : X → Finds A) → ((x : X) → P x → (kinds : List Kind) → Keeps R kinds (step x)) → (xs : List X) → AllOf P xs → (kinds : List Kind) → Keeps (Each R) kinds (all_of step xs)
   all_keep R P step keeps xs all kinds =
-      along_keeps (Each R) P (behind step)
+      along_keeps (Each R) P (append_step step)
       (λ ks os x x_is os_are. then_keeps R (Each R) ks (step x) (λ a. pure (os ++ (a ∷ []))) (keeps x x_is ks)
       (λ more a a_is. given_keeps (Each R) (ks ++ more) (Ok (os ++ (a ∷ []))) (λ later. one_behind (R ((ks ++ more) ++ later)) os a (later_on (Each R) ks more os os_are later) (a_is later))))
       xs all kinds [] (λ later. tt {0})

@@ -25,10 +25,10 @@ use Rattle.span_expr.specs.declared.expr.Expr.{Expr}
 use Rattle.span_expr.specs.declared.expr.Expr.TheOpen.{Expr-F}
 use Rattle.span_expr.specs.declared.expr.Expr.TheViews.{roll-Expr}
 use Rattle.span_expr.specs.declared.expr.Expr.TheFolds.{ind-Expr, map-Expr, fold-roll-Expr}
-use Rattle.span_expr.specs.Outcomes.{and_then, strict, is_null, null_test, condition_of, outcome_of, denied, if_true, first_known, both}
-use Rattle.span_expr.specs.Operators.{number, is_int64, applied, calculated, concatenated, text_with, bytes_with, of_numbers, opposite, compared, holds, measured, begun_by, column_of}
+use Rattle.span_expr.specs.Outcomes.{and_then, strict, is_null, null_test, condition_of, outcome_of, logical_not, if_true, first_non_null, both}
+use Rattle.span_expr.specs.Operators.{number, is_int64, apply_operator, calculate, concatenation, append_text, append_bytes, calculate_ints, arithmetic_negation, compare_values, holds, length_of, has_prefix, column_of}
 use Rattle.span_expr.specs.Patterns.{like}
-use Rattle.span_expr.specs.Meaning.{linked, chosen, matched, at_operands, val, link_val, arm_val, between, among, and_also, or_else, or_equal, all_of, any_of}
+use Rattle.span_expr.specs.Meaning.{apply_link, case_value, match_value, at_operands, val, link_val, arm_val, between, in_list, and_also, or_else, or_equal, all_of, any_of}
 use Rattle.span_soundness.specs.Types.{IsOutcomeOf, IsRowOf, are_same, is_text, is_operand, Typing, is_some, is_link_of, has_value, has_condition, is_compared_with, are_conditions, all_values_are, all_are, has_type, typing_at, is_of}
 use Rattle.span_soundness.specs.Laws.{ExpressionsKeepTypes}
 use Rattle.span_soundness.proofs.Sameness.{not_true, both_true, same_kind}
@@ -69,29 +69,29 @@ strict_kept k apply Fault p follows = tt {0}
 
 -- `x >= low AND x <= high`
 abbrev between_condition : Outcome → Outcome → Outcome → Condition
-between_condition x low high = both (condition_of (strict (compared AtLeast) x low)) (condition_of (strict (compared AtMost) x high))
+between_condition x low high = both (condition_of (strict (compare_values AtLeast) x low)) (condition_of (strict (compare_values AtMost) x high))
 
 -- ---- operators
 
-opposite_kept : (v : Value) → IsOutcomeOf kind.Int (opposite v)
+opposite_kept : (v : Value) → IsOutcomeOf kind.Int (arithmetic_negation v)
 opposite_kept (value.Int z) = number_kept (neg_ℤ z)
 opposite_kept value.Null = refl
 opposite_kept (value.Str s) = refl
 opposite_kept (value.Bytes s) = refl
 opposite_kept (value.Bool b) = refl
 
-compared_kept : (c : Comparison) (v w : Value) → IsOutcomeOf kind.Bool (compared c v w)
+compared_kept : (c : Comparison) (v w : Value) → IsOutcomeOf kind.Bool (compare_values c v w)
 compared_kept c v w = of_test (is_null v || is_null w) where
   of_test : (b : Bool) → IsOutcomeOf kind.Bool (if b then Val value.Null else Val (value.Bool (holds c (value_order v w))))
   of_test true = refl
   of_test false = refl
 
-begun_kept : (v w : Value) → IsOutcomeOf kind.Bool (begun_by v w)
+begun_kept : (v w : Value) → IsOutcomeOf kind.Bool (has_prefix v w)
 begun_kept (value.Str a) (value.Str b) = refl
 begun_kept (value.Bytes a) (value.Bytes b) = refl
 begun_kept v w = refl
 
-measured_kept : (v : Value) → IsOutcomeOf kind.Int (measured v)
+measured_kept : (v : Value) → IsOutcomeOf kind.Int (length_of v)
 measured_kept (value.Str a) = refl
 measured_kept (value.Bytes a) = refl
 measured_kept v = refl
@@ -100,7 +100,7 @@ like_kept : (pattern : List PatternPart) (v : Value) → IsOutcomeOf kind.Bool (
 like_kept pattern (value.Str a) = refl
 like_kept pattern v = refl
 
-denied_kept : (v : Value) → IsOutcomeOf kind.Bool (denied v)
+denied_kept : (v : Value) → IsOutcomeOf kind.Bool (logical_not v)
 denied_kept value.Null = refl
 denied_kept (value.Bool true) = refl
 denied_kept (value.Bool false) = refl
@@ -110,7 +110,7 @@ denied_kept (value.Bytes s) = refl
 
 -- ---- chains
 
-numbers_kept : (op : Operator) (a b : ℤ) → IsOutcomeOf kind.Int (of_numbers op a b)
+numbers_kept : (op : Operator) (a b : ℤ) → IsOutcomeOf kind.Int (calculate_ints op a b)
 numbers_kept Add a b = number_kept (a +ℤ b)
 numbers_kept Subtract a b = number_kept (a -ℤ b)
 numbers_kept Multiply a b = number_kept (a *ℤ b)
@@ -122,20 +122,20 @@ numbers_kept Modulo a (pos (suc n)) = refl
 numbers_kept Modulo a (negsuc n) = refl
 numbers_kept Concatenate a b = refl
 
-calculated_kept : (op : Operator) (v w : Value) → IsOutcomeOf kind.Int (calculated op v w)
+calculated_kept : (op : Operator) (v w : Value) → IsOutcomeOf kind.Int (calculate op v w)
 calculated_kept op (value.Int a) (value.Int b) = numbers_kept op a b
 calculated_kept op v w = refl
 
-texts_kept : (v : Value) (b : List ℕ) → IsOutcomeOf kind.Str (text_with v b)
+texts_kept : (v : Value) (b : List ℕ) → IsOutcomeOf kind.Str (append_text v b)
 texts_kept (value.Str a) b = refl
 texts_kept v b = refl
 
-bytes_kept : (v : Value) (b : List ℕ) → IsOutcomeOf kind.Bytes (bytes_with v b)
+bytes_kept : (v : Value) (b : List ℕ) → IsOutcomeOf kind.Bytes (append_bytes v b)
 bytes_kept (value.Bytes a) b = refl
 bytes_kept v b = refl
 
 -- the second operand decides of which type the two are together
-concatenated_kept : (k : Kind) (v w : Value) → is_text k ≡ true → is_of_kind k w ≡ true → IsOutcomeOf k (concatenated v w)
+concatenated_kept : (k : Kind) (v w : Value) → is_text k ≡ true → is_of_kind k w ≡ true → IsOutcomeOf k (concatenation v w)
 concatenated_kept k v value.Null text is = null_of k
 concatenated_kept k v (value.Int n) text is = null_of k
 concatenated_kept k v (value.Bool b) text is = null_of k
@@ -148,10 +148,10 @@ concatenated_kept kind.Int v (value.Bytes b) text is = not_true text
 concatenated_kept kind.Bool v (value.Str b) text is = not_true text
 concatenated_kept kind.Bool v (value.Bytes b) text is = not_true text
 
-number_applied : (op : Operator) (k : Kind) (v w : Value) → are_same kind.Int k ≡ true → IsOutcomeOf kind.Int (calculated op v w) → IsOutcomeOf k (calculated op v w)
-number_applied op k v w is kept = subst (λ (t : Kind). IsOutcomeOf t (calculated op v w)) (same_kind kind.Int k is) kept
+number_applied : (op : Operator) (k : Kind) (v w : Value) → are_same kind.Int k ≡ true → IsOutcomeOf kind.Int (calculate op v w) → IsOutcomeOf k (calculate op v w)
+number_applied op k v w is kept = subst (λ (t : Kind). IsOutcomeOf t (calculate op v w)) (same_kind kind.Int k is) kept
 
-applied_kept : (op : Operator) (k : Kind) (v w : Value) → is_operand op k ≡ true → is_of_kind k w ≡ true → IsOutcomeOf k (applied op v w)
+applied_kept : (op : Operator) (k : Kind) (v w : Value) → is_operand op k ≡ true → is_of_kind k w ≡ true → IsOutcomeOf k (apply_operator op v w)
 applied_kept Concatenate k v w operand is = concatenated_kept k v w operand is
 applied_kept Add k v w operand is = number_applied Add k v w operand (calculated_kept Add v w)
 applied_kept Subtract k v w operand is = number_applied Subtract k v w operand (calculated_kept Subtract v w)
@@ -164,14 +164,14 @@ abbrev AllLinks : Kind → List (Link Outcome) → Type 0
 AllLinks k [] = Unit {0}
 AllLinks k (link ∷ links) = (is_operand link.operator k ≡ true) × IsOutcomeOf k link.operand × AllLinks k links
 
-linked_kept : (k : Kind) (op : Operator) (o p : Outcome) → is_operand op k ≡ true → IsOutcomeOf k p → IsOutcomeOf k (strict (applied op) o p)
+linked_kept : (k : Kind) (op : Operator) (o p : Outcome) → is_operand op k ≡ true → IsOutcomeOf k p → IsOutcomeOf k (strict (apply_operator op) o p)
 linked_kept k op (Val v) (Val w) operand is = applied_kept op k v w operand is
 linked_kept k op (Val v) Fault operand is = tt {0}
 linked_kept k op Fault p operand is = tt {0}
 
-chained_kept : (k : Kind) (o : Outcome) (links : List (Link Outcome)) → IsOutcomeOf k o → AllLinks k links → IsOutcomeOf k (fold linked o links)
+chained_kept : (k : Kind) (o : Outcome) (links : List (Link Outcome)) → IsOutcomeOf k o → AllLinks k links → IsOutcomeOf k (fold apply_link o links)
 chained_kept k o [] is all = is
-chained_kept k o (link ∷ links) is all = chained_kept k (linked o link) links (linked_kept k link.operator o link.operand all.0 all.1) all.2
+chained_kept k o (link ∷ links) is all = chained_kept k (apply_link o link) links (linked_kept k link.operator o link.operand all.0 all.1) all.2
 
 -- ---- choices
 
@@ -179,7 +179,7 @@ abbrev AllAre : Kind → List Outcome → Type 0
 AllAre k [] = Unit {0}
 AllAre k (o ∷ os) = IsOutcomeOf k o × AllAre k os
 
-first_kept : (k : Kind) (os : List Outcome) → AllAre k os → IsOutcomeOf k (first_known os)
+first_kept : (k : Kind) (os : List Outcome) → AllAre k os → IsOutcomeOf k (first_non_null os)
 first_kept k [] all = null_of k
 first_kept k (Val value.Null ∷ os) all = first_kept k os all.1
 first_kept k (Val (value.Int n) ∷ os) all = all.0
@@ -201,13 +201,13 @@ abbrev AllValues : Kind → List (Arm Outcome) → Type 0
 AllValues k [] = Unit {0}
 AllValues k (arm ∷ arms) = IsOutcomeOf k arm.value × AllValues k arms
 
-chosen_kept : (k : Kind) (arms : List (Arm Outcome)) (o : Outcome) → AllValues k arms → IsOutcomeOf k o → IsOutcomeOf k (chosen arms o)
+chosen_kept : (k : Kind) (arms : List (Arm Outcome)) (o : Outcome) → AllValues k arms → IsOutcomeOf k o → IsOutcomeOf k (case_value arms o)
 chosen_kept k [] o all is = is
-chosen_kept k (arm ∷ arms) o all is = if_kept k arm.condition arm.value (chosen arms o) all.0 (chosen_kept k arms o all.1 is)
+chosen_kept k (arm ∷ arms) o all is = if_kept k arm.condition arm.value (case_value arms o) all.0 (chosen_kept k arms o all.1 is)
 
-matched_kept : (k : Kind) (x : Outcome) (arms : List (Arm Outcome)) (o : Outcome) → AllValues k arms → IsOutcomeOf k o → IsOutcomeOf k (matched x arms o)
+matched_kept : (k : Kind) (x : Outcome) (arms : List (Arm Outcome)) (o : Outcome) → AllValues k arms → IsOutcomeOf k o → IsOutcomeOf k (match_value x arms o)
 matched_kept k x [] o all is = is
-matched_kept k x (arm ∷ arms) o all is = if_kept k (strict (compared Equal) x arm.condition) arm.value (matched x arms o) all.0 (matched_kept k x arms o all.1 is)
+matched_kept k x (arm ∷ arms) o all is = if_kept k (strict (compare_values Equal) x arm.condition) arm.value (match_value x arms o) all.0 (matched_kept k x arms o all.1 is)
 
 -- ---- columns
 
@@ -265,22 +265,22 @@ module _ (types : List Kind) (row : List Value) (row_is : IsRowOf types row) whe
   layer_kept : (y : Expr-F Told) (k : Kind) → typing_at types (map-Expr Expr Typing (is_of types) (map-Expr Told Expr expr_of y)) k ≡ true → IsOutcomeOf k (at_operands row (map-Expr Expr Outcome (val row) (map-Expr Told Expr expr_of y)))
   layer_kept (Expr-F.Literal v) k t = t
   layer_kept (Expr-F.Column place) k t = column_kept types row place k row_is t
-  layer_kept (Expr-F.Negative a) k t = of_same kind.Int k (is_of types a.0 kind.Int) (and_then (val row a.0) opposite) t (then_kept kind.Int (val row a.0) opposite opposite_kept)
+  layer_kept (Expr-F.Negative a) k t = of_same kind.Int k (is_of types a.0 kind.Int) (and_then (val row a.0) arithmetic_negation) t (then_kept kind.Int (val row a.0) arithmetic_negation opposite_kept)
   layer_kept (Expr-F.Chain first links) k t =
       let parts : (is_of types first.0 k ≡ true) × (list_all (is_link_of k) (map link_type (map of_link links)) ≡ true) = both_true (is_of types first.0 k) (list_all (is_link_of k) (map link_type (map of_link links))) t in
       chained_kept k (val row first.0) (map (link_val row) (map of_link links)) (first.1 k parts.0) (links_kept k links parts.1)
   layer_kept (Expr-F.Compare a c b) k t =
-      of_same kind.Bool k (has_type (λ j. is_of types a.0 j && is_of types b.0 j)) (strict (compared c) (val row a.0) (val row b.0)) t (strict_kept kind.Bool (compared c) (val row a.0) (val row b.0) (compared_kept c))
+      of_same kind.Bool k (has_type (λ j. is_of types a.0 j && is_of types b.0 j)) (strict (compare_values c) (val row a.0) (val row b.0)) t (strict_kept kind.Bool (compare_values c) (val row a.0) (val row b.0) (compared_kept c))
   layer_kept (Expr-F.Between a low high) k t =
       of_same kind.Bool k (has_type (λ j. is_of types a.0 j && is_of types low.0 j && is_of types high.0 j)) (between (val row a.0) (val row low.0) (val row high.0)) t (condition_kept (between_condition (val row a.0) (val row low.0) (val row high.0)))
   layer_kept (Expr-F.In a members) k t =
-      of_same kind.Bool k (has_type (λ j. is_of types a.0 j && all_are (map (is_of types) (map expr_of members)) j)) (among (val row a.0) (map (val row) (map expr_of members))) t (condition_kept (fold (or_equal (val row a.0)) (Known False) (map (val row) (map expr_of members))))
+      of_same kind.Bool k (has_type (λ j. is_of types a.0 j && all_are (map (is_of types) (map expr_of members)) j)) (in_list (val row a.0) (map (val row) (map expr_of members))) t (condition_kept (fold (or_equal (val row a.0)) (Known False) (map (val row) (map expr_of members))))
   layer_kept (Expr-F.Like a pattern) k t = of_same kind.Bool k (is_of types a.0 kind.Str) (and_then (val row a.0) (like pattern)) t (then_kept kind.Bool (val row a.0) (like pattern) (like_kept pattern))
   layer_kept (Expr-F.StartsWith a front) k t =
-      of_same kind.Bool k (has_type (λ j. is_text j && is_of types a.0 j && is_of types front.0 j)) (strict begun_by (val row a.0) (val row front.0)) t (strict_kept kind.Bool begun_by (val row a.0) (val row front.0) begun_kept)
-  layer_kept (Expr-F.Length a) k t = of_same kind.Int k (has_type (λ j. is_text j && is_of types a.0 j)) (and_then (val row a.0) measured) t (then_kept kind.Int (val row a.0) measured measured_kept)
+      of_same kind.Bool k (has_type (λ j. is_text j && is_of types a.0 j && is_of types front.0 j)) (strict has_prefix (val row a.0) (val row front.0)) t (strict_kept kind.Bool has_prefix (val row a.0) (val row front.0) begun_kept)
+  layer_kept (Expr-F.Length a) k t = of_same kind.Int k (has_type (λ j. is_text j && is_of types a.0 j)) (and_then (val row a.0) length_of) t (then_kept kind.Int (val row a.0) length_of measured_kept)
   layer_kept (Expr-F.IsNull a) k t = of_same kind.Bool k (has_type (is_of types a.0)) (and_then (val row a.0) null_test) t (then_kept kind.Bool (val row a.0) null_test (λ v. refl))
-  layer_kept (Expr-F.Not a) k t = of_same kind.Bool k (is_of types a.0 kind.Bool) (and_then (val row a.0) denied) t (then_kept kind.Bool (val row a.0) denied denied_kept)
+  layer_kept (Expr-F.Not a) k t = of_same kind.Bool k (is_of types a.0 kind.Bool) (and_then (val row a.0) logical_not) t (then_kept kind.Bool (val row a.0) logical_not denied_kept)
   layer_kept (Expr-F.And first more) k t =
       of_same kind.Bool k (are_conditions (is_of types first.0) (map (is_of types) (map expr_of more))) (all_of (val row first.0) (map (val row) (map expr_of more))) t (condition_kept (fold and_also (condition_of (val row first.0)) (map (val row) (map expr_of more))))
   layer_kept (Expr-F.Or first more) k t =

@@ -7,7 +7,7 @@ use Rattle.span_value.specs.declared.value.Kind.TheVariants as kind
 use Rattle.span_value.specs.declared.value.Value.TheVariants as value
 use Rattle.span_value.specs.declared.refusal.Refusal.TheVariants.{TypeMismatch, BadToken}
 use Rattle.span_syntax.specs.declared.tree.Integer.{Integer}
-use Rattle.span_syntax.specs.declared.tree.Comparison.{Comparison}
+use Rattle.span_syntax.specs.declared.tree.ComparisonOperator.{ComparisonOperator}
 use Rattle.span_syntax.specs.declared.tree.Operator.{Operator as TreeOperator}
 use Rattle.span_syntax.specs.declared.tree.Operator.TheVariants.{Plus, Minus, Times, Concat}
 use Rattle.span_expr.specs.declared.expr.Expr.{Expr}
@@ -24,13 +24,13 @@ use Rattle.span_literal.specs.Literals.{text_of}
 use Rattle.span_typing.specs.declared.typed.Typed.{Typed}
 use Rattle.span_typing.specs.declared.typed.TypedArm.{TypedArm}
 use Rattle.span_typing.specs.declared.typed.Chain.{Chain}
-use Rattle.span_typing.specs.declared.function.Called.{Called}
-use Rattle.span_typing.specs.declared.function.Called.TheVariants as called
-use Rattle.span_typing.specs.Kinds.{takes, agreed, all_agreed, or_int, text_kind}
+use Rattle.span_typing.specs.declared.function.CalledFunction.{CalledFunction}
+use Rattle.span_typing.specs.declared.function.CalledFunction.TheVariants as called
+use Rattle.span_typing.specs.Kinds.{takes, common_kind, common_kind_of_all, or_int, text_kind}
 use Rattle.span_typing.specs.Steps.{and_then}
-use Rattle.span_typing.specs.Operators.{typed, kinds_of, exprs_of, integer, negative, denied, null_test, comparison_of, compared, between, among, liked_by, liked, operator_of, linked_kind, arm_of, otherwise_kind, otherwise_of, value_kind, case_kind, case_of, match_of, calculated, length_of, starts_with, coalesced, one_of, two_of, three_of, some_of, if_of, applied, operand_for, operand_of, aggregate_kind}
+use Rattle.span_typing.specs.Operators.{typed, kinds_of, exprs_of, integer, unary_minus, logical_not, null_test, comparison_of, comparison_test, between, in_list, like_test_of, like_test, operator_of, link_kind, arm_of, otherwise_kind, otherwise_of, value_kind, case_kind, case_of, match_of, calculation_of, length_of, starts_with, coalesce_of, one_of, two_of, three_of, some_of, if_of, apply_function, operand_for, operand_of, aggregate_kind}
 use Rattle.span_typing.specs.Operators.{has_condition as is_condition}
-use Rattle.span_typing.specs.Typing.{linked, chained, all_true, some_true}
+use Rattle.span_typing.specs.Typing.{append_link, chain_of, all_true, some_true}
 use Rattle.span_soundness.specs.Types.{is_text, is_operand, has_type, all_are, are_conditions, is_link_of, has_condition, has_value, is_compared_with, is_else_of, is_of}
 use Rattle.span_soundness.specs.Bindings.{is_function_of, IsTyped}
 use Rattle.span_soundness.proofs.Sameness.{both_true, both_are, same_kind, of_this}
@@ -60,13 +60,13 @@ module _ (types : List Kind) where
   integer_right n = made_if (IsTyped types) (nat_lt n.value (2 ^ 63)) (typed (expr.Literal (value.Int (if n.is_negative then neg_ℤ (pos n.value) else pos n.value))) kind.Int) BadToken
       (λ t. typed_right (expr.Literal (value.Int (if n.is_negative then neg_ℤ (pos n.value) else pos n.value))) kind.Int (literal_is types (value.Int (if n.is_negative then neg_ℤ (pos n.value) else pos n.value)) kind.Int))
 
-  pub negative_right : (x : Typed) → IsTyped types x → Made (IsTyped types) (negative x)
-  unfolding negative
+  pub negative_right : (x : Typed) → IsTyped types x → Made (IsTyped types) (unary_minus x)
+  unfolding unary_minus
   negative_right x x_is = made_if (IsTyped types) (takes kind.Int x.kind) (typed (expr.Negative x.expr) kind.Int) TypeMismatch
       (λ t. typed_right (expr.Negative x.expr) kind.Int (negative_is types x.expr kind.Int ∙ x_is kind.Int t))
 
-  pub denied_right : (x : Typed) → IsTyped types x → Made (IsTyped types) (denied x)
-  unfolding denied
+  pub denied_right : (x : Typed) → IsTyped types x → Made (IsTyped types) (logical_not x)
+  unfolding logical_not
   denied_right x x_is = made_if (IsTyped types) (takes kind.Bool x.kind) (typed (expr.Not x.expr) kind.Bool) TypeMismatch
       (λ t. typed_right (expr.Not x.expr) kind.Bool (not_is types x.expr kind.Bool ∙ x_is kind.Bool t))
 
@@ -74,36 +74,36 @@ module _ (types : List Kind) where
   unfolding null_test
   null_test_right x x_is = typed_right (expr.IsNull x.expr) kind.Bool (null_test_is types x.expr kind.Bool ∙ has_right x x_is)
 
-  pub compared_right : (c : Comparison) (x y : Typed) → IsTyped types x → IsTyped types y → Made (IsTyped types) (compared c x y)
-  unfolding compared
-  compared_right c x y x_is y_is = then_made (CoversBoth x.kind y.kind) (IsTyped types) (agreed x.kind y.kind) (λ k. Ok (typed (expr.Compare x.expr (comparison_of c) y.expr) kind.Bool)) (agreed_covers x.kind y.kind)
+  pub compared_right : (c : ComparisonOperator) (x y : Typed) → IsTyped types x → IsTyped types y → Made (IsTyped types) (comparison_test c x y)
+  unfolding comparison_test
+  compared_right c x y x_is y_is = then_made (CoversBoth x.kind y.kind) (IsTyped types) (common_kind x.kind y.kind) (λ k. Ok (typed (expr.Compare x.expr (comparison_of c) y.expr) kind.Bool)) (agreed_covers x.kind y.kind)
       (λ k both. typed_right (expr.Compare x.expr (comparison_of c) y.expr) kind.Bool (comparison_is types x.expr (comparison_of c) y.expr kind.Bool
       ∙ of_this (λ j. is_of types x.expr j && is_of types y.expr j) (or_int k) (both_are (is_of types x.expr (or_int k)) (is_of types y.expr (or_int k)) (x_is (or_int k) (both.0 (or_int k) (takes_own k))) (y_is (or_int k) (both.1 (or_int k) (takes_own k))))))
 
   pub between_right : (x low high : Typed) → IsTyped types x → IsTyped types low → IsTyped types high → Made (IsTyped types) (between x low high)
   unfolding between
-  between_right x low high x_is low_is high_is = then_made (λ k. AllCovered k (x.kind ∷ low.kind ∷ high.kind ∷ [])) (IsTyped types) (all_agreed (x.kind ∷ low.kind ∷ high.kind ∷ [])) (λ k. Ok (typed (expr.Between x.expr low.expr high.expr) kind.Bool)) (all_covered (x.kind ∷ low.kind ∷ high.kind ∷ []))
+  between_right x low high x_is low_is high_is = then_made (λ k. AllCovered k (x.kind ∷ low.kind ∷ high.kind ∷ [])) (IsTyped types) (common_kind_of_all (x.kind ∷ low.kind ∷ high.kind ∷ [])) (λ k. Ok (typed (expr.Between x.expr low.expr high.expr) kind.Bool)) (all_covered (x.kind ∷ low.kind ∷ high.kind ∷ []))
       (λ k all. typed_right (expr.Between x.expr low.expr high.expr) kind.Bool (between_is types x.expr low.expr high.expr kind.Bool
       ∙ of_this (λ j. is_of types x.expr j && is_of types low.expr j && is_of types high.expr j) (or_int k)
       (both_are (is_of types x.expr (or_int k) && is_of types low.expr (or_int k)) (is_of types high.expr (or_int k))
       (both_are (is_of types x.expr (or_int k)) (is_of types low.expr (or_int k)) (x_is (or_int k) (all.0 (or_int k) (takes_own k))) (low_is (or_int k) (all.1.0 (or_int k) (takes_own k))))
       (high_is (or_int k) (all.1.1.0 (or_int k) (takes_own k))))))
 
-  pub among_right : (x : Typed) (ys : List Typed) → IsTyped types x → AllOf (IsTyped types) ys → Made (IsTyped types) (among x ys)
-  unfolding among
-  among_right x ys x_is ys_are = then_made (λ k. AllCovered k (x.kind ∷ kinds_of ys)) (IsTyped types) (all_agreed (x.kind ∷ kinds_of ys)) (λ k. Ok (typed (expr.In x.expr (exprs_of ys)) kind.Bool)) (all_covered (x.kind ∷ kinds_of ys))
+  pub among_right : (x : Typed) (ys : List Typed) → IsTyped types x → AllOf (IsTyped types) ys → Made (IsTyped types) (in_list x ys)
+  unfolding in_list
+  among_right x ys x_is ys_are = then_made (λ k. AllCovered k (x.kind ∷ kinds_of ys)) (IsTyped types) (common_kind_of_all (x.kind ∷ kinds_of ys)) (λ k. Ok (typed (expr.In x.expr (exprs_of ys)) kind.Bool)) (all_covered (x.kind ∷ kinds_of ys))
       (λ k all. typed_right (expr.In x.expr (exprs_of ys)) kind.Bool (in_is types x.expr (exprs_of ys) kind.Bool
       ∙ of_this (λ j. is_of types x.expr j && all_are (map (is_of types) (exprs_of ys)) j) (or_int k)
       (both_are (is_of types x.expr (or_int k)) (all_are (map (is_of types) (exprs_of ys)) (or_int k)) (x_is (or_int k) (all.0 (or_int k) (takes_own k))) (all_right (or_int k) ys (all_take (or_int k) k (kinds_of ys) (takes_own k) all.1) ys_are))))
 
-  liked_parts : (x : Typed) (parts : Option (List PatternPart)) → is_of types x.expr kind.Str ≡ true → Made (IsTyped types) (liked_by x.expr parts)
+  liked_parts : (x : Typed) (parts : Option (List PatternPart)) → is_of types x.expr kind.Str ≡ true → Made (IsTyped types) (like_test_of x.expr parts)
   liked_parts x None is = tt {0}
   liked_parts x (Some parts) is = typed_right (expr.Like x.expr parts) kind.Bool (like_is types x.expr parts kind.Bool ∙ is)
 
-  pub liked_right : (spelled : List ℕ) (x : Typed) → IsTyped types x → Made (IsTyped types) (liked spelled x)
-  unfolding liked
+  pub liked_right : (spelled : List ℕ) (x : Typed) → IsTyped types x → Made (IsTyped types) (like_test spelled x)
+  unfolding like_test
   liked_right spelled x x_is = go (takes kind.Str x.kind) (x_is kind.Str) where
-    go : (b : Bool) → (b ≡ true → is_of types x.expr kind.Str ≡ true) → Made (IsTyped types) (if b then liked_by x.expr (parts_of (chars (text_of spelled))) else Err TypeMismatch)
+    go : (b : Bool) → (b ≡ true → is_of types x.expr kind.Str ≡ true) → Made (IsTyped types) (if b then like_test_of x.expr (parts_of (chars (text_of spelled))) else Err TypeMismatch)
     go true is = liked_parts x (parts_of (chars (text_of spelled))) (is refl)
     go false is = tt {0}
 
@@ -115,12 +115,12 @@ module _ (types : List Kind) where
   number_linked : (op : TreeOperator) (j k : Option Kind) → is_operand (operator_of op) kind.Int ≡ true → Made (Linked op j k) (if takes kind.Int j && takes kind.Int k then Ok kind.Int else Err TypeMismatch)
   number_linked op j k is = made_if (Linked op j k) (takes kind.Int j && takes kind.Int k) kind.Int TypeMismatch (λ t. let parts : (takes kind.Int j ≡ true) × (takes kind.Int k ≡ true) = both_true (takes kind.Int j) (takes kind.Int k) t in (is, parts.0, parts.1))
 
-  linked_kind_right : (op : TreeOperator) (j k : Option Kind) → Made (Linked op j k) (linked_kind op j k)
-  unfolding linked_kind operator_of
+  linked_kind_right : (op : TreeOperator) (j k : Option Kind) → Made (Linked op j k) (link_kind op j k)
+  unfolding link_kind operator_of
   linked_kind_right Plus j k = number_linked Plus j k refl
   linked_kind_right Minus j k = number_linked Minus j k refl
   linked_kind_right Times j k = number_linked Times j k refl
-  linked_kind_right Concat j k = then_made (CoversBoth j k) (Linked Concat j k) (agreed j k) text_kind (agreed_covers j k)
+  linked_kind_right Concat j k = then_made (CoversBoth j k) (Linked Concat j k) (common_kind j k) text_kind (agreed_covers j k)
       (λ i both. made_so (IsText i) (Linked Concat j k) (text_kind i) (text_is i) (λ t text. (text.0, both.0 t text.1, both.1 t text.1)))
 
   one_more : (k : Kind) (links : List (Link Expr)) (link : Link Expr) → list_all (is_link_of k) (map (link_type types) links) ≡ true → is_link_of k (link_type types link) ≡ true → list_all (is_link_of k) (map (link_type types) (links ++ link ∷ [])) ≡ true
@@ -144,16 +144,16 @@ module _ (types : List Kind) where
       ∙ both_are (is_of types x.expr k) (list_all (is_link_of k) (map (link_type types) (c.links ++ (link ∷ [])))) parts.0
       (one_more k c.links link parts.1 (both_are (is_operand (operator_of op) k) (is_of types y.expr k) linked_is.0 (y_is k linked_is.2)))
 
-  pub linked_right : (x : Typed) (c : Chain) (op : TreeOperator) (y : Typed) → IsChain x c → IsTyped types y → Made (IsChain x) (linked c op y)
-  unfolding linked
-  linked_right x c op y c_is y_is = then_made (Linked op c.kind y.kind) (IsChain x) (linked_kind op c.kind y.kind) (λ k. Ok (chain_on c op y k)) (linked_kind_right op c.kind y.kind)
+  pub linked_right : (x : Typed) (c : Chain) (op : TreeOperator) (y : Typed) → IsChain x c → IsTyped types y → Made (IsChain x) (append_link c op y)
+  unfolding append_link
+  linked_right x c op y c_is y_is = then_made (Linked op c.kind y.kind) (IsChain x) (link_kind op c.kind y.kind) (λ k. Ok (chain_on c op y k)) (linked_kind_right op c.kind y.kind)
       (λ k linked_is. λ wanted t. subst (λ (z : Kind). is_of types (expr.Chain x.expr (c.links ++ (record { operator = operator_of op; operand = y.expr } ∷ []))) z ≡ true) (same_kind k wanted t) (chain_longer x c op y k c_is y_is linked_is))
 
   pub first_of_chain : (x : Typed) → IsTyped types x → IsChain x (record { kind = x.kind; links = [] })
   first_of_chain x x_is = λ wanted t. chain_is types x.expr [] wanted ∙ both_are (is_of types x.expr wanted) true (x_is wanted t) refl
 
-  pub chained_right : (x : Typed) (c : Chain) → IsChain x c → IsTyped types (chained x c)
-  unfolding chained
+  pub chained_right : (x : Typed) (c : Chain) → IsChain x c → IsTyped types (chain_of x c)
+  unfolding chain_of
   chained_right x c c_is = c_is
 
   -- ---- AND and OR
@@ -198,7 +198,7 @@ module _ (types : List Kind) where
   TakesValues arms other k = Takes k (otherwise_kind other) × AllOf (Takes k) (map value_kind_of arms)
 
   value_kind_right : (arms : List TypedArm) (other : Option Typed) → Made (TakesValues arms other) (value_kind arms other)
-  value_kind_right arms other = then_made (λ k. AllCovered k (otherwise_kind other ∷ map value_kind_of arms)) (TakesValues arms other) (all_agreed (otherwise_kind other ∷ map value_kind_of arms)) (λ k. Ok (or_int k)) (all_covered (otherwise_kind other ∷ map value_kind_of arms))
+  value_kind_right arms other = then_made (λ k. AllCovered k (otherwise_kind other ∷ map value_kind_of arms)) (TakesValues arms other) (common_kind_of_all (otherwise_kind other ∷ map value_kind_of arms)) (λ k. Ok (or_int k)) (all_covered (otherwise_kind other ∷ map value_kind_of arms))
       (λ k all. (all.0 (or_int k) (takes_own k), all_take (or_int k) k (map value_kind_of arms) (takes_own k) all.1))
 
   abbrev TypedArms : List TypedArm → List (Arm Expr)
@@ -259,8 +259,8 @@ module _ (types : List Kind) where
 
   -- ---- calls
 
-  calculated_right : (op : Operator) (x y : Typed) → is_operand op kind.Int ≡ true → IsTyped types x → IsTyped types y → Made (IsTyped types) (calculated op x y)
-  unfolding calculated
+  calculated_right : (op : Operator) (x y : Typed) → is_operand op kind.Int ≡ true → IsTyped types x → IsTyped types y → Made (IsTyped types) (calculation_of op x y)
+  unfolding calculation_of
   calculated_right op x y operand x_is y_is = made_if (IsTyped types) (takes kind.Int x.kind && takes kind.Int y.kind) (typed (expr.Chain x.expr (record { operator = op; operand = y.expr } ∷ [])) kind.Int) TypeMismatch
       (λ t. let parts : (takes kind.Int x.kind ≡ true) × (takes kind.Int y.kind ≡ true) = both_true (takes kind.Int x.kind) (takes kind.Int y.kind) t in
       typed_right (expr.Chain x.expr (record { operator = op; operand = y.expr } ∷ [])) kind.Int (chain_is types x.expr (record { operator = op; operand = y.expr } ∷ []) kind.Int
@@ -275,18 +275,18 @@ module _ (types : List Kind) where
   abbrev AreTexts : Option Kind → Option Kind → Kind → Type 0
   AreTexts a b k = (is_text k ≡ true) × Takes k a × Takes k b
 
-  texts_right : (a b : Option Kind) → Made (AreTexts a b) (and_then (agreed a b) text_kind)
-  texts_right a b = then_made (CoversBoth a b) (AreTexts a b) (agreed a b) text_kind (agreed_covers a b) (λ i both. made_so (IsText i) (AreTexts a b) (text_kind i) (text_is i) (λ k text. (text.0, both.0 k text.1, both.1 k text.1)))
+  texts_right : (a b : Option Kind) → Made (AreTexts a b) (and_then (common_kind a b) text_kind)
+  texts_right a b = then_made (CoversBoth a b) (AreTexts a b) (common_kind a b) text_kind (agreed_covers a b) (λ i both. made_so (IsText i) (AreTexts a b) (text_kind i) (text_is i) (λ k text. (text.0, both.0 k text.1, both.1 k text.1)))
 
   starts_right : (x front : Typed) → IsTyped types x → IsTyped types front → Made (IsTyped types) (starts_with x front)
   unfolding starts_with
-  starts_right x front x_is front_is = then_made (AreTexts x.kind front.kind) (IsTyped types) (and_then (agreed x.kind front.kind) text_kind) (λ k. Ok (typed (expr.StartsWith x.expr front.expr) kind.Bool)) (texts_right x.kind front.kind)
+  starts_right x front x_is front_is = then_made (AreTexts x.kind front.kind) (IsTyped types) (and_then (common_kind x.kind front.kind) text_kind) (λ k. Ok (typed (expr.StartsWith x.expr front.expr) kind.Bool)) (texts_right x.kind front.kind)
       (λ k text. typed_right (expr.StartsWith x.expr front.expr) kind.Bool (starts_with_is types x.expr front.expr kind.Bool
       ∙ of_this (λ j. is_text j && is_of types x.expr j && is_of types front.expr j) k (both_are (is_text k && is_of types x.expr k) (is_of types front.expr k) (both_are (is_text k) (is_of types x.expr k) text.0 (x_is k text.1)) (front_is k text.2))))
 
-  coalesced_right : (xs : List Typed) → AllOf (IsTyped types) xs → Made (IsTyped types) (coalesced xs)
-  unfolding coalesced
-  coalesced_right xs all = then_made (λ k. AllCovered k (kinds_of xs)) (IsTyped types) (all_agreed (kinds_of xs)) (λ k. Ok (typed (expr.Coalesce (exprs_of xs)) (or_int k))) (all_covered (kinds_of xs))
+  coalesced_right : (xs : List Typed) → AllOf (IsTyped types) xs → Made (IsTyped types) (coalesce_of xs)
+  unfolding coalesce_of
+  coalesced_right xs all = then_made (λ k. AllCovered k (kinds_of xs)) (IsTyped types) (common_kind_of_all (kinds_of xs)) (λ k. Ok (typed (expr.Coalesce (exprs_of xs)) (or_int k))) (all_covered (kinds_of xs))
       (λ k covered. typed_right (expr.Coalesce (exprs_of xs)) (or_int k) (coalesce_is types (exprs_of xs) (or_int k) ∙ all_right (or_int k) xs (all_take (or_int k) k (kinds_of xs) (takes_own k) covered) all))
 
   if_right : (c x y : Typed) → IsTyped types c → IsTyped types x → IsTyped types y → Made (IsTyped types) (if_of c x y)
@@ -323,15 +323,15 @@ module _ (types : List Kind) where
   some_right [] all = tt {0}
   some_right (x ∷ xs) all = all
 
-  pub applied_right : (f : Called) (xs : List Typed) → AllOf (IsTyped types) xs → Made (IsTyped types) (applied f xs)
-  unfolding applied
-  applied_right called.Divide xs all = then_made TwoTyped (IsTyped types) (two_of xs) (λ p. calculated Divide p.0 p.1) (two_right xs all) (λ p is. calculated_right Divide p.0 p.1 refl is.0 is.1)
-  applied_right called.Modulo xs all = then_made TwoTyped (IsTyped types) (two_of xs) (λ p. calculated Modulo p.0 p.1) (two_right xs all) (λ p is. calculated_right Modulo p.0 p.1 refl is.0 is.1)
+  pub applied_right : (f : CalledFunction) (xs : List Typed) → AllOf (IsTyped types) xs → Made (IsTyped types) (apply_function f xs)
+  unfolding apply_function
+  applied_right called.Divide xs all = then_made TwoTyped (IsTyped types) (two_of xs) (λ p. calculation_of Divide p.0 p.1) (two_right xs all) (λ p is. calculated_right Divide p.0 p.1 refl is.0 is.1)
+  applied_right called.Modulo xs all = then_made TwoTyped (IsTyped types) (two_of xs) (λ p. calculation_of Modulo p.0 p.1) (two_right xs all) (λ p is. calculated_right Modulo p.0 p.1 refl is.0 is.1)
   applied_right called.Length xs all = then_made (IsTyped types) (IsTyped types) (one_of xs) length_of (one_right xs all) length_right
   applied_right called.StartsWith xs all = then_made TwoTyped (IsTyped types) (two_of xs) (λ p. starts_with p.0 p.1) (two_right xs all) (λ p is. starts_right p.0 p.1 is.0 is.1)
   applied_right called.If xs all = then_made ThreeTyped (IsTyped types) (three_of xs) (λ p. if_of p.0 p.1 p.2) (three_right xs all) (λ p is. if_right p.0 p.1 p.2 is.0 is.1 is.2)
-  applied_right called.IfNull xs all = then_made TwoTyped (IsTyped types) (two_of xs) (λ p. coalesced (p.0 ∷ p.1 ∷ [])) (two_right xs all) (λ p is. coalesced_right (p.0 ∷ p.1 ∷ []) (is.0, (is.1, tt {0})))
-  applied_right called.Coalesce xs all = then_made (AllOf (IsTyped types)) (IsTyped types) (some_of xs) coalesced (some_right xs all) coalesced_right
+  applied_right called.IfNull xs all = then_made TwoTyped (IsTyped types) (two_of xs) (λ p. coalesce_of (p.0 ∷ p.1 ∷ [])) (two_right xs all) (λ p is. coalesced_right (p.0 ∷ p.1 ∷ []) (is.0, (is.1, tt {0})))
+  applied_right called.Coalesce xs all = then_made (AllOf (IsTyped types)) (IsTyped types) (some_of xs) coalesce_of (some_right xs all) coalesced_right
   applied_right (called.Aggregate f) xs all = tt {0}
 
   -- ---- aggregates

@@ -23,13 +23,13 @@ use Rattle.span_params.specs.declared.params.Parameter.{Parameter}
 use Rattle.span_typing.specs.Steps.{and_then}
 use Rattle.span_binder.specs.declared.bound.Source.{Source}
 use Rattle.span_binder.specs.declared.bound.FromItems.{FromItems}
-use Rattle.span_binder.specs.declared.bound.Bound.{Bound}
+use Rattle.span_binder.specs.declared.bound.TypedQuery.{TypedQuery}
 use Rattle.span_binder.specs.declared.bound.BoundBlock.{BoundBlock}
 use Rattle.span_binder.specs.declared.bound.BoundBlocks.{BoundBlocks}
-use Rattle.span_binder.specs.Onward.{onward}
-use Rattle.span_binder.specs.Sources.{name_or_alias, numbered_source, most_tables, named_source, derived_source, started, extended}
-use Rattle.span_binder.specs.Blocks.{behind_of, block_behind}
-use Rattle.span_binder.specs.Queries.{only_block, with_block, query_behind, ItemStep, JoinStep, BlockStep, QueryStep, item_at, join_at, next_join, from, block_at, next_block, blocks, query_at, query_step}
+use Rattle.span_binder.specs.Onward.{fold_results}
+use Rattle.span_binder.specs.Sources.{name_or_alias, numbered_source, most_tables, named_source, derived_source, start_from, add_item}
+use Rattle.span_binder.specs.Blocks.{block_tail_of, bind_block}
+use Rattle.span_binder.specs.Queries.{only_block, with_block, bind_query, ItemStep, JoinStep, BlockStep, QueryStep, item_at, join_at, next_join, from, block_at, next_block, blocks, query_at, query_step}
 use Rattle.span_soundness.specs.Bindings.{table_types, AreTyped}
 use Rattle.span_soundness.specs.WellTyped.{leaf_types, IsLayerOf}
 use Rattle.span_soundness.proofs.Agreeing.{Made, AllOf}
@@ -63,9 +63,9 @@ module _ (schema : List Table) (all : List ℕ) where
   made_leads R (Ok x) found is = here_leads R x found is
   made_leads R (Err why) found is = tt {0}
 
-  onward_leads : {A X : Type 0} (R : A → Type 0) (P : X → Type 0) (step : A × List ℕ → X → Result (A × List ℕ) Refusal) → ((p : A × List ℕ) (x : X) → P x → (IsFront p.1 → R p.0) → LeadsTo R p.1 (step p x)) → (xs : List X) → AllOf P xs → (p : A × List ℕ) → (IsFront p.1 → R p.0) → LeadsTo R p.1 (onward step xs p)
+  onward_leads : {A X : Type 0} (R : A → Type 0) (P : X → Type 0) (step : A × List ℕ → X → Result (A × List ℕ) Refusal) → ((p : A × List ℕ) (x : X) → P x → (IsFront p.1 → R p.0) → LeadsTo R p.1 (step p x)) → (xs : List X) → AllOf P xs → (p : A × List ℕ) → (IsFront p.1 → R p.0) → LeadsTo R p.1 (fold_results step xs p)
   onward_leads R P step keeps [] are p is = here_leads R p.0 p.1 is
-  onward_leads R P step keeps (x ∷ xs) are p is = then_leads R R p.1 (step p x) (onward step xs) (keeps p x are.0 is) (λ q back q_is. onward_leads R P step keeps xs are.1 q q_is)
+  onward_leads R P step keeps (x ∷ xs) are p is = then_leads R R p.1 (step p x) (fold_results step xs) (keeps p x are.0 is) (λ q back q_is. onward_leads R P step keeps xs are.1 q q_is)
 
   abbrev types_of_table : ℕ → List Kind
   types_of_table n = table_types schema n
@@ -96,7 +96,7 @@ module _ (schema : List Table) (all : List ℕ) where
     abbrev BlocksAre : BoundBlocks → Type 0
     BlocksAre b = AreBound params params_are gives Leaves b
 
-    abbrev pub BoundIs : Bound → Type 0
+    abbrev pub BoundIs : TypedQuery → Type 0
     BoundIs q = IsBound params params_are gives Leaves q
 
     abbrev ItemSound : ItemStep → Type 0
@@ -129,17 +129,17 @@ module _ (schema : List Table) (all : List ℕ) where
     -- ---- blocks
 
     join_sound : (p : FromItems × List ℕ) (j : JoinStep) → JoinSound j → (IsFront p.1 → FromIs p.0) → LeadsTo FromIs p.1 (next_join params p j)
-    join_sound p j j_is p_is = then_leads SourceIs FromIs p.1 (j.item p.1) (λ q. and_then (extended params p.0 j.is_left q.0 j.on) (λ f. Ok (f, q.1))) (j_is p.1)
-        (λ q back q_is. made_leads FromIs (extended params p.0 j.is_left q.0 j.on) q.1 (λ front. extended_is params params_are gives Leaves p.0 j.is_left q.0 j.on (p_is (back front)) (q_is front)))
+    join_sound p j j_is p_is = then_leads SourceIs FromIs p.1 (j.item p.1) (λ q. and_then (add_item params p.0 j.is_left q.0 j.on) (λ f. Ok (f, q.1))) (j_is p.1)
+        (λ q back q_is. made_leads FromIs (add_item params p.0 j.is_left q.0 j.on) q.1 (λ front. extended_is params params_are gives Leaves p.0 j.is_left q.0 j.on (p_is (back front)) (q_is front)))
 
     from_sound : (first : ItemStep) (joins : List JoinStep) (found : List ℕ) → ItemSound first → AllOf JoinSound joins → LeadsTo FromIs found (from params first joins found)
-    from_sound first joins found first_is joins_are = then_leads FromIs FromIs found (and_then (first found) (λ p. Ok (started p.0, p.1))) (onward (next_join params) joins)
-        (then_leads SourceIs FromIs found (first found) (λ p. Ok (started p.0, p.1)) (first_is found) (λ p back p_is. here_leads FromIs (started p.0) p.1 (λ front. started_is params params_are gives Leaves p.0 (p_is front))))
+    from_sound first joins found first_is joins_are = then_leads FromIs FromIs found (and_then (first found) (λ p. Ok (start_from p.0, p.1))) (fold_results (next_join params) joins)
+        (then_leads SourceIs FromIs found (first found) (λ p. Ok (start_from p.0, p.1)) (first_is found) (λ p back p_is. here_leads FromIs (start_from p.0) p.1 (λ front. started_is params params_are gives Leaves p.0 (p_is front))))
         (λ p back p_is. onward_leads FromIs JoinSound (next_join params) join_sound joins joins_are p p_is)
 
     block_sound : (b : Block-F ItemStep BlockStep JoinStep QueryStep) → ItemSound b.from → AllOf JoinSound b.joins → BlockSound (block_at params b)
-    block_sound b from_is joins_are found = then_leads FromIs BlockIs found (from params b.from b.joins found) (λ p. and_then (block_behind params (behind_of (λ (j : JoinStep). j.on) b) p.0) (λ x. Ok (x, p.1))) (from_sound b.from b.joins found from_is joins_are)
-        (λ p back p_is. made_leads BlockIs (block_behind params (behind_of (λ (j : JoinStep). j.on) b) p.0) p.1 (λ front. block_is params params_are gives Leaves (behind_of (λ (j : JoinStep). j.on) b) p.0 (p_is front)))
+    block_sound b from_is joins_are found = then_leads FromIs BlockIs found (from params b.from b.joins found) (λ p. and_then (bind_block params (block_tail_of (λ (j : JoinStep). j.on) b) p.0) (λ x. Ok (x, p.1))) (from_sound b.from b.joins found from_is joins_are)
+        (λ p back p_is. made_leads BlockIs (bind_block params (block_tail_of (λ (j : JoinStep). j.on) b) p.0) p.1 (λ front. block_is params params_are gives Leaves (block_tail_of (λ (j : JoinStep). j.on) b) p.0 (p_is front)))
 
     -- ---- queries
 
@@ -152,13 +152,13 @@ module _ (schema : List Table) (all : List ℕ) where
         (λ q back q_is. here_leads BlocksAre (with_block p.0 q.0) q.1 (λ front. ((p_is (back front)).0, all_behind p.0.others q.0 (p_is (back front)).1 (q_is front))))
 
     blocks_sound : (first : BlockStep) (others : List BlockStep) (found : List ℕ) → BlockSound first → AllOf BlockSound others → LeadsTo BlocksAre found (blocks first others found)
-    blocks_sound first others found first_is others_are = then_leads BlocksAre BlocksAre found (and_then (first found) (λ p. Ok (only_block p.0, p.1))) (onward next_block others)
+    blocks_sound first others found first_is others_are = then_leads BlocksAre BlocksAre found (and_then (first found) (λ p. Ok (only_block p.0, p.1))) (fold_results next_block others)
         (then_leads BlockIs BlocksAre found (first found) (λ p. Ok (only_block p.0, p.1)) (first_is found) (λ p back p_is. here_leads BlocksAre (only_block p.0) p.1 (λ front. (p_is front, tt {0}))))
         (λ p back p_is. onward_leads BlocksAre BlockSound next_block next_block_sound others others_are p p_is)
 
     query_sound : (q : Query-F ItemStep BlockStep JoinStep QueryStep) → BlockSound q.first → AllOf BlockSound q.others → QuerySound (query_at q)
-    query_sound q first_is others_are found = then_leads BlocksAre BoundIs found (blocks q.first q.others found) (λ p. and_then (query_behind p.0 q.order q.limit) (λ b. Ok (b, p.1))) (blocks_sound q.first q.others found first_is others_are)
-        (λ p back p_is. made_leads BoundIs (query_behind p.0 q.order q.limit) p.1 (λ front. query_behind_is params params_are gives Leaves makes p.0 q.order q.limit (p_is front)))
+    query_sound q first_is others_are found = then_leads BlocksAre BoundIs found (blocks q.first q.others found) (λ p. and_then (bind_query p.0 q.order q.limit) (λ b. Ok (b, p.1))) (blocks_sound q.first q.others found first_is others_are)
+        (λ p back p_is. made_leads BoundIs (bind_query p.0 q.order q.limit) p.1 (λ front. query_behind_is params params_are gives Leaves makes p.0 q.order q.limit (p_is front)))
 
     -- ---- trees
 
@@ -227,6 +227,6 @@ module _ (schema : List Table) (all : List ℕ) where
         (λ x y is. subst (λ (z : Query-F Item Block Join Query). QuerySound (queries (roll-Query z))) is
         (subst QuerySound (sym (fold-roll-Query ItemStep BlockStep JoinStep QueryStep (item_at schema) (block_at params) join_at query_at (map-Query ItemTold BlockTold JoinTold QueryTold Item Block Join Query item_of block_of join_of query_of y))) (query_layer y)))
 
-    pub bound_is : (q : Query) (b : Bound) → query_step schema params q [] ≡ Ok (b, all) → BoundIs b
+    pub bound_is : (q : Query) (b : TypedQuery) → query_step schema params q [] ≡ Ok (b, all) → BoundIs b
     unfolding query_step
     bound_is q b is = (subst (LeadsTo BoundIs []) is (tree_sound q [])).2 ([], sym (append-nil all))

@@ -15,7 +15,7 @@ use Rattle.span_expr.specs.declared.expr.PatternPart.{PatternPart}
 use Rattle.span_expr.specs.declared.expr.Operator.{Operator}
 use Rattle.span_expr.specs.declared.expr.Operator.TheVariants.{Add, Subtract, Multiply, Divide, Modulo, Concatenate}
 use Rattle.span_expr.specs.Outcomes.{is_null, condition_of, outcome_of}
-use Rattle.span_expr.specs.Operators.{number, is_int64, applied, calculated, concatenated, of_numbers, opposite, compared, holds, begun_by, measured}
+use Rattle.span_expr.specs.Operators.{number, is_int64, apply_operator, calculate, concatenation, calculate_ints, arithmetic_negation, compare_values, holds, has_prefix, length_of}
 use Rattle.span_expr.specs.Patterns.{like}
 use Rattle.span_soundness.specs.Types.{IsNullOnlyIf, are_same, is_text, is_operand}
 use Rattle.span_soundness.specs.Laws.{NullComesOfNull}
@@ -40,7 +40,7 @@ number_null b z = of_test (is_int64 z) where
 abbrev IsNumeric : Operator → Type 0
 IsNumeric op = is_operand op kind.Int ≡ true
 
-numbers_null : (op : Operator) (a b : ℤ) → IsNumeric op → IsNullOnlyIf false (of_numbers op a b)
+numbers_null : (op : Operator) (a b : ℤ) → IsNumeric op → IsNullOnlyIf false (calculate_ints op a b)
 numbers_null Add a b is = number_null false (a +ℤ b)
 numbers_null Subtract a b is = number_null false (a -ℤ b)
 numbers_null Multiply a b is = number_null false (a *ℤ b)
@@ -52,8 +52,8 @@ numbers_null Modulo a (pos (suc n)) is = tt {0}
 numbers_null Modulo a (negsuc n) is = tt {0}
 numbers_null Concatenate a b is = not_true is
 
-calculated_null : (op : Operator) (v w : Value) → IsNumeric op → is_of_kind kind.Int v ≡ true → is_of_kind kind.Int w ≡ true → IsNullOnlyIf (is_null v || is_null w) (calculated op v w)
-calculated_null op value.Null w numeric v_is w_is = where_null (calculated op value.Null w)
+calculated_null : (op : Operator) (v w : Value) → IsNumeric op → is_of_kind kind.Int v ≡ true → is_of_kind kind.Int w ≡ true → IsNullOnlyIf (is_null v || is_null w) (calculate op v w)
+calculated_null op value.Null w numeric v_is w_is = where_null (calculate op value.Null w)
 calculated_null op (value.Int a) value.Null numeric v_is w_is = refl
 calculated_null op (value.Int a) (value.Int b) numeric v_is w_is = numbers_null op a b numeric
 calculated_null op (value.Int a) (value.Str s) numeric v_is w_is = not_true w_is
@@ -63,13 +63,13 @@ calculated_null op (value.Str s) w numeric v_is w_is = not_true v_is
 calculated_null op (value.Bytes s) w numeric v_is w_is = not_true v_is
 calculated_null op (value.Bool b) w numeric v_is w_is = not_true v_is
 
-numeric_null : (op : Operator) (k : Kind) (v w : Value) → IsNumeric op → are_same kind.Int k ≡ true → is_of_kind k v ≡ true → is_of_kind k w ≡ true → IsNullOnlyIf (is_null v || is_null w) (calculated op v w)
+numeric_null : (op : Operator) (k : Kind) (v w : Value) → IsNumeric op → are_same kind.Int k ≡ true → is_of_kind k v ≡ true → is_of_kind k w ≡ true → IsNullOnlyIf (is_null v || is_null w) (calculate op v w)
 numeric_null op kind.Int v w numeric same v_is w_is = calculated_null op v w numeric v_is w_is
 numeric_null op kind.Str v w numeric same v_is w_is = not_true same
 numeric_null op kind.Bytes v w numeric same v_is w_is = not_true same
 numeric_null op kind.Bool v w numeric same v_is w_is = not_true same
 
-opposite_null : (v : Value) → is_of_kind kind.Int v ≡ true → IsNullOnlyIf (is_null v) (opposite v)
+opposite_null : (v : Value) → is_of_kind kind.Int v ≡ true → IsNullOnlyIf (is_null v) (arithmetic_negation v)
 opposite_null value.Null is = refl
 opposite_null (value.Int a) is = number_null false (neg_ℤ a)
 opposite_null (value.Str s) is = not_true is
@@ -114,15 +114,15 @@ module _ (f : Value → Value → Outcome) (strings : (a b : List ℕ) → IsNul
   text_null kind.Int v w text v_is w_is = not_true text
   text_null kind.Bool v w text v_is w_is = not_true text
 
-applied_null : (op : Operator) (k : Kind) (v w : Value) → is_operand op k ≡ true → is_of_kind k v ≡ true → is_of_kind k w ≡ true → IsNullOnlyIf (is_null v || is_null w) (applied op v w)
-applied_null Concatenate k v w operand v_is w_is = text_null concatenated (λ a b. tt {0}) (λ a b. tt {0}) k v w operand v_is w_is
+applied_null : (op : Operator) (k : Kind) (v w : Value) → is_operand op k ≡ true → is_of_kind k v ≡ true → is_of_kind k w ≡ true → IsNullOnlyIf (is_null v || is_null w) (apply_operator op v w)
+applied_null Concatenate k v w operand v_is w_is = text_null concatenation (λ a b. tt {0}) (λ a b. tt {0}) k v w operand v_is w_is
 applied_null Add k v w operand v_is w_is = numeric_null Add k v w refl operand v_is w_is
 applied_null Subtract k v w operand v_is w_is = numeric_null Subtract k v w refl operand v_is w_is
 applied_null Multiply k v w operand v_is w_is = numeric_null Multiply k v w refl operand v_is w_is
 applied_null Divide k v w operand v_is w_is = numeric_null Divide k v w refl operand v_is w_is
 applied_null Modulo k v w operand v_is w_is = numeric_null Modulo k v w refl operand v_is w_is
 
-measured_null : (k : Kind) (v : Value) → is_text k ≡ true → is_of_kind k v ≡ true → IsNullOnlyIf (is_null v) (measured v)
+measured_null : (k : Kind) (v : Value) → is_text k ≡ true → is_of_kind k v ≡ true → IsNullOnlyIf (is_null v) (length_of v)
 measured_null k value.Null text is = refl
 measured_null k (value.Str s) text is = tt {0}
 measured_null k (value.Bytes s) text is = tt {0}
@@ -144,7 +144,7 @@ like_null pattern (value.Bool b) is = not_true is
 
 -- ---- comparisons and conditions
 
-compared_null : (c : Comparison) (v w : Value) → IsNullOnlyIf (is_null v || is_null w) (compared c v w)
+compared_null : (c : Comparison) (v w : Value) → IsNullOnlyIf (is_null v || is_null w) (compare_values c v w)
 compared_null c v w = of_test (is_null v || is_null w) where
   of_test : (b : Bool) → IsNullOnlyIf b (if b then Val value.Null else Val (value.Bool (holds c (value_order v w))))
   of_test true = refl
@@ -159,4 +159,4 @@ condition_null (value.Str s) is = not_true is
 condition_null (value.Bytes s) is = not_true is
 
 pub null_comes_of_null : NullComesOfNull
-null_comes_of_null = (applied_null, opposite_null, compared_null, like_null, text_null begun_by (λ a b. tt {0}) (λ a b. tt {0}), measured_null, condition_null)
+null_comes_of_null = (applied_null, opposite_null, compared_null, like_null, text_null has_prefix (λ a b. tt {0}) (λ a b. tt {0}), measured_null, condition_null)

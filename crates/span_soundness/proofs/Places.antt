@@ -14,7 +14,7 @@ use Rattle.span_typing.specs.declared.scope.Scope.{Scope}
 use Rattle.span_typing.specs.declared.scope.ScopeColumn.{ScopeColumn}
 use Rattle.span_typing.specs.declared.typed.Mode.{Mode}
 use Rattle.span_typing.specs.declared.typed.Mode.TheVariants.{Rows, Groups}
-use Rattle.span_typing.specs.Scopes.{alone, only_place, one_place, fits, item_of, column_place}
+use Rattle.span_typing.specs.Scopes.{if_unique, only_place, one_place, fits, item_of, column_place}
 use Rattle.span_typing.specs.Typing.{or_number, kind_at, key_typed, column_at, column}
 use Rattle.span_soundness.specs.Types.{are_same, is_some, is_of}
 use Rattle.span_soundness.specs.Bindings.{column_types, key_types, row_types, AreAggregatesOf, IsTyped}
@@ -31,7 +31,7 @@ no_column = record { item = 0; name = None; kind = kind.Int }
 abbrev pub Within : {A : Type 0} → List A → ℕ → Type 0
 Within xs place = place < length xs
 
-alone_within : {A : Type 0} (xs : List A) (b : Bool) (p : ℕ) → Within xs p → Made (Within xs) (alone b p)
+alone_within : {A : Type 0} (xs : List A) (b : Bool) (p : ℕ) → Within xs p → Made (Within xs) (if_unique b p)
 alone_within xs true p is = tt {0}
 alone_within xs false p is = is
 

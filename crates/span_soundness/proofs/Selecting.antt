@@ -26,16 +26,16 @@ use Rattle.span_query.specs.declared.query.Aggregate.{Aggregate}
 use Rattle.span_query.specs.declared.query.Aggregate.TheVariants.{CountRows, Of}
 use Rattle.span_query.specs.declared.query.Function.TheVariants.{Count, Sum, Min, Max}
 use Rattle.span_query.specs.declared.query.BoundQuery.TheOpen.{BoundQuery-F}
-use Rattle.span_query.specs.Rows.{Row, OrFault, Rows, ◌>>=◌, value_of, followed, gathered, only, each, only_if, holds, kept, kept_where, values, selected}
-use Rattle.span_query.specs.Groups.{are_alike, distinct, columns_at, group_keys, rows_with, operands, without_nulls, total, lesser, greater, of_values, aggregate, group_row, groups, grouped}
-use Rattle.span_query.specs.Sorting.{placed, in_order, sorted, comes_before}
-use Rattle.span_query.specs.Meaning.{table_rows, item_rows, or_alone, pairs_of, joined, join_next, from, distinct_if, block_rows, limited, query_rows}
+use Rattle.span_query.specs.Rows.{Row, OrFault, Rows, ◌>>=◌, value_of, append_results, concat_map, singleton, each, keep_if, holds, filter_rows, filter_where, values, project_rows}
+use Rattle.span_query.specs.Groups.{are_equal, distinct, columns_at, group_keys, rows_with, operands, without_nulls, total, lesser, greater, of_values, aggregate, group_row, groups, group_rows}
+use Rattle.span_query.specs.Sorting.{insert_sorted, insertion_sort, sorted, comes_before}
+use Rattle.span_query.specs.Meaning.{table_rows, item_rows, or_unmatched, pairs_of, join_rows, join_next, from, distinct_if, block_rows, limit_rows, query_rows}
 use Rattle.span_soundness.specs.Types.{IsOutcomeOf, IsRowOf, are_same, has_type, is_of}
 use Rattle.span_soundness.specs.Bindings.{is_aggregate_of, AreAggregatesOf}
 use Rattle.span_soundness.specs.WellTyped.{leaf_types, IsItemOf, AreJoinsOf, IsFromOf, AreColumnsOf, IsGroupedOf, AreOutputsOf, IsBlockOf, AreBlocksOf, IsLayerOf}
 use Rattle.span_soundness.specs.Results.{AreRowsOf, AreResultsOf, AreTablesOf}
 use Rattle.span_soundness.proofs.Sameness.{both_true, same_kind}
-use Rattle.span_soundness.proofs.Keeping.{null_of, number_kept, column_kept, kept as keeps_type}
+use Rattle.span_soundness.proofs.Keeping.{null_of, number_kept, column_kept, filter_rows as keeps_type}
 
 -- ---- rows
 
@@ -43,7 +43,7 @@ both_rows : (types : List Kind) (rows more : List Row) → AreRowsOf types rows 
 both_rows types [] more are news = news
 both_rows types (row ∷ rows) more are news = (are.0, both_rows types rows more are.1 news)
 
-both_followed : (types : List Kind) (a b : Rows) → AreResultsOf types a → AreResultsOf types b → AreResultsOf types (followed a b)
+both_followed : (types : List Kind) (a b : Rows) → AreResultsOf types a → AreResultsOf types b → AreResultsOf types (append_results a b)
 both_followed types (Some rows) (Some more) are news = both_rows types rows more are news
 both_followed types (Some rows) None are news = tt {0}
 both_followed types None b are news = tt {0}
@@ -53,19 +53,19 @@ then_rows types result (Some rows) next are follows = follows rows are
 then_rows types result None next are follows = tt {0}
 
 -- what each row gives
-gathered_rows : (types result : List Kind) (f : Row → Rows) (rows : List Row) → ((row : Row) → IsRowOf types row → AreResultsOf result (f row)) → AreRowsOf types rows → AreResultsOf result (gathered f rows)
+gathered_rows : (types result : List Kind) (f : Row → Rows) (rows : List Row) → ((row : Row) → IsRowOf types row → AreResultsOf result (f row)) → AreRowsOf types rows → AreResultsOf result (concat_map f rows)
 gathered_rows types result f [] follows are = tt {0}
-gathered_rows types result f (row ∷ rows) follows are = both_followed result (f row) (gathered f rows) (follows row are.0) (gathered_rows types result f rows follows are.1)
+gathered_rows types result f (row ∷ rows) follows are = both_followed result (f row) (concat_map f rows) (follows row are.0) (gathered_rows types result f rows follows are.1)
 
-kept_one : (types : List Kind) (row : Row) (o : OrFault Bool) → IsRowOf types row → AreResultsOf types (o >>= (λ b. Some (only_if row b)))
+kept_one : (types : List Kind) (row : Row) (o : OrFault Bool) → IsRowOf types row → AreResultsOf types (o >>= (λ b. Some (keep_if row b)))
 kept_one types row (Some true) is = (is, tt {0})
 kept_one types row (Some false) is = tt {0}
 kept_one types row None is = tt {0}
 
-kept_rows : (types : List Kind) (e : Expr) (rows : List Row) → AreRowsOf types rows → AreResultsOf types (kept e rows)
-kept_rows types e rows are = gathered_rows types types (λ row. holds e row >>= (λ b. Some (only_if row b))) rows (λ row is. kept_one types row (holds e row) is) are
+kept_rows : (types : List Kind) (e : Expr) (rows : List Row) → AreRowsOf types rows → AreResultsOf types (filter_rows e rows)
+kept_rows types e rows are = gathered_rows types types (λ row. holds e row >>= (λ b. Some (keep_if row b))) rows (λ row is. kept_one types row (holds e row) is) are
 
-kept_where_rows : (types : List Kind) (e : Option Expr) (rows : List Row) → AreRowsOf types rows → AreResultsOf types (kept_where e rows)
+kept_where_rows : (types : List Kind) (e : Option Expr) (rows : List Row) → AreRowsOf types rows → AreResultsOf types (filter_where e rows)
 kept_where_rows types None rows are = are
 kept_where_rows types (Some e) rows are = kept_rows types e rows are
 
@@ -93,7 +93,7 @@ pairs_are : (left right : List Kind) (l : Row) (rows : List Row) → IsRowOf lef
 pairs_are left right l [] l_is are = tt {0}
 pairs_are left right l (r ∷ rows) l_is are = (both_row left right l r l_is are.0, pairs_are left right l rows l_is are.1)
 
-or_alone_rows : (types : List Kind) (is_left : Bool) (alone : Row) (pairs : List Row) → IsRowOf types alone → AreRowsOf types pairs → AreRowsOf types (or_alone is_left alone pairs)
+or_alone_rows : (types : List Kind) (is_left : Bool) (alone : Row) (pairs : List Row) → IsRowOf types alone → AreRowsOf types pairs → AreRowsOf types (or_unmatched is_left alone pairs)
 or_alone_rows types true alone [] is are = (is, tt {0})
 or_alone_rows types true alone (p ∷ pairs) is are = are
 or_alone_rows types false alone pairs is are = are
@@ -107,17 +107,17 @@ module _ (leaves : List (List Kind)) (tables : List (List Row)) (are : AreTables
   item_is (item.Table n) types is = subst (λ (ts : List Kind). AreRowsOf ts (table_rows tables n)) is (table_is leaves tables n are)
   item_is (item.Derived rows) types is = is
 
-  joined_is : (left right : List Kind) (j : Join Rows) (ls rs : List Row) → length right ≡ j.width → AreRowsOf left ls → AreRowsOf right rs → AreResultsOf (left ++ right) (joined j ls rs)
+  joined_is : (left right : List Kind) (j : Join Rows) (ls rs : List Row) → length right ≡ j.width → AreRowsOf left ls → AreRowsOf right rs → AreResultsOf (left ++ right) (join_rows j ls rs)
   joined_is left right j ls rs width ls_are rs_are = gathered_rows left (left ++ right) (pairs_of j rs) ls
-      (λ l l_is. then_rows (left ++ right) (left ++ right) (kept j.on (map (λ (r : Row). l ++ r) rs)) (λ pairs. Some (or_alone j.is_left (l ++ replicate j.width value.Null) pairs))
+      (λ l l_is. then_rows (left ++ right) (left ++ right) (filter_rows j.on (map (λ (r : Row). l ++ r) rs)) (λ pairs. Some (or_unmatched j.is_left (l ++ replicate j.width value.Null) pairs))
       (kept_rows (left ++ right) j.on (map (λ (r : Row). l ++ r) rs) (pairs_are left right l rs l_is rs_are))
       (λ pairs pairs_are. or_alone_rows (left ++ right) j.is_left (l ++ replicate j.width value.Null) pairs
       (both_row left right l (replicate j.width value.Null) l_is (subst (λ (n : ℕ). IsRowOf right (replicate n value.Null)) width (nulls_are right))) pairs_are))
       ls_are
 
   join_is : (left right : List Kind) (rows : Rows) (j : Join Rows) → IsItemOf Gives leaves j.item right → length right ≡ j.width → AreResultsOf left rows → AreResultsOf (left ++ right) (join_next tables rows j)
-  join_is left right rows j is width rows_are = then_rows left (left ++ right) rows (λ ls. item_rows tables j.item >>= joined j ls) rows_are
-      (λ ls ls_are. then_rows right (left ++ right) (item_rows tables j.item) (joined j ls) (item_is j.item right is) (λ rs rs_are. joined_is left right j ls rs width ls_are rs_are))
+  join_is left right rows j is width rows_are = then_rows left (left ++ right) rows (λ ls. item_rows tables j.item >>= join_rows j ls) rows_are
+      (λ ls ls_are. then_rows right (left ++ right) (item_rows tables j.item) (join_rows j ls) (item_is j.item right is) (λ rs rs_are. joined_is left right j ls rs width ls_are rs_are))
 
   joins_are : (left : List Kind) (rows : Rows) (joins : List (Join Rows)) (types : List Kind) → AreJoinsOf Gives leaves left joins types → AreResultsOf left rows → AreResultsOf types (fold (join_next tables) rows joins)
   joins_are left rows [] types is rows_are = subst (λ (ts : List Kind). AreResultsOf ts rows) is rows_are
@@ -145,7 +145,7 @@ abbrev AreValuesOrFault : Kind → OrFault (List Value) → Type 0
 AreValuesOrFault k None = Unit {0}
 AreValuesOrFault k (Some vs) = AreValuesOf k vs
 
-one_value : (k : Kind) (o : OrFault Value) (vs : OrFault (List Value)) → IsValueOf k o → AreValuesOrFault k vs → AreValuesOrFault k (followed (option_map only o) vs)
+one_value : (k : Kind) (o : OrFault Value) (vs : OrFault (List Value)) → IsValueOf k o → AreValuesOrFault k vs → AreValuesOrFault k (append_results (option_map singleton o) vs)
 one_value k (Some v) (Some vs) is are = (is, are)
 one_value k (Some v) None is are = tt {0}
 one_value k None vs is are = tt {0}
@@ -218,7 +218,7 @@ abbrev IsRowOrFault : List Kind → OrFault Row → Type 0
 IsRowOrFault types None = Unit {0}
 IsRowOrFault types (Some row) = IsRowOf types row
 
-one_more : (k : Kind) (types : List Kind) (o : OrFault Value) (row : OrFault Row) → IsValueOf k o → IsRowOrFault types row → IsRowOrFault (k ∷ types) (followed (option_map only o) row)
+one_more : (k : Kind) (types : List Kind) (o : OrFault Value) (row : OrFault Row) → IsValueOf k o → IsRowOrFault types row → IsRowOrFault (k ∷ types) (append_results (option_map singleton o) row)
 one_more k types (Some v) (Some row) is are = (is, are)
 one_more k types (Some v) None is are = tt {0}
 one_more k types None row is are = tt {0}
@@ -235,12 +235,12 @@ values_are types [] (k ∷ ks) row is row_is = absurd is
 values_are types (e ∷ es) [] row is row_is = absurd is
 values_are types (e ∷ es) (k ∷ ks) row is row_is = one_more k ks (value_of (val row e)) (values es row) (value_is k (val row e) (keeps_type types row row_is e k is.0)) (values_are types es ks row is.1 row_is)
 
-only_row : (types : List Kind) (o : OrFault Row) → IsRowOrFault types o → AreResultsOf types (option_map only o)
+only_row : (types : List Kind) (o : OrFault Row) → IsRowOrFault types o → AreResultsOf types (option_map singleton o)
 only_row types (Some row) is = (is, tt {0})
 only_row types None is = tt {0}
 
-selected_rows : (types : List Kind) (es : List Expr) (kinds : List Kind) (rows : List Row) → AreOutputsOf types es kinds → AreRowsOf types rows → AreResultsOf kinds (selected es rows)
-selected_rows types es kinds rows is are = gathered_rows types kinds (λ row. option_map only (values es row)) rows (λ row row_is. only_row kinds (values es row) (values_are types es kinds row is row_is)) are
+selected_rows : (types : List Kind) (es : List Expr) (kinds : List Kind) (rows : List Row) → AreOutputsOf types es kinds → AreRowsOf types rows → AreResultsOf kinds (project_rows es rows)
+selected_rows types es kinds rows is are = gathered_rows types kinds (λ row. option_map singleton (values es row)) rows (λ row row_is. only_row kinds (values es row) (values_are types es kinds row is row_is)) are
 
 -- ---- groups
 
@@ -253,7 +253,7 @@ filtered_rows types test (row ∷ rows) are = go (test row) (filtered_rows types
 
 distinct_rows : (types : List Kind) (rows : List Row) → AreRowsOf types rows → AreRowsOf types (distinct rows)
 distinct_rows types [] are = tt {0}
-distinct_rows types (row ∷ rows) are = (are.0, filtered_rows types (λ (y : Row). not (are_alike row y)) (distinct rows) (distinct_rows types rows are.1))
+distinct_rows types (row ∷ rows) are = (are.0, filtered_rows types (λ (y : Row). not (are_equal row y)) (distinct rows) (distinct_rows types rows are.1))
 
 key_is : (types : List Kind) (places : List ℕ) (keys : List Kind) (row : Row) → AreColumnsOf types places keys → IsRowOf types row → IsRowOf keys (columns_at places row)
 key_is types [] [] row are is = tt {0}
@@ -275,16 +275,16 @@ behind_key keys kinds key (Some vs) key_is is = both_row keys kinds key vs key_i
 behind_key keys kinds key None key_is is = tt {0}
 
 groups_are : (types : List Kind) (g : Grouping) (keys kinds : List Kind) (rows : List Row) → AreColumnsOf types g.keys keys → AreAggregatesOf types g.aggregates kinds → AreRowsOf types rows → AreResultsOf (keys ++ kinds) (groups g rows)
-groups_are types g keys kinds rows columns is are = gathered_rows keys (keys ++ kinds) (λ key. option_map only (group_row g rows key)) (group_keys g.keys rows)
+groups_are types g keys kinds rows columns is are = gathered_rows keys (keys ++ kinds) (λ key. option_map singleton (group_row g rows key)) (group_keys g.keys rows)
     (λ key key_is. only_row (keys ++ kinds) (group_row g rows key)
     (behind_key keys kinds key (each (aggregate (rows_with g.keys key rows)) g.aggregates) key_is
-    (aggregates_are types (rows_with g.keys key rows) g.aggregates kinds is (filtered_rows types (λ (row : Row). are_alike key (columns_at g.keys row)) rows are))))
+    (aggregates_are types (rows_with g.keys key rows) g.aggregates kinds is (filtered_rows types (λ (row : Row). are_equal key (columns_at g.keys row)) rows are))))
     (group_keys_are types g.keys keys rows columns are)
 
-grouped_rows : (types : List Kind) (g : Option Grouping) (shown : List Kind) (rows : List Row) → IsGroupedOf types g shown → AreRowsOf types rows → AreResultsOf shown (grouped g rows)
+grouped_rows : (types : List Kind) (g : Option Grouping) (shown : List Kind) (rows : List Row) → IsGroupedOf types g shown → AreRowsOf types rows → AreResultsOf shown (group_rows g rows)
 grouped_rows types None shown rows is are = subst (λ (ts : List Kind). AreRowsOf ts rows) is are
 grouped_rows types (Some g) shown rows is are =
-    then_rows shown shown (groups g rows) (kept_where g.having) (subst (λ (ts : List Kind). AreResultsOf ts (groups g rows)) is.4 (groups_are types g is.0 is.1 rows is.2 is.3 are)) (λ found found_are. kept_where_rows shown g.having found found_are)
+    then_rows shown shown (groups g rows) (filter_where g.having) (subst (λ (ts : List Kind). AreResultsOf ts (groups g rows)) is.4 (groups_are types g is.0 is.1 rows is.2 is.3 are)) (λ found found_are. kept_where_rows shown g.having found found_are)
 
 -- ---- blocks and queries
 
@@ -294,28 +294,28 @@ distinct_if_rows types false rows are = are
 
 block_is : (leaves : List (List Kind)) (tables : List (List Row)) (b : Block Rows) (types : List Kind) → AreTablesOf leaves tables → IsBlockOf Gives leaves b types → AreResultsOf types (block_rows tables b)
 block_is leaves tables b types are is =
-    then_rows types types (from tables b.from b.joins >>= kept_where b.filter >>= grouped b.grouping >>= selected b.outputs) (λ rows. Some (distinct_if b.is_distinct rows))
-    (then_rows is.1 types (from tables b.from b.joins >>= kept_where b.filter >>= grouped b.grouping) (selected b.outputs)
-    (then_rows is.0 is.1 (from tables b.from b.joins >>= kept_where b.filter) (grouped b.grouping)
-    (then_rows is.0 is.0 (from tables b.from b.joins) (kept_where b.filter) (from_is leaves tables are b.from b.joins is.0 is.2) (λ rows rows_are. kept_where_rows is.0 b.filter rows rows_are))
+    then_rows types types (from tables b.from b.joins >>= filter_where b.filter >>= group_rows b.grouping >>= project_rows b.outputs) (λ rows. Some (distinct_if b.is_distinct rows))
+    (then_rows is.1 types (from tables b.from b.joins >>= filter_where b.filter >>= group_rows b.grouping) (project_rows b.outputs)
+    (then_rows is.0 is.1 (from tables b.from b.joins >>= filter_where b.filter) (group_rows b.grouping)
+    (then_rows is.0 is.0 (from tables b.from b.joins) (filter_where b.filter) (from_is leaves tables are b.from b.joins is.0 is.2) (λ rows rows_are. kept_where_rows is.0 b.filter rows rows_are))
     (λ rows rows_are. grouped_rows is.0 b.grouping is.1 rows is.4 rows_are))
     (λ rows rows_are. selected_rows is.1 b.outputs types rows is.5 rows_are))
     (λ rows rows_are. distinct_if_rows types b.is_distinct rows rows_are)
 
-blocks_are : (leaves : List (List Kind)) (tables : List (List Row)) (bs : List (Block Rows)) (types : List Kind) → AreTablesOf leaves tables → AreBlocksOf Gives leaves bs types → AreResultsOf types (gathered (block_rows tables) bs)
+blocks_are : (leaves : List (List Kind)) (tables : List (List Row)) (bs : List (Block Rows)) (types : List Kind) → AreTablesOf leaves tables → AreBlocksOf Gives leaves bs types → AreResultsOf types (concat_map (block_rows tables) bs)
 blocks_are leaves tables [] types are is = tt {0}
-blocks_are leaves tables (b ∷ bs) types are is = both_followed types (block_rows tables b) (gathered (block_rows tables) bs) (block_is leaves tables b types are is.0) (blocks_are leaves tables bs types are is.1)
+blocks_are leaves tables (b ∷ bs) types are is = both_followed types (block_rows tables b) (concat_map (block_rows tables) bs) (block_is leaves tables b types are is.0) (blocks_are leaves tables bs types are is.1)
 
-placed_rows : (types : List Kind) (before : Row → Row → Bool) (row : Row) (rows : List Row) → IsRowOf types row → AreRowsOf types rows → AreRowsOf types (placed before row rows)
+placed_rows : (types : List Kind) (before : Row → Row → Bool) (row : Row) (rows : List Row) → IsRowOf types row → AreRowsOf types rows → AreRowsOf types (insert_sorted before row rows)
 placed_rows types before row [] is are = (is, tt {0})
 placed_rows types before row (y ∷ ys) is are = go (before y row) (placed_rows types before row ys is are.1) where
-  go : (b : Bool) → AreRowsOf types (placed before row ys) → AreRowsOf types (if b then y ∷ placed before row ys else row ∷ y ∷ ys)
+  go : (b : Bool) → AreRowsOf types (insert_sorted before row ys) → AreRowsOf types (if b then y ∷ insert_sorted before row ys else row ∷ y ∷ ys)
   go true others = (are.0, others)
   go false others = (is, are)
 
-ordered_rows : (types : List Kind) (before : Row → Row → Bool) (rows : List Row) → AreRowsOf types rows → AreRowsOf types (in_order before rows)
+ordered_rows : (types : List Kind) (before : Row → Row → Bool) (rows : List Row) → AreRowsOf types rows → AreRowsOf types (insertion_sort before rows)
 ordered_rows types before [] are = tt {0}
-ordered_rows types before (row ∷ rows) are = placed_rows types before row (in_order before rows) are.0 (ordered_rows types before rows are.1)
+ordered_rows types before (row ∷ rows) are = placed_rows types before row (insertion_sort before rows) are.0 (ordered_rows types before rows are.1)
 
 taken_rows : (types : List Kind) (n : ℕ) (rows : List Row) → AreRowsOf types rows → AreRowsOf types (take n rows)
 taken_rows types zero rows are = tt {0}
@@ -327,11 +327,11 @@ dropped_rows types zero rows are = are
 dropped_rows types (suc n) [] are = tt {0}
 dropped_rows types (suc n) (row ∷ rows) are = dropped_rows types n rows are.1
 
-limited_rows : (types : List Kind) (l : Option Limit) (rows : List Row) → AreRowsOf types rows → AreRowsOf types (limited l rows)
+limited_rows : (types : List Kind) (l : Option Limit) (rows : List Row) → AreRowsOf types rows → AreRowsOf types (limit_rows l rows)
 limited_rows types None rows are = are
 limited_rows types (Some l) rows are = taken_rows types l.rows (drop l.skip rows) (dropped_rows types l.skip rows are)
 
 pub layer_is : (leaves : List (List Kind)) (tables : List (List Row)) (q : BoundQuery-F Rows) (types : List Kind) → AreTablesOf leaves tables → IsLayerOf Gives leaves q types → AreResultsOf types (query_rows tables q)
 layer_is leaves tables q types are is =
-    then_rows types types (gathered (block_rows tables) (q.first ∷ q.others)) (λ rows. Some (limited q.limit (sorted q.order rows))) (blocks_are leaves tables (q.first ∷ q.others) types are is.0)
+    then_rows types types (concat_map (block_rows tables) (q.first ∷ q.others)) (λ rows. Some (limit_rows q.limit (sorted q.order rows))) (blocks_are leaves tables (q.first ∷ q.others) types are is.0)
     (λ rows rows_are. limited_rows types q.limit (sorted q.order rows) (ordered_rows types (comes_before q.order) rows rows_are))

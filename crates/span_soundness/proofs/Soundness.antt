@@ -4,7 +4,7 @@ use Rattle.span_value.specs.declared.value.Kind.{Kind}
 use Rattle.span_value.specs.declared.refusal.Refusal.{Refusal}
 use Rattle.span_query.specs.declared.query.Statement.{Statement}
 use Rattle.span_typing.specs.Steps.{and_then}
-use Rattle.span_binder.specs.declared.bound.Bound.{Bound}
+use Rattle.span_binder.specs.declared.bound.TypedQuery.{TypedQuery}
 use Rattle.span_binder.specs.Queries.{query_step, statement_of}
 use Rattle.span_soundness.specs.Bindings.{output_types}
 use Rattle.span_soundness.specs.WellTyped.{IsQueryOf}
@@ -26,7 +26,7 @@ queries_are_typed schema params q bound leaves are is = bound_is schema leaves p
 
 pub statements_are_typed : StatementsAreTyped
 statements_are_typed schema params q statement are is = go (query_step schema params q []) (λ answer leaves made. queries_are_typed schema params q answer leaves are made) is where
-  go : (o : Result (Bound × List ℕ) Refusal) → ((answer : Bound) (leaves : List ℕ) → o ≡ Ok (answer, leaves) → IsQueryOf (types_of_leaves schema leaves) answer.query (output_types answer.columns)) → and_then o (λ p. Ok (statement_of p)) ≡ Ok statement
+  go : (o : Result (TypedQuery × List ℕ) Refusal) → ((answer : TypedQuery) (leaves : List ℕ) → o ≡ Ok (answer, leaves) → IsQueryOf (types_of_leaves schema leaves) answer.query (output_types answer.columns)) → and_then o (λ p. Ok (statement_of p)) ≡ Ok statement
       → (types : List Kind) × IsQueryOf (types_of_leaves schema statement.leaves) statement.query types
   go (Ok p) typed made =
       let same : statement_of p ≡ statement = ok_is (statement_of p) statement made in

@@ -13,7 +13,7 @@ use Rattle.span_expr.specs.declared.expr.Operator.{Operator}
 use Rattle.span_expr.specs.declared.expr.Comparison.{Comparison}
 use Rattle.span_expr.specs.declared.expr.PatternPart.{PatternPart}
 use Rattle.span_expr.specs.Outcomes.{is_null, condition_of, outcome_of}
-use Rattle.span_expr.specs.Operators.{applied, opposite, compared, begun_by, measured}
+use Rattle.span_expr.specs.Operators.{apply_operator, arithmetic_negation, compare_values, has_prefix, length_of}
 use Rattle.span_expr.specs.Patterns.{like}
 use Rattle.span_expr.specs.Meaning.{val}
 use Rattle.span_query.specs.declared.query.Aggregate.{Aggregate}
@@ -29,7 +29,7 @@ use Rattle.span_typing.specs.declared.scope.Scope.{Scope}
 use Rattle.span_typing.specs.declared.typed.Typed.{Typed}
 use Rattle.span_typing.specs.declared.typed.Mode.{Mode}
 use Rattle.span_typing.specs.Typing.{typing}
-use Rattle.span_binder.specs.declared.bound.Bound.{Bound}
+use Rattle.span_binder.specs.declared.bound.TypedQuery.{TypedQuery}
 use Rattle.span_binder.specs.Queries.{query_step, bound}
 use Rattle.span_soundness.specs.Types.{IsOutcomeOf, IsNullOnlyIf, IsRowOf, is_text, is_operand, is_of}
 use Rattle.span_soundness.specs.Bindings.{column_types, output_types, table_types, AreAggregatesOf, AreTyped, StaysTyped}
@@ -45,12 +45,12 @@ ExpressionsKeepTypes = (types : List Kind) (row : List Value) (e : Expr) (k : Ki
 -- operand of a wrong type, for which NULL is answered too. A comparison is of any type, and so is IS NULL.
 abbrev pub NullComesOfNull : Type 0
 NullComesOfNull =
-    ((op : Operator) (k : Kind) (v w : Value) → is_operand op k ≡ true → is_of_kind k v ≡ true → is_of_kind k w ≡ true → IsNullOnlyIf (is_null v || is_null w) (applied op v w))
-    × ((v : Value) → is_of_kind kind.Int v ≡ true → IsNullOnlyIf (is_null v) (opposite v))
-    × ((c : Comparison) (v w : Value) → IsNullOnlyIf (is_null v || is_null w) (compared c v w))
+    ((op : Operator) (k : Kind) (v w : Value) → is_operand op k ≡ true → is_of_kind k v ≡ true → is_of_kind k w ≡ true → IsNullOnlyIf (is_null v || is_null w) (apply_operator op v w))
+    × ((v : Value) → is_of_kind kind.Int v ≡ true → IsNullOnlyIf (is_null v) (arithmetic_negation v))
+    × ((c : Comparison) (v w : Value) → IsNullOnlyIf (is_null v || is_null w) (compare_values c v w))
     × ((pattern : List PatternPart) (v : Value) → is_of_kind kind.Str v ≡ true → IsNullOnlyIf (is_null v) (like pattern v))
-    × ((k : Kind) (v w : Value) → is_text k ≡ true → is_of_kind k v ≡ true → is_of_kind k w ≡ true → IsNullOnlyIf (is_null v || is_null w) (begun_by v w))
-    × ((k : Kind) (v : Value) → is_text k ≡ true → is_of_kind k v ≡ true → IsNullOnlyIf (is_null v) (measured v))
+    × ((k : Kind) (v w : Value) → is_text k ≡ true → is_of_kind k v ≡ true → is_of_kind k w ≡ true → IsNullOnlyIf (is_null v || is_null w) (has_prefix v w))
+    × ((k : Kind) (v : Value) → is_text k ≡ true → is_of_kind k v ≡ true → IsNullOnlyIf (is_null v) (length_of v))
     × ((v : Value) → is_of_kind kind.Bool v ≡ true → IsNullOnlyIf (is_null v) (outcome_of (condition_of (Val v))))
 
 -- there are none at first
@@ -75,7 +75,7 @@ abbrev pub types_of_leaves : List Table → List ℕ → List (List Kind)
 types_of_leaves schema leaves = map (table_types schema) leaves
 
 abbrev pub QueriesAreTyped : Type 0
-QueriesAreTyped = (schema : List Table) (params : List Parameter) (q : Query) (answer : Bound) (leaves : List ℕ)
+QueriesAreTyped = (schema : List Table) (params : List Parameter) (q : Query) (answer : TypedQuery) (leaves : List ℕ)
     → AreTyped params → query_step schema params q [] ≡ Ok (answer, leaves) → IsQueryOf (types_of_leaves schema leaves) answer.query (output_types answer.columns)
 
 abbrev pub StatementsAreTyped : Type 0
@@ -86,5 +86,5 @@ abbrev pub QueriesKeepTypes : Type 0
 QueriesKeepTypes = (leaves : List (List Kind)) (tables : List (List Row)) (q : BoundQuery) (types : List Kind) → AreTablesOf leaves tables → IsQueryOf leaves q types → AreResultsOf types (meaning tables q)
 
 abbrev pub ResultsAreTyped : Type 0
-ResultsAreTyped = (schema : List Table) (params : List Parameter) (q : Query) (answer : Bound) (leaves : List ℕ) (tables : List (List Row))
+ResultsAreTyped = (schema : List Table) (params : List Parameter) (q : Query) (answer : TypedQuery) (leaves : List ℕ) (tables : List (List Row))
     → AreTyped params → query_step schema params q [] ≡ Ok (answer, leaves) → AreTablesOf (types_of_leaves schema leaves) tables → AreResultsOf (output_types answer.columns) (meaning tables answer.query)

@@ -18,7 +18,7 @@ use Rattle.span_params.specs.declared.params.Parameter.{Parameter}
 use Rattle.span_query.specs.declared.query.Statement.{Statement}
 use Rattle.span_typing.specs.Steps.{Gives}
 use Rattle.span_binder.specs.Queries.{bound}
-use Rattle.span_statement.specs.Understands.{Understands, IsBound, IsNoText}
+use Rattle.span_statement.specs.Understands.{Understands, IsBound, IsNotInGrammar}
 
 by_test : (b : Bool) (why : Refusal) → sameb refusal_type why OutOfMemory ≡ b → (why ≡ OutOfMemory) ⊎ (why ≢ OutOfMemory)
 by_test true why e = inl (same_true refusal_type (search rules) why OutOfMemory e)
@@ -38,13 +38,13 @@ refused_or_not schema text params why understood (inl memory) = inl memory
 refused_or_not schema text params why understood (inr other) = inr (understood other)
 
 pub bound_answers : (schema : List Table) (text : List ℕ) (params : List Parameter) (tree : Query) (r : Result Statement Refusal) → IsQuery text tree → Gives r (bound schema params tree) → IsAnswer schema text params r
-unfolding IsBound IsNoText
+unfolding IsBound IsNotInGrammar
 bound_answers schema text params tree (Ok q) is e = inl (tree, is, e)
 bound_answers schema text params tree (Err why) is e = refused_or_not schema text params why (λ n. inl (tree, is, e n)) (memory_or_not why)
 
 -- the query text has no tree
 pub no_text_answers : (schema : List Table) (text : List ℕ) (params : List Parameter) (why : Refusal) → IsRefused goal.Statement text why → (why ≡ OutOfMemory) ⊎ Understands schema text params (Err why)
-unfolding IsBound IsNoText
+unfolding IsBound IsNotInGrammar
 no_text_answers schema text params why refused = refused_or_not schema text params why (λ n. inr (why, n, refused, refl)) (memory_or_not why)
 
 abbrev pub IsOnly : List Table → List ℕ → List Parameter → Result Statement Refusal → Type 0
@@ -60,7 +60,7 @@ is_or_memory o (Err why) e = refusal_or_memory o why e (memory_or_not why)
 
 -- what was read is what was bound, and nothing else is
 pub bound_only : (schema : List Table) (text : List ℕ) (params : List Parameter) (tree : Query) (r : Result Statement Refusal) → ((query : Query) → IsQuery text query → tree ≡ query) → ((why : Refusal) → why ≢ OutOfMemory → IsRefused goal.Statement text why → ⊥) → Gives r (bound schema params tree) → IsOnly schema text params r
-unfolding IsBound IsNoText
+unfolding IsBound IsNotInGrammar
 bound_only schema text params tree r read never e u (inl is) =
     subst (λ (o : Result Statement Refusal). (r ≡ o) ⊎ (r ≡ Err OutOfMemory)) (ap (bound schema params) (read is.0 is.1) ∙ is.2) (is_or_memory (bound schema params tree) r e)
 bound_only schema text params tree r read never e u (inr none) = absurd (never none.0 none.1 none.2)
@@ -70,7 +70,7 @@ refusal_only w v u e (inl same) = inl (ap (λ x. Err x) same ∙ sym e)
 refusal_only w v u e (inr memory) = inr (ap (λ x. Err x) memory)
 
 pub refused_only : (schema : List Table) (text : List ℕ) (params : List Parameter) (w : Refusal) → ((query : Query) → IsQuery text query → w ≡ OutOfMemory) → ((why : Refusal) → why ≢ OutOfMemory → IsRefused goal.Statement text why → (w ≡ why) ⊎ (w ≡ OutOfMemory)) → IsOnly schema text params (Err w)
-unfolding IsBound IsNoText
+unfolding IsBound IsNotInGrammar
 refused_only schema text params w read refuses u (inl is) = inr (ap (λ x. Err x) (read is.0 is.1))
 refused_only schema text params w read refuses u (inr none) = refusal_only w none.0 u none.3 (refuses none.0 none.1 none.2)
 

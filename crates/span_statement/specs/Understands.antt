@@ -16,9 +16,9 @@ unfoldable pub IsBound : List Table → List ℕ → List Parameter → Result S
 IsBound schema text params u = (tree : Query) × IsQuery text tree × (bound schema params tree ≡ u)
 
 -- the query text has no tree
-unfoldable pub IsNoText : List ℕ → Result Statement Refusal → Type 0
-IsNoText text u = (why : Refusal) × (why ≢ OutOfMemory) × IsRefused goal.Statement text why × (u ≡ Err why)
+unfoldable pub IsNotInGrammar : List ℕ → Result Statement Refusal → Type 0
+IsNotInGrammar text u = (why : Refusal) × (why ≢ OutOfMemory) × IsRefused goal.Statement text why × (u ≡ Err why)
 
 -- The query text, with these parameters, is this statement on tables of this schema, or is refused so.
 abbrev pub Understands : List Table → List ℕ → List Parameter → Result Statement Refusal → Type 0
-Understands schema text params u = IsBound schema text params u ⊎ IsNoText text u
+Understands schema text params u = IsBound schema text params u ⊎ IsNotInGrammar text u

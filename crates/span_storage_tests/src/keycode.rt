@@ -1,7 +1,7 @@
 //! The worked keys, in a table: codings, byte for byte, read again, with their roots and their order.
 use span_keycode::decode::decode_key;
 use span_keycode::encode::encode_key;
-use span_keycode::range::{Comparison, KeyRange, range_of};
+use span_keycode::range::{RangeComparison, KeyRange, range_of};
 use span_keycode::root::root_prefix;
 use span_schema::layout::KeyPart;
 use span_schema::schema::Schema;
@@ -273,7 +273,7 @@ fn ranges(rt: HostRuntime) -> Result<(), Fail> {
         kind: Kind::Int,
         desc: false,
     };
-    let range = range_of(alloc, 1, uid, Comparison::Equal, &Value::Int(2))?;
+    let range = range_of(alloc, 1, uid, RangeComparison::Equal, &Value::Int(2))?;
     assert!(rt;
         is_range(
             &range,
@@ -286,9 +286,9 @@ fn ranges(rt: HostRuntime) -> Result<(), Fail> {
         desc: true,
     };
     let a = Value::Str(Text::from_str(alloc, "a")?);
-    let range = range_of(alloc, 1, w, Comparison::Less, &a)?;
+    let range = range_of(alloc, 1, w, RangeComparison::Less, &a)?;
     assert!(rt; is_range(&range, b"\x01\xfe\x9e\xff\xff", b"\x01\xff"));
-    let none = range_of(alloc, 1, uid, Comparison::Greater, &Value::Null)?;
+    let none = range_of(alloc, 1, uid, RangeComparison::Greater, &Value::Null)?;
     assert!(rt; is_range(&none, b"", b""));
     Ok(())
 }

@@ -1,5 +1,5 @@
 //! Transactions on a family of three tables, and rows worked out by hand.
-use span_mutate::mutation::{Cell, Mutation, MutationKind};
+use span_mutate::mutation::{NamedValue, Mutation, MutationKind};
 use span_mutate::root::check_root;
 use span_mutate::row::TableRow;
 use span_mutate::transaction::Transaction;
@@ -128,10 +128,10 @@ fn rows_of(alloc: Global, wanted: &[Wanted<'_>]) -> Result<Vec<TableRow>, AllocE
     Ok(rows)
 }
 
-fn cells_of(alloc: Global, named: &[(&str, Option<i64>)]) -> Result<Seq<Cell>, AllocError> {
+fn cells_of(alloc: Global, named: &[(&str, Option<i64>)]) -> Result<Seq<NamedValue>, AllocError> {
     let mut cells = Vec::new(alloc);
     for (name, value) in named {
-        cells.push(Cell {
+        cells.push(NamedValue {
             column: Text::from_str(alloc, *name)?,
             value: value_of(*value),
         })?;
@@ -350,7 +350,7 @@ fn email_of(alloc: Global, len: usize) -> Result<Mutation, Fail> {
         .ok()
         .ok_or("a text")?;
     let mut cells = Seq::new(alloc);
-    cells.push(Cell {
+    cells.push(NamedValue {
         column: Text::from_str(alloc, "email")?,
         value: Value::Str(Text::from_string(email)),
     })?;

@@ -5,7 +5,7 @@ ghost use Rattle.span_shard.specs.Tested.{IsIdle};
 
 use span_keycode::key::Key;
 use span_keycode::range::KeyRange;
-use span_mutate::mutation::{Cell, Mutation, MutationKind};
+use span_mutate::mutation::{NamedValue, Mutation, MutationKind};
 use span_mutate::transaction::Transaction;
 use span_schema::schema::Schema;
 use span_schema::table::{Column, KeyColumn, Parent, Table};
@@ -88,10 +88,10 @@ fn numbers(alloc: Global, key: &[i64]) -> Result<Seq<Value>, AllocError> {
     Ok(Seq::from_vec(values))
 }
 
-fn cells(alloc: Global, number: Option<i64>) -> Result<Seq<Cell>, AllocError> {
+fn cells(alloc: Global, number: Option<i64>) -> Result<Seq<NamedValue>, AllocError> {
     let mut cells = Vec::new(alloc);
     if let Some(n) = number {
-        cells.push(Cell {
+        cells.push(NamedValue {
             column: Text::from_str(alloc, "v")?,
             value: Value::Int(n),
         })?;

@@ -6,22 +6,22 @@ use Rattle.span_syntax.specs.declared.tree.Expr.{Expr}
 use Rattle.span_syntax.specs.declared.reader.Level.{Level}
 use Rattle.span_syntax.specs.declared.reader.Level.TheVariants as level
 use Rattle.span_grammar.specs.declared.class.Lexeme.{Lexeme}
-use Rattle.span_syntax.specs.declared.fault.Fault.{Fault}
+use Rattle.span_syntax.specs.declared.fault.SyntaxError.{SyntaxError}
 use Rattle.span_syntax.specs.Pieces.{Piece, Gives}
-use Rattle.span_syntax.specs.Expressions.{behind}
+use Rattle.span_syntax.specs.Expressions.{after}
 use Rattle.span_syntax.specs.Nests.{inner_at, at}
 
 before : (n : ℕ) → suc n - 1 ≡ n
 before n = omega arith
 
-pub behind_is : (l : Level) (text : List ℕ) (n : ℕ) → 0 < n → at l text (n - 1) ≡ inner_at l (behind text n)
-unfolding behind
+pub behind_is : (l : Level) (text : List ℕ) (n : ℕ) → 0 < n → at l text (n - 1) ≡ inner_at l (after text n)
+unfolding after
 behind_is l text zero h = absurd (omega arith)
 behind_is level.Expression text (suc n) h = ap (at level.Expression text) (before n)
 behind_is level.Negated text (suc n) h = ap (at level.Negated text) (before n)
 behind_is level.Signed text (suc n) h = ap (at level.Signed text) (before n)
 
-pub gives_behind : (l : Level) (text : List ℕ) (n : ℕ) (ts : List Lexeme) (r : Result (Expr × Bor (List Lexeme)) Fault) → 0 < n → Gives r ((at l text (n - 1)).read ts) → Gives r ((inner_at l (behind text n)).read ts)
+pub gives_behind : (l : Level) (text : List ℕ) (n : ℕ) (ts : List Lexeme) (r : Result (Expr × Bor (List Lexeme)) SyntaxError) → 0 < n → Gives r ((at l text (n - 1)).read ts) → Gives r ((inner_at l (after text n)).read ts)
 gives_behind l text n ts r h g = subst (λ (p : Piece Expr). Gives r (p.read ts)) (behind_is l text n h) g
 
 pub ruleset level_steps = (gives_behind)

@@ -6,7 +6,7 @@ use Rattle.std.proofs.lemmas.Option.{slice_get_past}
 use Rattle.span_lexer.proofs.Words.{if_true, if_false}
 use Rattle.span_lexer.specs.declared.token.Token.{Token}
 use Rattle.span_grammar.specs.declared.class.Lexeme.{Lexeme}
-use Rattle.span_syntax.specs.Parsed.{token_at, parted}
+use Rattle.span_syntax.specs.Parsed.{token_at, split_tokens}
 
 pub at_some : (n : ℕ) (ts : List Lexeme) (o : Option Lexeme) → n ≤ length ts → slice_get (drop (length ts - n) ts) 0 ≡ o → token_at n ts ≡ o
 unfolding token_at
@@ -16,8 +16,8 @@ pub at_none : (n : ℕ) (ts : List Lexeme) → length ts < n → token_at n ts �
 unfolding token_at
 at_none n ts h = let f : nat_le n (length ts) ≡ false = grind (arith, nat_tests) in if_false (nat_le n (length ts)) _ _ f
 
-pub past_end : (n : ℕ) (ts : List Token) → length ts ≤ n → parted n ts ≡ None
-unfolding parted
+pub past_end : (n : ℕ) (ts : List Token) → length ts ≤ n → split_tokens n ts ≡ None
+unfolding split_tokens
 past_end n ts h = ap (option_map (λ t. (take n ts, t.start))) (slice_get_past ts n h)
 
 pub ruleset ending_steps = (at_some, at_none, past_end)

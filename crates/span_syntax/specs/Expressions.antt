@@ -11,23 +11,23 @@ use Rattle.span_grammar.specs.declared.class.Lexeme.{Lexeme}
 use Rattle.span_grammar.specs.declared.class.Sort.{Sort}
 use Rattle.span_grammar.specs.declared.class.Sort.TheVariants as sort
 use Rattle.span_grammar.specs.declared.grammar.Part.TheVariants as part
-use Rattle.span_syntax.specs.declared.fault.Fault.TheVariants as fault
+use Rattle.span_syntax.specs.declared.fault.SyntaxError.TheVariants as fault
 use Rattle.span_syntax.specs.declared.tree.Span.{Span}
 use Rattle.span_syntax.specs.declared.tree.Spelling.{Spelling}
 use Rattle.span_syntax.specs.declared.tree.Integer.{Integer}
 use Rattle.span_syntax.specs.declared.tree.Column.{Column}
 use Rattle.span_syntax.specs.declared.tree.Operator.{Operator}
 use Rattle.span_syntax.specs.declared.tree.Operator.TheVariants as operator
-use Rattle.span_syntax.specs.declared.tree.Comparison.{Comparison}
-use Rattle.span_syntax.specs.declared.tree.Comparison.TheVariants as how
-use Rattle.span_syntax.specs.declared.operator.Asked.{Asked}
-use Rattle.span_syntax.specs.declared.operator.Asked.TheVariants as asked
+use Rattle.span_syntax.specs.declared.tree.ComparisonOperator.{ComparisonOperator}
+use Rattle.span_syntax.specs.declared.tree.ComparisonOperator.TheVariants as how
+use Rattle.span_syntax.specs.declared.operator.PredicateTest.{PredicateTest}
+use Rattle.span_syntax.specs.declared.operator.PredicateTest.TheVariants as predicate_test
 use Rattle.span_syntax.specs.declared.tree.Expr.{Expr}
 use Rattle.span_syntax.specs.declared.tree.Expr.TheVariants as e
 use Rattle.span_syntax.specs.declared.tree.Arm.{Arm, roll-Arm}
 use Rattle.span_syntax.specs.declared.tree.Link.{Link, roll-Link}
 use Rattle.span_grammar.specs.Classes.{spelled}
-use Rattle.span_syntax.specs.Pieces.{Piece, token, nothing, ◌<$>◌, ◌>>=◌, ◌>>◌, either, optional, each, beside, opening}
+use Rattle.span_syntax.specs.Pieces.{Piece, token, nothing, ◌<$>◌, ◌>>=◌, ◌>>◌, either, optional, each, pair_with, opening}
 
 -- ---- tokens
 
@@ -49,12 +49,12 @@ unfoldable pub spelling : List ℕ → Sort → Piece Spelling
 spelling text s = spelling_of text <$> token s
 
 -- the parenthesis that ends what was read before
-unfoldable pub closing : {A : Type 0} → A → Piece A
-closing x = (λ t. x) <$> token (sort.Sign sign.Close)
+unfoldable pub close_parenthesis : {A : Type 0} → A → Piece A
+close_parenthesis x = (λ t. x) <$> token (sort.Sign sign.Close)
 
 -- a piece and the parenthesis that ends it
-abbrev pub closed : {A : Type 0} → Piece A → Piece A
-closed p = p >>= closing
+abbrev pub in_parentheses : {A : Type 0} → Piece A → Piece A
+in_parentheses p = p >>= close_parenthesis
 
 -- ---- columns
 
@@ -66,11 +66,11 @@ column_of first None = record { table = None; name = first }
 column_of first (Some name) = record { table = Some first; name = name }
 
 -- what may come after a column's name
-unfoldable pub qualified : List ℕ → Spelling → Piece Column
-qualified text first = column_of first <$> optional part.Qualifier (qualifier text)
+unfoldable pub qualified_column : List ℕ → Spelling → Piece Column
+qualified_column text first = column_of first <$> optional part.Qualifier (qualifier text)
 
 unfoldable pub column : List ℕ → Piece Column
-column text = spelling text sort.Name >>= qualified text
+column text = spelling text sort.Name >>= qualified_column text
 
 -- [ASC | DESC]: whether it descends
 unfoldable pub direction : Piece Bool
@@ -80,35 +80,35 @@ direction =
 
 -- ---- what operators make
 
-abbrev pub chained : Expr → List Link → Expr
-chained x [] = x
-chained x (l ∷ ls) = e.Chain x (l ∷ ls)
+abbrev pub chain_of : Expr → List Link → Expr
+chain_of x [] = x
+chain_of x (l ∷ ls) = e.Chain x (l ∷ ls)
 
-abbrev pub all_of : Expr → List Expr → Expr
-all_of x [] = x
-all_of x (y ∷ ys) = e.And x (y ∷ ys)
+abbrev pub conjunction_of : Expr → List Expr → Expr
+conjunction_of x [] = x
+conjunction_of x (y ∷ ys) = e.And x (y ∷ ys)
 
-abbrev pub some_of : Expr → List Expr → Expr
-some_of x [] = x
-some_of x (y ∷ ys) = e.Or x (y ∷ ys)
+abbrev pub disjunction_of : Expr → List Expr → Expr
+disjunction_of x [] = x
+disjunction_of x (y ∷ ys) = e.Or x (y ∷ ys)
 
 -- with NOT or without
-abbrev pub denied : Bool → Expr → Expr
-denied true x = e.Not x
-denied false x = x
+abbrev pub negate_if : Bool → Expr → Expr
+negate_if true x = e.Not x
+negate_if false x = x
 
 -- what is asked of an operand
-abbrev pub test_of : Expr → Asked → Expr
-test_of x asked.Nothing = x
-test_of x (asked.Compared c y) = e.Compare x c y
-test_of x asked.IsNull = e.IsNull x
-test_of x (asked.Like pattern) = e.Like x pattern
-test_of x (asked.Between low high) = e.Between x low high
-test_of x (asked.In ys) = e.In x ys
+abbrev pub test_of : Expr → PredicateTest → Expr
+test_of x predicate_test.Nothing = x
+test_of x (predicate_test.Compared c y) = e.Compare x c y
+test_of x predicate_test.IsNull = e.IsNull x
+test_of x (predicate_test.Like pattern) = e.Like x pattern
+test_of x (predicate_test.Between low high) = e.Between x low high
+test_of x (predicate_test.In ys) = e.In x ys
 
 -- the same, with NOT or without
-abbrev pub tested : Expr → Bool × Asked → Expr
-tested x question = denied question.0 (test_of x question.1)
+abbrev pub apply_test : Expr → Bool × PredicateTest → Expr
+apply_test x question = negate_if question.0 (test_of x question.1)
 
 -- ---- operators
 
@@ -118,10 +118,10 @@ term_sign = either (part.Token (sort.Sign sign.Star)) ((λ t. operator.Times) <$
 unfoldable pub sum_sign : Piece Operator
 sum_sign = either (part.Token (sort.Sign sign.Plus)) ((λ t. operator.Plus) <$> token (sort.Sign sign.Plus)) ((λ t. operator.Minus) <$> token (sort.Sign sign.Minus))
 
-abbrev compares : Comparison → Sign → Piece Comparison
+abbrev compares : ComparisonOperator → Sign → Piece ComparisonOperator
 compares c s = (λ t. c) <$> token (sort.Sign s)
 
-unfoldable pub comparison : Piece Comparison
+unfoldable pub comparison : Piece ComparisonOperator
 comparison =
     either (part.Token (sort.Sign sign.Equal)) (compares how.Equal sign.Equal)
     (either (part.Token (sort.Sign sign.LessGreater)) (compares how.NotEqual sign.LessGreater)
@@ -144,7 +144,7 @@ unfoldable pub list_more : Piece Expr → Piece Expr
 list_more p = token (sort.Sign sign.Comma) >> p
 
 unfoldable pub list : Piece Expr → Piece (List Expr)
-list p = p >>= (λ first. (λ all. all.0 ∷ all.1) <$> beside first (each part.ListMore (list_more p)))
+list p = p >>= (λ first. (λ all. all.0 ∷ all.1) <$> pair_with first (each part.ListMore (list_more p)))
 
 unfoldable pub arm_of : Expr × Expr → Arm
 arm_of ends = roll-Arm (record { condition = ends.0; value = ends.1 })
@@ -153,7 +153,7 @@ unfoldable pub then_value : Piece Expr → Piece Expr
 then_value p = token (sort.Word word.Then) >> p
 
 unfoldable pub when : Piece Expr → Piece Arm
-when p = token (sort.Word word.When) >> (p >>= (λ condition. arm_of <$> beside condition (then_value p)))
+when p = token (sort.Word word.When) >> (p >>= (λ condition. arm_of <$> pair_with condition (then_value p)))
 
 unfoldable pub case_operand : Piece Expr → Piece (Option Expr)
 case_operand p = optional part.Expression p
@@ -163,17 +163,17 @@ case_else p = optional part.Else (token (sort.Word word.Else) >> p)
 
 -- [ELSE expr] END
 unfoldable pub case_end : Piece Expr → Piece (Option Expr)
-case_end p = case_else p >>= (λ otherwise. (λ both. both.0) <$> beside otherwise (token (sort.Word word.End)))
+case_end p = case_else p >>= (λ otherwise. (λ both. both.0) <$> pair_with otherwise (token (sort.Word word.End)))
 
 -- the arms, and what ends them
 unfoldable pub case_arms : Piece Expr → Piece (List Arm × Option Expr)
-case_arms p = when p >>= (λ arm. beside arm (each part.When (when p)) >>= (λ all. beside (all.0 ∷ all.1) (case_end p)))
+case_arms p = when p >>= (λ arm. pair_with arm (each part.When (when p)) >>= (λ all. pair_with (all.0 ∷ all.1) (case_end p)))
 
 unfoldable pub case_of : Option Expr × (List Arm × Option Expr) → Expr
 case_of parts = e.Case parts.0 parts.1.0 parts.1.1
 
 unfoldable pub in_case : Piece Expr → Piece Expr
-in_case p = case_operand p >>= (λ operand. case_of <$> beside operand (case_arms p))
+in_case p = case_operand p >>= (λ operand. case_of <$> pair_with operand (case_arms p))
 
 unfoldable pub argument_list : Piece Expr → Spelling → Piece Expr
 argument_list p name =
@@ -191,13 +191,13 @@ pub record Inner : Type 0 where
 -- the text, and the number of openings left
 module _ (text : List ℕ) (left : ℕ) (inner : Inner) where
   unfoldable pub parenthesis : Piece Expr
-  parenthesis = opening left (sort.Sign sign.Open) (closed inner.expression)
+  parenthesis = opening left (sort.Sign sign.Open) (in_parentheses inner.expression)
 
   unfoldable pub arguments : Spelling → Piece Expr
-  arguments name = opening left (sort.Sign sign.Open) (closed (argument_list inner.expression name))
+  arguments name = opening left (sort.Sign sign.Open) (in_parentheses (argument_list inner.expression name))
 
   unfoldable pub members : Piece (List Expr)
-  members = opening left (sort.Sign sign.Open) (closed (list inner.expression))
+  members = opening left (sort.Sign sign.Open) (in_parentheses (list inner.expression))
 
   unfoldable pub case : Piece Expr
   case = opening left (sort.Word word.Case) (in_case inner.expression)
@@ -209,17 +209,17 @@ module _ (text : List ℕ) (left : ℕ) (inner : Inner) where
   opposite = opening left (sort.Sign sign.Minus) inner.signed
 
   unfoldable pub after_name : Spelling → Piece Expr
-  after_name name = either part.Arguments (arguments name) (e.Column <$> qualified text name)
+  after_name name = either part.Arguments (arguments name) (e.Column <$> qualified_column text name)
 
-  unfoldable pub named : Piece Expr
-  named = spelling text sort.Name >>= after_name
+  unfoldable pub call_or_column : Piece Expr
+  call_or_column = spelling text sort.Name >>= after_name
 
   unfoldable pub if_call : Piece Expr
   if_call = spelling text (sort.Word word.If) >>= arguments
 
   -- CASE and what begins with a name, IF or a parenthesis
   unfoldable pub compound : Piece Expr
-  compound = either part.Named named (either part.IfCall if_call (either part.Case case parenthesis))
+  compound = either part.Named call_or_column (either part.IfCall if_call (either part.Case case parenthesis))
 
   unfoldable pub word_literal : Piece Expr
   word_literal =
@@ -251,46 +251,46 @@ module _ (text : List ℕ) (left : ℕ) (inner : Inner) where
   term_more = term_sign >>= (λ o. (λ x. roll-Link (record { operator = o; operand = x })) <$> unary)
 
   unfoldable pub term : Piece Expr
-  term = unary >>= (λ first. (λ all. chained all.0 all.1) <$> beside first (each part.TermMore term_more))
+  term = unary >>= (λ first. (λ all. chain_of all.0 all.1) <$> pair_with first (each part.TermMore term_more))
 
   unfoldable pub sum_more : Piece Link
   sum_more = sum_sign >>= (λ o. (λ x. roll-Link (record { operator = o; operand = x })) <$> term)
 
   unfoldable pub sum : Piece Expr
-  sum = term >>= (λ first. (λ all. chained all.0 all.1) <$> beside first (each part.SumMore sum_more))
+  sum = term >>= (λ first. (λ all. chain_of all.0 all.1) <$> pair_with first (each part.SumMore sum_more))
 
   -- what is asked of an operand, and whether with NOT
 
-  unfoldable pub compared : Piece (Bool × Asked)
-  compared = comparison >>= (λ c. (λ x. (false, asked.Compared c x)) <$> sum)
+  unfoldable pub comparison_test : Piece (Bool × PredicateTest)
+  comparison_test = comparison >>= (λ c. (λ x. (false, predicate_test.Compared c x)) <$> sum)
 
-  unfoldable pub is_null : Piece (Bool × Asked)
-  is_null = (λ is_not. (is_not, asked.IsNull)) <$> null_words
+  unfoldable pub is_null : Piece (Bool × PredicateTest)
+  is_null = (λ is_not. (is_not, predicate_test.IsNull)) <$> null_words
 
-  unfoldable pub like : Piece Asked
-  like = token (sort.Word word.Like) >> (asked.Like <$> spelling text sort.Str)
+  unfoldable pub like : Piece PredicateTest
+  like = token (sort.Word word.Like) >> (predicate_test.Like <$> spelling text sort.Str)
 
   -- AND sum, after the low end of a BETWEEN
   unfoldable pub high_end : Piece Expr
   high_end = token (sort.Word word.And) >> sum
 
-  unfoldable pub between : Piece Asked
-  between = token (sort.Word word.Between) >> (sum >>= (λ low. (λ ends. asked.Between ends.0 ends.1) <$> beside low high_end))
+  unfoldable pub between : Piece PredicateTest
+  between = token (sort.Word word.Between) >> (sum >>= (λ low. (λ ends. predicate_test.Between ends.0 ends.1) <$> pair_with low high_end))
 
-  unfoldable pub within : Piece Asked
-  within = token (sort.Word word.In) >> (asked.In <$> members)
+  unfoldable pub within : Piece PredicateTest
+  within = token (sort.Word word.In) >> (predicate_test.In <$> members)
 
-  unfoldable pub deniable : Piece Asked
-  deniable = either part.Like like (either part.Between between within)
+  unfoldable pub negatable_test : Piece PredicateTest
+  negatable_test = either part.Like like (either part.Between between within)
 
-  unfoldable pub maybe_not_test : Piece (Bool × Asked)
-  maybe_not_test = maybe_not >>= (λ is_not. (λ question. (is_not, question)) <$> deniable)
+  unfoldable pub maybe_not_test : Piece (Bool × PredicateTest)
+  maybe_not_test = maybe_not >>= (λ is_not. (λ question. (is_not, question)) <$> negatable_test)
 
-  unfoldable pub predicate_rest : Piece (Bool × Asked)
-  predicate_rest = either part.Compared compared (either part.IsNull is_null (either part.MaybeNotTest maybe_not_test (nothing (false, asked.Nothing))))
+  unfoldable pub predicate_rest : Piece (Bool × PredicateTest)
+  predicate_rest = either part.Compared comparison_test (either part.IsNull is_null (either part.MaybeNotTest maybe_not_test (nothing (false, predicate_test.Nothing))))
 
   unfoldable pub predicate : Piece Expr
-  predicate = sum >>= (λ x. (λ both. tested both.0 both.1) <$> beside x predicate_rest)
+  predicate = sum >>= (λ x. (λ both. apply_test both.0 both.1) <$> pair_with x predicate_rest)
 
   unfoldable pub negated : Piece Expr
   negated = either part.Negation negation predicate
@@ -299,23 +299,23 @@ module _ (text : List ℕ) (left : ℕ) (inner : Inner) where
   conjunction_more = token (sort.Word word.And) >> negated
 
   unfoldable pub conjunction : Piece Expr
-  conjunction = negated >>= (λ first. (λ all. all_of all.0 all.1) <$> beside first (each part.ConjunctionMore conjunction_more))
+  conjunction = negated >>= (λ first. (λ all. conjunction_of all.0 all.1) <$> pair_with first (each part.ConjunctionMore conjunction_more))
 
   unfoldable pub expression_more : Piece Expr
   expression_more = token (sort.Word word.Or) >> conjunction
 
   unfoldable pub expression : Piece Expr
-  expression = conjunction >>= (λ first. (λ all. some_of all.0 all.1) <$> beside first (each part.ExpressionMore expression_more))
+  expression = conjunction >>= (λ first. (λ all. disjunction_of all.0 all.1) <$> pair_with first (each part.ExpressionMore expression_more))
 
 -- nothing is read where no opening is left
-abbrev pub shut : Piece Expr
-shut = record { of = λ x. e.Null (record { start = 0; end = 0 }); read = λ ts. Err (fault.TooDeep 0) }
+abbrev pub too_deep : Piece Expr
+too_deep = record { of = λ x. e.Null (record { start = 0; end = 0 }); read = λ ts. Err (fault.TooDeep 0) }
 
 -- after an opening, with a number of openings left
-unfoldable pub behind : List ℕ → ℕ → Inner
-behind text zero = record { expression = shut; negated = shut; signed = shut }
-behind text (suc n) = record {
-  expression = expression text n (behind text n);
-  negated = negated text n (behind text n);
-  signed = signed text n (behind text n);
+unfoldable pub after : List ℕ → ℕ → Inner
+after text zero = record { expression = too_deep; negated = too_deep; signed = too_deep }
+after text (suc n) = record {
+  expression = expression text n (after text n);
+  negated = negated text n (after text n);
+  signed = signed text n (after text n);
 }

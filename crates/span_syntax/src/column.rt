@@ -3,7 +3,7 @@ ghost use Rattle.std.specs.Prelude.{◌≡◌};
 ghost use Rattle.span_syntax.specs.Pieces.{Gives};
 ghost use Rattle.span_syntax.specs.Expressions as spec;
 
-use super::fault::Fault;
+use super::fault::SyntaxError;
 use super::token::{next_is, spelling, take};
 use super::tree::{Column, Spelling};
 use span_grammar::class::{Lexeme, Sort};
@@ -13,14 +13,14 @@ use span_lexer::token::{Sign, Word};
 use std::alloc::Global;
 
 /// A column, of which the first name was read, and the rest.
-#[tactic(auto, unfolding(crate::specs::Expressions::qualified, crate::specs::Expressions::qualifier))]
-pub(crate) fn qualified<'a>(
+#[tactic(auto, unfolding(crate::specs::Expressions::qualified_column, crate::specs::Expressions::qualifier))]
+pub(crate) fn qualified_column<'a>(
     alloc: Global,
     text: &[u8],
     first: Spelling,
     tokens: &'a [Lexeme],
-) -> Result<(Column, &'a [Lexeme]), Fault>
-    ensures { Gives result ((spec.qualified text.now first).read tokens.now) }
+) -> Result<(Column, &'a [Lexeme]), SyntaxError>
+    ensures { Gives result ((spec.qualified_column text.now first).read tokens.now) }
 {
     if !goes_on(Part::Qualifier, tokens) {
         return Ok((
@@ -48,16 +48,16 @@ pub fn column<'a>(
     alloc: Global,
     text: &[u8],
     tokens: &'a [Lexeme],
-) -> Result<(Column, &'a [Lexeme]), Fault>
+) -> Result<(Column, &'a [Lexeme]), SyntaxError>
     ensures { Gives result ((spec.column text.now).read tokens.now) }
 {
     let (first, rest) = spelling(alloc, text, Sort::Name, tokens)?;
-    qualified(alloc, text, first, rest)
+    qualified_column(alloc, text, first, rest)
 }
 
 /// `[ASC | DESC]`: whether it descends.
 #[tactic(auto, unfolding(crate::specs::Expressions::direction))]
-pub fn direction(tokens: &[Lexeme]) -> Result<(bool, &[Lexeme]), Fault>
+pub fn direction(tokens: &[Lexeme]) -> Result<(bool, &[Lexeme]), SyntaxError>
     ensures { Gives result (spec.direction.read tokens.now) }
 {
     if next_is(Sort::Word(Word::Asc), tokens) {

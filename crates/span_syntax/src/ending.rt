@@ -1,25 +1,25 @@
 //! Reading to the end of the tokens, and the place of a syntax error.
 ghost use Rattle.std.specs.Prelude.{◌≡◌};
 ghost use Rattle.span_syntax.specs.Parsed as parsed;
-ghost use Rattle.span_syntax.specs.Parsed.{GivesWhole, used_all, refusal_of, start_or, GivesParted};
+ghost use Rattle.span_syntax.specs.Parsed.{GivesToEnd, require_end, refusal_of, start_or, GivesSplit};
 
-use super::fault::Fault;
+use super::fault::SyntaxError;
 use span_grammar::class::{Lexeme, Sort};
 use span_grammar::reader::is_class;
-use span_lexer::lexer::Misread;
+use span_lexer::lexer::ReadError;
 use span_lexer::token::Token;
 use span_value::refusal::Refusal;
 use std::alloc::AllocError;
 
 /// What was read, if no token is left; else a syntax error.
 #[tactic(auto, using(crate::proofs::Parsing::used_steps))]
-pub fn whole<T: Drop>(found: T, rest: &[Lexeme]) -> Result<T, Fault>
-    ensures { GivesWhole result (used_all found rest.now) }
+pub fn require_end<T: Drop>(found: T, rest: &[Lexeme]) -> Result<T, SyntaxError>
+    ensures { GivesToEnd result (require_end found rest.now) }
 {
     if rest.is_empty() {
         Ok(found)
     } else {
-        Err(Fault::Syntax(rest.len()))
+        Err(SyntaxError::Syntax(rest.len()))
     }
 }
 
@@ -45,20 +45,20 @@ fn place_of(left: usize, tokens: &[Lexeme], end: usize) -> usize
 /// The refusal for an error, and its place in the text of these tokens, which is `end` bytes long.
 ///
 /// When memory ran out, the place is 0.
-pub fn misread(fault: Fault, tokens: &[Lexeme], end: usize) -> Misread
+pub fn read_error(fault: SyntaxError, tokens: &[Lexeme], end: usize) -> ReadError
     ensures refusal { result.refusal ≡ refusal_of fault }
     ensures place { result.place ≡ parsed.place_of fault tokens.now end }
 {
     match fault {
-        Fault::OutOfMemory => Misread {
+        SyntaxError::OutOfMemory => ReadError {
             refusal: Refusal::OutOfMemory,
             place: 0,
         },
-        Fault::Syntax(left) => Misread {
+        SyntaxError::Syntax(left) => ReadError {
             refusal: Refusal::Syntax,
             place: place_of(left, tokens, end),
         },
-        Fault::TooDeep(left) => Misread {
+        SyntaxError::TooDeep(left) => ReadError {
             refusal: Refusal::TooDeep,
             place: place_of(left, tokens, end),
         },
@@ -66,12 +66,12 @@ pub fn misread(fault: Fault, tokens: &[Lexeme], end: usize) -> Misread
 }
 
 /// The first `count` tokens, and where the next one starts.
-#[tactic(auto, using(crate::proofs::Places::ending_steps), unfolding(crate::specs::Parsed::parted))]
-fn parted(count: usize, tokens: &[Token]) -> Option<(&[Token], usize)>
-    ensures { GivesParted result (parsed.parted count tokens.now) }
+#[tactic(auto, using(crate::proofs::Places::ending_steps), unfolding(crate::specs::Parsed::split_tokens))]
+fn split_tokens(count: usize, tokens: &[Token]) -> Option<(&[Token], usize)>
+    ensures { GivesSplit result (parsed.split_tokens count tokens.now) }
 {
-    let (beginning, behind) = tokens.split_at_checked(count)?;
-    Some((beginning, behind.first()?.start))
+    let (beginning, after) = tokens.split_at_checked(count)?;
+    Some((beginning, after.first()?.start))
 }
 
 /// Where a name before `.` and `*` is the error: the tokens up to that dot, and where the star starts.
@@ -80,33 +80,33 @@ fn parted(count: usize, tokens: &[Token]) -> Option<(&[Token], usize)>
 /// is: at the name, at the dot, or else at the star.
 #[tactic(auto, using(crate::proofs::Places::ending_steps), unfolding(crate::specs::Parsed::is_before_star))]
 pub fn before_star<'a>(
-    fault: Fault,
+    fault: SyntaxError,
     found: &[Lexeme],
     tokens: &'a [Token],
 ) -> Option<(&'a [Token], usize)>
-    ensures { GivesParted result (parsed.before_star fault found.now tokens.now) }
+    ensures { GivesSplit result (parsed.before_star fault found.now tokens.now) }
 {
-    let Fault::Syntax(left) = fault else {
+    let SyntaxError::Syntax(left) = fault else {
         return None;
     };
     let name = token_at(left, found)?;
     if !is_class(Sort::AllOf, name.class) {
         return None;
     }
-    parted(found.len().checked_sub(left)?.checked_add(2)?, tokens)
+    split_tokens(found.len().checked_sub(left)?.checked_add(2)?, tokens)
 }
 
 /// The place of the error that reading tokens returned; the place after them, where there was none. The error is out of memory.
-pub fn place_told<T: Drop>(
-    read: Result<T, Fault>,
+pub fn reported_place<T: Drop>(
+    read: Result<T, SyntaxError>,
     tokens: &[Lexeme],
-    behind: usize,
+    after: usize,
 ) -> Result<usize, AllocError>
-    ensures { result ≡ parsed.place_told read tokens.now behind }
+    ensures { result ≡ parsed.reported_place read tokens.now after }
 {
     match read {
-        Ok(_) => Ok(behind),
-        Err(Fault::OutOfMemory) => Err(AllocError),
-        Err(fault) => Ok(misread(fault, tokens, behind).place),
+        Ok(_) => Ok(after),
+        Err(SyntaxError::OutOfMemory) => Err(AllocError),
+        Err(fault) => Ok(read_error(fault, tokens, after).place),
     }
 }

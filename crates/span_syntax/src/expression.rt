@@ -8,13 +8,13 @@ ghost use Rattle.span_syntax.specs.Pieces.{Gives, each};
 ghost use Rattle.span_syntax.specs.Expressions as spec;
 ghost use Rattle.span_syntax.specs.Nests.{Nests, at};
 
-use super::column::qualified;
-use super::fault::Fault;
+use super::column::qualified_column;
+use super::fault::SyntaxError;
 use super::operator::{
-    Asked, all_of, chained, comparison, maybe_not, null_words, some_of, sum_sign, term_sign, tested,
+    PredicateTest, conjunction_of, chain_of, comparison, maybe_not, null_words, disjunction_of, sum_sign, term_sign, apply_test,
 };
 use super::reader::{Level, Reader};
-use super::token::{beside, closed, enter, integer_of, next_is, span_of, spelling, take};
+use super::token::{pair_with, close_parenthesis, enter, integer_of, next_is, span_of, spelling, take};
 use super::tree::{Expr, Link, Spelling};
 use span_grammar::class::{Lexeme, Sort};
 use span_grammar::grammar::Part;
@@ -24,18 +24,18 @@ use sqlite_items::{Boxed, Items};
 use std::alloc::Global;
 
 impl<
-    F: for<'a> Fn(Global, &[u8], usize, Level, &'a [Lexeme]) -> Result<(Expr, &'a [Lexeme]), Fault>,
+    F: for<'a> Fn(Global, &[u8], usize, Level, &'a [Lexeme]) -> Result<(Expr, &'a [Lexeme]), SyntaxError>,
 > Reader<'_, F> {
     /// `"(" expr ")"`
     #[tactic(auto, unfolding(crate::specs::Expressions::parenthesis))]
-    fn parenthesis<'a>(&self, tokens: &'a [Lexeme]) -> Result<(Expr, &'a [Lexeme]), Fault>
+    fn parenthesis<'a>(&self, tokens: &'a [Lexeme]) -> Result<(Expr, &'a [Lexeme]), SyntaxError>
         requires nests { Nests self.now.text.now self.now.left (F.pre self.now.read) (F.post self.now.read) }
         requires limited { self.now.left ≤ limit }
-        ensures { Gives result ((spec.parenthesis self.now.text.now self.now.left (spec.behind self.now.text.now self.now.left)).read tokens.now) }
+        ensures { Gives result ((spec.parenthesis self.now.text.now self.now.left (spec.after self.now.text.now self.now.left)).read tokens.now) }
     {
         let (_, rest) = enter(self.left, Sort::Sign(Sign::Open), tokens)?;
-        let (inner, rest) = self.behind(Level::Expression, rest)?;
-        closed(inner, rest)
+        let (inner, rest) = self.after(Level::Expression, rest)?;
+        close_parenthesis(inner, rest)
     }
 
     /// A call, after its name.
@@ -44,34 +44,34 @@ impl<
         &self,
         name: Spelling,
         tokens: &'a [Lexeme],
-    ) -> Result<(Expr, &'a [Lexeme]), Fault>
+    ) -> Result<(Expr, &'a [Lexeme]), SyntaxError>
         requires nests { Nests self.now.text.now self.now.left (F.pre self.now.read) (F.post self.now.read) }
         requires limited { self.now.left ≤ limit }
-        ensures { Gives result ((spec.arguments self.now.text.now self.now.left (spec.behind self.now.text.now self.now.left) name).read tokens.now) }
+        ensures { Gives result ((spec.arguments self.now.text.now self.now.left (spec.after self.now.text.now self.now.left) name).read tokens.now) }
     {
         let (_, rest) = enter(self.left, Sort::Sign(Sign::Open), tokens)?;
         let (call, rest) = self.argument_list(name, rest)?;
-        closed(call, rest)
+        close_parenthesis(call, rest)
     }
 
     /// `"(" expr {"," expr} ")"`
     #[tactic(auto, unfolding(crate::specs::Expressions::members))]
-    fn members<'a>(&self, tokens: &'a [Lexeme]) -> Result<(Items<Expr>, &'a [Lexeme]), Fault>
+    fn members<'a>(&self, tokens: &'a [Lexeme]) -> Result<(Items<Expr>, &'a [Lexeme]), SyntaxError>
         requires nests { Nests self.now.text.now self.now.left (F.pre self.now.read) (F.post self.now.read) }
         requires limited { self.now.left ≤ limit }
-        ensures { Gives result ((spec.members self.now.text.now self.now.left (spec.behind self.now.text.now self.now.left)).read tokens.now) }
+        ensures { Gives result ((spec.members self.now.text.now self.now.left (spec.after self.now.text.now self.now.left)).read tokens.now) }
     {
         let (_, rest) = enter(self.left, Sort::Sign(Sign::Open), tokens)?;
         let (found, rest) = self.list(rest)?;
-        closed(found, rest)
+        close_parenthesis(found, rest)
     }
 
     /// A CASE.
     #[tactic(auto, unfolding(crate::specs::Expressions::case))]
-    fn case<'a>(&self, tokens: &'a [Lexeme]) -> Result<(Expr, &'a [Lexeme]), Fault>
+    fn case<'a>(&self, tokens: &'a [Lexeme]) -> Result<(Expr, &'a [Lexeme]), SyntaxError>
         requires nests { Nests self.now.text.now self.now.left (F.pre self.now.read) (F.post self.now.read) }
         requires limited { self.now.left ≤ limit }
-        ensures { Gives result ((spec.case self.now.text.now self.now.left (spec.behind self.now.text.now self.now.left)).read tokens.now) }
+        ensures { Gives result ((spec.case self.now.text.now self.now.left (spec.after self.now.text.now self.now.left)).read tokens.now) }
     {
         let (_, rest) = enter(self.left, Sort::Word(Word::Case), tokens)?;
         self.in_case(rest)
@@ -79,25 +79,25 @@ impl<
 
     /// `NOT neg`
     #[tactic(auto, unfolding(crate::specs::Expressions::negation))]
-    fn negation<'a>(&self, tokens: &'a [Lexeme]) -> Result<(Expr, &'a [Lexeme]), Fault>
+    fn negation<'a>(&self, tokens: &'a [Lexeme]) -> Result<(Expr, &'a [Lexeme]), SyntaxError>
         requires nests { Nests self.now.text.now self.now.left (F.pre self.now.read) (F.post self.now.read) }
         requires limited { self.now.left ≤ limit }
-        ensures { Gives result ((spec.negation self.now.text.now self.now.left (spec.behind self.now.text.now self.now.left)).read tokens.now) }
+        ensures { Gives result ((spec.negation self.now.text.now self.now.left (spec.after self.now.text.now self.now.left)).read tokens.now) }
     {
         let (_, rest) = enter(self.left, Sort::Word(Word::Not), tokens)?;
-        let (operand, rest) = self.behind(Level::Negated, rest)?;
+        let (operand, rest) = self.after(Level::Negated, rest)?;
         Ok((Expr::Not(Boxed::new(self.alloc, operand)?), rest))
     }
 
     /// `"-" unary`
     #[tactic(auto, unfolding(crate::specs::Expressions::opposite))]
-    fn opposite<'a>(&self, tokens: &'a [Lexeme]) -> Result<(Expr, &'a [Lexeme]), Fault>
+    fn opposite<'a>(&self, tokens: &'a [Lexeme]) -> Result<(Expr, &'a [Lexeme]), SyntaxError>
         requires nests { Nests self.now.text.now self.now.left (F.pre self.now.read) (F.post self.now.read) }
         requires limited { self.now.left ≤ limit }
-        ensures { Gives result ((spec.opposite self.now.text.now self.now.left (spec.behind self.now.text.now self.now.left)).read tokens.now) }
+        ensures { Gives result ((spec.opposite self.now.text.now self.now.left (spec.after self.now.text.now self.now.left)).read tokens.now) }
     {
         let (_, rest) = enter(self.left, Sort::Sign(Sign::Minus), tokens)?;
-        self.behind(Level::Signed, rest)
+        self.after(Level::Signed, rest)
     }
 
     /// A call or a column, after its name.
@@ -106,24 +106,24 @@ impl<
         &self,
         name: Spelling,
         tokens: &'a [Lexeme],
-    ) -> Result<(Expr, &'a [Lexeme]), Fault>
+    ) -> Result<(Expr, &'a [Lexeme]), SyntaxError>
         requires nests { Nests self.now.text.now self.now.left (F.pre self.now.read) (F.post self.now.read) }
         requires limited { self.now.left ≤ limit }
-        ensures { Gives result ((spec.after_name self.now.text.now self.now.left (spec.behind self.now.text.now self.now.left) name).read tokens.now) }
+        ensures { Gives result ((spec.after_name self.now.text.now self.now.left (spec.after self.now.text.now self.now.left) name).read tokens.now) }
     {
         if goes_on(Part::Arguments, tokens) {
             return self.arguments(name, tokens);
         }
-        let (column, rest) = qualified(self.alloc, self.text, name, tokens)?;
+        let (column, rest) = qualified_column(self.alloc, self.text, name, tokens)?;
         Ok((Expr::Column(column), rest))
     }
 
     /// A call or a column.
-    #[tactic(auto, unfolding(crate::specs::Expressions::named))]
-    fn named<'a>(&self, tokens: &'a [Lexeme]) -> Result<(Expr, &'a [Lexeme]), Fault>
+    #[tactic(auto, unfolding(crate::specs::Expressions::call_or_column))]
+    fn call_or_column<'a>(&self, tokens: &'a [Lexeme]) -> Result<(Expr, &'a [Lexeme]), SyntaxError>
         requires nests { Nests self.now.text.now self.now.left (F.pre self.now.read) (F.post self.now.read) }
         requires limited { self.now.left ≤ limit }
-        ensures { Gives result ((spec.named self.now.text.now self.now.left (spec.behind self.now.text.now self.now.left)).read tokens.now) }
+        ensures { Gives result ((spec.call_or_column self.now.text.now self.now.left (spec.after self.now.text.now self.now.left)).read tokens.now) }
     {
         let (name, rest) = spelling(self.alloc, self.text, Sort::Name, tokens)?;
         self.after_name(name, rest)
@@ -131,10 +131,10 @@ impl<
 
     /// A call of IF.
     #[tactic(auto, unfolding(crate::specs::Expressions::if_call))]
-    fn if_call<'a>(&self, tokens: &'a [Lexeme]) -> Result<(Expr, &'a [Lexeme]), Fault>
+    fn if_call<'a>(&self, tokens: &'a [Lexeme]) -> Result<(Expr, &'a [Lexeme]), SyntaxError>
         requires nests { Nests self.now.text.now self.now.left (F.pre self.now.read) (F.post self.now.read) }
         requires limited { self.now.left ≤ limit }
-        ensures { Gives result ((spec.if_call self.now.text.now self.now.left (spec.behind self.now.text.now self.now.left)).read tokens.now) }
+        ensures { Gives result ((spec.if_call self.now.text.now self.now.left (spec.after self.now.text.now self.now.left)).read tokens.now) }
     {
         let (name, rest) = spelling(self.alloc, self.text, Sort::Word(Word::If), tokens)?;
         self.arguments(name, rest)
@@ -142,13 +142,13 @@ impl<
 
     /// A call, a column, a CASE or an expression in parentheses.
     #[tactic(auto, unfolding(crate::specs::Expressions::compound))]
-    fn compound<'a>(&self, tokens: &'a [Lexeme]) -> Result<(Expr, &'a [Lexeme]), Fault>
+    fn compound<'a>(&self, tokens: &'a [Lexeme]) -> Result<(Expr, &'a [Lexeme]), SyntaxError>
         requires nests { Nests self.now.text.now self.now.left (F.pre self.now.read) (F.post self.now.read) }
         requires limited { self.now.left ≤ limit }
-        ensures { Gives result ((spec.compound self.now.text.now self.now.left (spec.behind self.now.text.now self.now.left)).read tokens.now) }
+        ensures { Gives result ((spec.compound self.now.text.now self.now.left (spec.after self.now.text.now self.now.left)).read tokens.now) }
     {
         if goes_on(Part::Named, tokens) {
-            return self.named(tokens);
+            return self.call_or_column(tokens);
         }
         if goes_on(Part::IfCall, tokens) {
             return self.if_call(tokens);
@@ -161,10 +161,10 @@ impl<
 
     /// TRUE, FALSE, NULL, a parameter, or what has other parts.
     #[tactic(auto, unfolding(crate::specs::Expressions::word_literal))]
-    fn word_literal<'a>(&self, tokens: &'a [Lexeme]) -> Result<(Expr, &'a [Lexeme]), Fault>
+    fn word_literal<'a>(&self, tokens: &'a [Lexeme]) -> Result<(Expr, &'a [Lexeme]), SyntaxError>
         requires nests { Nests self.now.text.now self.now.left (F.pre self.now.read) (F.post self.now.read) }
         requires limited { self.now.left ≤ limit }
-        ensures { Gives result ((spec.word_literal self.now.text.now self.now.left (spec.behind self.now.text.now self.now.left)).read tokens.now) }
+        ensures { Gives result ((spec.word_literal self.now.text.now self.now.left (spec.after self.now.text.now self.now.left)).read tokens.now) }
     {
         if next_is(Sort::Word(Word::True), tokens) {
             let (found, rest) = take(Sort::Word(Word::True), tokens)?;
@@ -187,10 +187,10 @@ impl<
 
     /// `prim`, but no integer.
     #[tactic(auto, unfolding(crate::specs::Expressions::other_primary))]
-    fn other_primary<'a>(&self, tokens: &'a [Lexeme]) -> Result<(Expr, &'a [Lexeme]), Fault>
+    fn other_primary<'a>(&self, tokens: &'a [Lexeme]) -> Result<(Expr, &'a [Lexeme]), SyntaxError>
         requires nests { Nests self.now.text.now self.now.left (F.pre self.now.read) (F.post self.now.read) }
         requires limited { self.now.left ≤ limit }
-        ensures { Gives result ((spec.other_primary self.now.text.now self.now.left (spec.behind self.now.text.now self.now.left)).read tokens.now) }
+        ensures { Gives result ((spec.other_primary self.now.text.now self.now.left (spec.after self.now.text.now self.now.left)).read tokens.now) }
     {
         if next_is(Sort::Str, tokens) {
             let (literal, rest) = spelling(self.alloc, self.text, Sort::Str, tokens)?;
@@ -205,10 +205,10 @@ impl<
 
     /// `prim`
     #[tactic(auto, unfolding(crate::specs::Expressions::primary))]
-    fn primary<'a>(&self, tokens: &'a [Lexeme]) -> Result<(Expr, &'a [Lexeme]), Fault>
+    fn primary<'a>(&self, tokens: &'a [Lexeme]) -> Result<(Expr, &'a [Lexeme]), SyntaxError>
         requires nests { Nests self.now.text.now self.now.left (F.pre self.now.read) (F.post self.now.read) }
         requires limited { self.now.left ≤ limit }
-        ensures { Gives result ((spec.primary self.now.text.now self.now.left (spec.behind self.now.text.now self.now.left)).read tokens.now) }
+        ensures { Gives result ((spec.primary self.now.text.now self.now.left (spec.after self.now.text.now self.now.left)).read tokens.now) }
     {
         if next_is(Sort::Int, tokens) {
             let (found, rest) = take(Sort::Int, tokens)?;
@@ -219,10 +219,10 @@ impl<
 
     /// `unary`
     #[tactic(auto, unfolding(crate::specs::Expressions::unary))]
-    fn unary<'a>(&self, tokens: &'a [Lexeme]) -> Result<(Expr, &'a [Lexeme]), Fault>
+    fn unary<'a>(&self, tokens: &'a [Lexeme]) -> Result<(Expr, &'a [Lexeme]), SyntaxError>
         requires nests { Nests self.now.text.now self.now.left (F.pre self.now.read) (F.post self.now.read) }
         requires limited { self.now.left ≤ limit }
-        ensures { Gives result ((spec.unary self.now.text.now self.now.left (spec.behind self.now.text.now self.now.left)).read tokens.now) }
+        ensures { Gives result ((spec.unary self.now.text.now self.now.left (spec.after self.now.text.now self.now.left)).read tokens.now) }
     {
         if goes_on(Part::Opposite, tokens) {
             return self.opposite(tokens);
@@ -232,10 +232,10 @@ impl<
 
     /// `unary`, but no integer.
     #[tactic(auto, unfolding(crate::specs::Expressions::other_unary))]
-    fn other_unary<'a>(&self, tokens: &'a [Lexeme]) -> Result<(Expr, &'a [Lexeme]), Fault>
+    fn other_unary<'a>(&self, tokens: &'a [Lexeme]) -> Result<(Expr, &'a [Lexeme]), SyntaxError>
         requires nests { Nests self.now.text.now self.now.left (F.pre self.now.read) (F.post self.now.read) }
         requires limited { self.now.left ≤ limit }
-        ensures { Gives result ((spec.other_unary self.now.text.now self.now.left (spec.behind self.now.text.now self.now.left)).read tokens.now) }
+        ensures { Gives result ((spec.other_unary self.now.text.now self.now.left (spec.after self.now.text.now self.now.left)).read tokens.now) }
     {
         if goes_on(Part::Opposite, tokens) {
             return self.opposite(tokens);
@@ -245,10 +245,10 @@ impl<
 
     /// What is after a minus. One directly before an integer belongs to it.
     #[tactic(auto, unfolding(crate::specs::Expressions::signed))]
-    fn signed<'a>(&self, tokens: &'a [Lexeme]) -> Result<(Expr, &'a [Lexeme]), Fault>
+    fn signed<'a>(&self, tokens: &'a [Lexeme]) -> Result<(Expr, &'a [Lexeme]), SyntaxError>
         requires nests { Nests self.now.text.now self.now.left (F.pre self.now.read) (F.post self.now.read) }
         requires limited { self.now.left ≤ limit }
-        ensures { Gives result ((spec.signed self.now.text.now self.now.left (spec.behind self.now.text.now self.now.left)).read tokens.now) }
+        ensures { Gives result ((spec.signed self.now.text.now self.now.left (spec.after self.now.text.now self.now.left)).read tokens.now) }
     {
         if next_is(Sort::Int, tokens) {
             let (found, rest) = take(Sort::Int, tokens)?;
@@ -260,10 +260,10 @@ impl<
 
     /// An operator and the operand after it.
     #[tactic(auto, unfolding(crate::specs::Expressions::term_more))]
-    fn term_more<'a>(&self, tokens: &'a [Lexeme]) -> Result<(Link, &'a [Lexeme]), Fault>
+    fn term_more<'a>(&self, tokens: &'a [Lexeme]) -> Result<(Link, &'a [Lexeme]), SyntaxError>
         requires nests { Nests self.now.text.now self.now.left (F.pre self.now.read) (F.post self.now.read) }
         requires limited { self.now.left ≤ limit }
-        ensures { Gives result ((spec.term_more self.now.text.now self.now.left (spec.behind self.now.text.now self.now.left)).read tokens.now) }
+        ensures { Gives result ((spec.term_more self.now.text.now self.now.left (spec.after self.now.text.now self.now.left)).read tokens.now) }
     {
         let (operator, rest) = term_sign(tokens)?;
         let (operand, rest) = self.unary(rest)?;
@@ -272,39 +272,39 @@ impl<
 
     /// The operators with their operands.
     #[tactic(auto, using(crate::proofs::Shrinking::loop_steps))]
-    fn term_rest<'a>(&self, tokens: &'a [Lexeme]) -> Result<(Items<Link>, &'a [Lexeme]), Fault>
+    fn term_rest<'a>(&self, tokens: &'a [Lexeme]) -> Result<(Items<Link>, &'a [Lexeme]), SyntaxError>
         requires nests { Nests self.now.text.now self.now.left (F.pre self.now.read) (F.post self.now.read) }
         requires limited { self.now.left ≤ limit }
-        ensures { Gives result ((each Part.TermMore (spec.term_more self.now.text.now self.now.left (spec.behind self.now.text.now self.now.left))).read tokens.now) }
+        ensures { Gives result ((each Part.TermMore (spec.term_more self.now.text.now self.now.left (spec.after self.now.text.now self.now.left))).read tokens.now) }
     {
         let mut found = Items::new(self.alloc);
         let mut rest = tokens;
         while goes_on(Part::TermMore, rest) {
-            let (next, behind) = self.term_more(rest)?;
+            let (next, after) = self.term_more(rest)?;
             found.push(next)?;
-            rest = behind;
+            rest = after;
         }
         Ok((found, rest))
     }
 
     /// `term`
     #[tactic(auto, unfolding(crate::specs::Expressions::term))]
-    fn term<'a>(&self, tokens: &'a [Lexeme]) -> Result<(Expr, &'a [Lexeme]), Fault>
+    fn term<'a>(&self, tokens: &'a [Lexeme]) -> Result<(Expr, &'a [Lexeme]), SyntaxError>
         requires nests { Nests self.now.text.now self.now.left (F.pre self.now.read) (F.post self.now.read) }
         requires limited { self.now.left ≤ limit }
-        ensures { Gives result ((spec.term self.now.text.now self.now.left (spec.behind self.now.text.now self.now.left)).read tokens.now) }
+        ensures { Gives result ((spec.term self.now.text.now self.now.left (spec.after self.now.text.now self.now.left)).read tokens.now) }
     {
         let (first, rest) = self.unary(tokens)?;
-        let ((first, more), rest) = beside(first, self.term_rest(rest))?;
-        Ok((chained(self.alloc, first, more)?, rest))
+        let ((first, more), rest) = pair_with(first, self.term_rest(rest))?;
+        Ok((chain_of(self.alloc, first, more)?, rest))
     }
 
     /// An operator and the operand after it.
     #[tactic(auto, unfolding(crate::specs::Expressions::sum_more))]
-    fn sum_more<'a>(&self, tokens: &'a [Lexeme]) -> Result<(Link, &'a [Lexeme]), Fault>
+    fn sum_more<'a>(&self, tokens: &'a [Lexeme]) -> Result<(Link, &'a [Lexeme]), SyntaxError>
         requires nests { Nests self.now.text.now self.now.left (F.pre self.now.read) (F.post self.now.read) }
         requires limited { self.now.left ≤ limit }
-        ensures { Gives result ((spec.sum_more self.now.text.now self.now.left (spec.behind self.now.text.now self.now.left)).read tokens.now) }
+        ensures { Gives result ((spec.sum_more self.now.text.now self.now.left (spec.after self.now.text.now self.now.left)).read tokens.now) }
     {
         let (operator, rest) = sum_sign(tokens)?;
         let (operand, rest) = self.term(rest)?;
@@ -313,74 +313,74 @@ impl<
 
     /// The operators with their operands.
     #[tactic(auto, using(crate::proofs::Shrinking::loop_steps))]
-    fn sum_rest<'a>(&self, tokens: &'a [Lexeme]) -> Result<(Items<Link>, &'a [Lexeme]), Fault>
+    fn sum_rest<'a>(&self, tokens: &'a [Lexeme]) -> Result<(Items<Link>, &'a [Lexeme]), SyntaxError>
         requires nests { Nests self.now.text.now self.now.left (F.pre self.now.read) (F.post self.now.read) }
         requires limited { self.now.left ≤ limit }
-        ensures { Gives result ((each Part.SumMore (spec.sum_more self.now.text.now self.now.left (spec.behind self.now.text.now self.now.left))).read tokens.now) }
+        ensures { Gives result ((each Part.SumMore (spec.sum_more self.now.text.now self.now.left (spec.after self.now.text.now self.now.left))).read tokens.now) }
     {
         let mut found = Items::new(self.alloc);
         let mut rest = tokens;
         while goes_on(Part::SumMore, rest) {
-            let (next, behind) = self.sum_more(rest)?;
+            let (next, after) = self.sum_more(rest)?;
             found.push(next)?;
-            rest = behind;
+            rest = after;
         }
         Ok((found, rest))
     }
 
     /// `sum`
     #[tactic(auto, unfolding(crate::specs::Expressions::sum))]
-    fn sum<'a>(&self, tokens: &'a [Lexeme]) -> Result<(Expr, &'a [Lexeme]), Fault>
+    fn sum<'a>(&self, tokens: &'a [Lexeme]) -> Result<(Expr, &'a [Lexeme]), SyntaxError>
         requires nests { Nests self.now.text.now self.now.left (F.pre self.now.read) (F.post self.now.read) }
         requires limited { self.now.left ≤ limit }
-        ensures { Gives result ((spec.sum self.now.text.now self.now.left (spec.behind self.now.text.now self.now.left)).read tokens.now) }
+        ensures { Gives result ((spec.sum self.now.text.now self.now.left (spec.after self.now.text.now self.now.left)).read tokens.now) }
     {
         let (first, rest) = self.term(tokens)?;
-        let ((first, more), rest) = beside(first, self.sum_rest(rest))?;
-        Ok((chained(self.alloc, first, more)?, rest))
+        let ((first, more), rest) = pair_with(first, self.sum_rest(rest))?;
+        Ok((chain_of(self.alloc, first, more)?, rest))
     }
 
     /// A comparison with an operand.
-    #[tactic(auto, unfolding(crate::specs::Expressions::compared))]
-    fn compared<'a>(&self, tokens: &'a [Lexeme]) -> Result<((bool, Asked), &'a [Lexeme]), Fault>
+    #[tactic(auto, unfolding(crate::specs::Expressions::comparison_test))]
+    fn comparison_test<'a>(&self, tokens: &'a [Lexeme]) -> Result<((bool, PredicateTest), &'a [Lexeme]), SyntaxError>
         requires nests { Nests self.now.text.now self.now.left (F.pre self.now.read) (F.post self.now.read) }
         requires limited { self.now.left ≤ limit }
-        ensures { Gives result ((spec.compared self.now.text.now self.now.left (spec.behind self.now.text.now self.now.left)).read tokens.now) }
+        ensures { Gives result ((spec.comparison_test self.now.text.now self.now.left (spec.after self.now.text.now self.now.left)).read tokens.now) }
     {
         let (how, rest) = comparison(tokens)?;
         let (second, rest) = self.sum(rest)?;
-        Ok(((false, Asked::Compared(how, second)), rest))
+        Ok(((false, PredicateTest::Compared(how, second)), rest))
     }
 
     /// `IS [NOT] NULL`
     #[tactic(auto, unfolding(crate::specs::Expressions::is_null))]
-    fn is_null<'a>(&self, tokens: &'a [Lexeme]) -> Result<((bool, Asked), &'a [Lexeme]), Fault>
+    fn is_null<'a>(&self, tokens: &'a [Lexeme]) -> Result<((bool, PredicateTest), &'a [Lexeme]), SyntaxError>
         requires nests { Nests self.now.text.now self.now.left (F.pre self.now.read) (F.post self.now.read) }
         requires limited { self.now.left ≤ limit }
-        ensures { Gives result ((spec.is_null self.now.text.now self.now.left (spec.behind self.now.text.now self.now.left)).read tokens.now) }
+        ensures { Gives result ((spec.is_null self.now.text.now self.now.left (spec.after self.now.text.now self.now.left)).read tokens.now) }
     {
         let (is_not, rest) = null_words(tokens)?;
-        Ok(((is_not, Asked::IsNull), rest))
+        Ok(((is_not, PredicateTest::IsNull), rest))
     }
 
     /// `LIKE string`
     #[tactic(auto, unfolding(crate::specs::Expressions::like))]
-    fn like<'a>(&self, tokens: &'a [Lexeme]) -> Result<(Asked, &'a [Lexeme]), Fault>
+    fn like<'a>(&self, tokens: &'a [Lexeme]) -> Result<(PredicateTest, &'a [Lexeme]), SyntaxError>
         requires nests { Nests self.now.text.now self.now.left (F.pre self.now.read) (F.post self.now.read) }
         requires limited { self.now.left ≤ limit }
-        ensures { Gives result ((spec.like self.now.text.now self.now.left (spec.behind self.now.text.now self.now.left)).read tokens.now) }
+        ensures { Gives result ((spec.like self.now.text.now self.now.left (spec.after self.now.text.now self.now.left)).read tokens.now) }
     {
         let (_, rest) = take(Sort::Word(Word::Like), tokens)?;
         let (pattern, rest) = spelling(self.alloc, self.text, Sort::Str, rest)?;
-        Ok((Asked::Like(pattern), rest))
+        Ok((PredicateTest::Like(pattern), rest))
     }
 
     /// `AND sum`, after the low end of a BETWEEN.
     #[tactic(auto, unfolding(crate::specs::Expressions::high_end))]
-    fn high_end<'a>(&self, tokens: &'a [Lexeme]) -> Result<(Expr, &'a [Lexeme]), Fault>
+    fn high_end<'a>(&self, tokens: &'a [Lexeme]) -> Result<(Expr, &'a [Lexeme]), SyntaxError>
         requires nests { Nests self.now.text.now self.now.left (F.pre self.now.read) (F.post self.now.read) }
         requires limited { self.now.left ≤ limit }
-        ensures { Gives result ((spec.high_end self.now.text.now self.now.left (spec.behind self.now.text.now self.now.left)).read tokens.now) }
+        ensures { Gives result ((spec.high_end self.now.text.now self.now.left (spec.after self.now.text.now self.now.left)).read tokens.now) }
     {
         let (_, rest) = take(Sort::Word(Word::And), tokens)?;
         self.sum(rest)
@@ -388,35 +388,35 @@ impl<
 
     /// `BETWEEN sum AND sum`
     #[tactic(auto, unfolding(crate::specs::Expressions::between))]
-    fn between<'a>(&self, tokens: &'a [Lexeme]) -> Result<(Asked, &'a [Lexeme]), Fault>
+    fn between<'a>(&self, tokens: &'a [Lexeme]) -> Result<(PredicateTest, &'a [Lexeme]), SyntaxError>
         requires nests { Nests self.now.text.now self.now.left (F.pre self.now.read) (F.post self.now.read) }
         requires limited { self.now.left ≤ limit }
-        ensures { Gives result ((spec.between self.now.text.now self.now.left (spec.behind self.now.text.now self.now.left)).read tokens.now) }
+        ensures { Gives result ((spec.between self.now.text.now self.now.left (spec.after self.now.text.now self.now.left)).read tokens.now) }
     {
         let (_, rest) = take(Sort::Word(Word::Between), tokens)?;
         let (low, rest) = self.sum(rest)?;
-        let ((low, high), rest) = beside(low, self.high_end(rest))?;
-        Ok((Asked::Between(low, high), rest))
+        let ((low, high), rest) = pair_with(low, self.high_end(rest))?;
+        Ok((PredicateTest::Between(low, high), rest))
     }
 
     /// `IN "(" expr {"," expr} ")"`
     #[tactic(auto, unfolding(crate::specs::Expressions::within))]
-    fn within<'a>(&self, tokens: &'a [Lexeme]) -> Result<(Asked, &'a [Lexeme]), Fault>
+    fn within<'a>(&self, tokens: &'a [Lexeme]) -> Result<(PredicateTest, &'a [Lexeme]), SyntaxError>
         requires nests { Nests self.now.text.now self.now.left (F.pre self.now.read) (F.post self.now.read) }
         requires limited { self.now.left ≤ limit }
-        ensures { Gives result ((spec.within self.now.text.now self.now.left (spec.behind self.now.text.now self.now.left)).read tokens.now) }
+        ensures { Gives result ((spec.within self.now.text.now self.now.left (spec.after self.now.text.now self.now.left)).read tokens.now) }
     {
         let (_, rest) = take(Sort::Word(Word::In), tokens)?;
         let (members, rest) = self.members(rest)?;
-        Ok((Asked::In(members), rest))
+        Ok((PredicateTest::In(members), rest))
     }
 
     /// LIKE, BETWEEN or IN.
-    #[tactic(auto, unfolding(crate::specs::Expressions::deniable))]
-    fn deniable<'a>(&self, tokens: &'a [Lexeme]) -> Result<(Asked, &'a [Lexeme]), Fault>
+    #[tactic(auto, unfolding(crate::specs::Expressions::negatable_test))]
+    fn negatable_test<'a>(&self, tokens: &'a [Lexeme]) -> Result<(PredicateTest, &'a [Lexeme]), SyntaxError>
         requires nests { Nests self.now.text.now self.now.left (F.pre self.now.read) (F.post self.now.read) }
         requires limited { self.now.left ≤ limit }
-        ensures { Gives result ((spec.deniable self.now.text.now self.now.left (spec.behind self.now.text.now self.now.left)).read tokens.now) }
+        ensures { Gives result ((spec.negatable_test self.now.text.now self.now.left (spec.after self.now.text.now self.now.left)).read tokens.now) }
     {
         if goes_on(Part::Like, tokens) {
             return self.like(tokens);
@@ -432,13 +432,13 @@ impl<
     fn maybe_not_test<'a>(
         &self,
         tokens: &'a [Lexeme],
-    ) -> Result<((bool, Asked), &'a [Lexeme]), Fault>
+    ) -> Result<((bool, PredicateTest), &'a [Lexeme]), SyntaxError>
         requires nests { Nests self.now.text.now self.now.left (F.pre self.now.read) (F.post self.now.read) }
         requires limited { self.now.left ≤ limit }
-        ensures { Gives result ((spec.maybe_not_test self.now.text.now self.now.left (spec.behind self.now.text.now self.now.left)).read tokens.now) }
+        ensures { Gives result ((spec.maybe_not_test self.now.text.now self.now.left (spec.after self.now.text.now self.now.left)).read tokens.now) }
     {
         let (is_not, rest) = maybe_not(tokens)?;
-        let (question, rest) = self.deniable(rest)?;
+        let (question, rest) = self.negatable_test(rest)?;
         Ok(((is_not, question), rest))
     }
 
@@ -447,13 +447,13 @@ impl<
     fn predicate_rest<'a>(
         &self,
         tokens: &'a [Lexeme],
-    ) -> Result<((bool, Asked), &'a [Lexeme]), Fault>
+    ) -> Result<((bool, PredicateTest), &'a [Lexeme]), SyntaxError>
         requires nests { Nests self.now.text.now self.now.left (F.pre self.now.read) (F.post self.now.read) }
         requires limited { self.now.left ≤ limit }
-        ensures { Gives result ((spec.predicate_rest self.now.text.now self.now.left (spec.behind self.now.text.now self.now.left)).read tokens.now) }
+        ensures { Gives result ((spec.predicate_rest self.now.text.now self.now.left (spec.after self.now.text.now self.now.left)).read tokens.now) }
     {
         if goes_on(Part::Compared, tokens) {
-            return self.compared(tokens);
+            return self.comparison_test(tokens);
         }
         if goes_on(Part::IsNull, tokens) {
             return self.is_null(tokens);
@@ -461,27 +461,27 @@ impl<
         if goes_on(Part::MaybeNotTest, tokens) {
             return self.maybe_not_test(tokens);
         }
-        Ok(((false, Asked::Nothing), tokens))
+        Ok(((false, PredicateTest::Nothing), tokens))
     }
 
     /// `pred`
     #[tactic(auto, unfolding(crate::specs::Expressions::predicate))]
-    fn predicate<'a>(&self, tokens: &'a [Lexeme]) -> Result<(Expr, &'a [Lexeme]), Fault>
+    fn predicate<'a>(&self, tokens: &'a [Lexeme]) -> Result<(Expr, &'a [Lexeme]), SyntaxError>
         requires nests { Nests self.now.text.now self.now.left (F.pre self.now.read) (F.post self.now.read) }
         requires limited { self.now.left ≤ limit }
-        ensures { Gives result ((spec.predicate self.now.text.now self.now.left (spec.behind self.now.text.now self.now.left)).read tokens.now) }
+        ensures { Gives result ((spec.predicate self.now.text.now self.now.left (spec.after self.now.text.now self.now.left)).read tokens.now) }
     {
         let (first, rest) = self.sum(tokens)?;
-        let ((first, question), rest) = beside(first, self.predicate_rest(rest))?;
-        Ok((tested(self.alloc, first, question)?, rest))
+        let ((first, question), rest) = pair_with(first, self.predicate_rest(rest))?;
+        Ok((apply_test(self.alloc, first, question)?, rest))
     }
 
     /// `neg`
     #[tactic(auto, unfolding(crate::specs::Expressions::negated))]
-    fn negated<'a>(&self, tokens: &'a [Lexeme]) -> Result<(Expr, &'a [Lexeme]), Fault>
+    fn negated<'a>(&self, tokens: &'a [Lexeme]) -> Result<(Expr, &'a [Lexeme]), SyntaxError>
         requires nests { Nests self.now.text.now self.now.left (F.pre self.now.read) (F.post self.now.read) }
         requires limited { self.now.left ≤ limit }
-        ensures { Gives result ((spec.negated self.now.text.now self.now.left (spec.behind self.now.text.now self.now.left)).read tokens.now) }
+        ensures { Gives result ((spec.negated self.now.text.now self.now.left (spec.after self.now.text.now self.now.left)).read tokens.now) }
     {
         if goes_on(Part::Negation, tokens) {
             return self.negation(tokens);
@@ -491,10 +491,10 @@ impl<
 
     /// AND and the operand after it.
     #[tactic(auto, unfolding(crate::specs::Expressions::conjunction_more))]
-    fn conjunction_more<'a>(&self, tokens: &'a [Lexeme]) -> Result<(Expr, &'a [Lexeme]), Fault>
+    fn conjunction_more<'a>(&self, tokens: &'a [Lexeme]) -> Result<(Expr, &'a [Lexeme]), SyntaxError>
         requires nests { Nests self.now.text.now self.now.left (F.pre self.now.read) (F.post self.now.read) }
         requires limited { self.now.left ≤ limit }
-        ensures { Gives result ((spec.conjunction_more self.now.text.now self.now.left (spec.behind self.now.text.now self.now.left)).read tokens.now) }
+        ensures { Gives result ((spec.conjunction_more self.now.text.now self.now.left (spec.after self.now.text.now self.now.left)).read tokens.now) }
     {
         let (_, rest) = take(Sort::Word(Word::And), tokens)?;
         self.negated(rest)
@@ -505,39 +505,39 @@ impl<
     fn conjunction_rest<'a>(
         &self,
         tokens: &'a [Lexeme],
-    ) -> Result<(Items<Expr>, &'a [Lexeme]), Fault>
+    ) -> Result<(Items<Expr>, &'a [Lexeme]), SyntaxError>
         requires nests { Nests self.now.text.now self.now.left (F.pre self.now.read) (F.post self.now.read) }
         requires limited { self.now.left ≤ limit }
-        ensures { Gives result ((each Part.ConjunctionMore (spec.conjunction_more self.now.text.now self.now.left (spec.behind self.now.text.now self.now.left))).read tokens.now) }
+        ensures { Gives result ((each Part.ConjunctionMore (spec.conjunction_more self.now.text.now self.now.left (spec.after self.now.text.now self.now.left))).read tokens.now) }
     {
         let mut found = Items::new(self.alloc);
         let mut rest = tokens;
         while goes_on(Part::ConjunctionMore, rest) {
-            let (next, behind) = self.conjunction_more(rest)?;
+            let (next, after) = self.conjunction_more(rest)?;
             found.push(next)?;
-            rest = behind;
+            rest = after;
         }
         Ok((found, rest))
     }
 
     /// `conj`
     #[tactic(auto, unfolding(crate::specs::Expressions::conjunction))]
-    fn conjunction<'a>(&self, tokens: &'a [Lexeme]) -> Result<(Expr, &'a [Lexeme]), Fault>
+    fn conjunction<'a>(&self, tokens: &'a [Lexeme]) -> Result<(Expr, &'a [Lexeme]), SyntaxError>
         requires nests { Nests self.now.text.now self.now.left (F.pre self.now.read) (F.post self.now.read) }
         requires limited { self.now.left ≤ limit }
-        ensures { Gives result ((spec.conjunction self.now.text.now self.now.left (spec.behind self.now.text.now self.now.left)).read tokens.now) }
+        ensures { Gives result ((spec.conjunction self.now.text.now self.now.left (spec.after self.now.text.now self.now.left)).read tokens.now) }
     {
         let (first, rest) = self.negated(tokens)?;
-        let ((first, more), rest) = beside(first, self.conjunction_rest(rest))?;
-        Ok((all_of(self.alloc, first, more)?, rest))
+        let ((first, more), rest) = pair_with(first, self.conjunction_rest(rest))?;
+        Ok((conjunction_of(self.alloc, first, more)?, rest))
     }
 
     /// OR and the operand after it.
     #[tactic(auto, unfolding(crate::specs::Expressions::expression_more))]
-    fn expression_more<'a>(&self, tokens: &'a [Lexeme]) -> Result<(Expr, &'a [Lexeme]), Fault>
+    fn expression_more<'a>(&self, tokens: &'a [Lexeme]) -> Result<(Expr, &'a [Lexeme]), SyntaxError>
         requires nests { Nests self.now.text.now self.now.left (F.pre self.now.read) (F.post self.now.read) }
         requires limited { self.now.left ≤ limit }
-        ensures { Gives result ((spec.expression_more self.now.text.now self.now.left (spec.behind self.now.text.now self.now.left)).read tokens.now) }
+        ensures { Gives result ((spec.expression_more self.now.text.now self.now.left (spec.after self.now.text.now self.now.left)).read tokens.now) }
     {
         let (_, rest) = take(Sort::Word(Word::Or), tokens)?;
         self.conjunction(rest)
@@ -548,31 +548,31 @@ impl<
     fn expression_rest<'a>(
         &self,
         tokens: &'a [Lexeme],
-    ) -> Result<(Items<Expr>, &'a [Lexeme]), Fault>
+    ) -> Result<(Items<Expr>, &'a [Lexeme]), SyntaxError>
         requires nests { Nests self.now.text.now self.now.left (F.pre self.now.read) (F.post self.now.read) }
         requires limited { self.now.left ≤ limit }
-        ensures { Gives result ((each Part.ExpressionMore (spec.expression_more self.now.text.now self.now.left (spec.behind self.now.text.now self.now.left))).read tokens.now) }
+        ensures { Gives result ((each Part.ExpressionMore (spec.expression_more self.now.text.now self.now.left (spec.after self.now.text.now self.now.left))).read tokens.now) }
     {
         let mut found = Items::new(self.alloc);
         let mut rest = tokens;
         while goes_on(Part::ExpressionMore, rest) {
-            let (next, behind) = self.expression_more(rest)?;
+            let (next, after) = self.expression_more(rest)?;
             found.push(next)?;
-            rest = behind;
+            rest = after;
         }
         Ok((found, rest))
     }
 
     /// `expr`
     #[tactic(auto, unfolding(crate::specs::Expressions::expression))]
-    fn expression<'a>(&self, tokens: &'a [Lexeme]) -> Result<(Expr, &'a [Lexeme]), Fault>
+    fn expression<'a>(&self, tokens: &'a [Lexeme]) -> Result<(Expr, &'a [Lexeme]), SyntaxError>
         requires nests { Nests self.now.text.now self.now.left (F.pre self.now.read) (F.post self.now.read) }
         requires limited { self.now.left ≤ limit }
-        ensures { Gives result ((spec.expression self.now.text.now self.now.left (spec.behind self.now.text.now self.now.left)).read tokens.now) }
+        ensures { Gives result ((spec.expression self.now.text.now self.now.left (spec.after self.now.text.now self.now.left)).read tokens.now) }
     {
         let (first, rest) = self.conjunction(tokens)?;
-        let ((first, more), rest) = beside(first, self.expression_rest(rest))?;
-        Ok((some_of(self.alloc, first, more)?, rest))
+        let ((first, more), rest) = pair_with(first, self.expression_rest(rest))?;
+        Ok((disjunction_of(self.alloc, first, more)?, rest))
     }
 }
 
@@ -584,7 +584,7 @@ fn read<'a>(
     left: usize,
     level: Level,
     tokens: &'a [Lexeme],
-) -> Result<(Expr, &'a [Lexeme]), Fault>
+) -> Result<(Expr, &'a [Lexeme]), SyntaxError>
     requires { left ≤ limit }
     ensures { Gives result ((at level text.now left).read tokens.now) }
 {
@@ -609,9 +609,9 @@ pub fn read_expression<'a>(
     text: &[u8],
     left: usize,
     tokens: &'a [Lexeme],
-) -> Result<(Expr, &'a [Lexeme]), Fault>
+) -> Result<(Expr, &'a [Lexeme]), SyntaxError>
     requires { left ≤ limit }
-    ensures { Gives result ((spec.expression text.now left (spec.behind text.now left)).read tokens.now) }
+    ensures { Gives result ((spec.expression text.now left (spec.after text.now left)).read tokens.now) }
 {
     read(alloc, text, left, Level::Expression, tokens)
 }

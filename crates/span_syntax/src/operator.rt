@@ -3,9 +3,9 @@ ghost use Rattle.std.specs.Prelude.{◌≡◌, ◌∷◌, IfOk};
 ghost use Rattle.span_syntax.specs.Pieces.{Gives};
 ghost use Rattle.span_syntax.specs.Expressions as spec;
 
-use super::fault::Fault;
+use super::fault::SyntaxError;
 use super::token::{next_is, take};
-use super::tree::{Comparison, Expr, Link, Operator, Spelling};
+use super::tree::{ComparisonOperator, Expr, Link, Operator, Spelling};
 use span_grammar::class::{Lexeme, Sort};
 use span_lexer::token::{Sign, Word};
 use sqlite_items::{Boxed, Items};
@@ -13,9 +13,9 @@ use std::alloc::{AllocError, Global};
 
 /// What is asked of an operand.
 #[derive(Drop)]
-pub(crate) enum Asked {
+pub(crate) enum PredicateTest {
     Nothing,
-    Compared(Comparison, Expr),
+    Compared(ComparisonOperator, Expr),
     IsNull,
     Like(Spelling),
     /// The low end and the high end.
@@ -25,7 +25,7 @@ pub(crate) enum Asked {
 
 /// `*` or `||`
 #[tactic(auto, unfolding(crate::specs::Expressions::term_sign))]
-pub(crate) fn term_sign(tokens: &[Lexeme]) -> Result<(Operator, &[Lexeme]), Fault>
+pub(crate) fn term_sign(tokens: &[Lexeme]) -> Result<(Operator, &[Lexeme]), SyntaxError>
     ensures { Gives result (spec.term_sign.read tokens.now) }
 {
     if next_is(Sort::Sign(Sign::Star), tokens) {
@@ -38,7 +38,7 @@ pub(crate) fn term_sign(tokens: &[Lexeme]) -> Result<(Operator, &[Lexeme]), Faul
 
 /// `+` or `-`
 #[tactic(auto, unfolding(crate::specs::Expressions::sum_sign))]
-pub(crate) fn sum_sign(tokens: &[Lexeme]) -> Result<(Operator, &[Lexeme]), Fault>
+pub(crate) fn sum_sign(tokens: &[Lexeme]) -> Result<(Operator, &[Lexeme]), SyntaxError>
     ensures { Gives result (spec.sum_sign.read tokens.now) }
 {
     if next_is(Sort::Sign(Sign::Plus), tokens) {
@@ -51,40 +51,40 @@ pub(crate) fn sum_sign(tokens: &[Lexeme]) -> Result<(Operator, &[Lexeme]), Fault
 
 /// A comparison.
 #[tactic(auto, unfolding(crate::specs::Expressions::comparison))]
-pub(crate) fn comparison(tokens: &[Lexeme]) -> Result<(Comparison, &[Lexeme]), Fault>
+pub(crate) fn comparison(tokens: &[Lexeme]) -> Result<(ComparisonOperator, &[Lexeme]), SyntaxError>
     ensures { Gives result (spec.comparison.read tokens.now) }
 {
     if next_is(Sort::Sign(Sign::Equal), tokens) {
         let (_, rest) = take(Sort::Sign(Sign::Equal), tokens)?;
-        return Ok((Comparison::Equal, rest));
+        return Ok((ComparisonOperator::Equal, rest));
     }
     if next_is(Sort::Sign(Sign::LessGreater), tokens) {
         let (_, rest) = take(Sort::Sign(Sign::LessGreater), tokens)?;
-        return Ok((Comparison::NotEqual, rest));
+        return Ok((ComparisonOperator::NotEqual, rest));
     }
     if next_is(Sort::Sign(Sign::BangEqual), tokens) {
         let (_, rest) = take(Sort::Sign(Sign::BangEqual), tokens)?;
-        return Ok((Comparison::NotEqual, rest));
+        return Ok((ComparisonOperator::NotEqual, rest));
     }
     if next_is(Sort::Sign(Sign::Less), tokens) {
         let (_, rest) = take(Sort::Sign(Sign::Less), tokens)?;
-        return Ok((Comparison::Less, rest));
+        return Ok((ComparisonOperator::Less, rest));
     }
     if next_is(Sort::Sign(Sign::LessEqual), tokens) {
         let (_, rest) = take(Sort::Sign(Sign::LessEqual), tokens)?;
-        return Ok((Comparison::AtMost, rest));
+        return Ok((ComparisonOperator::AtMost, rest));
     }
     if next_is(Sort::Sign(Sign::Greater), tokens) {
         let (_, rest) = take(Sort::Sign(Sign::Greater), tokens)?;
-        return Ok((Comparison::Greater, rest));
+        return Ok((ComparisonOperator::Greater, rest));
     }
     let (_, rest) = take(Sort::Sign(Sign::GreaterEqual), tokens)?;
-    Ok((Comparison::AtLeast, rest))
+    Ok((ComparisonOperator::AtLeast, rest))
 }
 
 /// Whether NOT comes next.
 #[tactic(auto, unfolding(crate::specs::Expressions::maybe_not))]
-pub(crate) fn maybe_not(tokens: &[Lexeme]) -> Result<(bool, &[Lexeme]), Fault>
+pub(crate) fn maybe_not(tokens: &[Lexeme]) -> Result<(bool, &[Lexeme]), SyntaxError>
     ensures { Gives result (spec.maybe_not.read tokens.now) }
 {
     if !next_is(Sort::Word(Word::Not), tokens) {
@@ -96,7 +96,7 @@ pub(crate) fn maybe_not(tokens: &[Lexeme]) -> Result<(bool, &[Lexeme]), Fault>
 
 /// `IS [NOT] NULL`: whether with NOT.
 #[tactic(auto, unfolding(crate::specs::Expressions::null_words))]
-pub(crate) fn null_words(tokens: &[Lexeme]) -> Result<(bool, &[Lexeme]), Fault>
+pub(crate) fn null_words(tokens: &[Lexeme]) -> Result<(bool, &[Lexeme]), SyntaxError>
     ensures { Gives result (spec.null_words.read tokens.now) }
 {
     let (_, rest) = take(Sort::Word(Word::Is), tokens)?;
@@ -106,19 +106,19 @@ pub(crate) fn null_words(tokens: &[Lexeme]) -> Result<(bool, &[Lexeme]), Fault>
 }
 
 /// An operand with the operators and operands after it.
-pub(crate) fn chained(alloc: Global, first: Expr, more: Items<Link>) -> Result<Expr, AllocError>
-    ensures { IfOk result (λ x. x ≡ spec.chained first more) }
+pub(crate) fn chain_of(alloc: Global, first: Expr, more: Items<Link>) -> Result<Expr, AllocError>
+    ensures { IfOk result (λ x. x ≡ spec.chain_of first more) }
 {
     if more.is_empty() {
         Ok(first)
     } else {
-        let (first, more) = boxed_with(alloc, first, more)?;
+        let (first, more) = box_first(alloc, first, more)?;
         Ok(Expr::Chain(first, more))
     }
 }
 
 /// A value in a box, and another.
-fn boxed_with<T: Drop, U: Drop>(alloc: Global, x: T, y: U) -> Result<(Boxed<T>, U), AllocError>
+fn box_first<T: Drop, U: Drop>(alloc: Global, x: T, y: U) -> Result<(Boxed<T>, U), AllocError>
     ensures { IfOk result (λ both. (both.0 ≡ x) × (both.1 ≡ y)) }
 {
     let x = Boxed::new(alloc, x)?;
@@ -126,32 +126,32 @@ fn boxed_with<T: Drop, U: Drop>(alloc: Global, x: T, y: U) -> Result<(Boxed<T>, 
 }
 
 /// Operands of AND.
-pub(crate) fn all_of(alloc: Global, first: Expr, more: Items<Expr>) -> Result<Expr, AllocError>
-    ensures { IfOk result (λ x. x ≡ spec.all_of first more) }
+pub(crate) fn conjunction_of(alloc: Global, first: Expr, more: Items<Expr>) -> Result<Expr, AllocError>
+    ensures { IfOk result (λ x. x ≡ spec.conjunction_of first more) }
 {
     if more.is_empty() {
         Ok(first)
     } else {
-        let (first, more) = boxed_with(alloc, first, more)?;
+        let (first, more) = box_first(alloc, first, more)?;
         Ok(Expr::And(first, more))
     }
 }
 
 /// Operands of OR.
-pub(crate) fn some_of(alloc: Global, first: Expr, more: Items<Expr>) -> Result<Expr, AllocError>
-    ensures { IfOk result (λ x. x ≡ spec.some_of first more) }
+pub(crate) fn disjunction_of(alloc: Global, first: Expr, more: Items<Expr>) -> Result<Expr, AllocError>
+    ensures { IfOk result (λ x. x ≡ spec.disjunction_of first more) }
 {
     if more.is_empty() {
         Ok(first)
     } else {
-        let (first, more) = boxed_with(alloc, first, more)?;
+        let (first, more) = box_first(alloc, first, more)?;
         Ok(Expr::Or(first, more))
     }
 }
 
 /// With NOT or without.
-fn denied(alloc: Global, is_not: bool, x: Expr) -> Result<Expr, AllocError>
-    ensures { IfOk result (λ y. y ≡ spec.denied is_not x) }
+fn negate_if(alloc: Global, is_not: bool, x: Expr) -> Result<Expr, AllocError>
+    ensures { IfOk result (λ y. y ≡ spec.negate_if is_not x) }
 {
     if is_not {
         Ok(Expr::Not(Boxed::new(alloc, x)?))
@@ -161,7 +161,7 @@ fn denied(alloc: Global, is_not: bool, x: Expr) -> Result<Expr, AllocError>
 }
 
 /// Two values, each in a box.
-fn boxed_both<T: Drop>(alloc: Global, x: T, y: T) -> Result<(Boxed<T>, Boxed<T>), AllocError>
+fn box_two<T: Drop>(alloc: Global, x: T, y: T) -> Result<(Boxed<T>, Boxed<T>), AllocError>
     ensures { IfOk result (λ both. (both.0 ≡ x) × (both.1 ≡ y)) }
 {
     let x = Boxed::new(alloc, x)?;
@@ -170,7 +170,7 @@ fn boxed_both<T: Drop>(alloc: Global, x: T, y: T) -> Result<(Boxed<T>, Boxed<T>)
 }
 
 /// Three values, each in a box.
-fn boxed_all<T: Drop>(
+fn box_three<T: Drop>(
     alloc: Global,
     x: T,
     y: T,
@@ -179,57 +179,57 @@ fn boxed_all<T: Drop>(
     ensures { IfOk result (λ all. (all.0 ≡ x) × (all.1.0 ≡ y) × (all.1.1 ≡ z)) }
 {
     let x = Boxed::new(alloc, x)?;
-    let others = boxed_both(alloc, y, z)?;
+    let others = box_two(alloc, y, z)?;
     Ok((x, others))
 }
 
 /// Two operands that are compared.
-fn compare(alloc: Global, x: Expr, how: Comparison, y: Expr) -> Result<Expr, AllocError>
+fn compare_expr(alloc: Global, x: Expr, how: ComparisonOperator, y: Expr) -> Result<Expr, AllocError>
     ensures { IfOk result (λ z. z ≡ Expr.Compare x how y) }
 {
-    let (x, y) = boxed_both(alloc, x, y)?;
+    let (x, y) = box_two(alloc, x, y)?;
     Ok(Expr::Compare(x, how, y))
 }
 
 /// BETWEEN with its three operands.
-fn is_between(alloc: Global, x: Expr, low: Expr, high: Expr) -> Result<Expr, AllocError>
+fn between_expr(alloc: Global, x: Expr, low: Expr, high: Expr) -> Result<Expr, AllocError>
     ensures { IfOk result (λ y. y ≡ Expr.Between x low high) }
 {
-    let (x, (low, high)) = boxed_all(alloc, x, low, high)?;
+    let (x, (low, high)) = box_three(alloc, x, low, high)?;
     Ok(Expr::Between(x, low, high))
 }
 
 /// What is asked of an operand, with it.
-fn test_of(alloc: Global, x: Expr, question: Asked) -> Result<Expr, AllocError>
+fn test_of(alloc: Global, x: Expr, question: PredicateTest) -> Result<Expr, AllocError>
     ensures { IfOk result (λ y. y ≡ spec.test_of x question) }
 {
     match question {
-        Asked::Nothing => Ok(x),
-        Asked::Compared(how, y) => compare(alloc, x, how, y),
-        Asked::IsNull => Ok(Expr::IsNull(Boxed::new(alloc, x)?)),
-        Asked::Like(pattern) => {
-            let (x, pattern) = boxed_with(alloc, x, pattern)?;
+        PredicateTest::Nothing => Ok(x),
+        PredicateTest::Compared(how, y) => compare_expr(alloc, x, how, y),
+        PredicateTest::IsNull => Ok(Expr::IsNull(Boxed::new(alloc, x)?)),
+        PredicateTest::Like(pattern) => {
+            let (x, pattern) = box_first(alloc, x, pattern)?;
             Ok(Expr::Like(x, pattern))
         }
-        Asked::Between(low, high) => is_between(alloc, x, low, high),
-        Asked::In(members) => {
-            let (x, members) = boxed_with(alloc, x, members)?;
+        PredicateTest::Between(low, high) => between_expr(alloc, x, low, high),
+        PredicateTest::In(members) => {
+            let (x, members) = box_first(alloc, x, members)?;
             Ok(Expr::In(x, members))
         }
     }
 }
 
 /// What is asked of an operand, with it: whether with NOT, and what.
-pub(crate) fn tested(alloc: Global, x: Expr, question: (bool, Asked)) -> Result<Expr, AllocError>
-    ensures { IfOk result (λ y. y ≡ spec.tested x question) }
+pub(crate) fn apply_test(alloc: Global, x: Expr, question: (bool, PredicateTest)) -> Result<Expr, AllocError>
+    ensures { IfOk result (λ y. y ≡ spec.apply_test x question) }
 {
     let (is_not, question) = question;
     let test = test_of(alloc, x, question)?;
-    denied(alloc, is_not, test)
+    negate_if(alloc, is_not, test)
 }
 
 /// A list: the first item, then the others.
-pub fn first_and<T: Drop>(alloc: Global, first: T, more: Items<T>) -> Result<Items<T>, AllocError>
+pub fn prepend<T: Drop>(alloc: Global, first: T, more: Items<T>) -> Result<Items<T>, AllocError>
     ensures { IfOk result (λ all. all ≡ first ∷ more) }
 {
     let mut all = Items::new(alloc);

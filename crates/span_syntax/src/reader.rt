@@ -5,9 +5,9 @@ ghost use Rattle.span_syntax.specs.Pieces.{Gives, each};
 ghost use Rattle.span_syntax.specs.Expressions as spec;
 ghost use Rattle.span_syntax.specs.Nests.{Nests, inner_at};
 
-use super::fault::Fault;
-use super::operator::first_and;
-use super::token::{beside, next_is, take};
+use super::fault::SyntaxError;
+use super::operator::prepend;
+use super::token::{pair_with, next_is, take};
 use super::tree::{Arm, Expr, Spelling};
 use span_grammar::class::{Lexeme, Sort};
 use span_grammar::grammar::Part;
@@ -38,49 +38,49 @@ pub(crate) struct Reader<'t, F> {
 }
 
 impl<
-    F: for<'a> Fn(Global, &[u8], usize, Level, &'a [Lexeme]) -> Result<(Expr, &'a [Lexeme]), Fault>,
+    F: for<'a> Fn(Global, &[u8], usize, Level, &'a [Lexeme]) -> Result<(Expr, &'a [Lexeme]), SyntaxError>,
 > Reader<'_, F> {
     /// What is after an opening.
     #[tactic(auto, using(crate::proofs::Levels::level_steps))]
-    pub(crate) fn behind<'a>(
+    pub(crate) fn after<'a>(
         &self,
         level: Level,
         tokens: &'a [Lexeme],
-    ) -> Result<(Expr, &'a [Lexeme]), Fault>
+    ) -> Result<(Expr, &'a [Lexeme]), SyntaxError>
         requires nests { Nests self.now.text.now self.now.left (F.pre self.now.read) (F.post self.now.read) }
         requires limited { self.now.left ≤ limit }
         requires deeper { 0 < self.now.left }
-        ensures { Gives result ((inner_at level (spec.behind self.now.text.now self.now.left)).read tokens.now) }
+        ensures { Gives result ((inner_at level (spec.after self.now.text.now self.now.left)).read tokens.now) }
     {
         (self.read)(self.alloc, self.text, self.left - 1, level, tokens)
     }
 
     /// `, expr`
     #[tactic(auto, unfolding(crate::specs::Expressions::list_more))]
-    fn list_more<'a>(&self, tokens: &'a [Lexeme]) -> Result<(Expr, &'a [Lexeme]), Fault>
+    fn list_more<'a>(&self, tokens: &'a [Lexeme]) -> Result<(Expr, &'a [Lexeme]), SyntaxError>
         requires nests { Nests self.now.text.now self.now.left (F.pre self.now.read) (F.post self.now.read) }
         requires limited { self.now.left ≤ limit }
         requires deeper { 0 < self.now.left }
-        ensures { Gives result ((spec.list_more (spec.behind self.now.text.now self.now.left).expression).read tokens.now) }
+        ensures { Gives result ((spec.list_more (spec.after self.now.text.now self.now.left).expression).read tokens.now) }
     {
         let (_, rest) = take(Sort::Sign(Sign::Comma), tokens)?;
-        self.behind(Level::Expression, rest)
+        self.after(Level::Expression, rest)
     }
 
     /// `{"," expr}`
     #[tactic(auto, using(crate::proofs::Shrinking::loop_steps))]
-    fn list_rest<'a>(&self, tokens: &'a [Lexeme]) -> Result<(Items<Expr>, &'a [Lexeme]), Fault>
+    fn list_rest<'a>(&self, tokens: &'a [Lexeme]) -> Result<(Items<Expr>, &'a [Lexeme]), SyntaxError>
         requires nests { Nests self.now.text.now self.now.left (F.pre self.now.read) (F.post self.now.read) }
         requires limited { self.now.left ≤ limit }
         requires deeper { 0 < self.now.left }
-        ensures { Gives result ((each Part.ListMore (spec.list_more (spec.behind self.now.text.now self.now.left).expression)).read tokens.now) }
+        ensures { Gives result ((each Part.ListMore (spec.list_more (spec.after self.now.text.now self.now.left).expression)).read tokens.now) }
     {
         let mut found = Items::new(self.alloc);
         let mut rest = tokens;
         while goes_on(Part::ListMore, rest) {
-            let (next, behind) = self.list_more(rest)?;
+            let (next, after) = self.list_more(rest)?;
             found.push(next)?;
-            rest = behind;
+            rest = after;
         }
         Ok((found, rest))
     }
@@ -90,57 +90,57 @@ impl<
     pub(crate) fn list<'a>(
         &self,
         tokens: &'a [Lexeme],
-    ) -> Result<(Items<Expr>, &'a [Lexeme]), Fault>
+    ) -> Result<(Items<Expr>, &'a [Lexeme]), SyntaxError>
         requires nests { Nests self.now.text.now self.now.left (F.pre self.now.read) (F.post self.now.read) }
         requires limited { self.now.left ≤ limit }
         requires deeper { 0 < self.now.left }
-        ensures { Gives result ((spec.list (spec.behind self.now.text.now self.now.left).expression).read tokens.now) }
+        ensures { Gives result ((spec.list (spec.after self.now.text.now self.now.left).expression).read tokens.now) }
     {
-        let (first, rest) = self.behind(Level::Expression, tokens)?;
-        let ((first, more), rest) = beside(first, self.list_rest(rest))?;
-        Ok((first_and(self.alloc, first, more)?, rest))
+        let (first, rest) = self.after(Level::Expression, tokens)?;
+        let ((first, more), rest) = pair_with(first, self.list_rest(rest))?;
+        Ok((prepend(self.alloc, first, more)?, rest))
     }
 
     /// `THEN expr`
     #[tactic(auto, unfolding(crate::specs::Expressions::then_value))]
-    fn then_value<'a>(&self, tokens: &'a [Lexeme]) -> Result<(Expr, &'a [Lexeme]), Fault>
+    fn then_value<'a>(&self, tokens: &'a [Lexeme]) -> Result<(Expr, &'a [Lexeme]), SyntaxError>
         requires nests { Nests self.now.text.now self.now.left (F.pre self.now.read) (F.post self.now.read) }
         requires limited { self.now.left ≤ limit }
         requires deeper { 0 < self.now.left }
-        ensures { Gives result ((spec.then_value (spec.behind self.now.text.now self.now.left).expression).read tokens.now) }
+        ensures { Gives result ((spec.then_value (spec.after self.now.text.now self.now.left).expression).read tokens.now) }
     {
         let (_, rest) = take(Sort::Word(Word::Then), tokens)?;
-        self.behind(Level::Expression, rest)
+        self.after(Level::Expression, rest)
     }
 
     /// `WHEN expr THEN expr`
     #[tactic(auto, unfolding(crate::specs::Expressions::when, crate::specs::Expressions::arm_of))]
-    fn when<'a>(&self, tokens: &'a [Lexeme]) -> Result<(Arm, &'a [Lexeme]), Fault>
+    fn when<'a>(&self, tokens: &'a [Lexeme]) -> Result<(Arm, &'a [Lexeme]), SyntaxError>
         requires nests { Nests self.now.text.now self.now.left (F.pre self.now.read) (F.post self.now.read) }
         requires limited { self.now.left ≤ limit }
         requires deeper { 0 < self.now.left }
-        ensures { Gives result ((spec.when (spec.behind self.now.text.now self.now.left).expression).read tokens.now) }
+        ensures { Gives result ((spec.when (spec.after self.now.text.now self.now.left).expression).read tokens.now) }
     {
         let (_, rest) = take(Sort::Word(Word::When), tokens)?;
-        let (condition, rest) = self.behind(Level::Expression, rest)?;
-        let ((condition, value), rest) = beside(condition, self.then_value(rest))?;
+        let (condition, rest) = self.after(Level::Expression, rest)?;
+        let ((condition, value), rest) = pair_with(condition, self.then_value(rest))?;
         Ok((Arm { condition, value }, rest))
     }
 
     /// `{WHEN expr THEN expr}`
     #[tactic(auto, using(crate::proofs::Shrinking::loop_steps))]
-    fn when_rest<'a>(&self, tokens: &'a [Lexeme]) -> Result<(Items<Arm>, &'a [Lexeme]), Fault>
+    fn when_rest<'a>(&self, tokens: &'a [Lexeme]) -> Result<(Items<Arm>, &'a [Lexeme]), SyntaxError>
         requires nests { Nests self.now.text.now self.now.left (F.pre self.now.read) (F.post self.now.read) }
         requires limited { self.now.left ≤ limit }
         requires deeper { 0 < self.now.left }
-        ensures { Gives result ((each Part.When (spec.when (spec.behind self.now.text.now self.now.left).expression)).read tokens.now) }
+        ensures { Gives result ((each Part.When (spec.when (spec.after self.now.text.now self.now.left).expression)).read tokens.now) }
     {
         let mut found = Items::new(self.alloc);
         let mut rest = tokens;
         while goes_on(Part::When, rest) {
-            let (next, behind) = self.when(rest)?;
+            let (next, after) = self.when(rest)?;
             found.push(next)?;
-            rest = behind;
+            rest = after;
         }
         Ok((found, rest))
     }
@@ -150,16 +150,16 @@ impl<
     fn case_operand<'a>(
         &self,
         tokens: &'a [Lexeme],
-    ) -> Result<(Option<Boxed<Expr>>, &'a [Lexeme]), Fault>
+    ) -> Result<(Option<Boxed<Expr>>, &'a [Lexeme]), SyntaxError>
         requires nests { Nests self.now.text.now self.now.left (F.pre self.now.read) (F.post self.now.read) }
         requires limited { self.now.left ≤ limit }
         requires deeper { 0 < self.now.left }
-        ensures { Gives result ((spec.case_operand (spec.behind self.now.text.now self.now.left).expression).read tokens.now) }
+        ensures { Gives result ((spec.case_operand (spec.after self.now.text.now self.now.left).expression).read tokens.now) }
     {
         if !goes_on(Part::Expression, tokens) {
             return Ok((None, tokens));
         }
-        let (operand, rest) = self.behind(Level::Expression, tokens)?;
+        let (operand, rest) = self.after(Level::Expression, tokens)?;
         Ok((Some(Boxed::new(self.alloc, operand)?), rest))
     }
 
@@ -168,17 +168,17 @@ impl<
     fn case_else<'a>(
         &self,
         tokens: &'a [Lexeme],
-    ) -> Result<(Option<Boxed<Expr>>, &'a [Lexeme]), Fault>
+    ) -> Result<(Option<Boxed<Expr>>, &'a [Lexeme]), SyntaxError>
         requires nests { Nests self.now.text.now self.now.left (F.pre self.now.read) (F.post self.now.read) }
         requires limited { self.now.left ≤ limit }
         requires deeper { 0 < self.now.left }
-        ensures { Gives result ((spec.case_else (spec.behind self.now.text.now self.now.left).expression).read tokens.now) }
+        ensures { Gives result ((spec.case_else (spec.after self.now.text.now self.now.left).expression).read tokens.now) }
     {
         if !goes_on(Part::Else, tokens) {
             return Ok((None, tokens));
         }
         let (_, rest) = take(Sort::Word(Word::Else), tokens)?;
-        let (value, rest) = self.behind(Level::Expression, rest)?;
+        let (value, rest) = self.after(Level::Expression, rest)?;
         Ok((Some(Boxed::new(self.alloc, value)?), rest))
     }
 
@@ -187,14 +187,14 @@ impl<
     fn case_end<'a>(
         &self,
         tokens: &'a [Lexeme],
-    ) -> Result<(Option<Boxed<Expr>>, &'a [Lexeme]), Fault>
+    ) -> Result<(Option<Boxed<Expr>>, &'a [Lexeme]), SyntaxError>
         requires nests { Nests self.now.text.now self.now.left (F.pre self.now.read) (F.post self.now.read) }
         requires limited { self.now.left ≤ limit }
         requires deeper { 0 < self.now.left }
-        ensures { Gives result ((spec.case_end (spec.behind self.now.text.now self.now.left).expression).read tokens.now) }
+        ensures { Gives result ((spec.case_end (spec.after self.now.text.now self.now.left).expression).read tokens.now) }
     {
         let (otherwise, rest) = self.case_else(tokens)?;
-        let ((otherwise, _), rest) = beside(otherwise, take(Sort::Word(Word::End), rest))?;
+        let ((otherwise, _), rest) = pair_with(otherwise, take(Sort::Word(Word::End), rest))?;
         Ok((otherwise, rest))
     }
 
@@ -203,28 +203,28 @@ impl<
     fn case_arms<'a>(
         &self,
         tokens: &'a [Lexeme],
-    ) -> Result<((Items<Arm>, Option<Boxed<Expr>>), &'a [Lexeme]), Fault>
+    ) -> Result<((Items<Arm>, Option<Boxed<Expr>>), &'a [Lexeme]), SyntaxError>
         requires nests { Nests self.now.text.now self.now.left (F.pre self.now.read) (F.post self.now.read) }
         requires limited { self.now.left ≤ limit }
         requires deeper { 0 < self.now.left }
-        ensures { Gives result ((spec.case_arms (spec.behind self.now.text.now self.now.left).expression).read tokens.now) }
+        ensures { Gives result ((spec.case_arms (spec.after self.now.text.now self.now.left).expression).read tokens.now) }
     {
         let (arm, rest) = self.when(tokens)?;
-        let ((arm, more), rest) = beside(arm, self.when_rest(rest))?;
-        let arms = first_and(self.alloc, arm, more)?;
-        beside(arms, self.case_end(rest))
+        let ((arm, more), rest) = pair_with(arm, self.when_rest(rest))?;
+        let arms = prepend(self.alloc, arm, more)?;
+        pair_with(arms, self.case_end(rest))
     }
 
     /// What is after CASE.
     #[tactic(auto, using(crate::specs::declared::tree::Expr::the_lemmas), unfolding(crate::specs::Expressions::in_case, crate::specs::Expressions::case_of))]
-    pub(crate) fn in_case<'a>(&self, tokens: &'a [Lexeme]) -> Result<(Expr, &'a [Lexeme]), Fault>
+    pub(crate) fn in_case<'a>(&self, tokens: &'a [Lexeme]) -> Result<(Expr, &'a [Lexeme]), SyntaxError>
         requires nests { Nests self.now.text.now self.now.left (F.pre self.now.read) (F.post self.now.read) }
         requires limited { self.now.left ≤ limit }
         requires deeper { 0 < self.now.left }
-        ensures { Gives result ((spec.in_case (spec.behind self.now.text.now self.now.left).expression).read tokens.now) }
+        ensures { Gives result ((spec.in_case (spec.after self.now.text.now self.now.left).expression).read tokens.now) }
     {
         let (operand, rest) = self.case_operand(tokens)?;
-        let ((operand, (arms, otherwise)), rest) = beside(operand, self.case_arms(rest))?;
+        let ((operand, (arms, otherwise)), rest) = pair_with(operand, self.case_arms(rest))?;
         Ok((Expr::Case(operand, arms, otherwise), rest))
     }
 
@@ -234,11 +234,11 @@ impl<
         &self,
         name: Spelling,
         tokens: &'a [Lexeme],
-    ) -> Result<(Expr, &'a [Lexeme]), Fault>
+    ) -> Result<(Expr, &'a [Lexeme]), SyntaxError>
         requires nests { Nests self.now.text.now self.now.left (F.pre self.now.read) (F.post self.now.read) }
         requires limited { self.now.left ≤ limit }
         requires deeper { 0 < self.now.left }
-        ensures { Gives result ((spec.argument_list (spec.behind self.now.text.now self.now.left).expression name).read tokens.now) }
+        ensures { Gives result ((spec.argument_list (spec.after self.now.text.now self.now.left).expression name).read tokens.now) }
     {
         if next_is(Sort::Sign(Sign::Star), tokens) {
             let (_, rest) = take(Sort::Sign(Sign::Star), tokens)?;

@@ -4,11 +4,11 @@ ghost use Rattle.std.specs.Str.Lossy.{utf8_lossy};
 ghost use Rattle.span_grammar.specs.declared.grammar.Part;
 ghost use Rattle.span_grammar.specs.Rules.{starts};
 ghost use Rattle.span_grammar.specs.Grammar.{rule_of};
-ghost use Rattle.span_syntax.specs.Pieces.{Gives, Piece, beside, token_read, enter_read};
+ghost use Rattle.span_syntax.specs.Pieces.{Gives, Piece, pair_with, token_read, enter_read};
 ghost use Rattle.span_grammar.specs.Classes as classes;
 ghost use Rattle.span_syntax.specs.Expressions as spec;
 
-use super::fault::Fault;
+use super::fault::SyntaxError;
 use super::tree::{Integer, Span, Spelling};
 use span_grammar::class::{Lexeme, Sort};
 use span_grammar::classify::spelled;
@@ -27,24 +27,24 @@ pub fn next_is(sort: Sort, tokens: &[Lexeme]) -> bool
 
 /// The next token, if it is of a sort, and the rest.
 #[tactic(auto, unfolding(crate::specs::Pieces::token_read))]
-pub fn take(sort: Sort, tokens: &[Lexeme]) -> Result<(Lexeme, &[Lexeme]), Fault>
+pub fn take(sort: Sort, tokens: &[Lexeme]) -> Result<(Lexeme, &[Lexeme]), SyntaxError>
     ensures { Gives result (token_read sort tokens.now) }
 {
     match tokens.split_first() {
         Some((lexeme, rest)) if is_class(sort, lexeme.class) => Ok((*lexeme, rest)),
-        _ => Err(Fault::Syntax(tokens.len())),
+        _ => Err(SyntaxError::Syntax(tokens.len())),
     }
 }
 
 /// The next token, if it is an opening of a sort and an opening is left, and the rest.
 #[tactic(auto, unfolding(crate::specs::Pieces::enter_read))]
-pub fn enter(left: usize, sort: Sort, tokens: &[Lexeme]) -> Result<(Lexeme, &[Lexeme]), Fault>
+pub fn enter(left: usize, sort: Sort, tokens: &[Lexeme]) -> Result<(Lexeme, &[Lexeme]), SyntaxError>
     ensures read { Gives result (enter_read left sort tokens.now) }
     ensures deeper { IfOk result (λ x. 0 < left) }
 {
     let (lexeme, rest) = take(sort, tokens)?;
     if left == 0 {
-        return Err(Fault::TooDeep(tokens.len()));
+        return Err(SyntaxError::TooDeep(tokens.len()));
     }
     Ok((lexeme, rest))
 }
@@ -53,21 +53,21 @@ pub fn enter(left: usize, sort: Sort, tokens: &[Lexeme]) -> Result<(Lexeme, &[Le
 ///
 /// If that was not read, `found` is dropped here, at any type: to prove that the drop of a tree is safe takes long, at
 /// each place where a tree may be dropped.
-#[tactic(auto, unfolding(crate::specs::Pieces::beside))]
-pub fn beside<'a, T: Drop, U>(
+#[tactic(auto, unfolding(crate::specs::Pieces::pair_with))]
+pub fn pair_with<'a, T: Drop, U>(
     found: T,
-    behind: Result<(U, &'a [Lexeme]), Fault>,
-) -> Result<((T, U), &'a [Lexeme]), Fault>
-    ensures { (p : Piece U) (ts : List Lexeme) → Gives behind.entry (p.read ts) → Gives result ((beside found p).read ts) }
+    after: Result<(U, &'a [Lexeme]), SyntaxError>,
+) -> Result<((T, U), &'a [Lexeme]), SyntaxError>
+    ensures { (p : Piece U) (ts : List Lexeme) → Gives after.entry (p.read ts) → Gives result ((pair_with found p).read ts) }
 {
-    let (next, rest) = behind?;
+    let (next, rest) = after?;
     Ok(((found, next), rest))
 }
 
 /// Reads the parenthesis that ends what was read before.
-#[tactic(auto, unfolding(crate::specs::Expressions::closing))]
-pub fn closed<T: Drop>(found: T, tokens: &[Lexeme]) -> Result<(T, &[Lexeme]), Fault>
-    ensures { Gives result ((spec.closing found).read tokens.now) }
+#[tactic(auto, unfolding(crate::specs::Expressions::close_parenthesis))]
+pub fn close_parenthesis<T: Drop>(found: T, tokens: &[Lexeme]) -> Result<(T, &[Lexeme]), SyntaxError>
+    ensures { Gives result ((spec.close_parenthesis found).read tokens.now) }
 {
     let (_, rest) = take(Sort::Sign(Sign::Close), tokens)?;
     Ok((found, rest))
@@ -101,7 +101,7 @@ pub fn spelling<'a>(
     text: &[u8],
     sort: Sort,
     tokens: &'a [Lexeme],
-) -> Result<(Spelling, &'a [Lexeme]), Fault>
+) -> Result<(Spelling, &'a [Lexeme]), SyntaxError>
     ensures { Gives result ((spec.spelling text.now sort).read tokens.now) }
 {
     let (lexeme, rest) = take(sort, tokens)?;

@@ -45,7 +45,7 @@ pub enum Operator {
 }
 
 #[derive(Clone, Copy, Debug, PartialEq, Eq)]
-pub enum Comparison {
+pub enum ComparisonOperator {
     Equal,
     NotEqual,
     Less,
@@ -76,7 +76,7 @@ pub enum Expr {
     Negative(Boxed<Expr>),
     /// The first operand, then each operator with its operand: of one level, `+` and `-` or `*` and `||`, at least one.
     Chain(Boxed<Expr>, Items<Link>),
-    Compare(Boxed<Expr>, Comparison, Boxed<Expr>),
+    Compare(Boxed<Expr>, ComparisonOperator, Boxed<Expr>),
     IsNull(Boxed<Expr>),
     /// The operand and the pattern.
     Like(Boxed<Expr>, Spelling),

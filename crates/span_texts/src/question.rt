@@ -15,12 +15,12 @@ use std::alloc::Global;
 #[derive(Drop)]
 pub struct Question<'a> {
     pub text: &'a str,
-    parameters: Vec<Given<'a>>,
+    parameters: Vec<ParameterWords<'a>>,
 }
 
 /// A parameter as its line gives it.
 #[derive(Drop)]
-struct Given<'a> {
+struct ParameterWords<'a> {
     name: &'a str,
     kind: Kind,
     cell: &'a str,
@@ -69,13 +69,13 @@ fn question_of(alloc: Global, block: &str) -> Result<Option<Question<'_>>, Fault
 }
 
 /// The parameter of a line, by the words after its first.
-fn parameter_of(words: &str) -> Option<Given<'_>>
+fn parameter_of(words: &str) -> Option<ParameterWords<'_>>
     ensures { IfSome result (λ given. words.now ≡ parameter_words given.name.now given.kind given.cell.now) }
 {
     let (name, rest) = words.split_once(' ')?;
     let (kind, cell) = rest.split_once(' ')?;
     let kind = kind_named(kind)?;
-    Some(Given { name, kind, cell })
+    Some(ParameterWords { name, kind, cell })
 }
 
 /// The type with a name, as scripts have them.

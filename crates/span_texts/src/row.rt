@@ -5,7 +5,7 @@ ghost use Rattle.span_texts.specs.Lines.{insert_line};
 use super::fault::Fault;
 use super::record::fields_of;
 use csv::StringRecord;
-use span_core::{Cell, Column, Mutation, MutationKind, Refusal, Schema, Seq, Text, Value};
+use span_core::{NamedValue, Column, Mutation, MutationKind, Refusal, Schema, Seq, Text, Value};
 use span_schema::table::kind_of_type;
 use span_value::cell::read_cell;
 use std::alloc::Global;
@@ -65,11 +65,11 @@ fn cell_at(
     columns: &[Column],
     fields: &StringRecord,
     place: usize,
-) -> Result<Cell, Refusal> {
+) -> Result<NamedValue, Refusal> {
     let Some(column) = columns.get(place) else {
         return Err(Refusal::NoColumn);
     };
-    Ok(Cell {
+    Ok(NamedValue {
         column: Text::from_str(alloc, column.name.as_str())?,
         value: value_at(alloc, columns, fields, place)?,
     })

@@ -6,19 +6,19 @@ use Rattle.span_value.specs.declared.refusal.Refusal.{Refusal}
 use Rattle.span_value.specs.declared.refusal.Refusal.TheVariants.{TypeMismatch}
 use Rattle.span_typing.specs.declared.typed.Typed.{Typed}
 use Rattle.span_typing.specs.Steps.{and_then}
-use Rattle.span_typing.specs.Kinds.{agreed, agreed_with}
+use Rattle.span_typing.specs.Kinds.{common_kind, common_kind_with}
 use Rattle.span_typing.specs.Operators.{two_of, three_of}
 
 -- a refusal stays one
-pub refused_stays : (ks : List (Option Kind)) (why : Refusal) → agreed_with ks (Err why) ≡ Err why
+pub refused_stays : (ks : List (Option Kind)) (why : Refusal) → common_kind_with ks (Err why) ≡ Err why
 refused_stays [] why = refl
 refused_stays (k ∷ ks) why = refl
 
 -- a type that does not agree with those before it
-pub agreed_refused : {T : Type 0} (f : T → Option Kind) (ts : List T) (k : ℕ) (t : T) (j : Option Kind) (why : Refusal) → k < length ts → t ≡ get_or ts k t → agreed j (f t) ≡ Err why → agreed_with (map f (drop k ts)) (Ok j) ≡ Err why
+pub agreed_refused : {T : Type 0} (f : T → Option Kind) (ts : List T) (k : ℕ) (t : T) (j : Option Kind) (why : Refusal) → k < length ts → t ≡ get_or ts k t → common_kind j (f t) ≡ Err why → common_kind_with (map f (drop k ts)) (Ok j) ≡ Err why
 agreed_refused f ts k t j why below is differ =
-    ap (λ (l : List _). agreed_with (map f l) (Ok j)) (drop-cons ts k t below ∙ ap (λ (x : _). x ∷ drop (suc k) ts) (sym is))
-    ∙ ap (agreed_with (map f (drop (suc k) ts))) differ ∙ refused_stays (map f (drop (suc k) ts)) why
+    ap (λ (l : List _). common_kind_with (map f l) (Ok j)) (drop-cons ts k t below ∙ ap (λ (x : _). x ∷ drop (suc k) ts) (sym is))
+    ∙ ap (common_kind_with (map f (drop (suc k) ts))) differ ∙ refused_stays (map f (drop (suc k) ts)) why
 
 pub ruleset kind_steps = (refused_stays)
 

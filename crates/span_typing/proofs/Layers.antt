@@ -13,7 +13,7 @@ use Rattle.span_params.specs.declared.params.Parameter.{Parameter}
 use Rattle.span_syntax.specs.declared.tree.Spelling.{Spelling}
 use Rattle.span_typing.specs.declared.scope.Scope.{Scope}
 use Rattle.span_typing.specs.declared.typed.Typed.{Typed}
-use Rattle.span_typing.specs.Operators.{negative, denied, null_test, liked}
+use Rattle.span_typing.specs.Operators.{unary_minus, logical_not, null_test, like_test}
 use Rattle.span_typing.specs.Typing.{Operand, at_operands, arm_at, link_at, typing, arm_typing, link_typing, chain, case, simple_case, of_one}
 
 abbrev arm_fold : Scope → List Parameter → Arm → Operand × Operand
@@ -73,26 +73,26 @@ case_read scope params x a arms read other is same =
     ∙ ap (λ (xs : List Arm). case (option_map (typing scope params) a) (map (arm_typing scope params) xs) (option_map (typing scope params) other)) (sym same)
 
 -- operators of one operand
-pub negative_read : (scope : Scope) (params : List Parameter) (x a b : Expr) → x ≡ e.Negative a → b ≡ a → typing scope params x ≡ of_one negative (typing scope params b)
+pub negative_read : (scope : Scope) (params : List Parameter) (x a b : Expr) → x ≡ e.Negative a → b ≡ a → typing scope params x ≡ of_one unary_minus (typing scope params b)
 negative_read scope params x a b is taken =
     ap (typing scope params) (is ∙ sym (rolls-Negative a)) ∙ (fold-roll-Expr Operand (Operand × Operand) (Operator × Operand) (at_operands scope params) arm_at link_at (Expr-F.Negative a)
-    ∙ ap (λ (y : Expr). of_one negative (typing scope params y)) (sym taken))
+    ∙ ap (λ (y : Expr). of_one unary_minus (typing scope params y)) (sym taken))
 
 pub null_test_read : (scope : Scope) (params : List Parameter) (x a b : Expr) → x ≡ e.IsNull a → b ≡ a → typing scope params x ≡ of_one (λ (v : Typed). Ok (null_test v)) (typing scope params b)
 null_test_read scope params x a b is taken =
     ap (typing scope params) (is ∙ sym (rolls-IsNull a)) ∙ (fold-roll-Expr Operand (Operand × Operand) (Operator × Operand) (at_operands scope params) arm_at link_at (Expr-F.IsNull a)
     ∙ ap (λ (y : Expr). of_one (λ (v : Typed). Ok (null_test v)) (typing scope params y)) (sym taken))
 
-pub denied_read : (scope : Scope) (params : List Parameter) (x a b : Expr) → x ≡ e.Not a → b ≡ a → typing scope params x ≡ of_one denied (typing scope params b)
+pub denied_read : (scope : Scope) (params : List Parameter) (x a b : Expr) → x ≡ e.Not a → b ≡ a → typing scope params x ≡ of_one logical_not (typing scope params b)
 denied_read scope params x a b is taken =
     ap (typing scope params) (is ∙ sym (rolls-Not a)) ∙ (fold-roll-Expr Operand (Operand × Operand) (Operator × Operand) (at_operands scope params) arm_at link_at (Expr-F.Not a)
-    ∙ ap (λ (y : Expr). of_one denied (typing scope params y)) (sym taken))
+    ∙ ap (λ (y : Expr). of_one logical_not (typing scope params y)) (sym taken))
 
-pub like_read : (scope : Scope) (params : List Parameter) (x a b : Expr) (pattern : Spelling) (text : List ℕ) → x ≡ e.Like a pattern → b ≡ a → text ≡ pattern.text → typing scope params x ≡ of_one (liked text) (typing scope params b)
+pub like_read : (scope : Scope) (params : List Parameter) (x a b : Expr) (pattern : Spelling) (text : List ℕ) → x ≡ e.Like a pattern → b ≡ a → text ≡ pattern.text → typing scope params x ≡ of_one (like_test text) (typing scope params b)
 like_read scope params x a b pattern text is taken same =
     ap (typing scope params) (is ∙ sym (rolls-Like a pattern)) ∙ (fold-roll-Expr Operand (Operand × Operand) (Operator × Operand) (at_operands scope params) arm_at link_at (Expr-F.Like a pattern)
-    ∙ ap (λ (y : Expr). of_one (liked pattern.text) (typing scope params y)) (sym taken)
-    ∙ ap (λ (t : List ℕ). of_one (liked t) (typing scope params b)) (sym same))
+    ∙ ap (λ (y : Expr). of_one (like_test pattern.text) (typing scope params y)) (sym taken)
+    ∙ ap (λ (t : List ℕ). of_one (like_test t) (typing scope params b)) (sym same))
 
 -- a CASE whose operand is there
 pub case_some : (f : Expr → Operand) (o : Option Expr) (a b : Expr) (os : List (Operand × Operand)) (other : Option Operand) → o ≡ Some a → b ≡ a → case (option_map f o) os other ≡ simple_case (f b) os other

@@ -13,10 +13,10 @@ use Rattle.span_typing.specs.declared.typed.Chain.{Chain}
 use Rattle.span_typing.specs.declared.typed.Mode.{Mode}
 use Rattle.span_typing.specs.declared.typed.Mode.TheVariants.{Rows}
 use Rattle.span_typing.specs.declared.scope.Scope.{Scope}
-use Rattle.span_typing.specs.declared.function.Called.{Called}
-use Rattle.span_typing.specs.Steps.{and_then, ◌>>=◌, Step, Gives, Leaves}
-use Rattle.span_typing.specs.Operators.{among, case_of, match_of, applied}
-use Rattle.span_typing.specs.Typing.{Operand, each, conditions, links, arms, compared_arms, optional, kind_of, chained, of_one, of_two, of_three, membership, chain, junction, searched_case, simple_case, unknown_call, aggregate_call, function_call, aggregate}
+use Rattle.span_typing.specs.declared.function.CalledFunction.{CalledFunction}
+use Rattle.span_typing.specs.Steps.{and_then, ◌>>=◌, TypingStep, Gives, Leaves}
+use Rattle.span_typing.specs.Operators.{in_list, case_of, match_of, apply_function}
+use Rattle.span_typing.specs.Typing.{Operand, each, conditions, links, arms, compared_arms, optional, kind_of, chain_of, of_one, of_two, of_three, membership, chain, junction, searched_case, simple_case, unknown_call, aggregate_call, function_call, aggregate}
 use Rattle.span_typing.proofs.Stepping.{made_of, made_of_two, made_of_three, made_step}
 
 pub one_made : (f : Typed → Result Typed Refusal) (a : Operand) (m : Mode) (g0 g1 : List Aggregate) (l r : Result Typed Refusal) → Leaves l g1 (a m g0) → Gives r (and_then l f) → Leaves r g1 (of_one f a m g0)
@@ -31,13 +31,13 @@ pub three_made : (f : Typed → Typed → Typed → Result Typed Refusal) (a b c
 unfolding of_three
 three_made f a b c m g0 g1 g2 g3 l n o r h k j e = made_of_three (a m) (λ x. b m) (λ x y. c m) f g0 g1 g2 g3 l n o r h (λ x q. k) (λ x y q p. j) e
 
-pub member_made : (a : Operand) (os : List Operand) (m : Mode) (g0 g1 g2 : List Aggregate) (l : Result Typed Refusal) (n : Result (List Typed) Refusal) (r : Result Typed Refusal) → Leaves l g1 (a m g0) → Leaves n g2 (each os m g1) → Gives r (and_then l (λ x. and_then n (among x))) → Leaves r g2 (membership a os m g0)
+pub member_made : (a : Operand) (os : List Operand) (m : Mode) (g0 g1 g2 : List Aggregate) (l : Result Typed Refusal) (n : Result (List Typed) Refusal) (r : Result Typed Refusal) → Leaves l g1 (a m g0) → Leaves n g2 (each os m g1) → Gives r (and_then l (λ x. and_then n (in_list x))) → Leaves r g2 (membership a os m g0)
 unfolding membership
-member_made a os m g0 g1 g2 l n r h k e = made_of_two (a m) (λ x. each os m) among g0 g1 g2 l n r h (λ x q. k) e
+member_made a os m g0 g1 g2 l n r h k e = made_of_two (a m) (λ x. each os m) in_list g0 g1 g2 l n r h (λ x q. k) e
 
-pub chain_made : (a : Operand) (ls : List (Operator × Operand)) (m : Mode) (g0 g1 g2 : List Aggregate) (l : Result Typed Refusal) (n : Result Chain Refusal) (r : Result Typed Refusal) → Leaves l g1 (a m g0) → Leaves n g2 (links (kind_of l) ls m g1) → Gives r (and_then l (λ x. and_then n (λ c. Ok (chained x c)))) → Leaves r g2 (chain a ls m g0)
+pub chain_made : (a : Operand) (ls : List (Operator × Operand)) (m : Mode) (g0 g1 g2 : List Aggregate) (l : Result Typed Refusal) (n : Result Chain Refusal) (r : Result Typed Refusal) → Leaves l g1 (a m g0) → Leaves n g2 (links (kind_of l) ls m g1) → Gives r (and_then l (λ x. and_then n (λ c. Ok (chain_of x c)))) → Leaves r g2 (chain a ls m g0)
 unfolding chain
-chain_made a ls m g0 g1 g2 l n r h k e = made_of_two (a m) (λ x. links x.kind ls m) (λ x c. Ok (chained x c)) g0 g1 g2 l n r h (λ x q. subst (λ (o : Option Kind). Leaves n g2 (links o ls m g1)) (ap kind_of q) k) e
+chain_made a ls m g0 g1 g2 l n r h k e = made_of_two (a m) (λ x. links x.kind ls m) (λ x c. Ok (chain_of x c)) g0 g1 g2 l n r h (λ x q. subst (λ (o : Option Kind). Leaves n g2 (links o ls m g1)) (ap kind_of q) k) e
 
 pub junction_made : (join : Typed → List TypedExpr → Typed) (a : Operand) (os : List Operand) (m : Mode) (g0 g1 g2 : List Aggregate) (l : Result Typed Refusal) (n : Result (List TypedExpr) Refusal) (r : Result Typed Refusal) → Leaves l g1 (a m g0) → Leaves n g2 (conditions (kind_of l) os m g1) → Gives r (and_then l (λ x. and_then n (λ es. Ok (join x es)))) → Leaves r g2 (junction join a os m g0)
 unfolding junction
@@ -55,9 +55,9 @@ pub unknown_made : (os : List Operand) (m : Mode) (g0 g1 : List Aggregate) (l : 
 unfolding unknown_call
 unknown_made os m g0 g1 l r h e = made_of (each os m) (λ xs. Err refusal.TypeMismatch) g0 g1 l r h e
 
-pub function_made : (f : Called) (os : List Operand) (m : Mode) (g0 g1 : List Aggregate) (l : Result (List Typed) Refusal) (r : Result Typed Refusal) → Leaves l g1 (each os m g0) → Gives r (and_then l (λ xs. applied f xs)) → Leaves r g1 (function_call f os m g0)
+pub function_made : (f : CalledFunction) (os : List Operand) (m : Mode) (g0 g1 : List Aggregate) (l : Result (List Typed) Refusal) (r : Result Typed Refusal) → Leaves l g1 (each os m g0) → Gives r (and_then l (λ xs. apply_function f xs)) → Leaves r g1 (function_call f os m g0)
 unfolding function_call
-function_made f os m g0 g1 l r h e = made_of (each os m) (λ xs. applied f xs) g0 g1 l r h e
+function_made f os m g0 g1 l r h e = made_of (each os m) (λ xs. apply_function f xs) g0 g1 l r h e
 
 pub aggregate_made : (scope : Scope) (f : Function) (os : List Operand) (m : Mode) (g0 g1 g2 : List Aggregate) (l : Result (List Typed) Refusal) (r : Result Typed Refusal) → Leaves l g1 (each os Rows g0) → Leaves r g2 (and_then l (λ xs. aggregate scope m f xs g1)) → Leaves r g2 (aggregate_call scope f os m g0)
 unfolding aggregate_call

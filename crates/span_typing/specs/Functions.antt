@@ -3,8 +3,8 @@ use Rattle.std.specs.Prelude.{ℕ, codes, List, [], ◌∷◌, find, Option}
 use Rattle.span_schema.specs.Tables.{is_same_name}
 use Rattle.span_query.specs.declared.query.Function.{Function}
 use Rattle.span_query.specs.declared.query.Function.TheVariants.{Count, Sum, Min, Max}
-use Rattle.span_typing.specs.declared.function.Called.{Called}
-use Rattle.span_typing.specs.declared.function.Called.TheVariants as called
+use Rattle.span_typing.specs.declared.function.CalledFunction.{CalledFunction}
+use Rattle.span_typing.specs.declared.function.CalledFunction.TheVariants as called
 
 abbrev pub aggregate_name : Function → List ℕ
 aggregate_name Count = codes "COUNT"
@@ -12,7 +12,7 @@ aggregate_name Sum = codes "SUM"
 aggregate_name Min = codes "MIN"
 aggregate_name Max = codes "MAX"
 
-abbrev pub name_of : Called → List ℕ
+abbrev pub name_of : CalledFunction → List ℕ
 name_of (called.Aggregate f) = aggregate_name f
 name_of called.Divide = codes "DIV"
 name_of called.Modulo = codes "MOD"
@@ -22,12 +22,12 @@ name_of called.If = codes "IF"
 name_of called.IfNull = codes "IFNULL"
 name_of called.Coalesce = codes "COALESCE"
 
-abbrev pub functions : List Called
+abbrev pub functions : List CalledFunction
 functions = called.Aggregate Count ∷ called.Aggregate Sum ∷ called.Aggregate Min ∷ called.Aggregate Max ∷ called.Divide ∷ called.Modulo ∷ called.Length ∷ called.StartsWith ∷ called.If ∷ called.IfNull ∷ called.Coalesce ∷ []
 
-abbrev pub first_named : List ℕ → List Called → Option Called
-first_named name fs = find (λ (f : Called). is_same_name (name_of f) name) fs
+abbrev pub first_named : List ℕ → List CalledFunction → Option CalledFunction
+first_named name fs = find (λ (f : CalledFunction). is_same_name (name_of f) name) fs
 
 -- the one with a name, in letters of either case
-unfoldable pub function_named : List ℕ → Option Called
+unfoldable pub function_named : List ℕ → Option CalledFunction
 function_named name = first_named name functions

@@ -13,19 +13,19 @@ takes wanted None = true
 takes wanted (Some k) = sameb kind_type k wanted
 
 -- the one type of two operands
-unfoldable pub agreed : Option Kind → Option Kind → Result (Option Kind) Refusal
-agreed None k = Ok k
-agreed (Some j) None = Ok (Some j)
-agreed (Some j) (Some k) = if sameb kind_type j k then Ok (Some j) else Err TypeMismatch
+unfoldable pub common_kind : Option Kind → Option Kind → Result (Option Kind) Refusal
+common_kind None k = Ok k
+common_kind (Some j) None = Ok (Some j)
+common_kind (Some j) (Some k) = if sameb kind_type j k then Ok (Some j) else Err TypeMismatch
 
-abbrev pub agreed_with : List (Option Kind) → Result (Option Kind) Refusal → Result (Option Kind) Refusal
-agreed_with [] found = found
-agreed_with (k ∷ ks) (Ok j) = agreed_with ks (agreed j k)
-agreed_with (k ∷ ks) (Err why) = Err why
+abbrev pub common_kind_with : List (Option Kind) → Result (Option Kind) Refusal → Result (Option Kind) Refusal
+common_kind_with [] found = found
+common_kind_with (k ∷ ks) (Ok j) = common_kind_with ks (common_kind j k)
+common_kind_with (k ∷ ks) (Err why) = Err why
 
 -- the one type of all operands
-abbrev pub all_agreed : List (Option Kind) → Result (Option Kind) Refusal
-all_agreed ks = agreed_with ks (Ok None)
+abbrev pub common_kind_of_all : List (Option Kind) → Result (Option Kind) Refusal
+common_kind_of_all ks = common_kind_with ks (Ok None)
 
 -- INT64 where all operands are NULL literals
 unfoldable pub or_int : Option Kind → Kind

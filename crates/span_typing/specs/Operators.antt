@@ -9,8 +9,8 @@ use Rattle.span_value.specs.declared.value.Kind.TheVariants as kind
 use Rattle.span_value.specs.declared.refusal.Refusal.{Refusal}
 use Rattle.span_value.specs.declared.refusal.Refusal.TheVariants.{TypeMismatch, BadPattern, BadToken}
 use Rattle.span_syntax.specs.declared.tree.Integer.{Integer}
-use Rattle.span_syntax.specs.declared.tree.Comparison.{Comparison}
-use Rattle.span_syntax.specs.declared.tree.Comparison.TheVariants as tree
+use Rattle.span_syntax.specs.declared.tree.ComparisonOperator.{ComparisonOperator}
+use Rattle.span_syntax.specs.declared.tree.ComparisonOperator.TheVariants as tree
 use Rattle.span_syntax.specs.declared.tree.Operator.{Operator}
 use Rattle.span_syntax.specs.declared.tree.Operator.TheVariants.{Plus, Minus, Times, Concat}
 use Rattle.span_expr.specs.declared.expr.Expr.{Expr}
@@ -28,9 +28,9 @@ use Rattle.span_query.specs.declared.query.Function.TheVariants as function
 use Rattle.span_literal.specs.Literals.{text_of}
 use Rattle.span_typing.specs.declared.typed.Typed.{Typed}
 use Rattle.span_typing.specs.declared.typed.TypedArm.{TypedArm}
-use Rattle.span_typing.specs.declared.function.Called.{Called}
-use Rattle.span_typing.specs.declared.function.Called.TheVariants as called
-use Rattle.span_typing.specs.Kinds.{takes, agreed, all_agreed, or_int, text_kind}
+use Rattle.span_typing.specs.declared.function.CalledFunction.{CalledFunction}
+use Rattle.span_typing.specs.declared.function.CalledFunction.TheVariants as called
+use Rattle.span_typing.specs.Kinds.{takes, common_kind, common_kind_of_all, or_int, text_kind}
 use Rattle.span_typing.specs.Steps.{and_then}
 
 abbrev pub typed : Expr → Kind → Typed
@@ -50,16 +50,16 @@ integer n = if nat_lt n.value (2 ^ 63) then Ok (typed (expr.Literal (value.Int (
 
 -- ---- operators
 
-unfoldable pub negative : Typed → Result Typed Refusal
-negative x = if takes kind.Int x.kind then Ok (typed (expr.Negative x.expr) kind.Int) else Err TypeMismatch
+unfoldable pub unary_minus : Typed → Result Typed Refusal
+unary_minus x = if takes kind.Int x.kind then Ok (typed (expr.Negative x.expr) kind.Int) else Err TypeMismatch
 
-unfoldable pub denied : Typed → Result Typed Refusal
-denied x = if takes kind.Bool x.kind then Ok (typed (expr.Not x.expr) kind.Bool) else Err TypeMismatch
+unfoldable pub logical_not : Typed → Result Typed Refusal
+logical_not x = if takes kind.Bool x.kind then Ok (typed (expr.Not x.expr) kind.Bool) else Err TypeMismatch
 
 unfoldable pub null_test : Typed → Typed
 null_test x = typed (expr.IsNull x.expr) kind.Bool
 
-unfoldable pub comparison_of : Comparison → Compares
+unfoldable pub comparison_of : ComparisonOperator → Compares
 comparison_of tree.Equal = compares.Equal
 comparison_of tree.NotEqual = compares.NotEqual
 comparison_of tree.Less = compares.Less
@@ -67,23 +67,23 @@ comparison_of tree.AtMost = compares.AtMost
 comparison_of tree.Greater = compares.Greater
 comparison_of tree.AtLeast = compares.AtLeast
 
-unfoldable pub compared : Comparison → Typed → Typed → Result Typed Refusal
-compared c x y = and_then (agreed x.kind y.kind) (λ k. Ok (typed (expr.Compare x.expr (comparison_of c) y.expr) kind.Bool))
+unfoldable pub comparison_test : ComparisonOperator → Typed → Typed → Result Typed Refusal
+comparison_test c x y = and_then (common_kind x.kind y.kind) (λ k. Ok (typed (expr.Compare x.expr (comparison_of c) y.expr) kind.Bool))
 
 -- the operands are checked together
 unfoldable pub between : Typed → Typed → Typed → Result Typed Refusal
-between x low high = and_then (all_agreed (x.kind ∷ low.kind ∷ high.kind ∷ [])) (λ k. Ok (typed (expr.Between x.expr low.expr high.expr) kind.Bool))
+between x low high = and_then (common_kind_of_all (x.kind ∷ low.kind ∷ high.kind ∷ [])) (λ k. Ok (typed (expr.Between x.expr low.expr high.expr) kind.Bool))
 
-unfoldable pub among : Typed → List Typed → Result Typed Refusal
-among x members = and_then (all_agreed (x.kind ∷ kinds_of members)) (λ k. Ok (typed (expr.In x.expr (exprs_of members)) kind.Bool))
+unfoldable pub in_list : Typed → List Typed → Result Typed Refusal
+in_list x members = and_then (common_kind_of_all (x.kind ∷ kinds_of members)) (λ k. Ok (typed (expr.In x.expr (exprs_of members)) kind.Bool))
 
-abbrev pub liked_by : Expr → Option (List PatternPart) → Result Typed Refusal
-liked_by e None = Err BadPattern
-liked_by e (Some parts) = Ok (typed (expr.Like e parts) kind.Bool)
+abbrev pub like_test_of : Expr → Option (List PatternPart) → Result Typed Refusal
+like_test_of e None = Err BadPattern
+like_test_of e (Some parts) = Ok (typed (expr.Like e parts) kind.Bool)
 
 -- the pattern is a string literal as it is spelt
-unfoldable pub liked : List ℕ → Typed → Result Typed Refusal
-liked spelled x = if takes kind.Str x.kind then liked_by x.expr (parts_of (chars (text_of spelled))) else Err TypeMismatch
+unfoldable pub like_test : List ℕ → Typed → Result Typed Refusal
+like_test spelled x = if takes kind.Str x.kind then like_test_of x.expr (parts_of (chars (text_of spelled))) else Err TypeMismatch
 
 -- the operands of an AND or an OR
 abbrev pub are_conditions : Option Kind → Option Kind → Bool
@@ -96,9 +96,9 @@ operator_of Times = Multiply
 operator_of Concat = Concatenate
 
 -- the type of a chain, one operator on
-unfoldable pub linked_kind : Operator → Option Kind → Option Kind → Result Kind Refusal
-linked_kind Concat j k = and_then (agreed j k) text_kind
-linked_kind op j k = if takes kind.Int j && takes kind.Int k then Ok kind.Int else Err TypeMismatch
+unfoldable pub link_kind : Operator → Option Kind → Option Kind → Result Kind Refusal
+link_kind Concat j k = and_then (common_kind j k) text_kind
+link_kind op j k = if takes kind.Int j && takes kind.Int k then Ok kind.Int else Err TypeMismatch
 
 -- ---- choices
 
@@ -114,7 +114,7 @@ otherwise_of other = option_map (λ (x : Typed). x.expr) other
 
 -- the one type of the values of all arms and of ELSE
 abbrev pub value_kind : List TypedArm → Option Typed → Result Kind Refusal
-value_kind arms other = and_then (all_agreed (otherwise_kind other ∷ map (λ (a : TypedArm). a.value.kind) arms)) (λ k. Ok (or_int k))
+value_kind arms other = and_then (common_kind_of_all (otherwise_kind other ∷ map (λ (a : TypedArm). a.value.kind) arms)) (λ k. Ok (or_int k))
 
 abbrev pub has_condition : TypedArm → Bool
 has_condition a = takes kind.Bool a.condition.kind
@@ -130,17 +130,17 @@ match_of x arms other = and_then (value_kind arms other) (λ k. Ok (typed (expr.
 
 -- ---- calls
 
-unfoldable pub calculated : Calculates → Typed → Typed → Result Typed Refusal
-calculated op x y = if takes kind.Int x.kind && takes kind.Int y.kind then Ok (typed (expr.Chain x.expr (record { operator = op; operand = y.expr } ∷ [])) kind.Int) else Err TypeMismatch
+unfoldable pub calculation_of : Calculates → Typed → Typed → Result Typed Refusal
+calculation_of op x y = if takes kind.Int x.kind && takes kind.Int y.kind then Ok (typed (expr.Chain x.expr (record { operator = op; operand = y.expr } ∷ [])) kind.Int) else Err TypeMismatch
 
 unfoldable pub length_of : Typed → Result Typed Refusal
 length_of x = and_then (text_kind x.kind) (λ k. Ok (typed (expr.Length x.expr) kind.Int))
 
 unfoldable pub starts_with : Typed → Typed → Result Typed Refusal
-starts_with x front = and_then (and_then (agreed x.kind front.kind) text_kind) (λ k. Ok (typed (expr.StartsWith x.expr front.expr) kind.Bool))
+starts_with x front = and_then (and_then (common_kind x.kind front.kind) text_kind) (λ k. Ok (typed (expr.StartsWith x.expr front.expr) kind.Bool))
 
-unfoldable pub coalesced : List Typed → Result Typed Refusal
-coalesced xs = and_then (all_agreed (kinds_of xs)) (λ k. Ok (typed (expr.Coalesce (exprs_of xs)) (or_int k)))
+unfoldable pub coalesce_of : List Typed → Result Typed Refusal
+coalesce_of xs = and_then (common_kind_of_all (kinds_of xs)) (λ k. Ok (typed (expr.Coalesce (exprs_of xs)) (or_int k)))
 
 -- ---- operands by their number; a wrong number is a wrong type
 
@@ -165,15 +165,15 @@ unfoldable pub if_of : Typed → Typed → Typed → Result Typed Refusal
 if_of c x y = case_of (record { condition = c; value = x } ∷ []) (Some y)
 
 -- a call of a function but the aggregates
-unfoldable pub applied : Called → List Typed → Result Typed Refusal
-applied called.Divide xs = and_then (two_of xs) (λ p. calculated Divide p.0 p.1)
-applied called.Modulo xs = and_then (two_of xs) (λ p. calculated Modulo p.0 p.1)
-applied called.Length xs = and_then (one_of xs) length_of
-applied called.StartsWith xs = and_then (two_of xs) (λ p. starts_with p.0 p.1)
-applied called.If xs = and_then (three_of xs) (λ p. if_of p.0 p.1 p.2)
-applied called.IfNull xs = and_then (two_of xs) (λ p. coalesced (p.0 ∷ p.1 ∷ []))
-applied called.Coalesce xs = and_then (some_of xs) coalesced
-applied (called.Aggregate f) xs = Err TypeMismatch
+unfoldable pub apply_function : CalledFunction → List Typed → Result Typed Refusal
+apply_function called.Divide xs = and_then (two_of xs) (λ p. calculation_of Divide p.0 p.1)
+apply_function called.Modulo xs = and_then (two_of xs) (λ p. calculation_of Modulo p.0 p.1)
+apply_function called.Length xs = and_then (one_of xs) length_of
+apply_function called.StartsWith xs = and_then (two_of xs) (λ p. starts_with p.0 p.1)
+apply_function called.If xs = and_then (three_of xs) (λ p. if_of p.0 p.1 p.2)
+apply_function called.IfNull xs = and_then (two_of xs) (λ p. coalesce_of (p.0 ∷ p.1 ∷ []))
+apply_function called.Coalesce xs = and_then (some_of xs) coalesce_of
+apply_function (called.Aggregate f) xs = Err TypeMismatch
 
 -- ---- aggregates
 

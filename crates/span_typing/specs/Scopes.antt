@@ -14,25 +14,25 @@ abbrev pub is_named : List ℕ → Option (List ℕ) → Bool
 is_named name None = false
 is_named name (Some n) = is_same_name n name
 
-abbrev pub alone : Bool → ℕ → Result ℕ Refusal
-alone true p = Err Ambiguous
-alone false p = Ok p
+abbrev pub if_unique : Bool → ℕ → Result ℕ Refusal
+if_unique true p = Err Ambiguous
+if_unique false p = Ok p
 
 -- the place of the first that passes, which must be the only one
 abbrev pub only_place : {A : Type 0} → (A → Bool) → List A → Option ℕ → Result ℕ Refusal
 only_place test xs None = Err NoColumn
-only_place test xs (Some p) = alone (list_any test (drop (p + 1) xs)) p
+only_place test xs (Some p) = if_unique (list_any test (drop (p + 1) xs)) p
 
 abbrev pub one_place : {A : Type 0} → (A → Bool) → List A → Result ℕ Refusal
 one_place test xs = only_place test xs (position test xs)
 
 -- a column of any item, or of one
-abbrev pub is_of : Option ℕ → ScopeColumn → Bool
-is_of None c = true
-is_of (Some item) c = c.item == item
+abbrev pub is_in_item : Option ℕ → ScopeColumn → Bool
+is_in_item None c = true
+is_in_item (Some item) c = c.item == item
 
 abbrev pub fits : Option ℕ → List ℕ → ScopeColumn → Bool
-fits item name c = is_of item c && is_named name c.name
+fits item name c = is_in_item item c && is_named name c.name
 
 -- the item with a name
 abbrev pub item_named : Scope → List ℕ → Option ℕ

@@ -10,34 +10,34 @@ and_then (Ok x) next = next x
 and_then (Err why) next = Err why
 
 -- from what was found so far to what is found then
-abbrev pub Step : Type 0 → Type 0 → Type 0
-Step S A = S → Result (A × S) Refusal
+abbrev pub TypingStep : Type 0 → Type 0 → Type 0
+TypingStep S A = S → Result (A × S) Refusal
 
-abbrev pub pure : {S A : Type 0} → A → Step S A
+abbrev pub pure : {S A : Type 0} → A → TypingStep S A
 pure x found = Ok (x, found)
 
-abbrev pub given : {S A : Type 0} → Result A Refusal → Step S A
-given r found = and_then r (λ x. Ok (x, found))
+abbrev pub from_result : {S A : Type 0} → Result A Refusal → TypingStep S A
+from_result r found = and_then r (λ x. Ok (x, found))
 
 infixl 10 ◌>>=◌
-abbrev pub ◌>>=◌ : {S A B : Type 0} → Step S A → (A → Step S B) → Step S B
+abbrev pub ◌>>=◌ : {S A B : Type 0} → TypingStep S A → (A → TypingStep S B) → TypingStep S B
 (step >>= next) found = and_then (step found) (λ p. next p.0 p.1)
 
 -- the step of one more item, after the others
-abbrev pub next_of : {S X A : Type 0} → (A → X → Step S A) → Result (A × S) Refusal → X → Result (A × S) Refusal
+abbrev pub next_of : {S X A : Type 0} → (A → X → TypingStep S A) → Result (A × S) Refusal → X → Result (A × S) Refusal
 next_of step so_far x = and_then so_far (λ p. step p.0 x p.1)
 
 -- the steps of the items one after another, each from what the others made
-abbrev pub along : {S X A : Type 0} → (A → X → Step S A) → A → List X → Step S A
-along step a xs found = fold (next_of step) (Ok (a, found)) xs
+abbrev pub fold_steps : {S X A : Type 0} → (A → X → TypingStep S A) → A → List X → TypingStep S A
+fold_steps step a xs found = fold (next_of step) (Ok (a, found)) xs
 
 -- one more in a list
-abbrev pub behind : {S X A : Type 0} → (X → Step S A) → List A → X → Step S (List A)
-behind step os x = step x >>= (λ a. pure (os ++ (a ∷ [])))
+abbrev pub append_step : {S X A : Type 0} → (X → TypingStep S A) → List A → X → TypingStep S (List A)
+append_step step os x = step x >>= (λ a. pure (os ++ (a ∷ [])))
 
 -- what the steps of the items give, one after another
-abbrev pub all_of : {S X A : Type 0} → (X → Step S A) → List X → Step S (List A)
-all_of step xs = along (behind step) [] xs
+abbrev pub all_of : {S X A : Type 0} → (X → TypingStep S A) → List X → TypingStep S (List A)
+all_of step xs = fold_steps (append_step step) [] xs
 
 -- ---- what a function answered, unless memory ran out
 

@@ -30,13 +30,13 @@ use Rattle.span_typing.specs.declared.typed.Mode.{Mode}
 use Rattle.span_typing.specs.declared.typed.Mode.TheVariants.{Rows, Groups}
 use Rattle.span_typing.specs.declared.scope.Scope.{Scope}
 use Rattle.span_typing.specs.declared.scope.ScopeColumn.{ScopeColumn}
-use Rattle.span_typing.specs.declared.function.Called.{Called}
-use Rattle.span_typing.specs.declared.function.Called.TheVariants as called
-use Rattle.span_typing.specs.Kinds.{agreed}
+use Rattle.span_typing.specs.declared.function.CalledFunction.{CalledFunction}
+use Rattle.span_typing.specs.declared.function.CalledFunction.TheVariants as called
+use Rattle.span_typing.specs.Kinds.{common_kind}
 use Rattle.span_typing.specs.Scopes.{column_place}
 use Rattle.span_typing.specs.Functions.{function_named}
-use Rattle.span_typing.specs.Steps.{Step, and_then, pure, given, ◌>>=◌, along, all_of}
-use Rattle.span_typing.specs.Operators.{typed, integer, negative, denied, null_test, compared, between, among, liked, are_conditions, operator_of, linked_kind, case_of, match_of, applied, operand_of, aggregate_kind}
+use Rattle.span_typing.specs.Steps.{TypingStep, and_then, pure, from_result, ◌>>=◌, fold_steps, all_of}
+use Rattle.span_typing.specs.Operators.{typed, integer, unary_minus, logical_not, null_test, comparison_test, between, in_list, like_test, are_conditions, operator_of, link_kind, case_of, match_of, apply_function, operand_of, aggregate_kind}
 
 -- ---- literals, columns and parameters
 
@@ -83,7 +83,7 @@ parameter params spelled = parameter_typed (parameter_named params (drop 1 spell
 
 -- it may find more aggregates of the block
 abbrev pub Finds : Type 0 → Type 0
-Finds A = Step (List Aggregate) A
+Finds A = TypingStep (List Aggregate) A
 
 -- the typed form of an operand, at rows of the FROM or of the groups
 abbrev pub Operand : Type 0
@@ -101,7 +101,7 @@ unfoldable pub condition_of : Option Kind → Typed → Result TypedExpr Refusal
 condition_of k x = if are_conditions k x.kind then Ok x.expr else Err TypeMismatch
 
 abbrev pub condition : Option Kind → Operand → Mode → Finds TypedExpr
-condition k a m = a m >>= (λ x. given (condition_of k x))
+condition k a m = a m >>= (λ x. from_result (condition_of k x))
 
 -- the other operands of an AND or an OR whose first is of this type; each is checked as it comes
 abbrev pub conditions : Option Kind → List Operand → Mode → Finds (List TypedExpr)
@@ -114,71 +114,71 @@ unfoldable pub some_true : Typed → List TypedExpr → Typed
 some_true x es = typed (expr.Or x.expr es) kind.Bool
 
 -- a chain, one operator on
-unfoldable pub linked : Chain → Operator → Typed → Result Chain Refusal
-linked c op x = and_then (linked_kind op c.kind x.kind) (λ k. Ok (record { kind = Some k; links = c.links ++ (record { operator = operator_of op; operand = x.expr } ∷ []) }))
+unfoldable pub append_link : Chain → Operator → Typed → Result Chain Refusal
+append_link c op x = and_then (link_kind op c.kind x.kind) (λ k. Ok (record { kind = Some k; links = c.links ++ (record { operator = operator_of op; operand = x.expr } ∷ []) }))
 
-unfoldable pub chained : Typed → Chain → Typed
-chained x c = record { expr = expr.Chain x.expr c.links; kind = c.kind }
+unfoldable pub chain_of : Typed → Chain → Typed
+chain_of x c = record { expr = expr.Chain x.expr c.links; kind = c.kind }
 
 abbrev pub next_link : Mode → Chain → Operator × Operand → Finds Chain
-next_link m c l = l.1 m >>= (λ x. given (linked c l.0 x))
+next_link m c l = l.1 m >>= (λ x. from_result (append_link c l.0 x))
 
 -- after an operand of this type; each operator is checked as it comes
 abbrev pub links : Option Kind → List (Operator × Operand) → Mode → Finds Chain
-links k ls m = along (next_link m) (record { kind = k; links = [] }) ls
+links k ls m = fold_steps (next_link m) (record { kind = k; links = [] }) ls
 
 abbrev pub arm_typed : Typed → Typed → TypedArm
 arm_typed c v = record { condition = c; value = v }
 
 abbrev pub arm : Operand × Operand → Mode → Finds TypedArm
-arm a m = a.0 m >>= (λ c. a.1 m >>= (λ v. given (Ok (arm_typed c v))))
+arm a m = a.0 m >>= (λ c. a.1 m >>= (λ v. from_result (Ok (arm_typed c v))))
 
 abbrev pub arms : List (Operand × Operand) → Mode → Finds (List TypedArm)
 arms os m = all_of (λ (a : Operand × Operand). arm a m) os
 
 -- what is of the type of the operand of the CASE
-unfoldable pub alike : Option Kind → Typed → Result Typed Refusal
-alike k x = and_then (agreed k x.kind) (λ j. Ok x)
+unfoldable pub check_kind : Option Kind → Typed → Result Typed Refusal
+check_kind k x = and_then (common_kind k x.kind) (λ j. Ok x)
 
 -- a WHEN is compared with the operand, of this type, before its THEN
 abbrev pub compared_arm : Option Kind → Operand × Operand → Mode → Finds TypedArm
-compared_arm k a m = a.0 m >>= (λ x. given (alike k x)) >>= (λ c. a.1 m >>= (λ v. given (Ok (arm_typed c v))))
+compared_arm k a m = a.0 m >>= (λ x. from_result (check_kind k x)) >>= (λ c. a.1 m >>= (λ v. from_result (Ok (arm_typed c v))))
 
 abbrev pub compared_arms : Option Kind → List (Operand × Operand) → Mode → Finds (List TypedArm)
 compared_arms k os m = all_of (λ (a : Operand × Operand). compared_arm k a m) os
 
 abbrev pub optional : Option Operand → Mode → Finds (Option Typed)
 optional None m = pure None
-optional (Some a) m = a m >>= (λ x. given (Ok (Some x)))
+optional (Some a) m = a m >>= (λ x. from_result (Ok (Some x)))
 
 -- ---- what is made of operands: they come before their operator
 
 unfoldable pub of_one : (Typed → Result Typed Refusal) → Operand → Operand
-of_one make a m = a m >>= (λ x. given (make x))
+of_one make a m = a m >>= (λ x. from_result (make x))
 
 unfoldable pub of_two : (Typed → Typed → Result Typed Refusal) → Operand → Operand → Operand
-of_two make a b m = a m >>= (λ x. b m >>= (λ y. given (make x y)))
+of_two make a b m = a m >>= (λ x. b m >>= (λ y. from_result (make x y)))
 
 unfoldable pub of_three : (Typed → Typed → Typed → Result Typed Refusal) → Operand → Operand → Operand → Operand
-of_three make a b c m = a m >>= (λ x. b m >>= (λ y. c m >>= (λ z. given (make x y z))))
+of_three make a b c m = a m >>= (λ x. b m >>= (λ y. c m >>= (λ z. from_result (make x y z))))
 
 unfoldable pub membership : Operand → List Operand → Operand
-membership a os m = a m >>= (λ x. each os m >>= (λ ys. given (among x ys)))
+membership a os m = a m >>= (λ x. each os m >>= (λ ys. from_result (in_list x ys)))
 
 unfoldable pub chain : Operand → List (Operator × Operand) → Operand
-chain a ls m = a m >>= (λ x. links x.kind ls m >>= (λ c. given (Ok (chained x c))))
+chain a ls m = a m >>= (λ x. links x.kind ls m >>= (λ c. from_result (Ok (chain_of x c))))
 
 -- an AND or an OR
 unfoldable pub junction : (Typed → List TypedExpr → Typed) → Operand → List Operand → Operand
-junction join a os m = a m >>= (λ x. conditions x.kind os m >>= (λ es. given (Ok (join x es))))
+junction join a os m = a m >>= (λ x. conditions x.kind os m >>= (λ es. from_result (Ok (join x es))))
 
 -- a CASE without an operand
 unfoldable pub searched_case : List (Operand × Operand) → Option Operand → Operand
-searched_case os other m = arms os m >>= (λ xs. optional other m >>= (λ y. given (case_of xs y)))
+searched_case os other m = arms os m >>= (λ xs. optional other m >>= (λ y. from_result (case_of xs y)))
 
 -- a CASE with an operand
 unfoldable pub simple_case : Operand → List (Operand × Operand) → Option Operand → Operand
-simple_case a os other m = a m >>= (λ x. compared_arms x.kind os m >>= (λ xs. optional other m >>= (λ y. given (match_of x xs y))))
+simple_case a os other m = a m >>= (λ x. compared_arms x.kind os m >>= (λ xs. optional other m >>= (λ y. from_result (match_of x xs y))))
 
 abbrev pub case : Option Operand → List (Operand × Operand) → Option Operand → Operand
 case None os other = searched_case os other
@@ -192,28 +192,28 @@ new_aggregate scope Rows a k found = Err NotGrouped
 new_aggregate scope Groups a k found = Ok (typed (expr.Column (length scope.keys + length found)) k, found ++ (a ∷ []))
 
 unfoldable pub aggregate : Scope → Mode → Function → List Typed → Finds Typed
-aggregate scope m f xs = given (operand_of f xs) >>= (λ x. new_aggregate scope m (Of f x.expr) (aggregate_kind f x.kind))
+aggregate scope m f xs = from_result (operand_of f xs) >>= (λ x. new_aggregate scope m (Of f x.expr) (aggregate_kind f x.kind))
 
 -- a call of a name that is no function
 unfoldable pub unknown_call : List Operand → Operand
-unknown_call os m = each os m >>= (λ xs. given (Err TypeMismatch))
+unknown_call os m = each os m >>= (λ xs. from_result (Err TypeMismatch))
 
 -- the operand of an aggregate is at rows of the FROM
 unfoldable pub aggregate_call : Scope → Function → List Operand → Operand
 aggregate_call scope f os m = each os Rows >>= aggregate scope m f
 
-unfoldable pub function_call : Called → List Operand → Operand
-function_call f os m = each os m >>= (λ xs. given (applied f xs))
+unfoldable pub function_call : CalledFunction → List Operand → Operand
+function_call f os m = each os m >>= (λ xs. from_result (apply_function f xs))
 
-abbrev pub call : Scope → Option Called → List Operand → Operand
+abbrev pub call : Scope → Option CalledFunction → List Operand → Operand
 call scope None os = unknown_call os
 call scope (Some (called.Aggregate f)) os = aggregate_call scope f os
 call scope (Some f) os = function_call f os
 
 -- COUNT alone takes a star
-unfoldable pub call_star : Scope → Option Called → Operand
+unfoldable pub call_star : Scope → Option CalledFunction → Operand
 call_star scope (Some (called.Aggregate Count)) m = new_aggregate scope m CountRows kind.Int
-call_star scope f m = given (Err TypeMismatch)
+call_star scope f m = from_result (Err TypeMismatch)
 
 -- ---- trees
 
@@ -225,24 +225,24 @@ link_at l = (l.operator, l.operand)
 
 -- One layer of a tree, where each operand is replaced by its typed form.
 abbrev pub at_operands : Scope → List Parameter → Expr-F Operand (Operand × Operand) (Operator × Operand) → Operand
-at_operands scope params (Expr-F.Integer n) = λ m. given (integer n)
+at_operands scope params (Expr-F.Integer n) = λ m. from_result (integer n)
 at_operands scope params (Expr-F.Str s) = λ m. pure (string s.text)
 at_operands scope params (Expr-F.Bytes s) = λ m. pure (bytes s.text)
 at_operands scope params (Expr-F.Truth b place) = λ m. pure (truth b)
 at_operands scope params (Expr-F.Null place) = λ m. pure null
-at_operands scope params (Expr-F.Parameter p) = λ m. given (parameter params p.text)
-at_operands scope params (Expr-F.Column c) = λ m. given (column scope m c)
+at_operands scope params (Expr-F.Parameter p) = λ m. from_result (parameter params p.text)
+at_operands scope params (Expr-F.Column c) = λ m. from_result (column scope m c)
 at_operands scope params (Expr-F.CallStar name) = call_star scope (function_named name.text)
 at_operands scope params (Expr-F.Call name os) = call scope (function_named name.text) os
 at_operands scope params (Expr-F.Case a os other) = case a os other
-at_operands scope params (Expr-F.Negative a) = of_one negative a
+at_operands scope params (Expr-F.Negative a) = of_one unary_minus a
 at_operands scope params (Expr-F.Chain a ls) = chain a ls
-at_operands scope params (Expr-F.Compare a c b) = of_two (compared c) a b
+at_operands scope params (Expr-F.Compare a c b) = of_two (comparison_test c) a b
 at_operands scope params (Expr-F.IsNull a) = of_one (λ x. Ok (null_test x)) a
-at_operands scope params (Expr-F.Like a pattern) = of_one (liked pattern.text) a
+at_operands scope params (Expr-F.Like a pattern) = of_one (like_test pattern.text) a
 at_operands scope params (Expr-F.Between a low high) = of_three between a low high
 at_operands scope params (Expr-F.In a os) = membership a os
-at_operands scope params (Expr-F.Not a) = of_one denied a
+at_operands scope params (Expr-F.Not a) = of_one logical_not a
 at_operands scope params (Expr-F.And a os) = junction all_true a os
 at_operands scope params (Expr-F.Or a os) = junction some_true a os
 

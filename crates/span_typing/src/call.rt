@@ -3,10 +3,10 @@ ghost use Rattle.std.specs.Prelude.{◌≡◌, ◌∷◌, []};
 ghost use Rattle.span_typing.specs.Steps.{Gives, and_then};
 ghost use Rattle.span_typing.specs.Operators as spec;
 
-use super::choice::{case_of_arms, coalesced};
-use super::function::Called;
-use super::kind::{agreed, takes, text_kind};
-use super::operator::{Bound, boxed, typed};
+use super::choice::{case_of_arms, coalesce_of};
+use super::function::CalledFunction;
+use super::kind::{common_kind, takes, text_kind};
+use super::operator::{TypingResult, box_expr, typed};
 use super::typed::{Typed, TypedArm};
 use span_expr::expr::{Expr, Link, Operator};
 use span_query::query::Function;
@@ -37,9 +37,9 @@ fn two_of(operands: Seq<Typed>) -> Result<(Typed, Typed), Refusal>
 }
 
 /// DIV or MOD.
-#[tactic(auto, unfolding(crate::specs::Operators::calculated))]
-fn calculated(alloc: Global, operator: Operator, left: Typed, right: Typed) -> Bound
-    ensures { Gives result (spec.calculated operator left right) }
+#[tactic(auto, unfolding(crate::specs::Operators::calculation_of))]
+fn calculation_of(alloc: Global, operator: Operator, left: Typed, right: Typed) -> TypingResult
+    ensures { Gives result (spec.calculation_of operator left right) }
 {
     if !(takes(Kind::Int, left.kind) && takes(Kind::Int, right.kind)) {
         return Err(Refusal::TypeMismatch);
@@ -53,7 +53,7 @@ fn calculated(alloc: Global, operator: Operator, left: Typed, right: Typed) -> B
 }
 
 #[tactic(auto, unfolding(crate::specs::Operators::length_of))]
-fn length_of(alloc: Global, operand: Typed) -> Bound
+fn length_of(alloc: Global, operand: Typed) -> TypingResult
     ensures { Gives result (spec.length_of operand) }
 {
     let _ = text_kind(operand.kind)?;
@@ -61,13 +61,13 @@ fn length_of(alloc: Global, operand: Typed) -> Bound
 }
 
 #[tactic(auto, unfolding(crate::specs::Operators::starts_with))]
-fn starts_with(alloc: Global, text: Typed, front: Typed) -> Bound
+fn starts_with(alloc: Global, text: Typed, front: Typed) -> TypingResult
     ensures { Gives result (spec.starts_with text front) }
 {
-    let kind = agreed(text.kind, front.kind)?;
+    let kind = common_kind(text.kind, front.kind)?;
     let _ = text_kind(kind)?;
-    let text = boxed(alloc, text)?;
-    let front = boxed(alloc, front)?;
+    let text = box_expr(alloc, text)?;
+    let front = box_expr(alloc, front)?;
     Ok(typed(Expr::StartsWith(text, front), Kind::Bool))
 }
 
@@ -85,7 +85,7 @@ fn three_of(operands: Seq<Typed>) -> Result<(Typed, Typed, Typed), Refusal>
 
 /// `IF(c, x, y)` is `CASE WHEN c THEN x ELSE y END`.
 #[tactic(auto, unfolding(crate::specs::Operators::if_of))]
-fn if_of(alloc: Global, condition: Typed, value: Typed, otherwise: Typed) -> Bound
+fn if_of(alloc: Global, condition: Typed, value: Typed, otherwise: Typed) -> TypingResult
     ensures { Gives result (spec.if_of condition value otherwise) }
 {
     let mut arms = Seq::new(alloc);
@@ -93,62 +93,62 @@ fn if_of(alloc: Global, condition: Typed, value: Typed, otherwise: Typed) -> Bou
     case_of_arms(alloc, arms, Some(otherwise))
 }
 
-fn if_null(alloc: Global, operands: Seq<Typed>) -> Bound
-    ensures { Gives result (and_then (spec.two_of operands) (λ p. spec.coalesced (p.0 ∷ p.1 ∷ []))) }
+fn if_null(alloc: Global, operands: Seq<Typed>) -> TypingResult
+    ensures { Gives result (and_then (spec.two_of operands) (λ p. spec.coalesce_of (p.0 ∷ p.1 ∷ []))) }
 {
     if operands.len() == 2 {
-        coalesced(alloc, operands)
+        coalesce_of(alloc, operands)
     } else {
         Err(Refusal::TypeMismatch)
     }
 }
 
-fn some_coalesced(alloc: Global, operands: Seq<Typed>) -> Bound
-    ensures { Gives result (and_then (spec.some_of operands) spec.coalesced) }
+fn coalesce_some(alloc: Global, operands: Seq<Typed>) -> TypingResult
+    ensures { Gives result (and_then (spec.some_of operands) spec.coalesce_of) }
 {
     if operands.len() == 0 {
         return Err(Refusal::TypeMismatch);
     }
-    coalesced(alloc, operands)
+    coalesce_of(alloc, operands)
 }
 
 /// A call of a function but the aggregates. A wrong number of operands is a wrong type.
-#[tactic(auto, unfolding(crate::specs::Operators::applied))]
-pub(crate) fn applied(
+#[tactic(auto, unfolding(crate::specs::Operators::apply_function))]
+pub(crate) fn apply_function(
     alloc: Global,
-    function: Called,
+    function: CalledFunction,
     operands: Result<Seq<Typed>, Refusal>,
-) -> Bound
-    ensures { Gives result (and_then operands (λ xs. spec.applied function xs)) }
+) -> TypingResult
+    ensures { Gives result (and_then operands (λ xs. spec.apply_function function xs)) }
 {
     let operands = operands?;
     match function {
-        Called::Aggregate(_) => Err(Refusal::TypeMismatch),
-        Called::Divide => {
+        CalledFunction::Aggregate(_) => Err(Refusal::TypeMismatch),
+        CalledFunction::Divide => {
             let (left, right) = two_of(operands)?;
-            calculated(alloc, Operator::Divide, left, right)
+            calculation_of(alloc, Operator::Divide, left, right)
         }
-        Called::Modulo => {
+        CalledFunction::Modulo => {
             let (left, right) = two_of(operands)?;
-            calculated(alloc, Operator::Modulo, left, right)
+            calculation_of(alloc, Operator::Modulo, left, right)
         }
-        Called::Length => length_of(alloc, one_of(operands)?),
-        Called::StartsWith => {
+        CalledFunction::Length => length_of(alloc, one_of(operands)?),
+        CalledFunction::StartsWith => {
             let (text, front) = two_of(operands)?;
             starts_with(alloc, text, front)
         }
-        Called::If => {
+        CalledFunction::If => {
             let (condition, value, otherwise) = three_of(operands)?;
             if_of(alloc, condition, value, otherwise)
         }
-        Called::IfNull => if_null(alloc, operands),
-        Called::Coalesce => some_coalesced(alloc, operands),
+        CalledFunction::IfNull => if_null(alloc, operands),
+        CalledFunction::Coalesce => coalesce_some(alloc, operands),
     }
 }
 
 /// The operand of an aggregate. SUM takes INT64 alone.
 #[tactic(auto, unfolding(crate::specs::Operators::operand_of))]
-pub(crate) fn operand_of(function: Function, operands: Result<Seq<Typed>, Refusal>) -> Bound
+pub(crate) fn operand_of(function: Function, operands: Result<Seq<Typed>, Refusal>) -> TypingResult
     ensures { Gives result (and_then operands (λ xs. spec.operand_of function xs)) }
 {
     let operand = one_of(operands?)?;

@@ -2,12 +2,12 @@
 ghost use Rattle.std.specs.Prelude.{◌≡◌, ◌++◌, ◌∷◌, [], Ok, IfOk, map};
 ghost use Rattle.std.specs.List.{list_all};
 ghost use Rattle.span_typing.specs.Steps.{Gives, and_then};
-ghost use Rattle.span_typing.specs.Kinds.{all_agreed};
+ghost use Rattle.span_typing.specs.Kinds.{common_kind_of_all};
 ghost use Rattle.span_expr.specs.declared.expr.Expr.TheVariants as expr;
 ghost use Rattle.span_typing.specs.Operators as spec;
 
-use super::kind::{agreed, or_int, takes};
-use super::operator::{Bound, both, typed};
+use super::kind::{common_kind, or_int, takes};
+use super::operator::{TypingResult, both, typed};
 use super::typed::{Typed, TypedArm};
 use span_expr::expr::{Arm, Expr};
 use span_value::refusal::Refusal;
@@ -19,11 +19,11 @@ use std::alloc::{AllocError, Global};
 /// The one type of all operands.
 #[tactic(auto, using(crate::proofs::Agreement::kind_steps))]
 fn kind_of_all(operands: &[Typed], first: Option<Kind>) -> Result<Option<Kind>, Refusal>
-    ensures { result ≡ all_agreed (first ∷ spec.kinds_of operands.now) }
+    ensures { result ≡ common_kind_of_all (first ∷ spec.kinds_of operands.now) }
 {
-    let mut kind = agreed(None, first)?;
+    let mut kind = common_kind(None, first)?;
     for operand in operands {
-        kind = agreed(kind, operand.kind)?;
+        kind = common_kind(kind, operand.kind)?;
     }
     Ok(kind)
 }
@@ -40,9 +40,9 @@ fn exprs_of(alloc: Global, operands: Seq<Typed>) -> Result<Items<Expr>, AllocErr
 }
 
 /// An IN.
-#[tactic(auto, unfolding(crate::specs::Operators::among))]
-pub(crate) fn among(alloc: Global, operand: Bound, members: Result<Seq<Typed>, Refusal>) -> Bound
-    ensures { Gives result (and_then operand (λ x. and_then members (λ ys. spec.among x ys))) }
+#[tactic(auto, unfolding(crate::specs::Operators::in_list))]
+pub(crate) fn in_list(alloc: Global, operand: TypingResult, members: Result<Seq<Typed>, Refusal>) -> TypingResult
+    ensures { Gives result (and_then operand (λ x. and_then members (λ ys. spec.in_list x ys))) }
 {
     let operand = operand?;
     let members = members?;
@@ -53,9 +53,9 @@ pub(crate) fn among(alloc: Global, operand: Bound, members: Result<Seq<Typed>, R
     ))
 }
 
-#[tactic(auto, unfolding(crate::specs::Operators::coalesced, crate::specs::Kinds::agreed))]
-pub(crate) fn coalesced(alloc: Global, operands: Seq<Typed>) -> Bound
-    ensures { Gives result (spec.coalesced operands) }
+#[tactic(auto, unfolding(crate::specs::Operators::coalesce_of, crate::specs::Kinds::common_kind))]
+pub(crate) fn coalesce_of(alloc: Global, operands: Seq<Typed>) -> TypingResult
+    ensures { Gives result (spec.coalesce_of operands) }
 {
     let kind = kind_of_all(operands.as_slice(), None)?;
     let exprs = exprs_of(alloc, operands)?;
@@ -71,11 +71,11 @@ fn have_conditions(arms: &[TypedArm]) -> bool
 /// The one type of what is of a type and of the values of arms.
 #[tactic(auto, using(crate::proofs::Agreement::kind_steps))]
 fn kind_of_values(arms: &[TypedArm], first: Option<Kind>) -> Result<Option<Kind>, Refusal>
-    ensures { result ≡ all_agreed (first ∷ map (λ a. a.value.kind) arms.now) }
+    ensures { result ≡ common_kind_of_all (first ∷ map (λ a. a.value.kind) arms.now) }
 {
-    let mut kind = agreed(None, first)?;
+    let mut kind = common_kind(None, first)?;
     for arm in arms {
-        kind = agreed(kind, arm.value.kind)?;
+        kind = common_kind(kind, arm.value.kind)?;
     }
     Ok(kind)
 }
@@ -130,7 +130,7 @@ fn otherwise_of(alloc: Global, otherwise: Option<Typed>) -> Result<Option<Boxed<
     }
 }
 
-fn searched(
+fn case_expr(
     alloc: Global,
     arms: Seq<TypedArm>,
     otherwise: Option<Typed>,
@@ -142,11 +142,11 @@ fn searched(
 }
 
 #[tactic(auto, unfolding(crate::specs::Operators::case_of))]
-pub(crate) fn case_of_arms(alloc: Global, arms: Seq<TypedArm>, otherwise: Option<Typed>) -> Bound
+pub(crate) fn case_of_arms(alloc: Global, arms: Seq<TypedArm>, otherwise: Option<Typed>) -> TypingResult
     ensures { Gives result (spec.case_of arms otherwise) }
 {
     let kind = case_kind(arms.as_slice(), &otherwise)?;
-    Ok(typed(searched(alloc, arms, otherwise)?, kind))
+    Ok(typed(case_expr(alloc, arms, otherwise)?, kind))
 }
 
 /// A CASE without an operand.
@@ -154,14 +154,14 @@ pub(crate) fn case_of(
     alloc: Global,
     arms: Result<Seq<TypedArm>, Refusal>,
     otherwise: Result<Option<Typed>, Refusal>,
-) -> Bound
+) -> TypingResult
     ensures { Gives result (and_then arms (λ xs. and_then otherwise (λ y. spec.case_of xs y))) }
 {
     let (arms, otherwise) = both(arms, otherwise)?;
     case_of_arms(alloc, arms, otherwise)
 }
 
-fn matching(
+fn match_expr(
     alloc: Global,
     operand: Expr,
     arms: Seq<TypedArm>,
@@ -180,20 +180,20 @@ fn match_of_arms(
     operand: Typed,
     arms: Seq<TypedArm>,
     otherwise: Option<Typed>,
-) -> Bound
+) -> TypingResult
     ensures { Gives result (spec.match_of operand arms otherwise) }
 {
     let kind = value_kind(arms.as_slice(), &otherwise)?;
-    Ok(typed(matching(alloc, operand.expr, arms, otherwise)?, kind))
+    Ok(typed(match_expr(alloc, operand.expr, arms, otherwise)?, kind))
 }
 
 /// A CASE with an operand, to which the conditions were compared.
 pub(crate) fn match_of(
     alloc: Global,
-    operand: Bound,
+    operand: TypingResult,
     arms: Result<Seq<TypedArm>, Refusal>,
     otherwise: Result<Option<Typed>, Refusal>,
-) -> Bound
+) -> TypingResult
     ensures { Gives result (and_then operand (λ x. and_then arms (λ xs. and_then otherwise (λ y. spec.match_of x xs y)))) }
 {
     let operand = operand?;

@@ -8,7 +8,7 @@ use span_schema::table::are_same;
 
 /// What a call may name.
 #[derive(Clone, Copy, Debug, PartialEq, Eq)]
-pub enum Called {
+pub enum CalledFunction {
     Aggregate(Function),
     /// DIV
     Divide,
@@ -21,18 +21,18 @@ pub enum Called {
     Coalesce,
 }
 
-const FUNCTIONS: [Called; 11] = [
-    Called::Aggregate(Function::Count),
-    Called::Aggregate(Function::Sum),
-    Called::Aggregate(Function::Min),
-    Called::Aggregate(Function::Max),
-    Called::Divide,
-    Called::Modulo,
-    Called::Length,
-    Called::StartsWith,
-    Called::If,
-    Called::IfNull,
-    Called::Coalesce,
+const FUNCTIONS: [CalledFunction; 11] = [
+    CalledFunction::Aggregate(Function::Count),
+    CalledFunction::Aggregate(Function::Sum),
+    CalledFunction::Aggregate(Function::Min),
+    CalledFunction::Aggregate(Function::Max),
+    CalledFunction::Divide,
+    CalledFunction::Modulo,
+    CalledFunction::Length,
+    CalledFunction::StartsWith,
+    CalledFunction::If,
+    CalledFunction::IfNull,
+    CalledFunction::Coalesce,
 ];
 
 fn aggregate_name(function: Function) -> &'static str
@@ -46,22 +46,22 @@ fn aggregate_name(function: Function) -> &'static str
     }
 }
 
-fn name_of(function: Called) -> &'static str
+fn name_of(function: CalledFunction) -> &'static str
     ensures { result.now ≡ spec.name_of function }
 {
     match function {
-        Called::Aggregate(function) => aggregate_name(function),
-        Called::Divide => "DIV",
-        Called::Modulo => "MOD",
-        Called::Length => "LENGTH",
-        Called::StartsWith => "STARTS_WITH",
-        Called::If => "IF",
-        Called::IfNull => "IFNULL",
-        Called::Coalesce => "COALESCE",
+        CalledFunction::Aggregate(function) => aggregate_name(function),
+        CalledFunction::Divide => "DIV",
+        CalledFunction::Modulo => "MOD",
+        CalledFunction::Length => "LENGTH",
+        CalledFunction::StartsWith => "STARTS_WITH",
+        CalledFunction::If => "IF",
+        CalledFunction::IfNull => "IFNULL",
+        CalledFunction::Coalesce => "COALESCE",
     }
 }
 
-fn first_named<'a>(functions: &'a [Called], name: &str) -> Option<&'a Called>
+fn first_named<'a>(functions: &'a [CalledFunction], name: &str) -> Option<&'a CalledFunction>
     ensures { option_copied result ≡ spec.first_named name.now functions.now }
 {
     functions
@@ -71,7 +71,7 @@ fn first_named<'a>(functions: &'a [Called], name: &str) -> Option<&'a Called>
 
 /// The function with a name, in letters of either case, if there is one.
 #[tactic(auto, unfolding(crate::specs::Functions::function_named))]
-pub fn function_named(name: &str) -> Option<Called>
+pub fn function_named(name: &str) -> Option<CalledFunction>
     ensures { result ≡ spec.function_named name.now }
 {
     first_named(&FUNCTIONS, name).copied()

@@ -16,9 +16,9 @@ pub fn takes(wanted: Kind, kind: Option<Kind>) -> bool
 }
 
 /// The one type of two operands.
-#[tactic(auto, unfolding(crate::specs::Kinds::agreed))]
-pub(crate) fn agreed(left: Option<Kind>, right: Option<Kind>) -> Result<Option<Kind>, Refusal>
-    ensures { result ≡ spec.agreed left right }
+#[tactic(auto, unfolding(crate::specs::Kinds::common_kind))]
+pub(crate) fn common_kind(left: Option<Kind>, right: Option<Kind>) -> Result<Option<Kind>, Refusal>
+    ensures { result ≡ spec.common_kind left right }
 {
     match (left, right) {
         (None, kind) => Ok(kind),

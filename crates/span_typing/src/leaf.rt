@@ -8,9 +8,9 @@ ghost use Rattle.span_typing.specs.Operators as operators;
 ghost use Rattle.span_typing.specs.Typing as spec;
 
 use super::call::operand_of;
-use super::function::Called;
+use super::function::CalledFunction;
 use super::kind::or_int;
-use super::operator::{Bound, typed};
+use super::operator::{TypingResult, typed};
 use super::scope::{Scope, column_place};
 use super::typed::{Mode, Typed};
 use span_expr::expr::Expr;
@@ -24,7 +24,7 @@ use span_value::value::{Kind, Value};
 use std::alloc::Global;
 
 #[tactic(auto, unfolding(crate::specs::Typing::string))]
-pub(crate) fn string(alloc: Global, spelled: &str) -> Bound
+pub(crate) fn string(alloc: Global, spelled: &str) -> TypingResult
     ensures { Gives result (Ok (spec.string spelled.now)) }
 {
     let text = text_of(alloc, spelled)?;
@@ -32,7 +32,7 @@ pub(crate) fn string(alloc: Global, spelled: &str) -> Bound
 }
 
 #[tactic(auto, unfolding(crate::specs::Typing::bytes))]
-pub(crate) fn bytes(alloc: Global, spelled: &str) -> Bound
+pub(crate) fn bytes(alloc: Global, spelled: &str) -> TypingResult
     ensures { Gives result (Ok (spec.bytes spelled.now)) }
 {
     let bytes = bytes_of(alloc, spelled)?;
@@ -74,7 +74,7 @@ fn parameter_spelt<'a>(parameters: &'a [Parameter], spelled: &str) -> Option<&'a
 
 /// A parameter, spelt with its `@`. The error is `NoParameter` where it was given no value.
 #[tactic(auto, unfolding(crate::specs::Typing::parameter))]
-pub(crate) fn parameter(alloc: Global, params: &Params, spelled: &str) -> Bound
+pub(crate) fn parameter(alloc: Global, params: &Params, spelled: &str) -> TypingResult
     ensures { Gives result (spec.parameter params.now spelled.now) }
 {
     match parameter_spelt(params.as_slice(), spelled) {
@@ -98,7 +98,7 @@ fn kind_at(scope: &Scope, place: usize) -> Kind
 
 /// The column at a place of the FROM. The error is `NotGrouped` where the mode is rows of the groups and it is no grouped column.
 #[tactic(auto, unfolding(crate::specs::Typing::column_at))]
-pub fn column_at(scope: &Scope, mode: Mode, place: usize) -> Bound
+pub fn column_at(scope: &Scope, mode: Mode, place: usize) -> TypingResult
     ensures { result ≡ spec.column_at scope.now mode place }
 {
     let kind = kind_at(scope, place);
@@ -108,7 +108,7 @@ pub fn column_at(scope: &Scope, mode: Mode, place: usize) -> Bound
     }
 }
 
-fn key_typed(kind: Kind, key: Option<usize>) -> Bound
+fn key_typed(kind: Kind, key: Option<usize>) -> TypingResult
     ensures { result ≡ spec.key_typed kind key }
 {
     match key {
@@ -126,7 +126,7 @@ fn place_of_key(keys: &[usize], column: usize) -> Option<usize>
 /// A column by its name. The error is `NoColumn` or `Ambiguous` for a name of no column, or of two; `NotGrouped` for one that
 /// is no grouped column, where the mode is rows of the groups.
 #[tactic(auto, unfolding(crate::specs::Typing::column))]
-pub(crate) fn column(scope: &Scope, mode: Mode, column: &Column) -> Bound
+pub(crate) fn column(scope: &Scope, mode: Mode, column: &Column) -> TypingResult
     ensures { result ≡ spec.column scope.now mode column.now }
 {
     column_at(scope, mode, column_place(scope, column)?)
@@ -150,7 +150,7 @@ fn new_aggregate(
     aggregate: Aggregate,
     kind: Kind,
     found: &mut Seq<Aggregate>,
-) -> Bound
+) -> TypingResult
     ensures { Leaves result found.new (spec.new_aggregate scope.now mode aggregate kind found.old) }
 {
     match mode {
@@ -170,13 +170,13 @@ fn new_aggregate(
 pub(crate) fn call_star(
     scope: &Scope,
     mode: Mode,
-    function: Option<Called>,
+    function: Option<CalledFunction>,
     found: &mut Seq<Aggregate>,
-) -> Bound
+) -> TypingResult
     ensures { Leaves result found.new (spec.call_star scope.now function mode found.old) }
 {
     match function {
-        Some(Called::Aggregate(Function::Count)) => {
+        Some(CalledFunction::Aggregate(Function::Count)) => {
             new_aggregate(scope, mode, Aggregate::CountRows, Kind::Int, found)
         }
         _ => Err(Refusal::TypeMismatch),
@@ -201,7 +201,7 @@ pub(crate) fn aggregate(
     function: Function,
     operands: Result<Seq<Typed>, Refusal>,
     found: &mut Seq<Aggregate>,
-) -> Bound
+) -> TypingResult
     ensures { Leaves result found.new (and_then operands (λ xs. spec.aggregate scope.now mode function xs found.old)) }
 {
     let Typed { expr, kind } = operand_of(function, operands)?;

@@ -3,8 +3,8 @@ ghost use Rattle.std.specs.Prelude.{◌≡◌, ◌++◌, ◌∷◌, [], Ok, Err}
 ghost use Rattle.span_typing.specs.Steps.{Gives, and_then};
 ghost use Rattle.span_typing.specs.Typing as spec;
 
-use super::kind::agreed;
-use super::operator::{Bound, are_conditions, typed};
+use super::kind::common_kind;
+use super::operator::{TypingResult, are_conditions, typed};
 use super::typed::{Typed, TypedArm};
 use span_expr::expr::Expr;
 use span_value::refusal::Refusal;
@@ -14,7 +14,7 @@ use sqlite_items::{Boxed, Items};
 use std::alloc::Global;
 
 /// The type of what was found, if it was.
-pub(crate) fn kind_of(found: &Bound) -> Option<Kind>
+pub(crate) fn kind_of(found: &TypingResult) -> Option<Kind>
     ensures { result ≡ spec.kind_of found.now }
 {
     match found {
@@ -24,7 +24,7 @@ pub(crate) fn kind_of(found: &Bound) -> Option<Kind>
 }
 
 /// What was found before, and one more after it.
-pub(crate) fn pushed<T: Drop>(so_far: Seq<T>, next: Result<T, Refusal>) -> Result<Seq<T>, Refusal>
+pub(crate) fn push_result<T: Drop>(so_far: Seq<T>, next: Result<T, Refusal>) -> Result<Seq<T>, Refusal>
     ensures { Gives result (and_then next (λ x. Ok (so_far ++ x ∷ []))) }
 {
     let next = next?;
@@ -37,7 +37,7 @@ pub(crate) fn pushed<T: Drop>(so_far: Seq<T>, next: Result<T, Refusal>) -> Resul
 
 /// An operand of an AND or an OR whose first operand is of this type.
 #[tactic(auto, unfolding(crate::specs::Typing::condition_of))]
-pub(crate) fn condition_of(kind: Option<Kind>, operand: Bound) -> Result<Expr, Refusal>
+pub(crate) fn condition_of(kind: Option<Kind>, operand: TypingResult) -> Result<Expr, Refusal>
     ensures { Gives result (and_then operand (λ x. spec.condition_of kind x)) }
 {
     let operand = operand?;
@@ -49,16 +49,16 @@ pub(crate) fn condition_of(kind: Option<Kind>, operand: Bound) -> Result<Expr, R
 }
 
 /// A condition, which must be of the type of the operand of the CASE.
-#[tactic(auto, unfolding(crate::specs::Typing::alike))]
-pub(crate) fn alike(kind: Option<Kind>, condition: Bound) -> Bound
-    ensures { Gives result (and_then condition (λ x. spec.alike kind x)) }
+#[tactic(auto, unfolding(crate::specs::Typing::check_kind))]
+pub(crate) fn check_kind(kind: Option<Kind>, condition: TypingResult) -> TypingResult
+    ensures { Gives result (and_then condition (λ x. spec.check_kind kind x)) }
 {
     let condition = condition?;
-    let _ = agreed(kind, condition.kind)?;
+    let _ = common_kind(kind, condition.kind)?;
     Ok(condition)
 }
 
-pub(crate) fn arm_of(condition: Bound, value: Bound) -> Result<TypedArm, Refusal>
+pub(crate) fn arm_of(condition: TypingResult, value: TypingResult) -> Result<TypedArm, Refusal>
     ensures { Gives result (and_then condition (λ c. and_then value (λ v. Ok (spec.arm_typed c v)))) }
 {
     Ok(TypedArm {
@@ -69,7 +69,7 @@ pub(crate) fn arm_of(condition: Bound, value: Bound) -> Result<TypedArm, Refusal
 
 /// An AND, of its first operand and the others.
 #[tactic(auto, unfolding(crate::specs::Typing::all_true))]
-pub(crate) fn all_true(alloc: Global, first: Bound, more: Result<Seq<Expr>, Refusal>) -> Bound
+pub(crate) fn all_true(alloc: Global, first: TypingResult, more: Result<Seq<Expr>, Refusal>) -> TypingResult
     ensures { Gives result (and_then first (λ x. and_then more (λ es. Ok (spec.all_true x es)))) }
 {
     let first = first?;
@@ -79,7 +79,7 @@ pub(crate) fn all_true(alloc: Global, first: Bound, more: Result<Seq<Expr>, Refu
 
 /// An OR, of its first operand and the others.
 #[tactic(auto, unfolding(crate::specs::Typing::some_true))]
-pub(crate) fn some_true(alloc: Global, first: Bound, more: Result<Seq<Expr>, Refusal>) -> Bound
+pub(crate) fn some_true(alloc: Global, first: TypingResult, more: Result<Seq<Expr>, Refusal>) -> TypingResult
     ensures { Gives result (and_then first (λ x. and_then more (λ es. Ok (spec.some_true x es)))) }
 {
     let first = first?;
@@ -88,7 +88,7 @@ pub(crate) fn some_true(alloc: Global, first: Bound, more: Result<Seq<Expr>, Ref
 }
 
 /// A call of a name that is no function.
-pub(crate) fn unknown(operands: Result<Seq<Typed>, Refusal>) -> Bound
+pub(crate) fn unknown(operands: Result<Seq<Typed>, Refusal>) -> TypingResult
     ensures { Gives result (and_then operands (λ xs. Err Refusal.TypeMismatch)) }
 {
     let _ = operands?;

@@ -4,11 +4,11 @@
 ghost use Rattle.std.specs.Prelude.{◌≡◌, ◌∷◌, [], Ok, IfOk};
 ghost use Rattle.span_typing.specs.Steps.{Gives, and_then};
 ghost use Rattle.span_expr.specs.declared.expr.Expr.TheVariants as expr;
-ghost use Rattle.span_typing.specs.Kinds.{all_agreed};
+ghost use Rattle.span_typing.specs.Kinds.{common_kind_of_all};
 ghost use Rattle.span_typing.specs.Operators as spec;
-ghost use Rattle.span_typing.specs.Typing.{linked, chained};
+ghost use Rattle.span_typing.specs.Typing.{append_link, chain_of};
 
-use super::kind::{agreed, takes, text_kind};
+use super::kind::{common_kind, takes, text_kind};
 use super::typed::{Chain, Typed};
 use span_expr::expr::{Comparison, Expr, Link, Operator};
 use span_expr::pattern::parts_of;
@@ -20,7 +20,7 @@ use sqlite_items::Boxed;
 use std::alloc::{AllocError, Global};
 
 /// The result for a tree, or for a part of one.
-pub(crate) type Bound = Result<Typed, Refusal>;
+pub(crate) type TypingResult = Result<Typed, Refusal>;
 
 pub(crate) fn typed(expr: Expr, kind: Kind) -> Typed
     ensures { result ≡ spec.typed expr kind }
@@ -43,7 +43,7 @@ pub(crate) fn both<A: Drop, B: Drop>(
 }
 
 /// The expression in a box.
-pub(crate) fn boxed(alloc: Global, operand: Typed) -> Result<Boxed<Expr>, AllocError>
+pub(crate) fn box_expr(alloc: Global, operand: Typed) -> Result<Boxed<Expr>, AllocError>
     ensures { IfOk result (λ e. e ≡ operand.expr) }
 {
     Boxed::new(alloc, operand.expr)
@@ -51,7 +51,7 @@ pub(crate) fn boxed(alloc: Global, operand: Typed) -> Result<Boxed<Expr>, AllocE
 
 /// An integer literal. The error is `BadToken` for one outside INT64, which no token is.
 #[tactic(auto, unfolding(crate::specs::Operators::integer))]
-pub(crate) fn integer(literal: tree::Integer) -> Bound
+pub(crate) fn integer(literal: tree::Integer) -> TypingResult
     ensures { Gives result (spec.integer literal) }
 {
     match i64::try_from(literal.value) {
@@ -63,9 +63,9 @@ pub(crate) fn integer(literal: tree::Integer) -> Bound
     }
 }
 
-#[tactic(auto, unfolding(crate::specs::Operators::negative))]
-pub(crate) fn negative(alloc: Global, operand: Bound) -> Bound
-    ensures { Gives result (and_then operand spec.negative) }
+#[tactic(auto, unfolding(crate::specs::Operators::unary_minus))]
+pub(crate) fn unary_minus(alloc: Global, operand: TypingResult) -> TypingResult
+    ensures { Gives result (and_then operand spec.unary_minus) }
 {
     let Typed { expr, kind } = operand?;
     if takes(Kind::Int, kind) {
@@ -75,9 +75,9 @@ pub(crate) fn negative(alloc: Global, operand: Bound) -> Bound
     }
 }
 
-#[tactic(auto, unfolding(crate::specs::Operators::denied))]
-pub(crate) fn denied(alloc: Global, operand: Bound) -> Bound
-    ensures { Gives result (and_then operand spec.denied) }
+#[tactic(auto, unfolding(crate::specs::Operators::logical_not))]
+pub(crate) fn logical_not(alloc: Global, operand: TypingResult) -> TypingResult
+    ensures { Gives result (and_then operand spec.logical_not) }
 {
     let Typed { expr, kind } = operand?;
     if takes(Kind::Bool, kind) {
@@ -88,7 +88,7 @@ pub(crate) fn denied(alloc: Global, operand: Bound) -> Bound
 }
 
 #[tactic(auto, unfolding(crate::specs::Operators::null_test))]
-pub(crate) fn null_test(alloc: Global, operand: Bound) -> Bound
+pub(crate) fn null_test(alloc: Global, operand: TypingResult) -> TypingResult
     ensures { Gives result (and_then operand (λ x. Ok (spec.null_test x))) }
 {
     let Typed { expr, .. } = operand?;
@@ -96,16 +96,16 @@ pub(crate) fn null_test(alloc: Global, operand: Bound) -> Bound
 }
 
 #[tactic(auto, unfolding(crate::specs::Operators::comparison_of))]
-fn comparison_of(comparison: tree::Comparison) -> Comparison
+fn comparison_of(comparison: tree::ComparisonOperator) -> Comparison
     ensures { result ≡ spec.comparison_of comparison }
 {
     match comparison {
-        tree::Comparison::Equal => Comparison::Equal,
-        tree::Comparison::NotEqual => Comparison::NotEqual,
-        tree::Comparison::Less => Comparison::Less,
-        tree::Comparison::AtMost => Comparison::AtMost,
-        tree::Comparison::Greater => Comparison::Greater,
-        tree::Comparison::AtLeast => Comparison::AtLeast,
+        tree::ComparisonOperator::Equal => Comparison::Equal,
+        tree::ComparisonOperator::NotEqual => Comparison::NotEqual,
+        tree::ComparisonOperator::Less => Comparison::Less,
+        tree::ComparisonOperator::AtMost => Comparison::AtMost,
+        tree::ComparisonOperator::Greater => Comparison::Greater,
+        tree::ComparisonOperator::AtLeast => Comparison::AtLeast,
     }
 }
 
@@ -122,31 +122,31 @@ fn comparison_expr(
     Ok(Expr::Compare(left, comparison, right))
 }
 
-#[tactic(auto, unfolding(crate::specs::Operators::compared))]
-fn compared_operands(
+#[tactic(auto, unfolding(crate::specs::Operators::comparison_test))]
+fn compare_operands(
     alloc: Global,
     left: Typed,
-    comparison: tree::Comparison,
+    comparison: tree::ComparisonOperator,
     right: Typed,
-) -> Bound
-    ensures { Gives result (spec.compared comparison left right) }
+) -> TypingResult
+    ensures { Gives result (spec.comparison_test comparison left right) }
 {
-    let _ = agreed(left.kind, right.kind)?;
+    let _ = common_kind(left.kind, right.kind)?;
     let comparison = comparison_of(comparison);
-    let compared = comparison_expr(alloc, left.expr, comparison, right.expr)?;
-    Ok(typed(compared, Kind::Bool))
+    let comparison_test = comparison_expr(alloc, left.expr, comparison, right.expr)?;
+    Ok(typed(comparison_test, Kind::Bool))
 }
 
-pub(crate) fn compared(
+pub(crate) fn comparison_test(
     alloc: Global,
-    left: Bound,
-    comparison: tree::Comparison,
-    right: Bound,
-) -> Bound
-    ensures { Gives result (and_then left (λ x. and_then right (λ y. spec.compared comparison x y))) }
+    left: TypingResult,
+    comparison: tree::ComparisonOperator,
+    right: TypingResult,
+) -> TypingResult
+    ensures { Gives result (and_then left (λ x. and_then right (λ y. spec.comparison_test comparison x y))) }
 {
     let left = left?;
-    compared_operands(alloc, left, comparison, right?)
+    compare_operands(alloc, left, comparison, right?)
 }
 
 fn range_test(alloc: Global, operand: Expr, low: Expr, high: Expr) -> Result<Expr, AllocError>
@@ -159,29 +159,29 @@ fn range_test(alloc: Global, operand: Expr, low: Expr, high: Expr) -> Result<Exp
 }
 
 /// The one type of three operands.
-fn all_agreed(
+fn common_kind_of_all(
     first: Option<Kind>,
     second: Option<Kind>,
     third: Option<Kind>,
 ) -> Result<Option<Kind>, Refusal>
-    ensures { result ≡ all_agreed (first ∷ second ∷ third ∷ []) }
+    ensures { result ≡ common_kind_of_all (first ∷ second ∷ third ∷ []) }
 {
-    let kind = agreed(None, first)?;
-    let kind = agreed(kind, second)?;
-    agreed(kind, third)
+    let kind = common_kind(None, first)?;
+    let kind = common_kind(kind, second)?;
+    common_kind(kind, third)
 }
 
 /// The three operands of a BETWEEN are checked together.
 #[tactic(auto, unfolding(crate::specs::Operators::between))]
-fn between_operands(alloc: Global, operand: Typed, low: Typed, high: Typed) -> Bound
+fn between_operands(alloc: Global, operand: Typed, low: Typed, high: Typed) -> TypingResult
     ensures { Gives result (spec.between operand low high) }
 {
-    let _ = all_agreed(operand.kind, low.kind, high.kind)?;
+    let _ = common_kind_of_all(operand.kind, low.kind, high.kind)?;
     let test = range_test(alloc, operand.expr, low.expr, high.expr)?;
     Ok(typed(test, Kind::Bool))
 }
 
-pub(crate) fn between(alloc: Global, operand: Bound, low: Bound, high: Bound) -> Bound
+pub(crate) fn between(alloc: Global, operand: TypingResult, low: TypingResult, high: TypingResult) -> TypingResult
     ensures { Gives result (and_then operand (λ x. and_then low (λ y. and_then high (λ z. spec.between x y z)))) }
 {
     let operand = operand?;
@@ -190,9 +190,9 @@ pub(crate) fn between(alloc: Global, operand: Bound, low: Bound, high: Bound) ->
 }
 
 /// A LIKE, with its pattern as it is spelt.
-#[tactic(auto, unfolding(crate::specs::Operators::liked))]
-pub(crate) fn liked(alloc: Global, operand: Bound, pattern: &str) -> Bound
-    ensures { Gives result (and_then operand (spec.liked pattern.now)) }
+#[tactic(auto, unfolding(crate::specs::Operators::like_test))]
+pub(crate) fn like_test(alloc: Global, operand: TypingResult, pattern: &str) -> TypingResult
+    ensures { Gives result (and_then operand (spec.like_test pattern.now)) }
 {
     let Typed { expr, kind } = operand?;
     if !takes(Kind::Str, kind) {
@@ -223,16 +223,16 @@ pub(crate) fn operator_of(operator: tree::Operator) -> Operator
 }
 
 /// The type of a chain with one more operator.
-#[tactic(auto, unfolding(crate::specs::Operators::linked_kind))]
-pub(crate) fn linked_kind(
+#[tactic(auto, unfolding(crate::specs::Operators::link_kind))]
+pub(crate) fn link_kind(
     operator: tree::Operator,
     left: Option<Kind>,
     right: Option<Kind>,
 ) -> Result<Kind, Refusal>
-    ensures { result ≡ spec.linked_kind operator left right }
+    ensures { result ≡ spec.link_kind operator left right }
 {
     if operator == tree::Operator::Concat {
-        return text_kind(agreed(left, right)?);
+        return text_kind(common_kind(left, right)?);
     }
     if takes(Kind::Int, left) && takes(Kind::Int, right) {
         Ok(Kind::Int)
@@ -242,20 +242,20 @@ pub(crate) fn linked_kind(
 }
 
 /// A chain with one more operator.
-#[tactic(auto, unfolding(crate::specs::Typing::linked))]
-pub(crate) fn linked(
+#[tactic(auto, unfolding(crate::specs::Typing::append_link))]
+pub(crate) fn append_link(
     chain: Chain,
     operator: tree::Operator,
-    operand: Bound,
+    operand: TypingResult,
 ) -> Result<Chain, Refusal>
-    ensures { Gives result (and_then operand (λ x. linked chain operator x)) }
+    ensures { Gives result (and_then operand (λ x. append_link chain operator x)) }
 {
     let Typed { expr, kind } = operand?;
     let Chain {
         kind: before,
         mut links,
     } = chain;
-    let kind = linked_kind(operator, before, kind)?;
+    let kind = link_kind(operator, before, kind)?;
     links.push(Link {
         operator: operator_of(operator),
         operand: expr,
@@ -267,9 +267,9 @@ pub(crate) fn linked(
 }
 
 /// A chain after its first operand.
-#[tactic(auto, unfolding(crate::specs::Typing::chained))]
-pub(crate) fn chained(alloc: Global, first: Bound, chain: Result<Chain, Refusal>) -> Bound
-    ensures { Gives result (and_then first (λ x. and_then chain (λ c. Ok (chained x c)))) }
+#[tactic(auto, unfolding(crate::specs::Typing::chain_of))]
+pub(crate) fn chain_of(alloc: Global, first: TypingResult, chain: Result<Chain, Refusal>) -> TypingResult
+    ensures { Gives result (and_then first (λ x. and_then chain (λ c. Ok (chain_of x c)))) }
 {
     let first = first?;
     let Chain { kind, links } = chain?;

@@ -43,11 +43,11 @@ fn is_named(name: &str, found: &Option<Text>) -> bool
 fn fits(item: Option<usize>, name: &str, column: &ScopeColumn) -> bool
     ensures { result ≡ spec.fits item name.now column.now }
 {
-    let is_of = match item {
+    let is_in_item = match item {
         None => true,
         Some(item) => column.item == item,
     };
-    is_of && is_named(name, &column.name)
+    is_in_item && is_named(name, &column.name)
 }
 
 /// The place of the item with a name.

@@ -9,13 +9,13 @@ ghost use Rattle.span_typing.specs.Functions as functions;
 ghost use Rattle.span_typing.specs.Operators as operators;
 ghost use Rattle.span_typing.specs.Typing as spec;
 
-use super::call::applied;
-use super::choice::{among, case_of, match_of};
-use super::function::{Called, function_named};
+use super::call::apply_function;
+use super::choice::{in_list, case_of, match_of};
+use super::function::{CalledFunction, function_named};
 use super::leaf::{aggregate, bytes, call_star, column, null, parameter, string, truth};
-use super::operand::{alike, all_true, arm_of, condition_of, kind_of, pushed, some_true, unknown};
+use super::operand::{check_kind, all_true, arm_of, condition_of, kind_of, push_result, some_true, unknown};
 use super::operator::{
-    Bound, between, chained, compared, denied, integer, liked, linked, negative, null_test,
+    TypingResult, between, chain_of, comparison_test, logical_not, integer, like_test, append_link, unary_minus, null_test,
 };
 use super::scope::Scope;
 use super::typed::{Chain, Mode, Typed, TypedArm};
@@ -43,7 +43,7 @@ impl Names<'_> {
     /// The error is the first of these in the tree, where operands come before their operator: `NoColumn`, `Ambiguous`,
     /// `TypeMismatch`, `NotGrouped`, `BadPattern`, `NoParameter`; or out of memory. What is found then does not matter.
     #[cycle(typing)]
-    pub fn bind(self, mode: Mode, tree: &tree::Expr, found: &mut Seq<Aggregate>) -> Bound
+    pub fn bind(self, mode: Mode, tree: &tree::Expr, found: &mut Seq<Aggregate>) -> TypingResult
         ensures { Leaves result found.new (spec.typing self.entry.scope.now self.entry.params.now tree.now mode found.old) }
     {
         match tree {
@@ -63,7 +63,7 @@ impl Names<'_> {
             tree::Expr::Case(operand, arms, otherwise) => {
                 self.case(mode, operand, arms.as_slice(), otherwise, found)
             }
-            tree::Expr::Negative(a) => negative(self.alloc, self.bind(mode, a.get(), found)),
+            tree::Expr::Negative(a) => unary_minus(self.alloc, self.bind(mode, a.get(), found)),
             tree::Expr::Chain(first, links) => {
                 self.chain(mode, first.get(), links.as_slice(), found)
             }
@@ -71,7 +71,7 @@ impl Names<'_> {
                 self.comparison(mode, a.get(), *comparison, b.get(), found)
             }
             tree::Expr::IsNull(a) => null_test(self.alloc, self.bind(mode, a.get(), found)),
-            tree::Expr::Like(a, pattern) => liked(
+            tree::Expr::Like(a, pattern) => like_test(
                 self.alloc,
                 self.bind(mode, a.get(), found),
                 pattern.text.as_str(),
@@ -82,7 +82,7 @@ impl Names<'_> {
             tree::Expr::In(a, members) => {
                 self.membership(mode, a.get(), members.as_slice(), found)
             }
-            tree::Expr::Not(a) => denied(self.alloc, self.bind(mode, a.get(), found)),
+            tree::Expr::Not(a) => logical_not(self.alloc, self.bind(mode, a.get(), found)),
             tree::Expr::And(first, more) => {
                 self.conjunction(mode, first.get(), more.as_slice(), found)
             }
@@ -97,15 +97,15 @@ impl Names<'_> {
         self,
         mode: Mode,
         left: &tree::Expr,
-        comparison: tree::Comparison,
+        comparison: tree::ComparisonOperator,
         right: &tree::Expr,
         found: &mut Seq<Aggregate>,
-    ) -> Bound
-        ensures { Leaves result found.new (spec.of_two (operators.compared comparison) (spec.typing self.entry.scope.now self.entry.params.now left.now) (spec.typing self.entry.scope.now self.entry.params.now right.now) mode found.old) }
+    ) -> TypingResult
+        ensures { Leaves result found.new (spec.of_two (operators.comparison_test comparison) (spec.typing self.entry.scope.now self.entry.params.now left.now) (spec.typing self.entry.scope.now self.entry.params.now right.now) mode found.old) }
     {
         let left = self.bind(mode, left, found);
         let right = self.bind(mode, right, found);
-        compared(self.alloc, left, comparison, right)
+        comparison_test(self.alloc, left, comparison, right)
     }
 
     #[cycle(typing)]
@@ -116,7 +116,7 @@ impl Names<'_> {
         low: &tree::Expr,
         high: &tree::Expr,
         found: &mut Seq<Aggregate>,
-    ) -> Bound
+    ) -> TypingResult
         ensures { Leaves result found.new (spec.of_three operators.between (spec.typing self.entry.scope.now self.entry.params.now operand.now) (spec.typing self.entry.scope.now self.entry.params.now low.now) (spec.typing self.entry.scope.now self.entry.params.now high.now) mode found.old) }
     {
         let operand = self.bind(mode, operand, found);
@@ -133,12 +133,12 @@ impl Names<'_> {
         operand: &tree::Expr,
         members: &[tree::Expr],
         found: &mut Seq<Aggregate>,
-    ) -> Bound
+    ) -> TypingResult
         ensures { Leaves result found.new (spec.membership (spec.typing self.entry.scope.now self.entry.params.now operand.now) (map (spec.typing self.entry.scope.now self.entry.params.now) members.now) mode found.old) }
     {
         let operand = self.bind(mode, operand, found);
         let members = self.each(mode, members, found);
-        among(self.alloc, operand, members)
+        in_list(self.alloc, operand, members)
     }
 
     #[cycle(typing)]
@@ -148,12 +148,12 @@ impl Names<'_> {
         first: &tree::Expr,
         links: &[tree::Link],
         found: &mut Seq<Aggregate>,
-    ) -> Bound
+    ) -> TypingResult
         ensures { Leaves result found.new (spec.chain (spec.typing self.entry.scope.now self.entry.params.now first.now) (map (spec.link_typing self.entry.scope.now self.entry.params.now) links.now) mode found.old) }
     {
         let first = self.bind(mode, first, found);
         let chain = self.links(mode, kind_of(&first), links, found);
-        chained(self.alloc, first, chain)
+        chain_of(self.alloc, first, chain)
     }
 
     #[cycle(typing)]
@@ -163,7 +163,7 @@ impl Names<'_> {
         first: &tree::Expr,
         more: &[tree::Expr],
         found: &mut Seq<Aggregate>,
-    ) -> Bound
+    ) -> TypingResult
         ensures { Leaves result found.new (spec.junction spec.all_true (spec.typing self.entry.scope.now self.entry.params.now first.now) (map (spec.typing self.entry.scope.now self.entry.params.now) more.now) mode found.old) }
     {
         let first = self.bind(mode, first, found);
@@ -178,7 +178,7 @@ impl Names<'_> {
         first: &tree::Expr,
         more: &[tree::Expr],
         found: &mut Seq<Aggregate>,
-    ) -> Bound
+    ) -> TypingResult
         ensures { Leaves result found.new (spec.junction spec.some_true (spec.typing self.entry.scope.now self.entry.params.now first.now) (map (spec.typing self.entry.scope.now self.entry.params.now) more.now) mode found.old) }
     {
         let first = self.bind(mode, first, found);
@@ -199,7 +199,7 @@ impl Names<'_> {
         let mut all = Seq::new(self.alloc);
         for operand in operands {
             let next = self.bind(mode, operand, found);
-            all = pushed(all, next)?;
+            all = push_result(all, next)?;
         }
         Ok(all)
     }
@@ -218,7 +218,7 @@ impl Names<'_> {
         let mut all = Seq::new(self.alloc);
         for operand in operands {
             let next = condition_of(kind, self.bind(mode, operand, found));
-            all = pushed(all, next)?;
+            all = push_result(all, next)?;
         }
         Ok(all)
     }
@@ -240,7 +240,7 @@ impl Names<'_> {
         };
         for link in links {
             let operand = self.bind(mode, &link.operand, found);
-            chain = linked(chain, link.operator, operand)?;
+            chain = append_link(chain, link.operator, operand)?;
         }
         Ok(chain)
     }
@@ -259,7 +259,7 @@ impl Names<'_> {
         for arm in arms {
             let condition = self.bind(mode, &arm.condition, found);
             let value = self.bind(mode, &arm.value, found);
-            all = pushed(all, arm_of(condition, value))?;
+            all = push_result(all, arm_of(condition, value))?;
         }
         Ok(all)
     }
@@ -277,9 +277,9 @@ impl Names<'_> {
     {
         let mut all = Seq::new(self.alloc);
         for arm in arms {
-            let condition = alike(kind, self.bind(mode, &arm.condition, found));
+            let condition = check_kind(kind, self.bind(mode, &arm.condition, found));
             let value = self.bind(mode, &arm.value, found);
-            all = pushed(all, arm_of(condition, value))?;
+            all = push_result(all, arm_of(condition, value))?;
         }
         Ok(all)
     }
@@ -306,16 +306,16 @@ impl Names<'_> {
         name: &str,
         operands: &[tree::Expr],
         found: &mut Seq<Aggregate>,
-    ) -> Bound
+    ) -> TypingResult
         ensures { Leaves result found.new (spec.call self.entry.scope.now (functions.function_named name.now) (map (spec.typing self.entry.scope.now self.entry.params.now) operands.now) mode found.old) }
     {
         match function_named(name) {
             None => unknown(self.each(mode, operands, found)),
-            Some(Called::Aggregate(function)) => {
+            Some(CalledFunction::Aggregate(function)) => {
                 let operands = self.each(Mode::Rows, operands, found);
                 aggregate(self.scope, mode, function, operands, found)
             }
-            Some(function) => applied(self.alloc, function, self.each(mode, operands, found)),
+            Some(function) => apply_function(self.alloc, function, self.each(mode, operands, found)),
         }
     }
 
@@ -327,7 +327,7 @@ impl Names<'_> {
         arms: &[tree::Arm],
         otherwise: &Option<Boxed<tree::Expr>>,
         found: &mut Seq<Aggregate>,
-    ) -> Bound
+    ) -> TypingResult
         ensures { Leaves result found.new (spec.case (option_map (spec.typing self.entry.scope.now self.entry.params.now) operand.now) (map (spec.arm_typing self.entry.scope.now self.entry.params.now) arms.now) (option_map (spec.typing self.entry.scope.now self.entry.params.now) otherwise.now) mode found.old) }
     {
         match operand {

@@ -3,7 +3,7 @@ use Rattle.std.proofs.Common.{◌≡◌, ◌≢◌, ◌⊎◌, ℕ, zero, suc, �
 use Rattle.std.specs.Option.{option_map}
 use Rattle.std.specs.Char.{digit_char}
 use Rattle.std.specs.List.{All}
-use Rattle.span_value.specs.Cells.{doubled, hex_pairs, halved, halved_behind, half_byte, byte_of, unhexed, IsClean}
+use Rattle.span_value.specs.Cells.{escaped, hex_pairs, unescaped, unescaped_after, half_byte, byte_of, decoded_hex, IsClean}
 
 if_true : {A : Type 0} (b : Bool) (x y : A) → b ≡ true → (if b then x else y) ≡ x
 if_true true x y h = refl
@@ -23,49 +23,49 @@ append_nil (t ∷ a) = ap (λ (w : List ℕ). t ∷ w) (append_nil a)
 
 -- ---- backslashes
 
-double_back : (bs : List ℕ) → doubled (92 ∷ bs) ≡ 92 ∷ 92 ∷ doubled bs
-unfolding doubled
+double_back : (bs : List ℕ) → escaped (92 ∷ bs) ≡ 92 ∷ 92 ∷ escaped bs
+unfolding escaped
 double_back bs = refl
 
-double_other : (b : ℕ) (bs : List ℕ) → b ≢ 92 → doubled (b ∷ bs) ≡ b ∷ doubled bs
-unfolding doubled
+double_other : (b : ℕ) (bs : List ℕ) → b ≢ 92 → escaped (b ∷ bs) ≡ b ∷ escaped bs
+unfolding escaped
 double_other b bs n = if_false (b == 92) _ _ (differ b 92 (b == 92) refl n)
 
-double_clean : (xs ys : List ℕ) → IsClean xs → doubled (xs ++ ys) ≡ xs ++ doubled ys
+double_clean : (xs ys : List ℕ) → IsClean xs → escaped (xs ++ ys) ≡ xs ++ escaped ys
 double_clean [] ys h = refl
 double_clean (x ∷ xs) ys h = double_other x (xs ++ ys) (h 0 (omega arith)) ∙ ap (λ (w : List ℕ). x ∷ w) (double_clean xs ys (λ i l. h (suc i) (omega arith)))
 
-double_nil : doubled [] ≡ []
-unfolding doubled
+double_nil : escaped [] ≡ []
+unfolding escaped
 double_nil = refl
 
 -- a text without a backslash is unchanged by doubling
-pub double_last : (xs : List ℕ) → IsClean xs → doubled xs ≡ xs
-double_last xs h = ap doubled (sym (append_nil xs)) ∙ double_clean xs [] h ∙ ap (λ (w : List ℕ). xs ++ w) double_nil ∙ append_nil xs
+pub double_last : (xs : List ℕ) → IsClean xs → escaped xs ≡ xs
+double_last xs h = ap escaped (sym (append_nil xs)) ∙ double_clean xs [] h ∙ ap (λ (w : List ℕ). xs ++ w) double_nil ∙ append_nil xs
 
 -- the beginning of the doubled text, up to a backslash
-pub double_step : (text out front behind rest : List ℕ) → out ++ doubled rest ≡ doubled text → rest ≡ front ++ (92 ∷ behind) → IsClean front
-    → ((out ++ front) ++ (92 ∷ 92 ∷ [])) ++ doubled behind ≡ doubled text
-double_step text out front behind rest h e clean =
-    append_assoc (out ++ front) (92 ∷ 92 ∷ []) (doubled behind) ∙ append_assoc out front (92 ∷ 92 ∷ doubled behind)
-    ∙ ap (λ (w : List ℕ). out ++ w) (ap (λ (w : List ℕ). front ++ w) (sym (double_back behind)) ∙ sym (double_clean front (92 ∷ behind) clean) ∙ ap doubled (sym e)) ∙ h
+pub double_step : (text out front tail rest : List ℕ) → out ++ escaped rest ≡ escaped text → rest ≡ front ++ (92 ∷ tail) → IsClean front
+    → ((out ++ front) ++ (92 ∷ 92 ∷ [])) ++ escaped tail ≡ escaped text
+double_step text out front tail rest h e clean =
+    append_assoc (out ++ front) (92 ∷ 92 ∷ []) (escaped tail) ∙ append_assoc out front (92 ∷ 92 ∷ escaped tail)
+    ∙ ap (λ (w : List ℕ). out ++ w) (ap (λ (w : List ℕ). front ++ w) (sym (double_back tail)) ∙ sym (double_clean front (92 ∷ tail) clean) ∙ ap escaped (sym e)) ∙ h
 
-pub double_end : (text out rest : List ℕ) → out ++ doubled rest ≡ doubled text → IsClean rest → out ++ rest ≡ doubled text
+pub double_end : (text out rest : List ℕ) → out ++ escaped rest ≡ escaped text → IsClean rest → out ++ rest ≡ escaped text
 double_end text out rest h clean = ap (λ (w : List ℕ). out ++ w) (sym (double_last rest clean)) ∙ h
 
 abbrev put : List ℕ → Option (List ℕ) → Option (List ℕ)
 put front o = option_map (λ w. front ++ w) o
 
-half_other : (b : ℕ) (bs : List ℕ) → b ≢ 92 → halved (b ∷ bs) ≡ put (b ∷ []) (halved bs)
-unfolding halved_behind
+half_other : (b : ℕ) (bs : List ℕ) → b ≢ 92 → unescaped (b ∷ bs) ≡ put (b ∷ []) (unescaped bs)
+unfolding unescaped_after
 half_other b bs n = if_false (b == 92) _ _ (differ b 92 (b == 92) refl n)
 
-half_pair : (bs : List ℕ) → halved (92 ∷ 92 ∷ bs) ≡ put (92 ∷ []) (halved bs)
-unfolding halved_behind
+half_pair : (bs : List ℕ) → unescaped (92 ∷ 92 ∷ bs) ≡ put (92 ∷ []) (unescaped bs)
+unfolding unescaped_after
 half_pair bs = refl
 
-half_alone : (bs : List ℕ) → ((rest : List ℕ) → bs ≢ 92 ∷ rest) → halved (92 ∷ bs) ≡ None
-unfolding halved_behind
+half_alone : (bs : List ℕ) → ((rest : List ℕ) → bs ≢ 92 ∷ rest) → unescaped (92 ∷ bs) ≡ None
+unfolding unescaped_after
 half_alone [] n = refl
 half_alone (b ∷ bs) n = if_false (b == 92) _ _ (differ b 92 (b == 92) refl (λ e. n bs (ap (λ (w : ℕ). w ∷ bs) e)))
 
@@ -77,49 +77,49 @@ put_nil : (o : Option (List ℕ)) → put [] o ≡ o
 put_nil None = refl
 put_nil (Some w) = refl
 
-half_clean : (xs ys : List ℕ) → IsClean xs → halved (xs ++ ys) ≡ put xs (halved ys)
-half_clean [] ys h = sym (put_nil (halved ys))
+half_clean : (xs ys : List ℕ) → IsClean xs → unescaped (xs ++ ys) ≡ put xs (unescaped ys)
+half_clean [] ys h = sym (put_nil (unescaped ys))
 half_clean (x ∷ xs) ys h =
-    half_other x (xs ++ ys) (h 0 (omega arith)) ∙ ap (λ o. put (x ∷ []) o) (half_clean xs ys (λ i l. h (suc i) (omega arith))) ∙ put_put (x ∷ []) xs (halved ys)
+    half_other x (xs ++ ys) (h 0 (omega arith)) ∙ ap (λ o. put (x ∷ []) o) (half_clean xs ys (λ i l. h (suc i) (omega arith))) ∙ put_put (x ∷ []) xs (unescaped ys)
 
-half_nil : halved [] ≡ Some []
-unfolding halved_behind
+half_nil : unescaped [] ≡ Some []
+unfolding unescaped_after
 half_nil = refl
 
-half_last : (xs : List ℕ) → IsClean xs → halved xs ≡ Some xs
-half_last xs h = ap halved (sym (append_nil xs)) ∙ half_clean xs [] h ∙ ap (λ o. put xs o) half_nil ∙ ap Some (append_nil xs)
+half_last : (xs : List ℕ) → IsClean xs → unescaped xs ≡ Some xs
+half_last xs h = ap unescaped (sym (append_nil xs)) ∙ half_clean xs [] h ∙ ap (λ o. put xs o) half_nil ∙ ap Some (append_nil xs)
 
 -- what was read so far, and what is left
 abbrev pub IsHalvedFrom : List ℕ → List ℕ → List ℕ → Type 0
-IsHalvedFrom text out rest = option_map (λ w. out ++ w) (halved rest) ≡ halved text
+IsHalvedFrom text out rest = option_map (λ w. out ++ w) (unescaped rest) ≡ unescaped text
 
 pub half_begin : (text : List ℕ) → IsHalvedFrom text [] text
-half_begin text = put_nil (halved text)
+half_begin text = put_nil (unescaped text)
 
-pub half_step : (text out front behind rest : List ℕ) → IsHalvedFrom text out rest → rest ≡ front ++ (92 ∷ 92 ∷ behind) → IsClean front → IsHalvedFrom text ((out ++ front) ++ (92 ∷ [])) behind
-half_step text out front behind rest h e clean =
-    sym (put_put (out ++ front) (92 ∷ []) (halved behind)) ∙ sym (put_put out front (put (92 ∷ []) (halved behind)))
-    ∙ ap (λ o. put out o) (ap (λ o. put front o) (sym (half_pair behind)) ∙ sym (half_clean front (92 ∷ 92 ∷ behind) clean) ∙ ap halved (sym e)) ∙ h
+pub half_step : (text out front tail rest : List ℕ) → IsHalvedFrom text out rest → rest ≡ front ++ (92 ∷ 92 ∷ tail) → IsClean front → IsHalvedFrom text ((out ++ front) ++ (92 ∷ [])) tail
+half_step text out front tail rest h e clean =
+    sym (put_put (out ++ front) (92 ∷ []) (unescaped tail)) ∙ sym (put_put out front (put (92 ∷ []) (unescaped tail)))
+    ∙ ap (λ o. put out o) (ap (λ o. put front o) (sym (half_pair tail)) ∙ sym (half_clean front (92 ∷ 92 ∷ tail) clean) ∙ ap unescaped (sym e)) ∙ h
 
-pub half_none : (text out front behind rest : List ℕ) → IsHalvedFrom text out rest → rest ≡ front ++ (92 ∷ behind) → IsClean front → ((r : List ℕ) → behind ≢ 92 ∷ r) → halved text ≡ None
-half_none text out front behind rest h e clean n =
-    sym h ∙ ap (λ o. put out o) (ap halved e ∙ half_clean front (92 ∷ behind) clean ∙ ap (λ o. put front o) (half_alone behind n))
+pub half_none : (text out front tail rest : List ℕ) → IsHalvedFrom text out rest → rest ≡ front ++ (92 ∷ tail) → IsClean front → ((r : List ℕ) → tail ≢ 92 ∷ r) → unescaped text ≡ None
+half_none text out front tail rest h e clean n =
+    sym h ∙ ap (λ o. put out o) (ap unescaped e ∙ half_clean front (92 ∷ tail) clean ∙ ap (λ o. put front o) (half_alone tail n))
 
-pub half_end : (text out rest : List ℕ) → IsHalvedFrom text out rest → IsClean rest → halved text ≡ Some (out ++ rest)
+pub half_end : (text out rest : List ℕ) → IsHalvedFrom text out rest → IsClean rest → unescaped text ≡ Some (out ++ rest)
 half_end text out rest h clean = sym h ∙ ap (λ o. put out o) (half_last rest clean)
 
 -- what was doubled is read
-pub halved_doubled : (bs : List ℕ) → halved (doubled bs) ≡ Some bs
-halved_doubled [] = ap halved double_nil ∙ half_nil
+pub halved_doubled : (bs : List ℕ) → unescaped (escaped bs) ≡ Some bs
+halved_doubled [] = ap unescaped double_nil ∙ half_nil
 halved_doubled (b ∷ bs) = halved_doubled_cons b bs (b == 92) refl (halved_doubled bs)
   where
-    halved_doubled_cons : (b : ℕ) (bs : List ℕ) (v : Bool) → (b == 92) ≡ v → halved (doubled bs) ≡ Some bs → halved (doubled (b ∷ bs)) ≡ Some (b ∷ bs)
+    halved_doubled_cons : (b : ℕ) (bs : List ℕ) (v : Bool) → (b == 92) ≡ v → unescaped (escaped bs) ≡ Some bs → unescaped (escaped (b ∷ bs)) ≡ Some (b ∷ bs)
     halved_doubled_cons b bs true e h =
         let same : b ≡ 92 = eqb-true b 92 e in
-        ap (λ (w : ℕ). halved (doubled (w ∷ bs))) same ∙ ap halved (double_back bs) ∙ half_pair (doubled bs) ∙ ap (λ o. put (92 ∷ []) o) h ∙ ap (λ (w : ℕ). Some (w ∷ bs)) (sym same)
+        ap (λ (w : ℕ). unescaped (escaped (w ∷ bs))) same ∙ ap unescaped (double_back bs) ∙ half_pair (escaped bs) ∙ ap (λ o. put (92 ∷ []) o) h ∙ ap (λ (w : ℕ). Some (w ∷ bs)) (sym same)
     halved_doubled_cons b bs false e h =
         let n : b ≢ 92 = λ same. absurd (let t : (b == 92) ≡ true = eq-eqb b 92 same in cc) in
-        ap halved (double_other b bs n) ∙ half_other b (doubled bs) n ∙ ap (λ o. put (b ∷ []) o) h
+        ap unescaped (double_other b bs n) ∙ half_other b (escaped bs) n ∙ ap (λ o. put (b ∷ []) o) h
 
 some_is : (x y : List ℕ) → Some x ≡ Some y → x ≡ y
 some_is x y e = cc
@@ -128,34 +128,34 @@ put_is : (front w : List ℕ) (o : Option (List ℕ)) → put front o ≡ Some w
 put_is front w None e = absurd cc
 put_is front w (Some x) e = (x, refl, some_is (front ++ x) w e)
 
-double_halved_behind : (v : Bool) (bs w : List ℕ) → halved_behind v bs ≡ Some w → doubled w ≡ (if v then 92 ∷ bs else bs)
-unfolding halved_behind
-double_halved_behind false [] w e = ap doubled (sym (some_is [] w e)) ∙ double_nil
+double_halved_behind : (v : Bool) (bs w : List ℕ) → unescaped_after v bs ≡ Some w → escaped w ≡ (if v then 92 ∷ bs else bs)
+unfolding unescaped_after
+double_halved_behind false [] w e = ap escaped (sym (some_is [] w e)) ∙ double_nil
 double_halved_behind true [] w e = absurd cc
 double_halved_behind false (b ∷ bs) w e =
-    elim (b == 92) as (λ v. (b == 92) ≡ v → doubled w ≡ b ∷ bs) [
-      | true ↦ λ q. double_halved_behind true bs w (sym (if_true (b == 92) (halved_behind true bs) (put (b ∷ []) (halved bs)) q) ∙ e) ∙ ap (λ (n : ℕ). n ∷ bs) (sym (eqb-true b 92 q))
+    elim (b == 92) as (λ v. (b == 92) ≡ v → escaped w ≡ b ∷ bs) [
+      | true ↦ λ q. double_halved_behind true bs w (sym (if_true (b == 92) (unescaped_after true bs) (put (b ∷ []) (unescaped bs)) q) ∙ e) ∙ ap (λ (n : ℕ). n ∷ bs) (sym (eqb-true b 92 q))
       | false ↦ λ q.
-          let p = put_is (b ∷ []) w (halved bs) (sym (if_false (b == 92) (halved_behind true bs) (put (b ∷ []) (halved bs)) q) ∙ e) in
-          ap doubled (sym p.2) ∙ double_other b p.0 (λ same. absurd (let t : (b == 92) ≡ true = eq-eqb b 92 same in cc)) ∙ ap (λ (n : List ℕ). b ∷ n) (double_halved_behind false bs p.0 p.1)
+          let p = put_is (b ∷ []) w (unescaped bs) (sym (if_false (b == 92) (unescaped_after true bs) (put (b ∷ []) (unescaped bs)) q) ∙ e) in
+          ap escaped (sym p.2) ∙ double_other b p.0 (λ same. absurd (let t : (b == 92) ≡ true = eq-eqb b 92 same in cc)) ∙ ap (λ (n : List ℕ). b ∷ n) (double_halved_behind false bs p.0 p.1)
     ] refl
 double_halved_behind true (b ∷ bs) w e =
-    elim (b == 92) as (λ v. (b == 92) ≡ v → doubled w ≡ 92 ∷ b ∷ bs) [
+    elim (b == 92) as (λ v. (b == 92) ≡ v → escaped w ≡ 92 ∷ b ∷ bs) [
       | true ↦ λ q.
-          let p = put_is (92 ∷ []) w (halved bs) (sym (if_true (b == 92) (put (92 ∷ []) (halved bs)) None q) ∙ e) in
-          ap doubled (sym p.2) ∙ double_back p.0 ∙ ap (λ (n : List ℕ). 92 ∷ 92 ∷ n) (double_halved_behind false bs p.0 p.1) ∙ ap (λ (n : ℕ). 92 ∷ n ∷ bs) (sym (eqb-true b 92 q))
-      | false ↦ λ q. absurd (let t : None ≡ Some w = sym (if_false (b == 92) (put (92 ∷ []) (halved bs)) None q) ∙ e in cc)
+          let p = put_is (92 ∷ []) w (unescaped bs) (sym (if_true (b == 92) (put (92 ∷ []) (unescaped bs)) None q) ∙ e) in
+          ap escaped (sym p.2) ∙ double_back p.0 ∙ ap (λ (n : List ℕ). 92 ∷ 92 ∷ n) (double_halved_behind false bs p.0 p.1) ∙ ap (λ (n : ℕ). 92 ∷ n ∷ bs) (sym (eqb-true b 92 q))
+      | false ↦ λ q. absurd (let t : None ≡ Some w = sym (if_false (b == 92) (put (92 ∷ []) (unescaped bs)) None q) ∙ e in cc)
     ] refl
 
 -- what is read was doubled
-pub doubled_halved : (bs w : List ℕ) → halved bs ≡ Some w → doubled w ≡ bs
+pub doubled_halved : (bs w : List ℕ) → unescaped bs ≡ Some w → escaped w ≡ bs
 doubled_halved bs w e = double_halved_behind false bs w e
 
-pub halved_is : (text v w : List ℕ) → halved text ≡ Some v → doubled w ≡ text → v ≡ w
-halved_is text v w e h = some_is v w (sym e ∙ ap halved (sym h) ∙ halved_doubled w)
+pub halved_is : (text v w : List ℕ) → unescaped text ≡ Some v → escaped w ≡ text → v ≡ w
+halved_is text v w e h = some_is v w (sym e ∙ ap unescaped (sym h) ∙ halved_doubled w)
 
-pub halved_is_not : (text w : List ℕ) → halved text ≡ None → doubled w ≡ text → ⊥
-halved_is_not text w e h = let t : None ≡ Some w = sym e ∙ ap halved (sym h) ∙ halved_doubled w in cc
+pub halved_is_not : (text w : List ℕ) → unescaped text ≡ None → escaped w ≡ text → ⊥
+halved_is_not text w e h = let t : None ≡ Some w = sym e ∙ ap unescaped (sym h) ∙ halved_doubled w in cc
 
 -- ---- hexadecimal digits
 
@@ -177,33 +177,33 @@ two_pushed new first out a b x y p q r s = p ∙ ap (λ (w : List ℕ). w ++ b) 
 pub hex_end : (goal out bs : List ℕ) → out ++ hex_pairs bs ≡ goal → bs ≡ [] → out ≡ goal
 hex_end goal out bs h e = sym (append_nil out) ∙ ap (λ (w : List ℕ). out ++ w) (sym hex_nil ∙ ap hex_pairs (sym e)) ∙ h
 
-unhexed_nil : unhexed [] ≡ Some []
-unfolding unhexed
+unhexed_nil : decoded_hex [] ≡ Some []
+unfolding decoded_hex
 unhexed_nil = refl
 
-unhexed_cons : (h l : ℕ) (bs : List ℕ) → unhexed (h ∷ l ∷ bs) ≡ byte_of (half_byte h) (half_byte l) (unhexed bs)
-unfolding unhexed
+unhexed_cons : (h l : ℕ) (bs : List ℕ) → decoded_hex (h ∷ l ∷ bs) ≡ byte_of (half_byte h) (half_byte l) (decoded_hex bs)
+unfolding decoded_hex
 unhexed_cons h l bs = refl
 
-unhexed_one : (h : ℕ) → unhexed (h ∷ []) ≡ None
-unfolding unhexed
+unhexed_one : (h : ℕ) → decoded_hex (h ∷ []) ≡ None
+unfolding decoded_hex
 unhexed_one h = refl
 
 abbrev pub IsUnhexedFrom : List ℕ → List ℕ → List ℕ → Type 0
-IsUnhexedFrom digits out rest = option_map (λ w. out ++ w) (unhexed rest) ≡ unhexed digits
+IsUnhexedFrom digits out rest = option_map (λ w. out ++ w) (decoded_hex rest) ≡ decoded_hex digits
 
 pub unhexed_begin : (digits : List ℕ) → IsUnhexedFrom digits [] digits
-unhexed_begin digits = put_nil (unhexed digits)
+unhexed_begin digits = put_nil (decoded_hex digits)
 
 byte_some : (high low : ℕ) (o : Option (List ℕ)) → byte_of (Some high) (Some low) o ≡ put ((high * 16 + low) ∷ []) o
 byte_some high low None = refl
 byte_some high low (Some w) = refl
 
-pub unhexed_step : (digits out rest behind : List ℕ) (h l a b byte : ℕ) → IsUnhexedFrom digits out rest → rest ≡ h ∷ l ∷ behind → half_byte h ≡ Some a → half_byte l ≡ Some b → byte ≡ a * 16 + b
-    → IsUnhexedFrom digits (out ++ (byte ∷ [])) behind
-unhexed_step digits out rest behind h l a b byte i e p q r =
-    sym (put_put out (byte ∷ []) (unhexed behind)) ∙ ap (λ (w : ℕ). put out (put (w ∷ []) (unhexed behind))) r
-    ∙ ap (λ o. put out o) (sym (byte_some a b (unhexed behind)) ∙ ap (λ o. byte_of o (Some b) (unhexed behind)) (sym p) ∙ ap (λ o. byte_of (half_byte h) o (unhexed behind)) (sym q) ∙ sym (unhexed_cons h l behind) ∙ ap unhexed (sym e)) ∙ i
+pub unhexed_step : (digits out rest tail : List ℕ) (h l a b byte : ℕ) → IsUnhexedFrom digits out rest → rest ≡ h ∷ l ∷ tail → half_byte h ≡ Some a → half_byte l ≡ Some b → byte ≡ a * 16 + b
+    → IsUnhexedFrom digits (out ++ (byte ∷ [])) tail
+unhexed_step digits out rest tail h l a b byte i e p q r =
+    sym (put_put out (byte ∷ []) (decoded_hex tail)) ∙ ap (λ (w : ℕ). put out (put (w ∷ []) (decoded_hex tail))) r
+    ∙ ap (λ o. put out o) (sym (byte_some a b (decoded_hex tail)) ∙ ap (λ o. byte_of o (Some b) (decoded_hex tail)) (sym p) ∙ ap (λ o. byte_of (half_byte h) o (decoded_hex tail)) (sym q) ∙ sym (unhexed_cons h l tail) ∙ ap decoded_hex (sym e)) ∙ i
 
 byte_none : (x y : Option ℕ) (o : Option (List ℕ)) → (x ≡ None) ⊎ (y ≡ None) → byte_of x y o ≡ None
 byte_none None y o h = refl
@@ -211,14 +211,14 @@ byte_none (Some a) None o h = refl
 byte_none (Some a) (Some b) o (inl h) = absurd cc
 byte_none (Some a) (Some b) o (inr h) = absurd cc
 
-pub unhexed_bad : (digits out rest behind : List ℕ) (h l : ℕ) → IsUnhexedFrom digits out rest → rest ≡ h ∷ l ∷ behind → (half_byte h ≡ None) ⊎ (half_byte l ≡ None) → unhexed digits ≡ None
-unhexed_bad digits out rest behind h l i e n = sym i ∙ ap (λ o. put out o) (ap unhexed e ∙ unhexed_cons h l behind ∙ byte_none (half_byte h) (half_byte l) (unhexed behind) n)
+pub unhexed_bad : (digits out rest tail : List ℕ) (h l : ℕ) → IsUnhexedFrom digits out rest → rest ≡ h ∷ l ∷ tail → (half_byte h ≡ None) ⊎ (half_byte l ≡ None) → decoded_hex digits ≡ None
+unhexed_bad digits out rest tail h l i e n = sym i ∙ ap (λ o. put out o) (ap decoded_hex e ∙ unhexed_cons h l tail ∙ byte_none (half_byte h) (half_byte l) (decoded_hex tail) n)
 
-pub unhexed_odd : (digits out rest : List ℕ) (h : ℕ) → IsUnhexedFrom digits out rest → rest ≡ h ∷ [] → unhexed digits ≡ None
-unhexed_odd digits out rest h i e = sym i ∙ ap (λ o. put out o) (ap unhexed e ∙ unhexed_one h)
+pub unhexed_odd : (digits out rest : List ℕ) (h : ℕ) → IsUnhexedFrom digits out rest → rest ≡ h ∷ [] → decoded_hex digits ≡ None
+unhexed_odd digits out rest h i e = sym i ∙ ap (λ o. put out o) (ap decoded_hex e ∙ unhexed_one h)
 
-pub unhexed_end : (digits out rest : List ℕ) → IsUnhexedFrom digits out rest → rest ≡ [] → unhexed digits ≡ Some out
-unhexed_end digits out rest i e = sym i ∙ ap (λ o. put out o) (ap unhexed e ∙ unhexed_nil) ∙ ap (λ (w : List ℕ). Some w) (append_nil out)
+pub unhexed_end : (digits out rest : List ℕ) → IsUnhexedFrom digits out rest → rest ≡ [] → decoded_hex digits ≡ Some out
+unhexed_end digits out rest i e = sym i ∙ ap (λ o. put out o) (ap decoded_hex e ∙ unhexed_nil) ∙ ap (λ (w : List ℕ). Some w) (append_nil out)
 
 -- what was written is read
 half_of_digit : (d : ℕ) → d < 16 → half_byte (digit_char d) ≡ Some d
@@ -229,13 +229,13 @@ digit_of_half : (c d : ℕ) → half_byte c ≡ Some d → (digit_char d ≡ c) 
 unfolding half_byte
 digit_of_half c d h = (grind arith, grind arith)
 
-pub unhexed_hexed : (bs : List ℕ) → All (λ b. b < 256) bs → unhexed (hex_pairs bs) ≡ Some bs
-unhexed_hexed [] h = ap unhexed hex_nil ∙ unhexed_nil
+pub unhexed_hexed : (bs : List ℕ) → All (λ b. b < 256) bs → decoded_hex (hex_pairs bs) ≡ Some bs
+unhexed_hexed [] h = ap decoded_hex hex_nil ∙ unhexed_nil
 unhexed_hexed (b ∷ bs) h =
     let small : b < 256 = h 0 0 (omega arith) in
-    ap unhexed (hex_cons b bs) ∙ unhexed_cons (digit_char (b / 16)) (digit_char (b % 16)) (hex_pairs bs)
-    ∙ ap (λ o. byte_of o (half_byte (digit_char (b % 16))) (unhexed (hex_pairs bs))) (half_of_digit (b / 16) (omega arith))
-    ∙ ap (λ o. byte_of (Some (b / 16)) o (unhexed (hex_pairs bs))) (half_of_digit (b % 16) (omega arith))
+    ap decoded_hex (hex_cons b bs) ∙ unhexed_cons (digit_char (b / 16)) (digit_char (b % 16)) (hex_pairs bs)
+    ∙ ap (λ o. byte_of o (half_byte (digit_char (b % 16))) (decoded_hex (hex_pairs bs))) (half_of_digit (b / 16) (omega arith))
+    ∙ ap (λ o. byte_of (Some (b / 16)) o (decoded_hex (hex_pairs bs))) (half_of_digit (b % 16) (omega arith))
     ∙ ap (λ o. byte_of (Some (b / 16)) (Some (b % 16)) o) (unhexed_hexed bs (λ k d l. h (suc k) d (omega arith)))
     ∙ ap (λ (n : ℕ). Some (n ∷ bs)) (omega arith)
 
@@ -255,13 +255,13 @@ hexed_cons b bs cs small h = (hex_cons b bs ∙ ap (λ (w : List ℕ). digit_cha
     all zero d l = small
     all (suc k) d l = h.1 k d (omega arith)
 
-pub hexed_unhexed : (cs bs : List ℕ) → unhexed cs ≡ Some bs → (hex_pairs bs ≡ cs) × All (λ b. b < 256) bs
+pub hexed_unhexed : (cs bs : List ℕ) → decoded_hex cs ≡ Some bs → (hex_pairs bs ≡ cs) × All (λ b. b < 256) bs
 hexed_unhexed [] bs e =
     let P : List ℕ → Type 0 = λ w. IsHexOf [] w in
     subst P (some_is [] bs (sym unhexed_nil ∙ e)) (hex_nil, λ k d l. absurd (omega arith))
-hexed_unhexed (h ∷ []) bs e = absurd (let n : unhexed (h ∷ []) ≡ None = unhexed_one h in cc)
+hexed_unhexed (h ∷ []) bs e = absurd (let n : decoded_hex (h ∷ []) ≡ None = unhexed_one h in cc)
 hexed_unhexed (h ∷ l ∷ cs) bs e =
-    let p = byte_is (half_byte h) (half_byte l) (unhexed cs) bs (sym (unhexed_cons h l cs) ∙ e) in
+    let p = byte_is (half_byte h) (half_byte l) (decoded_hex cs) bs (sym (unhexed_cons h l cs) ∙ e) in
     let high = digit_of_half h p.0 p.3 in
     let low = digit_of_half l p.1 p.4 in
     let hs : p.0 < 16 = high.1 in
@@ -273,8 +273,8 @@ hexed_unhexed (h ∷ l ∷ cs) bs e =
     let P : List ℕ → Type 0 = λ w. IsHexOf (h ∷ l ∷ cs) w in
     subst P p.6 (made.0 ∙ ap (λ (w : ℕ). w ∷ digit_char (n % 16) ∷ cs) top ∙ ap (λ (w : ℕ). h ∷ w ∷ cs) rest, made.1)
 
-pub unhexed_is : (digits v w : List ℕ) → unhexed digits ≡ Some v → All (λ b. b < 256) w → hex_pairs w ≡ digits → v ≡ w
-unhexed_is digits v w e all h = some_is v w (sym e ∙ ap unhexed (sym h) ∙ unhexed_hexed w all)
+pub unhexed_is : (digits v w : List ℕ) → decoded_hex digits ≡ Some v → All (λ b. b < 256) w → hex_pairs w ≡ digits → v ≡ w
+unhexed_is digits v w e all h = some_is v w (sym e ∙ ap decoded_hex (sym h) ∙ unhexed_hexed w all)
 
-pub unhexed_is_not : (digits w : List ℕ) → unhexed digits ≡ None → All (λ b. b < 256) w → hex_pairs w ≡ digits → ⊥
-unhexed_is_not digits w e all h = let t : None ≡ Some w = sym e ∙ ap unhexed (sym h) ∙ unhexed_hexed w all in cc
+pub unhexed_is_not : (digits w : List ℕ) → decoded_hex digits ≡ None → All (λ b. b < 256) w → hex_pairs w ≡ digits → ⊥
+unhexed_is_not digits w e all h = let t : None ≡ Some w = sym e ∙ ap decoded_hex (sym h) ∙ unhexed_hexed w all in cc

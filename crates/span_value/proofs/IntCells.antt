@@ -9,7 +9,7 @@ use Rattle.span_value.specs.declared.value.Value.{Value}
 use Rattle.span_value.specs.declared.value.Value.TheVariants as value
 use Rattle.span_value.specs.declared.value.Kind.{Kind}
 use Rattle.span_value.specs.declared.value.Kind.TheVariants as kind
-use Rattle.span_value.specs.Cells.{IsCell, doubled, hex_pairs}
+use Rattle.span_value.specs.Cells.{IsCell, escaped, hex_pairs}
 
 mag_small : (n : ℤ) → FitsSigned w64 n → mag n < 2 ^ 63
 mag_small (pos n) h = omega (arith, h)
@@ -34,13 +34,13 @@ int_is_not : (n : ℤ) → FitsSigned w64 n → signed_decimal n ≡ 92 ∷ 78 �
 int_is_not (pos n) fits e = decimal_is_not n (78 ∷ []) (omega (arith, fits)) e
 int_is_not (negsuc n) fits e = heads_differ 45 92 (decimal (suc n)) (78 ∷ []) (λ h. absurd (omega arith)) e
 
-text_is_not : (w : List ℕ) → doubled w ≡ 92 ∷ 78 ∷ [] → ⊥
-unfolding doubled
+text_is_not : (w : List ℕ) → escaped w ≡ 92 ∷ 78 ∷ [] → ⊥
+unfolding escaped
 text_is_not [] e = cc
 text_is_not (b ∷ w) e =
-    elim (b == 92) as (λ v. (b == 92) ≡ v → (if v then 92 ∷ 92 ∷ doubled w else b ∷ doubled w) ≡ 92 ∷ 78 ∷ [] → ⊥) [
-      | true ↦ λ q h. seconds_differ 92 92 92 78 (doubled w) [] (λ t. absurd (omega arith)) h
-      | false ↦ λ q h. heads_differ b 92 (doubled w) (78 ∷ []) (λ t. absurd (let u : (b == 92) ≡ true = eq-eqb b 92 t in cc)) h
+    elim (b == 92) as (λ v. (b == 92) ≡ v → (if v then 92 ∷ 92 ∷ escaped w else b ∷ escaped w) ≡ 92 ∷ 78 ∷ [] → ⊥) [
+      | true ↦ λ q h. seconds_differ 92 92 92 78 (escaped w) [] (λ t. absurd (omega arith)) h
+      | false ↦ λ q h. heads_differ b 92 (escaped w) (78 ∷ []) (λ t. absurd (let u : (b == 92) ≡ true = eq-eqb b 92 t in cc)) h
     ] refl e
 
 -- the cell \N is that of NULL alone

@@ -11,9 +11,9 @@ use Rattle.span_value.specs.declared.value.Kind.{Kind}
 use Rattle.span_value.specs.declared.value.Kind.TheVariants as kind
 
 -- a text with each backslash doubled
-unfoldable pub doubled : List ℕ → List ℕ
-doubled [] = []
-doubled (b ∷ bs) = if b == 92 then 92 ∷ 92 ∷ doubled bs else b ∷ doubled bs
+unfoldable pub escaped : List ℕ → List ℕ
+escaped [] = []
+escaped (b ∷ bs) = if b == 92 then 92 ∷ 92 ∷ escaped bs else b ∷ escaped bs
 
 -- each byte as two hexadecimal digits in lower case
 unfoldable pub hex_pairs : List ℕ → List ℕ
@@ -27,33 +27,33 @@ cell_of value.Null = 92 ∷ 78 ∷ []
 cell_of (value.Bool true) = 116 ∷ 114 ∷ 117 ∷ 101 ∷ []
 cell_of (value.Bool false) = 102 ∷ 97 ∷ 108 ∷ 115 ∷ 101 ∷ []
 cell_of (value.Int n) = signed_decimal n
-cell_of (value.Str text) = doubled text
+cell_of (value.Str text) = escaped text
 cell_of (value.Bytes bytes) = 92 ∷ 120 ∷ hex_pairs bytes
 
 -- the value is of the kind; NULL is of every kind
-abbrev pub IsOf : Kind → Value → Type 0
-IsOf kind value.Null = Unit {0}
-IsOf kind.Bool (value.Bool b) = Unit {0}
-IsOf kind.Int (value.Int n) = FitsSigned w64 n
-IsOf kind.Str (value.Str text) = Unit {0}
-IsOf kind.Bytes (value.Bytes bytes) = All (λ b. b < 256) bytes
-IsOf kind v = ⊥
+abbrev pub IsOfKind : Kind → Value → Type 0
+IsOfKind kind value.Null = Unit {0}
+IsOfKind kind.Bool (value.Bool b) = Unit {0}
+IsOfKind kind.Int (value.Int n) = FitsSigned w64 n
+IsOfKind kind.Str (value.Str text) = Unit {0}
+IsOfKind kind.Bytes (value.Bytes bytes) = All (λ b. b < 256) bytes
+IsOfKind kind v = ⊥
 
 -- the text is the cell of a value of the kind
 abbrev pub IsCell : Kind → Value → List ℕ → Type 0
-IsCell kind v text = IsOf kind v × (cell_of v ≡ text)
+IsCell kind v text = IsOfKind kind v × (cell_of v ≡ text)
 
 -- ---- reading
 
 -- the text before its backslashes were doubled, if there is one; true: the byte before is the first backslash of a pair
-unfoldable pub halved_behind : Bool → List ℕ → Option (List ℕ)
-halved_behind false [] = Some []
-halved_behind true [] = None
-halved_behind false (b ∷ bs) = if b == 92 then halved_behind true bs else option_map (λ w. b ∷ w) (halved_behind false bs)
-halved_behind true (b ∷ bs) = if b == 92 then option_map (λ w. 92 ∷ w) (halved_behind false bs) else None
+unfoldable pub unescaped_after : Bool → List ℕ → Option (List ℕ)
+unescaped_after false [] = Some []
+unescaped_after true [] = None
+unescaped_after false (b ∷ bs) = if b == 92 then unescaped_after true bs else option_map (λ w. b ∷ w) (unescaped_after false bs)
+unescaped_after true (b ∷ bs) = if b == 92 then option_map (λ w. 92 ∷ w) (unescaped_after false bs) else None
 
-abbrev pub halved : List ℕ → Option (List ℕ)
-halved bs = halved_behind false bs
+abbrev pub unescaped : List ℕ → Option (List ℕ)
+unescaped bs = unescaped_after false bs
 
 -- the value of a hexadecimal digit in lower case
 unfoldable pub half_byte : ℕ → Option ℕ
@@ -64,10 +64,10 @@ byte_of (Some high) (Some low) (Some bytes) = Some ((high * 16 + low) ∷ bytes)
 byte_of high low bytes = None
 
 -- the bytes that the pairs of digits represent
-unfoldable pub unhexed : List ℕ → Option (List ℕ)
-unhexed [] = Some []
-unhexed (high ∷ []) = None
-unhexed (high ∷ low ∷ bs) = byte_of (half_byte high) (half_byte low) (unhexed bs)
+unfoldable pub decoded_hex : List ℕ → Option (List ℕ)
+decoded_hex [] = Some []
+decoded_hex (high ∷ []) = None
+decoded_hex (high ∷ low ∷ bs) = byte_of (half_byte high) (half_byte low) (decoded_hex bs)
 
 -- there is no backslash in the text
 abbrev pub IsClean : List ℕ → Type 0

@@ -24,7 +24,7 @@ or Unknown False = Unknown
 or Unknown True = True
 or Unknown Unknown = Unknown
 
-abbrev pub negated : Truth → Truth
-negated False = True
-negated True = False
-negated Unknown = Unknown
+abbrev pub negation : Truth → Truth
+negation False = True
+negation True = False
+negation Unknown = Unknown

@@ -4,7 +4,7 @@
 //! `\x` and two hexadecimal digits a byte, in lower case.
 ghost use Rattle.std.specs.Prelude.{◌≡◌, ◌≢◌, [], ◌∷◌, ◌++◌, ◌+◌, ◌*◌, ◌/◌, ◌%◌, ◌⊎◌, ◌<◌, ℕ, ℤ, Bool, List, IfOk, OnOk, IfErr, IfSome, IsOkUnless, MatchOption, string_bytes};
 ghost use Rattle.std.specs.Char.{digit_char};
-ghost use Rattle.span_value.specs.Cells.{cell_of, IsCell, IsClean, doubled, hex_pairs, halved, unhexed, half_byte};
+ghost use Rattle.span_value.specs.Cells.{cell_of, IsCell, IsClean, escaped, hex_pairs, unescaped, decoded_hex, half_byte};
 
 use super::refusal::Refusal;
 use super::seq::Seq;
@@ -21,7 +21,7 @@ pub fn cell_text(alloc: Global, value: &Value) -> Result<String, Refusal>
     Ok(match value {
         Value::Null => String::from_str(alloc, "\\N")?,
         Value::Int(n) => String::from_str(alloc, Buffer::new().format(*n))?,
-        Value::Str(text) => doubled_text(alloc, text.as_str())?,
+        Value::Str(text) => escape_text(alloc, text.as_str())?,
         Value::Bytes(bytes) => hex_text(alloc, bytes.as_slice())?,
         Value::Bool(true) => String::from_str(alloc, "true")?,
         Value::Bool(false) => String::from_str(alloc, "false")?,
@@ -29,15 +29,15 @@ pub fn cell_text(alloc: Global, value: &Value) -> Result<String, Refusal>
 }
 
 /// The text with each backslash doubled.
-fn doubled_text(alloc: Global, text: &str) -> Result<String, AllocError>
-    ensures { IfOk result (λ out. string_bytes out ≡ doubled text.now) }
+fn escape_text(alloc: Global, text: &str) -> Result<String, AllocError>
+    ensures { IfOk result (λ out. string_bytes out ≡ escaped text.now) }
 {
     let mut out = String::new(alloc);
     let mut rest = text;
-    while let Some((front, behind)) = at_backslash(rest) {
+    while let Some((front, tail)) = split_at_backslash(rest) {
         out.push_str(front)?;
         out.push_str("\\\\")?;
-        rest = behind;
+        rest = tail;
     }
     out.push_str(rest)?;
     Ok(out)
@@ -125,14 +125,14 @@ fn read_bool(text: &str) -> Result<Value, Refusal>
 }
 
 /// What is before the first backslash and what is after it.
-fn at_backslash(text: &str) -> Option<(&str, &str)>
+fn split_at_backslash(text: &str) -> Option<(&str, &str)>
     ensures { MatchOption result (IsClean text.now) (λ x. (text.now ≡ x.0.now ++ 92 ∷ x.1.now) × IsClean x.0.now) }
 {
     text.split_once('\\')
 }
 
 /// What is after the backslash that the text begins with.
-fn behind_backslash(text: &str) -> Option<&str>
+fn strip_backslash(text: &str) -> Option<&str>
     ensures { MatchOption result ((rest : List ℕ) → text.now ≢ 92 ∷ rest) (λ rest. text.now ≡ 92 ∷ rest.now) }
 {
     text.strip_prefix('\\')
@@ -143,20 +143,20 @@ fn read_text(alloc: Global, text: &str) -> Result<Value, Refusal>
     ensures read_all { (w : List ℕ) → IsCell Kind.Str (Value.Str w) text.now → (result ≡ Ok (Value.Str w)) ⊎ (result ≡ Err Refusal.OutOfMemory) }
     ensures refusals { IfErr result (λ why. (why ≡ Refusal.WrongType) ⊎ (why ≡ Refusal.OutOfMemory)) }
 {
-    match halved_text(alloc, text)? {
-        Some(halved) => Ok(Value::Str(Text::from_string(halved))),
+    match unescape_text(alloc, text)? {
+        Some(unescaped) => Ok(Value::Str(Text::from_string(unescaped))),
         None => Err(Refusal::WrongType),
     }
 }
 
 /// The text that becomes this one when each backslash is doubled, if there is one.
-fn halved_text(alloc: Global, text: &str) -> Result<Option<String>, AllocError>
-    ensures { IfOk result (λ o. MatchOption o (halved text.now ≡ None) (λ s. halved text.now ≡ Some (string_bytes s))) }
+fn unescape_text(alloc: Global, text: &str) -> Result<Option<String>, AllocError>
+    ensures { IfOk result (λ o. MatchOption o (unescaped text.now ≡ None) (λ s. unescaped text.now ≡ Some (string_bytes s))) }
 {
     let mut out = String::new(alloc);
     let mut rest = text;
-    while let Some((front, behind)) = at_backslash(rest) {
-        let Some(after) = behind_backslash(behind) else {
+    while let Some((front, tail)) = split_at_backslash(rest) {
+        let Some(after) = strip_backslash(tail) else {
             return Ok(None);
         };
         out.push_str(front)?;
@@ -175,20 +175,20 @@ fn read_bytes(alloc: Global, text: &str) -> Result<Value, Refusal>
     let Some(digits) = text.as_bytes().strip_prefix(b"\\x") else {
         return Err(Refusal::WrongType);
     };
-    match unhexed_bytes(alloc, digits)? {
+    match decode_hex(alloc, digits)? {
         Some(bytes) => Ok(Value::Bytes(Seq::from_vec(bytes))),
         None => Err(Refusal::WrongType),
     }
 }
 
 /// The bytes that pairs of hexadecimal digits represent, if there are only such pairs.
-fn unhexed_bytes(alloc: Global, digits: &[u8]) -> Result<Option<Vec<u8>>, AllocError>
-    ensures { IfOk result (λ o. MatchOption o (unhexed digits.now ≡ None) (λ v. unhexed digits.now ≡ Some v.items)) }
+fn decode_hex(alloc: Global, digits: &[u8]) -> Result<Option<Vec<u8>>, AllocError>
+    ensures { IfOk result (λ o. MatchOption o (decoded_hex digits.now ≡ None) (λ v. decoded_hex digits.now ≡ Some v.items)) }
 {
     let mut out = Vec::new(alloc);
     let mut rest = digits;
-    while let Some((high, behind)) = rest.split_first() {
-        let Some((low, after)) = behind.split_first() else {
+    while let Some((high, tail)) = rest.split_first() {
+        let Some((low, after)) = tail.split_first() else {
             return Ok(None);
         };
         let Some(byte) = byte_from(*high, *low) else {

@@ -12,7 +12,7 @@ use std::cmp::Ordering;
 pub fn compare(left: &Value, right: &Value) -> Ordering
     ensures order { result ≡ value_order left.now right.now }
     ensures equal { (result ≡ Ordering.Equal) ↔ (left.now ≡ right.now) }
-    ensures turned { value_order right.now left.now ≡ ordering_reverse result }
+    ensures reversed { value_order right.now left.now ≡ ordering_reverse result }
 {
     match (left, right) {
         (Value::Bool(a), Value::Bool(b)) => a.cmp(b),

@@ -43,7 +43,7 @@ pub fn or(left: Truth, right: Truth) -> Truth
 
 /// The other of TRUE and FALSE; unknown stays unknown.
 pub fn not(truth: Truth) -> Truth
-    ensures { result ≡ table.negated truth }
+    ensures { result ≡ table.negation truth }
 {
     match truth {
         Truth::False => Truth::True,

@@ -47,7 +47,7 @@ impl Value {
             Value::Null => Value::Null,
             Value::Int(n) => Value::Int(*n),
             Value::Str(text) => Value::Str(Text::from_str(alloc, text.as_str())?),
-            Value::Bytes(bytes) => Value::Bytes(copy_of_bytes(alloc, bytes)?),
+            Value::Bytes(bytes) => Value::Bytes(copy_bytes(alloc, bytes)?),
             Value::Bool(b) => Value::Bool(*b),
         })
     }
@@ -67,7 +67,7 @@ impl Value {
     }
 }
 
-fn copy_of_bytes(alloc: Global, bytes: &Seq<u8>) -> Result<Seq<u8>, Refusal>
+fn copy_bytes(alloc: Global, bytes: &Seq<u8>) -> Result<Seq<u8>, Refusal>
     ensures ok { IfOk result (λ copy. copy ≡ bytes.now) }
     ensures memory { IsOkUnless result Refusal.OutOfMemory }
 {

@@ -8,7 +8,7 @@ use super::fault::Fault;
 use span_core::run::run as run_steps;
 use span_core::{Bound, Interval, Params, Refusal, Row, Seq, Text, Value};
 use span_machine::step::{Reply, Step, Verdict};
-use span_mutate::mutation::{Cell, Mutation, MutationKind};
+use span_mutate::mutation::{NamedValue, Mutation, MutationKind};
 use span_mutate::transaction::Transaction;
 use span_schema::schema::Schema;
 use span_schema::table::{Column, KeyColumn, Table};
@@ -125,7 +125,7 @@ fn insert(alloc: Global, key: i64, text: &str) -> Result<Mutation, Fault> {
     let mut keys = Seq::new(alloc);
     keys.push(Value::Int(key))?;
     let mut cells = Seq::new(alloc);
-    cells.push(Cell {
+    cells.push(NamedValue {
         column: Text::from_str(alloc, "v")?,
         value: Value::Str(Text::from_str(alloc, text)?),
     })?;

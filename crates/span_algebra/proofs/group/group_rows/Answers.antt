@@ -1,6 +1,6 @@
 use Rattle.std.proofs.Common.{rules, ◌≡◌, ◌+◌, ◌∷◌, ◌++◌, [], List, Vec, Global, Some, Err, true, false, sym, subst}
 use Rattle.span_algebra.specs.declared.group.Group.{Group}
-use Rattle.span_query.specs.Rows.{Row, ◌>>=◌, kept_where}
+use Rattle.span_query.specs.Rows.{Row, ◌>>=◌, filter_where}
 use Rattle.span_query.specs.Groups.{groups}
 use Rattle.span_algebra.specs.Answers.{Gives}
 use Rattle.span_algebra.specs.Grouped.{AreGroupsOf}
@@ -16,7 +16,7 @@ returns-in_err-is_kept c =
     let row = c.row-item.result in
     let why = c.in_err-is_kept.field-0.0 in
     let told : Gives (Err why) (holds_where filter row) = search rules in
-    let fails : Gives (Err why) (kept_where filter rows >>= groups c.args.grouping.now) =
+    let fails : Gives (Err why) (filter_where filter rows >>= groups c.args.grouping.now) =
     pass_fails filter c.args.grouping.now rows c.loop-row.row-index c.loop-row.groups.items c.loop-row.invariant row c.loop-row-test.true c.row-item.is why told in
     search (rules, fails)
 
@@ -27,7 +27,7 @@ returns-in_err-take_row c =
     let row = c.row-item.result in
     let why = c.in_err-take_row.field-0.0 in
     let holds : holds_where filter row ≡ Some true = search rules in
-    let fails : Gives (Err why) (kept_where filter rows >>= groups c.args.grouping.now) =
+    let fails : Gives (Err why) (filter_where filter rows >>= groups c.args.grouping.now) =
     take_fails filter c.args.grouping.now rows c.loop-row.row-index c.loop-row.groups.items c.loop-row.invariant row c.loop-row-test.true c.row-item.is holds why (search rules) in
     search (rules, fails)
 

@@ -1,8 +1,8 @@
 use Rattle.std.proofs.Common.{◌≡◌, drop, Some}
-use Rattle.span_query.specs.Rows.{◌>>=◌, followed, gathered, kept_where, selected}
-use Rattle.span_algebra.specs.Selecting.{shown_at}
+use Rattle.span_query.specs.Rows.{◌>>=◌, append_results, concat_map, filter_where, project_rows}
+use Rattle.span_algebra.specs.Selecting.{project_row}
 use Rattle.span_algebra.proofs.select.select_rows.Given as goal
 
 -- the rows so far, and what the rows that are left give
 abbrev pub invariant-loop-row : goal.invariant-loop-row
-invariant-loop-row l = (kept_where l.filter l.rows >>= selected l.outputs) ≡ followed (Some l.found.items) (gathered (shown_at l.filter l.outputs) (drop l.row-index l.rows))
+invariant-loop-row l = (filter_where l.filter l.rows >>= project_rows l.outputs) ≡ append_results (Some l.found.items) (concat_map (project_row l.filter l.outputs) (drop l.row-index l.rows))

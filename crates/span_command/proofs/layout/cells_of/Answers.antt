@@ -3,7 +3,7 @@ use Rattle.std.specs.List.{AllZip}
 use Rattle.std.proofs.lemmas.Result.{err_from_is_err_and}
 use Rattle.csv.specs.Records.{fields_of}
 use Rattle.span_value.specs.declared.refusal.Refusal.TheVariants as refusal
-use Rattle.span_mutate.specs.declared.mutation.Cell.{Cell}
+use Rattle.span_mutate.specs.declared.mutation.NamedValue.{NamedValue}
 use Rattle.span_command.specs.Layouts.{IsColumnCell}
 use Rattle.span_command.proofs.Zips.{one_more, none_at}
 use Rattle.span_command.proofs.layout.cells_of.Goals as goal
@@ -18,7 +18,7 @@ returns-in_err-cell_of-clause-refusals c =
     let told = err_from_is_err_and c.from_residual.result c.from_residual.ensures.1 in
     rw (told.1, told.2) (by c.in_err-cell_of.ensures.refusals)
   where
-    by : (c.in_err-cell_of.field-0.0 ≡ refusal.OutOfMemory) ⊎ ((c.in_err-cell_of.field-0.0 ≡ refusal.WrongType) × ((x : Cell) → IsColumnCell (fields_of c.args.fields.now) c.part-item.result x → ⊥))
-        → (c.in_err-cell_of.field-0.0 ≡ refusal.OutOfMemory) ⊎ ((c.in_err-cell_of.field-0.0 ≡ refusal.WrongType) × ((xs : List Cell) → AllZip (IsColumnCell (fields_of c.args.fields.now)) c.args.parts.now xs → ⊥))
+    by : (c.in_err-cell_of.field-0.0 ≡ refusal.OutOfMemory) ⊎ ((c.in_err-cell_of.field-0.0 ≡ refusal.WrongType) × ((x : NamedValue) → IsColumnCell (fields_of c.args.fields.now) c.part-item.result x → ⊥))
+        → (c.in_err-cell_of.field-0.0 ≡ refusal.OutOfMemory) ⊎ ((c.in_err-cell_of.field-0.0 ≡ refusal.WrongType) × ((xs : List NamedValue) → AllZip (IsColumnCell (fields_of c.args.fields.now)) c.args.parts.now xs → ⊥))
     by (inl want) = inl want
     by (inr none) = inr (none.0, none_at (IsColumnCell (fields_of c.args.fields.now)) c.args.parts.now c.loop-part.part-index c.part-item.result c.part-item.result c.loop-part-test.true c.part-item.is none.1)

@@ -5,7 +5,7 @@ use Rattle.std.proofs.lemmas.List.{take_all, append-nil}
 use Rattle.span_value.specs.declared.value.Value.{Value}
 use Rattle.span_shard.specs.Shard.{KeyRow}
 use Rattle.span_shard.specs.declared.shard.Entry.{Entry}
-use Rattle.span_shard.specs.Reading.{shown}
+use Rattle.span_shard.specs.Reading.{entry_row}
 use Rattle.span_core.proofs.Entries.{AreReadOf, more_read, all_read, entry_is, shown_step, not_rows}
 use Rattle.span_core.proofs.reading.rows_of.Goals as goal
 use Rattle.span_core.proofs.reading.rows_of.Goals.{then-row-table+in_ok-declared+in_ok-push, else-row-table}
@@ -31,15 +31,15 @@ loop-entry-preserved c =
     let r = c.in_ok-row.row in
     let e = get_or entries i nothing in
     let read = c.in_ok-row.ensures in
-    let P : List (List Value) → Type 0 = λ vs. AreReadOf schema n (map shown (take i entries) ++ shown e ∷ []) vs in
+    let P : List (List Value) → Type 0 = λ vs. AreReadOf schema n (map entry_row (take i entries) ++ entry_row e ∷ []) vs in
     subst (λ (es : List KeyRow). AreReadOf schema n es c.if-row-table.rows.items) (sym (shown_step entries i nothing c.loop-entry-test.true))
     (elim c.if-row-table.branch [
       | then-row-table+in_ok-declared+in_ok-push w ↦
           let items = ap (λ v. v.items) w.rows-is ∙ w.in_ok-push.ensures.items ∙ ap (λ v. rows ++ v ∷ []) w.in_ok-declared.ensures in
-          subst P (sym items) (more_read schema n (map shown (take i entries)) rows (shown e) r true read.0 (entry_is schema e r read.1 read.2) (eq-eqb r.table n w.if-row-table.true) c.loop-entry.invariant)
+          subst P (sym items) (more_read schema n (map entry_row (take i entries)) rows (entry_row e) r true read.0 (entry_is schema e r read.1 read.2) (eq-eqb r.table n w.if-row-table.true) c.loop-entry.invariant)
       | else-row-table w ↦
           let items = ap (λ v. v.items) w.rows-is ∙ sym (append-nil rows) in
-          subst P (sym items) (more_read schema n (map shown (take i entries)) rows (shown e) r false read.0 (entry_is schema e r read.1 read.2) (ne_eqb r.table n w.if-row-table.false) c.loop-entry.invariant)
+          subst P (sym items) (more_read schema n (map entry_row (take i entries)) rows (entry_row e) r false read.0 (entry_is schema e r read.1 read.2) (ne_eqb r.table n w.if-row-table.false) c.loop-entry.invariant)
     ])
 
 pub returns-clause-ok : goal.returns-clause-ok
@@ -47,5 +47,5 @@ returns-clause-ok c =
     let schema = c.args.schema.now in
     let entries = c.args.entries.now in
     let all : take c.loop-entry.entry-index entries ≡ entries = take_all c.loop-entry.entry-index entries (let stop = c.loop-entry-test.false in omega arith) in
-    let read = subst (λ (es : List Entry). AreReadOf schema c.args.table (map shown es) c.loop-entry.rows.items) all c.loop-entry.invariant in
-    λ rows typed is. c.from_vec.ensures ∙ all_read schema c.tables-tables.ensures.rules c.args.table (map shown entries) c.loop-entry.rows.items read rows typed is
+    let read = subst (λ (es : List Entry). AreReadOf schema c.args.table (map entry_row es) c.loop-entry.rows.items) all c.loop-entry.invariant in
+    λ rows typed is. c.from_vec.ensures ∙ all_read schema c.tables-tables.ensures.rules c.args.table (map entry_row entries) c.loop-entry.rows.items read rows typed is

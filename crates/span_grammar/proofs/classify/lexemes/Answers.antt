@@ -7,8 +7,8 @@ use Rattle.span_grammar.proofs.classify.lexemes.Goals as goal
 
 pub loop-token-preserved : goal.loop-token-preserved
 loop-token-preserved c =
-    let whole : c.loop-token.rest.now ≡ c.in-Some.token.now ∷ c.in-Some.behind.now = grind (arith, common_steps) in
-    lexeme_added c.args.text.now c.loop-token.found.items c.push.new.self.items c.in-Some.token.now c.loop-token.rest.now c.in-Some.behind.now c.args.tokens.now c.loop-token.invariant whole
+    let whole : c.loop-token.rest.now ≡ c.in-Some.token.now ∷ c.in-Some.tail.now = grind (arith, common_steps) in
+    lexeme_added c.args.text.now c.loop-token.found.items c.push.new.self.items c.in-Some.token.now c.loop-token.rest.now c.in-Some.tail.now c.args.tokens.now c.loop-token.invariant whole
     (c.in_ok-push.ensures.items ∙ ap (λ (w : Class). let l : Lexeme = record { class = w; token = c.in-Some.token.now } in c.loop-token.found.items ++ (l ∷ [])) c.class_at-class.ensures)
 
 pub returns : goal.returns

@@ -10,9 +10,9 @@ pub returns-in-Some-clause-some : goal.returns-in-Some-clause-some
 returns-in-Some-clause-some c =
     let test = (λ (p : Pieced). is_query c.args.number p.query) in
     let x = c.index-queries-at.result in
-    let e = sym c.place_of_query.ensures ∙ c.in-Some.is in
+    let e = sym c.query_index.ensures ∙ c.in-Some.is in
     place_by_position test c.args.queries.now c.in-Some.at x e
     (slice_get_read c.args.queries.now _ c.in-Some.at x refl (position-Some test c.args.queries.now c.in-Some.at x e).0 c.index-queries-at.is)
 
 pub returns-in-None-clause-none : goal.returns-in-None-clause-none
-returns-in-None-clause-none c = none_by_position (λ (p : Pieced). is_query c.args.number p.query) c.args.queries.now (sym c.place_of_query.ensures ∙ c.in-None.is)
+returns-in-None-clause-none c = none_by_position (λ (p : Pieced). is_query c.args.number p.query) c.args.queries.now (sym c.query_index.ensures ∙ c.in-None.is)

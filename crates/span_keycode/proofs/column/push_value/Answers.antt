@@ -4,7 +4,7 @@ use Rattle.std.proofs.lemmas.Int.{to_z-of_z}
 use Rattle.std.proofs.lemmas.Result.{on_ok_weaker}
 use Rattle.std.specs.Prelude.{FitsSigned}
 use Rattle.span_value.specs.declared.value.Value.{Value}
-use Rattle.span_keycode.specs.Coding.{lifted, in_direction, column_code}
+use Rattle.span_keycode.specs.Coding.{to_unsigned, in_direction, column_code}
 use Rattle.span_keycode.proofs.column.push_value.Goals as goal
 
 after_first : (d : Bool) (a : ℕ) (xs : List ℕ) → in_direction d (a ∷ []) ++ in_direction d xs ≡ in_direction d (a ∷ xs)
@@ -16,12 +16,12 @@ returns-in_ok-push_directed-in-Int c =
     let d = c.args.column.desc in
     let old = c.args.out.now.items in
     let fits : FitsSigned w64 c.in-Int.number = search rules in
-    let number : c.lift.result ≡ lifted c.in-Int.number = c.lift.ensures ∙ ap lifted (to_z-of_z w64 c.in-Int.number fits) in
+    let number : c.to_unsigned.result ≡ to_unsigned c.in-Int.number = c.to_unsigned.ensures ∙ ap to_unsigned (to_z-of_z w64 c.in-Int.number fits) in
     on_ok_weaker c.push_number.result
     (λ e. e
-    ∙ ap (λ (xs : List ℕ). xs ++ in_direction d (to_be_bytes w64 c.lift.result)) c.in_ok-push_directed-in-Int.ensures
-    ∙ append_assoc old (in_direction d (1 ∷ [])) (in_direction d (to_be_bytes w64 c.lift.result))
-    ∙ ap (λ (xs : List ℕ). old ++ xs) (after_first d 1 (to_be_bytes w64 c.lift.result))
+    ∙ ap (λ (xs : List ℕ). xs ++ in_direction d (to_be_bytes w64 c.to_unsigned.result)) c.in_ok-push_directed-in-Int.ensures
+    ∙ append_assoc old (in_direction d (1 ∷ [])) (in_direction d (to_be_bytes w64 c.to_unsigned.result))
+    ∙ ap (λ (xs : List ℕ). old ++ xs) (after_first d 1 (to_be_bytes w64 c.to_unsigned.result))
     ∙ ap (λ (n : ℕ). old ++ in_direction d (1 ∷ to_be_bytes w64 n)) number
     ∙ ap (λ (v : Value). old ++ column_code c.args.column v) (sym c.in-Int.is))
     c.push_number.ensures

@@ -11,7 +11,7 @@ pub returns-in-None : goal.returns-in-None
 returns-in-None c =
     let d = c.args.column.desc in
     let bs = c.args.bytes.now in
-    let first : in_direction d bs ≡ 1 ∷ in_direction d (drop 1 bs) = first_turned d bs 1 (omega arith) (c.directed.ensures ∙ ap (λ (n : ℕ). n ∷ []) c.in-1.is) in
+    let first : in_direction d bs ≡ 1 ∷ in_direction d (drop 1 bs) = first_turned d bs 1 (omega arith) (c.apply_direction.ensures ∙ ap (λ (n : ℕ). n ∷ []) c.in-1.is) in
     let none = MatchOption-at_none _ _ c.in-None.is c.in_ok-read_body-in-1.ensures.found in
     let P : List ℕ → Type 0 = IsNoPlain c.args.column.kind in
     column_missed c.args.column bs (subst P (ap (λ (xs : List ℕ). 1 ∷ in_direction d xs) c.after.ensures ∙ sym first) none)
@@ -20,7 +20,7 @@ pub returns-in-Some : goal.returns-in-Some
 returns-in-Some c =
     let d = c.args.column.desc in
     let bs = c.args.bytes.now in
-    let first : in_direction d bs ≡ 1 ∷ in_direction d (drop 1 bs) = first_turned d bs 1 (omega arith) (c.directed.ensures ∙ ap (λ (n : ℕ). n ∷ []) c.in-1.is) in
+    let first : in_direction d bs ≡ 1 ∷ in_direction d (drop 1 bs) = first_turned d bs 1 (omega arith) (c.apply_direction.ensures ∙ ap (λ (n : ℕ). n ∷ []) c.in-1.is) in
     let some = MatchOption-at_some _ _ _ c.in-Some.is c.in_ok-read_body-in-1.ensures.found in
     let within = MatchOption-at_some _ _ _ c.in-Some.is c.in_ok-read_body-in-1.ensures.within in
     let w = c.in-Some.width in

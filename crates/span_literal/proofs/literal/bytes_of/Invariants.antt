@@ -8,7 +8,7 @@ use Rattle.span_literal.proofs.literal.bytes_of.Given as goal
 abbrev pub invariant-loop-c : goal.invariant-loop-c
 invariant-loop-c l =
     shadow (Utf8 l.rest)
-    × (spec.bytes_of l.spelled ≡ l.out ++ spec.as_bytes (spec.meant (chars l.rest)))
+    × (spec.bytes_of l.spelled ≡ l.out ++ spec.as_bytes (spec.decode_all (chars l.rest)))
 
 abbrev pub decreases-loop-c : goal.decreases-loop-c
 decreases-loop-c l = length l.rest

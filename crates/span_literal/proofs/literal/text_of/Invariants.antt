@@ -9,7 +9,7 @@ use Rattle.span_literal.proofs.literal.text_of.Given as goal
 abbrev pub invariant-loop-c : goal.invariant-loop-c
 invariant-loop-c l =
     shadow (Utf8 l.rest)
-    × (spec.text_of l.spelled ≡ string_bytes l.out ++ encode_utf8_all (spec.meant (chars l.rest)))
+    × (spec.text_of l.spelled ≡ string_bytes l.out ++ encode_utf8_all (spec.decode_all (chars l.rest)))
 
 abbrev pub decreases-loop-c : goal.decreases-loop-c
 decreases-loop-c l = length l.rest

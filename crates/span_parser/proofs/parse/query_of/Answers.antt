@@ -3,12 +3,12 @@ use Rattle.span_grammar.specs.declared.class.Lexeme.{Lexeme}
 use Rattle.span_grammar.specs.Classes.{lexemes_of}
 use Rattle.span_grammar.specs.Rules.{limit}
 use Rattle.span_parser.specs.Queries.{statement}
-use Rattle.span_syntax.specs.Parsed.{whole_read}
+use Rattle.span_syntax.specs.Parsed.{read_to_end}
 use Rattle.span_syntax.proofs.Parsing.{reports}
 use Rattle.span_parser.proofs.parse.query_of.Goals as goal
 
 pub returns : goal.returns
 returns c =
     let same : lexemes_of c.args.text.now c.args.tokens.now ≡ c.as_slice.result.now = sym (c.as_slice.ensures.value ∙ c.in_ok-found.ensures) in
-    reports (whole_read (statement c.args.text.now limit) (lexemes_of c.args.text.now c.args.tokens.now)) c.in-Err.fault c.misread-refusal.result
-    (λ n. ap (whole_read (statement c.args.text.now limit)) same ∙ c.in-Err.ensures n) c.misread-refusal.ensures.refusal
+    reports (read_to_end (statement c.args.text.now limit) (lexemes_of c.args.text.now c.args.tokens.now)) c.in-Err.fault c.misread-refusal.result
+    (λ n. ap (read_to_end (statement c.args.text.now limit)) same ∙ c.in-Err.ensures n) c.misread-refusal.ensures.refusal

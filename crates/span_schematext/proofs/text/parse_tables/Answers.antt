@@ -1,13 +1,13 @@
 use Rattle.std.proofs.Common.{◌≡◌, ◌∙◌, ap, subst, List, ℕ, Result}
 use Rattle.span_lexer.specs.declared.token.Token.{Token}
 use Rattle.span_grammar.specs.declared.judge.Goal.TheVariants as goal_of
-use Rattle.span_syntax.specs.declared.fault.Fault.{Fault}
+use Rattle.span_syntax.specs.declared.fault.SyntaxError.{SyntaxError}
 use Rattle.span_schema.specs.declared.table.Table.{Table}
 use Rattle.span_grammar.specs.Classes.{lexemes_of}
 use Rattle.span_grammar.specs.Rules.{limit}
-use Rattle.span_grammar.specs.Judged.{IsMadeOf, lexemes_in}
+use Rattle.span_grammar.specs.Judged.{HasItems, lexemes_in}
 use Rattle.span_schematext.specs.Declarations.{tables}
-use Rattle.span_syntax.specs.Parsed.{whole_read, Reports}
+use Rattle.span_syntax.specs.Parsed.{read_to_end, Reports}
 use Rattle.span_syntax.proofs.Parsing.{text_value, text_value_all, text_refused, text_refused_all, misread_value, misread_refuses}
 use Rattle.span_schematext.proofs.Declaring.{tables_good}
 use Rattle.span_schematext.proofs.text.parse_tables.Goals as goal
@@ -15,37 +15,37 @@ use Rattle.span_schematext.proofs.text.parse_tables.Goals as goal
 pub returns-in-Ok-clause-read : goal.returns-in-Ok-clause-read
 returns-in-Ok-clause-read c =
     let is = c.in-Ok.ensures.read in
-    let made : IsMadeOf c.args.text.now is.0 = record { are = is.1; spells = is.2; short = c.in-Ok.ensures.short } in
-    let same : whole_read (tables c.as_bytes.result.now limit) (lexemes_of c.as_bytes.result.now c.as_slice.result.now) ≡ whole_read (tables c.args.text.now limit) (lexemes_in c.args.text.now is.0) =
-    ap (λ (w : List ℕ). whole_read (tables w limit) (lexemes_of w c.as_slice.result.now)) c.as_bytes.ensures.value ∙ ap (λ (w : List Token). whole_read (tables c.args.text.now limit) (lexemes_of c.args.text.now w)) (c.as_slice.ensures ∙ is.3) in
-    let told : Reports c.tables_of.result (whole_read (tables c.args.text.now limit) (lexemes_in c.args.text.now is.0)) = subst (λ (o : Result (List Table) Fault). Reports c.tables_of.result o) same c.tables_of.ensures in
+    let made : HasItems c.args.text.now is.0 = record { are = is.1; spells = is.2; short = c.in-Ok.ensures.short } in
+    let same : read_to_end (tables c.as_bytes.result.now limit) (lexemes_of c.as_bytes.result.now c.as_slice.result.now) ≡ read_to_end (tables c.args.text.now limit) (lexemes_in c.args.text.now is.0) =
+    ap (λ (w : List ℕ). read_to_end (tables w limit) (lexemes_of w c.as_slice.result.now)) c.as_bytes.ensures.value ∙ ap (λ (w : List Token). read_to_end (tables c.args.text.now limit) (lexemes_of c.args.text.now w)) (c.as_slice.ensures ∙ is.3) in
+    let told : Reports c.tables_of.result (read_to_end (tables c.args.text.now limit) (lexemes_in c.args.text.now is.0)) = subst (λ (o : Result (List Table) SyntaxError). Reports c.tables_of.result o) same c.tables_of.ensures in
     text_value goal_of.Schema (tables c.args.text.now limit) (tables_good c.args.text.now limit) c.args.text.now is.0 made c.tables_of.result told
 
 pub returns-in-Ok-clause-read_all : goal.returns-in-Ok-clause-read_all
 returns-in-Ok-clause-read_all c =
     let is = c.in-Ok.ensures.read in
-    let made : IsMadeOf c.args.text.now is.0 = record { are = is.1; spells = is.2; short = c.in-Ok.ensures.short } in
-    let same : whole_read (tables c.as_bytes.result.now limit) (lexemes_of c.as_bytes.result.now c.as_slice.result.now) ≡ whole_read (tables c.args.text.now limit) (lexemes_in c.args.text.now is.0) =
-    ap (λ (w : List ℕ). whole_read (tables w limit) (lexemes_of w c.as_slice.result.now)) c.as_bytes.ensures.value ∙ ap (λ (w : List Token). whole_read (tables c.args.text.now limit) (lexemes_of c.args.text.now w)) (c.as_slice.ensures ∙ is.3) in
-    let told : Reports c.tables_of.result (whole_read (tables c.args.text.now limit) (lexemes_in c.args.text.now is.0)) = subst (λ (o : Result (List Table) Fault). Reports c.tables_of.result o) same c.tables_of.ensures in
+    let made : HasItems c.args.text.now is.0 = record { are = is.1; spells = is.2; short = c.in-Ok.ensures.short } in
+    let same : read_to_end (tables c.as_bytes.result.now limit) (lexemes_of c.as_bytes.result.now c.as_slice.result.now) ≡ read_to_end (tables c.args.text.now limit) (lexemes_in c.args.text.now is.0) =
+    ap (λ (w : List ℕ). read_to_end (tables w limit) (lexemes_of w c.as_slice.result.now)) c.as_bytes.ensures.value ∙ ap (λ (w : List Token). read_to_end (tables c.args.text.now limit) (lexemes_of c.args.text.now w)) (c.as_slice.ensures ∙ is.3) in
+    let told : Reports c.tables_of.result (read_to_end (tables c.args.text.now limit) (lexemes_in c.args.text.now is.0)) = subst (λ (o : Result (List Table) SyntaxError). Reports c.tables_of.result o) same c.tables_of.ensures in
     text_value_all goal_of.Schema (tables c.args.text.now limit) (tables_good c.args.text.now limit) c.args.text.now is.0 made c.tables_of.result told
 
 pub returns-in-Ok-clause-refused : goal.returns-in-Ok-clause-refused
 returns-in-Ok-clause-refused c =
     let is = c.in-Ok.ensures.read in
-    let made : IsMadeOf c.args.text.now is.0 = record { are = is.1; spells = is.2; short = c.in-Ok.ensures.short } in
-    let same : whole_read (tables c.as_bytes.result.now limit) (lexemes_of c.as_bytes.result.now c.as_slice.result.now) ≡ whole_read (tables c.args.text.now limit) (lexemes_in c.args.text.now is.0) =
-    ap (λ (w : List ℕ). whole_read (tables w limit) (lexemes_of w c.as_slice.result.now)) c.as_bytes.ensures.value ∙ ap (λ (w : List Token). whole_read (tables c.args.text.now limit) (lexemes_of c.args.text.now w)) (c.as_slice.ensures ∙ is.3) in
-    let told : Reports c.tables_of.result (whole_read (tables c.args.text.now limit) (lexemes_in c.args.text.now is.0)) = subst (λ (o : Result (List Table) Fault). Reports c.tables_of.result o) same c.tables_of.ensures in
+    let made : HasItems c.args.text.now is.0 = record { are = is.1; spells = is.2; short = c.in-Ok.ensures.short } in
+    let same : read_to_end (tables c.as_bytes.result.now limit) (lexemes_of c.as_bytes.result.now c.as_slice.result.now) ≡ read_to_end (tables c.args.text.now limit) (lexemes_in c.args.text.now is.0) =
+    ap (λ (w : List ℕ). read_to_end (tables w limit) (lexemes_of w c.as_slice.result.now)) c.as_bytes.ensures.value ∙ ap (λ (w : List Token). read_to_end (tables c.args.text.now limit) (lexemes_of c.args.text.now w)) (c.as_slice.ensures ∙ is.3) in
+    let told : Reports c.tables_of.result (read_to_end (tables c.args.text.now limit) (lexemes_in c.args.text.now is.0)) = subst (λ (o : Result (List Table) SyntaxError). Reports c.tables_of.result o) same c.tables_of.ensures in
     text_refused goal_of.Schema (tables c.args.text.now limit) (tables_good c.args.text.now limit) c.args.text.now is.0 made c.tables_of.result told
 
 pub returns-in-Ok-clause-refused_all : goal.returns-in-Ok-clause-refused_all
 returns-in-Ok-clause-refused_all c =
     let is = c.in-Ok.ensures.read in
-    let made : IsMadeOf c.args.text.now is.0 = record { are = is.1; spells = is.2; short = c.in-Ok.ensures.short } in
-    let same : whole_read (tables c.as_bytes.result.now limit) (lexemes_of c.as_bytes.result.now c.as_slice.result.now) ≡ whole_read (tables c.args.text.now limit) (lexemes_in c.args.text.now is.0) =
-    ap (λ (w : List ℕ). whole_read (tables w limit) (lexemes_of w c.as_slice.result.now)) c.as_bytes.ensures.value ∙ ap (λ (w : List Token). whole_read (tables c.args.text.now limit) (lexemes_of c.args.text.now w)) (c.as_slice.ensures ∙ is.3) in
-    let told : Reports c.tables_of.result (whole_read (tables c.args.text.now limit) (lexemes_in c.args.text.now is.0)) = subst (λ (o : Result (List Table) Fault). Reports c.tables_of.result o) same c.tables_of.ensures in
+    let made : HasItems c.args.text.now is.0 = record { are = is.1; spells = is.2; short = c.in-Ok.ensures.short } in
+    let same : read_to_end (tables c.as_bytes.result.now limit) (lexemes_of c.as_bytes.result.now c.as_slice.result.now) ≡ read_to_end (tables c.args.text.now limit) (lexemes_in c.args.text.now is.0) =
+    ap (λ (w : List ℕ). read_to_end (tables w limit) (lexemes_of w c.as_slice.result.now)) c.as_bytes.ensures.value ∙ ap (λ (w : List Token). read_to_end (tables c.args.text.now limit) (lexemes_of c.args.text.now w)) (c.as_slice.ensures ∙ is.3) in
+    let told : Reports c.tables_of.result (read_to_end (tables c.args.text.now limit) (lexemes_in c.args.text.now is.0)) = subst (λ (o : Result (List Table) SyntaxError). Reports c.tables_of.result o) same c.tables_of.ensures in
     text_refused_all goal_of.Schema (tables c.args.text.now limit) (tables_good c.args.text.now limit) c.args.text.now is.0 made c.tables_of.result told
 
 pub returns-in-Err-clause-read_all : goal.returns-in-Err-clause-read_all

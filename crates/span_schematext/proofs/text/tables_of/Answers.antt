@@ -2,7 +2,7 @@ use Rattle.std.proofs.Common.{◌≡◌, ◌∙◌, sym, ap, List}
 use Rattle.span_grammar.specs.Classes.{lexemes_of}
 use Rattle.span_grammar.specs.Rules.{limit}
 use Rattle.span_grammar.specs.declared.class.Lexeme.{Lexeme}
-use Rattle.span_syntax.specs.Parsed.{whole_read}
+use Rattle.span_syntax.specs.Parsed.{read_to_end}
 use Rattle.span_syntax.proofs.Parsing.{reports}
 use Rattle.span_schematext.specs.Declarations.{tables}
 use Rattle.span_schematext.proofs.text.tables_of.Goals as goal
@@ -10,5 +10,5 @@ use Rattle.span_schematext.proofs.text.tables_of.Goals as goal
 pub returns : goal.returns
 returns c =
     let same : lexemes_of c.args.text.now c.args.tokens.now ≡ c.as_slice.result.now = sym (c.as_slice.ensures.value ∙ c.in_ok-found.ensures) in
-    reports (whole_read (tables c.args.text.now limit) (lexemes_of c.args.text.now c.args.tokens.now)) c.in-Err.fault c.misread-refusal.result
-    (λ n. ap (whole_read (tables c.args.text.now limit)) same ∙ c.in-Err.ensures n) c.misread-refusal.ensures.refusal
+    reports (read_to_end (tables c.args.text.now limit) (lexemes_of c.args.text.now c.args.tokens.now)) c.in-Err.fault c.misread-refusal.result
+    (λ n. ap (read_to_end (tables c.args.text.now limit)) same ∙ c.in-Err.ensures n) c.misread-refusal.ensures.refusal

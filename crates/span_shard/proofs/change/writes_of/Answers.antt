@@ -3,7 +3,7 @@ use Rattle.std.proofs.lemmas.Result.{err_from_is_err_and}
 use Rattle.span_mutate.specs.declared.row.TableRow.{TableRow}
 use Rattle.span_mutate.specs.Typed.{AreTyped}
 use Rattle.span_shard.specs.KeyVersions.{KeyVersions}
-use Rattle.span_shard.specs.Reading.{IsFound, AreRead, HasUnread, AreDiffs}
+use Rattle.span_shard.specs.Reading.{AreKeysUnder, AreRead, HasUnread, AreDiffs}
 use Rattle.span_shard.proofs.Parts.{roots_touched, part_made, none_now}
 use Rattle.span_shard.proofs.Changing.{run_after, fault_of, writes_of}
 use Rattle.span_shard.proofs.change.writes_of.Goals as goal
@@ -16,7 +16,7 @@ returns-in_err-rows-clause-fault c =
     let cs = c.args.store.now in
     let roots = c.in_ok-roots.roots.items in
     let found = c.in_ok-found.found.items in
-    let f = subst (λ (l : List (List ℕ)). IsFound l cs found) c.as_slice.ensures.value c.in_ok-found.ensures in
+    let f = subst (λ (l : List (List ℕ)). AreKeysUnder l cs found) c.as_slice.ensures.value c.in_ok-found.ensures in
     rw (p.1, p.2) (elim c.in_err-rows.ensures [
       | inl e ↦ λ db is tdb now. inl e
       | inr u ↦ λ db is tdb now. absurd (none_now tables ms roots cs found (roots_touched tables ms roots c.in_ok-roots.ensures) f (subst (HasUnread tables) c.as_slice-2.ensures.value u) db tdb now)
@@ -30,7 +30,7 @@ returns-in_err-after-clause-fault c =
     let cs = c.args.store.now in
     let roots = c.in_ok-roots.roots.items in
     let found = c.in_ok-found.found.items in
-    let f = subst (λ (l : List (List ℕ)). IsFound l cs found) c.as_slice.ensures.value c.in_ok-found.ensures in
+    let f = subst (λ (l : List (List ℕ)). AreKeysUnder l cs found) c.as_slice.ensures.value c.in_ok-found.ensures in
     let read = subst (λ (l : List KeyVersions). AreRead tables l c.in_ok-rows.rows.items) c.as_slice-2.ensures.value c.in_ok-rows.ensures in
     let part = part_made tables ms roots cs found c.in_ok-rows.rows.items c.in_ok-before.before.items c.in_ok-roots.ensures f read c.in_ok-before.ensures in
     rw (p.1, p.2) (elim c.in_err-after.ensures [
@@ -45,7 +45,7 @@ changes-requires-clause-typed c =
     let cs = c.args.store.now in
     let roots = c.in_ok-roots.roots.items in
     let found = c.in_ok-found.found.items in
-    let f = subst (λ (l : List (List ℕ)). IsFound l cs found) c.as_slice.ensures.value c.in_ok-found.ensures in
+    let f = subst (λ (l : List (List ℕ)). AreKeysUnder l cs found) c.as_slice.ensures.value c.in_ok-found.ensures in
     let read = subst (λ (l : List KeyVersions). AreRead tables l c.in_ok-rows.rows.items) c.as_slice-2.ensures.value c.in_ok-rows.ensures in
     let part = part_made tables ms roots cs found c.in_ok-rows.rows.items c.in_ok-before.before.items c.in_ok-roots.ensures f read c.in_ok-before.ensures in
     let after = run_after tables c.tables-tables.ensures.rules ms c.requires.typed cs c.in_ok-before.before.items part c.in_ok-after.after.items c.in_ok-after.ensures in
@@ -60,7 +60,7 @@ returns-clause-ok c =
     let found = c.in_ok-found.found.items in
     let after = c.in_ok-after.after.items in
     let ws = c.in_ok-writes.writes.items in
-    let f = subst (λ (l : List (List ℕ)). IsFound l cs found) c.as_slice.ensures.value c.in_ok-found.ensures in
+    let f = subst (λ (l : List (List ℕ)). AreKeysUnder l cs found) c.as_slice.ensures.value c.in_ok-found.ensures in
     let read = subst (λ (l : List KeyVersions). AreRead tables l c.in_ok-rows.rows.items) c.as_slice-2.ensures.value c.in_ok-rows.ensures in
     let part = part_made tables ms roots cs found c.in_ok-rows.rows.items c.in_ok-before.before.items c.in_ok-roots.ensures f read c.in_ok-before.ensures in
     let diffs0 = subst (λ (l : List KeyVersions). AreDiffs tables cs l c.as_slice-4.result.now ws) c.as_slice-3.ensures.value c.in_ok-writes.ensures in

@@ -2,7 +2,7 @@ use Rattle.std.proofs.Common.{◌∙◌, ℕ, ◌++◌, ◌∷◌, [], List, map
 use Rattle.std.specs.Prelude.{option_map}
 use Rattle.std.proofs.lemmas.List.{map-append}
 use Rattle.span_shard.specs.Shard.{KeyRow}
-use Rattle.span_shard.specs.Reading.{seen_entry, shown}
+use Rattle.span_shard.specs.Reading.{seen_entry, entry_row}
 use Rattle.span_shard.proofs.Seeing.{chains_left, first_chain, seen_none, seen_some}
 use Rattle.span_shard.proofs.place.entries_at.Goals as goal
 
@@ -18,7 +18,7 @@ loop-key-preserved c =
       can_next = tt;
       is_finite = tt;
       chains = chains_left c.args.arena.now c.loop-key.walk c.next.new.self _ c.in-Some.ensures.steps c.loop-key.invariant.chains;
-      so_far = seen_none (seen_entry c.args.arena.now c.args.s) (map shown c.loop-key.entries.items) c.loop-key.walk c.next.new.self _ _ c.in-Some.ensures.steps
+      so_far = seen_none (seen_entry c.args.arena.now c.args.s) (map entry_row c.loop-key.entries.items) c.loop-key.walk c.next.new.self _ _ c.in-Some.ensures.steps
           (sym (ap (option_map (λ (row : List ℕ). the_row c.in-Some.key.now row)) c.in_default-row_in.ensures)) c.loop-key.invariant.so_far;
     }
 
@@ -27,8 +27,8 @@ loop-key-preserved-in-Continue-1 c = record {
   can_next = tt;
   is_finite = tt;
   chains = chains_left c.args.arena.now c.loop-key.walk c.next.new.self _ c.in-Some.ensures.steps c.loop-key.invariant.chains;
-  so_far = seen_some (seen_entry c.args.arena.now c.args.s) (map shown c.loop-key.entries.items) (map shown c.push.new.self.items) c.loop-key.walk c.next.new.self _ (the_row c.in-Some.key.now c.in-Some-row_in.row.now) _ c.in-Some.ensures.steps
+  so_far = seen_some (seen_entry c.args.arena.now c.args.s) (map entry_row c.loop-key.entries.items) (map entry_row c.push.new.self.items) c.loop-key.walk c.next.new.self _ (the_row c.in-Some.key.now c.in-Some-row_in.row.now) _ c.in-Some.ensures.steps
       (sym (ap (option_map (λ (row : List ℕ). the_row c.in-Some.key.now row)) c.in-Some-row_in.ensures))
-      (ap (map shown) c.in_ok-push.ensures.items ∙ map-append shown c.loop-key.entries.items _ ∙ ap (λ (row : List ℕ). map shown c.loop-key.entries.items ++ the_row c.in-Some.key.now row ∷ []) c.as_slice.ensures)
+      (ap (map entry_row) c.in_ok-push.ensures.items ∙ map-append entry_row c.loop-key.entries.items _ ∙ ap (λ (row : List ℕ). map entry_row c.loop-key.entries.items ++ the_row c.in-Some.key.now row ∷ []) c.as_slice.ensures)
       c.loop-key.invariant.so_far;
 }

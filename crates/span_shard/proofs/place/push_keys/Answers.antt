@@ -1,4 +1,4 @@
-use Rattle.span_shard.specs.Reading.{bare_entry}
+use Rattle.span_shard.specs.Reading.{versions_alone_at}
 use Rattle.span_shard.proofs.Seeing.{chains_left, first_chain, pushed_step}
 use Rattle.span_shard.proofs.place.push_keys.Goals as goal
 
@@ -10,5 +10,5 @@ loop-key-preserved c = record {
   can_next = tt;
   is_finite = tt;
   chains = chains_left c.args.arena.now c.loop-key.walk c.next.new.self _ c.in-Some.ensures.steps c.loop-key.invariant.chains;
-  so_far = pushed_step (bare_entry c.args.arena.now) c.loop-key.found.items c.push.new.self.items c.loop-key.walk c.next.new.self _ _ c.in-Some.ensures.steps c.in_ok-push.ensures.items c.loop-key.invariant.so_far;
+  so_far = pushed_step (versions_alone_at c.args.arena.now) c.loop-key.found.items c.push.new.self.items c.loop-key.walk c.next.new.self _ _ c.in-Some.ensures.steps c.in_ok-push.ensures.items c.loop-key.invariant.so_far;
 }

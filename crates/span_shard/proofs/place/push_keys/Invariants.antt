@@ -2,7 +2,7 @@ use Rattle.std.proofs.Common.{◌≡◌, ◌++◌, map}
 use Rattle.std.specs.Prelude.{All}
 use Rattle.span_arena.specs.Content.{IsChain}
 use Rattle.span_keyindex.specs.declared.entry.Entry.{Entry}
-use Rattle.span_shard.specs.Reading.{bare_entry}
+use Rattle.span_shard.specs.Reading.{versions_alone_at}
 use Rattle.span_shard.proofs.place.push_keys.Given as goal
 
 -- the keys so far, and those that are left
@@ -11,5 +11,5 @@ invariant-loop-key l = record {
   can_next : (goal.iterator-loop-key).can_next l.walk;
   is_finite : (goal.iterator-loop-key).is_finite l.walk;
   chains : All (λ (e : Entry). IsChain l.arena e.chain.number) l.walk;
-  so_far : l.found.items ++ map (bare_entry l.arena) l.walk ≡ l.fn.found.items ++ map (bare_entry l.arena) l.initial.walk;
+  so_far : l.found.items ++ map (versions_alone_at l.arena) l.walk ≡ l.fn.found.items ++ map (versions_alone_at l.arena) l.initial.walk;
 }

@@ -3,7 +3,7 @@ use Rattle.std.specs.Prelude.{nat_eq}
 use Rattle.std.specs.List.{All}
 use Rattle.std.specs.Cmp.Lexicographic.{pointwise, same_text}
 use Rattle.std.proofs.lemmas.List.{take-append-drop}
-use Rattle.span_value.specs.Cells.{hex_pairs, unhexed}
+use Rattle.span_value.specs.Cells.{hex_pairs, decoded_hex}
 use Rattle.span_value.specs.declared.value.Value.TheVariants as value
 use Rattle.span_value.proofs.CellTexts.{unhexed_is, unhexed_is_not, hexed_unhexed}
 use Rattle.span_value.proofs.cell.read_bytes.Goals as goal
@@ -18,7 +18,7 @@ digits_are text digits w e h = let t : 92 ∷ 120 ∷ w ≡ 92 ∷ 120 ∷ digit
 pub returns-in-Some-2-clause-read : goal.returns-in-Some-2-clause-read
 returns-in-Some-2-clause-read c =
     let front : c.args.text.now ≡ 92 ∷ 120 ∷ c.in-Some.digits.now = sym c.as_bytes.ensures.value ∙ front_is c.as_bytes.result.now c.in-Some.digits.now c.in-Some.ensures.cases.0 c.in-Some.ensures.cases.1 in
-    let found : unhexed c.in-Some.digits.now ≡ Some c.in-Some-2.bytes.items = rw c.in-Some-2.is at c.in_ok-bytes.ensures in
+    let found : decoded_hex c.in-Some.digits.now ≡ Some c.in-Some-2.bytes.items = rw c.in-Some-2.is at c.in_ok-bytes.ensures in
     let read = hexed_unhexed c.in-Some.digits.now c.in-Some-2.bytes.items found in
     let P : List ℕ → Type 0 = λ w. All (λ b. b < 256) w × (92 ∷ 120 ∷ hex_pairs w ≡ c.args.text.now) in
     subst P (sym c.from_vec.ensures) (read.1, ap (λ (w : List ℕ). 92 ∷ 120 ∷ w) read.0 ∙ sym front)
@@ -26,11 +26,11 @@ returns-in-Some-2-clause-read c =
 pub returns-in-Some-2-clause-read_all : goal.returns-in-Some-2-clause-read_all
 returns-in-Some-2-clause-read_all c = λ w h.
     let front : c.args.text.now ≡ 92 ∷ 120 ∷ c.in-Some.digits.now = sym c.as_bytes.ensures.value ∙ front_is c.as_bytes.result.now c.in-Some.digits.now c.in-Some.ensures.cases.0 c.in-Some.ensures.cases.1 in
-    let found : unhexed c.in-Some.digits.now ≡ Some c.in-Some-2.bytes.items = rw c.in-Some-2.is at c.in_ok-bytes.ensures in
+    let found : decoded_hex c.in-Some.digits.now ≡ Some c.in-Some-2.bytes.items = rw c.in-Some-2.is at c.in_ok-bytes.ensures in
     inl (ap (λ (v : List ℕ). Ok (value.Bytes v)) (c.from_vec.ensures ∙ unhexed_is c.in-Some.digits.now c.in-Some-2.bytes.items w found h.0 (digits_are c.args.text.now c.in-Some.digits.now (hex_pairs w) front h.1)))
 
 pub returns-in-None-clause-read_all : goal.returns-in-None-clause-read_all
 returns-in-None-clause-read_all c = λ w h.
     let front : c.args.text.now ≡ 92 ∷ 120 ∷ c.in-Some.digits.now = sym c.as_bytes.ensures.value ∙ front_is c.as_bytes.result.now c.in-Some.digits.now c.in-Some.ensures.cases.0 c.in-Some.ensures.cases.1 in
-    let none : unhexed c.in-Some.digits.now ≡ None = rw c.in-None.is at c.in_ok-bytes.ensures in
+    let none : decoded_hex c.in-Some.digits.now ≡ None = rw c.in-None.is at c.in_ok-bytes.ensures in
     absurd (unhexed_is_not c.in-Some.digits.now w none h.0 (digits_are c.args.text.now c.in-Some.digits.now (hex_pairs w) front h.1))

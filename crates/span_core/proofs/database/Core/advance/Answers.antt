@@ -8,7 +8,7 @@ use Rattle.span_core.proofs.database.Core.advance.Goals as goal
 use Rattle.span_core.specs.Histories.{Steps}
 use Rattle.span_machine.specs.declared.step.Reply.{Reply}
 use Rattle.span_machine.specs.declared.step.Reply.TheVariants as reply
-use Rattle.span_journal.specs.Judged.{replied}
+use Rattle.span_journal.specs.Judged.{as_reply}
 use Rattle.span_core.specs.Whole.{State}
 use Rattle.span_core.proofs.database.Core.advance.Goals.{in-Ok, in-Err}
 
@@ -24,10 +24,10 @@ pub returns-clause-steps : goal.returns-clause-steps
 returns-clause-steps c =
     let m = machine_of c.self.inside.journal in
     let n = machine_of c.advance.new.self in
-    let all : Steps c.self.inside.schema m (step.Advance c.args.slot c.args.interval) (replied reply.Floor c.advance.result) n = inl (no_text, tt, c.advance.ensures.step) in
+    let all : Steps c.self.inside.schema m (step.Advance c.args.slot c.args.interval) (as_reply reply.Floor c.advance.result) n = inl (no_text, tt, c.advance.ensures.step) in
     let right : Steps c.self.inside.schema m (step.Advance c.args.slot c.args.interval) c.match-advance.result n =
     elim c.match-advance.branch [
-      | in-Ok w ↦ subst (λ (r : Reply). Steps c.self.inside.schema m (step.Advance c.args.slot c.args.interval) r n) (sym w.result-is) (subst (λ o. Steps c.self.inside.schema m (step.Advance c.args.slot c.args.interval) (replied reply.Floor o) n) w.in-Ok.is all)
-      | in-Err w ↦ subst (λ (r : Reply). Steps c.self.inside.schema m (step.Advance c.args.slot c.args.interval) r n) (sym w.result-is) (subst (λ o. Steps c.self.inside.schema m (step.Advance c.args.slot c.args.interval) (replied reply.Floor o) n) w.in-Err.is all)
+      | in-Ok w ↦ subst (λ (r : Reply). Steps c.self.inside.schema m (step.Advance c.args.slot c.args.interval) r n) (sym w.result-is) (subst (λ o. Steps c.self.inside.schema m (step.Advance c.args.slot c.args.interval) (as_reply reply.Floor o) n) w.in-Ok.is all)
+      | in-Err w ↦ subst (λ (r : Reply). Steps c.self.inside.schema m (step.Advance c.args.slot c.args.interval) r n) (sym w.result-is) (subst (λ o. Steps c.self.inside.schema m (step.Advance c.args.slot c.args.interval) (as_reply reply.Floor o) n) w.in-Err.is all)
     ] in
     subst (λ (st : State). Steps st.schema st.machine (step.Advance c.args.slot c.args.interval) c.match-advance.result n) c.self.view_is right

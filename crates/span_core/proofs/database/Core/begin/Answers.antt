@@ -8,7 +8,7 @@ use Rattle.span_core.proofs.database.Core.begin.Goals as goal
 use Rattle.span_core.specs.Histories.{Steps}
 use Rattle.span_machine.specs.declared.step.Reply.{Reply}
 use Rattle.span_machine.specs.declared.step.Reply.TheVariants as reply
-use Rattle.span_journal.specs.Judged.{replied}
+use Rattle.span_journal.specs.Judged.{as_reply}
 use Rattle.span_core.specs.Whole.{State}
 use Rattle.span_mutate.specs.Typed.{AreTypedMutations}
 use Rattle.span_core.proofs.database.Core.begin.Goals.{in-Ok, in-Err}
@@ -25,10 +25,10 @@ pub returns-clause-steps : goal.returns-clause-steps
 returns-clause-steps c =
     let m = machine_of c.self.inside.journal in
     let n = machine_of c.begin.new.self in
-    let all : Steps c.self.inside.schema m (step.Begin c.args.owner c.args.transaction) (replied reply.Began c.begin.result) n = begun_steps c.self.inside.schema m c.args.owner c.args.transaction (replied reply.Began c.begin.result) n c.begin.ensures.step in
+    let all : Steps c.self.inside.schema m (step.Begin c.args.owner c.args.transaction) (as_reply reply.Began c.begin.result) n = begun_steps c.self.inside.schema m c.args.owner c.args.transaction (as_reply reply.Began c.begin.result) n c.begin.ensures.step in
     let right : Steps c.self.inside.schema m (step.Begin c.args.owner c.args.transaction) c.match-begin.result n =
     elim c.match-begin.branch [
-      | in-Ok w ↦ subst (λ (r : Reply). Steps c.self.inside.schema m (step.Begin c.args.owner c.args.transaction) r n) (sym w.result-is) (subst (λ o. Steps c.self.inside.schema m (step.Begin c.args.owner c.args.transaction) (replied reply.Began o) n) w.in-Ok.is all)
-      | in-Err w ↦ subst (λ (r : Reply). Steps c.self.inside.schema m (step.Begin c.args.owner c.args.transaction) r n) (sym w.result-is) (subst (λ o. Steps c.self.inside.schema m (step.Begin c.args.owner c.args.transaction) (replied reply.Began o) n) w.in-Err.is all)
+      | in-Ok w ↦ subst (λ (r : Reply). Steps c.self.inside.schema m (step.Begin c.args.owner c.args.transaction) r n) (sym w.result-is) (subst (λ o. Steps c.self.inside.schema m (step.Begin c.args.owner c.args.transaction) (as_reply reply.Began o) n) w.in-Ok.is all)
+      | in-Err w ↦ subst (λ (r : Reply). Steps c.self.inside.schema m (step.Begin c.args.owner c.args.transaction) r n) (sym w.result-is) (subst (λ o. Steps c.self.inside.schema m (step.Begin c.args.owner c.args.transaction) (as_reply reply.Began o) n) w.in-Err.is all)
     ] in
     subst (λ (st : State). Steps st.schema st.machine (step.Begin c.args.owner c.args.transaction) c.match-begin.result n) c.self.view_is right

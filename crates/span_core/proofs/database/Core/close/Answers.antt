@@ -7,7 +7,7 @@ use Rattle.span_core.proofs.database.Core.close.Goals as goal
 use Rattle.span_core.specs.Histories.{Steps}
 use Rattle.span_machine.specs.declared.step.Reply.{Reply}
 use Rattle.span_machine.specs.declared.step.Reply.TheVariants as reply
-use Rattle.span_journal.specs.Judged.{replied}
+use Rattle.span_journal.specs.Judged.{as_reply}
 use Rattle.span_core.specs.Whole.{State}
 use Rattle.span_core.proofs.database.Core.close.Goals.{in-Ok, in-Err}
 
@@ -23,10 +23,10 @@ pub returns-clause-steps : goal.returns-clause-steps
 returns-clause-steps c =
     let m = machine_of c.self.inside.journal in
     let n = machine_of c.close.new.self in
-    let all : Steps c.self.inside.schema m (step.Close c.args.query) (replied (λ _. reply.Closed) c.close.result) n = inl (no_text, tt, c.close.ensures.step) in
+    let all : Steps c.self.inside.schema m (step.Close c.args.query) (as_reply (λ _. reply.Closed) c.close.result) n = inl (no_text, tt, c.close.ensures.step) in
     let right : Steps c.self.inside.schema m (step.Close c.args.query) c.match-close.result n =
     elim c.match-close.branch [
-      | in-Ok w ↦ subst (λ (r : Reply). Steps c.self.inside.schema m (step.Close c.args.query) r n) (sym w.result-is) (subst (λ o. Steps c.self.inside.schema m (step.Close c.args.query) (replied (λ _. reply.Closed) o) n) w.in-Ok.is all)
-      | in-Err w ↦ subst (λ (r : Reply). Steps c.self.inside.schema m (step.Close c.args.query) r n) (sym w.result-is) (subst (λ o. Steps c.self.inside.schema m (step.Close c.args.query) (replied (λ _. reply.Closed) o) n) w.in-Err.is all)
+      | in-Ok w ↦ subst (λ (r : Reply). Steps c.self.inside.schema m (step.Close c.args.query) r n) (sym w.result-is) (subst (λ o. Steps c.self.inside.schema m (step.Close c.args.query) (as_reply (λ _. reply.Closed) o) n) w.in-Ok.is all)
+      | in-Err w ↦ subst (λ (r : Reply). Steps c.self.inside.schema m (step.Close c.args.query) r n) (sym w.result-is) (subst (λ o. Steps c.self.inside.schema m (step.Close c.args.query) (as_reply (λ _. reply.Closed) o) n) w.in-Err.is all)
     ] in
     subst (λ (st : State). Steps st.schema st.machine (step.Close c.args.query) c.match-close.result n) c.self.view_is right

@@ -4,7 +4,7 @@ use Rattle.span_machine.specs.declared.step.Step.TheVariants as step
 use Rattle.span_machine.specs.declared.step.Reply.{Reply}
 use Rattle.span_machine.specs.declared.step.Reply.TheVariants as reply
 use Rattle.span_kept.proofs.Steps.{kept_open}
-use Rattle.span_journal.specs.Judged.{replied}
+use Rattle.span_journal.specs.Judged.{as_reply}
 use Rattle.span_statement.specs.Understands.{Understands}
 use Rattle.span_core.specs.Whole.{State}
 use Rattle.span_core.specs.Histories.{Steps}
@@ -48,8 +48,8 @@ returns-in-Ok-open-clause-steps c =
     let q = c.in-Ok.statement in
     let understood : Understands schema c.args.text c.args.params (Ok q) = subst (λ (t : List ℕ). Understands schema t c.args.params (Ok q)) c.as_str.ensures c.in-Ok.ensures.understood in
     let make : ℕ × ℕ → Reply = λ r. reply.Opened r.0 r.1 (length q.leaves) in
-    let all : Steps schema m (step.Open c.args.text c.args.params c.args.bound c.args.interval) (replied make c.open.result) n = opened_steps schema m c.args.text c.args.params c.args.bound c.args.interval q (replied make c.open.result) n understood c.open.ensures.step in
-    let right : Steps schema m (step.Open c.args.text c.args.params c.args.bound c.args.interval) (reply.Opened c.in-Ok-open.query c.in-Ok-open.s (length q.leaves)) n = subst (λ o. Steps schema m (step.Open c.args.text c.args.params c.args.bound c.args.interval) (replied make o) n) c.in-Ok-open.is all in
+    let all : Steps schema m (step.Open c.args.text c.args.params c.args.bound c.args.interval) (as_reply make c.open.result) n = opened_steps schema m c.args.text c.args.params c.args.bound c.args.interval q (as_reply make c.open.result) n understood c.open.ensures.step in
+    let right : Steps schema m (step.Open c.args.text c.args.params c.args.bound c.args.interval) (reply.Opened c.in-Ok-open.query c.in-Ok-open.s (length q.leaves)) n = subst (λ o. Steps schema m (step.Open c.args.text c.args.params c.args.bound c.args.interval) (as_reply make o) n) c.in-Ok-open.is all in
     subst (λ (st : State). Steps st.schema st.machine (step.Open c.args.text c.args.params c.args.bound c.args.interval) (reply.Opened c.in-Ok-open.query c.in-Ok-open.s c.len-leaves.result) n) c.self.view_is
     (subst (λ (k : ℕ). Steps schema m (step.Open c.args.text c.args.params c.args.bound c.args.interval) (reply.Opened c.in-Ok-open.query c.in-Ok-open.s k) n) (sym c.len-leaves.ensures) right)
 
@@ -64,8 +64,8 @@ returns-in-Ok-clause-steps c =
     let q = c.in-Ok.statement in
     let understood : Understands schema c.args.text c.args.params (Ok q) = subst (λ (t : List ℕ). Understands schema t c.args.params (Ok q)) c.as_str.ensures c.in-Ok.ensures.understood in
     let make : ℕ × ℕ → Reply = λ r. reply.Opened r.0 r.1 (length q.leaves) in
-    let all : Steps schema m (step.Open c.args.text c.args.params c.args.bound c.args.interval) (replied make c.open.result) n = opened_steps schema m c.args.text c.args.params c.args.bound c.args.interval q (replied make c.open.result) n understood c.open.ensures.step in
-    subst (λ (st : State). Steps st.schema st.machine (step.Open c.args.text c.args.params c.args.bound c.args.interval) (reply.Refused c.in-Err-open.why) n) c.self.view_is (subst (λ o. Steps schema m (step.Open c.args.text c.args.params c.args.bound c.args.interval) (replied make o) n) c.in-Err-open.is all)
+    let all : Steps schema m (step.Open c.args.text c.args.params c.args.bound c.args.interval) (as_reply make c.open.result) n = opened_steps schema m c.args.text c.args.params c.args.bound c.args.interval q (as_reply make c.open.result) n understood c.open.ensures.step in
+    subst (λ (st : State). Steps st.schema st.machine (step.Open c.args.text c.args.params c.args.bound c.args.interval) (reply.Refused c.in-Err-open.why) n) c.self.view_is (subst (λ o. Steps schema m (step.Open c.args.text c.args.params c.args.bound c.args.interval) (as_reply make o) n) c.in-Err-open.is all)
 
 pub returns-clause-steps : goal.returns-clause-steps
 returns-clause-steps c =

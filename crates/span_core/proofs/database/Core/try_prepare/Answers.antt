@@ -1,7 +1,7 @@
 use Rattle.std.proofs.Common.{◌≡◌, ◌≤◌, List, [], None, refl, sym, ap, ◌∙◌, subst, inl, inr}
 use Rattle.span_value.specs.declared.refusal.Refusal.{Refusal}
 use Rattle.span_shard.specs.KeyVersions.{KeyVersions}
-use Rattle.span_machine.specs.Kept.{most}
+use Rattle.span_machine.specs.Kept.{most_versions}
 use Rattle.span_machine.specs.Pieces.{machine_of}
 use Rattle.span_core.specs.Histories.{Steps}
 use Rattle.span_machine.specs.declared.step.Step.TheVariants as step
@@ -34,7 +34,7 @@ invariant_of-self c =
     let cs = c.self.inside.shard in
     let may : MayPrepare c.self.inside.schema (machine_of j) c.args.owner c.args.txn c.args.slot c.in-Ok.mutations.now = c.in-Ok.ensures.accepted in
     let put = c.in-Ok-prepare.ensures.ok in
-    let few : live (with_writes c.args.txn put.0 cs) ≤ most = subst (λ (l : List KeyVersions). live l ≤ most) put.1 c.keeps_at_most.ensures in
+    let few : live (with_writes c.args.txn put.0 cs) ≤ most_versions = subst (λ (l : List KeyVersions). live l ≤ most_versions) put.1 c.keeps_at_most.ensures in
     subst (IsWhole c.self.inside.schema c.note_prepared.new.self) (sym put.1)
     (noted_whole c.self.inside.schema j cs c.self.invariant c.args.owner c.args.txn c.args.slot c.in-Ok.mutations.now may put.0 put.2.changes few c.in-Ok-note_prepared.timestamp c.note_prepared.new.self c.in-Ok-note_prepared.ensures.ok c.in-Ok-note_prepared.ensures.pieces)
 
@@ -56,7 +56,7 @@ returns-in-Ok-note_prepared-clause-steps c =
     let cs = c.self.inside.shard in
     let may : MayPrepare c.self.inside.schema (machine_of j) c.args.owner c.args.txn c.args.slot c.in-Ok.mutations.now = c.in-Ok.ensures.accepted in
     let put = c.in-Ok-prepare.ensures.ok in
-    let few : live (with_writes c.args.txn put.0 cs) ≤ most = subst (λ (l : List KeyVersions). live l ≤ most) put.1 c.keeps_at_most.ensures in
+    let few : live (with_writes c.args.txn put.0 cs) ≤ most_versions = subst (λ (l : List KeyVersions). live l ≤ most_versions) put.1 c.keeps_at_most.ensures in
     subst (λ (st : State). Steps st.schema st.machine (step.Prepare c.args.owner c.args.txn c.args.slot) (reply.Prepared c.in-Ok-note_prepared.timestamp) (machine_of c.note_prepared.new.self)) c.self.view_is
     (noted_steps c.self.inside.schema j cs c.self.invariant c.args.owner c.args.txn c.args.slot c.in-Ok.mutations.now may put.0 put.2.changes few c.in-Ok-note_prepared.timestamp (machine_of c.note_prepared.new.self) c.in-Ok-note_prepared.ensures.ok)
 
@@ -67,7 +67,7 @@ returns-in-Err-note_prepared-clause-steps c =
     let may : MayPrepare c.self.inside.schema (machine_of j) c.args.owner c.args.txn c.args.slot c.in-Ok.mutations.now = c.in-Ok.ensures.accepted in
     let put = c.in-Ok-prepare.ensures.ok in
     let why = c.in-Err-note_prepared.why in
-    let few : live (with_writes c.args.txn put.0 cs) ≤ most = subst (λ (l : List KeyVersions). live l ≤ most) put.1 c.keeps_at_most.ensures in
+    let few : live (with_writes c.args.txn put.0 cs) ≤ most_versions = subst (λ (l : List KeyVersions). live l ≤ most_versions) put.1 c.keeps_at_most.ensures in
     let right : Steps c.self.inside.schema (machine_of j) (step.Prepare c.args.owner c.args.txn c.args.slot) (reply.Refused why) (machine_of j) =
     unnoted_steps c.self.inside.schema j cs c.self.invariant c.args.owner c.args.txn c.args.slot c.in-Ok.mutations.now may put.0 put.2.changes few why c.in-Err-note_prepared.ensures.why in
     subst (λ (st : State). Steps st.schema st.machine (step.Prepare c.args.owner c.args.txn c.args.slot) (reply.Refused why) (machine_of c.note_prepared.new.self)) c.self.view_is

@@ -16,7 +16,7 @@ returns-in_default-clause-step c =
 
 pub returns-clause-step : goal.returns-clause-step
 returns-clause-step c =
-    let j : Journaled = record { books = c.self.inside.books.items; transactions = c.self.inside.transactions.items; log = c.self.inside.log.items; queries = c.self.inside.queries.items; next_transaction = c.self.inside.next_transaction; next_query = c.self.inside.next_query } in
+    let j : Journaled = record { slots = c.self.inside.slots.items; transactions = c.self.inside.transactions.items; log = c.self.inside.log.items; queries = c.self.inside.queries.items; next_transaction = c.self.inside.next_transaction; next_query = c.self.inside.next_query } in
     let p = c.in-Some.field-0-1.now in
     let place : IsPlace (λ (p : Pieced). is_query c.args.query p.query) j.queries c.in-Some.at p =
     subst (λ (l : List Pieced). IsPlace (λ (p : Pieced). is_query c.args.query p.query) l c.in-Some.at p) c.as_slice.ensures.value c.in-Some.ensures.some in

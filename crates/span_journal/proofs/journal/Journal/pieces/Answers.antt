@@ -17,7 +17,7 @@ returns-in_default-clause-refused c =
 
 pub returns-then-not-is_covered-clause-refused : goal.returns-then-not-is_covered-clause-refused
 returns-then-not-is_covered-clause-refused c =
-    let j : Journaled = record { books = c.self.inside.books.items; transactions = c.self.inside.transactions.items; log = c.self.inside.log.items; queries = c.self.inside.queries.items; next_transaction = c.self.inside.next_transaction; next_query = c.self.inside.next_query } in
+    let j : Journaled = record { slots = c.self.inside.slots.items; transactions = c.self.inside.transactions.items; log = c.self.inside.log.items; queries = c.self.inside.queries.items; next_transaction = c.self.inside.next_transaction; next_query = c.self.inside.next_query } in
     let p = c.in-Some.question.now in
     let place : IsPlace (λ (p : Pieced). is_query c.args.query p.query) j.queries c.in-Some.field-0-0 p =
     subst (λ (l : List Pieced). IsPlace (λ (p : Pieced). is_query c.args.query p.query) l c.in-Some.field-0-0 p) c.as_slice.ensures.value c.in-Some.ensures.some in
@@ -26,7 +26,7 @@ returns-then-not-is_covered-clause-refused c =
 
 pub returns-clause-ok : goal.returns-clause-ok
 returns-clause-ok c =
-    let j : Journaled = record { books = c.self.inside.books.items; transactions = c.self.inside.transactions.items; log = c.self.inside.log.items; queries = c.self.inside.queries.items; next_transaction = c.self.inside.next_transaction; next_query = c.self.inside.next_query } in
+    let j : Journaled = record { slots = c.self.inside.slots.items; transactions = c.self.inside.transactions.items; log = c.self.inside.log.items; queries = c.self.inside.queries.items; next_transaction = c.self.inside.next_transaction; next_query = c.self.inside.next_query } in
     let p = c.in-Some.question.now in
     let place : IsPlace (λ (p : Pieced). is_query c.args.query p.query) j.queries c.in-Some.field-0-0 p =
     subst (λ (l : List Pieced). IsPlace (λ (p : Pieced). is_query c.args.query p.query) l c.in-Some.field-0-0 p) c.as_slice.ensures.value c.in-Some.ensures.some in

@@ -1,7 +1,7 @@
 use Rattle.std.proofs.Common.{◌≡◌, ◌+◌, [], map, drop, Ok}
 use Rattle.std.specs.Option.{option_map}
 use Rattle.std.specs.List.{fold}
-use Rattle.span_typing.specs.Steps.{next_of, behind}
+use Rattle.span_typing.specs.Steps.{next_of, append_step}
 use Rattle.span_typing.specs.Typing.{Operand, typing, arm_typing, link_typing, each, conditions, condition, links, next_link, arms, arm, compared_arms, compared_arm}
 use Rattle.span_typing.proofs.Sizes.{size, all_sizes, arm_size, link_size, or_zero}
 use Rattle.span_typing.proofs.typing.Names.+typing.Given as goal
@@ -10,12 +10,12 @@ use Rattle.span_typing.proofs.typing.Names.+typing.Given as goal
 abbrev pub invariant-each-loop-operand : goal.invariant-each-loop-operand
 invariant-each-loop-operand l =
     each (map (typing l.self.scope.now l.self.params.now) l.operands) l.mode l.fn.found
-    ≡ fold (next_of (behind (λ (a : Operand). a l.mode))) (Ok (l.all, l.found)) (map (typing l.self.scope.now l.self.params.now) (drop l.operand-index l.operands))
+    ≡ fold (next_of (append_step (λ (a : Operand). a l.mode))) (Ok (l.all, l.found)) (map (typing l.self.scope.now l.self.params.now) (drop l.operand-index l.operands))
 
 abbrev pub invariant-conditions-loop-operand : goal.invariant-conditions-loop-operand
 invariant-conditions-loop-operand l =
     conditions l.kind (map (typing l.self.scope.now l.self.params.now) l.operands) l.mode l.fn.found
-    ≡ fold (next_of (behind (λ (a : Operand). condition l.kind a l.mode))) (Ok (l.all, l.found)) (map (typing l.self.scope.now l.self.params.now) (drop l.operand-index l.operands))
+    ≡ fold (next_of (append_step (λ (a : Operand). condition l.kind a l.mode))) (Ok (l.all, l.found)) (map (typing l.self.scope.now l.self.params.now) (drop l.operand-index l.operands))
 
 abbrev pub invariant-links-loop-link : goal.invariant-links-loop-link
 invariant-links-loop-link l =
@@ -25,12 +25,12 @@ invariant-links-loop-link l =
 abbrev pub invariant-arms-loop-arm : goal.invariant-arms-loop-arm
 invariant-arms-loop-arm l =
     arms (map (arm_typing l.self.scope.now l.self.params.now) l.arms) l.mode l.fn.found
-    ≡ fold (next_of (behind (λ (a : Operand × Operand). arm a l.mode))) (Ok (l.all, l.found)) (map (arm_typing l.self.scope.now l.self.params.now) (drop l.arm-index l.arms))
+    ≡ fold (next_of (append_step (λ (a : Operand × Operand). arm a l.mode))) (Ok (l.all, l.found)) (map (arm_typing l.self.scope.now l.self.params.now) (drop l.arm-index l.arms))
 
 abbrev pub invariant-compared_arms-loop-arm : goal.invariant-compared_arms-loop-arm
 invariant-compared_arms-loop-arm l =
     compared_arms l.kind (map (arm_typing l.self.scope.now l.self.params.now) l.arms) l.mode l.fn.found
-    ≡ fold (next_of (behind (λ (a : Operand × Operand). compared_arm l.kind a l.mode))) (Ok (l.all, l.found)) (map (arm_typing l.self.scope.now l.self.params.now) (drop l.arm-index l.arms))
+    ≡ fold (next_of (append_step (λ (a : Operand × Operand). compared_arm l.kind a l.mode))) (Ok (l.all, l.found)) (map (arm_typing l.self.scope.now l.self.params.now) (drop l.arm-index l.arms))
 
 abbrev pub decreases-bind : goal.decreases-bind
 decreases-bind a = size a.tree.now

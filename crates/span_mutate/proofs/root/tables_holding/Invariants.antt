@@ -1,7 +1,0 @@
-use Rattle.std.proofs.Common.{◌≡◌, ◌+◌, ◌-◌, ◌++◌, length}
-use Rattle.std.specs.List.{filter, range_with_len}
-use Rattle.span_mutate.specs.Database.{is_holding, tables_holding}
-use Rattle.span_mutate.proofs.root.tables_holding.Given as goal
-
-abbrev pub invariant-loop-i : goal.invariant-loop-i
-invariant-loop-i l = l.found.items ++ filter (is_holding l.schema l.table) (range_with_len (l.i + 1) (length l.schema - l.i)) ≡ tables_holding l.schema l.table

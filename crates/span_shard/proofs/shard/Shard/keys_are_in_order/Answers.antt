@@ -1,0 +1,6 @@
+use Rattle.std.proofs.Common.{subst}
+use Rattle.span_shard.specs.Shard.{AreInOrder}
+use Rattle.span_shard.proofs.shard.Shard.keys_are_in_order.Goals as goal
+
+pub returns : goal.returns
+returns c = subst AreInOrder c.self.view_is c.self.invariant.1

@@ -1,6 +1,0 @@
-use Rattle.std.proofs.Common.{subst}
-use Rattle.span_shard.specs.Shard.{AreInOrder}
-use Rattle.span_shard.proofs.shard.Shard.keys_stand_in_order.Goals as goal
-
-pub returns : goal.returns
-returns c = subst AreInOrder c.self.view_is c.self.invariant.1
