@@ -1,3 +1,4 @@
 pub mod Giving
 pub mod Trees
 pub mod Leaves
+pub mod Understanding

@@ -4,3 +4,4 @@ pub mod Aggregating
 pub mod Outputs
 pub mod Blocks
 pub mod Queries
+pub mod Understands

@@ -10,3 +10,4 @@ mod join;
 mod order;
 mod output;
 mod source;
+pub mod understand;

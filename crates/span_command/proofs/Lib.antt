@@ -6,3 +6,4 @@ pub mod Spaces
 pub mod Steps
 pub mod Within
 pub mod Zips
+pub mod Plain

@@ -4,7 +4,7 @@ use Rattle.std.specs.List.{list_any}
 use Rattle.std.proofs.lemmas.List.{map-append}
 use Rattle.span_schema.specs.declared.table.Column.{Column}
 use Rattle.span_schema.specs.Tables.{column_place}
-use Rattle.span_record.specs.Record.{pieces}
+use Rattle.span_command.specs.Record.{pieces}
 use Rattle.span_command.specs.Columns.{NoneTwice, AreNamed, IsUnplaced}
 
 -- the places of the first names are found, and the names after them are left

@@ -3,7 +3,7 @@ use Rattle.std.specs.Prelude.{◌≡◌, ℕ, ◌==◌, ◌<◌, List, [], ◌�
 use Rattle.std.specs.List.{list_any}
 use Rattle.span_schema.specs.declared.table.Column.{Column}
 use Rattle.span_schema.specs.Tables.{column_place}
-use Rattle.span_record.specs.Record.{pieces}
+use Rattle.span_command.specs.Record.{pieces}
 
 -- these are the numbers below n, in order
 abbrev pub AreBelow : ℕ → List ℕ → Type 0

@@ -5,3 +5,4 @@ pub mod Layouts
 pub mod Texts
 pub mod Unread
 pub mod Words
+pub mod Record

@@ -5,14 +5,14 @@ ghost use Rattle.csv.specs.Records.{fields_of};
 ghost use Rattle.span_value.specs.declared.value.Value.{Value};
 ghost use Rattle.span_mutate.specs.declared.mutation.NamedValue.{NamedValue};
 ghost use Rattle.span_mutate.specs.declared.mutation.Mutation.{Mutation};
-ghost use Rattle.span_record.specs.Record.{pieces};
+ghost use Rattle.span_command.specs.Record.{pieces};
 ghost use Rattle.span_schema.specs.Numbers.{IsTable, columns_of, column_named, number_named, key_places};
 ghost use Rattle.span_command.specs.Columns.{AreBelow, ArePlaces, AreNamed, IsUnplaced, NamesNone};
 ghost use Rattle.span_command.specs.Layouts.{IsFieldCell, IsKeyCell, IsColumnCell, IsOfRecord, IsKeyField, IsCellField, outside_key, AreWithin, IsLayout, IsLayoutOf, IsKeyLayoutOf, LacksKey, HasNoLayout};
 
 use csv::StringRecord;
 use span_mutate::mutation::{NamedValue, Mutation, MutationKind};
-use span_record::read::at_comma;
+use crate::record_reader::at_comma;
 use span_schema::schema::Schema;
 use span_schema::table::{Column, kind_of_type};
 use span_value::cell::read_cell;

@@ -18,7 +18,7 @@ use Rattle.span_shard.specs.Rows.{code_of}
 use Rattle.span_shard.specs.Shard.{KeyRow}
 use Rattle.span_shard.specs.declared.shard.Entry.{Entry}
 use Rattle.span_shard.specs.Reading.{entry_row, IsNoTableRow}
-use Rattle.span_kept.specs.Kept.{IsReading, key_row}
+use Rattle.span_version_laws.specs.Kept.{IsReading, key_row}
 use Rattle.span_core.specs.Whole.{AreNoRows}
 
 abbrev row_with : ℕ → List Value → List Value → TableRow

@@ -14,13 +14,13 @@ use Rattle.span_machine.specs.declared.transaction.OpenTransaction.{OpenTransact
 use Rattle.span_core.specs.Histories.{Steps}
 use Rattle.span_machine.specs.Machine.{Machine, Answer, refused, unless_refused, if_some, for_slot, mutations_in, mutations_refusal, prepare, prepare_transaction, prepare_refusal, capacity_refusal, first_cause, prepared}
 use Rattle.span_machine.specs.Kept.{most_versions, live_with}
-use Rattle.span_kept.proofs.Trims.{horizon_here}
+use Rattle.span_version_laws.proofs.Trims.{horizon_here}
 use Rattle.span_machine.specs.Pieces.{Journaled, machine_of}
-use Rattle.span_laws.proofs.Reached.{IsReached, answer_reached}
-use Rattle.span_kept.specs.Kept.{AreKept, ArePieced}
-use Rattle.span_kept.proofs.Claimers.{only_slot}
-use Rattle.span_kept.proofs.Covers.{pieced_by_step}
-use Rattle.span_kept.proofs.Preparing.{its_typed, prepare_free, prepare_new, prepare_fault, prepare_well, kept_prepared, live_prepared}
+use Rattle.span_machine_laws.proofs.Reached.{IsReached, answer_reached}
+use Rattle.span_version_laws.specs.Kept.{AreKept, ArePieced}
+use Rattle.span_version_laws.proofs.Claimers.{only_slot}
+use Rattle.span_version_laws.proofs.Covers.{pieced_by_step}
+use Rattle.span_version_laws.proofs.Preparing.{its_typed, prepare_free, prepare_new, prepare_fault, prepare_well, kept_prepared, live_prepared}
 use Rattle.span_journal.specs.Judged.{MayPrepare, IsNoted, IsUnnoted, timestamp_refusal}
 use Rattle.span_core.specs.Whole.{IsWhole}
 use Rattle.span_core.proofs.Wholes.{no_text}

@@ -26,22 +26,22 @@ use Rattle.span_machine.specs.declared.transaction.Decision.TheVariants as decis
 use Rattle.span_machine.specs.declared.transaction.OpenTransaction.{OpenTransaction}
 use Rattle.span_machine.specs.Machine.{Machine, IsUnderstood, Answer, Answers, answer, start, refused, unless_refused, if_some, for_slot, is_query, is_transaction, is_safe, with_risen_floor, with_slot_state, cover, changed_first, without_first, scan, scan_query, scan_leaf, scan_gap, scanned, trim, trim_slot, trimmed, applied_at, apply_step, apply_transaction, begin, open_query, answer_on, rows_or_refusal}
 use Rattle.span_machine.specs.Pieces.{Pieced, Journaled, unread, covered_by, machine_of, queries_of}
-use Rattle.span_laws.proofs.Reached.{IsReached, start_reached, answer_reached, reached_tables}
-use Rattle.span_kept.specs.Kept.{AreKept, ArePieced, IsReading, family, horizon_in, horizon_of}
-use Rattle.span_kept.proofs.Trims.{kept_trimmed, horizon_here, horizon_put}
-use Rattle.span_kept.proofs.Live.{live_is_kept}
+use Rattle.span_machine_laws.proofs.Reached.{IsReached, start_reached, answer_reached, reached_tables}
+use Rattle.span_version_laws.specs.Kept.{AreKept, ArePieced, IsReading, family, horizon_in, horizon_of}
+use Rattle.span_version_laws.proofs.Trims.{kept_trimmed, horizon_here, horizon_put}
+use Rattle.span_version_laws.proofs.Live.{live_is_kept}
 use Rattle.span_machine.specs.Kept as kept
 use Rattle.span_machine.specs.declared.transaction.Commit.{Commit}
-use Rattle.span_laws.proofs.Causes.{may_trim}
-use Rattle.span_kept.proofs.Steps.{start_kept, kept_scan}
-use Rattle.span_kept.proofs.Applying.{kept_committed, kept_aborted}
-use Rattle.span_kept.proofs.Claimers.{only_slot}
-use Rattle.span_kept.proofs.Covers.{no_pieces, pieced_push, pieced_without, pieced_by_step, pieced_table, pieced_scanned, pieced_finish, covered-queries, find-queries, found_query}
+use Rattle.span_machine_laws.proofs.Causes.{may_trim}
+use Rattle.span_version_laws.proofs.Steps.{start_kept, kept_scan}
+use Rattle.span_version_laws.proofs.Applying.{kept_committed, kept_aborted}
+use Rattle.span_version_laws.proofs.Claimers.{only_slot}
+use Rattle.span_version_laws.proofs.Covers.{no_pieces, pieced_push, pieced_without, pieced_by_step, pieced_table, pieced_scanned, pieced_finish, covered-queries, find-queries, found_query}
 use Rattle.span_journal.specs.Judged.{IsApplied, IsRaised, MayScan, IsRegistered, IsUnregistered, IsCovered, decision_of}
 use Rattle.span_core.specs.Whole.{IsWhole, IsRead, IsUnread}
 use Rattle.span_core.specs.Histories.{Steps}
-use Rattle.span_statement.specs.Understands.{Understands}
-use Rattle.span_kept.proofs.Snapshots.{snapshot_when_safe}
+use Rattle.span_binder.specs.Understands.{Understands}
+use Rattle.span_version_laws.proofs.Snapshots.{snapshot_when_safe}
 use Rattle.span_mutate.specs.declared.mutation.CheckedMutation.{CheckedMutation}
 use Rattle.span_schema.specs.declared.table.Table.{Table}
 use Rattle.span_schema.specs.Lineages.{MeetsRules}

@@ -1,4 +1,4 @@
--- The machine's steps and whole runs, where query texts are understood as `span_statement` understands them.
+-- The machine's steps and whole runs, where query texts are understood as `span_binder` understands them.
 use Rattle.std.specs.Prelude.{List}
 use Rattle.span_schema.specs.declared.table.Table.{Table}
 use Rattle.span_machine.specs.declared.step.Step.{Step}
@@ -6,7 +6,7 @@ use Rattle.span_machine.specs.declared.step.Reply.{Reply}
 use Rattle.span_machine.specs.Machine as machine
 use Rattle.span_machine.specs.Machine.{Machine}
 use Rattle.span_machine.specs.Run as run
-use Rattle.span_statement.specs.Understands.{Understands}
+use Rattle.span_binder.specs.Understands.{Understands}
 
 -- from a machine, the reply to the step and the machine after it
 abbrev pub Steps : List Table → Machine → Step → Reply → Machine → Type 0

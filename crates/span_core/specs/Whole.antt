@@ -4,7 +4,7 @@ use Rattle.span_schema.specs.Lineages.{MeetsRules}
 use Rattle.span_shard.specs.KeyVersions.{KeyVersions}
 use Rattle.span_machine.specs.Machine.{Machine}
 use Rattle.span_machine.specs.Pieces.{Journaled, machine_of}
-use Rattle.span_laws.proofs.Reached.{IsReached}
+use Rattle.span_machine_laws.proofs.Reached.{IsReached}
 use Rattle.span_query.specs.Rows.{Row}
 use Rattle.span_value.specs.declared.refusal.Refusal.{Refusal}
 use Rattle.span_value.specs.declared.refusal.Refusal.TheVariants.{OutOfMemory}
@@ -12,7 +12,7 @@ use Rattle.span_schema.specs.Numbers.{root_of}
 use Rattle.span_mutate.specs.declared.row.TableRow.{TableRow}
 use Rattle.span_mutate.specs.Typed.{AreTyped}
 use Rattle.span_shard.specs.Shard.{KeyRow, snapshot}
-use Rattle.span_kept.specs.Kept.{AreKept, ArePieced, IsReading, key_row, family}
+use Rattle.span_version_laws.specs.Kept.{AreKept, ArePieced, IsReading, key_row, family}
 
 -- a database in memory: its schema, and the machine
 pub record State : Type 0 where

@@ -17,7 +17,7 @@ use span_mutate::transaction::Transaction;
 use span_params::params::Params;
 use span_schema::schema::Schema;
 use span_shard::shard::Shard;
-use span_statement::understand::understand;
+use span_binder::understand::understand;
 use span_truetime::bound::Bound;
 use span_truetime::interval::Interval;
 use span_value::refusal::Refusal;

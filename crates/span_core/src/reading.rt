@@ -4,7 +4,7 @@ ghost use Rattle.std.specs.Option.{option_copied};
 ghost use Rattle.span_schema.specs.Numbers.{IsTable, root_of};
 ghost use Rattle.span_machine.specs.Meaning.{value_for, value_at, declared_row};
 ghost use Rattle.span_shard.specs.Reading.{entry_row};
-ghost use Rattle.span_kept.specs.Kept.{IsReading, family};
+ghost use Rattle.span_version_laws.specs.Kept.{IsReading, family};
 ghost use Rattle.span_core.specs.Whole.{AreNoRows, IsRead, IsUnread};
 
 use span_keycode::key::Key;

@@ -1,4 +1,4 @@
-//! A whole run. Runs of steps with replies of every kind are rows of `tests/rows`.
+//! A whole run. Runs of steps with replies of every kind are rows of `tests/span_script_tests`.
 ghost use Rattle.std.specs.Prelude.{IfOk, List};
 ghost use Rattle.span_schema.specs.declared.table.Table.{Table};
 ghost use Rattle.span_machine.specs.Run.{AreOfSchema};

@@ -1,5 +1,5 @@
 //! The values of literals, worked out by hand.
-use span_literal::literal::{bytes_of, text_of};
+use span_lexer::literal_value::{bytes_of, text_of};
 use std::alloc::AllocError;
 
 /// A spelling, with the string that it represents.

@@ -6,3 +6,6 @@ pub mod Integers
 pub mod Pieces
 pub mod Whole
 pub mod Words
+pub mod Digits
+pub mod Escapes
+pub mod ByPieces

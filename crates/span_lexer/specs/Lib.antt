@@ -4,3 +4,5 @@ pub mod Literals
 pub mod Readings
 pub mod Spellings
 pub mod Tokens
+pub mod LiteralValues
+pub mod LiteralPieces

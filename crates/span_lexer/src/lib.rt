@@ -4,5 +4,7 @@
 pub mod character;
 pub mod lexer;
 pub mod literal;
+pub mod literal_laws;
+pub mod literal_value;
 pub mod token;
 pub mod word;

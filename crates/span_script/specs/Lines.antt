@@ -6,7 +6,7 @@ use Rattle.span_value.specs.Refusals.{number_of}
 use Rattle.span_machine.specs.declared.step.Reply.{Reply}
 use Rattle.span_machine.specs.declared.step.Reply.TheVariants as reply
 use Rattle.span_value.specs.declared.value.Value.{Value}
-use Rattle.span_record.specs.Record.{row_records}
+use Rattle.span_command.specs.Record.{row_records}
 use Rattle.span_core.specs.declared.slot.SlotReport.{SlotReport}
 
 -- a word and a number

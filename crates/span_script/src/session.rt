@@ -14,7 +14,7 @@ use span_core::{
     Bound, Interval, Kind, Mutation, MutationKind, Params, Refusal, Reply, Step, Text, Transaction,
     Verdict,
 };
-use span_record::read::read_fields;
+use span_command::record_reader::read_fields;
 use span_value::cell::read_cell;
 use std::alloc::Global;
 use std::mem;

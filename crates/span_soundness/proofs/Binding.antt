@@ -22,7 +22,7 @@ use Rattle.span_query.specs.declared.query.Aggregate.{Aggregate}
 use Rattle.span_query.specs.declared.query.Aggregate.TheVariants.{CountRows, Of}
 use Rattle.span_query.specs.declared.query.Function.{Function}
 use Rattle.span_query.specs.declared.query.Function.TheVariants.{Count, Sum, Min, Max}
-use Rattle.span_literal.specs.Literals.{text_of, bytes_of}
+use Rattle.span_lexer.specs.LiteralValues.{text_of, bytes_of}
 use Rattle.span_params.specs.declared.params.Parameter.{Parameter}
 use Rattle.span_params.specs.Parameters.{with_parameter}
 use Rattle.span_typing.specs.declared.scope.Scope.{Scope}

@@ -20,7 +20,7 @@ use Rattle.span_expr.specs.declared.expr.Operator.TheVariants.{Divide, Modulo}
 use Rattle.span_expr.specs.Patterns.{parts_of}
 use Rattle.span_query.specs.declared.query.Function.{Function}
 use Rattle.span_query.specs.declared.query.Function.TheVariants as function
-use Rattle.span_literal.specs.Literals.{text_of}
+use Rattle.span_lexer.specs.LiteralValues.{text_of}
 use Rattle.span_typing.specs.declared.typed.Typed.{Typed}
 use Rattle.span_typing.specs.declared.typed.TypedArm.{TypedArm}
 use Rattle.span_typing.specs.declared.typed.Chain.{Chain}

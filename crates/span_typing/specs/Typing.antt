@@ -20,7 +20,7 @@ use Rattle.span_query.specs.declared.query.Aggregate.{Aggregate}
 use Rattle.span_query.specs.declared.query.Aggregate.TheVariants.{CountRows, Of}
 use Rattle.span_query.specs.declared.query.Function.{Function}
 use Rattle.span_query.specs.declared.query.Function.TheVariants.{Count}
-use Rattle.span_literal.specs.Literals.{text_of, bytes_of}
+use Rattle.span_lexer.specs.LiteralValues.{text_of, bytes_of}
 use Rattle.span_params.specs.declared.params.Parameter.{Parameter}
 use Rattle.span_params.specs.Parameters.{parameter_named}
 use Rattle.span_typing.specs.declared.typed.Typed.{Typed}

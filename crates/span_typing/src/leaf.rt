@@ -14,7 +14,7 @@ use super::operator::{TypingResult, typed};
 use super::scope::{Scope, column_place};
 use super::typed::{Mode, Typed};
 use span_expr::expr::Expr;
-use span_literal::literal::{bytes_of, text_of};
+use span_lexer::literal_value::{bytes_of, text_of};
 use span_params::params::{Parameter, Params};
 use span_query::query::{Aggregate, Function};
 use span_syntax::tree::Column;

@@ -12,7 +12,7 @@ use super::kind::{common_kind, takes, text_kind};
 use super::typed::{Chain, Typed};
 use span_expr::expr::{Comparison, Expr, Link, Operator};
 use span_expr::pattern::parts_of;
-use span_literal::literal::text_of;
+use span_lexer::literal_value::text_of;
 use span_syntax::tree;
 use span_value::refusal::Refusal;
 use span_value::value::{Kind, Value};

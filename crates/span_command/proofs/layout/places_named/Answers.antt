@@ -1,6 +1,6 @@
 use Rattle.std.proofs.Common.{rules, ◌≡◌, ◌++◌, ◌∷◌, [], inr}
 use Rattle.std.proofs.lemmas.Result.{err_from_is_err_and}
-use Rattle.span_record.specs.Record.{pieces}
+use Rattle.span_command.specs.Record.{pieces}
 use Rattle.span_command.specs.Columns.{IsUnplaced}
 use Rattle.span_schema.specs.Numbers.{columns_of}
 use Rattle.span_command.proofs.Named.{Found, none_found, one_more, the_last, no_place}

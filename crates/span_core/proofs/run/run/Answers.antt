@@ -4,8 +4,8 @@ use Rattle.std.proofs.lemmas.List.{append-nil, nil_from_length}
 use Rattle.span_machine.specs.Machine.{start}
 use Rattle.span_core.specs.Histories.{Steps, Run}
 use Rattle.span_machine.specs.Run.{AreOfSchema, IsOfSchema}
-use Rattle.span_laws.proofs.History.{run_history}
-use Rattle.span_statement.specs.Understands.{Understands}
+use Rattle.span_machine_laws.proofs.History.{run_history}
+use Rattle.span_binder.specs.Understands.{Understands}
 use Rattle.span_core.proofs.Runs.{run_more}
 use Rattle.span_core.proofs.run.run.Goals as goal
 

@@ -1,8 +1,8 @@
 use Rattle.std.proofs.Common.{sym, subst}
 use Rattle.span_machine.specs.Pieces.{machine_of}
 use Rattle.span_machine.specs.declared.step.Step.TheVariants as step
-use Rattle.span_kept.specs.Kept.{ArePieced}
-use Rattle.span_kept.proofs.Steps.{kept_begin}
+use Rattle.span_version_laws.specs.Kept.{ArePieced}
+use Rattle.span_version_laws.proofs.Steps.{kept_begin}
 use Rattle.span_core.proofs.Wholes.{whole_step, begun_steps}
 use Rattle.span_core.proofs.database.Core.begin.Goals as goal
 use Rattle.span_core.specs.Histories.{Steps}

@@ -1,7 +1,7 @@
 use Rattle.std.proofs.Common.{sym, subst, inl}
 use Rattle.span_machine.specs.Pieces.{machine_of}
 use Rattle.span_machine.specs.declared.step.Step.TheVariants as step
-use Rattle.span_kept.proofs.Steps.{kept_close}
+use Rattle.span_version_laws.proofs.Steps.{kept_close}
 use Rattle.span_core.proofs.Wholes.{whole_step, no_text, pieces_closed}
 use Rattle.span_core.proofs.database.Core.close.Goals as goal
 use Rattle.span_core.specs.Histories.{Steps}

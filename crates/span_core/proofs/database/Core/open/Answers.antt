@@ -3,9 +3,9 @@ use Rattle.span_machine.specs.Pieces.{machine_of}
 use Rattle.span_machine.specs.declared.step.Step.TheVariants as step
 use Rattle.span_machine.specs.declared.step.Reply.{Reply}
 use Rattle.span_machine.specs.declared.step.Reply.TheVariants as reply
-use Rattle.span_kept.proofs.Steps.{kept_open}
+use Rattle.span_version_laws.proofs.Steps.{kept_open}
 use Rattle.span_journal.specs.Judged.{as_reply}
-use Rattle.span_statement.specs.Understands.{Understands}
+use Rattle.span_binder.specs.Understands.{Understands}
 use Rattle.span_core.specs.Whole.{State}
 use Rattle.span_core.specs.Histories.{Steps}
 use Rattle.span_core.proofs.Wholes.{whole_step, opened_steps, refused_steps, pieces_opened}

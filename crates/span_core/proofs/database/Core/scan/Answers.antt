@@ -5,10 +5,10 @@ use Rattle.span_core.specs.Histories.{Steps}
 use Rattle.span_machine.specs.declared.step.Step.TheVariants as step
 use Rattle.span_machine.specs.declared.step.Reply.{Reply}
 use Rattle.span_machine.specs.declared.step.Reply.TheVariants as reply
-use Rattle.span_kept.specs.Kept.{ArePieced}
+use Rattle.span_version_laws.specs.Kept.{ArePieced}
 use Rattle.span_journal.specs.Judged.{IsGap, MayScan, IsRegistered}
 use Rattle.span_core.specs.Whole.{State, IsWhole}
-use Rattle.span_kept.proofs.Steps.{kept_scan}
+use Rattle.span_version_laws.proofs.Steps.{kept_scan}
 use Rattle.span_core.proofs.Wholes.{answered, whole_same, whole_step, no_text, scanned_table, scanned_whole, registers, reads}
 use Rattle.span_core.proofs.database.Core.scan.Goals as goal
 use Rattle.span_core.proofs.database.Core.scan.Goals.{in-Ok-register, in-Err-register}

@@ -1,0 +1,12 @@
+use Rattle.std.proofs.Common.{◌≡◌, take, Some, false}
+use Rattle.csv.specs.Writing.{writer_setup, fields_written, has_written, text_written}
+use Rattle.span_command.specs.Record.{row_records, settings}
+use Rattle.span_command.proofs.record_writer.rows_text.Given as goal
+
+-- the records of the rows so far were written
+abbrev pub invariant-loop-row : goal.invariant-loop-row
+invariant-loop-row l =
+    (text_written (λ w. Some w.items) l.records ≡ Some (row_records (take l.row-index l.rows)))
+    × (writer_setup l.records ≡ settings)
+    × (fields_written l.records ≡ 0)
+    × (has_written l.records ≡ false)

@@ -1,0 +1,90 @@
+//! The fields of the record that a text is.
+ghost use Rattle.std.specs.Prelude.{◌≡◌, ◌<◌, ◌++◌, [], ◌∷◌, length, true, false, if◌then◌else◌, IfOk, IfSome, OnOk, MatchOption, IsOkUnless};
+ghost use Rattle.csv.specs.Reading.{strip_bom};
+ghost use Rattle.csv.specs.Records.{fields_of};
+ghost use Rattle.span_command.specs.Record.{pieces, record_fields, IsPlain};
+
+use csv::{Error, ReaderBuilder, StringRecord};
+use memchr::memchr3;
+use span_value::refusal::Refusal;
+use std::alloc::{AllocError, Global};
+
+/// The first byte of a byte order mark.
+const MARK: u8 = 0xef;
+
+/// Reads the fields of the record that a text is, as `csv` reads it. There are none where the text reads as no record, or as more than
+/// one. `OutOfMemory` is the only refusal; what `fields` then holds means nothing.
+pub fn read_fields(alloc: Global, text: &str, fields: &mut StringRecord) -> Result<(), Refusal>
+    ensures fields { OnOk result (fields_of fields.new ≡ record_fields text.now) }
+    ensures memory { IsOkUnless result Refusal.OutOfMemory }
+{
+    fields.clear();
+    if text.is_empty() {
+        return Ok(());
+    }
+    if is_plain(text) {
+        return Ok(cut_at_commas(text, fields)?);
+    }
+    match read_alone(alloc, text, fields) {
+        Ok(true) => Ok(()),
+        Ok(false) => {
+            fields.clear();
+            Ok(())
+        }
+        // The text is in memory and its fields are text, so that only memory can run out.
+        Err(_) => Err(Refusal::OutOfMemory),
+    }
+}
+
+/// Whether the text has no quote, no CR, no LF and no byte order mark at its front: then its fields are its pieces between commas.
+fn is_plain(text: &str) -> bool
+    ensures { (result ≡ true) → IsPlain text.now }
+{
+    let bytes = text.as_bytes();
+    memchr3(b'"', b'\r', b'\n', bytes).is_none() && !may_be_marked(bytes)
+}
+
+/// Whether the first byte is that of a byte order mark.
+fn may_be_marked(bytes: &[u8]) -> bool
+    ensures { (result ≡ false) → strip_bom bytes.now ≡ bytes.now }
+{
+    match bytes.first() {
+        Some(first) => *first == MARK,
+        None => false,
+    }
+}
+
+/// Adds the pieces of the text between its commas as fields: one more than it has commas.
+fn cut_at_commas(text: &str, fields: &mut StringRecord) -> Result<(), AllocError>
+    ensures { OnOk result (fields_of fields.new ≡ fields_of fields.old ++ pieces text.now) }
+{
+    let mut rest = text;
+    while let Some((piece, behind)) = at_comma(rest) {
+        fields.push_field(piece)?;
+        rest = behind;
+    }
+    fields.push_field(rest)
+}
+
+/// What is before the first comma and after it; None where there is no comma.
+pub fn at_comma(text: &str) -> Option<(&str, &str)>
+    ensures cut { MatchOption result (pieces text.now ≡ text.now ∷ []) (λ x. pieces text.now ≡ x.0.now ∷ pieces x.1.now) }
+    ensures shorter { IfSome result (λ x. length x.1.now < length text.now) }
+{
+    text.split_once(',')
+}
+
+/// Reads the text's first record; whether it is the only one.
+fn read_alone(alloc: Global, text: &str, fields: &mut StringRecord) -> Result<bool, Error>
+    ensures { IfOk result (λ is_alone. record_fields text.now ≡ (if is_alone then fields_of fields.new else [])) }
+{
+    let mut reader = ReaderBuilder::new()
+        .has_headers(false)
+        .flexible(true)
+        .from_reader(alloc, text.as_bytes());
+    if !reader.read_record(fields)? {
+        return Ok(false);
+    }
+    let mut another = StringRecord::new(alloc);
+    Ok(!reader.read_record(&mut another)?)
+}

@@ -1,5 +1,0 @@
-use Rattle.span_kept.proofs.Live.{live_is_kept}
-use Rattle.span_kept.proofs.live_is_kept.Goals as goal
-
-pub returns : goal.returns
-returns c = live_is_kept

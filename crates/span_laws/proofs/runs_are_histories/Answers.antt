@@ -1,5 +1,0 @@
-use Rattle.span_laws.proofs.History.{run_history}
-use Rattle.span_laws.proofs.runs_are_histories.Goals as goal
-
-pub returns : goal.returns
-returns g c = run_history g.U.Understanding.understands

@@ -1,5 +1,0 @@
-use Rattle.span_literal.proofs.ByPieces.{text_by_pieces}
-use Rattle.span_literal.proofs.laws.text_by_pieces.Goals as goal
-
-pub returns : goal.returns
-returns c = text_by_pieces

@@ -1,0 +1,153 @@
+use Rattle.std.proofs.Common.{◌≡◌, ℕ, zero, suc, Bool, true, false, cond, List, [], ◌∷◌, ◌++◌, Some, refl, ap, subst, inl, inr, ◌⊎◌}
+use Rattle.std.specs.Prelude.{slice_get, slice_set, find, filter}
+use Rattle.std.specs.List.{AllByRecursion, list_all}
+use Rattle.span_machine.specs.Machine.{changed_first, without_first}
+use Rattle.span_machine_laws.proofs.Tests.{first_true, second_true}
+
+pub slice_get-set : {A : Type 0} (xs : List A) (i j : ℕ) (v x : A) → slice_get (slice_set xs i v) j ≡ Some x → ((j ≡ i) × (x ≡ v)) ⊎ (slice_get xs j ≡ Some x)
+slice_get-set [] i j v x h = inr h
+slice_get-set (y ∷ ys) zero zero v x h = inl (refl, cc)
+slice_get-set (y ∷ ys) zero (suc j) v x h = inr h
+slice_get-set (y ∷ ys) (suc i) zero v x h = inr h
+slice_get-set (y ∷ ys) (suc i) (suc j) v x h = elim (slice_get-set ys i j v x h) [ inl e ↦ inl (ap suc e.0, e.1) | inr g ↦ inr g ]
+
+pub set_here : {A : Type 0} (xs : List A) (i : ℕ) (v x : A) → slice_get (slice_set xs i v) i ≡ Some x → x ≡ v
+set_here [] i v x h = cc
+set_here (y ∷ ys) zero v x h = cc
+set_here (y ∷ ys) (suc i) v x h = set_here ys i v x h
+
+-- ---- what is in a list
+
+-- x is in the list
+abbrev pub IsIn : {A : Type 0} → A → List A → Type 0
+IsIn x xs = (i : ℕ) × (slice_get xs i ≡ Some x)
+
+-- what a search finds is in the list
+pub found_in : {A : Type 0} (test : A → Bool) (xs : List A) (x : A) → find test xs ≡ Some x → IsIn x xs
+found_in test [] x = λ e. absurd (cc)
+found_in test (y ∷ ys) x = elim (test y) as (λ b. cond b (Some y) (find test ys) ≡ Some x → IsIn x (y ∷ ys)) [
+  | true ↦ λ e. (0, e)
+  | false ↦ λ e. let rest = found_in test ys x e in (suc rest.0, rest.1)
+]
+
+-- what a search finds passes
+pub found_passes : {A : Type 0} (test : A → Bool) (xs : List A) (x : A) → find test xs ≡ Some x → test x ≡ true
+found_passes test [] x = λ e. absurd (cc)
+found_passes test (y ∷ ys) x = elim (test y) as (λ b. test y ≡ b → cond b (Some y) (find test ys) ≡ Some x → test x ≡ true) [
+  | true ↦ λ is e. let same : y ≡ x = cc in subst (λ z. test z ≡ true) same is
+  | false ↦ λ is e. found_passes test ys x e
+] refl
+
+kept_behind : {A : Type 0} (xs ys : List A) (x y : A) → (IsIn x xs → IsIn x ys) → (i : ℕ) → slice_get (y ∷ xs) i ≡ Some x → IsIn x (y ∷ ys)
+kept_behind xs ys x y back zero e = (0, e)
+kept_behind xs ys x y back (suc i) e = let rest = back (i, e) in (suc rest.0, rest.1)
+
+-- what a filter keeps is in the list
+pub kept_in : {A : Type 0} (test : A → Bool) (xs : List A) (x : A) → IsIn x (filter test xs) → IsIn x xs
+kept_in test [] x = λ is. is
+kept_in test (y ∷ ys) x = elim (test y) as (λ b. IsIn x (cond b (y ∷ filter test ys) (filter test ys)) → IsIn x (y ∷ ys)) [
+  | true ↦ λ is. kept_behind (filter test ys) ys x y (kept_in test ys x) is.0 is.1
+  | false ↦ λ is. let rest = kept_in test ys x is in (suc rest.0, rest.1)
+]
+
+-- ---- what holds of each
+
+module _ {A : Type 0} (P : A → Type 0) where
+  pub all_push : (xs : List A) (x : A) → AllByRecursion P xs → P x → AllByRecursion P (xs ++ x ∷ [])
+  all_push [] x all p = (p, tt)
+  all_push (y ∷ ys) x all p = (all.0, all_push ys x all.1 p)
+
+  pub all_filtered : (q : A → Bool) (ys : List A) → AllByRecursion P ys → AllByRecursion P (filter q ys)
+  all_filtered q [] all = tt
+  all_filtered q (y ∷ ys) all = elim (q y) as (λ b. AllByRecursion P (cond b (y ∷ filter q ys) (filter q ys))) [
+    | true ↦ (all.0, all_filtered q ys all.1)
+    | false ↦ all_filtered q ys all.1
+  ]
+
+  pub all_changed : (test : A → Bool) (change : A → A) → ((x : A) → P x → P (change x)) → (xs : List A) → AllByRecursion P xs → AllByRecursion P (changed_first test change xs)
+  all_changed test change kept [] all = tt
+  all_changed test change kept (x ∷ xs) all = elim (test x) as (λ b. AllByRecursion P (cond b (change x ∷ xs) (x ∷ changed_first test change xs))) [
+    | true ↦ (kept x all.0, all.1)
+    | false ↦ (all.0, all_changed test change kept xs all.1)
+  ]
+
+  pub all_without : (test : A → Bool) (xs : List A) → AllByRecursion P xs → AllByRecursion P (without_first test xs)
+  all_without test [] all = tt
+  all_without test (x ∷ xs) all = elim (test x) as (λ b. AllByRecursion P (cond b xs (x ∷ without_first test xs))) [
+    | true ↦ all.1
+    | false ↦ (all.0, all_without test xs all.1)
+  ]
+
+  pub all_found : (test : A → Bool) (xs : List A) (x : A) → find test xs ≡ Some x → AllByRecursion P xs → P x
+  all_found test [] x = λ e all. cc
+  all_found test (y ∷ ys) x = elim (test y) as (λ b. cond b (Some y) (find test ys) ≡ Some x → P y × AllByRecursion P ys → P x) [
+    | true ↦ λ e all. let same : y ≡ x = cc in subst P same all.0
+    | false ↦ λ e all. all_found test ys x e all.1
+  ]
+
+  -- what holds of each holds of one that is there
+  pub all_at : (xs : List A) (i : ℕ) (x : A) → slice_get xs i ≡ Some x → AllByRecursion P xs → P x
+  all_at [] i x e all = cc
+  all_at (y ∷ ys) zero x e all = let same : y ≡ x = cc in subst P same all.0
+  all_at (y ∷ ys) (suc i) x e all = all_at ys i x e all.1
+
+  pub all_in : (xs : List A) (x : A) → IsIn x xs → AllByRecursion P xs → P x
+  all_in xs x is all = all_at xs is.0 x is.1 all
+
+  pub all_true : (p : A → Bool) → ((x : A) → p x ≡ true → P x) → (xs : List A) → list_all p xs ≡ true → AllByRecursion P xs
+  all_true p means [] e = tt
+  all_true p means (x ∷ xs) e = (means x (first_true (p x) (list_all p xs) e), all_true p means xs (second_true (p x) (list_all p xs) e))
+
+  pub all_weaker : (Q : A → Type 0) → ((x : A) → P x → Q x) → (xs : List A) → AllByRecursion P xs → AllByRecursion Q xs
+  all_weaker Q weaker [] all = tt
+  all_weaker Q weaker (x ∷ xs) all = (weaker x all.0, all_weaker Q weaker xs all.1)
+
+  -- the first that passes is changed, and no other
+  pub all_changed_found : (test : A → Bool) (change : A → A) (xs : List A) (x : A) → find test xs ≡ Some x → P (change x) → AllByRecursion P xs → AllByRecursion P (changed_first test change xs)
+  all_changed_found test change [] x = λ e p all. tt
+  all_changed_found test change (y ∷ ys) x = elim (test y) as (λ b. cond b (Some y) (find test ys) ≡ Some x → P (change x) → P y × AllByRecursion P ys → AllByRecursion P (cond b (change y ∷ ys) (y ∷ changed_first test change ys))) [
+    | true ↦ λ e p all. let same : x ≡ y = cc in (subst (λ z. P (change z)) same p, all.1)
+    | false ↦ λ e p all. (all.0, all_changed_found test change ys x e p all.1)
+  ]
+
+-- ---- the first that passes, and filters
+
+pub one_or_other : {A : Type 0} (P : A → Type 0) (b : Bool) (x y : A) → P x → P y → P (cond b x y)
+one_or_other P true x y p q = p
+one_or_other P false x y p q = q
+
+pub filter_swap : {A : Type 0} (p q : A → Bool) (xs : List A) → filter p (filter q xs) ≡ filter q (filter p xs)
+filter_swap p q [] = refl
+filter_swap p q (x ∷ xs) = elim (p x) as (λ b. p x ≡ b → filter p (cond (q x) (x ∷ filter q xs) (filter q xs)) ≡ filter q (cond b (x ∷ filter p xs) (filter p xs))) [
+  | true ↦ λ e. elim (q x) as (λ v. filter p (cond v (x ∷ filter q xs) (filter q xs)) ≡ cond v (x ∷ filter q (filter p xs)) (filter q (filter p xs))) [
+    | true ↦ rw e (ap (λ l. x ∷ l) (filter_swap p q xs))
+    | false ↦ filter_swap p q xs
+  ]
+  | false ↦ λ e. elim (q x) as (λ v. filter p (cond v (x ∷ filter q xs) (filter q xs)) ≡ filter q (filter p xs)) [
+    | true ↦ rw e (filter_swap p q xs)
+    | false ↦ filter_swap p q xs
+  ]
+] refl
+
+-- the first that passes, with what is before and after it
+pub record Split {A : Type 0} (test : A → Bool) (xs : List A) (x : A) : Type 0 where
+  pub front : List A
+  pub back : List A
+  pub whole : xs ≡ front ++ x ∷ back
+  pub changed : (change : A → A) → changed_first test change xs ≡ front ++ change x ∷ back
+  pub without : without_first test xs ≡ front ++ back
+
+pub split_found : {A : Type 0} (test : A → Bool) (xs : List A) (x : A) → find test xs ≡ Some x → Split test xs x
+split_found test [] x = λ e. absurd (cc)
+split_found test (y ∷ ys) x = elim (test y) as (λ b. test y ≡ b → cond b (Some y) (find test ys) ≡ Some x → Split test (y ∷ ys) x) [
+  | true ↦ λ is e. let same : y ≡ x = cc in record { front = []; back = ys; whole = ap (λ z. z ∷ ys) same; changed = λ change. rw is (ap (λ z. change z ∷ ys) same); without = rw is refl }
+  | false ↦ λ is e. let rest = split_found test ys x e in record { front = y ∷ rest.front; back = rest.back; whole = ap (λ l. y ∷ l) rest.whole; changed = λ change. rw is (ap (λ l. y ∷ l) (rest.changed change)); without = rw is (ap (λ l. y ∷ l) rest.without) }
+] refl
+
+pub not_nil : {A : Type 0} (xs ys : List A) (x : A) → xs ++ x ∷ ys ≡ [] → ⊥
+not_nil [] ys x = λ e. cc
+not_nil (z ∷ zs) ys x = λ e. cc
+
+pub both_nil : {A : Type 0} (xs ys : List A) → xs ++ ys ≡ [] → (xs ≡ []) × (ys ≡ [])
+both_nil [] ys = λ e. (refl, e)
+both_nil (z ∷ zs) ys = λ e. absurd (cc)

@@ -1,0 +1,80 @@
+use Rattle.std.proofs.Common.{◌≡◌, ℕ, Bool, true, cond, List, [], ◌∷◌, Some, Result, Ok, ap, sym, ◌∙◌, subst, inl, inr}
+use Rattle.std.specs.Prelude.{find}
+use Rattle.std.specs.List.{list_all}
+use Rattle.span_value.specs.declared.refusal.Refusal.{Refusal}
+use Rattle.span_query.specs.declared.query.Statement.{Statement}
+use Rattle.span_value.specs.declared.refusal.Refusal.TheVariants as refusal
+use Rattle.span_schema.specs.declared.table.Table.{Table}
+use Rattle.span_schema.specs.Lineages.{MeetsRules}
+use Rattle.span_mutate.specs.declared.row.TableRow.{TableRow}
+use Rattle.span_mutate.specs.Checking.{and_then}
+use Rattle.span_mutate.specs.Directories.{Root}
+use Rattle.span_machine.specs.declared.query.OpenQuery.{OpenQuery}
+use Rattle.span_machine.specs.declared.step.Step.{Step}
+use Rattle.span_machine.specs.declared.step.Step.TheVariants.{Finish}
+use Rattle.span_machine.specs.declared.step.Reply.{Reply}
+use Rattle.span_machine.specs.Meaning.{means}
+use Rattle.span_machine.specs.Tables.{tables}
+use Rattle.span_machine.specs.Machine.{Machine, Understanding, Answer, Steps, answer, start, is_query, is_covered, tables_of, rows_or_refusal, if_some, refused, meaning, answer_on, finish_query}
+use Rattle.span_machine.specs.Run.{Run, IsOfSchema, AreOfSchema}
+use Rattle.span_machine_laws.proofs.Locality.{IsRoot}
+use Rattle.span_machine_laws.proofs.InPlace.{IsInPlace, tables_made}
+use Rattle.span_machine_laws.proofs.Schemas.{IsBySchema, answer_by_schema, start_by_schema, keyed_upto}
+use Rattle.span_machine_laws.proofs.Placed.{answer_placed, start_placed}
+use Rattle.span_machine_laws.proofs.Numbers.{IsNumbered, answer_numbered, start_numbered}
+use Rattle.span_machine_laws.proofs.Holdings.{AreHolding, answer_holding, start_holding}
+use Rattle.span_machine_laws.proofs.Sound.{IsSound, answer_sound, start_sound}
+use Rattle.span_machine_laws.proofs.Horizons.{HasHorizons, answer_horizons, start_horizons}
+
+-- what holds of every machine that a run from the start reaches
+pub record IsReached (schema : List Table) (m : Machine) : Type 0 where
+  pub by_schema : IsBySchema schema m
+  pub numbered : IsNumbered m
+  pub holding : AreHolding m
+  pub placed : (root : Root) → IsRoot schema root → IsInPlace schema root 0 m
+  pub sound : IsSound schema m
+  pub horizons : HasHorizons schema m
+
+pub start_reached : (schema : List Table) → IsReached schema start
+start_reached schema = record {
+  by_schema = start_by_schema schema;
+  numbered = start_numbered;
+  holding = start_holding;
+  placed = λ root is. start_placed schema root;
+  sound = start_sound schema;
+  horizons = start_horizons schema;
+}
+
+module _ (schema : List Table) (rules : MeetsRules schema) where
+  pub answer_reached : (m : Machine) → IsReached schema m → (u : Result Statement Refusal) (step : Step) → IsOfSchema schema step → IsReached schema (answer schema m u step).1
+  answer_reached m reached u step of = record {
+    by_schema = answer_by_schema schema m u reached.by_schema step of;
+    numbered = answer_numbered schema m u reached.numbered step;
+    holding = answer_holding schema m u reached.holding step;
+    placed = λ root is. answer_placed schema rules root is 0 m u reached.by_schema (reached.placed root is) step;
+    sound = answer_sound schema m u reached.sound step;
+    horizons = answer_horizons schema m u reached.sound reached.horizons step;
+  }
+
+  -- one step, out of memory included
+  pub step_reached : (understands : Understanding) (m : Machine) (step : Step) (r : Reply) (next : Machine) → Steps understands schema m step r next → IsOfSchema schema step → IsReached schema m → IsReached schema next
+  step_reached understands m step r next (inl e) of reached = subst (IsReached schema) (sym e.2.1) (answer_reached m reached e.0 step of)
+  step_reached understands m step r next (inr e) of reached = subst (IsReached schema) (sym e.1.1) reached
+
+  pub run_reached : (understands : Understanding) (m : Machine) (steps : List Step) (replies : List Reply) (last : Machine) → Run understands schema m steps replies last → AreOfSchema schema steps → IsReached schema m → IsReached schema last
+  run_reached understands m [] [] last run of reached = subst (IsReached schema) (sym run) reached
+  run_reached understands m [] (r ∷ rs) last run of reached = absurd run
+  run_reached understands m (x ∷ xs) [] last run of reached = absurd run
+  run_reached understands m (x ∷ xs) (r ∷ rs) last run of reached = run_reached understands run.0 xs rs last run.2 of.1 (step_reached understands m x r run.0 run.1 of.0 reached)
+
+  -- the tables at any timestamp are made
+  pub reached_tables : (m : Machine) (s : ℕ) → IsReached schema m → (db : List TableRow) × (tables schema m.log s ≡ Ok db)
+  reached_tables m s reached = tables_made schema rules m (λ root. 0) s (keyed_upto schema m.log s reached.by_schema.log) reached.placed
+
+-- the Finish of a query whose leaves are all covered answers what the query means on the tables
+pub finish_meant : (schema : List Table) (m : Machine) (u : Result Statement Refusal) (number : ℕ) (q : OpenQuery) (db : List TableRow) → find (is_query number) m.queries ≡ Some q → list_all is_covered q.leaves ≡ true → tables schema m.log q.s ≡ Ok db
+    → answer schema m u (Finish number) ≡ (answer_on q.s (rows_or_refusal (means schema q.query (tables_of q.leaves) db)), m)
+finish_meant schema m u number q db found covered made =
+    ap (λ o. if_some o (refused m refusal.UnknownQuery) (finish_query schema m)) found
+    ∙ ap (λ (b : Bool). cond {A = Answer} b (answer_on q.s (meaning schema m q), m) (refused m refusal.Incomplete)) covered
+    ∙ ap (λ (r : Result (List TableRow) Refusal). (answer_on q.s (and_then r (λ d. rows_or_refusal (means schema q.query (tables_of q.leaves) d))), m)) made

@@ -1,0 +1,492 @@
+-- How many versions a shard has.
+use Rattle.std.proofs.Common.{◌≡◌, ◌≢◌, ℕ, suc, ◌+◌, ◌-◌, ◌<◌, Bool, true, false, cond, not, ◌&&◌, nat_le, List, [], ◌∷◌, ◌++◌, map, length, Option, Some, None, Result, Ok, Err, refl, ap, sym, ◌∙◌, subst, inl, inr, ◌⊎◌, arith}
+use Rattle.std.specs.Prelude.{find, filter, sum_by, is_some, slice_get}
+use Rattle.std.specs.List.{AllByRecursion, list_any}
+use Rattle.std.proofs.lemmas.Bool.Decides.{nat_tests}
+use Rattle.std.proofs.lemmas.List.{append-nil, length-append}
+use Rattle.std.proofs.lemmas.List.Elements.{filter-append}
+use Rattle.std.proofs.lemmas.List.Sums.{sum_by-cons}
+use Rattle.span_value.specs.declared.refusal.Refusal.{Refusal}
+use Rattle.span_schema.specs.declared.table.Table.{Table}
+use Rattle.span_schema.specs.Lineages.{MeetsRules}
+use Rattle.span_keycode.specs.Keys.{key_code}
+use Rattle.span_truetime.specs.Time.{timestamp_end}
+use Rattle.span_mutate.specs.declared.mutation.CheckedMutation.{CheckedMutation}
+use Rattle.span_mutate.specs.declared.row.TableRow.{TableRow}
+use Rattle.span_mutate.specs.Database.{apply}
+use Rattle.span_mutate.specs.Directories.{Root, AreKeyed, directory}
+use Rattle.span_mutate.specs.Typed.{IsTyped, AreTyped, IsTypedMutation, AreTypedMutations}
+use Rattle.span_mutate.proofs.TypedRows.{typed_stay}
+use Rattle.span_shard.specs.declared.chain.Version.{Version}
+use Rattle.span_shard.specs.declared.chain.PreparedWrite.{PreparedWrite}
+use Rattle.span_shard.specs.KeyVersions.{KeyVersions}
+use Rattle.span_shard.specs.Rows.{begins_with, code_of, row_coded}
+use Rattle.span_shard.specs.Reading.{is_same_row}
+use Rattle.span_shard.specs.Versions.{kept_version, kept_upto}
+use Rattle.span_shard.specs.Shard.{AreInOrder, is_key, versions_of, prepared_of, versions_at, prepared_at, kept_of, live}
+use Rattle.span_shard.proofs.Bytes.{bytes_same, front_begins}
+use Rattle.span_shard.proofs.Lists.{all_append, all_filter_itself, any_all, none_any}
+use Rattle.span_machine.specs.declared.transaction.Commit.{Commit}
+use Rattle.span_machine.specs.declared.transaction.OpenTransaction.{OpenTransaction}
+use Rattle.span_machine.specs.declared.transaction.Decision.{Decision}
+use Rattle.span_machine.specs.declared.transaction.Decision.TheVariants as decision
+use Rattle.span_machine.specs.Sorting.{in_order}
+use Rattle.span_machine.specs.Tables.{is_before, mutations_of}
+use Rattle.span_machine.specs.Machine.{Machine, is_at, is_prepared_at, commit_of}
+use Rattle.span_machine.specs.Kept.{Change, put_at, deletion_at, is_same, has_same_key, changes_between, ok_or, after_mutations, changes_from, changes_of, database_after, database_of, is_kept, kept, is_committed, count_prepared_changes, live as live_by_log}
+use Rattle.span_machine_laws.proofs.Tests.{first_true, both_of}
+use Rattle.span_machine_laws.proofs.Lists.{IsIn, kept_in, all_in, all_found, all_filtered}
+use Rattle.span_machine_laws.proofs.Locality.{IsRoot, own_root, apply-succeeds, apply-directory, empty_database, ok_same}
+use Rattle.span_machine_laws.proofs.Ordered.{filter-in_order}
+use Rattle.span_machine_laws.proofs.Stability.{is_before-order, touches, is_some_of, none_of, changes_at, changes_at-cons, changes_at-filter}
+use Rattle.span_machine_laws.proofs.InPlace.{commits_at, claims, IsClaim, front_through, in_order_rising}
+use Rattle.span_machine_laws.proofs.Claims.{some_any, all_kept}
+use Rattle.span_machine_laws.proofs.Schemas.{IsBegunBy, IsCommitBy, keyed_all, keyed_upto}
+use Rattle.span_machine_laws.proofs.Reached.{IsReached}
+use Rattle.span_version_laws.specs.Kept.{IsCodedRoot, IsCodedCoding, is_under, with_change, directory_after, made_from, made, HasRows, IsPut, IsPreparedBy, IsPending, IsKeptUnder, IsKeptBy, horizon_of, AreKept}
+use Rattle.span_version_laws.proofs.Keys.{all_by_key}
+use Rattle.span_version_laws.proofs.Claimers.{claim_here, above_horizon}
+use Rattle.span_version_laws.proofs.Roots.{coded_root, coded_root_at, root_of_coding, coded_in_directory}
+use Rattle.span_version_laws.proofs.Sorted.{in_cons, all_of_in}
+use Rattle.span_version_laws.proofs.Counting.{kept_at_key, kept_count, count_by_keys, sum_alike, is_at_key}
+use Rattle.span_version_laws.proofs.Changes.{same_row_is, change_at, change_none, changes_at_key, changes_made, changes_rise, made_is, IsTypedDatabase, apart_of, typed_after, after_is, row_untouched, in_directory, all_in_order, IsLogMade, log_made, changes_of_key}
+
+-- ---- the versions of one commit more
+
+module _ (schema : List Table) (root : Root) (k : List ℕ) (c : Commit) (before after : List TableRow) (through : apply schema before (filter (is_at schema root) c.mutations) ≡ Ok after) where
+  -- the last of a directory's commits makes its version of a key last
+  made_from_more : (db : List TableRow) (cs : List Commit) (vs : List Version) → apply schema db (changes_at schema root cs) ≡ Ok before
+      → made_from schema root k db (cs ++ c ∷ []) vs ≡ with_change c.timestamp (row_coded schema before k) (row_coded schema after k) (made_from schema root k db cs vs)
+  made_from_more db [] vs e =
+      let same : db ≡ before = ok_same e in
+      ap (λ (rows : List TableRow). with_change c.timestamp (row_coded schema rows k) (row_coded schema (directory_after schema root rows c) k) vs) same
+      ∙ ap (λ (rows : List TableRow). with_change c.timestamp (row_coded schema before k) (row_coded schema rows k) vs) (after_is schema before after (filter (is_at schema root) c.mutations) through)
+  made_from_more db (d ∷ cs) vs e =
+      let own : List CheckedMutation = filter (is_at schema root) d.mutations in
+      let parts = front_through schema own (changes_at schema root cs) db before (subst (λ (l : List CheckedMutation). apply schema db l ≡ Ok before) (changes_at-cons schema root d cs) e) in
+      let next : directory_after schema root db d ≡ parts.0 = after_is schema db parts.0 own parts.1 in
+      made_from_more (directory_after schema root db d) cs (with_change d.timestamp (row_coded schema db k) (row_coded schema (directory_after schema root db d) k) vs)
+      (subst (λ (rows : List TableRow). apply schema rows (changes_at schema root cs) ≡ Ok before) (sym next) parts.2)
+
+  -- and so it does from no row on
+  pub made_more : (cs : List Commit) → apply schema [] (changes_at schema root cs) ≡ Ok before
+      → made schema root k (cs ++ c ∷ []) ≡ with_change c.timestamp (row_coded schema before k) (row_coded schema after k) (made schema root k cs)
+  made_more cs e = made_from_more [] cs [] e
+
+-- a version, and a change, as a row is left
+abbrev a_version : ℕ → Option (List ℕ) → Version
+a_version ts row = record { timestamp = ts; row = row }
+
+abbrev a_change : List ℕ → ℕ → Option (List ℕ) → Change
+a_change k ts row = record { key = k; timestamp = ts; row = row }
+
+-- what is above the horizon is not at or below it
+late_is : (h t : ℕ) → h < t → nat_le t h ≡ false
+late_is h t low = grind (arith, nat_tests)
+
+-- a version above the horizon is one version more
+upto_more : (k : List ℕ) (h ts : ℕ) (before after : Option (List ℕ)) (vs : List Version) → h < ts → length (kept_upto h (with_change ts before after vs)) ≡ length (kept_upto h vs) + length (change_at k ts before after)
+upto_more k h ts before after vs late = cases (is_same_row before after)
+  where
+    cases : (b : Bool) → length (kept_upto h (cond b vs (a_version ts after ∷ vs))) ≡ length (kept_upto h vs) + length (cond b [] (a_change k ts after ∷ []))
+    cases true = omega arith
+    cases false = ap (λ (b : Bool). length (cond b (kept_version (a_version ts after) after) (a_version ts after ∷ kept_upto h vs))) (late_is h ts late) ∙ omega arith
+
+-- what is prepared is counted as what changes
+put_count : (k : List ℕ) (ts txn : ℕ) (before after : Option (List ℕ)) (p : Option PreparedWrite) → IsPut txn before after p → length (change_at k ts before after) ≡ cond (is_some p) 1 0
+put_count k ts txn before after None put = ap (λ (row : Option (List ℕ)). length (change_at k ts before row)) put ∙ ap length (change_none k ts before)
+put_count k ts txn before after (Some w) put = cases (is_same_row before after) refl
+  where
+    cases : (b : Bool) → is_same_row before after ≡ b → length (cond b [] (a_change k ts after ∷ [])) ≡ 1
+    cases true e = absurd (put.2 (sym (same_row_is before after e)))
+    cases false e = refl
+
+-- ---- what is prepared
+
+-- the changes that a transaction has prepared in the slot, where it is not committed
+abbrev pub changes_prepared : List Table → List TableRow → ℕ → OpenTransaction → List Change
+changes_prepared schema db slot t = cond (is_prepared_at slot t && not (is_committed t.decision)) (changes_between schema 0 db (after_mutations schema db t.mutations)) []
+
+-- those of all transactions
+abbrev pub all_prepared : List Table → List TableRow → ℕ → List OpenTransaction → List Change
+all_prepared schema db slot [] = []
+all_prepared schema db slot (t ∷ ts) = changes_prepared schema db slot t ++ all_prepared schema db slot ts
+
+-- they are as many as are counted
+prepared_length : (schema : List Table) (db : List TableRow) (slot : ℕ) (ts : List OpenTransaction) → length (all_prepared schema db slot ts) ≡ sum_by (count_prepared_changes schema db slot) ts
+prepared_length schema db slot [] = refl
+prepared_length schema db slot (t ∷ ts) =
+    length-append (changes_prepared schema db slot t) (all_prepared schema db slot ts)
+    ∙ ap (λ (n : ℕ). n + length (all_prepared schema db slot ts)) (one (is_prepared_at slot t && not (is_committed t.decision)))
+    ∙ ap (λ (n : ℕ). count_prepared_changes schema db slot t + n) (prepared_length schema db slot ts)
+    ∙ sym (sum_by-cons (count_prepared_changes schema db slot) t ts)
+  where
+    one : (b : Bool) → length (cond b (changes_between schema 0 db (after_mutations schema db t.mutations)) []) ≡ cond b (length (changes_between schema 0 db (after_mutations schema db t.mutations))) 0
+    one true = refl
+    one false = refl
+
+-- of a key the prepared changes are those of the transactions that claim its directory
+prepared_claimed : (schema : List Table) (db : List TableRow) (k : List ℕ) (test : OpenTransaction → Bool) (ts : List OpenTransaction) → AllByRecursion (λ t. test t ≡ false → filter (is_at_key k) (changes_prepared schema db 0 t) ≡ []) ts
+    → filter (is_at_key k) (all_prepared schema db 0 ts) ≡ filter (is_at_key k) (all_prepared schema db 0 (filter test ts))
+prepared_claimed schema db k test [] none = refl
+prepared_claimed schema db k test (t ∷ ts) none =
+    filter-append (is_at_key k) (changes_prepared schema db 0 t) (all_prepared schema db 0 ts)
+    ∙ ap (λ (l : List Change). filter (is_at_key k) (changes_prepared schema db 0 t) ++ l) (prepared_claimed schema db k test ts none.1)
+    ∙ cases (test t) refl
+  where
+    cases : (b : Bool) → test t ≡ b → filter (is_at_key k) (changes_prepared schema db 0 t) ++ filter (is_at_key k) (all_prepared schema db 0 (filter test ts))
+        ≡ filter (is_at_key k) (all_prepared schema db 0 (cond b (t ∷ filter test ts) (filter test ts)))
+    cases true e = sym (filter-append (is_at_key k) (changes_prepared schema db 0 t) (all_prepared schema db 0 (filter test ts)))
+    cases false e = ap (λ (l : List Change). l ++ filter (is_at_key k) (all_prepared schema db 0 (filter test ts))) (none.0 e)
+
+-- ---- lists
+
+-- what passes is in the filtered list
+in_filter : {X : Type 0} (test : X → Bool) (xs : List X) (x : X) → IsIn x xs → test x ≡ true → IsIn x (filter test xs)
+in_filter test [] x at e = absurd (let bad = at.1 in cc)
+in_filter {X} test (y ∷ ys) x at e = by_place (in_cons x y ys at) (λ rest. in_filter test ys x rest e)
+  where
+    later : (b : Bool) → IsIn x (filter test ys) → IsIn x (cond b (y ∷ filter test ys) (filter test ys))
+    later true is = (suc is.0, is.1)
+    later false is = is
+
+    by_place : (x ≡ y) ⊎ IsIn x ys → (IsIn x ys → IsIn x (filter test ys)) → IsIn x (filter test (y ∷ ys))
+    by_place (inl same) again = subst (λ (b : Bool). IsIn x (cond b (y ∷ filter test ys) (filter test ys))) (sym (ap test (sym same) ∙ e)) (0, ap Some (sym same))
+    by_place (inr rest) again = later (test y) (again rest)
+
+-- a list that has an element is not empty
+not_empty : {X : Type 0} (xs : List X) (x : X) → IsIn x xs → length xs ≢ 0
+not_empty [] x at e = let bad = at.1 in cc
+not_empty (y ∷ ys) x at e = omega arith
+
+-- ---- transactions that claim a directory
+
+-- the log's mutations have whole keys
+log_keyed : (schema : List Table) (m : Machine) → IsReached schema m → (root : Root) → IsRoot schema root → AreKeyed schema (mutations_of (in_order is_before m.log))
+log_keyed schema m reached root is_root =
+    subst (λ (l : List Commit). AreKeyed schema (mutations_of (in_order is_before l))) (all_kept (timestamp_end - 1) m.log (reached.placed root is_root).in_range refl) (keyed_upto schema m.log (timestamp_end - 1) reached.by_schema.log)
+
+-- one that claims it is the only one
+one_claims : (schema : List Table) (m : Machine) → IsReached schema m → (root : Root) → IsRoot schema root → (t : OpenTransaction) → IsIn t m.transactions → claims schema root 0 t ≡ true → filter (claims schema root 0) m.transactions ≡ t ∷ []
+one_claims schema m reached root is_root t at is =
+    let claim = claim_here schema m reached root is_root in
+    alone (filter (claims schema root 0) m.transactions) claim.0 claim.1 (in_filter (claims schema root 0) m.transactions t at is)
+  where
+    alone : (us : List OpenTransaction) (n : ℕ) → IsClaim schema root n (commits_at schema root m.log) us → IsIn t us → us ≡ t ∷ []
+    alone [] n claim here = absurd (let bad = here.1 in cc)
+    alone (u ∷ us) n claim here = by_place (in_cons t u us here)
+      where
+        by_place : (t ≡ u) ⊎ IsIn t us → u ∷ us ≡ t ∷ []
+        by_place (inl same) = ap (λ (l : List OpenTransaction). u ∷ l) claim.0 ∙ ap (λ (v : OpenTransaction). v ∷ []) (sym same)
+        by_place (inr later) = absurd (let bad : IsIn t [] = subst (IsIn t) claim.0 later in let none = bad.1 in cc)
+
+-- what is kept under one that is not committed
+prepared_under : (schema : List Table) (root : Root) (k : List ℕ) (h : ℕ) (commits : List Commit) (vs : List Version) (p : Option PreparedWrite) (t : OpenTransaction) (o : Decision) → is_committed o ≡ false
+    → IsKeptUnder schema root k h commits vs p t o → IsPreparedBy schema root k commits t.number t.mutations p × HasRows schema root k h commits vs
+prepared_under schema root k h commits vs p t decision.Undecided open_still kept = kept
+prepared_under schema root k h commits vs p t decision.Aborted open_still kept = kept
+prepared_under schema root k h commits vs p t (decision.Committed ts) open_still kept = absurd (let bad : true ≡ false = open_still in cc)
+
+-- bytes begin with themselves
+begins_itself : (k : List ℕ) → begins_with k k ≡ true
+begins_itself k = ap (λ (l : List ℕ). begins_with l k) (sym (append-nil k)) ∙ front_begins k []
+
+module _ (schema : List Table) (rules : MeetsRules schema) (m : Machine) (cs : List KeyVersions) (reached : IsReached schema m) (are_kept : AreKept schema m cs) where
+  -- the database of all commits
+  abbrev now : List TableRow
+  now = database_of schema m.log
+
+  -- what the directory's commits make of it is the directory of the database
+  directory_now : (root : Root) → IsCodedRoot schema root → apply schema [] (changes_at schema root (commits_at schema root m.log)) ≡ Ok (directory schema root now)
+  directory_now root is_root =
+      let log = log_made schema rules m reached root is_root in
+      let order : filter (touches schema root) (in_order is_before m.log) ≡ commits_at schema root m.log =
+      filter-insertion_sort is_before is_before-order (touches schema root) m.log ∙ in_order_rising (commits_at schema root m.log) (reached.placed root (coded_root schema root is_root)).rising in
+      ap (apply schema []) (ap (changes_at schema root) (sym order) ∙ changes_at-filter schema root (in_order is_before m.log))
+      ∙ apply-directory schema rules (mutations_of (in_order is_before m.log)) [] now root (coded_root schema root is_root) (empty_database schema) (log_keyed schema m reached root (coded_root schema root is_root)) log.made
+
+  -- what a transaction that claims a directory has prepared at a key there
+  claimed_at : (root : Root) (is_root : IsCodedRoot schema root) (k : List ℕ) → is_under schema root k ≡ true → (t : OpenTransaction) → IsIn t m.transactions → claims schema root 0 t ≡ true
+      → IsKeptUnder schema root k (horizon_of m) (commits_at schema root m.log) (versions_at cs k) (prepared_at cs k) t t.decision
+  claimed_at root is_root k under t at is =
+      subst (IsKeptBy schema root k (horizon_of m) (commits_at schema root m.log) (versions_at cs k) (prepared_at cs k)) (one_claims schema m reached root (coded_root schema root is_root) t at is) (are_kept.kept root is_root k under)
+
+  module _ (t : OpenTransaction) (at : IsIn t m.transactions) (prepared : is_prepared_at 0 t ≡ true) (open_still : is_committed t.decision ≡ false) where
+    -- what was begun is typed
+    typed_mutations : AreTypedMutations schema t.mutations
+    typed_mutations = all_in (IsBegunBy schema) m.transactions t at reached.by_schema.transactions
+
+    -- the root row of a directory that the transaction touches has a coding
+    touched_root : (root : Root) → IsRoot schema root → is_some_of (filter (is_at schema root) t.mutations) ≡ true → IsCodedRoot schema root
+    touched_root root is_root touched =
+        let found = any_all (IsTypedMutation schema) (is_at schema root) t.mutations typed_mutations (some_any schema root t.mutations touched) in
+        subst (IsCodedRoot schema) (sym (own_root schema root found.0 is_root found.2)) (coded_root_at schema rules found.0 found.1)
+
+    -- so its mutations go through in each directory
+    through_each : (root : Root) → IsRoot schema root → (rows : List TableRow) × (apply schema (directory schema root now) (filter (is_at schema root) t.mutations) ≡ Ok rows)
+    through_each root is_root = cases (is_some_of (filter (is_at schema root) t.mutations)) refl
+      where
+        cases : (b : Bool) → is_some_of (filter (is_at schema root) t.mutations) ≡ b → (rows : List TableRow) × (apply schema (directory schema root now) (filter (is_at schema root) t.mutations) ≡ Ok rows)
+        cases false none = (directory schema root now, ap (apply schema (directory schema root now)) (none_of (filter (is_at schema root) t.mutations) none))
+        cases true some =
+            let coded : IsCodedRoot schema root = touched_root root is_root some in
+            let k : List ℕ = key_code schema root.table root.key in
+            let under = claimed_at root coded k (begins_itself k) t at (both_of (is_prepared_at 0 t) (is_some_of (filter (is_at schema root) t.mutations)) prepared some) in
+            let by = (prepared_under schema root k (horizon_of m) (commits_at schema root m.log) (versions_at cs k) (prepared_at cs k) t t.decision open_still under).0 in
+            let same : directory schema root now ≡ by.before = ok_same (sym (directory_now root coded) ∙ by.now) in
+            (by.after, ap (λ (rows : List TableRow). apply schema rows (filter (is_at schema root) t.mutations)) same ∙ by.through)
+
+    -- and in the whole database
+    through_now : IsLogMade schema m now → (out : List TableRow) × (apply schema now t.mutations ≡ Ok out)
+    through_now log = apply-succeeds schema rules t.mutations now log.is.database (keyed_all schema t.mutations typed_mutations) through_each
+
+  -- ---- one key
+
+  module _ (root : Root) (is_root : IsCodedRoot schema root) (k : List ℕ) (under : is_under schema root k ≡ true) where
+    -- the log has no fault
+    log : IsLogMade schema m now
+    log = log_made schema rules m reached root is_root
+
+    -- the changes that a transaction has prepared at the key, by what its mutations make of the database
+    prepared_here : (t : OpenTransaction) → AreTypedMutations schema t.mutations → (out : List TableRow) → apply schema now t.mutations ≡ Ok out
+        → filter (is_at_key k) (changes_between schema 0 now (after_mutations schema now t.mutations)) ≡ change_at k 0 (row_coded schema now k) (row_coded schema out k)
+    prepared_here t typed out e =
+        ap (λ (after : List TableRow). filter (is_at_key k) (changes_between schema 0 now after)) (after_is schema now out t.mutations e)
+        ∙ changes_at_key schema k 0 now out (apart_of schema rules now log.is) (apart_of schema rules out (typed_after schema rules now out t.mutations log.is typed e))
+
+    -- a transaction that does not claim the directory has prepared none there
+    unclaimed_none : (t : OpenTransaction) → IsIn t m.transactions → claims schema root 0 t ≡ false → filter (is_at_key k) (changes_prepared schema now 0 t) ≡ []
+    unclaimed_none t at off = cases (is_prepared_at 0 t) (is_committed t.decision) refl refl
+      where
+        cases : (a b : Bool) → is_prepared_at 0 t ≡ a → is_committed t.decision ≡ b → filter (is_at_key k) (cond (a && not b) (changes_between schema 0 now (after_mutations schema now t.mutations)) []) ≡ []
+        cases false b e f = refl
+        cases true true e f = refl
+        cases true false e f =
+            let through = through_now t at e f log in
+            let none : is_some_of (filter (is_at schema root) t.mutations) ≡ false = sym (ap (λ (b : Bool). b && is_some_of (filter (is_at schema root) t.mutations)) e) ∙ off in
+            let typed : AreTypedMutations schema t.mutations = typed_mutations t at e f in
+            let same = row_untouched schema rules root is_root k under now through.0 t.mutations log.is typed through.1 (none_of (filter (is_at schema root) t.mutations) none) in
+            prepared_here t typed through.0 through.1
+            ∙ ap (λ (row : Option (List ℕ)). change_at k 0 row (row_coded schema through.0 k)) same.1
+            ∙ change_none k 0 (row_coded schema through.0 k)
+
+    -- one that claims it and is not committed has prepared one change where a write is prepared at the key, and otherwise none
+    claimed_one : (t : OpenTransaction) → IsIn t m.transactions → is_prepared_at 0 t ≡ true → is_committed t.decision ≡ false → (p : Option PreparedWrite) → IsPreparedBy schema root k (commits_at schema root m.log) t.number t.mutations p
+        → length (filter (is_at_key k) (changes_prepared schema now 0 t)) ≡ cond (is_some p) 1 0
+    claimed_one t at prepared open_still p by =
+        let through = through_now t at prepared open_still log in
+        let out : List TableRow = through.0 in
+        let typed : AreTypedMutations schema t.mutations = typed_mutations t at prepared open_still in
+        let is_out : IsTypedDatabase schema out = typed_after schema rules now out t.mutations log.is typed through.1 in
+        let before : by.before ≡ directory schema root now = ok_same (sym by.now ∙ directory_now root is_root) in
+        let after : by.after ≡ directory schema root out =
+        ok_same (sym by.through ∙ ap (λ (rows : List TableRow). apply schema rows (filter (is_at schema root) t.mutations)) before ∙ in_directory schema rules root is_root k under now out t.mutations log.is typed through.1) in
+        let row_before : row_coded schema by.before k ≡ row_coded schema now k = ap (λ (rows : List TableRow). row_coded schema rows k) before ∙ coded_in_directory schema rules root is_root k under now log.is.typed in
+        let row_after : row_coded schema by.after k ≡ row_coded schema out k = ap (λ (rows : List TableRow). row_coded schema rows k) after ∙ coded_in_directory schema rules root is_root k under out is_out.typed in
+        ap (λ (b : Bool). length (filter (is_at_key k) (cond b (changes_between schema 0 now (after_mutations schema now t.mutations)) []))) (both_of (is_prepared_at 0 t) (not (is_committed t.decision)) prepared (ap not open_still))
+        ∙ ap length (prepared_here t typed out through.1)
+        ∙ ap (λ (row : Option (List ℕ)). length (change_at k 0 row (row_coded schema out k))) (sym row_before)
+        ∙ ap (λ (row : Option (List ℕ)). length (change_at k 0 (row_coded schema by.before k) row)) (sym row_after)
+        ∙ put_count k 0 t.number (row_coded schema by.before k) (row_coded schema by.after k) p by.put
+
+    -- the changes of the log that are kept at the key are as many as the versions that its directory's commits make
+    kept_of_log : length (filter (is_at_key k) (kept (horizon_of m) (changes_of schema m.log))) ≡ length (kept_upto (horizon_of m) (made schema root k (commits_at schema root m.log)))
+    kept_of_log =
+        ap length (kept_at_key (horizon_of m) k (changes_of schema m.log))
+        ∙ ap (λ (l : List Change). length (kept (horizon_of m) l)) (changes_of_key schema rules m reached root is_root k under)
+        ∙ kept_count (horizon_of m) (changes_made schema root k (commits_at schema root m.log)) (changes_rise schema root k [] (commits_at schema root m.log) (reached.placed root (coded_root schema root is_root)).rising)
+        ∙ ap (λ (vs : List Version). length (kept_upto (horizon_of m) vs)) (sym (made_is schema root k (commits_at schema root m.log)))
+
+    -- the changes prepared at the key
+    abbrev prepared_count : ℕ
+    prepared_count = length (filter (is_at_key k) (all_prepared schema now 0 m.transactions))
+
+    -- what the key has: its versions, and the prepared one
+    abbrev has_count : ℕ
+    has_count = length (versions_at cs k) + cond (is_some (prepared_at cs k)) 1 0
+
+    -- the versions that the directory's commits make, trimmed at the horizon
+    abbrev made_count : ℕ
+    made_count = length (kept_upto (horizon_of m) (made schema root k (commits_at schema root m.log)))
+
+    -- where all commits are applied, they are in the shard
+    versions_count : HasRows schema root k (horizon_of m) (commits_at schema root m.log) (versions_at cs k) → length (versions_at cs k) ≡ made_count
+    versions_count has = ap length has.versions
+
+    -- where the last commit is not applied yet, its version is prepared
+    pending_count : (t : OpenTransaction) (ts : ℕ) → horizon_of m < ts → IsPending schema root k (horizon_of m) (commits_at schema root m.log) (versions_at cs k) (prepared_at cs k) t ts → made_count ≡ has_count
+    pending_count t ts late pending =
+        let c : Commit = commit_of ts t in
+        let by = pending.put in
+        let old : Option (List ℕ) = row_coded schema by.before k in
+        let new : Option (List ℕ) = row_coded schema by.after k in
+        let front : List Version = made schema root k pending.front in
+        ap (λ (l : List Commit). length (kept_upto (horizon_of m) (made schema root k l))) pending.whole
+        ∙ ap (λ (vs : List Version). length (kept_upto (horizon_of m) vs)) (made_more schema root k c by.before by.after by.through pending.front by.now)
+        ∙ upto_more k (horizon_of m) ts old new front late
+        ∙ ap (λ (vs : List Version). length vs + length (change_at k ts old new)) (sym pending.rows.versions)
+        ∙ ap (λ (n : ℕ). length (versions_at cs k) + n) (put_count k ts t.number old new (prepared_at cs k) by.put)
+
+    -- at each key of the directory there are as many as are counted
+    pub count_at_key : has_count ≡ length (filter (is_at_key k) (kept (horizon_of m) (changes_of schema m.log) ++ all_prepared schema now 0 m.transactions))
+    count_at_key =
+        by_claims (filter (claims schema root 0) m.transactions) refl (are_kept.kept root is_root k under)
+        ∙ ap (λ (n : ℕ). n + prepared_count) (sym kept_of_log)
+        ∙ sym (length-append (filter (is_at_key k) (kept (horizon_of m) (changes_of schema m.log))) (filter (is_at_key k) (all_prepared schema now 0 m.transactions)))
+        ∙ ap length (sym (filter-append (is_at_key k) (kept (horizon_of m) (changes_of schema m.log)) (all_prepared schema now 0 m.transactions)))
+      where
+        claimed_alone : prepared_count ≡ length (filter (is_at_key k) (all_prepared schema now 0 (filter (claims schema root 0) m.transactions)))
+        claimed_alone = ap length (prepared_claimed schema now k (claims schema root 0) m.transactions (all_of_in (λ t. claims schema root 0 t ≡ false → filter (is_at_key k) (changes_prepared schema now 0 t) ≡ []) m.transactions (λ t at off. unclaimed_none t at off)))
+
+        one_alone : (t : OpenTransaction) → filter (claims schema root 0) m.transactions ≡ t ∷ [] → prepared_count ≡ length (filter (is_at_key k) (changes_prepared schema now 0 t))
+        one_alone t e =
+            claimed_alone
+            ∙ ap (λ (ts : List OpenTransaction). length (filter (is_at_key k) (all_prepared schema now 0 ts))) e
+            ∙ ap (λ (l : List Change). length (filter (is_at_key k) l)) (append-nil (changes_prepared schema now 0 t))
+
+        by_open : (t : OpenTransaction) → IsIn t m.transactions → claims schema root 0 t ≡ true → filter (claims schema root 0) m.transactions ≡ t ∷ [] → is_committed t.decision ≡ false
+            → IsPreparedBy schema root k (commits_at schema root m.log) t.number t.mutations (prepared_at cs k) × HasRows schema root k (horizon_of m) (commits_at schema root m.log) (versions_at cs k) → has_count ≡ made_count + prepared_count
+        by_open t at is alone open_still h =
+            let prepared : is_prepared_at 0 t ≡ true = first_true (is_prepared_at 0 t) (is_some_of (filter (is_at schema root) t.mutations)) is in
+            let one : prepared_count ≡ cond (is_some (prepared_at cs k)) 1 0 = one_alone t alone ∙ claimed_one t at prepared open_still (prepared_at cs k) h.0 in
+            ap (λ (n : ℕ). n + cond (is_some (prepared_at cs k)) 1 0) (versions_count h.1) ∙ ap (λ (n : ℕ). made_count + n) (sym one)
+
+        by_decision : (t : OpenTransaction) (o : Decision) → t.decision ≡ o → IsIn t m.transactions → claims schema root 0 t ≡ true → filter (claims schema root 0) m.transactions ≡ t ∷ []
+            → IsKeptUnder schema root k (horizon_of m) (commits_at schema root m.log) (versions_at cs k) (prepared_at cs k) t o → has_count ≡ made_count + prepared_count
+        by_decision t (decision.Committed ts) e at is alone h =
+            let prepared : is_prepared_at 0 t ≡ true = first_true (is_prepared_at 0 t) (is_some_of (filter (is_at schema root) t.mutations)) is in
+            let late : horizon_of m < ts = above_horizon schema m reached root (coded_root schema root is_root) t ts at prepared e in
+            let none : prepared_count ≡ 0 =
+            one_alone t alone
+            ∙ ap (λ (o : Decision). length (filter (is_at_key k) (cond (is_prepared_at 0 t && not (is_committed o)) (changes_between schema 0 now (after_mutations schema now t.mutations)) []))) e
+            ∙ ap (λ (b : Bool). length (filter (is_at_key k) (cond (b && false) (changes_between schema 0 now (after_mutations schema now t.mutations)) []))) prepared in
+            let whole : made_count ≡ has_count = pending_count t ts late h in
+            omega arith
+        by_decision t decision.Undecided e at is alone h = by_open t at is alone (ap is_committed e) h
+        by_decision t decision.Aborted e at is alone h = by_open t at is alone (ap is_committed e) h
+
+        by_claims : (us : List OpenTransaction) → filter (claims schema root 0) m.transactions ≡ us → IsKeptBy schema root k (horizon_of m) (commits_at schema root m.log) (versions_at cs k) (prepared_at cs k) us → has_count ≡ made_count + prepared_count
+        by_claims [] e h =
+            let none : prepared_count ≡ 0 = claimed_alone ∙ ap (λ (ts : List OpenTransaction). length (filter (is_at_key k) (all_prepared schema now 0 ts))) e in
+            ap (λ (p : Option PreparedWrite). length (versions_at cs k) + cond (is_some p) 1 0) h.0
+            ∙ ap (λ (n : ℕ). n + 0) (versions_count h.1)
+            ∙ ap (λ (n : ℕ). made_count + n) (sym none)
+        by_claims (t ∷ us) e h =
+            let at : IsIn t m.transactions = kept_in (claims schema root 0) m.transactions t (0, ap (λ (l : List OpenTransaction). slice_get l 0) e) in
+            let is : claims schema root 0 t ≡ true = (subst (AllByRecursion (λ u. claims schema root 0 u ≡ true)) e (all_filter_itself (claims schema root 0) m.transactions)).0 in
+            by_decision t t.decision refl at is (one_claims schema m reached root (coded_root schema root is_root) t at is) h
+
+-- ---- the keys of changes
+
+-- the change is of a coded key
+abbrev pub IsOfKey : List Table → Change → Type 0
+IsOfKey schema d = IsCodedCoding schema d.key
+
+-- the key of a typed row is coded
+row_coding : (schema : List Table) (r : TableRow) → IsTyped schema r → IsCodedCoding schema (code_of schema r)
+row_coding schema r typed = record { is = record { table = r.table; values = r.key; is = typed.0.0; code = refl }; short = typed.0.1 }
+
+-- so are those of changes that are made of typed rows
+of_rows : (schema : List Table) (change : TableRow → Change) → ((r : TableRow) → (change r).key ≡ code_of schema r) → (db : List TableRow) → AreTyped schema db → AllByRecursion (IsOfKey schema) (map change db)
+of_rows schema change same [] typed = tt
+of_rows schema change same (r ∷ rs) typed = (subst (IsCodedCoding schema) (sym (same r)) (row_coding schema r typed.0), of_rows schema change same rs typed.1)
+
+-- the keys that change between two typed databases are coded
+pub coded_between : (schema : List Table) (ts : ℕ) (before after : List TableRow) → AreTyped schema before → AreTyped schema after → AllByRecursion (IsOfKey schema) (changes_between schema ts before after)
+coded_between schema ts before after typed_before typed_after =
+    all_append (IsOfKey schema) (map (put_at schema ts) (filter (λ r. not (list_any (is_same schema r) before)) after)) (map (deletion_at schema ts) (filter (λ r. not (list_any (has_same_key schema r) after)) before))
+    (of_rows schema (put_at schema ts) (λ r. refl) (filter (λ r. not (list_any (is_same schema r) before)) after) (all_filtered (IsTyped schema) (λ r. not (list_any (is_same schema r) before)) after typed_after))
+    (of_rows schema (deletion_at schema ts) (λ r. refl) (filter (λ r. not (list_any (has_same_key schema r) after)) before) (all_filtered (IsTyped schema) (λ r. not (list_any (has_same_key schema r) after)) before typed_before))
+
+-- mutations leave typed rows, also where they have a fault
+typed_mutated : (schema : List Table) (db : List TableRow) (ms : List CheckedMutation) → AreTyped schema db → AreTypedMutations schema ms → AreTyped schema (after_mutations schema db ms)
+typed_mutated schema db ms typed typed_ms = cases (apply schema db ms) refl
+  where
+    cases : (r : Result (List TableRow) Refusal) → apply schema db ms ≡ r → AreTyped schema (ok_or r db)
+    cases (Ok after) e = typed_stay schema db ms after typed typed_ms e
+    cases (Err why) e = typed
+
+-- the keys that commits change are coded
+coded_from : (schema : List Table) (db : List TableRow) (cs : List Commit) → AreTyped schema db → AllByRecursion (IsCommitBy schema) cs → AllByRecursion (IsOfKey schema) (changes_from schema db cs)
+coded_from schema db [] typed by = tt
+coded_from schema db (c ∷ cs) typed by =
+    let next : AreTyped schema (after_mutations schema db c.mutations) = typed_mutated schema db c.mutations typed by.0 in
+    all_append (IsOfKey schema) (changes_between schema c.timestamp db (after_mutations schema db c.mutations)) (changes_from schema (after_mutations schema db c.mutations) cs)
+    (coded_between schema c.timestamp db (after_mutations schema db c.mutations) typed next) (coded_from schema (after_mutations schema db c.mutations) cs next by.1)
+
+-- commits leave typed rows
+typed_database : (schema : List Table) (db : List TableRow) (cs : List Commit) → AreTyped schema db → AllByRecursion (IsCommitBy schema) cs → AreTyped schema (database_after schema db cs)
+typed_database schema db [] typed by = typed
+typed_database schema db (c ∷ cs) typed by = typed_database schema (after_mutations schema db c.mutations) cs (typed_mutated schema db c.mutations typed by.0) by.1
+
+-- the keys of what is prepared are coded
+coded_prepared : (schema : List Table) (db : List TableRow) (ts : List OpenTransaction) → AreTyped schema db → AllByRecursion (IsBegunBy schema) ts → AllByRecursion (IsOfKey schema) (all_prepared schema db 0 ts)
+coded_prepared schema db [] typed by = tt
+coded_prepared schema db (t ∷ ts) typed by = all_append (IsOfKey schema) (changes_prepared schema db 0 t) (all_prepared schema db 0 ts) (cases (is_prepared_at 0 t && not (is_committed t.decision))) (coded_prepared schema db ts typed by.1)
+  where
+    cases : (b : Bool) → AllByRecursion (IsOfKey schema) (cond b (changes_between schema 0 db (after_mutations schema db t.mutations)) [])
+    cases true = coded_between schema 0 db (after_mutations schema db t.mutations) typed (typed_mutated schema db t.mutations typed by.0)
+    cases false = tt
+
+-- ---- all keys
+
+-- a shard that has at each coded key as many versions, the prepared one included, as there are of these changes, has as many as changes
+module _ (schema : List Table) (cs : List KeyVersions) (up : AreInOrder cs) (coded : AllByRecursion (λ (c : KeyVersions). IsCodedCoding schema c.key) cs) (ds : List Change) (of_keys : AllByRecursion (IsOfKey schema) ds)
+    (each : (k : List ℕ) → IsCodedCoding schema k → length (versions_at cs k) + cond (is_some (prepared_at cs k)) 1 0 ≡ length (filter (is_at_key k) ds)) where
+  -- each key of the shard has as many as are counted there
+  each_key : AllByRecursion (λ (c : KeyVersions). kept_of c ≡ length (filter (is_at_key c.key) ds)) cs
+  each_key = all_by_key (λ (c : KeyVersions). kept_of c ≡ length (filter (is_at_key c.key) ds)) cs up (λ c found.
+      sym (ap (λ (o : Option KeyVersions). length (versions_of o) + cond (is_some (prepared_of o)) 1 0) found)
+      ∙ each c.key (all_found (λ (d : KeyVersions). IsCodedCoding schema d.key) (is_key c.key) cs c found coded))
+
+  -- the keys of the changes are in the shard
+  all_there : AllByRecursion (λ (d : Change). list_any (is_key d.key) cs ≡ true) ds
+  all_there = all_of_in (λ (d : Change). list_any (is_key d.key) cs ≡ true) ds there
+    where
+      there : (d : Change) → IsIn d ds → list_any (is_key d.key) cs ≡ true
+      there d at = cases (list_any (is_key d.key) cs) refl
+        where
+          cases : (b : Bool) → list_any (is_key d.key) cs ≡ b → b ≡ true
+          cases true e = refl
+          cases false e =
+              let none : find (is_key d.key) cs ≡ None = none_any (is_key d.key) cs e in
+              let count = each d.key (all_in (IsOfKey schema) ds d at of_keys) in
+              let nothing : length (versions_at cs d.key) + cond (is_some (prepared_at cs d.key)) 1 0 ≡ 0 = ap (λ (o : Option KeyVersions). length (versions_of o) + cond (is_some (prepared_of o)) 1 0) none in
+              absurd (not_empty (filter (is_at_key d.key) ds) d (in_filter (is_at_key d.key) ds d at (bytes_same d.key d.key refl)) (sym count ∙ nothing))
+
+  pub live_by_keys : live cs ≡ length ds
+  live_by_keys = sum_alike kept_of (λ (c : KeyVersions). length (filter (is_at_key c.key) ds)) cs each_key ∙ count_by_keys cs up ds all_there
+
+module _ (schema : List Table) (rules : MeetsRules schema) (m : Machine) (cs : List KeyVersions) (reached : IsReached schema m) (are_kept : AreKept schema m cs) where
+  -- all that is counted: the changes of the log that are kept, and those that are prepared
+  abbrev pub counted_changes : List Change
+  counted_changes = kept (horizon_of m) (changes_of schema m.log) ++ all_prepared schema (database_of schema m.log) 0 m.transactions
+
+  -- at each coded key there are as many as are counted
+  pub count_at : (k : List ℕ) → IsCodedCoding schema k → length (versions_at cs k) + cond (is_some (prepared_at cs k)) 1 0 ≡ length (filter (is_at_key k) counted_changes)
+  count_at k coding = let root = root_of_coding schema rules k coding in count_at_key schema rules m cs reached are_kept root.0 root.1 k root.2
+
+  -- the log's commits in their order are typed
+  in_order_by : AllByRecursion (IsCommitBy schema) (in_order is_before m.log)
+  in_order_by = all_in_order (IsCommitBy schema) m.log reached.by_schema.log
+
+  -- the keys of all that is counted are coded
+  pub all_coded : AllByRecursion (IsOfKey schema) counted_changes
+  all_coded = all_append (IsOfKey schema) (kept (horizon_of m) (changes_of schema m.log)) (all_prepared schema (database_of schema m.log) 0 m.transactions)
+      (all_filtered (IsOfKey schema) (is_kept (horizon_of m) (changes_of schema m.log)) (changes_of schema m.log) (coded_from schema [] (in_order is_before m.log) tt in_order_by))
+      (coded_prepared schema (database_of schema m.log) m.transactions (typed_database schema [] (in_order is_before m.log) tt in_order_by) reached.by_schema.transactions)
+
+  -- how many they are
+  pub counted_length : length counted_changes ≡ live_by_log schema m.log m.transactions 0 (horizon_of m)
+  counted_length =
+      length-append (kept (horizon_of m) (changes_of schema m.log)) (all_prepared schema (database_of schema m.log) 0 m.transactions)
+      ∙ ap (λ (n : ℕ). length (kept (horizon_of m) (changes_of schema m.log)) + n) (prepared_length schema (database_of schema m.log) 0 m.transactions)
+
+  -- so both counts are the same
+  pub live_count : live cs ≡ live_by_log schema m.log m.transactions 0 (horizon_of m)
+  live_count = live_by_keys schema cs are_kept.keys are_kept.coded counted_changes all_coded count_at ∙ counted_length
+
+-- The versions in the shard, prepared ones included, are as many as the changes of the log that are kept at the horizon and those that
+-- transactions have prepared which are not committed.
+pub live_is_kept : (schema : List Table) → MeetsRules schema → (m : Machine) (cs : List KeyVersions) → IsReached schema m → AreKept schema m cs → live cs ≡ live_by_log schema m.log m.transactions 0 (horizon_of m)
+live_is_kept schema rules m cs reached are_kept = live_count schema rules m cs reached are_kept

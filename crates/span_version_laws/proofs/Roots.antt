@@ -1,0 +1,169 @@
+-- Root rows whose keys have codings, and the keys in their directories.
+use Rattle.std.proofs.Common.{◌≡◌, ℕ, zero, suc, ◌+◌, ◌-◌, ◌<◌, ◌≤◌, Bool, true, false, cond, ◌==◌, List, [], ◌∷◌, ◌++◌, Option, Some, None, length, take, drop, get_or, refl, ap, sym, ◌∙◌, subst, arith}
+use Rattle.std.specs.Prelude.{find}
+use Rattle.std.specs.Option.{option_map}
+use Rattle.std.proofs.lemmas.List.{take-append-drop, length-append}
+use Rattle.std.proofs.Math.Seq.{take-append_seam, take-length}
+use Rattle.span_value.specs.declared.value.Value.{Value}
+use Rattle.span_schema.specs.declared.table.Table.{Table}
+use Rattle.span_schema.specs.Lineages.{parent_at, path_at, MeetsRules}
+use Rattle.span_schema.specs.Numbers.{IsTable, key_at, own_key_at, root_of, path_of}
+use Rattle.span_schema.proofs.Paths.{parent_before}
+use Rattle.span_schema.proofs.Numbered.{path_has}
+use Rattle.span_keycode.specs.Coding.{AreFit}
+use Rattle.span_keycode.specs.Keys.{IsKey, key_code}
+use Rattle.span_keycode.specs.Laws.{IsAtOrBelow}
+use Rattle.span_keycode.specs.declared.key.TheConstants.{MOST_BYTES}
+use Rattle.span_keycode.proofs.Levels.{by_parents, key_split, keys_short, each_of, IsShort, back}
+use Rattle.span_keycode.proofs.LevelLaws.{fit_length, fit_split, path_child, path_root}
+use Rattle.span_keycode.proofs.KeyLaws.{begins_own_rows}
+use Rattle.span_mutate.specs.declared.mutation.CheckedMutation.{CheckedMutation}
+use Rattle.span_mutate.specs.declared.row.TableRow.{TableRow}
+use Rattle.span_mutate.specs.Rows.{begins}
+use Rattle.span_mutate.specs.Directories.{Root, is_in_directory, root_row, directory, key_len}
+use Rattle.span_mutate.specs.Typed.{IsTyped, AreTyped, IsTypedMutation}
+use Rattle.span_mutate.proofs.Begins.{both_make, number_itself, taken_begins}
+use Rattle.span_mutate.proofs.Families.{root_is_table}
+use Rattle.span_mutate.proofs.Filters.{filter_yes, filter_no}
+use Rattle.span_shard.specs.Rows.{begins_with, code_of, is_coded, row_coded}
+use Rattle.span_shard.proofs.Bytes.{begins_front, front_begins, same_bytes}
+use Rattle.span_machine.specs.Machine.{root_at}
+use Rattle.span_machine_laws.proofs.Locality.{IsRoot}
+use Rattle.span_rowcode.specs.Rows.{row_code}
+use Rattle.span_machine_laws.proofs.Lists.{all_found, found_passes}
+use Rattle.span_machine_laws.proofs.Schemas.{keyed_of}
+use Rattle.span_version_laws.specs.Kept.{IsCodedRoot, IsCodedCoding, is_under}
+
+pub coded_root : (schema : List Table) (root : Root) → IsCodedRoot schema root → IsRoot schema root
+coded_root schema root is = keyed_of schema root.table root.key is.1
+
+-- ---- what is in a directory
+
+front_of : (vs ws : List Value) → begins vs (vs ++ ws) ≡ true
+front_of vs ws = subst (λ (us : List Value). begins us (vs ++ ws) ≡ true) (take-append_seam vs ws) (taken_begins (vs ++ ws) (length vs))
+
+first_of_front : (ms ns : List ℕ) → 0 < length ms → get_or (ms ++ ns) 0 0 ≡ get_or ms 0 0
+first_of_front [] ns h = absurd (let less : 0 < 0 = h in omega arith)
+first_of_front (m ∷ ms) ns h = refl
+
+-- a row whose coding begins with that of the root row is in its directory
+pub in_directory : (schema : List Table) → MeetsRules schema → (root : Root) → IsCodedRoot schema root → (r : TableRow) → IsTyped schema r → begins_with (code_of schema r) (key_code schema root.table root.key) ≡ true
+    → is_in_directory schema root r.table r.key ≡ true
+in_directory schema rules root is r typed front =
+    let rest : List ℕ = drop (length (key_code schema root.table root.key)) (code_of schema r) in
+    let whole : code_of schema r ≡ key_code schema root.table root.key ++ rest = sym (begins_front (code_of schema r) (key_code schema root.table root.key) front) in
+    let b : IsAtOrBelow schema root.table root.key r.table r.key = (begins_own_rows schema rules root.table r.table root.key r.key is.1.0 typed.0.0).0 (rest, whole) in
+    let same_root : root_of schema r.table ≡ root.table =
+    ap (λ (ns : List ℕ). get_or ns 0 0) b.path ∙ first_of_front (path_of schema root.table) b.tables_below (path_has schema (root.table - 1)) ∙ is.0 in
+    both_make (root_of schema r.table == root.table) (begins root.key r.key) (number_itself (root_of schema r.table) root.table same_root) (ap (begins root.key) b.values ∙ front_of root.key b.values_below)
+
+-- the row at a key of the directory is found in the directory
+pub find_in_directory : (schema : List Table) → MeetsRules schema → (root : Root) → IsCodedRoot schema root → (k : List ℕ) → is_under schema root k ≡ true → (db : List TableRow) → AreTyped schema db
+    → find (is_coded schema k) (directory schema root db) ≡ find (is_coded schema k) db
+find_in_directory schema rules root is k under [] typed = refl
+find_in_directory schema rules root is k under (r ∷ db) typed = cases (is_in_directory schema root r.table r.key) (is_coded schema k r) refl refl (find_in_directory schema rules root is k under db typed.1)
+  where
+    of_root : TableRow → Bool
+    of_root = λ (q : TableRow). is_in_directory schema root q.table q.key
+
+    cases : (a b : Bool) → is_in_directory schema root r.table r.key ≡ a → is_coded schema k r ≡ b → find (is_coded schema k) (directory schema root db) ≡ find (is_coded schema k) db
+        → find (is_coded schema k) (directory schema root (r ∷ db)) ≡ find (is_coded schema k) (r ∷ db)
+    cases true b e f again = ap (find (is_coded schema k)) (filter_yes of_root r db e) ∙ ap (λ (o : Option TableRow). cond (is_coded schema k r) (Some r) o) again
+    cases false true e f again =
+        let here : begins_with (code_of schema r) (key_code schema root.table root.key) ≡ true = subst (λ (l : List ℕ). begins_with l (key_code schema root.table root.key) ≡ true) (same_bytes k (code_of schema r) f) under in
+        absurd (let g : true ≡ false = sym (in_directory schema rules root is r typed.0 here) ∙ e in cc)
+    cases false false e f again = ap (find (is_coded schema k)) (filter_no of_root r db e) ∙ again ∙ sym (ap (λ (b : Bool). cond b (Some r) (find (is_coded schema k) db)) f)
+
+pub coded_in_directory : (schema : List Table) → MeetsRules schema → (root : Root) → IsCodedRoot schema root → (k : List ℕ) → is_under schema root k ≡ true → (db : List TableRow) → AreTyped schema db
+    → row_coded schema (directory schema root db) k ≡ row_coded schema db k
+coded_in_directory schema rules root is k under db typed = ap (option_map _) (find_in_directory schema rules root is k under db typed)
+
+-- ---- the root row of a key
+
+-- the root table of the table at a place
+abbrev root_place : List Table → ℕ → ℕ
+root_place schema i = get_or (path_at schema i) 0 0
+
+take_less : (xs : List Value) (j k : ℕ) → j ≤ k → take j (take k xs) ≡ take j xs
+take_less xs zero k h = refl
+take_less [] (suc j) zero h = refl
+take_less [] (suc j) (suc k) h = refl
+take_less (x ∷ xs) (suc j) zero h = absurd (omega arith)
+take_less (x ∷ xs) (suc j) (suc k) h = ap (λ (l : List Value). x ∷ l) (take_less xs j k (omega arith))
+
+-- the root table has no parent, and its columns fit the front of the key
+pub root_fits : (schema : List Table) → MeetsRules schema → (i : ℕ) → i < length schema → (vs : List Value) → AreFit (key_at schema i) vs
+    → (parent_at schema (root_place schema i - 1) ≡ None) × AreFit (key_at schema (root_place schema i - 1)) (take (length (key_at schema (root_place schema i - 1))) vs)
+root_fits schema rules = by_parents schema
+    (λ i. i < length schema → (vs : List Value) → AreFit (key_at schema i) vs → (parent_at schema (root_place schema i - 1) ≡ None) × AreFit (key_at schema (root_place schema i - 1)) (take (length (key_at schema (root_place schema i - 1))) vs))
+    step
+  where
+    step : (i : ℕ)
+        → ((p : ℕ) → parent_at schema i ≡ Some p → p < length schema → (vs : List Value) → AreFit (key_at schema p) vs
+        → (parent_at schema (root_place schema p - 1) ≡ None) × AreFit (key_at schema (root_place schema p - 1)) (take (length (key_at schema (root_place schema p - 1))) vs))
+        → i < length schema → (vs : List Value) → AreFit (key_at schema i) vs
+        → (parent_at schema (root_place schema i - 1) ≡ None) × AreFit (key_at schema (root_place schema i - 1)) (take (length (key_at schema (root_place schema i - 1))) vs)
+    step i again h vs fit = by_case (parent_at schema i) refl
+      where
+        by_case : (o : Option ℕ) → parent_at schema i ≡ o
+            → (parent_at schema (root_place schema i - 1) ≡ None) × AreFit (key_at schema (root_place schema i - 1)) (take (length (key_at schema (root_place schema i - 1))) vs)
+        by_case None e =
+            let here : root_place schema i - 1 ≡ i = ap (λ (ns : List ℕ). get_or ns 0 0 - 1) (path_root schema i e) ∙ back i in
+            subst (λ (j : ℕ). (parent_at schema j ≡ None) × AreFit (key_at schema j) (take (length (key_at schema j)) vs)) (sym here)
+            (e, subst (AreFit (key_at schema i)) (sym (ap (λ (n : ℕ). take n vs) (fit_length (key_at schema i) vs fit) ∙ take-length vs)) fit)
+        by_case (Some p) e =
+            let less : p < i = parent_before schema i p e in
+            let K = length (key_at schema p) in
+            let both = fit_split (key_at schema p) (own_key_at schema i) vs (subst (λ cs. AreFit cs vs) (key_split schema rules i p h e) fit) in
+            let up = again p e (omega arith) (take K vs) both.0 in
+            let same : root_place schema i ≡ root_place schema p = ap (λ (ns : List ℕ). get_or ns 0 0) (path_child schema i p e) ∙ first_of_front (path_at schema p) ((i + 1) ∷ []) (path_has schema p) in
+            let short : length (key_at schema (root_place schema p - 1)) ≤ K = each_of (IsShort schema K) (path_at schema p) 0 0 (keys_short schema rules p (omega arith)) (path_has schema p) in
+            subst (λ (j : ℕ). (parent_at schema (j - 1) ≡ None) × AreFit (key_at schema (j - 1)) (take (length (key_at schema (j - 1))) vs)) (sym same)
+            (up.0, subst (AreFit (key_at schema (root_place schema p - 1))) (take_less vs (length (key_at schema (root_place schema p - 1))) K short) up.1)
+
+pub first_and_rest : (ns : List ℕ) → 0 < length ns → ns ≡ get_or ns 0 0 ∷ drop 1 ns
+first_and_rest [] h = absurd (let less : 0 < 0 = h in omega arith)
+first_and_rest (n ∷ ns) h = refl
+
+-- the root row of a key that has a coding has one, which is the front of it
+pub coded_root_of : (schema : List Table) → MeetsRules schema → (n : ℕ) (key : List Value) → IsKey schema n key → length (key_code schema n key) ≤ MOST_BYTES
+    → IsCodedRoot schema (root_row schema n key) × ((rest : List ℕ) × (key_code schema n key ≡ key_code schema (root_row schema n key).table (root_row schema n key).key ++ rest))
+coded_root_of schema rules n key is_key most =
+    let is : IsTable schema n = is_key.0 in
+    let fits = root_fits schema rules (n - 1) (omega arith) key is_key.1 in
+    let root_is : IsTable schema (root_of schema n) = root_is_table schema n is in
+    let path : path_of schema (root_of schema n) ≡ root_of schema n ∷ [] =
+    path_root schema (root_of schema n - 1) fits.0 ∙ ap (λ (j : ℕ). j ∷ []) (let up = root_is.0 in omega arith) in
+    let root_key : IsKey schema (root_of schema n) (take (key_len schema (root_of schema n)) key) = (root_is, fits.1) in
+    let below : IsAtOrBelow schema (root_of schema n) (take (key_len schema (root_of schema n)) key) n key = record {
+      tables_below = drop 1 (path_of schema n);
+      path = first_and_rest (path_of schema n) (path_has schema (n - 1)) ∙ ap (λ (ns : List ℕ). ns ++ drop 1 (path_of schema n)) (sym path);
+      values_below = drop (key_len schema (root_of schema n)) key;
+      values = sym (take-append-drop (key_len schema (root_of schema n)) key);
+    } in
+    let more = (begins_own_rows schema rules (root_of schema n) n (take (key_len schema (root_of schema n)) key) key root_key is_key).1 below in
+    let sum : length (key_code schema n key) ≡ length (key_code schema (root_of schema n) (take (key_len schema (root_of schema n)) key)) + length more.0 = ap length more.1 ∙ length-append _ _ in
+    ((ap (λ (ns : List ℕ). get_or ns 0 0) path, (root_key, omega (arith, most, sum))), more)
+
+-- the root row of a typed mutation's directory has a coding
+pub coded_root_at : (schema : List Table) → MeetsRules schema → (m : CheckedMutation) → IsTypedMutation schema m → IsCodedRoot schema (root_at schema m)
+coded_root_at schema rules m typed = (coded_root_of schema rules m.table m.key typed.0.0 typed.0.1).0
+
+-- the coding of a key is under its root row
+pub root_of_coding : (schema : List Table) → MeetsRules schema → (k : List ℕ) → IsCodedCoding schema k → (root : Root) × IsCodedRoot schema root × (is_under schema root k ≡ true)
+root_of_coding schema rules k coding =
+    let of_key = coded_root_of schema rules coding.is.table coding.is.values coding.is.is coding.short in
+    (root_row schema coding.is.table coding.is.values, of_key.0, subst (λ (l : List ℕ). is_under schema (root_row schema coding.is.table coding.is.values) l ≡ true) (sym (coding.is.code ∙ of_key.1.1)) (front_begins (key_code schema (root_row schema coding.is.table coding.is.values).table (root_row schema coding.is.table coding.is.values).key) of_key.1.0))
+
+-- a key where a typed database has a row is the coding of a key
+pub coding_of_row : (schema : List Table) (k : List ℕ) (db : List TableRow) (row : List ℕ) → AreTyped schema db → row_coded schema db k ≡ Some row → IsCodedCoding schema k
+coding_of_row schema k db row typed e = by_find (find (is_coded schema k) db) refl
+  where
+    by_find : (o : Option TableRow) → find (is_coded schema k) db ≡ o → IsCodedCoding schema k
+    by_find None f = absurd (let none : row_coded schema db k ≡ None = ap (option_map (λ (r : TableRow). row_code r.cells)) f in cc)
+    by_find (Some r) f =
+        let is_typed = all_found (IsTyped schema) (is_coded schema k) db r f typed in
+        record {
+          is = record { table = r.table; values = r.key; is = is_typed.0.0; code = same_bytes k (code_of schema r) (found_passes (is_coded schema k) db r f) };
+          short = is_typed.0.1;
+        }

@@ -1,0 +1,172 @@
+-- A shard has of each key the versions that the log's commits made there, trimmed at the horizon, one that is not applied yet left out,
+-- and the write that the transaction prepared there is to leave.
+use Rattle.std.proofs.Common.{◌≡◌, ◌≢◌, ℕ, Bool, true, nat_le, if◌then◌else◌, List, [], ◌∷◌, ◌++◌, length, ◌≤◌, ◌+◌, Option, Some, None, Ok}
+use Rattle.std.specs.Prelude.{filter, map, slice_get}
+use Rattle.std.specs.List.{AllByRecursion}
+use Rattle.span_value.specs.declared.value.Value.{Value}
+use Rattle.span_schema.specs.declared.table.Table.{Table}
+use Rattle.span_schema.specs.Numbers.{IsTable, root_of}
+use Rattle.span_keycode.specs.Keys.{IsCodedKey, key_code}
+use Rattle.span_keycode.specs.Roots.{IsCoding}
+use Rattle.span_keycode.specs.declared.key.TheConstants.{MOST_BYTES}
+use Rattle.span_mutate.specs.declared.mutation.CheckedMutation.{CheckedMutation}
+use Rattle.span_mutate.specs.declared.row.TableRow.{TableRow}
+use Rattle.span_keycode.specs.declared.range.KeyRange.{KeyRange}
+use Rattle.span_rowcode.specs.Rows.{row_code}
+use Rattle.span_mutate.specs.Database.{apply, rows_of}
+use Rattle.span_mutate.specs.Typed.{AreTyped}
+use Rattle.span_mutate.specs.Directories.{Root}
+use Rattle.span_shard.specs.declared.chain.Version.{Version}
+use Rattle.span_shard.specs.declared.chain.PreparedWrite.{PreparedWrite}
+use Rattle.span_shard.specs.KeyVersions.{KeyVersions}
+use Rattle.span_shard.specs.Rows.{begins_with, code_of, row_coded}
+use Rattle.span_shard.specs.Reading.{is_same_row}
+use Rattle.span_shard.specs.Versions.{row_at, kept_upto}
+use Rattle.span_shard.specs.Shard.{KeyRow, versions_at, prepared_at, AreInOrder, IsInUse}
+use Rattle.span_query.specs.Rows.{Row}
+use Rattle.span_machine.specs.declared.query.Leaf.{Leaf}
+use Rattle.span_machine.specs.declared.slot.SlotState.{SlotState}
+use Rattle.span_machine.specs.declared.transaction.Commit.{Commit}
+use Rattle.span_machine.specs.declared.transaction.OpenTransaction.{OpenTransaction}
+use Rattle.span_machine.specs.declared.transaction.Decision.{Decision}
+use Rattle.span_machine.specs.declared.transaction.Decision.TheVariants as decision
+use Rattle.span_machine.specs.Meaning.{declared_row, whole_table}
+use Rattle.span_machine.specs.Tables.{tables}
+use Rattle.span_machine.specs.Kept.{after_mutations}
+use Rattle.span_machine.specs.Machine.{Machine, if_some, is_at, commit_of}
+use Rattle.span_machine.specs.Pieces.{Pieced}
+use Rattle.span_machine_laws.proofs.Stability.{changes_at}
+use Rattle.span_machine_laws.proofs.InPlace.{commits_at, claims}
+
+-- a root row: of a root table, with a key that has a coding
+abbrev pub IsCodedRoot : List Table → Root → Type 0
+IsCodedRoot schema root = (root_of schema root.table ≡ root.table) × IsCodedKey schema root.table root.key
+
+-- the coding of a key, that is not too long
+pub record IsCodedCoding (schema : List Table) (k : List ℕ) : Type 0 where
+  pub is : IsCoding schema k
+  pub short : length (key_code schema is.table is.values) ≤ MOST_BYTES
+
+-- a coded key in its directory
+abbrev pub is_under : List Table → Root → List ℕ → Bool
+is_under schema root k = begins_with k (key_code schema root.table root.key)
+
+-- ---- the versions that commits make at a key
+
+-- the newest version at a key where one row takes the place of another there
+abbrev pub with_change : ℕ → Option (List ℕ) → Option (List ℕ) → List Version → List Version
+with_change ts before after vs = if is_same_row before after then vs else (record { timestamp = ts; row = after }) ∷ vs
+
+-- a directory once a commit's mutations of it have run
+abbrev pub directory_after : List Table → Root → List TableRow → Commit → List TableRow
+directory_after schema root db c = after_mutations schema db (filter (is_at schema root) c.mutations)
+
+-- the versions that commits make at a key of their directory, newest first, in front of those that are there
+abbrev pub made_from : List Table → Root → List ℕ → List TableRow → List Commit → List Version → List Version
+made_from schema root k db [] vs = vs
+made_from schema root k db (c ∷ cs) vs =
+    made_from schema root k (directory_after schema root db c) cs (with_change c.timestamp (row_coded schema db k) (row_coded schema (directory_after schema root db c) k) vs)
+
+abbrev pub made : List Table → Root → List ℕ → List Commit → List Version
+made schema root k commits = made_from schema root k [] commits []
+
+-- at every s the versions have the row that the directory's commits up to s make
+pub record MakeRows (schema : List Table) (root : Root) (k : List ℕ) (commits : List Commit) (vs : List Version) : Type 0 where
+  pub rows : (s : ℕ) → (db : List TableRow) × (apply schema [] (changes_at schema root (filter (λ c. nat_le c.timestamp s) commits)) ≡ Ok db) × (row_coded schema db k ≡ row_at vs s)
+
+-- the versions are those that the directory's commits make, trimmed at the horizon h
+pub record HasRows (schema : List Table) (root : Root) (k : List ℕ) (h : ℕ) (commits : List Commit) (vs : List Version) : Type 0 where
+  pub versions : vs ≡ kept_upto h (made schema root k commits)
+  pub makes : MakeRows schema root k commits (made schema root k commits)
+
+-- what is prepared is the row after, where that is another one
+abbrev pub IsPut : ℕ → Option (List ℕ) → Option (List ℕ) → Option PreparedWrite → Type 0
+IsPut txn before after None = after ≡ before
+IsPut txn before after (Some w) = (w.txn ≡ txn) × (w.row ≡ after) × (after ≢ before)
+
+-- what is prepared is what the transaction's mutations make of the directory after its commits
+pub record IsPreparedBy (schema : List Table) (root : Root) (k : List ℕ) (commits : List Commit) (txn : ℕ) (ms : List CheckedMutation) (prepared : Option PreparedWrite) : Type 0 where
+  pub before : List TableRow
+  pub after : List TableRow
+  pub now : apply schema [] (changes_at schema root commits) ≡ Ok before
+  pub through : apply schema before (filter (is_at schema root) ms) ≡ Ok after
+  pub put : IsPut txn (row_coded schema before k) (row_coded schema after k) prepared
+
+-- the last commit is not applied yet: it is above the horizon, and what is prepared is what it makes
+pub record IsPending (schema : List Table) (root : Root) (k : List ℕ) (h : ℕ) (commits : List Commit) (vs : List Version) (prepared : Option PreparedWrite) (t : OpenTransaction) (ts : ℕ) : Type 0 where
+  pub front : List Commit
+  pub whole : commits ≡ front ++ commit_of ts t ∷ []
+  pub put : IsPreparedBy schema root k front t.number t.mutations prepared
+  pub rows : HasRows schema root k h front vs
+
+-- what is kept at a key of a directory that a transaction claims, by what was decided of it
+abbrev pub IsKeptUnder : List Table → Root → List ℕ → ℕ → List Commit → List Version → Option PreparedWrite → OpenTransaction → Decision → Type 0
+IsKeptUnder schema root k h commits vs prepared t decision.Undecided = IsPreparedBy schema root k commits t.number t.mutations prepared × HasRows schema root k h commits vs
+IsKeptUnder schema root k h commits vs prepared t decision.Aborted = IsPreparedBy schema root k commits t.number t.mutations prepared × HasRows schema root k h commits vs
+IsKeptUnder schema root k h commits vs prepared t (decision.Committed ts) = IsPending schema root k h commits vs prepared t ts
+
+-- what is kept at a key, by the commits of its directory and the transactions that claim it
+abbrev pub IsKeptBy : List Table → Root → List ℕ → ℕ → List Commit → List Version → Option PreparedWrite → List OpenTransaction → Type 0
+IsKeptBy schema root k h commits vs prepared [] = (prepared ≡ None) × HasRows schema root k h commits vs
+IsKeptBy schema root k h commits vs prepared (t ∷ ts) = IsKeptUnder schema root k h commits vs prepared t t.decision
+
+-- the horizon of slot 0
+abbrev pub horizon_in : List SlotState → ℕ
+horizon_in slots = if_some (slice_get slots 0) 0 (λ slot_state. slot_state.horizon)
+
+abbrev pub horizon_of : Machine → ℕ
+horizon_of m = horizon_in m.slots
+
+-- what is kept at a key by a machine
+abbrev pub IsKeptAt : List Table → Machine → List KeyVersions → Root → List ℕ → Type 0
+IsKeptAt schema m cs root k = IsKeptBy schema root k (horizon_of m) (commits_at schema root m.log) (versions_at cs k) (prepared_at cs k) (filter (claims schema root 0) m.transactions)
+
+-- the shard of slot 0 is what the log and the open transactions make it
+pub record AreKept (schema : List Table) (m : Machine) (cs : List KeyVersions) : Type 0 where
+  pub keys : AreInOrder cs
+  pub used : AllByRecursion IsInUse cs
+  pub coded : AllByRecursion (λ c. IsCodedCoding schema c.key) cs
+  pub kept : (root : Root) → IsCodedRoot schema root → (k : List ℕ) → is_under schema root k ≡ true → IsKeptAt schema m cs root k
+
+-- the rows are those of a table of the schema, at s
+pub record HasTable (schema : List Table) (log : List Commit) (s table : ℕ) (rows : List Row) : Type 0 where
+  pub db : List TableRow
+  pub made : tables schema log s ≡ Ok db
+  pub whole : rows ≡ whole_table schema db table
+
+-- a leaf is of a table of the schema, and where a piece covers it, the piece has the rows of that table
+pub record IsLeafPiece (schema : List Table) (log : List Commit) (s : ℕ) (leaf : Leaf) (rows : List Row) : Type 0 where
+  pub of_schema : IsTable schema leaf.table
+  pub read : leaf.covered ≡ true → HasTable schema log s leaf.table rows
+
+-- each leaf and its piece
+abbrev pub AreLeafPieces : List Table → List Commit → ℕ → List Leaf → List (List Row) → Type 0
+AreLeafPieces schema log s [] [] = Unit {0}
+AreLeafPieces schema log s [] (rows ∷ ps) = ⊥
+AreLeafPieces schema log s (l ∷ ls) [] = ⊥
+AreLeafPieces schema log s (l ∷ ls) (rows ∷ ps) = IsLeafPiece schema log s l rows × AreLeafPieces schema log s ls ps
+
+abbrev pub IsPieced : List Table → List Commit → Pieced → Type 0
+IsPieced schema log p = AreLeafPieces schema log p.query.s p.query.leaves p.pieces
+
+abbrev pub ArePieced : List Table → Machine → List Pieced → Type 0
+ArePieced schema m ps = AllByRecursion (IsPieced schema m.log) ps
+
+-- a row as a shard has it
+abbrev pub key_row : List Table → TableRow → KeyRow
+key_row schema r = record { key = code_of schema r; row = row_code r.cells }
+
+-- the keys of a family: all that begin with the number of its root table
+abbrev pub family : ℕ → KeyRange
+family root = record { low = root ∷ []; high = (root + 1) ∷ [] }
+
+-- entries that are the rows of a family, those of table n being all that the database has
+pub record HasRowsOf (schema : List Table) (n : ℕ) (db : List TableRow) (entries : List KeyRow) : Type 0 where
+  pub rows : List TableRow
+  pub typed : AreTyped schema rows
+  pub entries_are : entries ≡ map (key_row schema) rows
+  pub of_table : rows_of n rows ≡ rows_of n db
+
+-- the rows that are read of entries: those of table n, in the order in which its columns are declared
+abbrev pub IsReading : List Table → ℕ → List KeyRow → List (List Value) → Type 0
+IsReading schema n entries shown = (rows : List TableRow) → AreTyped schema rows → entries ≡ map (key_row schema) rows → shown ≡ map (declared_row schema) (rows_of n rows)
