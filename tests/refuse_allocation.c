@@ -1,15 +1,15 @@
-/* Stands before the C library's malloc family under a proved program, by LD_PRELOAD.
- * FAIL_AT=N refuses the Nth growth of memory and no other. At the end it writes how many growths were asked for, on standard error. */
+/* Loaded before the C library's malloc family under a proved program, by LD_PRELOAD.
+ * FAIL_AT=N refuses the Nth allocation and no other. At the end it writes how many allocations were asked for, on standard error. */
 #define _GNU_SOURCE
 #include <dlfcn.h>
 #include <errno.h>
 #include <stdio.h>
 #include <stdlib.h>
 
-static long growths, refused_at = -1;
+static long allocations, refused_at = -1;
 static int is_set_up;
 
-/* Counts a growth, and says whether it is to be refused. */
+/* Counts an allocation, and says whether it is to be refused. */
 static int is_refused(void)
 {
     if (!is_set_up) {
@@ -18,8 +18,8 @@ static int is_refused(void)
         if (number)
             refused_at = atol(number);
     }
-    growths++;
-    return growths == refused_at;
+    allocations++;
+    return allocations == refused_at;
 }
 
 void *malloc(size_t size)
@@ -82,5 +82,5 @@ void *calloc(size_t count, size_t size)
 
 __attribute__((destructor)) static void report(void)
 {
-    fprintf(stderr, "growths %ld\n", growths);
+    fprintf(stderr, "allocations %ld\n", allocations);
 }

@@ -1,17 +1,18 @@
 #!/usr/bin/env python3
-"""Runs each script of tests/span_script_tests through the proved program span_script_tests, and compares what it writes and its exit status.
+"""Runs each script of this folder through the proved program span_script_tests, and compares what it writes and its exit status.
 
-    tests/span_script_tests/run.py                 every row
-    tests/span_script_tests/run.py --growths       and, for each row, each growth of memory refused in turn
-    tests/span_script_tests/run.py --devices       and, for each row, each read and each write failing in turn
-    tests/span_script_tests/run.py NAME ..         these rows alone
+    run.py                  every script
+    run.py --allocations    and, for each script, each allocation refused in turn
+    run.py --devices        and, for each script, each read and each write failing in turn
+    run.py NAME ..          these scripts alone
 
-A row is NAME.script, NAME.expected, NAME.schema where it has a schema of its own (else default.schema), and NAME.status where its exit
-status is not 0. A file that ends in .gz is packed.
+A test is NAME.script, NAME.expected, NAME.schema where it has a schema of its own (else default.schema), and NAME.status where its exit
+status is not 0. A file that ends in .gz is compressed.
 
-With a growth refused, the answers before the line that met it are the row's, and that line is answered `refused 90`; or the program
-ends with status 1 after a beginning of the row's answers. With a device that fails it ends with status 1 after a beginning of them.
+With an allocation refused, the answers before the line that met it are those of NAME.expected, and that line is answered `refused 90`; or the
+program ends with status 1 after a beginning of these answers. With a device that fails it ends with status 1 after a beginning of them.
 """
+import argparse
 import gzip
 import os
 import re
@@ -19,13 +20,13 @@ import subprocess
 import sys
 import tempfile
 
-TOP = os.path.dirname(os.path.dirname(os.path.abspath(__file__)))
-ROWS = os.path.join(TOP, "tests", "rows")
+ROWS = os.path.dirname(os.path.abspath(__file__))
+TOP = os.path.dirname(os.path.dirname(ROWS))
 CRATE = os.path.join(TOP, "crates", "span_script_tests")
 PROGRAM = os.path.join(CRATE, "out", "span_script_tests")
 # How many seconds a run may take.
 LONGEST = 60
-# How often a row's growths are refused at most: a longer row has them refused at as many places, evenly spread.
+# How many allocations of a script are refused at most: of a longer one this many are refused, evenly spread.
 MOST_REFUSALS = 400
 
 
@@ -72,7 +73,7 @@ def build():
     if not os.path.exists(PROGRAM):
         subprocess.run(["rt", "run"], cwd=CRATE, stdout=subprocess.DEVNULL, stderr=subprocess.DEVNULL, check=False)
     if not os.path.exists(PROGRAM):
-        sys.exit("rows: span_script_tests can't be built: run `rt check` in " + CRATE)
+        sys.exit("scripts: span_script_tests can't be built: run `rt check` in " + CRATE)
 
 
 def check_row(row):
@@ -101,16 +102,16 @@ def built_library(folder, name):
     return library
 
 
-def growths_of(errors):
-    found = re.search(rb"^growths (\d+)$", errors, re.M)
+def allocations_of(errors):
+    found = re.search(rb"^allocations (\d+)$", errors, re.M)
     return int(found.group(1)) if found else 0
 
 
-def check_growths(row, library):
-    """Refuses the row's growths in turn: how many were refused, and what is wrong, None where nothing is."""
+def check_allocations(row, library):
+    """Refuses the script's allocations in turn: how many were refused, and what is wrong, None where nothing is."""
     environment = dict(os.environ, LD_PRELOAD=library, FAIL_AT="0")
     _, errors, _ = row.run(environment)
-    most = growths_of(errors)
+    most = allocations_of(errors)
     step = max(1, -(-most // MOST_REFUSALS))
     refused = 0
     for number in range(1, most + 1, step):
@@ -118,7 +119,7 @@ def check_growths(row, library):
         written, _, status = row.run(environment)
         wrong = judge_refusal(row, written, status)
         if wrong:
-            return refused, f"growth {number}: {wrong}"
+            return refused, f"allocation {number}: {wrong}"
         refused += 1
     return refused, None
 
@@ -137,7 +138,7 @@ def check_devices(row, library):
 
 
 def judge_refusal(row, written, status):
-    """What is wrong with a run in which one growth was refused; None where nothing is."""
+    """What is wrong with a run in which one allocation was refused; None where nothing is."""
     if status == 1:
         return None if row.expected.startswith(written) else "status 1, but no beginning of the answers"
     if status != row.status:
@@ -150,34 +151,49 @@ def judge_refusal(row, written, status):
     return None
 
 
-def main(words):
-    names = [word for word in words if not word.startswith("--")] or names_of_rows()
+def arguments():
+    reader = argparse.ArgumentParser(description=__doc__.split("\n", maxsplit=1)[0], allow_abbrev=False)
+    reader.add_argument("--allocations", action="store_true", help="refuse each allocation in turn")
+    reader.add_argument("--devices", action="store_true", help="let each read and each write fail in turn")
+    reader.add_argument("names", nargs="*", metavar="NAME")
+    words = reader.parse_args()
+    for name in words.names:
+        if name not in names_of_rows():
+            reader.error(f"there is no script {name}")
+    return words
+
+
+def checks(words, folder):
+    """What else is checked of each script: a check and the library that it loads before the program."""
+    if words.allocations:
+        yield check_allocations, built_library(folder, "refuse_allocation")
+    if words.devices:
+        yield check_devices, built_library(folder, "fail_device")
+
+
+def main():
+    words = arguments()
     build()
-    passed, failed = 0, 0
+    passed, failed, faults = 0, 0, 0
     with tempfile.TemporaryDirectory() as folder:
-        faults = []
-        if "--growths" in words:
-            faults.append((check_growths, built_library(folder, "refuse_allocation")))
-        if "--devices" in words:
-            faults.append((check_devices, built_library(folder, "fail_device")))
-        runs = 0
-        for name in names:
+        others = list(checks(words, folder))
+        for name in words.names or names_of_rows():
             row = Row(name, folder)
             wrong = check_row(row)
-            for check, library in faults:
+            for check, library in others:
                 if wrong is None:
                     count, wrong = check(row, library)
-                    runs += count
+                    faults += count
             if wrong is None:
                 passed += 1
             else:
                 failed += 1
-                print(f"rows: {name}: {wrong}")
-    if faults:
-        print(f"rows: {runs} faults in turn")
-    print(f"rows: {passed} passed, {failed} failed")
+                print(f"scripts: {name}: {wrong}")
+    if others:
+        print(f"scripts: {faults} faults in turn")
+    print(f"scripts: {passed} passed, {failed} failed")
     return 0 if failed == 0 else 1
 
 
 if __name__ == "__main__":
-    sys.exit(main(sys.argv[1:]))
+    sys.exit(main())

@@ -54,6 +54,9 @@ def found(part, schema, rows):
 
 
 def main(words):
+    if words not in ([], ["write"]):
+        print(__doc__, file=sys.stderr)
+        return 2
     is_writing, status, counts, seen = words == ["write"], 0, collections.Counter(), set()
     for name, schema, rows, path in sets():
         here = parts(path)

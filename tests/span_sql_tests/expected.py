@@ -43,8 +43,8 @@ def answers(lines):
 
 
 def compare(path):
-    """Prints what an output of the program has otherwise, and how many texts it answers alike; whether that is all of them."""
-    lines, alike, all_texts = read(path).split("\n"), 0, 0
+    """Prints what an output of the program has otherwise, and how many texts it answers as wanted; whether that is all of them."""
+    lines, equal, all_texts = read(path).split("\n"), 0, 0
     for name, texts in sets():
         all_texts += len(texts)
         if lines.pop(0) != name:
@@ -54,11 +54,11 @@ def compare(path):
         if len(found) != len(texts):
             print(f"{name}: {len(found)} answers for {len(texts)} texts")
         for (asked, wanted), answer in zip(texts, found):
-            alike += answer == wanted
+            equal += answer == wanted
             if answer != wanted:
                 print("\n".join([f"{name}:", *asked, "  wanted " + " | ".join(wanted), "  found  " + " | ".join(answer), ""]))
-    print(f"{alike} of {all_texts} texts are answered as wanted")
-    return alike == all_texts and lines == [""]
+    print(f"{equal} of {all_texts} texts are answered as wanted")
+    return equal == all_texts and lines == [""]
 
 
 def main(words):
@@ -72,7 +72,7 @@ def main(words):
         return not is_same
     if len(words) == 2 and words[0] == "compare":
         return not compare(words[1])
-    print(__doc__)
+    print(__doc__, file=sys.stderr)
     return 2
 
 
