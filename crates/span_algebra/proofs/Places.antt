@@ -7,7 +7,7 @@ use Rattle.std.proofs.lemmas.List.Folds.{list_any-append}
 use Rattle.span_query.specs.Rows.{Row}
 use Rattle.span_query.specs.Groups.{are_equal, distinct, columns_at, group_keys, rows_with}
 use Rattle.span_algebra.specs.Keys.{contains_row, with_new, place_of}
-use Rattle.span_algebra.proofs.Alike.{are_equal-same, are_equal-itself, are_equal-reverse_if}
+use Rattle.span_algebra.proofs.Alike.{are_equal-same, are_equal-itself, are_equal-reversed}
 use Rattle.span_algebra.proofs.Firsts.{unlike, contains_row-unlike, distinct-more}
 
 -- ---- the place of a key

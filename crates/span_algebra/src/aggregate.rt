@@ -14,7 +14,7 @@ ghost use Rattle.span_algebra.specs.States.{counted, HasCounted, HasTaken, IsSta
 
 use super::row::copy_of;
 use super::sum::{Sum, number};
-use span_expr::cell::{LentValue, Failure};
+use span_expr::cell::{Failure, LentValue};
 use span_expr::eval::evaluate;
 use span_query::query::{Aggregate, Function};
 use span_value::order::compare;

@@ -2,8 +2,8 @@
 use super::Fault;
 use span_core::database::Core;
 use span_core::{
-    Bound, NamedValue, Interval, Mutation, MutationKind, Params, Reply, Seq, Step, Text, Transaction,
-    Value, Verdict,
+    Bound, Interval, Mutation, MutationKind, NamedValue, Params, Reply, Seq, Step, Text,
+    Transaction, Value, Verdict,
 };
 use std::alloc::Global;
 

@@ -9,7 +9,7 @@ ghost use Rattle.span_binder.specs.Sources.{AreTables, HasTables};
 ghost use Rattle.span_binder.specs.Queries as spec;
 
 use super::block::block_of_found;
-use super::bound::{TypedQuery, BoundBlock, BoundBlocks, FromItems, Source};
+use super::bound::{BoundBlock, BoundBlocks, FromItems, Source, TypedQuery};
 use super::join::{add_found_item, start_from};
 use super::order::{first_of, query_of_found, with_block};
 use super::source::{derived_source, named_source};
@@ -100,7 +100,11 @@ impl Binder<'_> {
 
     /// A query, after the leaves before it.
     #[cycle(binding)]
-    fn query(self, tree: &tree::Query, leaves: Seq<usize>) -> Result<(TypedQuery, Seq<usize>), Refusal>
+    fn query(
+        self,
+        tree: &tree::Query,
+        leaves: Seq<usize>,
+    ) -> Result<(TypedQuery, Seq<usize>), Refusal>
         ensures meant { Gives result (spec.query_step self.entry.schema.now self.entry.params.now tree.now leaves) }
         ensures tables { AreTables self.entry.schema.now leaves → HasTables self.entry.schema.now result }
     {

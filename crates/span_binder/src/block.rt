@@ -20,7 +20,10 @@ use sqlite_items::Items;
 use std::alloc::{AllocError, Global};
 
 /// The expressions and the columns of a select list.
-fn split_projection(alloc: Global, projection: Seq<SelectItem>) -> Result<(Items<Expr>, Seq<OutputColumn>), AllocError>
+fn split_projection(
+    alloc: Global,
+    projection: Seq<SelectItem>,
+) -> Result<(Items<Expr>, Seq<OutputColumn>), AllocError>
     ensures { IfOk result (λ parts. (parts.0 ≡ spec.projected_exprs projection) × (parts.1 ≡ spec.projected_columns projection)) }
 {
     let mut exprs = Vec::new(alloc);

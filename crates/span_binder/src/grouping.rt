@@ -3,7 +3,7 @@ ghost use Rattle.std.specs.Prelude.{◌≡◌, IfOk};
 ghost use Rattle.span_typing.specs.Steps.{Gives};
 ghost use Rattle.span_binder.specs.Blocks as spec;
 
-use super::join::{condition, check_bool};
+use super::join::{check_bool, condition};
 use super::output::bind_expr;
 use span_expr::expr::Expr;
 use span_query::query::{Aggregate, Grouping};

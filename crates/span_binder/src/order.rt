@@ -6,7 +6,7 @@ ghost use Rattle.span_typing.specs.Scopes.{is_named, one_place};
 ghost use Rattle.span_typing.specs.Steps.{Gives, and_then};
 ghost use Rattle.span_binder.specs.Queries as spec;
 
-use super::bound::{TypedQuery, BoundBlock, BoundBlocks, OutputColumn};
+use super::bound::{BoundBlock, BoundBlocks, OutputColumn, TypedQuery};
 use super::output::with_one;
 use span_parser::tree;
 use span_parser::tree::SortColumn;

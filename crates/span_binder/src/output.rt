@@ -47,7 +47,12 @@ fn name_at(alloc: Global, scope: &Scope, place: usize) -> Result<Option<Text>, A
 }
 
 /// The column at a place of the FROM. The error is `NotGrouped` where the block is grouped and it is no grouped column.
-fn projected_column(alloc: Global, scope: &Scope, mode: Mode, place: usize) -> Result<SelectItem, Refusal>
+fn projected_column(
+    alloc: Global,
+    scope: &Scope,
+    mode: Mode,
+    place: usize,
+) -> Result<SelectItem, Refusal>
     ensures { Gives result (spec.projected_column scope.now mode place) }
 {
     let typed = column_at(scope, mode, place)?;
@@ -159,7 +164,12 @@ fn project_all(alloc: Global, scope: &Scope, mode: Mode) -> Result<Seq<SelectIte
 
 /// `item.*`
 #[tactic(auto, unfolding(crate::specs::Outputs::project_item))]
-fn project_item(alloc: Global, scope: &Scope, mode: Mode, name: &str) -> Result<Seq<SelectItem>, Refusal>
+fn project_item(
+    alloc: Global,
+    scope: &Scope,
+    mode: Mode,
+    name: &str,
+) -> Result<Seq<SelectItem>, Refusal>
     ensures { Gives result (spec.project_item scope.now mode name.now) }
 {
     let places = item_places(alloc, scope, name)?;
@@ -184,7 +194,10 @@ fn project_value(
 }
 
 /// The output of a star, which has no aggregate.
-fn with_aggregates(projection: Result<Seq<SelectItem>, Refusal>, found: Seq<Aggregate>) -> Result<ProjectionSoFar, Refusal>
+fn with_aggregates(
+    projection: Result<Seq<SelectItem>, Refusal>,
+    found: Seq<Aggregate>,
+) -> Result<ProjectionSoFar, Refusal>
     ensures { Gives result (and_then projection (λ x. Ok (x, found))) }
 {
     Ok((projection?, found))

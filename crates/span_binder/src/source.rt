@@ -4,7 +4,7 @@ ghost use Rattle.span_schema.specs.Numbers.{columns_of, IsTable};
 ghost use Rattle.span_typing.specs.Steps.{Gives, and_then};
 ghost use Rattle.span_binder.specs.Sources as spec;
 
-use super::bound::{TypedQuery, OutputColumn, Source};
+use super::bound::{OutputColumn, Source, TypedQuery};
 use span_query::query::Item;
 use span_schema::schema::Schema;
 use span_schema::table::{Column, kind_of_type};

@@ -10,9 +10,9 @@ ghost use Rattle.span_schema.specs.Numbers.{IsTable, columns_of, column_named, n
 ghost use Rattle.span_command.specs.Columns.{AreBelow, ArePlaces, AreNamed, IsUnplaced, NamesNone};
 ghost use Rattle.span_command.specs.Layouts.{IsFieldCell, IsKeyCell, IsColumnCell, IsOfRecord, IsKeyField, IsCellField, outside_key, AreWithin, IsLayout, IsLayoutOf, IsKeyLayoutOf, LacksKey, HasNoLayout};
 
-use csv::StringRecord;
-use span_mutate::mutation::{NamedValue, Mutation, MutationKind};
 use crate::record_reader::at_comma;
+use csv::StringRecord;
+use span_mutate::mutation::{Mutation, MutationKind, NamedValue};
 use span_schema::schema::Schema;
 use span_schema::table::{Column, kind_of_type};
 use span_value::cell::read_cell;
@@ -123,7 +123,11 @@ fn key_of(alloc: Global, parts: &[KeyField], fields: &StringRecord) -> Result<Se
 }
 
 /// The cells of the columns outside the key. `WrongType`: a field is no cell of its column's type.
-fn cells_of(alloc: Global, parts: &[CellField], fields: &StringRecord) -> Result<Seq<NamedValue>, Refusal>
+fn cells_of(
+    alloc: Global,
+    parts: &[CellField],
+    fields: &StringRecord,
+) -> Result<Seq<NamedValue>, Refusal>
     ensures read { IfOk result (λ cells. AllZip (IsColumnCell (fields_of fields.now)) parts.now cells) }
     ensures refusals { IfErr result (λ why. (why ≡ Refusal.OutOfMemory) ⊎ ((why ≡ Refusal.WrongType) × ((cells : List NamedValue) → ¬ AllZip (IsColumnCell (fields_of fields.now)) parts.now cells))) }
 {

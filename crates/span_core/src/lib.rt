@@ -12,7 +12,7 @@ pub mod slot;
 mod tests;
 
 pub use span_machine::step::{Reply, Step, Verdict};
-pub use span_mutate::mutation::{NamedValue, CheckedMutation, Mutation, MutationKind};
+pub use span_mutate::mutation::{CheckedMutation, Mutation, MutationKind, NamedValue};
 pub use span_mutate::transaction::Transaction;
 pub use span_params::params::{Parameter, Params};
 pub use span_schema::schema::Schema;

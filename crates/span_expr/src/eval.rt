@@ -14,10 +14,10 @@ ghost use Rattle.span_value.specs.declared.truth.Outcome.{Outcome};
 ghost use Rattle.span_value.specs.declared.truth.Outcome.TheVariants as outcome;
 ghost use Rattle.span_value.specs.declared.value.Value.TheVariants as value;
 
-use super::cell::{LentValue, Failure, column_of, lend};
+use super::cell::{Failure, LentValue, column_of, lend};
 use super::condition::{Condition, both, either, either_strict};
 use super::expr::{Arm, Comparison, Expr, Link, Operator, PatternPart};
-use super::operator::{apply, has_prefix, compare, length_of, arithmetic_negation};
+use super::operator::{apply, arithmetic_negation, compare, has_prefix, length_of};
 use super::pattern::fits;
 use span_value::refusal::Refusal;
 use span_value::truth::{Outcome, Truth, not};
@@ -82,14 +82,22 @@ fn length(operand: EvalResult<'_>) -> EvalResult<'_>
     Ok(length_of(&operand?))
 }
 
-fn compare_values<'a>(comparison: Comparison, left: EvalResult<'a>, right: EvalResult<'a>) -> EvalResult<'a>
+fn compare_values<'a>(
+    comparison: Comparison,
+    left: EvalResult<'a>,
+    right: EvalResult<'a>,
+) -> EvalResult<'a>
     ensures { (o p : Outcome) → Gives left.entry o → Gives right.entry p → Gives result (outcomes.strict (operators.compare_values comparison) o p) }
 {
     Ok(compare(comparison, &left?, &right?))
 }
 
 /// A comparison with an operand that is only borrowed.
-fn compare_lent<'a>(comparison: Comparison, left: &EvalResult<'a>, right: EvalResult<'a>) -> EvalResult<'a>
+fn compare_lent<'a>(
+    comparison: Comparison,
+    left: &EvalResult<'a>,
+    right: EvalResult<'a>,
+) -> EvalResult<'a>
     ensures { (o p : Outcome) → Gives left.now o → Gives right.entry p → Gives result (outcomes.strict (operators.compare_values comparison) o p) }
 {
     match left {
@@ -211,7 +219,12 @@ pub fn evaluate<'a>(alloc: Global, expr: &'a Expr, row: &'a [Value]) -> EvalResu
 }
 
 /// An operator applied to the value so far and its operand.
-fn apply_link<'a>(alloc: Global, operator: Operator, so_far: LentValue<'a>, operand: EvalResult<'a>) -> EvalResult<'a>
+fn apply_link<'a>(
+    alloc: Global,
+    operator: Operator,
+    so_far: LentValue<'a>,
+    operand: EvalResult<'a>,
+) -> EvalResult<'a>
     ensures { (o : Outcome) → Gives operand.entry o → Gives result (outcomes.strict (operators.apply_operator operator) (outcome.Val (owned_value so_far.entry)) o) }
 {
     apply(alloc, operator, so_far, &operand?)
@@ -239,7 +252,12 @@ fn apply_links<'a>(
 /// An AND, after its first operand.
 #[cycle(eval)]
 #[tactic(auto, using(crate::proofs::Loops::loop_steps))]
-fn all_of<'a>(alloc: Global, first: EvalResult<'a>, more: &'a [Expr], row: &'a [Value]) -> EvalResult<'a>
+fn all_of<'a>(
+    alloc: Global,
+    first: EvalResult<'a>,
+    more: &'a [Expr],
+    row: &'a [Value],
+) -> EvalResult<'a>
     ensures { (o : Outcome) → Gives first.entry o → Gives result (spec.all_of o (map (spec.val row.now) more.now)) }
 {
     let mut so_far = condition_of(first)?;
@@ -255,7 +273,12 @@ fn all_of<'a>(alloc: Global, first: EvalResult<'a>, more: &'a [Expr], row: &'a [
 /// An OR, after its first operand.
 #[cycle(eval)]
 #[tactic(auto, using(crate::proofs::Loops::loop_steps))]
-fn any_of<'a>(alloc: Global, first: EvalResult<'a>, more: &'a [Expr], row: &'a [Value]) -> EvalResult<'a>
+fn any_of<'a>(
+    alloc: Global,
+    first: EvalResult<'a>,
+    more: &'a [Expr],
+    row: &'a [Value],
+) -> EvalResult<'a>
     ensures { (o : Outcome) → Gives first.entry o → Gives result (spec.any_of o (map (spec.val row.now) more.now)) }
 {
     let mut so_far = condition_of(first)?;
@@ -270,7 +293,12 @@ fn any_of<'a>(alloc: Global, first: EvalResult<'a>, more: &'a [Expr], row: &'a [
 
 /// An IN, after its operand.
 #[cycle(eval)]
-fn in_list<'a>(alloc: Global, operand: &EvalResult<'a>, members: &'a [Expr], row: &'a [Value]) -> EvalResult<'a>
+fn in_list<'a>(
+    alloc: Global,
+    operand: &EvalResult<'a>,
+    members: &'a [Expr],
+    row: &'a [Value],
+) -> EvalResult<'a>
     ensures { (o : Outcome) → Gives operand.now o → Gives result (spec.in_list o (map (spec.val row.now) members.now)) }
 {
     let mut so_far = Condition::Known(Truth::False);

@@ -10,17 +10,17 @@ ghost use Rattle.span_journal.specs.Judged.{as_reply, decision_reply, MayPrepare
 use super::queries::{cover_at, find_query};
 use super::query::KeptQuery;
 use super::slots::{
-    slot_at, coordinator_slot, commit_timestamp, is_ready, is_safe_at, prepare_timestamp, raise_last,
-    risen_floor, set_floor, set_horizon, set_last,
+    commit_timestamp, coordinator_slot, is_ready, is_safe_at, prepare_timestamp, raise_last,
+    risen_floor, set_floor, set_horizon, set_last, slot_at,
 };
 use super::transaction::KeptTransaction;
 use super::transactions::{
-    abort_at, commit_at, copy_mutations, count_prepared, count_undecided, end_prepared_at, find_transaction,
-    has_conflict, check_apply, may_prepare, add_prepared_at, remove_at,
+    abort_at, add_prepared_at, check_apply, commit_at, copy_mutations, count_prepared,
+    count_undecided, end_prepared_at, find_transaction, has_conflict, may_prepare, remove_at,
 };
 use span_machine::slot::SlotState;
 use span_machine::step::Verdict;
-use span_machine::transaction::{Commit, OpenTransaction, Decision, Prepared};
+use span_machine::transaction::{Commit, Decision, OpenTransaction, Prepared};
 use span_mutate::mutation::CheckedMutation;
 use span_mutate::transaction::Transaction;
 use span_query::query::{BoundQuery, Statement};

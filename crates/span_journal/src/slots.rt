@@ -115,7 +115,11 @@ pub(crate) fn last_timestamp(slots: &[SlotState], slot: usize) -> u64
 }
 
 /// The commit timestamp, if there is one left.
-pub(crate) fn commit_timestamp(slots: &[SlotState], prepared: &[Prepared], latest: u64) -> Option<u64>
+pub(crate) fn commit_timestamp(
+    slots: &[SlotState],
+    prepared: &[Prepared],
+    latest: u64,
+) -> Option<u64>
     ensures some { IfSome result (λ ts. (ts ≡ max (greatest prepared.now) (max (latest + 1) (if_some (slice_get slots.now (coordinator_slot prepared.now)) 0 (λ slot_state. slot_state.last) + 1))) × (ts < 2 ^ 62)) }
     ensures none { IfNone result (2 ^ 62 ≤ max (greatest prepared.now) (max (latest + 1) (if_some (slice_get slots.now (coordinator_slot prepared.now)) 0 (λ slot_state. slot_state.last) + 1))) }
 {

@@ -219,7 +219,9 @@ fn calls_and_cases(rt: HostRuntime) -> Result<(), ReadError> {
         "SELECT f(), COUNT(*), if(a, 1, 2), CASE a WHEN 1 THEN 2 WHEN 3 THEN 4 ELSE 5 END, CASE WHEN a THEN b END FROM t",
     )?;
     assert!(rt; is_call(output_expr(&query, 0), "f", 0));
-    assert!(rt; matches!(output_expr(&query, 1), Some(Expr::CallStar(name)) if is_spelt(name, "COUNT")));
+    assert!(rt;
+        matches!(output_expr(&query, 1), Some(Expr::CallStar(name)) if is_spelt(name, "COUNT"))
+    );
     assert!(rt; is_call(output_expr(&query, 2), "if", 3));
     assert!(rt; is_case(output_expr(&query, 3), 2, true));
     assert!(rt; is_case(output_expr(&query, 4), 1, false));

@@ -2,7 +2,7 @@
 ghost use Rattle.std.specs.Prelude.{◌≡◌, ◌+◌, ◌<◌, ◌≤◌, length, IfSome};
 ghost use Rattle.span_lexer.specs.Literals as spec;
 
-use super::character::{from_place, is_octal, is_escape, is_hex};
+use super::character::{from_place, is_escape, is_hex, is_octal};
 
 /// The two kinds of literals in quotes.
 #[derive(Clone, Copy, Debug, PartialEq, Eq)]

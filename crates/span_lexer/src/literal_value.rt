@@ -9,7 +9,7 @@ use span_value::text::Text;
 use std::alloc::{AllocError, Global};
 
 /// The first character of a text, and the rest.
-#[tactic(auto, using(crate::proofs::Reading::reading_steps))]
+#[tactic(auto, using(crate::proofs::Digits::reading_steps))]
 fn first_char(text: &str) -> Option<(char, &str)>
     ensures first { MatchOption result (chars text.now ≡ []) (λ p. chars text.now ≡ p.0 ∷ chars p.1.now) }
     ensures shorter { IfSome result (λ p. length p.1.now < length text.now) }
@@ -32,7 +32,7 @@ fn after_first(text: &str) -> &str
 }
 
 /// The text before the last character; empty for the empty text.
-#[tactic(auto, using(crate::proofs::Reading::last_steps))]
+#[tactic(auto, using(crate::proofs::Digits::last_steps))]
 fn before_last(text: &str) -> &str
     ensures { chars result.now ≡ spec.before_last (chars text.now) }
 {
@@ -51,7 +51,7 @@ fn between_quotes(spelled: &str) -> &str
 }
 
 /// The value of a hexadecimal digit.
-#[tactic(auto, unfolding(crate::specs::Literals::digit))]
+#[tactic(auto, unfolding(crate::specs::LiteralValues::digit))]
 fn digit(c: char) -> u32
     ensures value { result ≡ spec.digit c }
     ensures below { result < 16 }
@@ -68,7 +68,7 @@ fn character(code: u32) -> char
 }
 
 /// The number that the first two digits write, and the rest; none where there are fewer characters.
-#[tactic(auto, using(crate::proofs::Reading::digit_steps))]
+#[tactic(auto, using(crate::proofs::Digits::digit_steps))]
 fn two_digits(text: &str) -> Option<(u32, &str)>
     ensures value { MatchOption result (spec.two_digits (chars text.now) ≡ None) (λ p. spec.two_digits (chars text.now) ≡ Some (p.0, chars p.1.now)) }
     ensures within { IfSome result (λ p. (p.0 < 256) × (length p.1.now ≤ length text.now)) }
@@ -79,7 +79,7 @@ fn two_digits(text: &str) -> Option<(u32, &str)>
 }
 
 /// The same of four digits.
-#[tactic(auto, using(crate::proofs::Reading::pair_steps))]
+#[tactic(auto, using(crate::proofs::Digits::pair_steps))]
 fn four_digits(text: &str) -> Option<(u32, &str)>
     ensures value { MatchOption result (spec.four_digits (chars text.now) ≡ None) (λ p. spec.four_digits (chars text.now) ≡ Some (p.0, chars p.1.now)) }
     ensures within { IfSome result (λ p. (p.0 < 65536) × (length p.1.now ≤ length text.now)) }
@@ -136,7 +136,7 @@ fn read_after_backslash(text: &str) -> (char, &str)
 }
 
 /// The first character of a literal's value, and the rest of its inside; none where nothing is left.
-#[tactic(auto, using(crate::proofs::Meaning::meaning_steps))]
+#[tactic(auto, using(crate::proofs::Escapes::meaning_steps))]
 fn read_char(text: &str) -> Option<(char, &str)>
     ensures first { MatchOption result (spec.decode_all (chars text.now) ≡ []) (λ p. spec.decode_all (chars text.now) ≡ p.0 ∷ spec.decode_all (chars p.1.now)) }
     ensures shorter { IfSome result (λ p. length p.1.now < length text.now) }
@@ -149,7 +149,7 @@ fn read_char(text: &str) -> Option<(char, &str)>
 }
 
 /// The text of a string literal, which is spelt with its quotes. The only error is out of memory.
-#[tactic(auto, using(crate::proofs::Meaning::text_steps))]
+#[tactic(auto, using(crate::proofs::Escapes::text_steps))]
 pub fn text_of(alloc: Global, spelled: &str) -> Result<Text, AllocError>
     ensures { IfOk result (λ text. text ≡ spec.text_of spelled.now) }
 {
@@ -169,7 +169,7 @@ fn as_byte(c: char) -> u8
 }
 
 /// The bytes of a BYTES literal, which is spelt with its `b` and its quotes. The only error is out of memory.
-#[tactic(auto, using(crate::proofs::Meaning::bytes_steps))]
+#[tactic(auto, using(crate::proofs::Escapes::bytes_steps))]
 pub fn bytes_of(alloc: Global, spelled: &str) -> Result<Seq<u8>, AllocError>
     ensures { IfOk result (λ bytes. bytes ≡ spec.bytes_of spelled.now) }
 {

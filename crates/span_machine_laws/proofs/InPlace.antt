@@ -22,7 +22,7 @@ use Rattle.span_machine.specs.Machine.{Machine, holds, is_prepared_at, greatest}
 use Rattle.span_truetime.specs.Time.{timestamp_end}
 use Rattle.std.proofs.Common.{append_assoc}
 use Rattle.span_machine_laws.proofs.Lists.{all_push, filter_swap, all_filtered}
-use Rattle.span_machine_laws.proofs.Ordered.{filter-in_order}
+use Rattle.span_machine_laws.proofs.Ordered.{filter-insertion_sort}
 use Rattle.span_machine_laws.proofs.Locality.{IsRoot, apply-succeeds, empty_database}
 use Rattle.span_machine_laws.proofs.Stability.{changes_at, touches, is_some_of, changes_at-filter, is_before-order, changes_at-cons}
 use Rattle.span_schema.specs.Lineages.{MeetsRules}

@@ -10,7 +10,7 @@ use Rattle.span_machine.specs.Sorting.{in_order}
 use Rattle.span_mutate.specs.Directories.{Root}
 use Rattle.span_machine.specs.Machine.{is_at}
 use Rattle.span_machine.specs.Tables.{is_before, upto, mutations_of}
-use Rattle.span_machine_laws.proofs.Ordered.{IsOrder, filter-in_order}
+use Rattle.span_machine_laws.proofs.Ordered.{IsOrder, filter-insertion_sort}
 
 pub before_by : (t u n k : ℕ) → (nat_lt t u || (t == u && nat_lt n k)) ≡ true → (t < u) ⊎ ((t ≡ u) × (n < k))
 before_by t u n k h = grind (arith, nat_tests)

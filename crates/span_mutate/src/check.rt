@@ -10,7 +10,7 @@ use super::column::{
     cell_column, has_long, has_null, has_wrong_type, have_named_kinds, is_named, is_null_refused,
     is_too_long, lacks_cell, values_named,
 };
-use super::mutation::{NamedValue, CheckedMutation, Mutation, MutationKind, is_delete, may_insert};
+use super::mutation::{CheckedMutation, Mutation, MutationKind, NamedValue, is_delete, may_insert};
 use span_keycode::column::have_kinds;
 use span_keycode::encode::encode_key;
 use span_schema::schema::Schema;

@@ -1,7 +1,7 @@
 //! Copies of mutations, and of the values in them.
 ghost use Rattle.std.specs.Prelude.{◌≡◌, MatchResult};
 
-use super::mutation::{NamedValue, CheckedMutation, Mutation};
+use super::mutation::{CheckedMutation, Mutation, NamedValue};
 use span_value::refusal::Refusal;
 use span_value::seq::Seq;
 use span_value::text::Text;

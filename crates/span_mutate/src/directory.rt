@@ -20,7 +20,10 @@ pub fn is_in_directory_of(
     let root = root_table(schema, other.table);
     let len = key_length(schema, root);
     root_table(schema, mutation.table) == root
-        && begins(first_values(other.key.as_slice(), len), mutation.key.as_slice())
+        && begins(
+            first_values(other.key.as_slice(), len),
+            mutation.key.as_slice(),
+        )
 }
 
 // The root table of a table; for a number that is no table's itself, and for 0 the first table.

@@ -13,7 +13,7 @@ ghost use Rattle.span_mutate.specs.Database.{is_at_or_below, tables_under, casca
 
 use super::copy::copy_of_values;
 use super::mutation::{CheckedMutation, MutationKind, is_delete};
-use super::row::{TableRow, begins, with_row, row_at};
+use super::row::{TableRow, begins, row_at, with_row};
 use span_rowcode::pack::pack;
 use span_schema::schema::Schema;
 use span_schema::table::Table;
@@ -61,7 +61,11 @@ fn tables_under(alloc: Global, schema: &Schema, table: usize) -> Result<Vec<usiz
 }
 
 // The tables below this one whose rows stay.
-fn tables_blocking_delete(alloc: Global, schema: &Schema, table: usize) -> Result<Vec<usize>, AllocError>
+fn tables_blocking_delete(
+    alloc: Global,
+    schema: &Schema,
+    table: usize,
+) -> Result<Vec<usize>, AllocError>
     ensures { IfOk result (λ found. found.items ≡ tables_blocking_delete schema.now table) }
 {
     let mut found = Vec::new(alloc);

@@ -13,7 +13,7 @@ use span_syntax::column::{column, direction};
 use span_syntax::expression::read_expression;
 use span_syntax::fault::SyntaxError;
 use span_syntax::operator::prepend;
-use span_syntax::token::{pair_with, integer_of, integer_value, next_is, spelling, take};
+use span_syntax::token::{integer_of, integer_value, next_is, pair_with, spelling, take};
 use span_syntax::tree::{Column, Expr, Spelling};
 use sqlite_items::Items;
 use std::alloc::Global;
@@ -422,7 +422,10 @@ impl<'t> Clauses<'t> {
 
     /// The condition of a WHERE, if there is one.
     #[tactic(auto, unfolding(crate::specs::Queries::maybe_where))]
-    fn maybe_where<'a>(&self, tokens: &'a [Lexeme]) -> Result<(Option<Expr>, &'a [Lexeme]), SyntaxError>
+    fn maybe_where<'a>(
+        &self,
+        tokens: &'a [Lexeme],
+    ) -> Result<(Option<Expr>, &'a [Lexeme]), SyntaxError>
         requires { self.now.left ≤ limit }
         ensures { Gives result ((spec.maybe_where self.now.text.now self.now.left).read tokens.now) }
     {
@@ -445,7 +448,10 @@ impl<'t> Clauses<'t> {
 
     /// The condition of a HAVING, if there is one.
     #[tactic(auto, unfolding(crate::specs::Queries::maybe_having))]
-    fn maybe_having<'a>(&self, tokens: &'a [Lexeme]) -> Result<(Option<Expr>, &'a [Lexeme]), SyntaxError>
+    fn maybe_having<'a>(
+        &self,
+        tokens: &'a [Lexeme],
+    ) -> Result<(Option<Expr>, &'a [Lexeme]), SyntaxError>
         requires { self.now.left ≤ limit }
         ensures { Gives result ((spec.maybe_having self.now.text.now self.now.left).read tokens.now) }
     {
@@ -458,7 +464,10 @@ impl<'t> Clauses<'t> {
 
     /// `expr [[AS] name]`
     #[tactic(auto, unfolding(crate::specs::Queries::output_expression))]
-    fn output_expression<'a>(&self, tokens: &'a [Lexeme]) -> Result<(Output, &'a [Lexeme]), SyntaxError>
+    fn output_expression<'a>(
+        &self,
+        tokens: &'a [Lexeme],
+    ) -> Result<(Output, &'a [Lexeme]), SyntaxError>
         requires { self.now.left ≤ limit }
         ensures { Gives result ((spec.output_expression self.now.text.now self.now.left).read tokens.now) }
     {
@@ -495,7 +504,10 @@ impl<'t> Clauses<'t> {
 
     /// `{"," out}`
     #[tactic(auto, using(crate::proofs::Falling::loop_steps))]
-    fn output_rest<'a>(&self, tokens: &'a [Lexeme]) -> Result<(Items<Output>, &'a [Lexeme]), SyntaxError>
+    fn output_rest<'a>(
+        &self,
+        tokens: &'a [Lexeme],
+    ) -> Result<(Items<Output>, &'a [Lexeme]), SyntaxError>
         requires { self.now.left ≤ limit }
         ensures { Gives result ((each Part.OutputMore (spec.output_more self.now.text.now self.now.left)).read tokens.now) }
     {
@@ -525,7 +537,10 @@ impl<'t> Clauses<'t> {
 
     /// `ON expr`
     #[tactic(auto, unfolding(crate::specs::Queries::join_on))]
-    pub(crate) fn join_on<'a>(&self, tokens: &'a [Lexeme]) -> Result<(Expr, &'a [Lexeme]), SyntaxError>
+    pub(crate) fn join_on<'a>(
+        &self,
+        tokens: &'a [Lexeme],
+    ) -> Result<(Expr, &'a [Lexeme]), SyntaxError>
         requires { self.now.left ≤ limit }
         ensures { Gives result ((spec.join_on self.now.text.now self.now.left).read tokens.now) }
     {

@@ -17,7 +17,7 @@ use span_grammar::grammar::Part;
 use span_grammar::reader::goes_on;
 use span_lexer::token::{Sign, Word};
 use span_syntax::fault::SyntaxError;
-use span_syntax::token::{pair_with, close_parenthesis, enter, spelling, take};
+use span_syntax::token::{close_parenthesis, enter, pair_with, spelling, take};
 use sqlite_items::{Boxed, Items};
 use std::alloc::Global;
 
@@ -211,7 +211,10 @@ impl<
 
     /// `{UNION ALL block}`
     #[tactic(auto, using(crate::proofs::Falling::loop_steps))]
-    fn union_rest<'a>(&self, tokens: &'a [Lexeme]) -> Result<(Items<Block>, &'a [Lexeme]), SyntaxError>
+    fn union_rest<'a>(
+        &self,
+        tokens: &'a [Lexeme],
+    ) -> Result<(Items<Block>, &'a [Lexeme]), SyntaxError>
         requires nests { NestsQueries self.now.clauses.text.now self.now.clauses.left (F.pre self.now.read) (F.post self.now.read) }
         requires limited { self.now.clauses.left ≤ limit }
         ensures { Gives result ((each Part.UnionMore (spec.union_more self.now.clauses.text.now self.now.clauses.left (spec.nested_query self.now.clauses.text.now self.now.clauses.left))).read tokens.now) }

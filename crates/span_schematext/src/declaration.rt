@@ -20,7 +20,11 @@ use std::alloc::{AllocError, Global};
 
 /// A name.
 #[tactic(auto, unfolding(crate::specs::Declarations::name))]
-fn name<'a>(alloc: Global, text: &[u8], tokens: &'a [Lexeme]) -> Result<(Text, &'a [Lexeme]), SyntaxError>
+fn name<'a>(
+    alloc: Global,
+    text: &[u8],
+    tokens: &'a [Lexeme],
+) -> Result<(Text, &'a [Lexeme]), SyntaxError>
     ensures { Gives result ((spec.name text.now).read tokens.now) }
 {
     let (lexeme, rest) = take(Sort::Name, tokens)?;
@@ -64,7 +68,10 @@ fn in_length(tokens: &[Lexeme]) -> Result<(Option<u64>, &[Lexeme]), SyntaxError>
 
 /// `"(" (int | MAX) ")"`
 #[tactic(auto, unfolding(crate::specs::Declarations::length_parenthesis))]
-fn length_parenthesis(left: usize, tokens: &[Lexeme]) -> Result<(Option<u64>, &[Lexeme]), SyntaxError>
+fn length_parenthesis(
+    left: usize,
+    tokens: &[Lexeme],
+) -> Result<(Option<u64>, &[Lexeme]), SyntaxError>
     ensures { Gives result ((spec.length_parenthesis left).read tokens.now) }
 {
     let (_, rest) = enter(left, Sort::Sign(Sign::Open), tokens)?;

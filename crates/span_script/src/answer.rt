@@ -7,10 +7,10 @@ ghost use Rattle.span_command.specs.Device.{risen};
 
 use itoa::Buffer;
 use span_command::device::Output;
+use span_command::record_writer::rows_text;
 use span_core::database::Core;
 use span_core::slot::SlotReport;
 use span_core::{Refusal, Reply, Row};
-use span_command::record_writer::rows_text;
 use std::alloc::Global;
 use std::marker::Model;
 

@@ -9,12 +9,12 @@ use csv::StringRecord;
 use span_command::command::{Command, read_command};
 use span_command::layout::Layout;
 use span_command::line::Line;
+use span_command::record_reader::read_fields;
 use span_core::database::Core;
 use span_core::{
     Bound, Interval, Kind, Mutation, MutationKind, Params, Refusal, Reply, Step, Text, Transaction,
     Verdict,
 };
-use span_command::record_reader::read_fields;
 use span_value::cell::read_cell;
 use std::alloc::Global;
 use std::mem;

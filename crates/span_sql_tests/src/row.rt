@@ -5,7 +5,7 @@ ghost use Rattle.span_sql_tests.specs.Lines.{insert_line};
 use super::fault::Fault;
 use super::record::fields_of;
 use csv::StringRecord;
-use span_core::{NamedValue, Column, Mutation, MutationKind, Refusal, Schema, Seq, Text, Value};
+use span_core::{Column, Mutation, MutationKind, NamedValue, Refusal, Schema, Seq, Text, Value};
 use span_schema::table::kind_of_type;
 use span_value::cell::read_cell;
 use std::alloc::Global;

@@ -1,7 +1,7 @@
 //! The worked keys, in a table: codings, byte for byte, read again, with their roots and their order.
 use span_keycode::decode::decode_key;
 use span_keycode::encode::encode_key;
-use span_keycode::range::{RangeComparison, KeyRange, range_of};
+use span_keycode::range::{KeyRange, RangeComparison, range_of};
 use span_keycode::root::root_prefix;
 use span_schema::layout::KeyPart;
 use span_schema::schema::Schema;

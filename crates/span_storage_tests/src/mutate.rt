@@ -1,5 +1,5 @@
 //! Transactions on a family of three tables, and rows worked out by hand.
-use span_mutate::mutation::{NamedValue, Mutation, MutationKind};
+use span_mutate::mutation::{Mutation, MutationKind, NamedValue};
 use span_mutate::root::check_root;
 use span_mutate::row::TableRow;
 use span_mutate::transaction::Transaction;

@@ -5,7 +5,7 @@ ghost use Rattle.span_shard.specs.Tested.{IsIdle};
 
 use span_keycode::key::Key;
 use span_keycode::range::KeyRange;
-use span_mutate::mutation::{NamedValue, Mutation, MutationKind};
+use span_mutate::mutation::{Mutation, MutationKind, NamedValue};
 use span_mutate::transaction::Transaction;
 use span_schema::schema::Schema;
 use span_schema::table::{Column, KeyColumn, Parent, Table};

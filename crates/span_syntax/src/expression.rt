@@ -11,10 +11,13 @@ ghost use Rattle.span_syntax.specs.Nests.{Nests, at};
 use super::column::qualified_column;
 use super::fault::SyntaxError;
 use super::operator::{
-    PredicateTest, conjunction_of, chain_of, comparison, maybe_not, null_words, disjunction_of, sum_sign, term_sign, apply_test,
+    PredicateTest, apply_test, chain_of, comparison, conjunction_of, disjunction_of, maybe_not,
+    null_words, sum_sign, term_sign,
 };
 use super::reader::{Level, Reader};
-use super::token::{pair_with, close_parenthesis, enter, integer_of, next_is, span_of, spelling, take};
+use super::token::{
+    close_parenthesis, enter, integer_of, next_is, pair_with, span_of, spelling, take,
+};
 use super::tree::{Expr, Link, Spelling};
 use span_grammar::class::{Lexeme, Sort};
 use span_grammar::grammar::Part;
@@ -24,7 +27,13 @@ use sqlite_items::{Boxed, Items};
 use std::alloc::Global;
 
 impl<
-    F: for<'a> Fn(Global, &[u8], usize, Level, &'a [Lexeme]) -> Result<(Expr, &'a [Lexeme]), SyntaxError>,
+    F: for<'a> Fn(
+        Global,
+        &[u8],
+        usize,
+        Level,
+        &'a [Lexeme],
+    ) -> Result<(Expr, &'a [Lexeme]), SyntaxError>,
 > Reader<'_, F> {
     /// `"(" expr ")"`
     #[tactic(auto, unfolding(crate::specs::Expressions::parenthesis))]
@@ -272,7 +281,10 @@ impl<
 
     /// The operators with their operands.
     #[tactic(auto, using(crate::proofs::Shrinking::loop_steps))]
-    fn term_rest<'a>(&self, tokens: &'a [Lexeme]) -> Result<(Items<Link>, &'a [Lexeme]), SyntaxError>
+    fn term_rest<'a>(
+        &self,
+        tokens: &'a [Lexeme],
+    ) -> Result<(Items<Link>, &'a [Lexeme]), SyntaxError>
         requires nests { Nests self.now.text.now self.now.left (F.pre self.now.read) (F.post self.now.read) }
         requires limited { self.now.left ≤ limit }
         ensures { Gives result ((each Part.TermMore (spec.term_more self.now.text.now self.now.left (spec.after self.now.text.now self.now.left))).read tokens.now) }
@@ -342,7 +354,10 @@ impl<
 
     /// A comparison with an operand.
     #[tactic(auto, unfolding(crate::specs::Expressions::comparison_test))]
-    fn comparison_test<'a>(&self, tokens: &'a [Lexeme]) -> Result<((bool, PredicateTest), &'a [Lexeme]), SyntaxError>
+    fn comparison_test<'a>(
+        &self,
+        tokens: &'a [Lexeme],
+    ) -> Result<((bool, PredicateTest), &'a [Lexeme]), SyntaxError>
         requires nests { Nests self.now.text.now self.now.left (F.pre self.now.read) (F.post self.now.read) }
         requires limited { self.now.left ≤ limit }
         ensures { Gives result ((spec.comparison_test self.now.text.now self.now.left (spec.after self.now.text.now self.now.left)).read tokens.now) }
@@ -354,7 +369,10 @@ impl<
 
     /// `IS [NOT] NULL`
     #[tactic(auto, unfolding(crate::specs::Expressions::is_null))]
-    fn is_null<'a>(&self, tokens: &'a [Lexeme]) -> Result<((bool, PredicateTest), &'a [Lexeme]), SyntaxError>
+    fn is_null<'a>(
+        &self,
+        tokens: &'a [Lexeme],
+    ) -> Result<((bool, PredicateTest), &'a [Lexeme]), SyntaxError>
         requires nests { Nests self.now.text.now self.now.left (F.pre self.now.read) (F.post self.now.read) }
         requires limited { self.now.left ≤ limit }
         ensures { Gives result ((spec.is_null self.now.text.now self.now.left (spec.after self.now.text.now self.now.left)).read tokens.now) }
@@ -388,7 +406,10 @@ impl<
 
     /// `BETWEEN sum AND sum`
     #[tactic(auto, unfolding(crate::specs::Expressions::between))]
-    fn between<'a>(&self, tokens: &'a [Lexeme]) -> Result<(PredicateTest, &'a [Lexeme]), SyntaxError>
+    fn between<'a>(
+        &self,
+        tokens: &'a [Lexeme],
+    ) -> Result<(PredicateTest, &'a [Lexeme]), SyntaxError>
         requires nests { Nests self.now.text.now self.now.left (F.pre self.now.read) (F.post self.now.read) }
         requires limited { self.now.left ≤ limit }
         ensures { Gives result ((spec.between self.now.text.now self.now.left (spec.after self.now.text.now self.now.left)).read tokens.now) }
@@ -413,7 +434,10 @@ impl<
 
     /// LIKE, BETWEEN or IN.
     #[tactic(auto, unfolding(crate::specs::Expressions::negatable_test))]
-    fn negatable_test<'a>(&self, tokens: &'a [Lexeme]) -> Result<(PredicateTest, &'a [Lexeme]), SyntaxError>
+    fn negatable_test<'a>(
+        &self,
+        tokens: &'a [Lexeme],
+    ) -> Result<(PredicateTest, &'a [Lexeme]), SyntaxError>
         requires nests { Nests self.now.text.now self.now.left (F.pre self.now.read) (F.post self.now.read) }
         requires limited { self.now.left ≤ limit }
         ensures { Gives result ((spec.negatable_test self.now.text.now self.now.left (spec.after self.now.text.now self.now.left)).read tokens.now) }
@@ -491,7 +515,10 @@ impl<
 
     /// AND and the operand after it.
     #[tactic(auto, unfolding(crate::specs::Expressions::conjunction_more))]
-    fn conjunction_more<'a>(&self, tokens: &'a [Lexeme]) -> Result<(Expr, &'a [Lexeme]), SyntaxError>
+    fn conjunction_more<'a>(
+        &self,
+        tokens: &'a [Lexeme],
+    ) -> Result<(Expr, &'a [Lexeme]), SyntaxError>
         requires nests { Nests self.now.text.now self.now.left (F.pre self.now.read) (F.post self.now.read) }
         requires limited { self.now.left ≤ limit }
         ensures { Gives result ((spec.conjunction_more self.now.text.now self.now.left (spec.after self.now.text.now self.now.left)).read tokens.now) }

@@ -126,7 +126,11 @@ fn box_first<T: Drop, U: Drop>(alloc: Global, x: T, y: U) -> Result<(Boxed<T>, U
 }
 
 /// Operands of AND.
-pub(crate) fn conjunction_of(alloc: Global, first: Expr, more: Items<Expr>) -> Result<Expr, AllocError>
+pub(crate) fn conjunction_of(
+    alloc: Global,
+    first: Expr,
+    more: Items<Expr>,
+) -> Result<Expr, AllocError>
     ensures { IfOk result (λ x. x ≡ spec.conjunction_of first more) }
 {
     if more.is_empty() {
@@ -138,7 +142,11 @@ pub(crate) fn conjunction_of(alloc: Global, first: Expr, more: Items<Expr>) -> R
 }
 
 /// Operands of OR.
-pub(crate) fn disjunction_of(alloc: Global, first: Expr, more: Items<Expr>) -> Result<Expr, AllocError>
+pub(crate) fn disjunction_of(
+    alloc: Global,
+    first: Expr,
+    more: Items<Expr>,
+) -> Result<Expr, AllocError>
     ensures { IfOk result (λ x. x ≡ spec.disjunction_of first more) }
 {
     if more.is_empty() {
@@ -184,7 +192,12 @@ fn box_three<T: Drop>(
 }
 
 /// Two operands that are compared.
-fn compare_expr(alloc: Global, x: Expr, how: ComparisonOperator, y: Expr) -> Result<Expr, AllocError>
+fn compare_expr(
+    alloc: Global,
+    x: Expr,
+    how: ComparisonOperator,
+    y: Expr,
+) -> Result<Expr, AllocError>
     ensures { IfOk result (λ z. z ≡ Expr.Compare x how y) }
 {
     let (x, y) = box_two(alloc, x, y)?;
@@ -220,7 +233,11 @@ fn test_of(alloc: Global, x: Expr, question: PredicateTest) -> Result<Expr, Allo
 }
 
 /// What is asked of an operand, with it: whether with NOT, and what.
-pub(crate) fn apply_test(alloc: Global, x: Expr, question: (bool, PredicateTest)) -> Result<Expr, AllocError>
+pub(crate) fn apply_test(
+    alloc: Global,
+    x: Expr,
+    question: (bool, PredicateTest),
+) -> Result<Expr, AllocError>
     ensures { IfOk result (λ y. y ≡ spec.apply_test x question) }
 {
     let (is_not, question) = question;

@@ -7,7 +7,7 @@ ghost use Rattle.span_syntax.specs.Nests.{Nests, inner_at};
 
 use super::fault::SyntaxError;
 use super::operator::prepend;
-use super::token::{pair_with, next_is, take};
+use super::token::{next_is, pair_with, take};
 use super::tree::{Arm, Expr, Spelling};
 use span_grammar::class::{Lexeme, Sort};
 use span_grammar::grammar::Part;
@@ -38,7 +38,13 @@ pub(crate) struct Reader<'t, F> {
 }
 
 impl<
-    F: for<'a> Fn(Global, &[u8], usize, Level, &'a [Lexeme]) -> Result<(Expr, &'a [Lexeme]), SyntaxError>,
+    F: for<'a> Fn(
+        Global,
+        &[u8],
+        usize,
+        Level,
+        &'a [Lexeme],
+    ) -> Result<(Expr, &'a [Lexeme]), SyntaxError>,
 > Reader<'_, F> {
     /// What is after an opening.
     #[tactic(auto, using(crate::proofs::Levels::level_steps))]
@@ -69,7 +75,10 @@ impl<
 
     /// `{"," expr}`
     #[tactic(auto, using(crate::proofs::Shrinking::loop_steps))]
-    fn list_rest<'a>(&self, tokens: &'a [Lexeme]) -> Result<(Items<Expr>, &'a [Lexeme]), SyntaxError>
+    fn list_rest<'a>(
+        &self,
+        tokens: &'a [Lexeme],
+    ) -> Result<(Items<Expr>, &'a [Lexeme]), SyntaxError>
         requires nests { Nests self.now.text.now self.now.left (F.pre self.now.read) (F.post self.now.read) }
         requires limited { self.now.left ≤ limit }
         requires deeper { 0 < self.now.left }
@@ -217,7 +226,10 @@ impl<
 
     /// What is after CASE.
     #[tactic(auto, using(crate::specs::declared::tree::Expr::the_lemmas), unfolding(crate::specs::Expressions::in_case, crate::specs::Expressions::case_of))]
-    pub(crate) fn in_case<'a>(&self, tokens: &'a [Lexeme]) -> Result<(Expr, &'a [Lexeme]), SyntaxError>
+    pub(crate) fn in_case<'a>(
+        &self,
+        tokens: &'a [Lexeme],
+    ) -> Result<(Expr, &'a [Lexeme]), SyntaxError>
         requires nests { Nests self.now.text.now self.now.left (F.pre self.now.read) (F.post self.now.read) }
         requires limited { self.now.left ≤ limit }
         requires deeper { 0 < self.now.left }

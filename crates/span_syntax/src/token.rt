@@ -66,7 +66,10 @@ pub fn pair_with<'a, T: Drop, U>(
 
 /// Reads the parenthesis that ends what was read before.
 #[tactic(auto, unfolding(crate::specs::Expressions::close_parenthesis))]
-pub fn close_parenthesis<T: Drop>(found: T, tokens: &[Lexeme]) -> Result<(T, &[Lexeme]), SyntaxError>
+pub fn close_parenthesis<T: Drop>(
+    found: T,
+    tokens: &[Lexeme],
+) -> Result<(T, &[Lexeme]), SyntaxError>
     ensures { Gives result ((spec.close_parenthesis found).read tokens.now) }
 {
     let (_, rest) = take(Sort::Sign(Sign::Close), tokens)?;

@@ -41,7 +41,11 @@ fn exprs_of(alloc: Global, operands: Seq<Typed>) -> Result<Items<Expr>, AllocErr
 
 /// An IN.
 #[tactic(auto, unfolding(crate::specs::Operators::in_list))]
-pub(crate) fn in_list(alloc: Global, operand: TypingResult, members: Result<Seq<Typed>, Refusal>) -> TypingResult
+pub(crate) fn in_list(
+    alloc: Global,
+    operand: TypingResult,
+    members: Result<Seq<Typed>, Refusal>,
+) -> TypingResult
     ensures { Gives result (and_then operand (λ x. and_then members (λ ys. spec.in_list x ys))) }
 {
     let operand = operand?;
@@ -142,7 +146,11 @@ fn case_expr(
 }
 
 #[tactic(auto, unfolding(crate::specs::Operators::case_of))]
-pub(crate) fn case_of_arms(alloc: Global, arms: Seq<TypedArm>, otherwise: Option<Typed>) -> TypingResult
+pub(crate) fn case_of_arms(
+    alloc: Global,
+    arms: Seq<TypedArm>,
+    otherwise: Option<Typed>,
+) -> TypingResult
     ensures { Gives result (spec.case_of arms otherwise) }
 {
     let kind = case_kind(arms.as_slice(), &otherwise)?;

@@ -24,7 +24,10 @@ pub(crate) fn kind_of(found: &TypingResult) -> Option<Kind>
 }
 
 /// What was found before, and one more after it.
-pub(crate) fn push_result<T: Drop>(so_far: Seq<T>, next: Result<T, Refusal>) -> Result<Seq<T>, Refusal>
+pub(crate) fn push_result<T: Drop>(
+    so_far: Seq<T>,
+    next: Result<T, Refusal>,
+) -> Result<Seq<T>, Refusal>
     ensures { Gives result (and_then next (λ x. Ok (so_far ++ x ∷ []))) }
 {
     let next = next?;
@@ -69,7 +72,11 @@ pub(crate) fn arm_of(condition: TypingResult, value: TypingResult) -> Result<Typ
 
 /// An AND, of its first operand and the others.
 #[tactic(auto, unfolding(crate::specs::Typing::all_true))]
-pub(crate) fn all_true(alloc: Global, first: TypingResult, more: Result<Seq<Expr>, Refusal>) -> TypingResult
+pub(crate) fn all_true(
+    alloc: Global,
+    first: TypingResult,
+    more: Result<Seq<Expr>, Refusal>,
+) -> TypingResult
     ensures { Gives result (and_then first (λ x. and_then more (λ es. Ok (spec.all_true x es)))) }
 {
     let first = first?;
@@ -79,7 +86,11 @@ pub(crate) fn all_true(alloc: Global, first: TypingResult, more: Result<Seq<Expr
 
 /// An OR, of its first operand and the others.
 #[tactic(auto, unfolding(crate::specs::Typing::some_true))]
-pub(crate) fn some_true(alloc: Global, first: TypingResult, more: Result<Seq<Expr>, Refusal>) -> TypingResult
+pub(crate) fn some_true(
+    alloc: Global,
+    first: TypingResult,
+    more: Result<Seq<Expr>, Refusal>,
+) -> TypingResult
     ensures { Gives result (and_then first (λ x. and_then more (λ es. Ok (spec.some_true x es)))) }
 {
     let first = first?;

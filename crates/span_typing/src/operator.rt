@@ -181,7 +181,12 @@ fn between_operands(alloc: Global, operand: Typed, low: Typed, high: Typed) -> T
     Ok(typed(test, Kind::Bool))
 }
 
-pub(crate) fn between(alloc: Global, operand: TypingResult, low: TypingResult, high: TypingResult) -> TypingResult
+pub(crate) fn between(
+    alloc: Global,
+    operand: TypingResult,
+    low: TypingResult,
+    high: TypingResult,
+) -> TypingResult
     ensures { Gives result (and_then operand (λ x. and_then low (λ y. and_then high (λ z. spec.between x y z)))) }
 {
     let operand = operand?;
@@ -268,7 +273,11 @@ pub(crate) fn append_link(
 
 /// A chain after its first operand.
 #[tactic(auto, unfolding(crate::specs::Typing::chain_of))]
-pub(crate) fn chain_of(alloc: Global, first: TypingResult, chain: Result<Chain, Refusal>) -> TypingResult
+pub(crate) fn chain_of(
+    alloc: Global,
+    first: TypingResult,
+    chain: Result<Chain, Refusal>,
+) -> TypingResult
     ensures { Gives result (and_then first (λ x. and_then chain (λ c. Ok (chain_of x c)))) }
 {
     let first = first?;

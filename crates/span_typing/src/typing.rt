@@ -10,12 +10,15 @@ ghost use Rattle.span_typing.specs.Operators as operators;
 ghost use Rattle.span_typing.specs.Typing as spec;
 
 use super::call::apply_function;
-use super::choice::{in_list, case_of, match_of};
+use super::choice::{case_of, in_list, match_of};
 use super::function::{CalledFunction, function_named};
 use super::leaf::{aggregate, bytes, call_star, column, null, parameter, string, truth};
-use super::operand::{check_kind, all_true, arm_of, condition_of, kind_of, push_result, some_true, unknown};
+use super::operand::{
+    all_true, arm_of, check_kind, condition_of, kind_of, push_result, some_true, unknown,
+};
 use super::operator::{
-    TypingResult, between, chain_of, comparison_test, logical_not, integer, like_test, append_link, unary_minus, null_test,
+    TypingResult, append_link, between, chain_of, comparison_test, integer, like_test, logical_not,
+    null_test, unary_minus,
 };
 use super::scope::Scope;
 use super::typed::{Chain, Mode, Typed, TypedArm};
@@ -315,7 +318,11 @@ impl Names<'_> {
                 let operands = self.each(Mode::Rows, operands, found);
                 aggregate(self.scope, mode, function, operands, found)
             }
-            Some(function) => apply_function(self.alloc, function, self.each(mode, operands, found)),
+            Some(function) => apply_function(
+                self.alloc,
+                function,
+                self.each(mode, operands, found),
+            ),
         }
     }
 

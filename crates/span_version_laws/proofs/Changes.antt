@@ -38,7 +38,7 @@ use Rattle.span_machine.specs.Machine.{Machine, is_at}
 use Rattle.span_machine.specs.Kept.{Change, has_same_key, is_same, put_at, deletion_at, changes_between, ok_or, after_mutations, changes_from, database_after, changes_of, database_of}
 use Rattle.span_machine_laws.proofs.Lists.{filter_swap, found_passes}
 use Rattle.span_machine_laws.proofs.Locality.{apply-directory, apply-database, empty_database, ok_same}
-use Rattle.span_machine_laws.proofs.Ordered.{all_placed, filter-in_order}
+use Rattle.span_machine_laws.proofs.Ordered.{all_placed, filter-insertion_sort}
 use Rattle.span_machine_laws.proofs.Stability.{is_before-order, touches, none_of}
 use Rattle.span_machine_laws.proofs.InPlace.{IsRising, commits_at, front_through, in_order_rising}
 use Rattle.span_machine_laws.proofs.Claims.{all_kept}

@@ -37,7 +37,7 @@ use Rattle.span_machine.specs.Kept.{Change, put_at, deletion_at, is_same, has_sa
 use Rattle.span_machine_laws.proofs.Tests.{first_true, both_of}
 use Rattle.span_machine_laws.proofs.Lists.{IsIn, kept_in, all_in, all_found, all_filtered}
 use Rattle.span_machine_laws.proofs.Locality.{IsRoot, own_root, apply-succeeds, apply-directory, empty_database, ok_same}
-use Rattle.span_machine_laws.proofs.Ordered.{filter-in_order}
+use Rattle.span_machine_laws.proofs.Ordered.{filter-insertion_sort}
 use Rattle.span_machine_laws.proofs.Stability.{is_before-order, touches, is_some_of, none_of, changes_at, changes_at-cons, changes_at-filter}
 use Rattle.span_machine_laws.proofs.InPlace.{commits_at, claims, IsClaim, front_through, in_order_rising}
 use Rattle.span_machine_laws.proofs.Claims.{some_any, all_kept}

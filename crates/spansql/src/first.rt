@@ -8,7 +8,7 @@ use super::fault::Fault;
 use span_core::run::run as run_steps;
 use span_core::{Bound, Interval, Params, Refusal, Row, Seq, Text, Value};
 use span_machine::step::{Reply, Step, Verdict};
-use span_mutate::mutation::{NamedValue, Mutation, MutationKind};
+use span_mutate::mutation::{Mutation, MutationKind, NamedValue};
 use span_mutate::transaction::Transaction;
 use span_schema::schema::Schema;
 use span_schema::table::{Column, KeyColumn, Table};
