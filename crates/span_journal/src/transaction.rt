@@ -2,7 +2,7 @@
 ghost use Rattle.std.specs.Prelude.{◌≡◌, true, filter, not, ◌==◌, IfOk, OnOk, OnErr};
 ghost use Rattle.span_machine.specs.Machine.{with_decision, is_undecided, commit_of, add_prepared, without_prepared};
 
-use span_machine::transaction::{Commit, OpenTransaction, Decision, Prepared};
+use span_machine::transaction::{Commit, Decision, OpenTransaction, Prepared};
 use span_mutate::mutation::CheckedMutation;
 use span_value::seq::Seq;
 use std::alloc::{AllocError, Global};

@@ -165,7 +165,12 @@ pub(crate) fn abort_at(transactions: &mut Vec<KeptTransaction>, at: usize)
 }
 
 /// Notes that the transaction at a place is prepared at the slot no more.
-fn remove_prepared_at(alloc: Global, transactions: &mut Vec<KeptTransaction>, at: usize, slot: usize)
+fn remove_prepared_at(
+    alloc: Global,
+    transactions: &mut Vec<KeptTransaction>,
+    at: usize,
+    slot: usize,
+)
     requires { at < length transactions.old.items }
     ensures after { IfSome (slice_get transactions.old.items at) (λ t. transactions.new.items ≡ slice_set transactions.old.items at (without_prepared slot t)) }
     ensures fewer { count_by is_undecided transactions.new.items ≤ count_by is_undecided transactions.old.items }
@@ -174,7 +179,12 @@ fn remove_prepared_at(alloc: Global, transactions: &mut Vec<KeptTransaction>, at
 }
 
 /// Ends what the transaction at a place has at the slot: it is prepared there no more, and leaves once it is prepared nowhere.
-pub(crate) fn end_prepared_at(alloc: Global, transactions: &mut Vec<KeptTransaction>, at: usize, slot: usize)
+pub(crate) fn end_prepared_at(
+    alloc: Global,
+    transactions: &mut Vec<KeptTransaction>,
+    at: usize,
+    slot: usize,
+)
     requires { at < length transactions.old.items }
     ensures after { IfSome (slice_get transactions.old.items at) (λ t. transactions.new.items ≡
         (if length (without_prepared slot t).prepared == 0 then remove transactions.old.items at else slice_set transactions.old.items at (without_prepared slot t))) }
