@@ -6,7 +6,7 @@ use Rattle.span_value.specs.declared.refusal.Refusal.{Refusal}
 use Rattle.span_value.specs.declared.refusal.Refusal.TheVariants as refusal
 use Rattle.span_schema.specs.declared.table.Table.{Table}
 use Rattle.span_mutate.specs.declared.mutation.CheckedMutation.{CheckedMutation}
-use Rattle.span_truetime.specs.Time.{timestamp_end}
+use Rattle.span_truetime.specs.Limits.{timestamp_end}
 use Rattle.span_machine.specs.declared.slot.SlotState.{SlotState}
 use Rattle.span_machine.specs.declared.transaction.Prepared.{Prepared}
 use Rattle.span_machine.specs.declared.transaction.OpenTransaction.{OpenTransaction}

@@ -7,7 +7,7 @@ use Rattle.span_value.specs.declared.refusal.Refusal.TheVariants.{OutOfMemory, T
 use Rattle.span_schema.specs.declared.table.Table.{Table}
 use Rattle.span_mutate.specs.declared.mutation.CheckedMutation.{CheckedMutation}
 use Rattle.span_truetime.specs.declared.interval.Interval.{Interval}
-use Rattle.span_truetime.specs.Time.{timestamp_end}
+use Rattle.span_truetime.specs.Limits.{timestamp_end}
 use Rattle.span_machine.specs.declared.step.Reply.{Reply}
 use Rattle.span_machine.specs.declared.step.Reply.TheVariants as reply
 use Rattle.span_machine.specs.declared.slot.SlotState.{SlotState}

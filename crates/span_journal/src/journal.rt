@@ -1,6 +1,8 @@
 //! The journal and its calls.
 ghost use Rattle.std.specs.Prelude.{◌≡◌, ℕ, List, ◌<◌, ◌+◌, ◌^◌, [], ◌∷◌, ◌++◌, length, count_by, IfOk, IfErr, OnOk, OnErr, Some, None, Ok, true};
 ghost use Rattle.span_machine.specs.Machine.{Answers, IsAnswer, start, is_undecided, is_query, commit_refusal, commit_timestamp, begin, begun, prepare, decide, apply_step, advance, trim, trim_refusal, open_query, open_refusal, scan, finish, close, refused, without_first, is_prepared_at};
+ghost use Rattle.span_journal.specs.declared.journal.TheConstants.{MOST_TRANSACTIONS, MOST_COMMITS, MOST_QUERIES, NUMBER_END};
+ghost use Rattle.span_machine.specs.Limits.{most_transactions, most_commits, most_queries, number_end};
 ghost use Rattle.span_truetime.specs.Time.{timestamp_of};
 ghost use Rattle.span_schema.specs.declared.table.Table.{Table};
 ghost use Rattle.span_machine.specs.Pieces.{machine_of, unread};
@@ -45,6 +47,14 @@ pub const MOST_QUERIES: usize = 64;
 /// Numbers of transactions and of queries are below this.
 pub const NUMBER_END: u64 = 1 << 63;
 
+/// The limits are those that the machine's definition names.
+pub fn limits_are_stated()
+    ensures transactions { MOST_TRANSACTIONS ≡ most_transactions }
+    ensures commits { MOST_COMMITS ≡ most_commits }
+    ensures queries { MOST_QUERIES ≡ most_queries }
+    ensures numbers { NUMBER_END ≡ number_end }
+{}
+
 /// What is to be read for a leaf of a query.
 #[derive(Clone, Copy, Debug, PartialEq, Eq)]
 pub struct Gap {
@@ -68,6 +78,7 @@ pub struct Journal {
 
 impl Model for Journal {
     ghost use Rattle.std.specs.Prelude.{◌+◌, ◌≤◌, count_by, vec_len, vec_capacity};
+    ghost use Rattle.span_machine.specs.Limits.{most_commits};
     ghost use Rattle.span_machine.specs.Machine.{is_undecided};
     ghost use Rattle.span_machine.specs.Pieces.{Journaled};
     ghost use Rattle.span_query.specs.contracts.query.BoundQuery as bound_query;
@@ -87,7 +98,7 @@ impl Model for Journal {
     } };
 
     ghost invariant = { λ a. record {
-      few : vec_len a.log + count_by is_undecided a.transactions.items ≤ 65536;
+      few : vec_len a.log + count_by is_undecided a.transactions.items ≤ most_commits;
       room : vec_len a.log + count_by is_undecided a.transactions.items ≤ vec_capacity a.log;
     } };
 }
@@ -156,8 +167,8 @@ impl Journal {
         owner: u64,
         transaction: Transaction,
     ) -> Result<u64, Refusal>
-        requires few { length self.old.log + count_by is_undecided self.old.transactions < 65536 }
-        requires last { self.old.next_transaction < 2 ^ 63 }
+        requires few { length self.old.log + count_by is_undecided self.old.transactions < most_commits }
+        requires last { self.old.next_transaction < number_end }
         requires undecided { undecided ≡ count_by is_undecided self.old.transactions }
         ensures number { IfOk result (λ n. n ≡ self.old.next_transaction) }
         ensures ok { OnOk result (machine_of self.new ≡ (begun (machine_of self.old) owner transaction).1) }
@@ -409,7 +420,7 @@ impl Journal {
     fn check_open(&self, bound: Bound, interval: Interval) -> Result<u64, Refusal>
         ensures accepted { IfOk result (λ s. (open_refusal (machine_of self.now) s ≡ None) × (s ≡ timestamp_of bound interval)) }
         ensures refused { IfErr result (λ why. open_refusal (machine_of self.now) (timestamp_of bound interval) ≡ Some why) }
-        ensures few { OnOk result (self.now.next_query < 2 ^ 63) }
+        ensures few { OnOk result (self.now.next_query < number_end) }
     {
         match choose(bound, interval) {
             Ok(s) => {

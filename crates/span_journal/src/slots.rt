@@ -3,6 +3,7 @@ ghost use Rattle.std.specs.Prelude.{◌≡◌, ◌<◌, ◌≤◌, ◌+◌, ◌^
 ghost use Rattle.std.specs.List.{list_any, list_all};
 ghost use Rattle.std.specs.Option.{option_copied};
 ghost use Rattle.span_machine.specs.Machine.{greatest, holds, root_at, if_some, lowest_slot, coordinator_slot, with_last, prepare_timestamp, with_risen_floor};
+ghost use Rattle.span_truetime.specs.Limits.{timestamp_end};
 
 use super::transaction::KeptTransaction;
 use span_machine::slot::SlotState;
@@ -120,12 +121,12 @@ pub(crate) fn commit_timestamp(
     prepared: &[Prepared],
     latest: u64,
 ) -> Option<u64>
-    ensures some { IfSome result (λ ts. (ts ≡ max (greatest prepared.now) (max (latest + 1) (if_some (slice_get slots.now (coordinator_slot prepared.now)) 0 (λ slot_state. slot_state.last) + 1))) × (ts < 2 ^ 62)) }
-    ensures none { IfNone result (2 ^ 62 ≤ max (greatest prepared.now) (max (latest + 1) (if_some (slice_get slots.now (coordinator_slot prepared.now)) 0 (λ slot_state. slot_state.last) + 1))) }
+    ensures some { IfSome result (λ ts. (ts ≡ max (greatest prepared.now) (max (latest + 1) (if_some (slice_get slots.now (coordinator_slot prepared.now)) 0 (λ slot_state. slot_state.last) + 1))) × (ts < timestamp_end)) }
+    ensures none { IfNone result (timestamp_end ≤ max (greatest prepared.now) (max (latest + 1) (if_some (slice_get slots.now (coordinator_slot prepared.now)) 0 (λ slot_state. slot_state.last) + 1))) }
 {
     let last = last_timestamp(slots, coordinator_slot(prepared));
     let greatest = greatest_timestamp(prepared);
-    if latest >= (1 << 62) - 1 || last >= (1 << 62) - 1 || greatest >= 1 << 62 {
+    if latest >= TIMESTAMP_END - 1 || last >= TIMESTAMP_END - 1 || greatest >= TIMESTAMP_END {
         return None;
     }
     Some(greatest.max((latest + 1).max(last + 1)))
@@ -167,8 +168,8 @@ fn are_above(prepared: &[Prepared], slot: usize, s: u64) -> bool
 
 /// The next prepare timestamp of the slot, if there is one left.
 pub(crate) fn prepare_timestamp(slot_state: &SlotState) -> Option<u64>
-    ensures some { IfSome result (λ ts. (ts ≡ prepare_timestamp slot_state.now) × (ts < 2 ^ 62)) }
-    ensures none { IfNone result (2 ^ 62 ≤ prepare_timestamp slot_state.now) }
+    ensures some { IfSome result (λ ts. (ts ≡ prepare_timestamp slot_state.now) × (ts < timestamp_end)) }
+    ensures none { IfNone result (timestamp_end ≤ prepare_timestamp slot_state.now) }
 {
     let last = slot_state.last.max(slot_state.floor);
     if last >= TIMESTAMP_END - 1 {

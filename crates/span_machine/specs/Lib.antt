@@ -1,3 +1,4 @@
+pub mod Limits
 pub mod Sorting
 pub mod Tables
 pub mod Meaning

@@ -16,7 +16,9 @@ use Rattle.span_truetime.specs.declared.bound.Bound.{Bound}
 use Rattle.span_params.specs.declared.params.Parameter.{Parameter}
 use Rattle.span_query.specs.declared.query.Statement.{Statement}
 use Rattle.span_query.specs.Rows.{Row, Rows}
-use Rattle.span_truetime.specs.Time.{timestamp_end, timestamp_of}
+use Rattle.span_machine.specs.Limits.{most_transactions, most_commits, most_queries, number_end}
+use Rattle.span_truetime.specs.Limits.{timestamp_end}
+use Rattle.span_truetime.specs.Time.{timestamp_of}
 use Rattle.span_truetime.specs.declared.interval.Interval.{Interval}
 use Rattle.span_machine.specs.declared.transaction.Prepared.{Prepared}
 use Rattle.span_machine.specs.declared.transaction.Decision.{Decision}
@@ -137,8 +139,8 @@ is_undecided t = undecided t.decision
 
 abbrev pub begin_refusal : Machine → Option Refusal
 begin_refusal m = first_cause (
-    (nat_le 256 (length m.transactions) || nat_le (2 ^ 63) m.next_transaction, refusal.TransactionTableFull)
-    ∷ (nat_le 65536 (length m.log + count_by is_undecided m.transactions), refusal.LogFull) ∷ [])
+    (nat_le most_transactions (length m.transactions) || nat_le number_end m.next_transaction, refusal.TransactionTableFull)
+    ∷ (nat_le most_commits (length m.log + count_by is_undecided m.transactions), refusal.LogFull) ∷ [])
 
 abbrev pub begun : Machine → ℕ → List CheckedMutation → Answer
 begun m owner ms = (
@@ -338,7 +340,7 @@ trim schema m slot h = for_slot m slot (trim_slot schema m slot h)
 abbrev pub open_refusal : Machine → ℕ → Option Refusal
 open_refusal m s = first_cause (
     (nat_le timestamp_end s, refusal.TimestampRange)
-    ∷ (nat_le 64 (length m.queries) || nat_le (2 ^ 63) m.next_query, refusal.QueryTableFull) ∷ [])
+    ∷ (nat_le most_queries (length m.queries) || nat_le number_end m.next_query, refusal.QueryTableFull) ∷ [])
 
 -- a leaf that no piece covers
 abbrev pub uncovered : ℕ → Leaf

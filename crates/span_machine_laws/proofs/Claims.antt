@@ -17,7 +17,7 @@ use Rattle.span_mutate.specs.Directories.{Root, AreKeyed, directory}
 use Rattle.span_machine.specs.Machine.{is_at, root_at}
 use Rattle.span_machine.specs.Tables.{upto, mutations_of, tables}
 use Rattle.span_machine.specs.Machine.{Machine, holds, changed_first, without_first, is_prepared_at, greatest, with_last, if_some, have_common_root, mutations_in, mutations_refusal, refusal_of, is_prepared_for, prepare_timestamp}
-use Rattle.span_truetime.specs.Time.{timestamp_end}
+use Rattle.span_truetime.specs.Limits.{timestamp_end}
 use Rattle.span_machine_laws.proofs.Tests.{first_true, second_true, first_or, second_or, first_none, second_none, both_true, equal_number, no_length}
 use Rattle.span_machine_laws.proofs.Lists.{slice_get-set, set_here, split_found, not_nil, both_nil, all_filtered}
 use Rattle.span_machine_laws.proofs.Locality.{IsRoot, own_root, apply-directory, apply-database, empty_database}

@@ -19,7 +19,7 @@ use Rattle.span_machine.specs.Machine.{is_at}
 use Rattle.span_machine.specs.Sorting.{placed, in_order}
 use Rattle.span_machine.specs.Tables.{is_before, upto, mutations_of, tables}
 use Rattle.span_machine.specs.Machine.{Machine, holds, is_prepared_at, greatest}
-use Rattle.span_truetime.specs.Time.{timestamp_end}
+use Rattle.span_truetime.specs.Limits.{timestamp_end}
 use Rattle.std.proofs.Common.{append_assoc}
 use Rattle.span_machine_laws.proofs.Lists.{all_push, filter_swap, all_filtered}
 use Rattle.span_machine_laws.proofs.Ordered.{filter-insertion_sort}

@@ -13,7 +13,8 @@ use Rattle.span_machine.specs.declared.transaction.Decision.TheVariants as decis
 use Rattle.span_mutate.specs.Directories.{Root}
 use Rattle.span_machine.specs.Machine.{is_at}
 use Rattle.span_machine.specs.Machine.{Machine, changed_first, without_first, is_prepared_at, greatest, with_last, mutations_in, mutations_refusal, is_undecided, is_prepared_for, answer, begun, prepare_timestamp, prepare_refusal, prepared, has_conflict, add_prepared, is_transaction, is_query, is_all_prepared, coordinator_slot, commit_timestamp, commit_of, committed, aborted, with_decision, without_prepared, applied, applied_at, advanced, opened, with_risen_floor, with_slot_state, cover, closed, start, trimmed}
-use Rattle.span_truetime.specs.Time.{timestamp_end, timestamp_of}
+use Rattle.span_truetime.specs.Limits.{timestamp_end}
+use Rattle.span_truetime.specs.Time.{timestamp_of}
 use Rattle.span_machine.specs.declared.step.Step.{Step}
 use Rattle.span_truetime.specs.declared.interval.Interval.{Interval}
 use Rattle.span_machine_laws.proofs.Causes.{may_prepare, may_commit, undecided_is}

@@ -16,7 +16,8 @@ use Rattle.span_machine.specs.Machine.{is_at, root_at}
 use Rattle.span_machine.specs.Tables.{upto}
 use Rattle.span_value.specs.declared.refusal.Refusal.TheVariants as refusal
 use Rattle.span_machine.specs.Machine.{begun, prepare_timestamp, prepared, is_query, Machine, Answer, answer, refused, holds, if_some, changed_first, is_transaction, is_all_prepared, is_prepared_for, greatest, commit_timestamp, commit_refusal, commit_of, committed, aborted, is_undecided, coordinator_slot, applied, applied_at, advanced, opened, with_risen_floor, with_slot_state, cover, answer_on, meaning, closed, with_last, add_prepared, with_decision, without_prepared, trimmed}
-use Rattle.span_truetime.specs.Time.{timestamp_end, timestamp_of}
+use Rattle.span_truetime.specs.Limits.{timestamp_end}
+use Rattle.span_truetime.specs.Time.{timestamp_of}
 use Rattle.span_machine.specs.declared.step.Reply.TheVariants as reply
 use Rattle.span_machine.specs.declared.step.Reply.TheVariants.{Refused}
 use Rattle.span_machine_laws.proofs.Causes.{may_commit}

@@ -7,7 +7,8 @@ use Rattle.span_value.specs.declared.refusal.Refusal.{Refusal}
 use Rattle.span_value.specs.declared.refusal.Refusal.TheVariants as refusal
 use Rattle.span_truetime.specs.declared.bound.Bound.{Bound}
 use Rattle.span_truetime.specs.declared.interval.Interval.{Interval}
-use Rattle.span_truetime.specs.Time.{timestamp_end, timestamp_of}
+use Rattle.span_truetime.specs.Limits.{timestamp_end}
+use Rattle.span_truetime.specs.Time.{timestamp_of}
 use Rattle.span_params.specs.declared.params.Parameter.{Parameter}
 use Rattle.span_query.specs.declared.query.Statement.{Statement}
 use Rattle.span_machine.specs.declared.query.OpenQuery.{OpenQuery}

@@ -1,11 +1,7 @@
-use Rattle.std.specs.Prelude.{ℕ, ◌^◌}
+use Rattle.std.specs.Prelude.{ℕ}
 use Rattle.span_truetime.specs.declared.bound.Bound.{Bound}
 use Rattle.span_truetime.specs.declared.bound.Bound.TheVariants.{Strong, At}
 use Rattle.span_truetime.specs.declared.interval.Interval.{Interval}
-
--- timestamps are below this
-abbrev pub timestamp_end : ℕ
-timestamp_end = 2 ^ 62
 
 -- the timestamp that a bound asks for, under a clock's answer
 abbrev pub timestamp_of : Bound → Interval → ℕ

@@ -1,5 +1,6 @@
 //! The timestamp that a query reads at.
-ghost use Rattle.std.specs.Prelude.{◌≡◌, ◌<◌, ◌≤◌, ◌^◌, IfOk, IfErr, IsOk};
+ghost use Rattle.std.specs.Prelude.{◌≡◌, ◌<◌, ◌≤◌, IfOk, IfErr, IsOk};
+ghost use Rattle.span_truetime.specs.Limits.{timestamp_end};
 ghost use Rattle.span_truetime.specs.Time.{timestamp_of};
 
 use super::interval::{Interval, TIMESTAMP_END};
@@ -16,9 +17,9 @@ pub enum Bound {
 
 /// The timestamp that the bound asks for. `TimestampRange` where it is none.
 pub fn choose(bound: Bound, interval: Interval) -> Result<u64, Refusal>
-    ensures chosen { IfOk result (λ s. (s ≡ timestamp_of bound interval) × (s < 2 ^ 62)) }
-    ensures accepted { timestamp_of bound interval < 2 ^ 62 → IsOk result }
-    ensures refused { IfErr result (λ why. (why ≡ Refusal.TimestampRange) × (2 ^ 62 ≤ timestamp_of bound interval)) }
+    ensures chosen { IfOk result (λ s. (s ≡ timestamp_of bound interval) × (s < timestamp_end)) }
+    ensures accepted { timestamp_of bound interval < timestamp_end → IsOk result }
+    ensures refused { IfErr result (λ why. (why ≡ Refusal.TimestampRange) × (timestamp_end ≤ timestamp_of bound interval)) }
 {
     let s = match bound {
         Bound::Strong => interval.latest,

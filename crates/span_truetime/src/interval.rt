@@ -1,10 +1,17 @@
 //! A clock's answer.
-ghost use Rattle.std.specs.Prelude.{◌≡◌, ◌↔◌, ◌<◌, ◌≤◌, ◌^◌, IsTrue, IfOk, IsErrOf, IsOk};
+ghost use Rattle.std.specs.Prelude.{◌≡◌, ◌↔◌, ◌<◌, ◌≤◌, IsTrue, IfOk, IsErrOf, IsOk};
+ghost use Rattle.span_truetime.specs.Limits.{timestamp_end};
+ghost use Rattle.span_truetime.specs.declared.interval.TheConstants.{TIMESTAMP_END};
 
 use span_value::refusal::Refusal;
 
 /// Timestamps are whole numbers below this.
 pub const TIMESTAMP_END: u64 = 1 << 62;
+
+/// The limit is the one that definitions name.
+pub fn limit_is_stated()
+    ensures { TIMESTAMP_END ≡ timestamp_end }
+{}
 
 /// What a clock answers: the true time of the call is from `earliest` to `latest`, both included.
 #[derive(Clone, Copy, Debug, PartialEq, Eq)]
@@ -12,7 +19,7 @@ pub struct Interval {
     pub earliest: u64,
     pub latest: u64,
     pub ghost ordered: { earliest ≤ latest },
-    pub ghost in_range: { latest < 2 ^ 62 },
+    pub ghost in_range: { latest < timestamp_end },
 }
 
 impl Interval {
@@ -21,8 +28,8 @@ impl Interval {
     pub fn new(earliest: u64, latest: u64) -> Result<Interval, Refusal>
         ensures ok { IfOk result (λ interval. (interval.earliest ≡ earliest) × (interval.latest ≡ latest)) }
         ensures reversed { IsErrOf result Refusal.BadInterval ↔ (latest < earliest) }
-        ensures late { IsErrOf result Refusal.TimestampRange ↔ ((earliest ≤ latest) × (2 ^ 62 ≤ latest)) }
-        ensures accepted { earliest ≤ latest → latest < 2 ^ 62 → IsOk result }
+        ensures late { IsErrOf result Refusal.TimestampRange ↔ ((earliest ≤ latest) × (timestamp_end ≤ latest)) }
+        ensures accepted { earliest ≤ latest → latest < timestamp_end → IsOk result }
     {
         if earliest > latest {
             return Err(Refusal::BadInterval);

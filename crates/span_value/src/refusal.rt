@@ -2,7 +2,7 @@
 //!
 //! Every layer refuses with one of these, so that a refusal passes through all of them as it is.
 ghost use Rattle.std.specs.Prelude.{◌≡◌};
-ghost use Rattle.span_value.specs.Refusals.{number_of};
+ghost use Rattle.span_value.specs.Refusals.{number_of, name_of, message_of};
 
 use std::alloc::{AllocError, AllocFailed};
 use std::error::Error;
@@ -200,6 +200,224 @@ impl Refusal {
             Refusal::InputFault => 82,
             Refusal::OutputFault => 83,
             Refusal::OutOfMemory => 90,
+        }
+    }
+
+    /// The name of the refusal, one word, as docs/REFUSALS.md lists it.
+    pub fn name(self) -> &'static str
+        ensures { result.now ≡ name_of self }
+    {
+        match self {
+            Refusal::TextTooLong => "TextTooLong",
+            Refusal::BadToken => "BadToken",
+            Refusal::Syntax => "Syntax",
+            Refusal::TooDeep => "TooDeep",
+            Refusal::NoTable => "NoTable",
+            Refusal::NoColumn => "NoColumn",
+            Refusal::Ambiguous => "Ambiguous",
+            Refusal::TypeMismatch => "TypeMismatch",
+            Refusal::NotGrouped => "NotGrouped",
+            Refusal::BadPattern => "BadPattern",
+            Refusal::BadOrdinal => "BadOrdinal",
+            Refusal::NoParameter => "NoParameter",
+            Refusal::DuplicateAlias => "DuplicateAlias",
+            Refusal::TooManyTables => "TooManyTables",
+            Refusal::ColumnsDiffer => "ColumnsDiffer",
+            Refusal::DuplicateTable => "DuplicateTable",
+            Refusal::NoParent => "NoParent",
+            Refusal::KeyNotPrefixed => "KeyNotPrefixed",
+            Refusal::TooMany => "TooMany",
+            Refusal::HierarchyTooDeep => "HierarchyTooDeep",
+            Refusal::BadColumn => "BadColumn",
+            Refusal::KeyTooLong => "KeyTooLong",
+            Refusal::BadKey => "BadKey",
+            Refusal::RowTooLong => "RowTooLong",
+            Refusal::BadRow => "BadRow",
+            Refusal::UnknownTransaction => "UnknownTransaction",
+            Refusal::WrongState => "WrongState",
+            Refusal::Conflict => "Conflict",
+            Refusal::Exists => "Exists",
+            Refusal::Missing => "Missing",
+            Refusal::ParentMissing => "ParentMissing",
+            Refusal::HasChildren => "HasChildren",
+            Refusal::NullNotAllowed => "NullNotAllowed",
+            Refusal::ValueTooLong => "ValueTooLong",
+            Refusal::WrongType => "WrongType",
+            Refusal::LogFull => "LogFull",
+            Refusal::ShardFull => "ShardFull",
+            Refusal::TooEarly => "TooEarly",
+            Refusal::TimestampRange => "TimestampRange",
+            Refusal::TransactionTableFull => "TransactionTableFull",
+            Refusal::EmptyTransaction => "EmptyTransaction",
+            Refusal::NotYet => "NotYet",
+            Refusal::Trimmed => "Trimmed",
+            Refusal::ArithmeticFault => "ArithmeticFault",
+            Refusal::QueryTableFull => "QueryTableFull",
+            Refusal::UnknownQuery => "UnknownQuery",
+            Refusal::Incomplete => "Incomplete",
+            Refusal::BadSplit => "BadSplit",
+            Refusal::SplitBusy => "SplitBusy",
+            Refusal::NoSlot => "NoSlot",
+            Refusal::TrimTooNew => "TrimTooNew",
+            Refusal::TrimBackward => "TrimBackward",
+            Refusal::TrimLeased => "TrimLeased",
+            Refusal::LeaseTableFull => "LeaseTableFull",
+            Refusal::UnknownLease => "UnknownLease",
+            Refusal::BadInterval => "BadInterval",
+            Refusal::BadCommand => "BadCommand",
+            Refusal::InputFault => "InputFault",
+            Refusal::OutputFault => "OutputFault",
+            Refusal::OutOfMemory => "OutOfMemory",
+        }
+    }
+
+    /// What was wrong, and after a colon what to do: one line, for people.
+    pub fn message(self) -> &'static str
+        ensures { result.now ≡ message_of self }
+    {
+        match self {
+            Refusal::TextTooLong => "query or schema text over 65,536 bytes: shorten it",
+            Refusal::BadToken => "no token of the language begins here: see docs/SQL.md",
+            Refusal::Syntax => "the grammar has no such text: see docs/SQL.md",
+            Refusal::TooDeep => "more than 32 nested openings: write it with fewer levels",
+            Refusal::NoTable => "there is no table of this name: check the name against the schema",
+            Refusal::NoColumn => {
+                "there is no such column here, or it is named twice: check the names against the schema"
+            }
+            Refusal::Ambiguous => {
+                "the name fits two columns: write the table's name or alias before it"
+            }
+            Refusal::TypeMismatch => {
+                "the operator or function does not take operands of these types: compare or compute values of one type"
+            }
+            Refusal::NotGrouped => {
+                "a column outside aggregates is not in GROUP BY, or an aggregate is where none may be: group by the column, or aggregate it"
+            }
+            Refusal::BadPattern => {
+                "the LIKE pattern has a wrong escape: a backslash goes before %, _ or another backslash"
+            }
+            Refusal::BadOrdinal => {
+                "the ordinal names no column of the result: use a number from 1 to the number of columns"
+            }
+            Refusal::NoParameter => "the parameter has no value: set it before the query",
+            Refusal::DuplicateAlias => {
+                "two items of one FROM have the same name: give one of them an alias"
+            }
+            Refusal::TooManyTables => "the query names more than 8 tables: split it",
+            Refusal::ColumnsDiffer => {
+                "the blocks of a union differ in the number or the types of their columns: select the same ones"
+            }
+            Refusal::DuplicateTable => {
+                "a table of this name is declared before: rename one of them"
+            }
+            Refusal::NoParent => {
+                "the parent table is not declared before its child: declare it first"
+            }
+            Refusal::KeyNotPrefixed => {
+                "the key of a child table does not begin with its parent's key: repeat the parent's key columns first"
+            }
+            Refusal::TooMany => {
+                "more than 64 tables, or more than 64 columns in a table: use fewer"
+            }
+            Refusal::HierarchyTooDeep => {
+                "more than 7 levels of interleaved tables: interleave fewer"
+            }
+            Refusal::BadColumn => {
+                "a column is declared twice or has a wrong length, or a key column is unknown, repeated or of a type no key has: correct the table"
+            }
+            Refusal::KeyTooLong => "the coded key is over 1,024 bytes: use shorter key values",
+            Refusal::BadKey => {
+                "the bytes code no key of the table: they were not written by this engine"
+            }
+            Refusal::RowTooLong => "the packed row is over 1,048,576 bytes: store shorter values",
+            Refusal::BadRow => {
+                "the bytes pack no row of the table: they were not written by this engine"
+            }
+            Refusal::UnknownTransaction => {
+                "this owner has no open transaction of this number: begin one, or use its number"
+            }
+            Refusal::WrongState => {
+                "the transaction is not in the state for this step: prepare, then decide, then apply"
+            }
+            Refusal::Conflict => {
+                "another transaction is prepared in the same directory: try again once it is applied"
+            }
+            Refusal::Exists => "the row to insert is there: update it, or use insert or update",
+            Refusal::Missing => {
+                "the row to update is not there: insert it, or use insert or update"
+            }
+            Refusal::ParentMissing => "the parent row is not there: insert it first",
+            Refusal::HasChildren => {
+                "the row has child rows and no ON DELETE CASCADE: delete them first"
+            }
+            Refusal::NullNotAllowed => "a NOT NULL column would be NULL: give it a value",
+            Refusal::ValueTooLong => {
+                "a value is longer than its column allows: shorten it, or declare a longer column"
+            }
+            Refusal::WrongType => {
+                "a value is not of its column's type, or there are too few or too many of them: compare them with the columns"
+            }
+            Refusal::LogFull => {
+                "65,536 commits and undecided transactions, which is all that the log holds: start a new database"
+            }
+            Refusal::ShardFull => {
+                "the slot would keep more than 16,777,216 versions: trim it, or write less at once"
+            }
+            Refusal::TooEarly => "the commit timestamp has not surely passed: apply later",
+            Refusal::TimestampRange => {
+                "a timestamp outside 0 to 4,611,686,018,427,387,903: use one inside"
+            }
+            Refusal::TransactionTableFull => {
+                "256 transactions are open, or all numbers are used: apply or abort some"
+            }
+            Refusal::EmptyTransaction => {
+                "the transaction has no mutation: add one before it begins"
+            }
+            Refusal::NotYet => {
+                "safe time has not reached the timestamp: advance the slot, or try again later"
+            }
+            Refusal::Trimmed => {
+                "the timestamp is below the horizon and its versions are gone: read at a later timestamp"
+            }
+            Refusal::ArithmeticFault => {
+                "an overflow, or a division by zero, somewhere in the query: test the operands first"
+            }
+            Refusal::QueryTableFull => "64 queries are open, or all numbers are used: close some",
+            Refusal::UnknownQuery => {
+                "no open query has this number, or it has no such leaf: open one, or use its number"
+            }
+            Refusal::Incomplete => {
+                "not every leaf of the query has been scanned: scan the rest first"
+            }
+            Refusal::BadSplit => {
+                "there is no root key to split at: choose a key inside the slot's range"
+            }
+            Refusal::SplitBusy => {
+                "a transaction is prepared in the slot: try again once it is applied"
+            }
+            Refusal::NoSlot => "the slot is not in use, or no slot is left: use a slot in use",
+            Refusal::TrimTooNew => {
+                "the horizon is above safe time: choose an earlier one, or advance the slot first"
+            }
+            Refusal::TrimBackward => {
+                "the horizon is below the one that is there: choose a later one"
+            }
+            Refusal::TrimLeased => {
+                "the horizon is above the timestamp of a lease: wait until the lease ends"
+            }
+            Refusal::LeaseTableFull => "64 leases are open, or all numbers are used: end some",
+            Refusal::UnknownLease => {
+                "this owner has no open lease of this number: open one, or use its number"
+            }
+            Refusal::BadInterval => {
+                "the interval ends before it begins: give the earliest time first"
+            }
+            Refusal::BadCommand => "the line is no command: see docs/FORMATS.md",
+            Refusal::InputFault => "the input device failed: what was answered before holds",
+            Refusal::OutputFault => {
+                "the output device failed: later answers are lost, the steps are not"
+            }
+            Refusal::OutOfMemory => "out of memory: nothing has changed; free some and try again",
         }
     }
 }

@@ -7,7 +7,7 @@ use Rattle.std.proofs.lemmas.List.{append-nil}
 use Rattle.std.proofs.lemmas.List.Elements.{filter-append}
 use Rattle.span_schema.specs.declared.table.Table.{Table}
 use Rattle.span_schema.specs.Lineages.{MeetsRules}
-use Rattle.span_truetime.specs.Time.{timestamp_end}
+use Rattle.span_truetime.specs.Limits.{timestamp_end}
 use Rattle.span_mutate.specs.declared.row.TableRow.{TableRow}
 use Rattle.span_mutate.specs.Database.{apply}
 use Rattle.span_mutate.specs.Directories.{Root, directory}
