@@ -123,7 +123,7 @@ fn check_at(
     ensures table { IfOk result (λ c. c.table ≡ number) }
     ensures typed { IfOk result (λ c. IsTypedMutation schema.now c) }
 {
-    let _tables = schema.tables();
+    schema.meets_rules();
     let table = schema.table(number);
     check_rules(alloc, schema, number, table, &mutation)?;
     let cells = values_named(
