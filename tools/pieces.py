@@ -1,0 +1,174 @@
+"""How the parsers put pieces together, and the lemma that a piece reads as the grammar's rule of a part.
+
+A piece is a parser of span_syntax's specs/Pieces.antt. A definition there is made of pieces as the part is made of parts: what is said here
+must fit the shape of the part, or the tool stops.
+"""
+import re
+from collections import namedtuple
+
+from grammar import sort_term, stop
+
+Piece = namedtuple("Piece", "kind arguments")
+
+
+def word(name):
+    return sort_term(("Word", name))
+
+
+def sign(name):
+    return sort_term(("Sign", name))
+
+
+def context(name):
+    return sort_term(("Context", name))
+
+
+# the pieces
+
+def token(sort):
+    """One token of a sort."""
+    return Piece("token", (sort,))
+
+
+def nothing(value):
+    """No token, and a value."""
+    return Piece("nothing", (value,))
+
+
+def built(function, piece):
+    """A function of what a piece reads."""
+    return Piece("built", (function, piece))
+
+
+def constant(value, sort):
+    """One token of a sort, and a value."""
+    return built(f"(λ t. {value})", token(sort))
+
+
+def then(first, name, second):
+    """A piece, whose value is called so in the one that follows."""
+    return Piece("then", (first, name, second))
+
+
+def after(first, *others):
+    """Pieces in a row, of which the last has the value."""
+    return then(first, "_", after(*others)) if others else first
+
+
+def either(*pieces):
+    """The first of some pieces that can begin with the token that comes."""
+    return pieces[0] if len(pieces) == 1 else Piece("either", (pieces[0], either(*pieces[1:])))
+
+
+def option(piece):
+    """A piece or nothing."""
+    return either(built("Some", piece), nothing("None"))
+
+
+def each(piece):
+    """A piece any number of times."""
+    return Piece("each", (piece,))
+
+
+def opening(piece):
+    """An opening token, and a piece one deeper."""
+    return Piece("opening", (piece,))
+
+
+def beside(value, piece):
+    """A value that was read before, and what a piece reads."""
+    return Piece("beside", (value, piece))
+
+
+def known(definition, proof):
+    """A piece that has a name, and the proof that it reads as its part's rule."""
+    return Piece("known", (definition, proof))
+
+
+# Definitions whose lemma is not called as they are.
+LEMMAS = {
+    "call_or_column": "named", "qualified_column": "qualified", "comparison_test": "compared", "negatable_test": "deniable",
+    "block_body": "block_shown", "order_and_limit": "ordered", "key_and_parent": "keyed", "primary_key": "with_key",
+}
+
+
+def called(name, applied="", given=""):
+    """A definition, applied so, and its lemma."""
+    return known(f"{name} {applied}".strip(), f"{LEMMAS.get(name, name)}_good {given}".strip())
+
+
+# what is written of them
+
+SHAPES = {"token": "One", "nothing": "Empty", "then": "Then", "either": "Or", "each": "Many", "opening": "Open"}
+
+
+class Writer:
+    """Writes pieces and their lemmas, over the parts of the grammar."""
+
+    def __init__(self, grammar):
+        self.grammar = grammar
+
+    def operands(self, kind, part, sort=None):
+        """The operands of a part, whose shape must be a piece's of this kind."""
+        shape, operands = self.grammar.shape(part)
+        if shape != SHAPES[kind] or (sort and sort_term(operands[0]) != sort):
+            stop(f"the part {part} is {shape}, and tools/grammar_pieces.py reads it by {kind} {sort or ''}: change its tables with docs/SQL.md")
+        return operands
+
+    def definition(self, piece, part, depth):
+        """A piece that reads a part, with so many openings left."""
+        kind, arguments = piece
+        if kind in ("token", "nothing"):
+            return f"({kind} {arguments[0]})"
+        if kind == "known":
+            return f"({arguments[0]})"
+        if kind == "built":
+            return f"({arguments[0]} <$> {self.definition(arguments[1], part, depth)})"
+        if kind == "beside":
+            return f"(pair_with {arguments[0]} {self.definition(arguments[1], part, depth)})"
+        operands = self.operands(kind, part)
+        if kind == "opening":
+            inside = self.definition(arguments[0], self.grammar.places[operands[1]], depth)
+            return f"(opening {depth} {sort_term(operands[0])} {inside})"
+        texts = [self.definition(one, of, depth) for one, of in zip(arguments[::2] if kind == "then" else arguments, operands)]
+        if kind == "then":
+            return f"({texts[0]} >>= (λ {arguments[1]}. {texts[1]}))"
+        return f"({kind} {self.grammar.part_term(operands[0])} {' '.join(texts)})"
+
+    def proof(self, piece, part, depth):
+        """That a piece reads a part as the grammar's rule of it, with so many openings left."""
+        kind, arguments = piece
+        if kind == "known":
+            return f"({arguments[1]})"
+        if kind in ("built", "beside"):
+            lemma, (value, inner) = {"built": "map_good", "beside": "beside_good"}[kind], arguments
+            return f"({lemma} {value} {self.definition(inner, part, depth)} {self.proof(inner, part, depth)})"
+        operands = self.operands(kind, part, arguments[0] if kind == "token" else None)
+        if kind in ("token", "nothing"):
+            return f"({kind}_good {depth} {arguments[0]})"
+        if kind == "opening":
+            inside, sort = self.grammar.places[operands[1]], sort_term(operands[0])
+            return (f"(open_good {depth} part.{part} {sort} place.{operands[1]} refl {self.definition(arguments[0], inside, depth)} "
+                    f"(λ m e. {self.proof(arguments[0], inside, 'm')}))")
+        pieces = arguments[::2] if kind == "then" else arguments
+        texts = [self.definition(*both, depth) for both in zip(pieces, operands)] + [self.proof(*both, depth) for both in zip(pieces, operands)]
+        if kind == "then":
+            texts[1::2] = [f"(λ {arguments[1]}. {text})" for text in texts[1::2]]
+        lemma = {"then": "then_good", "either": "or_good", "each": "many_good"}[kind]
+        return " ".join([f"({lemma} {depth} part.{part}"] + [self.grammar.part_term(one) for one in operands] + ["refl"] + texts) + ")"
+
+    def lemma(self, applied, name, part, piece, arguments="", of=None, indent="  "):
+        """The lemma that a definition, which is this piece applied so, reads as the rule of the part. It is `of`, or else `name`."""
+        of, name = of or name, LEMMAS.get(name, name)
+        names = " ".join(re.findall(r"\((\w+) :", arguments))
+        definition = " ".join(filter(None, [of, applied, names]))
+        rule = f"{arguments} → " if arguments else ""
+        return f"""{indent}pub {name}_good : {rule}Good n (rule_of part.{part}) ({definition})
+{indent}unfolding {of} shape_of part_inside
+{indent}{' '.join(filter(None, [name + '_good', names]))} = {self.proof(piece, part, 'n')[1:-1]}
+
+"""
+
+    def lemmas(self, applied, rows, indent="  "):
+        """The lemmas of some definitions that are applied in the same way."""
+        return "".join(self.lemma(applied, *row, indent=indent) for row in rows)
