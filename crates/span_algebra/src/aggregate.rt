@@ -99,7 +99,10 @@ impl State {
     /// One more value that is not NULL. Only a least or a greatest value is kept, and so copied.
     fn take_value(&mut self, alloc: Global, value: LentValue<'_>) -> Result<(), AllocError>
         requires { counted self.old + 1 < 2 ^ 64 }
-        ensures { OnOk result ((f : Function) (vs : List Value) → HasTaken f vs self.old → HasTaken f (vs ++ owned_value value.entry ∷ []) self.new) }
+        ensures { OnOk result
+            ((f : Function) (vs : List Value)
+            → HasTaken f vs self.old
+            → HasTaken f (vs ++ owned_value value.entry ∷ []) self.new) }
     {
         match self {
             State::Count(count) => *count += 1,
@@ -124,7 +127,10 @@ impl State {
         row: &[Value],
     ) -> Result<(), Failure>
         requires { counted self.old + 1 < 2 ^ 64 }
-        ensures ok { OnOk result ((rows : List Row) → IsStateOf aggregate.now rows self.old → IsStateOf aggregate.now (rows ++ row.now ∷ []) self.new) }
+        ensures ok { OnOk result
+            ((rows : List Row)
+            → IsStateOf aggregate.now rows self.old
+            → IsStateOf aggregate.now (rows ++ row.now ∷ []) self.new) }
         ensures fault { result ≡ Err Fault → operand_at row.now aggregate.now ≡ None }
     {
         match aggregate {

@@ -105,7 +105,10 @@ impl Group {
     ) -> Result<(), Failure>
         requires { CanCountOne aggregates.now self.old.states.items }
         ensures key { self.new.key ≡ self.old.key }
-        ensures ok { OnOk result ((rows : List Row) → AreStatesOf aggregates.now rows self.old.states.items → AreStatesOf aggregates.now (rows ++ row.now ∷ []) self.new.states.items) }
+        ensures ok { OnOk result
+            ((rows : List Row)
+            → AreStatesOf aggregates.now rows self.old.states.items
+            → AreStatesOf aggregates.now (rows ++ row.now ∷ []) self.new.states.items) }
         ensures fault { result ≡ Err Fault → Any (λ a. operand_at row.now a ≡ None) aggregates.now }
     {
         take_all(alloc, aggregates, &mut self.states, row)
@@ -119,7 +122,11 @@ fn group_of(
     groups: &mut Vec<Group>,
     row: &[Value],
 ) -> Result<usize, AllocError>
-    ensures { IfOk result (λ at. (rows : List Row) → AreGroupsOf grouping.now rows groups.old.items → HasPlace grouping.now row.now rows groups.new.items at) }
+    ensures { IfOk result
+        (λ at.
+        (rows : List Row)
+        → AreGroupsOf grouping.now rows groups.old.items
+        → HasPlace grouping.now row.now rows groups.new.items at) }
 {
     let places = grouping.keys.as_slice();
     let at = place_of(groups, places, row);
@@ -141,7 +148,10 @@ fn take_row(
     row: &[Value],
 ) -> Result<(), Failure>
     requires { CanCountRow grouping.now groups.old.items }
-    ensures ok { OnOk result ((rows : List Row) → AreGroupsOf grouping.now rows groups.old.items → AreGroupsOf grouping.now (rows ++ row.now ∷ []) groups.new.items) }
+    ensures ok { OnOk result
+        ((rows : List Row)
+        → AreGroupsOf grouping.now rows groups.old.items
+        → AreGroupsOf grouping.now (rows ++ row.now ∷ []) groups.new.items) }
     ensures fault { result ≡ Err Fault → Any (λ a. operand_at row.now a ≡ None) grouping.now.aggregates }
 {
     let at = group_of(alloc, grouping, groups, row)?;

@@ -34,7 +34,10 @@ pub(crate) fn take_all(
     row: &[Value],
 ) -> Result<(), Failure>
     requires { CanCountOne aggregates.now states.old.items }
-    ensures ok { OnOk result ((rows : List Row) → AreStatesOf aggregates.now rows states.old.items → AreStatesOf aggregates.now (rows ++ row.now ∷ []) states.new.items) }
+    ensures ok { OnOk result
+        ((rows : List Row)
+        → AreStatesOf aggregates.now rows states.old.items
+        → AreStatesOf aggregates.now (rows ++ row.now ∷ []) states.new.items) }
     ensures fault { result ≡ Err Fault → Any (λ a. operand_at row.now a ≡ None) aggregates.now }
 {
     for at in 0..aggregates.len() {
@@ -45,7 +48,9 @@ pub(crate) fn take_all(
 
 /// The key of the group, and then the aggregates of its rows.
 pub(crate) fn row_with(alloc: Global, key: Row, states: &[State]) -> Result<Row, Failure>
-    ensures { (aggregates : List Aggregate) (rows : List Row) → AreStatesOf aggregates rows states.now → Gives result (unless_fault (each (aggregate rows) aggregates) (λ vs. Some (key ++ vs))) }
+    ensures { (aggregates : List Aggregate) (rows : List Row)
+        → AreStatesOf aggregates rows states.now
+        → Gives result (unless_fault (each (aggregate rows) aggregates) (λ vs. Some (key ++ vs))) }
 {
     let mut row = key.into_vec();
     for state in states {

@@ -44,7 +44,10 @@ impl Sum {
 
     /// NULL of no values, else the exact total, or the fault where it is outside INT64.
     pub(crate) fn outcome(&self) -> Result<Value, Failure>
-        ensures { (vs : List Value) → self.now.values ≡ length vs → self.now.total ≡ total vs → Gives result (value_of (of_values function.Sum vs)) }
+        ensures { (vs : List Value)
+            → self.now.values ≡ length vs
+            → self.now.total ≡ total vs
+            → Gives result (value_of (of_values function.Sum vs)) }
     {
         if self.values == 0 {
             return Ok(Value::Null);

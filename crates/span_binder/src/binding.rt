@@ -54,7 +54,10 @@ impl Binder<'_> {
         first: Result<(FromItems, Seq<usize>), Refusal>,
         joins: &[tree::Join],
     ) -> Result<(FromItems, Seq<usize>), Refusal>
-        ensures meant { Gives result (and_then first (fold_results (spec.next_join self.entry.params.now) (map (spec.join_step self.entry.schema.now self.entry.params.now) joins.now))) }
+        ensures meant { Gives result
+            (and_then first
+            (fold_results (spec.next_join self.entry.params.now)
+            (map (spec.join_step self.entry.schema.now self.entry.params.now) joins.now))) }
         ensures tables { HasTables self.entry.schema.now first → HasTables self.entry.schema.now result }
     {
         let mut so_far = first?;
@@ -88,7 +91,10 @@ impl Binder<'_> {
         first: Result<(BoundBlocks, Seq<usize>), Refusal>,
         others: &[tree::Block],
     ) -> Result<(BoundBlocks, Seq<usize>), Refusal>
-        ensures meant { Gives result (and_then first (fold_results spec.next_block (map (spec.block_step self.entry.schema.now self.entry.params.now) others.now))) }
+        ensures meant { Gives result
+            (and_then first
+            (fold_results spec.next_block
+            (map (spec.block_step self.entry.schema.now self.entry.params.now) others.now))) }
         ensures tables { HasTables self.entry.schema.now first → HasTables self.entry.schema.now result }
     {
         let mut so_far = first?;

@@ -25,7 +25,8 @@ fn split_projection(
     alloc: Global,
     projection: Seq<SelectItem>,
 ) -> Result<(Items<Expr>, Seq<OutputColumn>), AllocError>
-    ensures { IfOk result (λ parts. (parts.0 ≡ spec.projected_exprs projection) × (parts.1 ≡ spec.projected_columns projection)) }
+    ensures { IfOk result
+        (λ parts. (parts.0 ≡ spec.projected_exprs projection) × (parts.1 ≡ spec.projected_columns projection)) }
 {
     let mut exprs = Vec::new(alloc);
     let mut columns = Vec::new(alloc);
@@ -149,7 +150,9 @@ pub(crate) fn block_of_found(
     tree: &tree::Block,
     found: Result<(FromItems, Seq<usize>), Refusal>,
 ) -> Result<(BoundBlock, Seq<usize>), Refusal>
-    ensures { Gives result (and_then found (λ p. and_then (spec.bind_block params.now (spec.block_tail tree.now) p.0) (λ b. Ok (b, p.1)))) }
+    ensures { Gives result
+        (and_then found
+        (λ p. and_then (spec.bind_block params.now (spec.block_tail tree.now) p.0) (λ b. Ok (b, p.1)))) }
 {
     let (from, leaves) = found?;
     let block = bind_block(alloc, params, tree, from)?;

@@ -196,7 +196,8 @@ pub(crate) fn add_found_item(
     found: Result<(Source, Seq<usize>), Refusal>,
     on: &tree::Expr,
 ) -> Result<(FromItems, Seq<usize>), Refusal>
-    ensures { Gives result (and_then found (λ p. and_then (spec.add_item params.now from is_left p.0 on.now) (λ f. Ok (f, p.1)))) }
+    ensures { Gives result
+        (and_then found (λ p. and_then (spec.add_item params.now from is_left p.0 on.now) (λ f. Ok (f, p.1)))) }
 {
     let (source, leaves) = found?;
     let from = add_item(alloc, params, from, is_left, source, on)?;

@@ -27,7 +27,9 @@ pub fn understand(
     // Sound and complete: the result is what the query text is understood as, or out of memory.
     ensures understood { IfOk result (λ q. Understands schema.now text.now params.now (Ok q)) }
     ensures refused { IfErr result (λ why. (why ≡ Refusal.OutOfMemory) ⊎ Understands schema.now text.now params.now (Err why)) }
-    ensures all { (u : Result Statement Refusal) → Understands schema.now text.now params.now u → (result ≡ u) ⊎ (result ≡ Err Refusal.OutOfMemory) }
+    ensures all { (u : Result Statement Refusal)
+        → Understands schema.now text.now params.now u
+        → (result ≡ u) ⊎ (result ≡ Err Refusal.OutOfMemory) }
     // The leaves are tables of the schema.
     ensures leaves { IfOk result (λ q. AllByRecursion (IsTable schema.now) q.leaves) }
 {

@@ -77,7 +77,10 @@ impl Layout {
     #[tactic(auto, using(crate::proofs::Within::key_within, crate::proofs::Within::lacks_nothing))]
     pub fn of_key(alloc: Global, schema: &Schema, table: &str) -> Result<Layout, Refusal>
         ensures read { IfOk result (λ layout. IsKeyLayoutOf schema.now table.now layout) }
-        ensures refusals { IfErr result (λ why. (why ≡ Refusal.OutOfMemory) ⊎ ((why ≡ Refusal.NoTable) × (number_named schema.now table.now ≡ None))) }
+        ensures refusals { IfErr result
+            (λ why.
+            (why ≡ Refusal.OutOfMemory)
+            ⊎ ((why ≡ Refusal.NoTable) × (number_named schema.now table.now ≡ None))) }
     {
         let Some(number) = schema.find(table) else {
             return Err(Refusal::NoTable);
@@ -93,7 +96,11 @@ impl Layout {
         fields: &StringRecord,
     ) -> Result<Mutation, Refusal>
         ensures read { IfOk result (λ m. IsOfRecord self.now kind (fields_of fields.now) m) }
-        ensures refusals { IfErr result (λ why. (why ≡ Refusal.OutOfMemory) ⊎ ((why ≡ Refusal.WrongType) × ((m : Mutation) → ¬ IsOfRecord self.now kind (fields_of fields.now) m))) }
+        ensures refusals { IfErr result
+            (λ why.
+            (why ≡ Refusal.OutOfMemory)
+            ⊎ ((why ≡ Refusal.WrongType)
+            × ((m : Mutation) → ¬ IsOfRecord self.now kind (fields_of fields.now) m))) }
     {
         if fields.len() != self.fields {
             return Err(Refusal::WrongType);
@@ -113,7 +120,11 @@ impl Layout {
 /// The values of the key. `WrongType`: a field is no cell of its column's type.
 fn key_of(alloc: Global, parts: &[KeyField], fields: &StringRecord) -> Result<Seq<Value>, Refusal>
     ensures read { IfOk result (λ key. AllZip (IsKeyCell (fields_of fields.now)) parts.now key) }
-    ensures refusals { IfErr result (λ why. (why ≡ Refusal.OutOfMemory) ⊎ ((why ≡ Refusal.WrongType) × ((key : List Value) → ¬ AllZip (IsKeyCell (fields_of fields.now)) parts.now key))) }
+    ensures refusals { IfErr result
+        (λ why.
+        (why ≡ Refusal.OutOfMemory)
+        ⊎ ((why ≡ Refusal.WrongType)
+        × ((key : List Value) → ¬ AllZip (IsKeyCell (fields_of fields.now)) parts.now key))) }
 {
     let mut key = Seq::new(alloc);
     for part in parts {
@@ -129,7 +140,11 @@ fn cells_of(
     fields: &StringRecord,
 ) -> Result<Seq<NamedValue>, Refusal>
     ensures read { IfOk result (λ cells. AllZip (IsColumnCell (fields_of fields.now)) parts.now cells) }
-    ensures refusals { IfErr result (λ why. (why ≡ Refusal.OutOfMemory) ⊎ ((why ≡ Refusal.WrongType) × ((cells : List NamedValue) → ¬ AllZip (IsColumnCell (fields_of fields.now)) parts.now cells))) }
+    ensures refusals { IfErr result
+        (λ why.
+        (why ≡ Refusal.OutOfMemory)
+        ⊎ ((why ≡ Refusal.WrongType)
+        × ((cells : List NamedValue) → ¬ AllZip (IsColumnCell (fields_of fields.now)) parts.now cells))) }
 {
     let mut cells = Seq::new(alloc);
     for part in parts {
@@ -141,7 +156,11 @@ fn cells_of(
 /// The cell of a column outside the key. `WrongType`: its field is no cell of its type.
 fn cell_of(alloc: Global, part: &CellField, fields: &StringRecord) -> Result<NamedValue, Refusal>
     ensures read { IfOk result (λ cell. IsColumnCell (fields_of fields.now) part.now cell) }
-    ensures refusals { IfErr result (λ why. (why ≡ Refusal.OutOfMemory) ⊎ ((why ≡ Refusal.WrongType) × ((cell : NamedValue) → ¬ IsColumnCell (fields_of fields.now) part.now cell))) }
+    ensures refusals { IfErr result
+        (λ why.
+        (why ≡ Refusal.OutOfMemory)
+        ⊎ ((why ≡ Refusal.WrongType)
+        × ((cell : NamedValue) → ¬ IsColumnCell (fields_of fields.now) part.now cell))) }
 {
     let value = value_at(alloc, fields, part.at, part.kind)?;
     Ok(NamedValue {
@@ -162,7 +181,10 @@ fn places_of(
     requires { IsTable schema.now table }
     ensures places { IfOk result (λ places. ArePlaces (columns_of schema.now table) columns.now places.items) }
     ensures within { IfOk result (λ places. AreWithin (columns_of schema.now table) places.items) }
-    ensures refusals { IfErr result (λ why. (why ≡ Refusal.OutOfMemory) ⊎ ((why ≡ Refusal.NoColumn) × NamesNone (columns_of schema.now table) columns.now)) }
+    ensures refusals { IfErr result
+        (λ why.
+        (why ≡ Refusal.OutOfMemory)
+        ⊎ ((why ≡ Refusal.NoColumn) × NamesNone (columns_of schema.now table) columns.now)) }
 {
     if columns == "*" {
         return Ok(places_below(alloc, schema.table(table).columns.len())?);
@@ -190,7 +212,11 @@ fn places_named(
 ) -> Result<Vec<usize>, Refusal>
     requires { IsTable schema.now table }
     ensures places { IfOk result (λ places. AreNamed (columns_of schema.now table) (pieces names.now) places.items) }
-    ensures refusals { IfErr result (λ why. (why ≡ Refusal.OutOfMemory) ⊎ ((why ≡ Refusal.NoColumn) × ((places : List ℕ) → ¬ AreNamed (columns_of schema.now table) (pieces names.now) places))) }
+    ensures refusals { IfErr result
+        (λ why.
+        (why ≡ Refusal.OutOfMemory)
+        ⊎ ((why ≡ Refusal.NoColumn)
+        × ((places : List ℕ) → ¬ AreNamed (columns_of schema.now table) (pieces names.now) places))) }
 {
     let mut places = Vec::new(alloc);
     let mut rest = names;
@@ -234,7 +260,10 @@ fn layout_at(
     requires within { AreWithin (columns_of schema.now number) places.now }
     ensures table { IfOk result (λ layout. layout.table ≡ table.now) }
     ensures read { IfOk result (λ layout. IsLayout schema.now number places.now layout) }
-    ensures refusals { IfErr result (λ why. (why ≡ Refusal.OutOfMemory) ⊎ ((why ≡ Refusal.WrongType) × LacksKey (key_places schema.now number) places.now)) }
+    ensures refusals { IfErr result
+        (λ why.
+        (why ≡ Refusal.OutOfMemory)
+        ⊎ ((why ≡ Refusal.WrongType) × LacksKey (key_places schema.now number) places.now)) }
 {
     let declared = schema.table(number).columns.as_slice();
     let key_places = schema.key_places(number);
@@ -258,7 +287,8 @@ fn key_fields(
 ) -> Result<Vec<KeyField>, Refusal>
     requires { AreWithin declared.now key_places.now }
     ensures read { IfOk result (λ key. AllZip (IsKeyField declared.now places.now) key_places.now key.items) }
-    ensures refusals { IfErr result (λ why. (why ≡ Refusal.OutOfMemory) ⊎ ((why ≡ Refusal.WrongType) × LacksKey key_places.now places.now)) }
+    ensures refusals { IfErr result
+        (λ why. (why ≡ Refusal.OutOfMemory) ⊎ ((why ≡ Refusal.WrongType) × LacksKey key_places.now places.now)) }
 {
     let mut key = Vec::new(alloc);
     for place in key_places {
@@ -329,7 +359,10 @@ fn cell_field(
 /// The value of the field at a place. `WrongType`: it is no cell of the type, or there is no such field.
 fn value_at(alloc: Global, fields: &StringRecord, at: usize, kind: Kind) -> Result<Value, Refusal>
     ensures read { IfOk result (λ value. IsFieldCell (fields_of fields.now) at kind value) }
-    ensures refusals { IfErr result (λ why. (why ≡ Refusal.OutOfMemory) ⊎ ((why ≡ Refusal.WrongType) × ((value : Value) → ¬ IsFieldCell (fields_of fields.now) at kind value))) }
+    ensures refusals { IfErr result
+        (λ why.
+        (why ≡ Refusal.OutOfMemory)
+        ⊎ ((why ≡ Refusal.WrongType) × ((value : Value) → ¬ IsFieldCell (fields_of fields.now) at kind value))) }
 {
     match fields.get(at) {
         Some(field) => read_cell(alloc, kind, field),

@@ -99,7 +99,9 @@ fn are_word_bytes(bytes: &[u8]) -> bool
 
 /// The first word and the rest after its space. None where there is no space, or no word before it.
 pub fn word_and_rest(words: &str) -> Option<(&str, &str)>
-    ensures { MatchOption result ((word : List ℕ) (rest : List ℕ) → IsWord word → words.now ≢ spaced word rest) (λ x. IsWord x.0.now × (words.now ≡ spaced x.0.now x.1.now)) }
+    ensures { MatchOption result
+        ((word : List ℕ) (rest : List ℕ) → IsWord word → words.now ≢ spaced word rest)
+        (λ x. IsWord x.0.now × (words.now ≡ spaced x.0.now x.1.now)) }
 {
     let (word, rest) = words.split_once(' ')?;
     if word.is_empty() {

@@ -82,7 +82,10 @@ impl Core {
 
     /// The report of a slot; None where it is not in use.
     pub fn slot_report(&self, slot: usize) -> Option<SlotReport>
-        ensures slot_state { MatchOption result (slice_get self.now.machine.slots slot ≡ None) (λ s. slice_get self.now.machine.slots slot ≡ Some (record { last = s.last; floor = s.floor; horizon = s.horizon })) }
+        ensures slot_state { MatchOption result
+            (slice_get self.now.machine.slots slot ≡ None)
+            (λ s.
+            slice_get self.now.machine.slots slot ≡ Some (record { last = s.last; floor = s.floor; horizon = s.horizon })) }
         ensures prepared { IfSome result (λ s. s.prepared ≡ count_by (is_prepared_at slot) self.now.machine.transactions) }
     {
         let slot_state = self.journal.slots().get(slot)?;
@@ -164,7 +167,10 @@ impl Core {
         txn: u64,
         slot: usize,
     ) -> Result<u64, Refusal>
-        ensures steps { Steps self.old.schema self.old.machine (step_of.Prepare owner txn slot) (as_reply reply_of.Prepared result) self.new.machine }
+        ensures steps { Steps self.old.schema self.old.machine
+            (step_of.Prepare owner txn slot)
+            (as_reply reply_of.Prepared result)
+            self.new.machine }
         ensures schema { self.new.schema ≡ self.old.schema }
     {
         match self.journal.check_prepare(&self.schema, owner, txn, slot) {

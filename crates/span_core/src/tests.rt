@@ -68,7 +68,8 @@ fn whole_run(rt: HostRuntime) -> Result<(), Fail> {
 }
 
 fn committing(alloc: Global, transaction: Transaction) -> Result<Vec<Step>, Fail>
-    ensures { IfOk result (λ steps. (schema : List Table) → AreTypedMutations schema transaction → AreOfSchema schema steps.items) }
+    ensures { IfOk result
+        (λ steps. (schema : List Table) → AreTypedMutations schema transaction → AreOfSchema schema steps.items) }
 {
     let interval = Interval::new(100, 110)?;
     let mut steps = Vec::new(alloc);

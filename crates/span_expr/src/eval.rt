@@ -87,7 +87,10 @@ fn compare_values<'a>(
     left: EvalResult<'a>,
     right: EvalResult<'a>,
 ) -> EvalResult<'a>
-    ensures { (o p : Outcome) → Gives left.entry o → Gives right.entry p → Gives result (outcomes.strict (operators.compare_values comparison) o p) }
+    ensures { (o p : Outcome)
+        → Gives left.entry o
+        → Gives right.entry p
+        → Gives result (outcomes.strict (operators.compare_values comparison) o p) }
 {
     Ok(compare(comparison, &left?, &right?))
 }
@@ -98,7 +101,10 @@ fn compare_lent<'a>(
     left: &EvalResult<'a>,
     right: EvalResult<'a>,
 ) -> EvalResult<'a>
-    ensures { (o p : Outcome) → Gives left.now o → Gives right.entry p → Gives result (outcomes.strict (operators.compare_values comparison) o p) }
+    ensures { (o p : Outcome)
+        → Gives left.now o
+        → Gives right.entry p
+        → Gives result (outcomes.strict (operators.compare_values comparison) o p) }
 {
     match left {
         Ok(cell) => Ok(compare(comparison, cell, &right?)),
@@ -114,7 +120,11 @@ fn chooses(condition: EvalResult<'_>) -> Result<bool, Failure>
 }
 
 fn between<'a>(operand: EvalResult<'a>, low: EvalResult<'a>, high: EvalResult<'a>) -> EvalResult<'a>
-    ensures { (o p q : Outcome) → Gives operand.entry o → Gives low.entry p → Gives high.entry q → Gives result (spec.between o p q) }
+    ensures { (o p q : Outcome)
+        → Gives operand.entry o
+        → Gives low.entry p
+        → Gives high.entry q
+        → Gives result (spec.between o p q) }
 {
     let above = condition_of(compare_lent(Comparison::AtLeast, &operand, low))?;
     let below = condition_of(compare_lent(Comparison::AtMost, &operand, high))?;
@@ -134,7 +144,10 @@ fn or_equal<'a>(
 }
 
 fn prefix_test<'a>(text: EvalResult<'a>, front: EvalResult<'a>) -> EvalResult<'a>
-    ensures { (o p : Outcome) → Gives text.entry o → Gives front.entry p → Gives result (outcomes.strict operators.has_prefix o p) }
+    ensures { (o p : Outcome)
+        → Gives text.entry o
+        → Gives front.entry p
+        → Gives result (outcomes.strict operators.has_prefix o p) }
 {
     Ok(has_prefix(&text?, &front?))
 }
@@ -225,7 +238,9 @@ fn apply_link<'a>(
     so_far: LentValue<'a>,
     operand: EvalResult<'a>,
 ) -> EvalResult<'a>
-    ensures { (o : Outcome) → Gives operand.entry o → Gives result (outcomes.strict (operators.apply_operator operator) (outcome.Val (owned_value so_far.entry)) o) }
+    ensures { (o : Outcome)
+        → Gives operand.entry o
+        → Gives result (outcomes.strict (operators.apply_operator operator) (outcome.Val (owned_value so_far.entry)) o) }
 {
     apply(alloc, operator, so_far, &operand?)
 }

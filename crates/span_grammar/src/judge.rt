@@ -60,5 +60,8 @@ pub fn judge(goal: Goal, tokens: &[Lexeme]) -> Result<(), Stop>
 
 /// A law, which takes no time: tokens have at most one tree.
 pub fn tokens_have_one_tree(goal: Goal, tokens: &[Lexeme])
-    ensures { (x y : Tree) → HasTree inside (goal_rule goal) tokens.now x → HasTree inside (goal_rule goal) tokens.now y → x ≡ y }
+    ensures { (x y : Tree)
+        → HasTree inside (goal_rule goal) tokens.now x
+        → HasTree inside (goal_rule goal) tokens.now y
+        → x ≡ y }
 {}

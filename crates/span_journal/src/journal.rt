@@ -147,7 +147,10 @@ impl Journal {
         owner: u64,
         transaction: Transaction,
     ) -> Result<u64, Refusal>
-        ensures step { Answers (machine_of self.old) (begin (machine_of self.old) owner transaction) (as_reply reply_of.Began result) (machine_of self.new) }
+        ensures step { Answers (machine_of self.old)
+            (begin (machine_of self.old) owner transaction)
+            (as_reply reply_of.Began result)
+            (machine_of self.new) }
         ensures pieces { self.new.queries ≡ self.old.queries }
     {
         if self.transactions.len() >= MOST_TRANSACTIONS || self.next_transaction >= NUMBER_END {
@@ -202,7 +205,10 @@ impl Journal {
         verdict: Verdict,
         interval: Interval,
     ) -> Result<Option<u64>, Refusal>
-        ensures step { IsAnswer (decide schema.now (machine_of self.old) owner txn verdict interval) (as_reply decision_reply result) (machine_of self.new) }
+        ensures step { IsAnswer
+            (decide schema.now (machine_of self.old) owner txn verdict interval)
+            (as_reply decision_reply result)
+            (machine_of self.new) }
         ensures pieces { self.new.queries ≡ self.old.queries }
     {
         match verdict {
@@ -222,7 +228,10 @@ impl Journal {
         interval: Interval,
     ) -> Result<u64, Refusal>
         ensures refused { IfErr result (λ why. commit_refusal schema.now (machine_of self.now) transaction.now interval ≡ Some why) }
-        ensures accepted { IfOk result (λ ts. (commit_refusal schema.now (machine_of self.now) transaction.now interval ≡ None) × (ts ≡ commit_timestamp (machine_of self.now) transaction.now interval)) }
+        ensures accepted { IfOk result
+            (λ ts.
+            (commit_refusal schema.now (machine_of self.now) transaction.now interval ≡ None)
+            × (ts ≡ commit_timestamp (machine_of self.now) transaction.now interval)) }
         ensures undecided { OnOk result (is_undecided transaction.now ≡ true) }
     {
         if !transaction.is_undecided() {
@@ -249,7 +258,10 @@ impl Journal {
         txn: u64,
         interval: Interval,
     ) -> Result<u64, Refusal>
-        ensures step { IsAnswer (decide schema.now (machine_of self.old) owner txn Verdict.Commit interval) (as_reply reply_of.Decided result) (machine_of self.new) }
+        ensures step { IsAnswer
+            (decide schema.now (machine_of self.old) owner txn Verdict.Commit interval)
+            (as_reply reply_of.Decided result)
+            (machine_of self.new) }
         ensures pieces { self.new.queries ≡ self.old.queries }
     {
         let Some((at, transaction)) = find_transaction(self.transactions.as_slice(), owner, txn)
@@ -275,7 +287,10 @@ impl Journal {
         txn: u64,
         interval: Interval,
     ) -> Result<(), Refusal>
-        ensures step { IsAnswer (decide schema.now (machine_of self.old) owner txn Verdict.Abort interval) (as_reply (λ _. reply_of.Aborted) result) (machine_of self.new) }
+        ensures step { IsAnswer
+            (decide schema.now (machine_of self.old) owner txn Verdict.Abort interval)
+            (as_reply (λ _. reply_of.Aborted) result)
+            (machine_of self.new) }
         ensures pieces { self.new.queries ≡ self.old.queries }
     {
         let Some((at, transaction)) = find_transaction(self.transactions.as_slice(), owner, txn)
@@ -303,7 +318,8 @@ impl Journal {
         slot: usize,
     ) -> Result<&[CheckedMutation], Refusal>
         ensures accepted { IfOk result (λ ms. MayPrepare schema.now (machine_of self.now) owner txn slot ms.now) }
-        ensures refused { IfErr result (λ why. prepare schema.now (machine_of self.now) owner txn slot ≡ refused (machine_of self.now) why) }
+        ensures refused { IfErr result
+            (λ why. prepare schema.now (machine_of self.now) owner txn slot ≡ refused (machine_of self.now) why) }
     {
         let Some((_, transaction)) = find_transaction(self.transactions.as_slice(), owner, txn)
         else {
@@ -353,8 +369,10 @@ impl Journal {
         slot: usize,
         interval: Interval,
     ) -> Result<Option<u64>, Refusal>
-        ensures ok { IfOk result (λ committed. IsApplied (machine_of self.old) owner txn slot interval committed (machine_of self.new)) }
-        ensures why { IfErr result (λ why. apply_step (machine_of self.old) owner txn slot interval ≡ refused (machine_of self.old) why) }
+        ensures ok { IfOk result
+            (λ committed. IsApplied (machine_of self.old) owner txn slot interval committed (machine_of self.new)) }
+        ensures why { IfErr result
+            (λ why. apply_step (machine_of self.old) owner txn slot interval ≡ refused (machine_of self.old) why) }
         ensures err { OnErr result (machine_of self.new ≡ machine_of self.old) }
         ensures pieces { self.new.queries ≡ self.old.queries }
     {
@@ -375,7 +393,10 @@ impl Journal {
 
     /// Raises the floor of the slot to the latest time that it may be now, and returns it. It takes no memory. `NoSlot`.
     pub fn advance(&mut self, slot: usize, interval: Interval) -> Result<u64, Refusal>
-        ensures step { IsAnswer (advance (machine_of self.old) slot interval) (as_reply reply_of.Floor result) (machine_of self.new) }
+        ensures step { IsAnswer
+            (advance (machine_of self.old) slot interval)
+            (as_reply reply_of.Floor result)
+            (machine_of self.new) }
         ensures pieces { self.new.queries ≡ self.old.queries }
     {
         let Some(slot_state) = slot_at(self.slots.as_slice(), slot) else {
@@ -404,7 +425,10 @@ impl Journal {
     /// `TrimBackward`, then `TrimTooNew` where h is above safe time; a refusal leaves all as it was.
     pub fn raise_horizon(&mut self, slot: usize, h: u64) -> Result<(), Refusal>
         ensures ok { OnOk result (IsRaised (machine_of self.old) slot h (machine_of self.new)) }
-        ensures why { IfErr result (λ why. (schema : List Table) → trim schema (machine_of self.old) slot h ≡ refused (machine_of self.old) why) }
+        ensures why { IfErr result
+            (λ why.
+            (schema : List Table)
+            → trim schema (machine_of self.old) slot h ≡ refused (machine_of self.old) why) }
         ensures err { OnErr result (machine_of self.new ≡ machine_of self.old) }
         ensures pieces { self.new.queries ≡ self.old.queries }
     {
@@ -442,7 +466,10 @@ impl Journal {
         bound: Bound,
         interval: Interval,
     ) -> Result<(u64, u64), Refusal>
-        ensures step { Answers (machine_of self.old) (open_query (machine_of self.old) (Ok statement) bound interval) (as_reply (λ r. reply_of.Opened r.0 r.1 (length statement.leaves)) result) (machine_of self.new) }
+        ensures step { Answers (machine_of self.old)
+            (open_query (machine_of self.old) (Ok statement) bound interval)
+            (as_reply (λ r. reply_of.Opened r.0 r.1 (length statement.leaves)) result)
+            (machine_of self.new) }
         ensures pieces { IfOk result (λ r. self.new.queries ≡ self.old.queries ++ unread r.0 r.1 statement ∷ []) }
         ensures err { OnErr result (self.new.queries ≡ self.old.queries) }
     {
@@ -465,7 +492,9 @@ impl Journal {
         interval: Interval,
     ) -> Result<Option<Gap>, Refusal>
         ensures gap { IfOk result (λ gap. IsGap (machine_of self.old) query leaf slot interval gap) }
-        ensures refused { IfErr result (λ why. scan (machine_of self.old) query leaf slot interval ≡ (reply_of.Refused why, machine_of self.new)) }
+        ensures refused { IfErr result
+            (λ why.
+            scan (machine_of self.old) query leaf slot interval ≡ (reply_of.Refused why, machine_of self.new)) }
         ensures ok { OnOk result (machine_of self.new ≡ machine_of self.old) }
         ensures pieces { self.new.queries ≡ self.old.queries }
     {
@@ -533,7 +562,10 @@ impl Journal {
     /// `UnknownQuery`, then `Incomplete` where no piece covers a leaf.
     pub fn pieces(&self, query: u64) -> Result<(u64, &BoundQuery, &[Seq<Row>]), Refusal>
         ensures ok { IfOk result (λ r. IsCovered self.now query r.0 r.1.now r.2.now) }
-        ensures refused { IfErr result (λ why. (schema : List Table) → finish schema (machine_of self.now) query ≡ refused (machine_of self.now) why) }
+        ensures refused { IfErr result
+            (λ why.
+            (schema : List Table)
+            → finish schema (machine_of self.now) query ≡ refused (machine_of self.now) why) }
     {
         let Some((_, question)) = find_query(self.queries.as_slice(), query) else {
             return Err(Refusal::UnknownQuery);

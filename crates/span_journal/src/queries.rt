@@ -29,7 +29,8 @@ pub(crate) fn find_query(queries: &[KeptQuery], number: u64) -> Option<(usize, &
 pub(crate) fn cover_at(queries: &mut Vec<KeptQuery>, at: usize, leaf: usize, rows: Seq<Row>)
     requires within { at < length queries.old.items }
     requires leaf { IfSome (slice_get queries.old.items at) (λ p. leaf < length p.query.leaves) }
-    ensures { IfSome (slice_get queries.old.items at) (λ p. queries.new.items ≡ slice_set queries.old.items at (covered_by leaf rows p)) }
+    ensures { IfSome (slice_get queries.old.items at)
+        (λ p. queries.new.items ≡ slice_set queries.old.items at (covered_by leaf rows p)) }
 {
     queries[at].cover(leaf, rows);
 }

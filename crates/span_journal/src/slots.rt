@@ -2,6 +2,7 @@
 ghost use Rattle.std.specs.Prelude.{◌≡◌, ◌<◌, ◌≤◌, ◌+◌, ◌^◌, ◌==◌, ◌&&◌, ◌||◌, not, false, max, length, nat_le, nat_lt, slice_get, slice_set, IfSome, IfNone};
 ghost use Rattle.std.specs.List.{list_any, list_all};
 ghost use Rattle.std.specs.Option.{option_copied};
+ghost use Rattle.span_journal.specs.Places.{slot_has};
 ghost use Rattle.span_machine.specs.Machine.{greatest, holds, root_at, if_some, lowest_slot, coordinator_slot, with_last, prepare_timestamp, with_risen_floor};
 ghost use Rattle.span_truetime.specs.Limits.{timestamp_end};
 
@@ -32,7 +33,7 @@ fn holds_directory(_slot_state: &SlotState, _schema: &Schema, _mutation: &Checke
 
 /// Whether the slot is used and its range has the directory of a mutation.
 fn slot_holds(slots: &[SlotState], schema: &Schema, slot: usize, mutation: &CheckedMutation) -> bool
-    ensures { result ≡ if_some (slice_get slots.now slot) false (λ slot_state. holds slot_state (root_at schema.now mutation.now)) }
+    ensures { result ≡ slot_has schema.now slots.now mutation.now slot }
 {
     match slots.get(slot) {
         Some(slot_state) => holds_directory(slot_state, schema, mutation),
@@ -47,7 +48,7 @@ fn is_ready_for(
     prepared: &[Prepared],
     mutation: &CheckedMutation,
 ) -> bool
-    ensures { result ≡ list_any (λ p. if_some (slice_get slots.now p.slot) false (λ slot_state. holds slot_state (root_at schema.now mutation.now))) prepared.now }
+    ensures { result ≡ list_any (λ p. slot_has schema.now slots.now mutation.now p.slot) prepared.now }
 {
     prepared
         .iter()
@@ -60,7 +61,7 @@ fn are_all_ready(
     prepared: &[Prepared],
     mutations: &[CheckedMutation],
 ) -> bool
-    ensures { result ≡ list_all (λ m. list_any (λ p. if_some (slice_get slots.now p.slot) false (λ slot_state. holds slot_state (root_at schema.now m))) prepared.now) mutations.now }
+    ensures { result ≡ list_all (λ m. list_any (λ p. slot_has schema.now slots.now m p.slot) prepared.now) mutations.now }
 {
     mutations
         .iter()
@@ -69,7 +70,11 @@ fn are_all_ready(
 
 /// Whether every mutation is of a slot where the transaction is prepared.
 pub(crate) fn is_ready(slots: &[SlotState], schema: &Schema, transaction: &KeptTransaction) -> bool
-    ensures { result ≡ (not (length transaction.now.prepared == 0) && list_all (λ m. list_any (λ p. if_some (slice_get slots.now p.slot) false (λ slot_state. holds slot_state (root_at schema.now m))) transaction.now.prepared) transaction.now.mutations) }
+    ensures { result
+        ≡ (not (length transaction.now.prepared == 0)
+        && list_all
+        (λ m. list_any (λ p. slot_has schema.now slots.now m p.slot) transaction.now.prepared)
+        transaction.now.mutations) }
 {
     if transaction.prepared().len() == 0 {
         return false;
@@ -121,8 +126,15 @@ pub(crate) fn commit_timestamp(
     prepared: &[Prepared],
     latest: u64,
 ) -> Option<u64>
-    ensures some { IfSome result (λ ts. (ts ≡ max (greatest prepared.now) (max (latest + 1) (if_some (slice_get slots.now (coordinator_slot prepared.now)) 0 (λ slot_state. slot_state.last) + 1))) × (ts < timestamp_end)) }
-    ensures none { IfNone result (timestamp_end ≤ max (greatest prepared.now) (max (latest + 1) (if_some (slice_get slots.now (coordinator_slot prepared.now)) 0 (λ slot_state. slot_state.last) + 1))) }
+    ensures some { IfSome result
+        (λ ts.
+        (ts
+        ≡ max (greatest prepared.now)
+        (max (latest + 1)
+        (if_some (slice_get slots.now (coordinator_slot prepared.now)) 0 (λ slot_state. slot_state.last) + 1)))
+        × (ts < timestamp_end)) }
+    ensures none { IfNone result
+        (timestamp_end ≤ max (greatest prepared.now) (max (latest + 1) (if_some (slice_get slots.now (coordinator_slot prepared.now)) 0 (λ slot_state. slot_state.last) + 1))) }
 {
     let last = last_timestamp(slots, coordinator_slot(prepared));
     let greatest = greatest_timestamp(prepared);
@@ -144,7 +156,9 @@ pub(crate) fn raise_last(slots: &mut Vec<SlotState>, slot: usize, timestamp: u64
 
 /// Whether s is at most the safe time of the slot.
 pub(crate) fn is_safe_at(transactions: &[KeptTransaction], floor: u64, slot: usize, s: u64) -> bool
-    ensures { result ≡ (nat_le s floor && list_all (λ t. list_all (λ p. not (p.slot == slot) || nat_lt s p.timestamp) t.prepared) transactions.now) }
+    ensures { result
+        ≡ (nat_le s floor
+        && list_all (λ t. list_all (λ p. not (p.slot == slot) || nat_lt s p.timestamp) t.prepared) transactions.now) }
 {
     if s > floor {
         return false;
@@ -153,7 +167,8 @@ pub(crate) fn is_safe_at(transactions: &[KeptTransaction], floor: u64, slot: usi
 }
 
 fn are_all_above(transactions: &[KeptTransaction], slot: usize, s: u64) -> bool
-    ensures { result ≡ list_all (λ t. list_all (λ p. not (p.slot == slot) || nat_lt s p.timestamp) t.prepared) transactions.now }
+    ensures { result
+        ≡ list_all (λ t. list_all (λ p. not (p.slot == slot) || nat_lt s p.timestamp) t.prepared) transactions.now }
 {
     transactions
         .iter()
@@ -181,7 +196,8 @@ pub(crate) fn prepare_timestamp(slot_state: &SlotState) -> Option<u64>
 /// Sets the last timestamp of the slot.
 pub(crate) fn set_last(slots: &mut Vec<SlotState>, slot: usize, timestamp: u64)
     requires { slot < length slots.old.items }
-    ensures { IfSome (slice_get slots.old.items slot) (λ slot_state. slots.new.items ≡ slice_set slots.old.items slot (record slot_state { last = timestamp })) }
+    ensures { IfSome (slice_get slots.old.items slot)
+        (λ slot_state. slots.new.items ≡ slice_set slots.old.items slot (record slot_state { last = timestamp })) }
 {
     slots[slot].last = timestamp;
 }
@@ -189,7 +205,8 @@ pub(crate) fn set_last(slots: &mut Vec<SlotState>, slot: usize, timestamp: u64)
 /// Sets the floor of the slot.
 pub(crate) fn set_floor(slots: &mut Vec<SlotState>, slot: usize, floor: u64)
     requires { slot < length slots.old.items }
-    ensures { IfSome (slice_get slots.old.items slot) (λ slot_state. slots.new.items ≡ slice_set slots.old.items slot (record slot_state { floor = floor })) }
+    ensures { IfSome (slice_get slots.old.items slot)
+        (λ slot_state. slots.new.items ≡ slice_set slots.old.items slot (record slot_state { floor = floor })) }
 {
     slots[slot].floor = floor;
 }
@@ -197,7 +214,8 @@ pub(crate) fn set_floor(slots: &mut Vec<SlotState>, slot: usize, floor: u64)
 /// Sets the horizon of the slot.
 pub(crate) fn set_horizon(slots: &mut Vec<SlotState>, slot: usize, h: u64)
     requires { slot < length slots.old.items }
-    ensures { IfSome (slice_get slots.old.items slot) (λ slot_state. slots.new.items ≡ slice_set slots.old.items slot (record slot_state { horizon = h })) }
+    ensures { IfSome (slice_get slots.old.items slot)
+        (λ slot_state. slots.new.items ≡ slice_set slots.old.items slot (record slot_state { horizon = h })) }
 {
     slots[slot].horizon = h;
 }

@@ -83,7 +83,9 @@ pub(crate) fn commit_at(
     requires within { at < length transactions.old.items }
     requires open { IfSome (slice_get transactions.old.items at) (λ t. is_undecided t ≡ true) }
     ensures commit { IfSome (slice_get transactions.old.items at) (λ t. result ≡ commit_of timestamp t) }
-    ensures after { IfSome (slice_get transactions.old.items at) (λ t. transactions.new.items ≡ slice_set transactions.old.items at (with_decision (Decision.Committed timestamp) t)) }
+    ensures after { IfSome (slice_get transactions.old.items at)
+        (λ t.
+        transactions.new.items ≡ slice_set transactions.old.items at (with_decision (Decision.Committed timestamp) t)) }
     ensures fewer { count_by is_undecided transactions.new.items + 1 ≡ count_by is_undecided transactions.old.items }
 {
     transactions[at].commit(alloc, timestamp)
@@ -158,7 +160,8 @@ fn is_any_in_directory_of(
 /// Aborts the transaction at a place.
 pub(crate) fn abort_at(transactions: &mut Vec<KeptTransaction>, at: usize)
     requires { at < length transactions.old.items }
-    ensures after { IfSome (slice_get transactions.old.items at) (λ t. transactions.new.items ≡ slice_set transactions.old.items at (with_decision Decision.Aborted t)) }
+    ensures after { IfSome (slice_get transactions.old.items at)
+        (λ t. transactions.new.items ≡ slice_set transactions.old.items at (with_decision Decision.Aborted t)) }
     ensures fewer { count_by is_undecided transactions.new.items ≤ count_by is_undecided transactions.old.items }
 {
     transactions[at].abort();
@@ -172,7 +175,8 @@ fn remove_prepared_at(
     slot: usize,
 )
     requires { at < length transactions.old.items }
-    ensures after { IfSome (slice_get transactions.old.items at) (λ t. transactions.new.items ≡ slice_set transactions.old.items at (without_prepared slot t)) }
+    ensures after { IfSome (slice_get transactions.old.items at)
+        (λ t. transactions.new.items ≡ slice_set transactions.old.items at (without_prepared slot t)) }
     ensures fewer { count_by is_undecided transactions.new.items ≤ count_by is_undecided transactions.old.items }
 {
     transactions[at].remove_prepared(alloc, slot);
@@ -204,7 +208,10 @@ pub(crate) fn add_prepared_at(
     prepared: Prepared,
 ) -> Result<(), AllocError>
     requires { at < length transactions.old.items }
-    ensures ok { OnOk result (IfSome (slice_get transactions.old.items at) (λ t. transactions.new.items ≡ slice_set transactions.old.items at (add_prepared prepared.slot prepared.timestamp t))) }
+    ensures ok { OnOk result
+        (IfSome (slice_get transactions.old.items at)
+        (λ t.
+        transactions.new.items ≡ slice_set transactions.old.items at (add_prepared prepared.slot prepared.timestamp t))) }
     ensures err { OnErr result (transactions.new.items ≡ transactions.old.items) }
     ensures fewer { count_by is_undecided transactions.new.items ≤ count_by is_undecided transactions.old.items }
 {
@@ -246,7 +253,10 @@ pub(crate) fn check_apply(
     slot: usize,
     interval: Interval,
 ) -> Result<Option<u64>, Refusal>
-    ensures accepted { IfOk result (λ committed. (apply_refusal slot transaction.now interval ≡ None) × (transaction.now.decision ≡ decision_of committed)) }
+    ensures accepted { IfOk result
+        (λ committed.
+        (apply_refusal slot transaction.now interval ≡ None)
+        × (transaction.now.decision ≡ decision_of committed)) }
     ensures refused { IfErr result (λ why. apply_refusal slot transaction.now interval ≡ Some why) }
 {
     if transaction.is_undecided() {

@@ -26,7 +26,9 @@ pub struct RowKey {
 ///
 /// `BadKey`: the bytes code no key of a table of the schema, or they are more than 1,024. `OutOfMemory`: memory ran out.
 pub fn decode_key(alloc: Global, schema: &Schema, bytes: &[u8]) -> Result<RowKey, Refusal>
-    ensures { MatchResult result (λ key. IsCodedKey schema.now key.table key.values × (bytes.now ≡ key_code schema.now key.table key.values)) (λ why. ((why ≡ Refusal.BadKey) × IsNoKey schema.now bytes.now) ⊎ (why ≡ Refusal.OutOfMemory)) }
+    ensures { MatchResult result
+        (λ key. IsCodedKey schema.now key.table key.values × (bytes.now ≡ key_code schema.now key.table key.values))
+        (λ why. ((why ≡ Refusal.BadKey) × IsNoKey schema.now bytes.now) ⊎ (why ≡ Refusal.OutOfMemory)) }
 {
     if bytes.len() > MOST_BYTES {
         return Err(Refusal::BadKey);
@@ -38,7 +40,11 @@ pub fn decode_key(alloc: Global, schema: &Schema, bytes: &[u8]) -> Result<RowKey
 }
 
 fn read_key(alloc: Global, schema: &Schema, bytes: &[u8]) -> Result<Option<RowKey>, AllocError>
-    ensures { IfOk result (λ found. MatchOption found (IsUncoded schema.now bytes.now) (λ key. IsKey schema.now key.table key.values × (bytes.now ≡ key_code schema.now key.table key.values))) }
+    ensures { IfOk result
+        (λ found.
+        MatchOption found (IsUncoded schema.now bytes.now)
+        (λ key.
+        IsKey schema.now key.table key.values × (bytes.now ≡ key_code schema.now key.table key.values))) }
 {
     schema.meets_rules();
     let mut values = Vec::new(alloc);

@@ -24,7 +24,12 @@ pub fn encode_key(
     values: &[Value],
 ) -> Result<Key, Refusal>
     requires { IsTable schema.now table }
-    ensures { MatchResult result (λ key. (encode_cause schema.now table values.now ≡ None) × IsCodedKey schema.now table values.now × (key ≡ key_code schema.now table values.now)) (λ why. (encode_cause schema.now table values.now ≡ Some why) ⊎ (why ≡ Refusal.OutOfMemory)) }
+    ensures { MatchResult result
+        (λ key.
+        (encode_cause schema.now table values.now ≡ None)
+        × IsCodedKey schema.now table values.now
+        × (key ≡ key_code schema.now table values.now))
+        (λ why. (encode_cause schema.now table values.now ≡ Some why) ⊎ (why ≡ Refusal.OutOfMemory)) }
 {
     if !have_kinds(schema.key_columns(table), values) {
         return Err(Refusal::WrongType);

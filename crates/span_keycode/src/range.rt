@@ -36,7 +36,10 @@ pub fn range_of(
     value: &Value,
 ) -> Result<KeyRange, AllocError>
     requires { table < 255 }
-    ensures { IfOk result (λ range. (range.low ≡ range_start table column comparison value.now) × (range.high ≡ range_end table column comparison value.now)) }
+    ensures { IfOk result
+        (λ range.
+        (range.low ≡ range_start table column comparison value.now)
+        × (range.high ≡ range_end table column comparison value.now)) }
 {
     if is_null(value) {
         return Ok(KeyRange {

@@ -65,7 +65,9 @@ fn skip_value(column: KeyPart, bytes: &[u8]) -> usize
 
 fn skip_text(bytes: &[u8], desc: bool) -> usize
     ensures within { result ≤ length bytes.now }
-    ensures text { (text more : List ℕ) → text_at (in_direction desc bytes.now) ≡ Some (text, more) → result + length more ≡ length bytes.now }
+    ensures text { (text more : List ℕ)
+        → text_at (in_direction desc bytes.now) ≡ Some (text, more)
+        → result + length more ≡ length bytes.now }
 {
     let mut at = 0;
     loop {

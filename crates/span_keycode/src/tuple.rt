@@ -15,7 +15,10 @@ pub(crate) fn read_tuple(
     bytes: &[u8],
     values: &mut Vec<Value>,
 ) -> Result<Option<usize>, AllocError>
-    ensures { IfOk result (λ found. MatchOption found (IsNoTuple columns.now bytes.now) (λ n. IsTuple columns.now bytes.now values.old.items values.new.items n)) }
+    ensures { IfOk result
+        (λ found.
+        MatchOption found (IsNoTuple columns.now bytes.now)
+        (λ n. IsTuple columns.now bytes.now values.old.items values.new.items n)) }
 {
     let mut at = 0;
     for i in 0..columns.len() {

@@ -47,7 +47,11 @@ fn read_body(
     desc: bool,
     rest: &[u8],
 ) -> Result<Option<(Value, usize)>, AllocError>
-    ensures found { IfOk result (λ found. MatchOption found (IsNoPlain kind (1 ∷ in_direction desc rest.now)) (λ r. IsPlain kind (1 ∷ in_direction desc rest.now) r.0 (in_direction desc (drop r.1 rest.now)))) }
+    ensures found { IfOk result
+        (λ found.
+        MatchOption found
+        (IsNoPlain kind (1 ∷ in_direction desc rest.now))
+        (λ r. IsPlain kind (1 ∷ in_direction desc rest.now) r.0 (in_direction desc (drop r.1 rest.now)))) }
     ensures within { IfOk result (λ found. MatchOption found (Unit {0}) (λ r. r.1 ≤ length rest.now)) }
 {
     match kind {
@@ -59,7 +63,9 @@ fn read_body(
 }
 
 fn number_body(rest: &[u8], desc: bool) -> Option<(Value, usize)>
-    ensures found { MatchOption result (IsNoPlain kind.Int (1 ∷ in_direction desc rest.now)) (λ r. IsPlain kind.Int (1 ∷ in_direction desc rest.now) r.0 (in_direction desc (drop r.1 rest.now))) }
+    ensures found { MatchOption result
+        (IsNoPlain kind.Int (1 ∷ in_direction desc rest.now))
+        (λ r. IsPlain kind.Int (1 ∷ in_direction desc rest.now) r.0 (in_direction desc (drop r.1 rest.now))) }
     ensures within { MatchOption result (Unit {0}) (λ r. r.1 ≤ length rest.now) }
 {
     if rest.len() < 8 {
@@ -99,7 +105,9 @@ fn to_signed(number: u64) -> i64
 }
 
 fn flag_body(rest: &[u8], desc: bool) -> Option<(Value, usize)>
-    ensures found { MatchOption result (IsNoPlain kind.Bool (1 ∷ in_direction desc rest.now)) (λ r. IsPlain kind.Bool (1 ∷ in_direction desc rest.now) r.0 (in_direction desc (drop r.1 rest.now))) }
+    ensures found { MatchOption result
+        (IsNoPlain kind.Bool (1 ∷ in_direction desc rest.now))
+        (λ r. IsPlain kind.Bool (1 ∷ in_direction desc rest.now) r.0 (in_direction desc (drop r.1 rest.now))) }
     ensures within { MatchOption result (Unit {0}) (λ r. r.1 ≤ length rest.now) }
 {
     if rest.len() == 0 {
@@ -113,7 +121,14 @@ fn flag_body(rest: &[u8], desc: bool) -> Option<(Value, usize)>
 }
 
 fn bytes_body(alloc: Global, rest: &[u8], desc: bool) -> Result<Option<(Value, usize)>, AllocError>
-    ensures found { IfOk result (λ found. MatchOption found (IsNoPlain kind.Bytes (1 ∷ in_direction desc rest.now)) (λ r. IsPlain kind.Bytes (1 ∷ in_direction desc rest.now) r.0 (in_direction desc (drop r.1 rest.now)))) }
+    ensures found { IfOk result
+        (λ found.
+        MatchOption found
+        (IsNoPlain kind.Bytes (1 ∷ in_direction desc rest.now))
+        (λ r.
+        IsPlain kind.Bytes (1 ∷ in_direction desc rest.now)
+        r.0
+        (in_direction desc (drop r.1 rest.now)))) }
     ensures within { IfOk result (λ found. MatchOption found (Unit {0}) (λ r. r.1 ≤ length rest.now)) }
 {
     match read_text(alloc, rest, desc)? {
@@ -123,7 +138,11 @@ fn bytes_body(alloc: Global, rest: &[u8], desc: bool) -> Result<Option<(Value, u
 }
 
 fn text_body(alloc: Global, rest: &[u8], desc: bool) -> Result<Option<(Value, usize)>, AllocError>
-    ensures found { IfOk result (λ found. MatchOption found (IsNoPlain kind.Str (1 ∷ in_direction desc rest.now)) (λ r. IsPlain kind.Str (1 ∷ in_direction desc rest.now) r.0 (in_direction desc (drop r.1 rest.now)))) }
+    ensures found { IfOk result
+        (λ found.
+        MatchOption found
+        (IsNoPlain kind.Str (1 ∷ in_direction desc rest.now))
+        (λ r. IsPlain kind.Str (1 ∷ in_direction desc rest.now) r.0 (in_direction desc (drop r.1 rest.now)))) }
     ensures within { IfOk result (λ found. MatchOption found (Unit {0}) (λ r. r.1 ≤ length rest.now)) }
 {
     match read_text(alloc, rest, desc)? {

@@ -298,7 +298,10 @@ fn lex_at(bytes: &[u8], place: usize) -> LexResult
 fn lexemes(alloc: Global, bytes: &[u8]) -> Result<Vec<Token>, ReadError>
     requires { length bytes.now ≤ LONGEST_TEXT }
     ensures ok { IfOk result (λ found. spec.lex_from 0 0 bytes.now ≡ Some found.items) }
-    ensures err { IfErr result (λ e. (e.refusal ≡ Refusal.OutOfMemory) ⊎ ((e.refusal ≡ Refusal.BadToken) × (spec.lex_from 0 0 bytes.now ≡ None))) }
+    ensures err { IfErr result
+        (λ e.
+        (e.refusal ≡ Refusal.OutOfMemory)
+        ⊎ ((e.refusal ≡ Refusal.BadToken) × (spec.lex_from 0 0 bytes.now ≡ None))) }
 {
     let mut found = Vec::new(alloc);
     let mut at = 0;
@@ -333,7 +336,11 @@ pub fn tokens(alloc: Global, text: &str) -> Result<Seq<Token>, ReadError>
     ensures read { IfOk result (λ found. (is : List Item) × AreItems is × (text.now ≡ text_of is) × (found ≡ tokens_of 0 is)) }
     ensures short { OnOk result (length text.now ≤ LONGEST_TEXT) }
     // A text that consists of items, and is not too long, is read.
-    ensures read_all { (is : List Item) → AreItems is → text.now ≡ text_of is → length text.now ≤ LONGEST_TEXT → ReadsOrOutOfMemory (tokens_of 0 is) result }
+    ensures read_all { (is : List Item)
+        → AreItems is
+        → text.now ≡ text_of is
+        → length text.now ≤ LONGEST_TEXT
+        → ReadsOrOutOfMemory (tokens_of 0 is) result }
     // The refusal distinguishes a text that is too long from one that does not consist of items.
     ensures refused { IfErr result (λ e. IsReadError text.now e.refusal) }
 {

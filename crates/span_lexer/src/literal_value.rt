@@ -70,7 +70,9 @@ fn character(code: u32) -> char
 /// The number that the first two digits write, and the rest; none where there are fewer characters.
 #[tactic(auto, using(crate::proofs::Digits::digit_steps))]
 fn two_digits(text: &str) -> Option<(u32, &str)>
-    ensures value { MatchOption result (spec.two_digits (chars text.now) ≡ None) (λ p. spec.two_digits (chars text.now) ≡ Some (p.0, chars p.1.now)) }
+    ensures value { MatchOption result
+        (spec.two_digits (chars text.now) ≡ None)
+        (λ p. spec.two_digits (chars text.now) ≡ Some (p.0, chars p.1.now)) }
     ensures within { IfSome result (λ p. (p.0 < 256) × (length p.1.now ≤ length text.now)) }
 {
     let (high, rest) = first_char(text)?;
@@ -81,7 +83,9 @@ fn two_digits(text: &str) -> Option<(u32, &str)>
 /// The same of four digits.
 #[tactic(auto, using(crate::proofs::Digits::pair_steps))]
 fn four_digits(text: &str) -> Option<(u32, &str)>
-    ensures value { MatchOption result (spec.four_digits (chars text.now) ≡ None) (λ p. spec.four_digits (chars text.now) ≡ Some (p.0, chars p.1.now)) }
+    ensures value { MatchOption result
+        (spec.four_digits (chars text.now) ≡ None)
+        (λ p. spec.four_digits (chars text.now) ≡ Some (p.0, chars p.1.now)) }
     ensures within { IfSome result (λ p. (p.0 < 65536) × (length p.1.now ≤ length text.now)) }
 {
     let (high, rest) = two_digits(text)?;
@@ -91,7 +95,9 @@ fn four_digits(text: &str) -> Option<(u32, &str)>
 
 /// The character code of an escape, by its letter and its digits, and the rest; none where it has no digits.
 fn code_of(letter: char, text: &str) -> Option<(u32, &str)>
-    ensures value { MatchOption result (spec.code_of letter (chars text.now) ≡ None) (λ p. spec.code_of letter (chars text.now) ≡ Some (p.0, chars p.1.now)) }
+    ensures value { MatchOption result
+        (spec.code_of letter (chars text.now) ≡ None)
+        (λ p. spec.code_of letter (chars text.now) ≡ Some (p.0, chars p.1.now)) }
     ensures within { IfSome result (λ p. (p.0 < 65536) × (length p.1.now ≤ length text.now)) }
 {
     match letter {
@@ -138,7 +144,8 @@ fn read_after_backslash(text: &str) -> (char, &str)
 /// The first character of a literal's value, and the rest of its inside; none where nothing is left.
 #[tactic(auto, using(crate::proofs::Escapes::meaning_steps))]
 fn read_char(text: &str) -> Option<(char, &str)>
-    ensures first { MatchOption result (spec.decode_all (chars text.now) ≡ []) (λ p. spec.decode_all (chars text.now) ≡ p.0 ∷ spec.decode_all (chars p.1.now)) }
+    ensures first { MatchOption result (spec.decode_all (chars text.now) ≡ [])
+        (λ p. spec.decode_all (chars text.now) ≡ p.0 ∷ spec.decode_all (chars p.1.now)) }
     ensures shorter { IfSome result (λ p. length p.1.now < length text.now) }
 {
     let (c, after) = first_char(text)?;

@@ -28,5 +28,10 @@ pub trait Understanding {
 /// holds just the commits that were answered, each applies at its place, and every answer has exactly the rows that its query means on
 /// the tables of all of them. The schema meets its rules, and the transactions that are begun were checked against it.
 pub fn runs_are_histories<U: Understanding>()
-    ensures { (schema : List Table) → MeetsRules schema → (steps : List Step) (replies : List Reply) (last : Machine) → AreOfSchema schema steps → Run U.understands schema start steps replies last → IsHistory U.understands schema steps replies }
+    ensures { (schema : List Table)
+        → MeetsRules schema
+        → (steps : List Step) (replies : List Reply) (last : Machine)
+        → AreOfSchema schema steps
+        → Run U.understands schema start steps replies last
+        → IsHistory U.understands schema steps replies }
 {}

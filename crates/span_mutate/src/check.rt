@@ -29,7 +29,10 @@ fn check_key(
     key: &[Value],
 ) -> Result<(), Refusal>
     requires { IsTable schema.now number }
-    ensures cause { MatchResult result (λ _. first_cause (key_causes schema.now number table.now key.now) ≡ None) (λ why. (first_cause (key_causes schema.now number table.now key.now) ≡ Some why) ⊎ (why ≡ Refusal.OutOfMemory)) }
+    ensures cause { MatchResult result
+        (λ _. first_cause (key_causes schema.now number table.now key.now) ≡ None)
+        (λ why.
+        (first_cause (key_causes schema.now number table.now key.now) ≡ Some why) ⊎ (why ≡ Refusal.OutOfMemory)) }
     ensures coded { IfOk result (λ _. IsCodedKey schema.now number key.now) }
 {
     if !have_kinds(schema.key_columns(number), key) {
@@ -52,7 +55,9 @@ fn check_cell(
     before: &[NamedValue],
     cell: &NamedValue,
 ) -> Result<(), Refusal>
-    ensures { MatchResult result (λ _. first_cause (cell_causes table.now kind before.now cell.now) ≡ None) (λ why. first_cause (cell_causes table.now kind before.now cell.now) ≡ Some why) }
+    ensures { MatchResult result
+        (λ _. first_cause (cell_causes table.now kind before.now cell.now) ≡ None)
+        (λ why. first_cause (cell_causes table.now kind before.now cell.now) ≡ Some why) }
 {
     let column = cell_column(table, cell.column.as_str());
     if is_delete(kind) || column.is_none() || is_named(before, cell.column.as_str()) {
@@ -71,7 +76,9 @@ fn check_cell(
 }
 
 fn check_cells(table: &Table, kind: MutationKind, cells: &[NamedValue]) -> Result<(), Refusal>
-    ensures { MatchResult result (λ _. cells_cause table.now kind [] cells.now ≡ None) (λ why. cells_cause table.now kind [] cells.now ≡ Some why) }
+    ensures { MatchResult result
+        (λ _. cells_cause table.now kind [] cells.now ≡ None)
+        (λ why. cells_cause table.now kind [] cells.now ≡ Some why) }
 {
     for i in 0..cells.len() {
         check_cell(table, kind, &cells[..i], &cells[i])?;
@@ -80,7 +87,9 @@ fn check_cells(table: &Table, kind: MutationKind, cells: &[NamedValue]) -> Resul
 }
 
 fn check_required(table: &Table, mutation: &Mutation) -> Result<(), Refusal>
-    ensures { MatchResult result (λ _. first_cause (lack_causes table.now mutation.now) ≡ None) (λ why. first_cause (lack_causes table.now mutation.now) ≡ Some why) }
+    ensures { MatchResult result
+        (λ _. first_cause (lack_causes table.now mutation.now) ≡ None)
+        (λ why. first_cause (lack_causes table.now mutation.now) ≡ Some why) }
 {
     if may_insert(mutation.kind)
         && lacks_cell(
@@ -103,7 +112,9 @@ fn check_rules(
     mutation: &Mutation,
 ) -> Result<(), Refusal>
     requires { IsTable schema.now number }
-    ensures cause { MatchResult result (λ _. mutation_cause schema.now number table.now mutation.now ≡ None) (λ why. (mutation_cause schema.now number table.now mutation.now ≡ Some why) ⊎ (why ≡ Refusal.OutOfMemory)) }
+    ensures cause { MatchResult result
+        (λ _. mutation_cause schema.now number table.now mutation.now ≡ None)
+        (λ why. (mutation_cause schema.now number table.now mutation.now ≡ Some why) ⊎ (why ≡ Refusal.OutOfMemory)) }
     ensures coded { IfOk result (λ _. IsCodedKey schema.now number mutation.now.key) }
 {
     check_key(alloc, schema, number, table, mutation.key.as_slice())?;
@@ -119,7 +130,11 @@ fn check_at(
     mutation: Mutation,
 ) -> Result<CheckedMutation, Refusal>
     requires { IsTable schema.now number }
-    ensures checked { MatchResult result (λ c. checked_at schema.now number (table_at schema.now number) mutation ≡ Ok c) (λ why. (checked_at schema.now number (table_at schema.now number) mutation ≡ Err why) ⊎ (why ≡ Refusal.OutOfMemory)) }
+    ensures checked { MatchResult result
+        (λ c. checked_at schema.now number (table_at schema.now number) mutation ≡ Ok c)
+        (λ why.
+        (checked_at schema.now number (table_at schema.now number) mutation ≡ Err why)
+        ⊎ (why ≡ Refusal.OutOfMemory)) }
     ensures table { IfOk result (λ c. c.table ≡ number) }
     ensures typed { IfOk result (λ c. IsTypedMutation schema.now c) }
 {
@@ -148,7 +163,9 @@ pub(crate) fn check(
     schema: &Schema,
     mutation: Mutation,
 ) -> Result<CheckedMutation, Refusal>
-    ensures checked { MatchResult result (λ c. checked schema.now mutation ≡ Ok c) (λ why. (checked schema.now mutation ≡ Err why) ⊎ (why ≡ Refusal.OutOfMemory)) }
+    ensures checked { MatchResult result
+        (λ c. checked schema.now mutation ≡ Ok c)
+        (λ why. (checked schema.now mutation ≡ Err why) ⊎ (why ≡ Refusal.OutOfMemory)) }
     ensures table { IfOk result (λ c. IsTable schema.now c.table) }
     ensures typed { IfOk result (λ c. IsTypedMutation schema.now c) }
 {

@@ -157,7 +157,9 @@ pub(crate) fn values_named(
     cells: &[NamedValue],
     columns: &[Column],
 ) -> Result<Vec<Option<Value>>, Refusal>
-    ensures { MatchResult result (λ values. values.items ≡ values_named key.now cells.now columns.now) (λ why. why ≡ Refusal.OutOfMemory) }
+    ensures { MatchResult result
+        (λ values. values.items ≡ values_named key.now cells.now columns.now)
+        (λ why. why ≡ Refusal.OutOfMemory) }
 {
     let mut values = Vec::new(alloc);
     for column in columns {

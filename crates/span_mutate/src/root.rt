@@ -138,7 +138,9 @@ fn first_values(values: &[Value], len: usize) -> &[Value]
 }
 
 fn merge_cell(alloc: Global, named: &Option<Value>, old: Option<&Value>) -> Result<Value, Refusal>
-    ensures { MatchResult result (λ value. value ≡ unwrap_or named.now (unwrap_or (option_copied old.entry) Value.Null)) (λ why. why ≡ Refusal.OutOfMemory) }
+    ensures { MatchResult result
+        (λ value. value ≡ unwrap_or named.now (unwrap_or (option_copied old.entry) Value.Null))
+        (λ why. why ≡ Refusal.OutOfMemory) }
 {
     match (named, old) {
         (Some(value), _) => value.copy(alloc),
@@ -160,7 +162,11 @@ fn merge_cells(alloc: Global, named: &[Option<Value>], old: &[Value]) -> Result<
 
 // The refusal of a row that is too long to be packed.
 fn check_length(alloc: Global, cells: &[Value]) -> Result<(), Refusal>
-    ensures { MatchResult result (λ _. nat_lt MOST_BYTES (length (row_code cells.now)) ≡ false) (λ why. ((why ≡ Refusal.RowTooLong) × (nat_lt MOST_BYTES (length (row_code cells.now)) ≡ true)) ⊎ (why ≡ Refusal.OutOfMemory)) }
+    ensures { MatchResult result
+        (λ _. nat_lt MOST_BYTES (length (row_code cells.now)) ≡ false)
+        (λ why.
+        ((why ≡ Refusal.RowTooLong) × (nat_lt MOST_BYTES (length (row_code cells.now)) ≡ true))
+        ⊎ (why ≡ Refusal.OutOfMemory)) }
 {
     let _packed = pack(alloc, cells)?;
     Ok(())
@@ -183,7 +189,9 @@ fn put(
 ) -> Result<Vec<TableRow>, Refusal>
     requires table { IsTable schema.now mutation.now.table }
     requires kind { is_delete mutation.now.kind ≡ false }
-    ensures { MatchResult result (λ after. apply_one schema.now rows.items mutation.now ≡ Ok after.items) (λ why. (apply_one schema.now rows.items mutation.now ≡ Err why) ⊎ (why ≡ Refusal.OutOfMemory)) }
+    ensures { MatchResult result
+        (λ after. apply_one schema.now rows.items mutation.now ≡ Ok after.items)
+        (λ why. (apply_one schema.now rows.items mutation.now ≡ Err why) ⊎ (why ≡ Refusal.OutOfMemory)) }
 {
     let key = mutation.key.as_slice();
     let before = row_at(mutation.table, key, rows.as_slice());
@@ -242,7 +250,9 @@ fn delete(
     mutation: &CheckedMutation,
 ) -> Result<Vec<TableRow>, Refusal>
     requires { is_delete mutation.now.kind ≡ true }
-    ensures { MatchResult result (λ after. apply_one schema.now rows.items mutation.now ≡ Ok after.items) (λ why. (apply_one schema.now rows.items mutation.now ≡ Err why) ⊎ (why ≡ Refusal.OutOfMemory)) }
+    ensures { MatchResult result
+        (λ after. apply_one schema.now rows.items mutation.now ≡ Ok after.items)
+        (λ why. (apply_one schema.now rows.items mutation.now ≡ Err why) ⊎ (why ≡ Refusal.OutOfMemory)) }
 {
     let key = mutation.key.as_slice();
     if !has_row(mutation.table, key, rows.as_slice()) {
@@ -267,7 +277,9 @@ pub fn apply_one(
     mutation: &CheckedMutation,
 ) -> Result<Vec<TableRow>, Refusal>
     requires { IsTable schema.now mutation.now.table }
-    ensures { MatchResult result (λ after. apply_one schema.now rows.items mutation.now ≡ Ok after.items) (λ why. (apply_one schema.now rows.items mutation.now ≡ Err why) ⊎ (why ≡ Refusal.OutOfMemory)) }
+    ensures { MatchResult result
+        (λ after. apply_one schema.now rows.items mutation.now ≡ Ok after.items)
+        (λ why. (apply_one schema.now rows.items mutation.now ≡ Err why) ⊎ (why ≡ Refusal.OutOfMemory)) }
 {
     if is_delete(mutation.kind) {
         return delete(alloc, schema, rows, mutation);
@@ -286,7 +298,9 @@ pub fn check_root(
     mutations: &[CheckedMutation],
 ) -> Result<Vec<TableRow>, Refusal>
     requires { All (λ m. IsTable schema.now m.table) mutations.now }
-    ensures { MatchResult result (λ after. apply schema.now rows.items mutations.now ≡ Ok after.items) (λ why. (apply schema.now rows.items mutations.now ≡ Err why) ⊎ (why ≡ Refusal.OutOfMemory)) }
+    ensures { MatchResult result
+        (λ after. apply schema.now rows.items mutations.now ≡ Ok after.items)
+        (λ why. (apply schema.now rows.items mutations.now ≡ Err why) ⊎ (why ≡ Refusal.OutOfMemory)) }
 {
     let mut now = rows;
     for mutation in mutations {

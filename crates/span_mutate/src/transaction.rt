@@ -48,7 +48,8 @@ impl Transaction {
         ensures tables { IfOk result (λ t. All (λ m. IsTable schema.now m.table) t) }
         ensures keyed { IfOk result (λ t. AreKeyed schema.now t) }
         ensures typed { IfOk result (λ t. AreTypedMutations schema.now t) }
-        ensures refused { IfErr result (λ why. (why ≡ Refusal.OutOfMemory) ⊎ (checked_transaction schema.now mutations.items ≡ Err why)) }
+        ensures refused { IfErr result
+            (λ why. (why ≡ Refusal.OutOfMemory) ⊎ (checked_transaction schema.now mutations.items ≡ Err why)) }
     {
         if mutations.is_empty() {
             return Err(Refusal::EmptyTransaction);

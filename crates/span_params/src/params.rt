@@ -99,7 +99,10 @@ impl Params {
     pub fn add(&mut self, name: Text, kind: Kind, value: Value) -> Result<(), Refusal>
         ensures added { OnOk result (self.new ≡ spec.with_parameter (record { name = name; kind = kind; value = value }) self.old) }
         ensures typed { OnOk result (is_of_kind kind value ≡ true) }
-        ensures refused { IfErr result (λ why. ((why ≡ Refusal.WrongType) × (is_of_kind kind value ≡ false)) ⊎ ((why ≡ Refusal.OutOfMemory) × (is_of_kind kind value ≡ true))) }
+        ensures refused { IfErr result
+            (λ why.
+            ((why ≡ Refusal.WrongType) × (is_of_kind kind value ≡ false))
+            ⊎ ((why ≡ Refusal.OutOfMemory) × (is_of_kind kind value ≡ true))) }
         ensures unchanged { OnErr result (self.new ≡ self.old) }
     {
         if !is_of_kind(kind, &value) {

@@ -53,7 +53,9 @@ impl<
     fn subquery<'a>(&self, tokens: &'a [Lexeme]) -> Result<(Query, &'a [Lexeme]), SyntaxError>
         requires nests { NestsQueries self.now.clauses.text.now self.now.clauses.left (F.pre self.now.read) (F.post self.now.read) }
         requires limited { self.now.clauses.left ≤ limit }
-        ensures { Gives result ((spec.subquery self.now.clauses.text.now self.now.clauses.left (spec.nested_query self.now.clauses.text.now self.now.clauses.left)).read tokens.now) }
+        ensures { Gives result
+            ((spec.subquery self.now.clauses.text.now self.now.clauses.left (spec.nested_query self.now.clauses.text.now self.now.clauses.left)).read
+            tokens.now) }
     {
         let (_, rest) = enter(self.clauses.left, Sort::Sign(Sign::Open), tokens)?;
         let (query, rest) = self.after(rest)?;
@@ -65,7 +67,9 @@ impl<
     fn named_item<'a>(&self, tokens: &'a [Lexeme]) -> Result<(Item, &'a [Lexeme]), SyntaxError>
         requires nests { NestsQueries self.now.clauses.text.now self.now.clauses.left (F.pre self.now.read) (F.post self.now.read) }
         requires limited { self.now.clauses.left ≤ limit }
-        ensures { Gives result ((spec.named_item self.now.clauses.text.now self.now.clauses.left (spec.nested_query self.now.clauses.text.now self.now.clauses.left)).read tokens.now) }
+        ensures { Gives result
+            ((spec.named_item self.now.clauses.text.now self.now.clauses.left (spec.nested_query self.now.clauses.text.now self.now.clauses.left)).read
+            tokens.now) }
     {
         let (name, rest) = spelling(self.clauses.alloc, self.clauses.text, Sort::Name, tokens)?;
         let (other, rest) = alias(self.clauses.alloc, self.clauses.text, rest)?;
@@ -77,7 +81,9 @@ impl<
     fn derived_item<'a>(&self, tokens: &'a [Lexeme]) -> Result<(Item, &'a [Lexeme]), SyntaxError>
         requires nests { NestsQueries self.now.clauses.text.now self.now.clauses.left (F.pre self.now.read) (F.post self.now.read) }
         requires limited { self.now.clauses.left ≤ limit }
-        ensures { Gives result ((spec.derived_item self.now.clauses.text.now self.now.clauses.left (spec.nested_query self.now.clauses.text.now self.now.clauses.left)).read tokens.now) }
+        ensures { Gives result
+            ((spec.derived_item self.now.clauses.text.now self.now.clauses.left (spec.nested_query self.now.clauses.text.now self.now.clauses.left)).read
+            tokens.now) }
     {
         let (query, rest) = self.subquery(tokens)?;
         let name = required_alias(self.clauses.alloc, self.clauses.text, rest);
@@ -93,7 +99,9 @@ impl<
     fn item<'a>(&self, tokens: &'a [Lexeme]) -> Result<(Item, &'a [Lexeme]), SyntaxError>
         requires nests { NestsQueries self.now.clauses.text.now self.now.clauses.left (F.pre self.now.read) (F.post self.now.read) }
         requires limited { self.now.clauses.left ≤ limit }
-        ensures { Gives result ((spec.item self.now.clauses.text.now self.now.clauses.left (spec.nested_query self.now.clauses.text.now self.now.clauses.left)).read tokens.now) }
+        ensures { Gives result
+            ((spec.item self.now.clauses.text.now self.now.clauses.left (spec.nested_query self.now.clauses.text.now self.now.clauses.left)).read
+            tokens.now) }
     {
         if goes_on(Part::NamedItem, tokens) {
             return self.named_item(tokens);
@@ -106,7 +114,9 @@ impl<
     fn join<'a>(&self, tokens: &'a [Lexeme]) -> Result<(Join, &'a [Lexeme]), SyntaxError>
         requires nests { NestsQueries self.now.clauses.text.now self.now.clauses.left (F.pre self.now.read) (F.post self.now.read) }
         requires limited { self.now.clauses.left ≤ limit }
-        ensures { Gives result ((spec.join self.now.clauses.text.now self.now.clauses.left (spec.nested_query self.now.clauses.text.now self.now.clauses.left)).read tokens.now) }
+        ensures { Gives result
+            ((spec.join self.now.clauses.text.now self.now.clauses.left (spec.nested_query self.now.clauses.text.now self.now.clauses.left)).read
+            tokens.now) }
     {
         let (is_left, rest) = join_kind(tokens)?;
         let (item, rest) = self.item(rest)?;
@@ -119,7 +129,9 @@ impl<
     fn joins<'a>(&self, tokens: &'a [Lexeme]) -> Result<(Items<Join>, &'a [Lexeme]), SyntaxError>
         requires nests { NestsQueries self.now.clauses.text.now self.now.clauses.left (F.pre self.now.read) (F.post self.now.read) }
         requires limited { self.now.clauses.left ≤ limit }
-        ensures { Gives result ((each Part.Join (spec.join self.now.clauses.text.now self.now.clauses.left (spec.nested_query self.now.clauses.text.now self.now.clauses.left))).read tokens.now) }
+        ensures { Gives result
+            ((each Part.Join (spec.join self.now.clauses.text.now self.now.clauses.left (spec.nested_query self.now.clauses.text.now self.now.clauses.left))).read
+            tokens.now) }
     {
         let mut found = Items::new(self.clauses.alloc);
         let mut rest = tokens;
@@ -139,7 +151,9 @@ impl<
     ) -> Result<((Items<Join>, Conditions), &'a [Lexeme]), SyntaxError>
         requires nests { NestsQueries self.now.clauses.text.now self.now.clauses.left (F.pre self.now.read) (F.post self.now.read) }
         requires limited { self.now.clauses.left ≤ limit }
-        ensures { Gives result ((spec.block_joins self.now.clauses.text.now self.now.clauses.left (spec.nested_query self.now.clauses.text.now self.now.clauses.left)).read tokens.now) }
+        ensures { Gives result
+            ((spec.block_joins self.now.clauses.text.now self.now.clauses.left (spec.nested_query self.now.clauses.text.now self.now.clauses.left)).read
+            tokens.now) }
     {
         let (joins, rest) = self.joins(tokens)?;
         pair_with(joins, self.clauses.block_filter(rest))
@@ -153,7 +167,9 @@ impl<
     ) -> Result<((Item, (Items<Join>, Conditions)), &'a [Lexeme]), SyntaxError>
         requires nests { NestsQueries self.now.clauses.text.now self.now.clauses.left (F.pre self.now.read) (F.post self.now.read) }
         requires limited { self.now.clauses.left ≤ limit }
-        ensures { Gives result ((spec.block_from self.now.clauses.text.now self.now.clauses.left (spec.nested_query self.now.clauses.text.now self.now.clauses.left)).read tokens.now) }
+        ensures { Gives result
+            ((spec.block_from self.now.clauses.text.now self.now.clauses.left (spec.nested_query self.now.clauses.text.now self.now.clauses.left)).read
+            tokens.now) }
     {
         let (_, rest) = take(Sort::Word(Word::From), tokens)?;
         let (from, rest) = self.item(rest)?;
@@ -165,7 +181,9 @@ impl<
     fn block_body<'a>(&self, tokens: &'a [Lexeme]) -> Result<(Block, &'a [Lexeme]), SyntaxError>
         requires nests { NestsQueries self.now.clauses.text.now self.now.clauses.left (F.pre self.now.read) (F.post self.now.read) }
         requires limited { self.now.clauses.left ≤ limit }
-        ensures { Gives result ((spec.block_body self.now.clauses.text.now self.now.clauses.left (spec.nested_query self.now.clauses.text.now self.now.clauses.left)).read tokens.now) }
+        ensures { Gives result
+            ((spec.block_body self.now.clauses.text.now self.now.clauses.left (spec.nested_query self.now.clauses.text.now self.now.clauses.left)).read
+            tokens.now) }
     {
         let (is_distinct, rest) = quantifier(tokens)?;
         let (outputs, rest) = self.clauses.outputs(rest)?;
@@ -191,7 +209,9 @@ impl<
     fn block<'a>(&self, tokens: &'a [Lexeme]) -> Result<(Block, &'a [Lexeme]), SyntaxError>
         requires nests { NestsQueries self.now.clauses.text.now self.now.clauses.left (F.pre self.now.read) (F.post self.now.read) }
         requires limited { self.now.clauses.left ≤ limit }
-        ensures { Gives result ((spec.block self.now.clauses.text.now self.now.clauses.left (spec.nested_query self.now.clauses.text.now self.now.clauses.left)).read tokens.now) }
+        ensures { Gives result
+            ((spec.block self.now.clauses.text.now self.now.clauses.left (spec.nested_query self.now.clauses.text.now self.now.clauses.left)).read
+            tokens.now) }
     {
         let (_, rest) = take(Sort::Word(Word::Select), tokens)?;
         self.block_body(rest)
@@ -202,7 +222,9 @@ impl<
     fn union_more<'a>(&self, tokens: &'a [Lexeme]) -> Result<(Block, &'a [Lexeme]), SyntaxError>
         requires nests { NestsQueries self.now.clauses.text.now self.now.clauses.left (F.pre self.now.read) (F.post self.now.read) }
         requires limited { self.now.clauses.left ≤ limit }
-        ensures { Gives result ((spec.union_more self.now.clauses.text.now self.now.clauses.left (spec.nested_query self.now.clauses.text.now self.now.clauses.left)).read tokens.now) }
+        ensures { Gives result
+            ((spec.union_more self.now.clauses.text.now self.now.clauses.left (spec.nested_query self.now.clauses.text.now self.now.clauses.left)).read
+            tokens.now) }
     {
         let (_, rest) = take(Sort::Word(Word::Union), tokens)?;
         let (_, rest) = take(Sort::Word(Word::All), rest)?;
@@ -217,7 +239,9 @@ impl<
     ) -> Result<(Items<Block>, &'a [Lexeme]), SyntaxError>
         requires nests { NestsQueries self.now.clauses.text.now self.now.clauses.left (F.pre self.now.read) (F.post self.now.read) }
         requires limited { self.now.clauses.left ≤ limit }
-        ensures { Gives result ((each Part.UnionMore (spec.union_more self.now.clauses.text.now self.now.clauses.left (spec.nested_query self.now.clauses.text.now self.now.clauses.left))).read tokens.now) }
+        ensures { Gives result
+            ((each Part.UnionMore (spec.union_more self.now.clauses.text.now self.now.clauses.left (spec.nested_query self.now.clauses.text.now self.now.clauses.left))).read
+            tokens.now) }
     {
         let mut found = Items::new(self.clauses.alloc);
         let mut rest = tokens;
@@ -243,7 +267,9 @@ impl<
     >
         requires nests { NestsQueries self.now.clauses.text.now self.now.clauses.left (F.pre self.now.read) (F.post self.now.read) }
         requires limited { self.now.clauses.left ≤ limit }
-        ensures { Gives result ((spec.unions self.now.clauses.text.now self.now.clauses.left (spec.nested_query self.now.clauses.text.now self.now.clauses.left)).read tokens.now) }
+        ensures { Gives result
+            ((spec.unions self.now.clauses.text.now self.now.clauses.left (spec.nested_query self.now.clauses.text.now self.now.clauses.left)).read
+            tokens.now) }
     {
         let (others, rest) = self.union_rest(tokens)?;
         let order = order_and_limit(self.clauses.alloc, self.clauses.text, rest);
@@ -255,7 +281,9 @@ impl<
     fn query<'a>(&self, tokens: &'a [Lexeme]) -> Result<(Query, &'a [Lexeme]), SyntaxError>
         requires nests { NestsQueries self.now.clauses.text.now self.now.clauses.left (F.pre self.now.read) (F.post self.now.read) }
         requires limited { self.now.clauses.left ≤ limit }
-        ensures { Gives result ((spec.query self.now.clauses.text.now self.now.clauses.left (spec.nested_query self.now.clauses.text.now self.now.clauses.left)).read tokens.now) }
+        ensures { Gives result
+            ((spec.query self.now.clauses.text.now self.now.clauses.left (spec.nested_query self.now.clauses.text.now self.now.clauses.left)).read
+            tokens.now) }
     {
         let (first, rest) = self.block(tokens)?;
         let ((first, (others, (order, limit))), rest) = pair_with(first, self.unions(rest))?;

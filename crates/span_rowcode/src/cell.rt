@@ -84,7 +84,8 @@ fn flag_body(rest: &[u8]) -> Option<(Value, usize)>
 
 fn bytes_body(alloc: Global, rest: &[u8]) -> Result<Option<(Value, usize)>, AllocError>
     requires { length rest.now ≤ MOST_BYTES }
-    ensures { IfOk result (λ found. MatchOption found (IsNoBody kind.Bytes rest.now) (λ r. IsBody kind.Bytes rest.now r.0 r.1)) }
+    ensures { IfOk result
+        (λ found. MatchOption found (IsNoBody kind.Bytes rest.now) (λ r. IsBody kind.Bytes rest.now r.0 r.1)) }
 {
     match bytes_at(rest) {
         None => Ok(None),

@@ -14,7 +14,10 @@ pub const MOST_BYTES: usize = 1_048_576;
 ///
 /// `RowTooLong`: the packed row has more than 1,048,576 bytes. `OutOfMemory`: memory ran out.
 pub fn pack(alloc: Global, cells: &[Value]) -> Result<Vec<u8>, Refusal>
-    ensures { MatchResult result (λ bytes. (bytes.items ≡ row_code cells.now) × (length (row_code cells.now) ≤ MOST_BYTES)) (λ why. ((why ≡ Refusal.RowTooLong) × (MOST_BYTES < length (row_code cells.now))) ⊎ (why ≡ Refusal.OutOfMemory)) }
+    ensures { MatchResult result
+        (λ bytes. (bytes.items ≡ row_code cells.now) × (length (row_code cells.now) ≤ MOST_BYTES))
+        (λ why.
+        ((why ≡ Refusal.RowTooLong) × (MOST_BYTES < length (row_code cells.now))) ⊎ (why ≡ Refusal.OutOfMemory)) }
 {
     match bytes_left(cells) {
         None => Err(Refusal::RowTooLong),
@@ -28,7 +31,9 @@ pub fn pack(alloc: Global, cells: &[Value]) -> Result<Vec<u8>, Refusal>
 
 // What is left of the most bytes.
 fn bytes_left(cells: &[Value]) -> Option<usize>
-    ensures { MatchOption result (MOST_BYTES < length (row_code cells.now)) (λ left. left + length (row_code cells.now) ≡ MOST_BYTES) }
+    ensures { MatchOption result
+        (MOST_BYTES < length (row_code cells.now))
+        (λ left. left + length (row_code cells.now) ≡ MOST_BYTES) }
 {
     let mut left = MOST_BYTES;
     for cell in cells {

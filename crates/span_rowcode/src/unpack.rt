@@ -20,7 +20,11 @@ pub fn unpack(
     bytes: &[u8],
 ) -> Result<Vec<Value>, Refusal>
     requires { IsTable schema.now table }
-    ensures { MatchResult result (λ cells. IsRow (other_kinds schema.now table) cells.items × (bytes.now ≡ row_code cells.items)) (λ why. ((why ≡ Refusal.BadRow) × IsNoRow (other_kinds schema.now table) bytes.now) ⊎ (why ≡ Refusal.OutOfMemory)) }
+    ensures { MatchResult result
+        (λ cells. IsRow (other_kinds schema.now table) cells.items × (bytes.now ≡ row_code cells.items))
+        (λ why.
+        ((why ≡ Refusal.BadRow) × IsNoRow (other_kinds schema.now table) bytes.now)
+        ⊎ (why ≡ Refusal.OutOfMemory)) }
 {
     if bytes.len() > MOST_BYTES {
         return Err(Refusal::BadRow);
@@ -33,7 +37,10 @@ pub fn unpack(
 
 fn read_row(alloc: Global, kinds: &[Kind], bytes: &[u8]) -> Result<Option<Vec<Value>>, AllocError>
     requires { length bytes.now ≤ MOST_BYTES }
-    ensures { IfOk result (λ found. MatchOption found (IsNoRow kinds.now bytes.now) (λ cells. AreCells kinds.now cells.items × (bytes.now ≡ row_code cells.items))) }
+    ensures { IfOk result
+        (λ found.
+        MatchOption found (IsNoRow kinds.now bytes.now)
+        (λ cells. AreCells kinds.now cells.items × (bytes.now ≡ row_code cells.items))) }
 {
     let mut cells = Vec::with_capacity(alloc, kinds.len())?;
     let mut at = 0;

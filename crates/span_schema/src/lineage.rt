@@ -23,7 +23,11 @@ pub struct Lineage {
 
 /// The lineage of each table, if all of them meet the rules, and else the first cause of refusal.
 pub(crate) fn lineages_of(alloc: Global, tables: &[Table]) -> Result<Vec<Lineage>, Refusal>
-    ensures { MatchResult result (λ lines. MeetsRules tables.now × (lines.items ≡ map (lineage_at tables.now) (range_with_len 0 (length tables.now)))) (λ why. IsFirstCause tables.now why ⊎ (why ≡ Refusal.OutOfMemory)) }
+    ensures { MatchResult result
+        (λ lines.
+        MeetsRules tables.now
+        × (lines.items ≡ map (lineage_at tables.now) (range_with_len 0 (length tables.now))))
+        (λ why. IsFirstCause tables.now why ⊎ (why ≡ Refusal.OutOfMemory)) }
 {
     let mut lines = Vec::new(alloc);
     for i in 0..tables.len() {
@@ -40,7 +44,10 @@ fn lineage_of(
     lines: &[Lineage],
 ) -> Result<Lineage, Refusal>
     requires { length before.now ≡ length lines.now }
-    ensures { MatchResult result (λ line. (judged_in before.now table.now lines.now ≡ None) × (line ≡ lineage_in before.now table.now lines.now)) (λ why. (judged_in before.now table.now lines.now ≡ Some why) ⊎ (why ≡ Refusal.OutOfMemory)) }
+    ensures { MatchResult result
+        (λ line.
+        (judged_in before.now table.now lines.now ≡ None) × (line ≡ lineage_in before.now table.now lines.now))
+        (λ why. (judged_in before.now table.now lines.now ≡ Some why) ⊎ (why ≡ Refusal.OutOfMemory)) }
 {
     let parent = place_of_parent(before, table);
     let mut path = path_of_parent(alloc, lines, parent)?;

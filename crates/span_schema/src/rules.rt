@@ -25,7 +25,9 @@ pub const LONGEST: u64 = 1_048_576;
 
 /// The first rule that a table breaks, if it breaks one. The tables before it meet the rules; `level` is its own level.
 pub(crate) fn check_table(before: &[Table], table: &Table, level: usize) -> Result<(), Refusal>
-    ensures { MatchResult result (λ _. first_cause (causes_of before.now table.now level) ≡ None) (λ why. first_cause (causes_of before.now table.now level) ≡ Some why) }
+    ensures { MatchResult result
+        (λ _. first_cause (causes_of before.now table.now level) ≡ None)
+        (λ why. first_cause (causes_of before.now table.now level) ≡ Some why) }
 {
     if is_too_many(before, table) {
         return Err(Refusal::TooMany);

@@ -45,7 +45,9 @@ impl Schema {
     /// before (`NoParent`); a key that begins with the parent's key and adds to it (`KeyNotPrefixed`); at most 7 levels
     /// (`HierarchyTooDeep`). The first rule that is broken is the refusal. `OutOfMemory`: memory ran out.
     pub fn new(alloc: Global, tables: Vec<Table>) -> Result<Schema, Refusal>
-        ensures { MatchResult result (λ schema. (schema ≡ tables.items) × MeetsRules tables.items) (λ why. IsFirstCause tables.items why ⊎ (why ≡ Refusal.OutOfMemory)) }
+        ensures { MatchResult result
+            (λ schema. (schema ≡ tables.items) × MeetsRules tables.items)
+            (λ why. IsFirstCause tables.items why ⊎ (why ≡ Refusal.OutOfMemory)) }
     {
         let lines = lineages_of(alloc, tables.as_slice())?;
         let layouts = layouts_of(alloc, tables.as_slice())?;

@@ -52,7 +52,8 @@ fn writes_of_rows(alloc: Global, schema: &Schema, rows: &[TableRow]) -> Result<V
 
 /// By their keys.
 fn sorted(writes: Vec<Write>) -> Result<Vec<Write>, AllocError>
-    ensures { IfOk result (λ all. IsPermutation writes.items all.items × IsSortedBy (λ v w. is_lt (byte_order v.key w.key)) all.items) }
+    ensures { IfOk result
+        (λ all. IsPermutation writes.items all.items × IsSortedBy (λ v w. is_lt (byte_order v.key w.key)) all.items) }
 {
     let mut writes = writes;
     writes.sort_by(|v, w| v.key.as_slice().cmp(w.key.as_slice()))?;
@@ -143,7 +144,9 @@ fn changes(
 ) -> Result<Vec<Write>, Refusal>
     requires order { AreInOrder store.now }
     requires typed { AreTyped schema.now after.now }
-    ensures { MatchResult result (λ ws. AreDiffs schema.now store.now found.now after.now ws.items) (λ why. why ≡ Refusal.OutOfMemory) }
+    ensures { MatchResult result
+        (λ ws. AreDiffs schema.now store.now found.now after.now ws.items)
+        (λ why. why ≡ Refusal.OutOfMemory) }
 {
     let all = writes_of_rows(alloc, schema, after)?;
     let left = sorted(all)?;

@@ -39,7 +39,9 @@ fn prepare_again(
 )
     requires owned { AreOwned arena.old prepared.old.items }
     requires again { 0 < count_for chain.number prepared.old.items }
-    ensures { HasPrepared arena.old arena.new prepared.old.items prepared.new.items chain.number (record { txn = txn; row = row }) }
+    ensures { HasPrepared arena.old arena.new prepared.old.items prepared.new.items
+        chain.number
+        (record { txn = txn; row = row }) }
 {
     let at = place_for(prepared, chain);
     arena.give_back(prepared[at].node);
@@ -61,7 +63,11 @@ pub(crate) fn prepare_node(
 ) -> Result<(), Refusal>
     requires owned { AreOwned arena.old prepared.old.items }
     requires is_chain { IsChain arena.old chain.number }
-    ensures ok { OnOk result (HasPrepared arena.old arena.new prepared.old.items prepared.new.items chain.number (record { txn = txn; row = row })) }
+    ensures ok { OnOk result
+        (HasPrepared arena.old arena.new prepared.old.items
+        prepared.new.items
+        chain.number
+        (record { txn = txn; row = row })) }
     ensures arena { OnErr result (arena.new ≡ arena.old) }
     ensures nodes { OnErr result (prepared.new.items ≡ prepared.old.items) }
     ensures refused { IfErr result (IsRefusedFor arena.old chain.number) }

@@ -99,7 +99,8 @@ pub(crate) fn push_beginning<'a>(
     store: &'a Store,
     front: &[u8],
 ) -> Result<(), AllocError>
-    ensures { OnOk result (found.new.items ≡ found.old.items ++ map versions_alone (filter (λ c. begins_with c.key front.now) store.now)) }
+    ensures { OnOk result
+        (found.new.items ≡ found.old.items ++ map versions_alone (filter (λ c. begins_with c.key front.now) store.now)) }
 {
     push_keys(
         found,

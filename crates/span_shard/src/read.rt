@@ -29,7 +29,9 @@ pub fn table_row(
     key: &[u8],
     row: &[u8],
 ) -> Result<TableRow, Refusal>
-    ensures { MatchResult result (λ r. IsTyped schema.now r × (key.now ≡ code_of schema.now r) × (row.now ≡ row_code r.cells)) (λ why. (why ≡ Refusal.OutOfMemory) ⊎ IsNoTableRow schema.now key.now row.now) }
+    ensures { MatchResult result
+        (λ r. IsTyped schema.now r × (key.now ≡ code_of schema.now r) × (row.now ≡ row_code r.cells))
+        (λ why. (why ≡ Refusal.OutOfMemory) ⊎ IsNoTableRow schema.now key.now row.now) }
 {
     schema.meets_rules();
     let key = decode_key(alloc, schema, key)?;
@@ -63,7 +65,9 @@ pub(crate) fn read_rows(
     schema: &Schema,
     found: &[StoredKey<'_>],
 ) -> Result<Vec<TableRow>, Refusal>
-    ensures { MatchResult result (λ rows. AreRead schema.now found.now rows.items) (λ why. (why ≡ Refusal.OutOfMemory) ⊎ HasUnread schema.now found.now) }
+    ensures { MatchResult result
+        (λ rows. AreRead schema.now found.now rows.items)
+        (λ why. (why ≡ Refusal.OutOfMemory) ⊎ HasUnread schema.now found.now) }
 {
     let mut rows = Vec::new(alloc);
     for key in found {
@@ -76,7 +80,8 @@ pub(crate) fn read_rows(
 
 /// The rows in the order of a database.
 fn sorted(schema: &Schema, rows: Vec<TableRow>) -> Result<Vec<TableRow>, AllocError>
-    ensures { IfOk result (λ all. IsPermutation rows.items all.items × IsSortedBy (λ q r. is_lt (rows_cmp schema.now q r)) all.items) }
+    ensures { IfOk result
+        (λ all. IsPermutation rows.items all.items × IsSortedBy (λ q r. is_lt (rows_cmp schema.now q r)) all.items) }
 {
     let mut rows = rows;
     rows.sort_by(|q, r| order_of_rows(schema, q, r))?;

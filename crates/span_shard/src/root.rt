@@ -32,7 +32,9 @@ fn all_roots(
     mutations: &[CheckedMutation],
 ) -> Result<Vec<Key>, Refusal>
     requires { AreTypedMutations schema.now mutations.now }
-    ensures { MatchResult result (λ roots. roots.items ≡ map (root_code schema.now) mutations.now) (λ why. why ≡ Refusal.OutOfMemory) }
+    ensures { MatchResult result
+        (λ roots. roots.items ≡ map (root_code schema.now) mutations.now)
+        (λ why. why ≡ Refusal.OutOfMemory) }
 {
     let mut roots = Vec::with_capacity(alloc, mutations.len())?;
     for mutation in mutations {
@@ -56,7 +58,9 @@ pub(crate) fn roots_of(
     mutations: &[CheckedMutation],
 ) -> Result<Vec<Key>, Refusal>
     requires { AreTypedMutations schema.now mutations.now }
-    ensures { MatchResult result (λ roots. IsPermutation (map (root_code schema.now) mutations.now) roots.items) (λ why. why ≡ Refusal.OutOfMemory) }
+    ensures { MatchResult result
+        (λ roots. IsPermutation (map (root_code schema.now) mutations.now) roots.items)
+        (λ why. why ≡ Refusal.OutOfMemory) }
 {
     let roots = all_roots(alloc, schema, mutations)?;
     Ok(sorted(roots)?)

@@ -110,8 +110,12 @@ impl Shard {
         requires free { IsFree schema.now mutations.now self.old }
         requires new { HasNoneOf txn self.old }
         requires typed { AreTypedMutations schema.now mutations.now }
-        ensures ok { OnOk result ((ws : List Write) × (self.new ≡ with_writes txn ws self.old) × AreWrites schema.now mutations.now self.old ws) }
-        ensures fault { IfErr result (λ why. IsFault schema.now mutations.now self.old why ⊎ IsFull schema.now mutations.now txn self.old why) }
+        ensures ok { OnOk result
+            ((ws : List Write)
+            × (self.new ≡ with_writes txn ws self.old)
+            × AreWrites schema.now mutations.now self.old ws) }
+        ensures fault { IfErr result
+            (λ why. IsFault schema.now mutations.now self.old why ⊎ IsFull schema.now mutations.now txn self.old why) }
         ensures err { OnErr result (self.new ≡ self.old) }
     {
         let writes = writes_of(alloc, schema, &self.store, mutations)?;

@@ -40,7 +40,9 @@ impl<
     fn parenthesis<'a>(&self, tokens: &'a [Lexeme]) -> Result<(Expr, &'a [Lexeme]), SyntaxError>
         requires nests { Nests self.now.text.now self.now.left (F.pre self.now.read) (F.post self.now.read) }
         requires limited { self.now.left ≤ limit }
-        ensures { Gives result ((spec.parenthesis self.now.text.now self.now.left (spec.after self.now.text.now self.now.left)).read tokens.now) }
+        ensures { Gives result
+            ((spec.parenthesis self.now.text.now self.now.left (spec.after self.now.text.now self.now.left)).read
+            tokens.now) }
     {
         let (_, rest) = enter(self.left, Sort::Sign(Sign::Open), tokens)?;
         let (inner, rest) = self.after(Level::Expression, rest)?;
@@ -56,7 +58,9 @@ impl<
     ) -> Result<(Expr, &'a [Lexeme]), SyntaxError>
         requires nests { Nests self.now.text.now self.now.left (F.pre self.now.read) (F.post self.now.read) }
         requires limited { self.now.left ≤ limit }
-        ensures { Gives result ((spec.arguments self.now.text.now self.now.left (spec.after self.now.text.now self.now.left) name).read tokens.now) }
+        ensures { Gives result
+            ((spec.arguments self.now.text.now self.now.left (spec.after self.now.text.now self.now.left) name).read
+            tokens.now) }
     {
         let (_, rest) = enter(self.left, Sort::Sign(Sign::Open), tokens)?;
         let (call, rest) = self.argument_list(name, rest)?;
@@ -68,7 +72,9 @@ impl<
     fn members<'a>(&self, tokens: &'a [Lexeme]) -> Result<(Items<Expr>, &'a [Lexeme]), SyntaxError>
         requires nests { Nests self.now.text.now self.now.left (F.pre self.now.read) (F.post self.now.read) }
         requires limited { self.now.left ≤ limit }
-        ensures { Gives result ((spec.members self.now.text.now self.now.left (spec.after self.now.text.now self.now.left)).read tokens.now) }
+        ensures { Gives result
+            ((spec.members self.now.text.now self.now.left (spec.after self.now.text.now self.now.left)).read
+            tokens.now) }
     {
         let (_, rest) = enter(self.left, Sort::Sign(Sign::Open), tokens)?;
         let (found, rest) = self.list(rest)?;
@@ -80,7 +86,9 @@ impl<
     fn case<'a>(&self, tokens: &'a [Lexeme]) -> Result<(Expr, &'a [Lexeme]), SyntaxError>
         requires nests { Nests self.now.text.now self.now.left (F.pre self.now.read) (F.post self.now.read) }
         requires limited { self.now.left ≤ limit }
-        ensures { Gives result ((spec.case self.now.text.now self.now.left (spec.after self.now.text.now self.now.left)).read tokens.now) }
+        ensures { Gives result
+            ((spec.case self.now.text.now self.now.left (spec.after self.now.text.now self.now.left)).read
+            tokens.now) }
     {
         let (_, rest) = enter(self.left, Sort::Word(Word::Case), tokens)?;
         self.in_case(rest)
@@ -91,7 +99,9 @@ impl<
     fn negation<'a>(&self, tokens: &'a [Lexeme]) -> Result<(Expr, &'a [Lexeme]), SyntaxError>
         requires nests { Nests self.now.text.now self.now.left (F.pre self.now.read) (F.post self.now.read) }
         requires limited { self.now.left ≤ limit }
-        ensures { Gives result ((spec.negation self.now.text.now self.now.left (spec.after self.now.text.now self.now.left)).read tokens.now) }
+        ensures { Gives result
+            ((spec.negation self.now.text.now self.now.left (spec.after self.now.text.now self.now.left)).read
+            tokens.now) }
     {
         let (_, rest) = enter(self.left, Sort::Word(Word::Not), tokens)?;
         let (operand, rest) = self.after(Level::Negated, rest)?;
@@ -103,7 +113,9 @@ impl<
     fn opposite<'a>(&self, tokens: &'a [Lexeme]) -> Result<(Expr, &'a [Lexeme]), SyntaxError>
         requires nests { Nests self.now.text.now self.now.left (F.pre self.now.read) (F.post self.now.read) }
         requires limited { self.now.left ≤ limit }
-        ensures { Gives result ((spec.opposite self.now.text.now self.now.left (spec.after self.now.text.now self.now.left)).read tokens.now) }
+        ensures { Gives result
+            ((spec.opposite self.now.text.now self.now.left (spec.after self.now.text.now self.now.left)).read
+            tokens.now) }
     {
         let (_, rest) = enter(self.left, Sort::Sign(Sign::Minus), tokens)?;
         self.after(Level::Signed, rest)
@@ -118,7 +130,9 @@ impl<
     ) -> Result<(Expr, &'a [Lexeme]), SyntaxError>
         requires nests { Nests self.now.text.now self.now.left (F.pre self.now.read) (F.post self.now.read) }
         requires limited { self.now.left ≤ limit }
-        ensures { Gives result ((spec.after_name self.now.text.now self.now.left (spec.after self.now.text.now self.now.left) name).read tokens.now) }
+        ensures { Gives result
+            ((spec.after_name self.now.text.now self.now.left (spec.after self.now.text.now self.now.left) name).read
+            tokens.now) }
     {
         if goes_on(Part::Arguments, tokens) {
             return self.arguments(name, tokens);
@@ -132,7 +146,9 @@ impl<
     fn call_or_column<'a>(&self, tokens: &'a [Lexeme]) -> Result<(Expr, &'a [Lexeme]), SyntaxError>
         requires nests { Nests self.now.text.now self.now.left (F.pre self.now.read) (F.post self.now.read) }
         requires limited { self.now.left ≤ limit }
-        ensures { Gives result ((spec.call_or_column self.now.text.now self.now.left (spec.after self.now.text.now self.now.left)).read tokens.now) }
+        ensures { Gives result
+            ((spec.call_or_column self.now.text.now self.now.left (spec.after self.now.text.now self.now.left)).read
+            tokens.now) }
     {
         let (name, rest) = spelling(self.alloc, self.text, Sort::Name, tokens)?;
         self.after_name(name, rest)
@@ -143,7 +159,9 @@ impl<
     fn if_call<'a>(&self, tokens: &'a [Lexeme]) -> Result<(Expr, &'a [Lexeme]), SyntaxError>
         requires nests { Nests self.now.text.now self.now.left (F.pre self.now.read) (F.post self.now.read) }
         requires limited { self.now.left ≤ limit }
-        ensures { Gives result ((spec.if_call self.now.text.now self.now.left (spec.after self.now.text.now self.now.left)).read tokens.now) }
+        ensures { Gives result
+            ((spec.if_call self.now.text.now self.now.left (spec.after self.now.text.now self.now.left)).read
+            tokens.now) }
     {
         let (name, rest) = spelling(self.alloc, self.text, Sort::Word(Word::If), tokens)?;
         self.arguments(name, rest)
@@ -154,7 +172,9 @@ impl<
     fn compound<'a>(&self, tokens: &'a [Lexeme]) -> Result<(Expr, &'a [Lexeme]), SyntaxError>
         requires nests { Nests self.now.text.now self.now.left (F.pre self.now.read) (F.post self.now.read) }
         requires limited { self.now.left ≤ limit }
-        ensures { Gives result ((spec.compound self.now.text.now self.now.left (spec.after self.now.text.now self.now.left)).read tokens.now) }
+        ensures { Gives result
+            ((spec.compound self.now.text.now self.now.left (spec.after self.now.text.now self.now.left)).read
+            tokens.now) }
     {
         if goes_on(Part::Named, tokens) {
             return self.call_or_column(tokens);
@@ -173,7 +193,9 @@ impl<
     fn word_literal<'a>(&self, tokens: &'a [Lexeme]) -> Result<(Expr, &'a [Lexeme]), SyntaxError>
         requires nests { Nests self.now.text.now self.now.left (F.pre self.now.read) (F.post self.now.read) }
         requires limited { self.now.left ≤ limit }
-        ensures { Gives result ((spec.word_literal self.now.text.now self.now.left (spec.after self.now.text.now self.now.left)).read tokens.now) }
+        ensures { Gives result
+            ((spec.word_literal self.now.text.now self.now.left (spec.after self.now.text.now self.now.left)).read
+            tokens.now) }
     {
         if next_is(Sort::Word(Word::True), tokens) {
             let (found, rest) = take(Sort::Word(Word::True), tokens)?;
@@ -199,7 +221,9 @@ impl<
     fn other_primary<'a>(&self, tokens: &'a [Lexeme]) -> Result<(Expr, &'a [Lexeme]), SyntaxError>
         requires nests { Nests self.now.text.now self.now.left (F.pre self.now.read) (F.post self.now.read) }
         requires limited { self.now.left ≤ limit }
-        ensures { Gives result ((spec.other_primary self.now.text.now self.now.left (spec.after self.now.text.now self.now.left)).read tokens.now) }
+        ensures { Gives result
+            ((spec.other_primary self.now.text.now self.now.left (spec.after self.now.text.now self.now.left)).read
+            tokens.now) }
     {
         if next_is(Sort::Str, tokens) {
             let (literal, rest) = spelling(self.alloc, self.text, Sort::Str, tokens)?;
@@ -217,7 +241,9 @@ impl<
     fn primary<'a>(&self, tokens: &'a [Lexeme]) -> Result<(Expr, &'a [Lexeme]), SyntaxError>
         requires nests { Nests self.now.text.now self.now.left (F.pre self.now.read) (F.post self.now.read) }
         requires limited { self.now.left ≤ limit }
-        ensures { Gives result ((spec.primary self.now.text.now self.now.left (spec.after self.now.text.now self.now.left)).read tokens.now) }
+        ensures { Gives result
+            ((spec.primary self.now.text.now self.now.left (spec.after self.now.text.now self.now.left)).read
+            tokens.now) }
     {
         if next_is(Sort::Int, tokens) {
             let (found, rest) = take(Sort::Int, tokens)?;
@@ -231,7 +257,9 @@ impl<
     fn unary<'a>(&self, tokens: &'a [Lexeme]) -> Result<(Expr, &'a [Lexeme]), SyntaxError>
         requires nests { Nests self.now.text.now self.now.left (F.pre self.now.read) (F.post self.now.read) }
         requires limited { self.now.left ≤ limit }
-        ensures { Gives result ((spec.unary self.now.text.now self.now.left (spec.after self.now.text.now self.now.left)).read tokens.now) }
+        ensures { Gives result
+            ((spec.unary self.now.text.now self.now.left (spec.after self.now.text.now self.now.left)).read
+            tokens.now) }
     {
         if goes_on(Part::Opposite, tokens) {
             return self.opposite(tokens);
@@ -244,7 +272,9 @@ impl<
     fn other_unary<'a>(&self, tokens: &'a [Lexeme]) -> Result<(Expr, &'a [Lexeme]), SyntaxError>
         requires nests { Nests self.now.text.now self.now.left (F.pre self.now.read) (F.post self.now.read) }
         requires limited { self.now.left ≤ limit }
-        ensures { Gives result ((spec.other_unary self.now.text.now self.now.left (spec.after self.now.text.now self.now.left)).read tokens.now) }
+        ensures { Gives result
+            ((spec.other_unary self.now.text.now self.now.left (spec.after self.now.text.now self.now.left)).read
+            tokens.now) }
     {
         if goes_on(Part::Opposite, tokens) {
             return self.opposite(tokens);
@@ -257,7 +287,9 @@ impl<
     fn signed<'a>(&self, tokens: &'a [Lexeme]) -> Result<(Expr, &'a [Lexeme]), SyntaxError>
         requires nests { Nests self.now.text.now self.now.left (F.pre self.now.read) (F.post self.now.read) }
         requires limited { self.now.left ≤ limit }
-        ensures { Gives result ((spec.signed self.now.text.now self.now.left (spec.after self.now.text.now self.now.left)).read tokens.now) }
+        ensures { Gives result
+            ((spec.signed self.now.text.now self.now.left (spec.after self.now.text.now self.now.left)).read
+            tokens.now) }
     {
         if next_is(Sort::Int, tokens) {
             let (found, rest) = take(Sort::Int, tokens)?;
@@ -272,7 +304,9 @@ impl<
     fn term_more<'a>(&self, tokens: &'a [Lexeme]) -> Result<(Link, &'a [Lexeme]), SyntaxError>
         requires nests { Nests self.now.text.now self.now.left (F.pre self.now.read) (F.post self.now.read) }
         requires limited { self.now.left ≤ limit }
-        ensures { Gives result ((spec.term_more self.now.text.now self.now.left (spec.after self.now.text.now self.now.left)).read tokens.now) }
+        ensures { Gives result
+            ((spec.term_more self.now.text.now self.now.left (spec.after self.now.text.now self.now.left)).read
+            tokens.now) }
     {
         let (operator, rest) = term_sign(tokens)?;
         let (operand, rest) = self.unary(rest)?;
@@ -287,7 +321,9 @@ impl<
     ) -> Result<(Items<Link>, &'a [Lexeme]), SyntaxError>
         requires nests { Nests self.now.text.now self.now.left (F.pre self.now.read) (F.post self.now.read) }
         requires limited { self.now.left ≤ limit }
-        ensures { Gives result ((each Part.TermMore (spec.term_more self.now.text.now self.now.left (spec.after self.now.text.now self.now.left))).read tokens.now) }
+        ensures { Gives result
+            ((each Part.TermMore (spec.term_more self.now.text.now self.now.left (spec.after self.now.text.now self.now.left))).read
+            tokens.now) }
     {
         let mut found = Items::new(self.alloc);
         let mut rest = tokens;
@@ -304,7 +340,9 @@ impl<
     fn term<'a>(&self, tokens: &'a [Lexeme]) -> Result<(Expr, &'a [Lexeme]), SyntaxError>
         requires nests { Nests self.now.text.now self.now.left (F.pre self.now.read) (F.post self.now.read) }
         requires limited { self.now.left ≤ limit }
-        ensures { Gives result ((spec.term self.now.text.now self.now.left (spec.after self.now.text.now self.now.left)).read tokens.now) }
+        ensures { Gives result
+            ((spec.term self.now.text.now self.now.left (spec.after self.now.text.now self.now.left)).read
+            tokens.now) }
     {
         let (first, rest) = self.unary(tokens)?;
         let ((first, more), rest) = pair_with(first, self.term_rest(rest))?;
@@ -316,7 +354,9 @@ impl<
     fn sum_more<'a>(&self, tokens: &'a [Lexeme]) -> Result<(Link, &'a [Lexeme]), SyntaxError>
         requires nests { Nests self.now.text.now self.now.left (F.pre self.now.read) (F.post self.now.read) }
         requires limited { self.now.left ≤ limit }
-        ensures { Gives result ((spec.sum_more self.now.text.now self.now.left (spec.after self.now.text.now self.now.left)).read tokens.now) }
+        ensures { Gives result
+            ((spec.sum_more self.now.text.now self.now.left (spec.after self.now.text.now self.now.left)).read
+            tokens.now) }
     {
         let (operator, rest) = sum_sign(tokens)?;
         let (operand, rest) = self.term(rest)?;
@@ -328,7 +368,9 @@ impl<
     fn sum_rest<'a>(&self, tokens: &'a [Lexeme]) -> Result<(Items<Link>, &'a [Lexeme]), SyntaxError>
         requires nests { Nests self.now.text.now self.now.left (F.pre self.now.read) (F.post self.now.read) }
         requires limited { self.now.left ≤ limit }
-        ensures { Gives result ((each Part.SumMore (spec.sum_more self.now.text.now self.now.left (spec.after self.now.text.now self.now.left))).read tokens.now) }
+        ensures { Gives result
+            ((each Part.SumMore (spec.sum_more self.now.text.now self.now.left (spec.after self.now.text.now self.now.left))).read
+            tokens.now) }
     {
         let mut found = Items::new(self.alloc);
         let mut rest = tokens;
@@ -345,7 +387,8 @@ impl<
     fn sum<'a>(&self, tokens: &'a [Lexeme]) -> Result<(Expr, &'a [Lexeme]), SyntaxError>
         requires nests { Nests self.now.text.now self.now.left (F.pre self.now.read) (F.post self.now.read) }
         requires limited { self.now.left ≤ limit }
-        ensures { Gives result ((spec.sum self.now.text.now self.now.left (spec.after self.now.text.now self.now.left)).read tokens.now) }
+        ensures { Gives result
+            ((spec.sum self.now.text.now self.now.left (spec.after self.now.text.now self.now.left)).read tokens.now) }
     {
         let (first, rest) = self.term(tokens)?;
         let ((first, more), rest) = pair_with(first, self.sum_rest(rest))?;
@@ -360,7 +403,9 @@ impl<
     ) -> Result<((bool, PredicateTest), &'a [Lexeme]), SyntaxError>
         requires nests { Nests self.now.text.now self.now.left (F.pre self.now.read) (F.post self.now.read) }
         requires limited { self.now.left ≤ limit }
-        ensures { Gives result ((spec.comparison_test self.now.text.now self.now.left (spec.after self.now.text.now self.now.left)).read tokens.now) }
+        ensures { Gives result
+            ((spec.comparison_test self.now.text.now self.now.left (spec.after self.now.text.now self.now.left)).read
+            tokens.now) }
     {
         let (how, rest) = comparison(tokens)?;
         let (second, rest) = self.sum(rest)?;
@@ -375,7 +420,9 @@ impl<
     ) -> Result<((bool, PredicateTest), &'a [Lexeme]), SyntaxError>
         requires nests { Nests self.now.text.now self.now.left (F.pre self.now.read) (F.post self.now.read) }
         requires limited { self.now.left ≤ limit }
-        ensures { Gives result ((spec.is_null self.now.text.now self.now.left (spec.after self.now.text.now self.now.left)).read tokens.now) }
+        ensures { Gives result
+            ((spec.is_null self.now.text.now self.now.left (spec.after self.now.text.now self.now.left)).read
+            tokens.now) }
     {
         let (is_not, rest) = null_words(tokens)?;
         Ok(((is_not, PredicateTest::IsNull), rest))
@@ -386,7 +433,9 @@ impl<
     fn like<'a>(&self, tokens: &'a [Lexeme]) -> Result<(PredicateTest, &'a [Lexeme]), SyntaxError>
         requires nests { Nests self.now.text.now self.now.left (F.pre self.now.read) (F.post self.now.read) }
         requires limited { self.now.left ≤ limit }
-        ensures { Gives result ((spec.like self.now.text.now self.now.left (spec.after self.now.text.now self.now.left)).read tokens.now) }
+        ensures { Gives result
+            ((spec.like self.now.text.now self.now.left (spec.after self.now.text.now self.now.left)).read
+            tokens.now) }
     {
         let (_, rest) = take(Sort::Word(Word::Like), tokens)?;
         let (pattern, rest) = spelling(self.alloc, self.text, Sort::Str, rest)?;
@@ -398,7 +447,9 @@ impl<
     fn high_end<'a>(&self, tokens: &'a [Lexeme]) -> Result<(Expr, &'a [Lexeme]), SyntaxError>
         requires nests { Nests self.now.text.now self.now.left (F.pre self.now.read) (F.post self.now.read) }
         requires limited { self.now.left ≤ limit }
-        ensures { Gives result ((spec.high_end self.now.text.now self.now.left (spec.after self.now.text.now self.now.left)).read tokens.now) }
+        ensures { Gives result
+            ((spec.high_end self.now.text.now self.now.left (spec.after self.now.text.now self.now.left)).read
+            tokens.now) }
     {
         let (_, rest) = take(Sort::Word(Word::And), tokens)?;
         self.sum(rest)
@@ -412,7 +463,9 @@ impl<
     ) -> Result<(PredicateTest, &'a [Lexeme]), SyntaxError>
         requires nests { Nests self.now.text.now self.now.left (F.pre self.now.read) (F.post self.now.read) }
         requires limited { self.now.left ≤ limit }
-        ensures { Gives result ((spec.between self.now.text.now self.now.left (spec.after self.now.text.now self.now.left)).read tokens.now) }
+        ensures { Gives result
+            ((spec.between self.now.text.now self.now.left (spec.after self.now.text.now self.now.left)).read
+            tokens.now) }
     {
         let (_, rest) = take(Sort::Word(Word::Between), tokens)?;
         let (low, rest) = self.sum(rest)?;
@@ -425,7 +478,9 @@ impl<
     fn within<'a>(&self, tokens: &'a [Lexeme]) -> Result<(PredicateTest, &'a [Lexeme]), SyntaxError>
         requires nests { Nests self.now.text.now self.now.left (F.pre self.now.read) (F.post self.now.read) }
         requires limited { self.now.left ≤ limit }
-        ensures { Gives result ((spec.within self.now.text.now self.now.left (spec.after self.now.text.now self.now.left)).read tokens.now) }
+        ensures { Gives result
+            ((spec.within self.now.text.now self.now.left (spec.after self.now.text.now self.now.left)).read
+            tokens.now) }
     {
         let (_, rest) = take(Sort::Word(Word::In), tokens)?;
         let (members, rest) = self.members(rest)?;
@@ -440,7 +495,9 @@ impl<
     ) -> Result<(PredicateTest, &'a [Lexeme]), SyntaxError>
         requires nests { Nests self.now.text.now self.now.left (F.pre self.now.read) (F.post self.now.read) }
         requires limited { self.now.left ≤ limit }
-        ensures { Gives result ((spec.negatable_test self.now.text.now self.now.left (spec.after self.now.text.now self.now.left)).read tokens.now) }
+        ensures { Gives result
+            ((spec.negatable_test self.now.text.now self.now.left (spec.after self.now.text.now self.now.left)).read
+            tokens.now) }
     {
         if goes_on(Part::Like, tokens) {
             return self.like(tokens);
@@ -459,7 +516,9 @@ impl<
     ) -> Result<((bool, PredicateTest), &'a [Lexeme]), SyntaxError>
         requires nests { Nests self.now.text.now self.now.left (F.pre self.now.read) (F.post self.now.read) }
         requires limited { self.now.left ≤ limit }
-        ensures { Gives result ((spec.maybe_not_test self.now.text.now self.now.left (spec.after self.now.text.now self.now.left)).read tokens.now) }
+        ensures { Gives result
+            ((spec.maybe_not_test self.now.text.now self.now.left (spec.after self.now.text.now self.now.left)).read
+            tokens.now) }
     {
         let (is_not, rest) = maybe_not(tokens)?;
         let (question, rest) = self.negatable_test(rest)?;
@@ -474,7 +533,9 @@ impl<
     ) -> Result<((bool, PredicateTest), &'a [Lexeme]), SyntaxError>
         requires nests { Nests self.now.text.now self.now.left (F.pre self.now.read) (F.post self.now.read) }
         requires limited { self.now.left ≤ limit }
-        ensures { Gives result ((spec.predicate_rest self.now.text.now self.now.left (spec.after self.now.text.now self.now.left)).read tokens.now) }
+        ensures { Gives result
+            ((spec.predicate_rest self.now.text.now self.now.left (spec.after self.now.text.now self.now.left)).read
+            tokens.now) }
     {
         if goes_on(Part::Compared, tokens) {
             return self.comparison_test(tokens);
@@ -493,7 +554,9 @@ impl<
     fn predicate<'a>(&self, tokens: &'a [Lexeme]) -> Result<(Expr, &'a [Lexeme]), SyntaxError>
         requires nests { Nests self.now.text.now self.now.left (F.pre self.now.read) (F.post self.now.read) }
         requires limited { self.now.left ≤ limit }
-        ensures { Gives result ((spec.predicate self.now.text.now self.now.left (spec.after self.now.text.now self.now.left)).read tokens.now) }
+        ensures { Gives result
+            ((spec.predicate self.now.text.now self.now.left (spec.after self.now.text.now self.now.left)).read
+            tokens.now) }
     {
         let (first, rest) = self.sum(tokens)?;
         let ((first, question), rest) = pair_with(first, self.predicate_rest(rest))?;
@@ -505,7 +568,9 @@ impl<
     fn negated<'a>(&self, tokens: &'a [Lexeme]) -> Result<(Expr, &'a [Lexeme]), SyntaxError>
         requires nests { Nests self.now.text.now self.now.left (F.pre self.now.read) (F.post self.now.read) }
         requires limited { self.now.left ≤ limit }
-        ensures { Gives result ((spec.negated self.now.text.now self.now.left (spec.after self.now.text.now self.now.left)).read tokens.now) }
+        ensures { Gives result
+            ((spec.negated self.now.text.now self.now.left (spec.after self.now.text.now self.now.left)).read
+            tokens.now) }
     {
         if goes_on(Part::Negation, tokens) {
             return self.negation(tokens);
@@ -521,7 +586,9 @@ impl<
     ) -> Result<(Expr, &'a [Lexeme]), SyntaxError>
         requires nests { Nests self.now.text.now self.now.left (F.pre self.now.read) (F.post self.now.read) }
         requires limited { self.now.left ≤ limit }
-        ensures { Gives result ((spec.conjunction_more self.now.text.now self.now.left (spec.after self.now.text.now self.now.left)).read tokens.now) }
+        ensures { Gives result
+            ((spec.conjunction_more self.now.text.now self.now.left (spec.after self.now.text.now self.now.left)).read
+            tokens.now) }
     {
         let (_, rest) = take(Sort::Word(Word::And), tokens)?;
         self.negated(rest)
@@ -535,7 +602,9 @@ impl<
     ) -> Result<(Items<Expr>, &'a [Lexeme]), SyntaxError>
         requires nests { Nests self.now.text.now self.now.left (F.pre self.now.read) (F.post self.now.read) }
         requires limited { self.now.left ≤ limit }
-        ensures { Gives result ((each Part.ConjunctionMore (spec.conjunction_more self.now.text.now self.now.left (spec.after self.now.text.now self.now.left))).read tokens.now) }
+        ensures { Gives result
+            ((each Part.ConjunctionMore (spec.conjunction_more self.now.text.now self.now.left (spec.after self.now.text.now self.now.left))).read
+            tokens.now) }
     {
         let mut found = Items::new(self.alloc);
         let mut rest = tokens;
@@ -552,7 +621,9 @@ impl<
     fn conjunction<'a>(&self, tokens: &'a [Lexeme]) -> Result<(Expr, &'a [Lexeme]), SyntaxError>
         requires nests { Nests self.now.text.now self.now.left (F.pre self.now.read) (F.post self.now.read) }
         requires limited { self.now.left ≤ limit }
-        ensures { Gives result ((spec.conjunction self.now.text.now self.now.left (spec.after self.now.text.now self.now.left)).read tokens.now) }
+        ensures { Gives result
+            ((spec.conjunction self.now.text.now self.now.left (spec.after self.now.text.now self.now.left)).read
+            tokens.now) }
     {
         let (first, rest) = self.negated(tokens)?;
         let ((first, more), rest) = pair_with(first, self.conjunction_rest(rest))?;
@@ -564,7 +635,9 @@ impl<
     fn expression_more<'a>(&self, tokens: &'a [Lexeme]) -> Result<(Expr, &'a [Lexeme]), SyntaxError>
         requires nests { Nests self.now.text.now self.now.left (F.pre self.now.read) (F.post self.now.read) }
         requires limited { self.now.left ≤ limit }
-        ensures { Gives result ((spec.expression_more self.now.text.now self.now.left (spec.after self.now.text.now self.now.left)).read tokens.now) }
+        ensures { Gives result
+            ((spec.expression_more self.now.text.now self.now.left (spec.after self.now.text.now self.now.left)).read
+            tokens.now) }
     {
         let (_, rest) = take(Sort::Word(Word::Or), tokens)?;
         self.conjunction(rest)
@@ -578,7 +651,9 @@ impl<
     ) -> Result<(Items<Expr>, &'a [Lexeme]), SyntaxError>
         requires nests { Nests self.now.text.now self.now.left (F.pre self.now.read) (F.post self.now.read) }
         requires limited { self.now.left ≤ limit }
-        ensures { Gives result ((each Part.ExpressionMore (spec.expression_more self.now.text.now self.now.left (spec.after self.now.text.now self.now.left))).read tokens.now) }
+        ensures { Gives result
+            ((each Part.ExpressionMore (spec.expression_more self.now.text.now self.now.left (spec.after self.now.text.now self.now.left))).read
+            tokens.now) }
     {
         let mut found = Items::new(self.alloc);
         let mut rest = tokens;
@@ -595,7 +670,9 @@ impl<
     fn expression<'a>(&self, tokens: &'a [Lexeme]) -> Result<(Expr, &'a [Lexeme]), SyntaxError>
         requires nests { Nests self.now.text.now self.now.left (F.pre self.now.read) (F.post self.now.read) }
         requires limited { self.now.left ≤ limit }
-        ensures { Gives result ((spec.expression self.now.text.now self.now.left (spec.after self.now.text.now self.now.left)).read tokens.now) }
+        ensures { Gives result
+            ((spec.expression self.now.text.now self.now.left (spec.after self.now.text.now self.now.left)).read
+            tokens.now) }
     {
         let (first, rest) = self.conjunction(tokens)?;
         let ((first, more), rest) = pair_with(first, self.expression_rest(rest))?;

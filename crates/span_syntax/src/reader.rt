@@ -82,7 +82,9 @@ impl<
         requires nests { Nests self.now.text.now self.now.left (F.pre self.now.read) (F.post self.now.read) }
         requires limited { self.now.left ≤ limit }
         requires deeper { 0 < self.now.left }
-        ensures { Gives result ((each Part.ListMore (spec.list_more (spec.after self.now.text.now self.now.left).expression)).read tokens.now) }
+        ensures { Gives result
+            ((each Part.ListMore (spec.list_more (spec.after self.now.text.now self.now.left).expression)).read
+            tokens.now) }
     {
         let mut found = Items::new(self.alloc);
         let mut rest = tokens;
@@ -142,7 +144,8 @@ impl<
         requires nests { Nests self.now.text.now self.now.left (F.pre self.now.read) (F.post self.now.read) }
         requires limited { self.now.left ≤ limit }
         requires deeper { 0 < self.now.left }
-        ensures { Gives result ((each Part.When (spec.when (spec.after self.now.text.now self.now.left).expression)).read tokens.now) }
+        ensures { Gives result
+            ((each Part.When (spec.when (spec.after self.now.text.now self.now.left).expression)).read tokens.now) }
     {
         let mut found = Items::new(self.alloc);
         let mut rest = tokens;
@@ -250,7 +253,8 @@ impl<
         requires nests { Nests self.now.text.now self.now.left (F.pre self.now.read) (F.post self.now.read) }
         requires limited { self.now.left ≤ limit }
         requires deeper { 0 < self.now.left }
-        ensures { Gives result ((spec.argument_list (spec.after self.now.text.now self.now.left).expression name).read tokens.now) }
+        ensures { Gives result
+            ((spec.argument_list (spec.after self.now.text.now self.now.left).expression name).read tokens.now) }
     {
         if next_is(Sort::Sign(Sign::Star), tokens) {
             let (_, rest) = take(Sort::Sign(Sign::Star), tokens)?;

@@ -105,7 +105,12 @@ impl Names<'_> {
         right: &tree::Expr,
         found: &mut Seq<Aggregate>,
     ) -> TypingResult
-        ensures { Leaves result found.new (spec.of_two (operators.comparison_test comparison) (spec.typing self.entry.scope.now self.entry.params.now left.now) (spec.typing self.entry.scope.now self.entry.params.now right.now) mode found.old) }
+        ensures { Leaves result found.new
+            (spec.of_two (operators.comparison_test comparison)
+            (spec.typing self.entry.scope.now self.entry.params.now left.now)
+            (spec.typing self.entry.scope.now self.entry.params.now right.now)
+            mode
+            found.old) }
     {
         let left = self.bind(mode, left, found);
         let right = self.bind(mode, right, found);
@@ -121,7 +126,13 @@ impl Names<'_> {
         high: &tree::Expr,
         found: &mut Seq<Aggregate>,
     ) -> TypingResult
-        ensures { Leaves result found.new (spec.of_three operators.between (spec.typing self.entry.scope.now self.entry.params.now operand.now) (spec.typing self.entry.scope.now self.entry.params.now low.now) (spec.typing self.entry.scope.now self.entry.params.now high.now) mode found.old) }
+        ensures { Leaves result found.new
+            (spec.of_three operators.between
+            (spec.typing self.entry.scope.now self.entry.params.now operand.now)
+            (spec.typing self.entry.scope.now self.entry.params.now low.now)
+            (spec.typing self.entry.scope.now self.entry.params.now high.now)
+            mode
+            found.old) }
     {
         let operand = self.bind(mode, operand, found);
         let low = self.bind(mode, low, found);
@@ -138,7 +149,12 @@ impl Names<'_> {
         members: &[tree::Expr],
         found: &mut Seq<Aggregate>,
     ) -> TypingResult
-        ensures { Leaves result found.new (spec.membership (spec.typing self.entry.scope.now self.entry.params.now operand.now) (map (spec.typing self.entry.scope.now self.entry.params.now) members.now) mode found.old) }
+        ensures { Leaves result found.new
+            (spec.membership
+            (spec.typing self.entry.scope.now self.entry.params.now operand.now)
+            (map (spec.typing self.entry.scope.now self.entry.params.now) members.now)
+            mode
+            found.old) }
     {
         let operand = self.bind(mode, operand, found);
         let members = self.each(mode, members, found);
@@ -153,7 +169,12 @@ impl Names<'_> {
         links: &[tree::Link],
         found: &mut Seq<Aggregate>,
     ) -> TypingResult
-        ensures { Leaves result found.new (spec.chain (spec.typing self.entry.scope.now self.entry.params.now first.now) (map (spec.link_typing self.entry.scope.now self.entry.params.now) links.now) mode found.old) }
+        ensures { Leaves result found.new
+            (spec.chain
+            (spec.typing self.entry.scope.now self.entry.params.now first.now)
+            (map (spec.link_typing self.entry.scope.now self.entry.params.now) links.now)
+            mode
+            found.old) }
     {
         let first = self.bind(mode, first, found);
         let chain = self.links(mode, kind_of(&first), links, found);
@@ -168,7 +189,12 @@ impl Names<'_> {
         more: &[tree::Expr],
         found: &mut Seq<Aggregate>,
     ) -> TypingResult
-        ensures { Leaves result found.new (spec.junction spec.all_true (spec.typing self.entry.scope.now self.entry.params.now first.now) (map (spec.typing self.entry.scope.now self.entry.params.now) more.now) mode found.old) }
+        ensures { Leaves result found.new
+            (spec.junction spec.all_true
+            (spec.typing self.entry.scope.now self.entry.params.now first.now)
+            (map (spec.typing self.entry.scope.now self.entry.params.now) more.now)
+            mode
+            found.old) }
     {
         let first = self.bind(mode, first, found);
         let more = self.conditions(mode, kind_of(&first), more, found);
@@ -183,7 +209,12 @@ impl Names<'_> {
         more: &[tree::Expr],
         found: &mut Seq<Aggregate>,
     ) -> TypingResult
-        ensures { Leaves result found.new (spec.junction spec.some_true (spec.typing self.entry.scope.now self.entry.params.now first.now) (map (spec.typing self.entry.scope.now self.entry.params.now) more.now) mode found.old) }
+        ensures { Leaves result found.new
+            (spec.junction spec.some_true
+            (spec.typing self.entry.scope.now self.entry.params.now first.now)
+            (map (spec.typing self.entry.scope.now self.entry.params.now) more.now)
+            mode
+            found.old) }
     {
         let first = self.bind(mode, first, found);
         let more = self.conditions(mode, kind_of(&first), more, found);
@@ -198,7 +229,8 @@ impl Names<'_> {
         operands: &[tree::Expr],
         found: &mut Seq<Aggregate>,
     ) -> Result<Seq<Typed>, Refusal>
-        ensures { Leaves result found.new (spec.each (map (spec.typing self.entry.scope.now self.entry.params.now) operands.now) mode found.old) }
+        ensures { Leaves result found.new
+            (spec.each (map (spec.typing self.entry.scope.now self.entry.params.now) operands.now) mode found.old) }
     {
         let mut all = Seq::new(self.alloc);
         for operand in operands {
@@ -217,7 +249,11 @@ impl Names<'_> {
         operands: &[tree::Expr],
         found: &mut Seq<Aggregate>,
     ) -> Result<Seq<Expr>, Refusal>
-        ensures { Leaves result found.new (spec.conditions kind (map (spec.typing self.entry.scope.now self.entry.params.now) operands.now) mode found.old) }
+        ensures { Leaves result found.new
+            (spec.conditions kind
+            (map (spec.typing self.entry.scope.now self.entry.params.now) operands.now)
+            mode
+            found.old) }
     {
         let mut all = Seq::new(self.alloc);
         for operand in operands {
@@ -236,7 +272,11 @@ impl Names<'_> {
         links: &[tree::Link],
         found: &mut Seq<Aggregate>,
     ) -> Result<Chain, Refusal>
-        ensures { Leaves result found.new (spec.links kind (map (spec.link_typing self.entry.scope.now self.entry.params.now) links.now) mode found.old) }
+        ensures { Leaves result found.new
+            (spec.links kind
+            (map (spec.link_typing self.entry.scope.now self.entry.params.now) links.now)
+            mode
+            found.old) }
     {
         let mut chain = Chain {
             kind,
@@ -257,7 +297,8 @@ impl Names<'_> {
         arms: &[tree::Arm],
         found: &mut Seq<Aggregate>,
     ) -> Result<Seq<TypedArm>, Refusal>
-        ensures { Leaves result found.new (spec.arms (map (spec.arm_typing self.entry.scope.now self.entry.params.now) arms.now) mode found.old) }
+        ensures { Leaves result found.new
+            (spec.arms (map (spec.arm_typing self.entry.scope.now self.entry.params.now) arms.now) mode found.old) }
     {
         let mut all = Seq::new(self.alloc);
         for arm in arms {
@@ -277,7 +318,11 @@ impl Names<'_> {
         arms: &[tree::Arm],
         found: &mut Seq<Aggregate>,
     ) -> Result<Seq<TypedArm>, Refusal>
-        ensures { Leaves result found.new (spec.compared_arms kind (map (spec.arm_typing self.entry.scope.now self.entry.params.now) arms.now) mode found.old) }
+        ensures { Leaves result found.new
+            (spec.compared_arms kind
+            (map (spec.arm_typing self.entry.scope.now self.entry.params.now) arms.now)
+            mode
+            found.old) }
     {
         let mut all = Seq::new(self.alloc);
         for arm in arms {
@@ -295,7 +340,11 @@ impl Names<'_> {
         operand: &Option<Boxed<tree::Expr>>,
         found: &mut Seq<Aggregate>,
     ) -> Result<Option<Typed>, Refusal>
-        ensures { Leaves result found.new (spec.optional (option_map (spec.typing self.entry.scope.now self.entry.params.now) operand.now) mode found.old) }
+        ensures { Leaves result found.new
+            (spec.optional
+            (option_map (spec.typing self.entry.scope.now self.entry.params.now) operand.now)
+            mode
+            found.old) }
     {
         match operand {
             Some(operand) => Ok(Some(self.bind(mode, operand.get(), found)?)),
@@ -311,7 +360,12 @@ impl Names<'_> {
         operands: &[tree::Expr],
         found: &mut Seq<Aggregate>,
     ) -> TypingResult
-        ensures { Leaves result found.new (spec.call self.entry.scope.now (functions.function_named name.now) (map (spec.typing self.entry.scope.now self.entry.params.now) operands.now) mode found.old) }
+        ensures { Leaves result found.new
+            (spec.call self.entry.scope.now
+            (functions.function_named name.now)
+            (map (spec.typing self.entry.scope.now self.entry.params.now) operands.now)
+            mode
+            found.old) }
     {
         match function_named(name) {
             None => unknown(self.each(mode, operands, found)),
@@ -336,7 +390,13 @@ impl Names<'_> {
         otherwise: &Option<Boxed<tree::Expr>>,
         found: &mut Seq<Aggregate>,
     ) -> TypingResult
-        ensures { Leaves result found.new (spec.case (option_map (spec.typing self.entry.scope.now self.entry.params.now) operand.now) (map (spec.arm_typing self.entry.scope.now self.entry.params.now) arms.now) (option_map (spec.typing self.entry.scope.now self.entry.params.now) otherwise.now) mode found.old) }
+        ensures { Leaves result found.new
+            (spec.case
+            (option_map (spec.typing self.entry.scope.now self.entry.params.now) operand.now)
+            (map (spec.arm_typing self.entry.scope.now self.entry.params.now) arms.now)
+            (option_map (spec.typing self.entry.scope.now self.entry.params.now) otherwise.now)
+            mode
+            found.old) }
     {
         match operand {
             None => {

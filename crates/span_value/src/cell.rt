@@ -56,7 +56,8 @@ fn hex_text(alloc: Global, bytes: &[u8]) -> Result<String, AllocError>
 
 /// Adds the two hexadecimal digits of a byte.
 fn push_pair(out: &mut String, byte: u8) -> Result<(), AllocError>
-    ensures { OnOk result (string_bytes out.new ≡ string_bytes out.old ++ (digit_char (byte / 16) ∷ digit_char (byte % 16) ∷ [])) }
+    ensures { OnOk result
+        (string_bytes out.new ≡ string_bytes out.old ++ (digit_char (byte / 16) ∷ digit_char (byte % 16) ∷ [])) }
 {
     out.push(hex_digit(byte / 16))?;
     out.push(hex_digit(byte % 16))?;
@@ -140,7 +141,9 @@ fn strip_backslash(text: &str) -> Option<&str>
 
 fn read_text(alloc: Global, text: &str) -> Result<Value, Refusal>
     ensures read { IfOk result (λ value. IsCell Kind.Str value text.now) }
-    ensures read_all { (w : List ℕ) → IsCell Kind.Str (Value.Str w) text.now → (result ≡ Ok (Value.Str w)) ⊎ (result ≡ Err Refusal.OutOfMemory) }
+    ensures read_all { (w : List ℕ)
+        → IsCell Kind.Str (Value.Str w) text.now
+        → (result ≡ Ok (Value.Str w)) ⊎ (result ≡ Err Refusal.OutOfMemory) }
     ensures refusals { IfErr result (λ why. (why ≡ Refusal.WrongType) ⊎ (why ≡ Refusal.OutOfMemory)) }
 {
     match unescape_text(alloc, text)? {
@@ -169,7 +172,9 @@ fn unescape_text(alloc: Global, text: &str) -> Result<Option<String>, AllocError
 
 fn read_bytes(alloc: Global, text: &str) -> Result<Value, Refusal>
     ensures read { IfOk result (λ value. IsCell Kind.Bytes value text.now) }
-    ensures read_all { (w : List ℕ) → IsCell Kind.Bytes (Value.Bytes w) text.now → (result ≡ Ok (Value.Bytes w)) ⊎ (result ≡ Err Refusal.OutOfMemory) }
+    ensures read_all { (w : List ℕ)
+        → IsCell Kind.Bytes (Value.Bytes w) text.now
+        → (result ≡ Ok (Value.Bytes w)) ⊎ (result ≡ Err Refusal.OutOfMemory) }
     ensures refusals { IfErr result (λ why. (why ≡ Refusal.WrongType) ⊎ (why ≡ Refusal.OutOfMemory)) }
 {
     let Some(digits) = text.as_bytes().strip_prefix(b"\\x") else {
@@ -201,7 +206,9 @@ fn decode_hex(alloc: Global, digits: &[u8]) -> Result<Option<Vec<u8>>, AllocErro
 }
 
 fn byte_from(high: u8, low: u8) -> Option<u8>
-    ensures { MatchOption result ((half_byte high ≡ None) ⊎ (half_byte low ≡ None)) (λ byte. (h : ℕ) × (l : ℕ) × (half_byte high ≡ Some h) × (half_byte low ≡ Some l) × (byte ≡ h * 16 + l)) }
+    ensures { MatchOption result
+        ((half_byte high ≡ None) ⊎ (half_byte low ≡ None))
+        (λ byte. (h : ℕ) × (l : ℕ) × (half_byte high ≡ Some h) × (half_byte low ≡ Some l) × (byte ≡ h * 16 + l)) }
 {
     let high = half_byte_from(high)?;
     let low = half_byte_from(low)?;

@@ -23,12 +23,26 @@ ghost use Rattle.span_version_laws.specs.Kept.{AreKept, HasRowsOf, family, horiz
 /// In every machine that a run reaches, a snapshot that the shard kept for it gives of a table's family, at a timestamp that is safe
 /// and not below the horizon, has of that table just the rows of the tables at that timestamp, in order.
 pub fn snapshots_are_tables()
-    ensures { (schema : List Table) → MeetsRules schema → (m : Machine) (cs : List KeyVersions) (s : ℕ) (slot_state : SlotState) → IsReached schema m → AreKept schema m cs → is_safe m 0 slot_state s ≡ true → horizon_of m ≤ s
-        → (db : List TableRow) → tables schema m.log s ≡ Ok db → (n : ℕ) → HasRowsOf schema n db (snapshot (family (root_of schema n)) s cs) }
+    ensures { (schema : List Table)
+        → MeetsRules schema
+        → (m : Machine) (cs : List KeyVersions) (s : ℕ) (slot_state : SlotState)
+        → IsReached schema m
+        → AreKept schema m cs
+        → is_safe m 0 slot_state s ≡ true
+        → horizon_of m ≤ s
+        → (db : List TableRow)
+        → tables schema m.log s ≡ Ok db
+        → (n : ℕ)
+        → HasRowsOf schema n db (snapshot (family (root_of schema n)) s cs) }
 {}
 
 /// In every machine that a run reaches, the shard that is kept for it has just as many versions, prepared ones included, as changes of
 /// the log are kept at the horizon and changes are prepared.
 pub fn live_is_kept()
-    ensures { (schema : List Table) → MeetsRules schema → (m : Machine) (cs : List KeyVersions) → IsReached schema m → AreKept schema m cs → live cs ≡ kept.live schema m.log m.transactions 0 (horizon_of m) }
+    ensures { (schema : List Table)
+        → MeetsRules schema
+        → (m : Machine) (cs : List KeyVersions)
+        → IsReached schema m
+        → AreKept schema m cs
+        → live cs ≡ kept.live schema m.log m.transactions 0 (horizon_of m) }
 {}

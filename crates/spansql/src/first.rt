@@ -78,7 +78,8 @@ fn transaction(alloc: Global, schema: &Schema) -> Result<Transaction, Fault>
 
 /// The steps, in order. The first transaction and the first query have the number 1.
 fn steps(alloc: Global, transaction: Transaction, text: &str) -> Result<Vec<Step>, Fault>
-    ensures { IfOk result (λ steps. (schema : List Table) → AreTypedMutations schema transaction → AreOfSchema schema steps.items) }
+    ensures { IfOk result
+        (λ steps. (schema : List Table) → AreTypedMutations schema transaction → AreOfSchema schema steps.items) }
 {
     let decided = Interval::new(100, 110)?;
     let applied = Interval::new(200, 210)?;

@@ -59,10 +59,15 @@ impl Lines {
     /// Reads once more: more bytes are held, or the input has ended. `InputFault` where the device failed, `OutOfMemory` where the buffer
     /// can't grow; what was held is then held still.
     pub fn read<I: Input>(&mut self, input: &mut I) -> Result<(), Refusal>
-        ensures stands { (text : List ℕ) → Stands self.old (I.remaining input.old) text → Stands self.new (I.remaining input.new) text }
+        ensures stands { (text : List ℕ)
+            → Stands self.old (I.remaining input.old) text
+            → Stands self.new (I.remaining input.new) text }
         ensures advances { OnOk result (Advances self.new.has_ended (I.remaining input.old) (I.remaining input.new)) }
         ensures ok { OnOk result (I.failures input.new ≡ I.failures input.old) }
-        ensures err { IfErr result (λ why. (why ≡ Refusal.OutOfMemory) ⊎ ((why ≡ Refusal.InputFault) × (I.failures input.new ≡ risen (I.failures input.old)))) }
+        ensures err { IfErr result
+            (λ why.
+            (why ≡ Refusal.OutOfMemory)
+            ⊎ ((why ≡ Refusal.InputFault) × (I.failures input.new ≡ risen (I.failures input.old)))) }
     {
         self.let_go();
         self.move_to_front();
@@ -120,7 +125,8 @@ impl Lines {
         ensures next { (known : Option (List ℕ)) (text : List ℕ) → IsReady self.old → Stands self.old known text
             → MatchBool result (TakesNext self.new known text) (text ≡ []) }
         ensures waits { ¬ IsReady self.old → result ≡ false }
-        ensures stays { OnFalse result ((known : Option (List ℕ)) (text : List ℕ) → Stands self.old known text → Stands self.new known text) }
+        ensures stays { OnFalse result
+            ((known : Option (List ℕ)) (text : List ℕ) → Stands self.old known text → Stands self.new known text) }
     {
         self.search();
         if self.searched < self.end {
@@ -177,7 +183,8 @@ fn read_behind<I: Input>(
     ensures front { take front buffer.new.items ≡ take front buffer.old.items }
     ensures fits { IfOk result (λ n. front + n ≤ vec_len buffer.new) }
     ensures len { vec_len buffer.new ≡ vec_len buffer.old }
-    ensures bytes { IfOk result (λ n. Consumes (I.remaining input.old) (I.remaining input.new) (take n (drop front buffer.new.items))) }
+    ensures bytes { IfOk result
+        (λ n. Consumes (I.remaining input.old) (I.remaining input.new) (take n (drop front buffer.new.items))) }
     ensures end { IfOk result (λ n. n ≡ 0 → IsAtEnd (I.remaining input.new)) }
     ensures kept { OnErr result (Keeps (I.remaining input.old) (I.remaining input.new)) }
     ensures ok { OnOk result (I.failures input.new ≡ I.failures input.old) }

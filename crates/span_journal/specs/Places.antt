@@ -1,0 +1,10 @@
+-- Which slot the directory of a mutation is in.
+use Rattle.std.specs.Prelude.{ℕ, Bool, false, List, slice_get}
+use Rattle.span_schema.specs.declared.table.Table.{Table}
+use Rattle.span_mutate.specs.declared.mutation.CheckedMutation.{CheckedMutation}
+use Rattle.span_machine.specs.declared.slot.SlotState.{SlotState}
+use Rattle.span_machine.specs.Machine.{holds, root_at, if_some}
+
+-- the slot is in use, and the directory of the mutation is in it
+abbrev pub slot_has : List Table → List SlotState → CheckedMutation → ℕ → Bool
+slot_has schema slots m slot = if_some (slice_get slots slot) false (λ slot_state. holds slot_state (root_at schema m))
