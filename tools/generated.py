@@ -17,6 +17,11 @@ def lines(texts):
     return "".join(text + "\n" for text in texts)
 
 
+def lines_of(imports):
+    """The lines of some imports, each of which may go on in a further line."""
+    return [line for line in re.sub(r"\n(?!use |\n|$) *", " ", imports).split("\n") if line]
+
+
 def used(imports, body):
     """Those of some lines of imports whose names a text uses."""
     code = re.sub(r"^--.*$", "", body, flags=re.MULTILINE)
@@ -26,7 +31,7 @@ def used(imports, body):
         return all(piece in words for piece in name.split(" as ")[-1].split("◌") if piece)
 
     found = []
-    for line in filter(None, imports.split("\n")):
+    for line in lines_of(imports):
         path, names = re.fullmatch(r"use (.*?)(?:\.\{(.*)\})?", line).groups()
         kept = [name for name in (names or "").split(", ") if name and is_used(name)]
         if kept or (not names and is_used(path)):

@@ -44,56 +44,59 @@ OPENINGS = [("case", "CASE"), ("neg", "NOT"), ("unary", '"-"')]
 
 Name = namedtuple("Name", "part text comment place", defaults=("", None))
 
+# Comments: the name of the rule or the expression as it is in NAMES, or the whole rule as docs/SQL.md has it.
+TEXT, RULE = "its text", "its rule"
+
 # The parts in the order in which they are written: each with its name, and the rule or the expression that it is, and a comment.
 # What has a place opens: the place is how that which follows the opening is called, one deeper.
 NAMES = [Name(*row) for row in [
     # expressions
     ("Nothing", "", "nothing"),
-    ("Parenthesis", '"(" expr ")"', '"(" expr ")"', "InParenthesis"),
-    ("Arguments", '"(" ["*" | expr {"," expr}] ")"', '"(" ["*" | expr {"," expr}] ")"', "InArguments"),
-    ("Members", '"(" expr {"," expr} ")"', '"(" expr {"," expr} ")"', "InMembers"),
-    ("Subquery", '"(" query ")"', '"(" query ")"', "InSubquery"),
-    ("Case", "case", "CASE [expr] WHEN expr THEN expr {WHEN expr THEN expr} [ELSE expr] END", "InCase"),
-    ("Negation", "NOT neg", "NOT neg", "InNegation"),
+    ("Parenthesis", '"(" expr ")"', TEXT, "InParenthesis"),
+    ("Arguments", '"(" ["*" | expr {"," expr}] ")"', TEXT, "InArguments"),
+    ("Members", '"(" expr {"," expr} ")"', TEXT, "InMembers"),
+    ("Subquery", '"(" query ")"', TEXT, "InSubquery"),
+    ("Case", "case", RULE, "InCase"),
+    ("Negation", "NOT neg", TEXT, "InNegation"),
     ("Opposite", '"-" signed', '"-" unary', "InOpposite"),
-    ("Qualifier", '"." name', '"." name'),
+    ("Qualifier", '"." name', TEXT),
     ("AfterName", '["(" ["*" | expr {"," expr}] ")" | "." name]', "what makes a name a call or a column of a table"),
     ("Named", 'name ["(" ["*" | expr {"," expr}] ")" | "." name]', "call | col, of which a name stands in front"),
     ("IfCall", 'IF "(" ["*" | expr {"," expr}] ")"', 'IF "(" .. ")"'),
-    ("Primary", "prim", "prim"),
-    ("Unary", "unary", '"-" unary | prim'),
+    ("Primary", "prim", TEXT),
+    ("Unary", "unary", RULE),
     ("OtherUnary", "other_unary", "unary, and no integer"),
     ("Signed", "signed", "unary, where it is told whether it is an integer"),
     ("TermSign", '"*" | "||"'),
     ("TermMore", '("*" | "||") unary'),
     ("TermRest", '{("*" | "||") unary}'),
-    ("Term", "term", 'unary {("*" | "||") unary}'),
+    ("Term", "term", RULE),
     ("SumSign", '"+" | "-"'),
     ("SumMore", '("+" | "-") term'),
     ("SumRest", '{("+" | "-") term}'),
-    ("Sum", "sum", 'term {("+" | "-") term}'),
-    ("Comparison", "cmp", "cmp"),
-    ("Compared", "cmp sum", "cmp sum"),
+    ("Sum", "sum", RULE),
+    ("Comparison", "cmp", TEXT),
+    ("Compared", "cmp sum", TEXT),
     ("MaybeNot", "[NOT]"),
-    ("IsNull", "IS [NOT] NULL", "IS [NOT] NULL"),
-    ("Like", "LIKE string", "LIKE string"),
-    ("Between", "BETWEEN sum AND sum", "BETWEEN sum AND sum"),
-    ("Within", 'IN "(" expr {"," expr} ")"', 'IN "(" expr {"," expr} ")"'),
+    ("IsNull", "IS [NOT] NULL", TEXT),
+    ("Like", "LIKE string", TEXT),
+    ("Between", "BETWEEN sum AND sum", TEXT),
+    ("Within", 'IN "(" expr {"," expr} ")"', TEXT),
     ("Test", 'LIKE string | BETWEEN sum AND sum | IN "(" expr {"," expr} ")"'),
     ("MaybeNotTest", '[NOT] (LIKE string | BETWEEN sum AND sum | IN "(" expr {"," expr} ")")',
      "[NOT] LIKE ..  | [NOT] BETWEEN .. | [NOT] IN .."),
     ("PredicateRest", '[cmp sum | IS [NOT] NULL | [NOT] (LIKE string | BETWEEN sum AND sum | IN "(" expr {"," expr} ")")]'),
-    ("Predicate", "pred", "pred"),
-    ("Negated", "neg", "NOT neg | pred"),
+    ("Predicate", "pred", TEXT),
+    ("Negated", "neg", RULE),
     ("ConjunctionMore", "AND neg"),
     ("ConjunctionRest", "{AND neg}"),
-    ("Conjunction", "conj", "neg {AND neg}"),
+    ("Conjunction", "conj", RULE),
     ("ExpressionMore", "OR conj"),
     ("ExpressionRest", "{OR conj}"),
-    ("Expression", "expr", "conj {OR conj}"),
+    ("Expression", "expr", RULE),
     ("ListMore", '"," expr'),
     ("ListRest", '{"," expr}'),
-    ("List", 'expr {"," expr}', 'expr {"," expr}'),
+    ("List", 'expr {"," expr}', TEXT),
     # what follows an opening
     ("InParenthesis", 'expr ")"'),
     ("ArgumentList", '["*" | expr {"," expr}]'),
@@ -110,37 +113,37 @@ NAMES = [Name(*row) for row in [
     ("Alias", "[AS name | name]", "[[AS] name]"),
     ("AllOfTable", 'name_of_all "." "*"', 'name "." "*"'),
     ("OutputExpression", "expr [AS name | name]"),
-    ("Output", "out", "out"),
+    ("Output", "out", TEXT),
     ("OutputMore", '"," out'),
     ("OutputRest", '{"," out}'),
     ("Outputs", 'out {"," out}'),
     ("RequiredAlias", "AS name | name", "[AS] name"),
     ("NamedItem", "name [AS name | name]", "name [[AS] name]"),
     ("DerivedItem", '"(" query ")" (AS name | name)', '"(" query ")" [AS] name'),
-    ("Item", "item", "item"),
+    ("Item", "item", TEXT),
     ("InnerJoin", "INNER JOIN"),
     ("MaybeOuter", "[OUTER]"),
     ("LeftJoin", "LEFT [OUTER] JOIN"),
     ("JoinKind", "INNER JOIN | JOIN | LEFT [OUTER] JOIN"),
-    ("Join", "join", "join"),
+    ("Join", "join", TEXT),
     ("Joins", "{join}"),
     ("MaybeQuantifier", "[ALL | DISTINCT]"),
     ("Where", "WHERE expr"),
     ("MaybeWhere", "[WHERE expr]"),
     ("MaybeQualifier", '["." name]'),
-    ("Column", "col", "col"),
+    ("Column", "col", TEXT),
     ("ColumnMore", '"," col'),
     ("ColumnRest", '{"," col}'),
     ("GroupBy", 'GROUP BY col {"," col}'),
     ("MaybeGroupBy", '[GROUP BY col {"," col}]'),
     ("Having", "HAVING expr"),
     ("MaybeHaving", "[HAVING expr]"),
-    ("Block", "block", "block"),
+    ("Block", "block", TEXT),
     ("UnionMore", "UNION ALL block"),
     ("UnionRest", "{UNION ALL block}"),
     ("Direction", "[ASC | DESC]"),
     ("SortColumn", "name | int"),
-    ("SortKey", "key", "key"),
+    ("SortKey", "key", TEXT),
     ("SortKeyMore", '"," key'),
     ("SortKeyRest", '{"," key}'),
     ("OrderBy", 'ORDER BY key {"," key}'),
@@ -149,37 +152,37 @@ NAMES = [Name(*row) for row in [
     ("MaybeSkip", "[OFFSET int]"),
     ("Limit", "LIMIT int [OFFSET int]"),
     ("MaybeLimit", "[LIMIT int [OFFSET int]]"),
-    ("Query", "query", "query"),
+    ("Query", "query", TEXT),
     ("InSubquery", 'query ")"'),
     ("MaybeSemicolon", "[any_semicolon]"),
-    ("Statement", "statement", "statement"),
+    ("Statement", "statement", TEXT),
     # schemas
     ("LengthBound", "int | MAX"),
     ("LongKind", "STRING | BYTES"),
-    ("LengthParenthesis", '"(" (int | MAX) ")"', '"(" (int | MAX) ")"', "InLength"),
+    ("LengthParenthesis", '"(" (int | MAX) ")"', TEXT, "InLength"),
     ("LongType", '(STRING | BYTES) "(" (int | MAX) ")"'),
-    ("Type", "type", "type"),
+    ("Type", "type", TEXT),
     ("NotNull", "NOT NULL"),
     ("MaybeNotNull", "[NOT NULL]"),
-    ("TableColumn", "column", "column"),
+    ("TableColumn", "column", TEXT),
     ("TableColumnMore", '"," column'),
     ("TableColumnRest", '{"," column}'),
-    ("TableColumns", '"(" column {"," column} ")"', '"(" column {"," column} ")"', "InTableColumns"),
-    ("KeyColumn", "keycol", "keycol"),
+    ("TableColumns", '"(" column {"," column} ")"', TEXT, "InTableColumns"),
+    ("KeyColumn", "keycol", TEXT),
     ("KeyColumnMore", '"," keycol'),
     ("KeyColumnRest", '{"," keycol}'),
-    ("KeyColumns", '"(" keycol {"," keycol} ")"', '"(" keycol {"," keycol} ")"', "InKeyColumns"),
+    ("KeyColumns", '"(" keycol {"," keycol} ")"', TEXT, "InKeyColumns"),
     ("NoAction", "NO ACTION"),
     ("Action", "CASCADE | NO ACTION"),
     ("OnDelete", "ON DELETE (CASCADE | NO ACTION)"),
     ("MaybeOnDelete", "[ON DELETE (CASCADE | NO ACTION)]"),
     ("Interleave", '"," INTERLEAVE IN PARENT name [ON DELETE (CASCADE | NO ACTION)]'),
     ("MaybeInterleave", '["," INTERLEAVE IN PARENT name [ON DELETE (CASCADE | NO ACTION)]]'),
-    ("Table", "table", "table"),
+    ("Table", "table", TEXT),
     ("TableMore", "separator table"),
     ("TableRest", "{separator table}"),
     ("MaybeLastSemicolon", "[last_semicolon]"),
-    ("Schema", "schema", "schema"),
+    ("Schema", "schema", TEXT),
     ("InLength", '(int | MAX) ")"'),
     ("InTableColumns", 'column {"," column} ")"'),
     ("InKeyColumns", 'keycol {"," keycol} ")"'),
@@ -363,6 +366,8 @@ def factored(node):
         groups.setdefault(first, []).append(rest)
     found = []
     for first, rests in groups.items():
+        if not any(rests) and len(rests) > 1:
+            stop(f"docs/SQL.md: two alternatives are the same: {text_of(first)}")
         if len(rests) > 1:
             rests = [[factored(rests_of(rests))]]
         found.append(row([first] + rests[0]))
@@ -440,6 +445,7 @@ class Grammar:
         self.contexts = list(dict.fromkeys(word.capitalize() for word in words if word not in self.reserved))
         self.rules = rewritten(rules)
         self.names = {name.text: name.part for name in NAMES}
+        self.comments = {name.part: {TEXT: name.text, RULE: rules.get(name.text)}.get(name.comment, name.comment) for name in NAMES}
         self.places, self.tokens, self.parts = {}, {}, {}
         self.cover()
         for name in NAMES:
@@ -514,14 +520,14 @@ class Grammar:
 
     def add_named(self, name):
         """Adds the part that a row of NAMES is, after the parts that stand for the rest of it."""
-        node = self.nodes[name.text]
+        node, comment = self.nodes[name.text], self.comments[name.part]
         if node is None:
-            self.parts[name.part] = Part(name.part, "Empty", (), name.comment)
+            self.parts[name.part] = Part(name.part, "Empty", (), comment)
         elif is_kind(node, "opening"):
             self.places[name.place] = self.part_of(node.items[1])
-            self.parts[name.part] = Part(name.part, "Open", (self.sort_of(node.items[0]), name.place), name.comment)
+            self.parts[name.part] = Part(name.part, "Open", (self.sort_of(node.items[0]), name.place), comment)
         elif is_kind(node, "repeat"):
-            self.parts[name.part] = Part(name.part, "Many", (self.part_of(node.items[0]),), name.comment)
+            self.parts[name.part] = Part(name.part, "Many", (self.part_of(node.items[0]),), comment)
         elif is_kind(node, "row"):
             self.add_pairs(name, "Then", [self.part_of(item) for item in self.grouped(node.items)])
         elif is_kind(node, "option"):
@@ -541,7 +547,7 @@ class Grammar:
             names.append(next(one for one in unused if one not in self.parts and one not in names))
         for at in reversed(range(len(names))):
             second = names[at + 1] if at + 1 < len(names) else operands[-1]
-            self.parts[names[at]] = Part(names[at], shape, (operands[at], second), name.comment if at == 0 else "")
+            self.parts[names[at]] = Part(names[at], shape, (operands[at], second), self.comments[name.part] if at == 0 else "")
 
     # what the parts are, once they are found
 

@@ -14,14 +14,13 @@ sys.dont_write_bytecode = True
 
 import generated
 import grammar as source
-from generated import lines
+from generated import lines, lines_of
 from pieces import (Writer, after, beside, built, called, constant, context, each, either, known, nothing, opening, option, sign, then, token,
                     word)
 
 def module(title, imports, body):
     """A file of antt: what it is, its imports, and its text."""
-    kept = lines(line for line in imports.split("\n") if line)
-    return f"-- {title}\n{kept}\n{body}"
+    return f"-- {title}\n{lines(lines_of(imports))}\n{body}"
 
 
 TOKENS = """
@@ -50,7 +49,7 @@ NAME = "sort.Name"
 
 def spelling(sort):
     """What a token of a sort is spelled."""
-    return known(f"spelling text {sort}", f"spelling_good text n {sort}")
+    return known(f"spelling text {sort}", f"spelling_good text n {sort}", sort)
 
 
 def closing(piece):
@@ -83,7 +82,12 @@ use Rattle.span_syntax.specs.declared.tree.Expr.{Expr}
 use Rattle.span_syntax.specs.declared.tree.Expr.TheVariants as e
 use Rattle.span_syntax.specs.declared.tree.Link.{roll-Link}
 """ + RULES + """
-use Rattle.span_syntax.specs.Expressions.{span_of, spelling_of, spelling, close_parenthesis, arm_of, then_value, integer_of, qualifier, column_of, qualified_column, column, direction, chain_of, conjunction_of, disjunction_of, apply_test, term_sign, sum_sign, comparison, maybe_not, null_words, list_more, list, when, case_operand, case_else, case_end, case_arms, case_of, in_case, argument_list, Inner, parenthesis, arguments, members, case, negation, opposite, after_name, call_or_column, if_call, compound, word_literal, other_primary, primary, unary, other_unary, signed, term_more, term, sum_more, sum, comparison_test, is_null, like, high_end, between, within, negatable_test, maybe_not_test, predicate_rest, predicate, negated, conjunction_more, conjunction, expression_more, expression, after}
+use Rattle.span_syntax.specs.Expressions.{span_of, spelling_of, spelling, close_parenthesis, arm_of, then_value, integer_of, qualifier,
+    column_of, qualified_column, column, direction, chain_of, conjunction_of, disjunction_of, apply_test, term_sign, sum_sign, comparison,
+    maybe_not, null_words, list_more, list, when, case_operand, case_else, case_end, case_arms, case_of, in_case, argument_list, Inner,
+    parenthesis, arguments, members, case, negation, opposite, after_name, call_or_column, if_call, compound, word_literal, other_primary,
+    primary, unary, other_unary, signed, term_more, term, sum_more, sum, comparison_test, is_null, like, high_end, between, within,
+    negatable_test, maybe_not_test, predicate_rest, predicate, negated, conjunction_more, conjunction, expression_more, expression, after}
 """ + GOOD
 
 
@@ -385,7 +389,11 @@ use Rattle.span_parser.specs.declared.tree.Block.{Block}
 use Rattle.span_parser.specs.declared.tree.Query.{Query}
 """ + RULES + """
 use Rattle.span_syntax.specs.Expressions.{value_of, integer_of, spelling, close_parenthesis, column, direction, after, expression}
-use Rattle.span_parser.specs.Queries.{as_name, alias, required_alias, sort_column, sort_key, sort_key_more, sort_keys, order_by, maybe_order_by, skip, maybe_skip, limit_clause, maybe_limit, quantifier, column_more, columns, group_by, maybe_group_by, all_of_table, maybe_outer, left_join, inner_join, join_kind, maybe_semicolon, where_clause, maybe_where, having, maybe_having, output_expression, output, output_more, outputs, subquery, named_item, derived_item, item, join_of, block_of, query_of, join_on, join, block_groups, block_filter, order_and_limit, unions, block_joins, block_from, block_body, block, union_more, query, nested_query, statement}
+use Rattle.span_parser.specs.Queries.{as_name, alias, required_alias, sort_column, sort_key, sort_key_more, sort_keys, order_by,
+    maybe_order_by, skip, maybe_skip, limit_clause, maybe_limit, quantifier, column_more, columns, group_by, maybe_group_by, all_of_table,
+    maybe_outer, left_join, inner_join, join_kind, maybe_semicolon, where_clause, maybe_where, having, maybe_having, output_expression,
+    output, output_more, outputs, subquery, named_item, derived_item, item, join_of, block_of, query_of, join_on, join, block_groups,
+    block_filter, order_and_limit, unions, block_joins, block_from, block_body, block, union_more, query, nested_query, statement}
 """ + GOOD + """
 use Rattle.span_syntax.proofs.Expressing.{spelling_good, closing_good, column_good, direction_good, expression_good, deep}
 """
@@ -551,7 +559,10 @@ use Rattle.span_grammar.specs.declared.grammar.Shape.TheVariants as shape
 use Rattle.span_syntax.specs.Expressions.{direction}
 """ + GOOD.replace(" beside_good,", "") + """
 use Rattle.span_syntax.proofs.Expressing.{direction_good}
-use Rattle.span_schematext.specs.Declarations.{name_of, name, at_most, unbounded, length_bound, in_length, long_kind, long_of, not_null, maybe_not_null, no_action, action, on_delete, maybe_on_delete, maybe_last_semicolon, parent, in_parent, interleave, maybe_interleave, key_column, key_column_more, in_key_columns, length_parenthesis, long_type, column_type, table_column, table_column_more, in_table_columns, key_columns, table_columns, key_and_parent, primary_key, named_table, table, table_more, tables}
+use Rattle.span_schematext.specs.Declarations.{name_of, name, at_most, unbounded, length_bound, in_length, long_kind, long_of, not_null,
+    maybe_not_null, no_action, action, on_delete, maybe_on_delete, maybe_last_semicolon, parent, in_parent, interleave, maybe_interleave,
+    key_column, key_column_more, in_key_columns, length_parenthesis, long_type, column_type, table_column, table_column_more,
+    in_table_columns, key_columns, table_columns, key_and_parent, primary_key, named_table, table, table_more, tables}
 """
 
 DECLARED_NAME = """module _ (text : List ℕ) (n : ℕ) where
