@@ -3,7 +3,7 @@ ghost use Rattle.std.specs.Prelude.{◌≡◌, [], ◌∷◌, ◌++◌, List, Er
 ghost use Rattle.span_expr.specs.declared.cell.Failure.TheVariants.{Fault};
 ghost use Rattle.span_expr.specs.Operators.{column_of};
 ghost use Rattle.span_query.specs.declared.query.Grouping.{Grouping};
-ghost use Rattle.span_query.specs.Rows.{Row, and_then, filter_where};
+ghost use Rattle.span_query.specs.Rows.{Row, unless_fault, filter_where};
 ghost use Rattle.span_query.specs.Groups as spec;
 ghost use Rattle.span_algebra.specs.Answers.{Gives};
 ghost use Rattle.span_algebra.specs.Keys as keys;
@@ -178,7 +178,7 @@ pub(crate) fn group_rows(
     grouping: &Grouping,
     rows: &[Row],
 ) -> Result<Seq<Row>, Failure>
-    ensures { Gives result (and_then (filter_where filter.now rows.now) (spec.groups grouping.now)) }
+    ensures { Gives result (unless_fault (filter_where filter.now rows.now) (spec.groups grouping.now)) }
 {
     let mut groups = first_groups(alloc, grouping)?;
     for row in rows {

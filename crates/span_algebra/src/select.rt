@@ -1,6 +1,6 @@
 //! The select list at the rows where a condition is TRUE.
 ghost use Rattle.std.specs.Prelude.{◌≡◌};
-ghost use Rattle.span_query.specs.Rows.{and_then, filter_where, project_rows, values};
+ghost use Rattle.span_query.specs.Rows.{unless_fault, filter_where, project_rows, values};
 ghost use Rattle.span_algebra.specs.Answers.{Gives};
 ghost use Rattle.span_algebra.specs.Selecting.{holds_where};
 
@@ -40,7 +40,7 @@ pub(crate) fn select_rows(
     outputs: &[Expr],
     rows: &[Row],
 ) -> Result<Seq<Row>, Failure>
-    ensures { Gives result (and_then (filter_where filter.now rows.now) (project_rows outputs.now)) }
+    ensures { Gives result (unless_fault (filter_where filter.now rows.now) (project_rows outputs.now)) }
 {
     let mut found = Vec::new(alloc);
     for row in rows {

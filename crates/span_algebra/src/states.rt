@@ -2,7 +2,7 @@
 ghost use Rattle.std.specs.Prelude.{◌≡◌, [], ◌∷◌, ◌++◌, List, Err, None, Any, Some, IfOk, OnOk};
 ghost use Rattle.span_expr.specs.declared.cell.Failure.TheVariants.{Fault};
 ghost use Rattle.span_query.specs.declared.query.Aggregate.{Aggregate};
-ghost use Rattle.span_query.specs.Rows.{Row, and_then, each};
+ghost use Rattle.span_query.specs.Rows.{Row, unless_fault, each};
 ghost use Rattle.span_query.specs.Groups.{aggregate};
 ghost use Rattle.span_algebra.specs.Answers.{Gives};
 ghost use Rattle.span_algebra.specs.States.{AreStatesOf, CanCountOne, operand_at};
@@ -45,7 +45,7 @@ pub(crate) fn take_all(
 
 /// The key of the group, and then the aggregates of its rows.
 pub(crate) fn row_with(alloc: Global, key: Row, states: &[State]) -> Result<Row, Failure>
-    ensures { (aggregates : List Aggregate) (rows : List Row) → AreStatesOf aggregates rows states.now → Gives result (and_then (each (aggregate rows) aggregates) (λ vs. Some (key ++ vs))) }
+    ensures { (aggregates : List Aggregate) (rows : List Row) → AreStatesOf aggregates rows states.now → Gives result (unless_fault (each (aggregate rows) aggregates) (λ vs. Some (key ++ vs))) }
 {
     let mut row = key.into_vec();
     for state in states {

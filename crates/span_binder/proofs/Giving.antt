@@ -3,7 +3,8 @@ use Rattle.std.proofs.Common.{◌≡◌, ℕ, suc, ◌+◌, ◌<◌, List, ◌�
 use Rattle.std.proofs.Math.Seq.{drop-cons}
 use Rattle.span_binder.specs.Onward.{fold_results}
 use Rattle.span_value.specs.declared.refusal.Refusal.{Refusal}
-use Rattle.span_typing.specs.Steps.{and_then, Gives}
+use Rattle.span_value.specs.Results.{and_then}
+use Rattle.span_typing.specs.Steps.{Gives}
 
 same_err : {X : Type 0} (v w : Refusal) → (let o : Result X Refusal = Err v in o) ≡ Err w → v ≡ w
 same_err v w h = cc

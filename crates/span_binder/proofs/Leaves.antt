@@ -2,7 +2,8 @@
 use Rattle.std.proofs.Common.{ℕ, List, Result, Ok, Err, subst}
 use Rattle.span_value.specs.declared.refusal.Refusal.{Refusal}
 use Rattle.span_schema.specs.declared.table.Table.{Table}
-use Rattle.span_typing.specs.Steps.{Gives, and_then}
+use Rattle.span_value.specs.Results.{and_then}
+use Rattle.span_typing.specs.Steps.{Gives}
 use Rattle.span_binder.specs.Sources.{AreTables, HasTables}
 
 -- what was found with such leaves, and what is made of it with such leaves

@@ -15,7 +15,8 @@ use Rattle.span_parser.specs.declared.tree.SortKey.{SortKey}
 use Rattle.span_parser.specs.declared.tree.Item.TheOpen.{Query-F, Block-F, Item-F}
 use Rattle.span_parser.specs.declared.tree.Item.TheViews.{out-Query, out-Block}
 use Rattle.span_parser.specs.declared.tree.Item.TheFolds.{fold-Item, fold-Block, fold-Join, fold-Query, fold_out-Query, fold_out-Block, fold_out-Join, fold-roll-Item, map-Block, map-Query}
-use Rattle.span_typing.specs.Steps.{Gives, and_then}
+use Rattle.span_value.specs.Results.{and_then}
+use Rattle.span_typing.specs.Steps.{Gives}
 use Rattle.span_binder.specs.declared.bound.TypedQuery.{TypedQuery}
 use Rattle.span_binder.specs.declared.bound.BoundBlock.{BoundBlock}
 use Rattle.span_binder.specs.declared.bound.BoundBlocks.{BoundBlocks}

@@ -1,7 +1,7 @@
 -- Along a list, from what was found before to what is found then; the first refusal ends it.
 use Rattle.std.specs.Prelude.{List, [], ◌∷◌, ◌++◌, Result, Ok}
 use Rattle.span_value.specs.declared.refusal.Refusal.{Refusal}
-use Rattle.span_typing.specs.Steps.{and_then}
+use Rattle.span_value.specs.Results.{and_then}
 
 abbrev pub fold_results : {A X : Type 0} → (A → X → Result A Refusal) → List X → A → Result A Refusal
 fold_results step [] found = Ok found

@@ -16,7 +16,8 @@ use Rattle.span_typing.specs.declared.typed.Typed.{Typed}
 use Rattle.span_typing.specs.declared.typed.Mode.{Mode}
 use Rattle.span_typing.specs.Kinds.{or_int}
 use Rattle.span_typing.specs.Scopes.{item_named}
-use Rattle.span_typing.specs.Steps.{and_then, pure, from_result, ◌>>=◌}
+use Rattle.span_value.specs.Results.{and_then}
+use Rattle.span_typing.specs.Steps.{pure, from_result, ◌>>=◌}
 use Rattle.span_typing.specs.Typing.{Finds, typing, column_at}
 use Rattle.span_binder.specs.declared.bound.SelectItem.{SelectItem}
 use Rattle.span_binder.specs.Onward.{fold_results, each_of}

@@ -27,7 +27,7 @@ use Rattle.span_query.specs.declared.query.BoundQuery.TheViews.{roll-BoundQuery}
 use Rattle.span_query.specs.declared.query.Statement.{Statement}
 use Rattle.span_params.specs.declared.params.Parameter.{Parameter}
 use Rattle.span_typing.specs.Scopes.{one_place, is_named}
-use Rattle.span_typing.specs.Steps.{and_then}
+use Rattle.span_value.specs.Results.{and_then}
 use Rattle.span_binder.specs.declared.bound.OutputColumn.{OutputColumn}
 use Rattle.span_binder.specs.declared.bound.Source.{Source}
 use Rattle.span_binder.specs.declared.bound.FromItems.{FromItems}

@@ -22,7 +22,8 @@ use Rattle.span_typing.specs.declared.typed.Typed.{Typed}
 use Rattle.span_typing.specs.declared.typed.Mode.TheVariants.{Rows}
 use Rattle.span_typing.specs.Kinds.{takes}
 use Rattle.span_typing.specs.Scopes.{item_named}
-use Rattle.span_typing.specs.Steps.{and_then, TypingStep}
+use Rattle.span_value.specs.Results.{and_then}
+use Rattle.span_typing.specs.Steps.{TypingStep}
 use Rattle.span_typing.specs.Typing.{typing}
 use Rattle.span_binder.specs.declared.bound.OutputColumn.{OutputColumn}
 use Rattle.span_binder.specs.declared.bound.Source.{Source}

@@ -1,6 +1,7 @@
 //! The clauses of a block after its FROM.
 ghost use Rattle.std.specs.Prelude.{◌≡◌, Ok, IfOk};
-ghost use Rattle.span_typing.specs.Steps.{Gives, and_then};
+ghost use Rattle.span_value.specs.Results.{and_then};
+ghost use Rattle.span_typing.specs.Steps.{Gives};
 ghost use Rattle.span_binder.specs.Blocks as spec;
 
 use super::aggregating::{is_grouped, mode_of};

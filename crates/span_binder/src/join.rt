@@ -1,6 +1,7 @@
 //! FROM, item by item: the names up to each, and the conditions of the joins.
 ghost use Rattle.std.specs.Prelude.{◌≡◌, ◌++◌, ◌∷◌, [], Ok, IfOk, map};
-ghost use Rattle.span_typing.specs.Steps.{Gives, and_then};
+ghost use Rattle.span_value.specs.Results.{and_then};
+ghost use Rattle.span_typing.specs.Steps.{Gives};
 ghost use Rattle.span_binder.specs.Sources as spec;
 
 use super::bound::{FromItems, OutputColumn, Source};

@@ -3,7 +3,8 @@ ghost use Rattle.std.specs.Prelude.{◌≡◌, ◌<◌, IfSome, IfOk, Ok, length
 ghost use Rattle.std.specs.List.{list_any, list_all, zip};
 ghost use Rattle.std.specs.Option.{option_map};
 ghost use Rattle.span_typing.specs.Scopes.{is_named, one_place};
-ghost use Rattle.span_typing.specs.Steps.{Gives, and_then};
+ghost use Rattle.span_value.specs.Results.{and_then};
+ghost use Rattle.span_typing.specs.Steps.{Gives};
 ghost use Rattle.span_binder.specs.Queries as spec;
 
 use super::bound::{BoundBlock, BoundBlocks, OutputColumn, TypedQuery};

@@ -1,6 +1,7 @@
 //! The output of a block: the typed expressions of its select list, and their columns.
 ghost use Rattle.std.specs.Prelude.{◌≡◌, ◌++◌, ◌∷◌, [], Ok, IfOk, length, slice_get};
-ghost use Rattle.span_typing.specs.Steps.{Gives, and_then};
+ghost use Rattle.span_value.specs.Results.{and_then};
+ghost use Rattle.span_typing.specs.Steps.{Gives};
 ghost use Rattle.span_typing.specs.Scopes.{item_named as named};
 ghost use Rattle.span_typing.specs.Typing.{typing};
 ghost use Rattle.span_binder.specs.Outputs as spec;

@@ -1,7 +1,8 @@
 //! The items of a FROM: tables and derived tables, by their names and with their columns.
 ghost use Rattle.std.specs.Prelude.{◌≡◌, ◌++◌, Ok, IfOk, map};
 ghost use Rattle.span_schema.specs.Numbers.{columns_of, IsTable};
-ghost use Rattle.span_typing.specs.Steps.{Gives, and_then};
+ghost use Rattle.span_value.specs.Results.{and_then};
+ghost use Rattle.span_typing.specs.Steps.{Gives};
 ghost use Rattle.span_binder.specs.Sources as spec;
 
 use super::bound::{OutputColumn, Source, TypedQuery};

@@ -12,7 +12,8 @@ use Rattle.span_machine.specs.declared.step.Reply.TheVariants as reply
 use Rattle.span_machine.specs.declared.slot.SlotState.{SlotState}
 use Rattle.span_machine.specs.declared.transaction.OpenTransaction.{OpenTransaction}
 use Rattle.span_core.specs.Histories.{Steps}
-use Rattle.span_machine.specs.Machine.{Machine, Answer, refused, unless_refused, if_some, for_slot, mutations_in, mutations_refusal, prepare, prepare_transaction, prepare_refusal, capacity_refusal, first_cause, prepared}
+use Rattle.span_value.specs.Results.{first_cause}
+use Rattle.span_machine.specs.Machine.{Machine, Answer, refused, unless_refused, if_some, for_slot, mutations_in, mutations_refusal, prepare, prepare_transaction, prepare_refusal, capacity_refusal, prepared}
 use Rattle.span_machine.specs.Kept.{most_versions, live_with}
 use Rattle.span_version_laws.proofs.Trims.{horizon_here}
 use Rattle.span_machine.specs.Pieces.{Journaled, machine_of}

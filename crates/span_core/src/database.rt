@@ -58,7 +58,7 @@ impl Core {
         ensures start { IfOk result (λ core. core ≡ record { schema = schema; machine = start }) }
         ensures memory { IfErr result (λ why. why ≡ Refusal.OutOfMemory) }
     {
-        let _tables = schema.tables();
+        schema.meets_rules();
         Ok(Core {
             schema,
             journal: Journal::new(alloc)?,

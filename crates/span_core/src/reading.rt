@@ -39,7 +39,7 @@ fn family_of(alloc: Global, schema: &Schema, table: usize) -> Result<KeyRange, A
     requires { IsTable schema.now table }
     ensures { IfOk result (λ range. range ≡ family (root_of schema.now table)) }
 {
-    let _tables = schema.tables();
+    schema.meets_rules();
     let root = number(schema, schema.root_of(table));
     Ok(KeyRange {
         low: Key::from_slice(alloc, &[root])?,
@@ -53,7 +53,7 @@ fn number(schema: &Schema, table: usize) -> u8
     ensures number { result ≡ table }
     ensures few { result < 255 }
 {
-    let _tables = schema.tables();
+    schema.meets_rules();
     table as u8
 }
 
@@ -67,7 +67,7 @@ fn rows_of(
     ensures ok { IfOk result (λ rows. IsReading schema.now table (map entry_row entries.now) rows) }
     ensures refused { IfErr result (λ why. (why ≡ Refusal.OutOfMemory) ⊎ AreNoRows schema.now (map entry_row entries.now)) }
 {
-    let _tables = schema.tables();
+    schema.meets_rules();
     let mut rows = Vec::new(alloc);
     for entry in entries {
         let row = table_row(alloc, schema, entry.key, entry.row)?;

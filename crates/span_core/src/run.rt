@@ -19,7 +19,7 @@ pub fn run(alloc: Global, schema: Schema, steps: Vec<Step>) -> Result<Vec<Reply>
     ensures history { IfOk result (λ replies. IsHistory schema steps.items replies.items) }
     ensures memory { IfErr result (λ why. why ≡ Refusal.OutOfMemory) }
 {
-    let _tables = schema.tables();
+    schema.meets_rules();
     let mut core = Core::new(alloc, schema)?;
     let mut replies = Vec::with_capacity(alloc, steps.len())?;
     for step in steps {

@@ -59,25 +59,25 @@ fn outcome_of<'a>(condition: Condition) -> EvalResult<'a>
 }
 
 fn unary_minus(operand: EvalResult<'_>) -> EvalResult<'_>
-    ensures { (o : Outcome) → Gives operand.entry o → Gives result (outcomes.and_then o operators.arithmetic_negation) }
+    ensures { (o : Outcome) → Gives operand.entry o → Gives result (outcomes.at_value o operators.arithmetic_negation) }
 {
     arithmetic_negation(operand?)
 }
 
 fn logical_not(operand: EvalResult<'_>) -> EvalResult<'_>
-    ensures { (o : Outcome) → Gives operand.entry o → Gives result (outcomes.and_then o outcomes.logical_not) }
+    ensures { (o : Outcome) → Gives operand.entry o → Gives result (outcomes.at_value o outcomes.logical_not) }
 {
     Ok(cell_of(not(operand?.truth())))
 }
 
 fn null_test(operand: EvalResult<'_>) -> EvalResult<'_>
-    ensures { (o : Outcome) → Gives operand.entry o → Gives result (outcomes.and_then o outcomes.null_test) }
+    ensures { (o : Outcome) → Gives operand.entry o → Gives result (outcomes.at_value o outcomes.null_test) }
 {
     Ok(LentValue::Bool(operand?.is_null()))
 }
 
 fn length(operand: EvalResult<'_>) -> EvalResult<'_>
-    ensures { (o : Outcome) → Gives operand.entry o → Gives result (outcomes.and_then o operators.length_of) }
+    ensures { (o : Outcome) → Gives operand.entry o → Gives result (outcomes.at_value o operators.length_of) }
 {
     Ok(length_of(&operand?))
 }
@@ -140,7 +140,7 @@ fn prefix_test<'a>(text: EvalResult<'a>, front: EvalResult<'a>) -> EvalResult<'a
 }
 
 fn like_test<'a>(operand: EvalResult<'a>, pattern: &[PatternPart]) -> EvalResult<'a>
-    ensures { (o : Outcome) → Gives operand.entry o → Gives result (outcomes.and_then o (patterns.like pattern.now)) }
+    ensures { (o : Outcome) → Gives operand.entry o → Gives result (outcomes.at_value o (patterns.like pattern.now)) }
 {
     match operand?.as_str() {
         Some(text) => Ok(LentValue::Bool(fits(pattern, text))),

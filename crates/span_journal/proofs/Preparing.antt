@@ -10,7 +10,8 @@ use Rattle.span_truetime.specs.Limits.{timestamp_end}
 use Rattle.span_machine.specs.declared.slot.SlotState.{SlotState}
 use Rattle.span_machine.specs.declared.transaction.Prepared.{Prepared}
 use Rattle.span_machine.specs.declared.transaction.OpenTransaction.{OpenTransaction}
-use Rattle.span_machine.specs.Machine.{Machine, refused, first_cause, unless_refused, if_some, is_transaction, is_undecided, is_prepared_at, has_conflict, mutations_in, mutations_refusal, prepare, prepare_transaction, prepare_refusal, prepare_timestamp, prepared, for_slot, capacity_refusal}
+use Rattle.span_value.specs.Results.{first_cause}
+use Rattle.span_machine.specs.Machine.{Machine, refused, unless_refused, if_some, is_transaction, is_undecided, is_prepared_at, has_conflict, mutations_in, mutations_refusal, prepare, prepare_transaction, prepare_refusal, prepare_timestamp, prepared, for_slot, capacity_refusal}
 use Rattle.span_journal.specs.Judged.{MayPrepare, timestamp_refusal}
 
 -- every mutation lies in the one slot

@@ -16,7 +16,8 @@ use Rattle.span_machine.specs.declared.query.OpenQuery.{OpenQuery}
 use Rattle.span_machine.specs.declared.transaction.OpenTransaction.{OpenTransaction}
 use Rattle.span_machine.specs.declared.transaction.Decision.{Decision}
 use Rattle.span_machine.specs.declared.transaction.Decision.TheVariants as decision
-use Rattle.span_machine.specs.Machine.{trim_refusal, Machine, first_cause, is_transaction, is_query, mutations_in, prepare_refusal, prepare_timestamp, prepared, apply_refusal, applied_at, changed_first, is_covered, is_safe, with_risen_floor, scan, with_slot_state}
+use Rattle.span_value.specs.Results.{first_cause}
+use Rattle.span_machine.specs.Machine.{trim_refusal, Machine, is_transaction, is_query, mutations_in, prepare_refusal, prepare_timestamp, prepared, apply_refusal, applied_at, changed_first, is_covered, is_safe, with_risen_floor, scan, with_slot_state}
 use Rattle.span_machine.specs.Pieces.{Pieced, Journaled, covered_by, machine_of}
 use Rattle.span_journal.specs.declared.journal.Gap.{Gap}
 

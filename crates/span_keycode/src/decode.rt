@@ -40,7 +40,7 @@ pub fn decode_key(alloc: Global, schema: &Schema, bytes: &[u8]) -> Result<RowKey
 fn read_key(alloc: Global, schema: &Schema, bytes: &[u8]) -> Result<Option<RowKey>, AllocError>
     ensures { IfOk result (λ found. MatchOption found (IsUncoded schema.now bytes.now) (λ key. IsKey schema.now key.table key.values × (bytes.now ≡ key_code schema.now key.table key.values))) }
 {
-    let _tables = schema.tables();
+    schema.meets_rules();
     let mut values = Vec::new(alloc);
     let mut above = None;
     let mut at = 0;

@@ -32,7 +32,7 @@ fn root_len(schema: &Schema, bytes: &[u8]) -> usize
     ensures within { result ≤ length bytes.now }
     ensures root { IsRootPrefix schema.now bytes.now (take result bytes.now) }
 {
-    let _tables = schema.tables();
+    schema.meets_rules();
     let table = bytes[0] as usize;
     skip_tuple(schema.own_key_columns(table), after(bytes, 1)) + 1
 }

@@ -3,6 +3,7 @@ use Rattle.std.specs.List.{list_any, list_all}
 use Rattle.span_schema.specs.declared.table.Table.{Table}
 use Rattle.span_mutate.specs.declared.mutation.CheckedMutation.{CheckedMutation}
 use Rattle.span_machine.specs.declared.transaction.Commit.{Commit}
+use Rattle.span_value.specs.Results.{first_cause, and_then}
 use Rattle.span_value.specs.declared.refusal.Refusal.{Refusal}
 use Rattle.span_value.specs.declared.refusal.Refusal.TheVariants as refusal
 use Rattle.span_machine.specs.declared.step.Step.{Step}
@@ -28,7 +29,6 @@ use Rattle.span_machine.specs.declared.transaction.OpenTransaction.{OpenTransact
 use Rattle.span_machine.specs.declared.slot.SlotState.{SlotState}
 use Rattle.span_machine.specs.declared.query.Leaf.{Leaf}
 use Rattle.span_machine.specs.declared.query.OpenQuery.{OpenQuery}
-use Rattle.span_mutate.specs.Checking.{and_then}
 use Rattle.span_mutate.specs.Database.{apply}
 use Rattle.span_mutate.specs.Directories.{Root, is_in_directory, root_row}
 use Rattle.span_machine.specs.Tables.{tables}
@@ -57,11 +57,6 @@ refused m why = (Refused why, m)
 abbrev pub if_some : {A B : Type 0} → Option A → B → (A → B) → B
 if_some None miss make = miss
 if_some (Some x) miss make = make x
-
--- the first refusal whose test is true
-abbrev pub first_cause : List (Bool × Refusal) → Option Refusal
-first_cause [] = None
-first_cause (c ∷ cs) = if c.0 then Some c.1 else first_cause cs
 
 -- why there is nothing, if so
 abbrev pub refusal_of : {A : Type 0} → Result A Refusal → Option Refusal

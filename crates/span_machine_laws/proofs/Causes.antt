@@ -2,7 +2,8 @@ use Rattle.std.proofs.Common.{◌≡◌, Bool, true, false, not, ◌||◌, [], �
 use Rattle.span_value.specs.declared.refusal.Refusal.TheVariants as refusal
 use Rattle.span_machine.specs.declared.transaction.Decision.{Decision}
 use Rattle.span_machine.specs.declared.transaction.Decision.TheVariants as decision
-use Rattle.span_machine.specs.Machine.{first_cause, undecided}
+use Rattle.span_value.specs.Results.{first_cause}
+use Rattle.span_machine.specs.Machine.{undecided}
 
 -- what a step that is not refused has found
 

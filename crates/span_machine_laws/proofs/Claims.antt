@@ -11,7 +11,7 @@ use Rattle.span_machine.specs.declared.transaction.Prepared.{Prepared}
 use Rattle.span_machine.specs.declared.transaction.OpenTransaction.{OpenTransaction}
 use Rattle.span_machine.specs.declared.transaction.Decision.{Decision}
 use Rattle.span_machine.specs.declared.transaction.Decision.TheVariants as decision
-use Rattle.span_mutate.specs.Checking.{and_then}
+use Rattle.span_value.specs.Results.{and_then}
 use Rattle.span_mutate.specs.Database.{apply}
 use Rattle.span_mutate.specs.Directories.{Root, AreKeyed, directory}
 use Rattle.span_machine.specs.Machine.{is_at, root_at}

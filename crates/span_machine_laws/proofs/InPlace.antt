@@ -11,7 +11,7 @@ use Rattle.span_machine.specs.declared.transaction.Prepared.{Prepared}
 use Rattle.span_machine.specs.declared.transaction.OpenTransaction.{OpenTransaction}
 use Rattle.span_machine.specs.declared.transaction.Decision.{Decision}
 use Rattle.span_machine.specs.declared.transaction.Decision.TheVariants as decision
-use Rattle.span_mutate.specs.Checking.{and_then}
+use Rattle.span_value.specs.Results.{and_then}
 use Rattle.span_mutate.specs.Database.{apply_one, apply}
 use Rattle.span_mutate.specs.declared.row.TableRow.{TableRow}
 use Rattle.span_mutate.specs.Directories.{Root, AreKeyed}
@@ -22,7 +22,7 @@ use Rattle.span_machine.specs.Machine.{Machine, holds, is_prepared_at, greatest}
 use Rattle.span_truetime.specs.Limits.{timestamp_end}
 use Rattle.std.proofs.Common.{append_assoc}
 use Rattle.span_machine_laws.proofs.Lists.{all_push, filter_swap, all_filtered}
-use Rattle.span_machine_laws.proofs.Ordered.{filter-insertion_sort}
+use Rattle.span_machine_laws.proofs.Ordered.{filter-in_order}
 use Rattle.span_machine_laws.proofs.Locality.{IsRoot, apply-succeeds, empty_database}
 use Rattle.span_machine_laws.proofs.Stability.{changes_at, touches, is_some_of, changes_at-filter, is_before-order, changes_at-cons}
 use Rattle.span_schema.specs.Lineages.{MeetsRules}
@@ -183,7 +183,7 @@ rising_filter s (c ∷ cs) up = elim (nat_le c.timestamp s) as (λ b. IsRising (
 pub changes_at-upto : (schema : List Table) (root : Root) (log : List Commit) (s : ℕ) → IsRising (commits_at schema root log) → changes_at schema root (upto log s) ≡ changes_at schema root (filter (λ d. nat_le d.timestamp s) (commits_at schema root log))
 changes_at-upto schema root log s up =
     sym (changes_at-filter schema root (upto log s))
-    ∙ ap (changes_at schema root) (filter-insertion_sort is_before is_before-order (touches schema root) (filter (λ d. nat_le d.timestamp s) log)
+    ∙ ap (changes_at schema root) (filter-in_order is_before is_before-order (touches schema root) (filter (λ d. nat_le d.timestamp s) log)
     ∙ ap (in_order is_before) (filter_swap (touches schema root) (λ d. nat_le d.timestamp s) log)
     ∙ in_order_rising (filter (λ d. nat_le d.timestamp s) (commits_at schema root log)) (rising_filter s (commits_at schema root log) up))
 

@@ -9,7 +9,7 @@ use Rattle.span_schema.specs.Lineages.{MeetsRules}
 use Rattle.span_schema.specs.Numbers.{root_of}
 use Rattle.span_mutate.specs.declared.mutation.CheckedMutation.{CheckedMutation}
 use Rattle.span_mutate.specs.declared.row.TableRow.{TableRow}
-use Rattle.span_mutate.specs.Checking.{and_then}
+use Rattle.span_value.specs.Results.{and_then}
 use Rattle.span_mutate.specs.Database.{apply_one, apply}
 use Rattle.span_mutate.specs.Rows.{begins}
 use Rattle.span_mutate.specs.Directories.{Root, directory, key_len, IsKeyed, AreKeyed, IsDatabase, RunsTo, IsPutTogether}

@@ -23,16 +23,16 @@ module _ {A : Type 0} (before : A → A → Bool) (o : IsOrder before) where
   all_apart x [] all = tt
   all_apart x (z ∷ zs) all = (o.apart x z all.0, all_apart x zs all.1)
 
-  pub placed-insertion_sort : (x : A) (xs : List A) → IsInOrder before xs → IsInOrder before (placed before x xs)
-  placed-insertion_sort x [] h = (tt, tt)
-  placed-insertion_sort x (y ∷ ys) h = elim (before x y) as (λ b. before x y ≡ b → IsInOrder before (cond b (x ∷ y ∷ ys) (y ∷ placed before x ys))) [
+  pub placed-in_order : (x : A) (xs : List A) → IsInOrder before xs → IsInOrder before (placed before x xs)
+  placed-in_order x [] h = (tt, tt)
+  placed-in_order x (y ∷ ys) h = elim (before x y) as (λ b. before x y ≡ b → IsInOrder before (cond b (x ∷ y ∷ ys) (y ∷ placed before x ys))) [
     | true ↦ λ e. (all_apart x (y ∷ ys) (e, all_behind x y ys e h.0), h)
-    | false ↦ λ e. (all_placed (λ z. before z y ≡ false) x ys e h.0, placed-insertion_sort x ys h.1)
+    | false ↦ λ e. (all_placed (λ z. before z y ≡ false) x ys e h.0, placed-in_order x ys h.1)
   ] refl
 
-  pub in_order-insertion_sort : (xs : List A) → IsInOrder before (in_order before xs)
-  in_order-insertion_sort [] = tt
-  in_order-insertion_sort (x ∷ xs) = placed-insertion_sort x (in_order before xs) (in_order-insertion_sort xs)
+  pub in_order-in_order : (xs : List A) → IsInOrder before (in_order before xs)
+  in_order-in_order [] = tt
+  in_order-in_order (x ∷ xs) = placed-in_order x (in_order before xs) (in_order-in_order xs)
 
   -- x is at the front of what is all after it
   pub placed_front : (x : A) (ys : List A) → AllByRecursion (λ z. before x z ≡ true) ys → placed before x ys ≡ x ∷ ys
@@ -40,19 +40,19 @@ module _ {A : Type 0} (before : A → A → Bool) (o : IsOrder before) where
   placed_front x (y ∷ ys) all = rw (all.0) refl
 
   -- what is placed and kept is placed among what is kept
-  pub filter-insert_sorted : (q : A → Bool) (x : A) (xs : List A) → IsInOrder before xs → filter q (placed before x xs) ≡ cond (q x) (placed before x (filter q xs)) (filter q xs)
-  filter-insert_sorted q x [] h = elim (q x) as (λ b. cond b (x ∷ []) [] ≡ cond b (x ∷ []) []) [ true ↦ refl | false ↦ refl ]
-  filter-insert_sorted q x (y ∷ ys) h = elim (before x y) as (λ b. before x y ≡ b → filter q (cond b (x ∷ y ∷ ys) (y ∷ placed before x ys)) ≡ cond (q x) (placed before x (filter q (y ∷ ys))) (filter q (y ∷ ys))) [
+  pub filter-placed : (q : A → Bool) (x : A) (xs : List A) → IsInOrder before xs → filter q (placed before x xs) ≡ cond (q x) (placed before x (filter q xs)) (filter q xs)
+  filter-placed q x [] h = elim (q x) as (λ b. cond b (x ∷ []) [] ≡ cond b (x ∷ []) []) [ true ↦ refl | false ↦ refl ]
+  filter-placed q x (y ∷ ys) h = elim (before x y) as (λ b. before x y ≡ b → filter q (cond b (x ∷ y ∷ ys) (y ∷ placed before x ys)) ≡ cond (q x) (placed before x (filter q (y ∷ ys))) (filter q (y ∷ ys))) [
     | true ↦ λ e. ap (λ l. cond (q x) l (filter q (y ∷ ys))) (sym (placed_front x (filter q (y ∷ ys)) (all_filtered (λ z. before x z ≡ true) q (y ∷ ys) (e, all_behind x y ys e h.0))))
     | false ↦ λ e. elim (q y) as (λ k. cond k (y ∷ filter q (placed before x ys)) (filter q (placed before x ys)) ≡ cond (q x) (placed before x (cond k (y ∷ filter q ys) (filter q ys))) (cond k (y ∷ filter q ys) (filter q ys))) [
-      | true ↦ ap (λ l. y ∷ l) (filter-insert_sorted q x ys h.1) ∙ elim (q x) as (λ b. y ∷ cond b (placed before x (filter q ys)) (filter q ys) ≡ cond b (placed before x (y ∷ filter q ys)) (y ∷ filter q ys)) [ true ↦ rw e refl | false ↦ refl ]
-      | false ↦ filter-insert_sorted q x ys h.1
+      | true ↦ ap (λ l. y ∷ l) (filter-placed q x ys h.1) ∙ elim (q x) as (λ b. y ∷ cond b (placed before x (filter q ys)) (filter q ys) ≡ cond b (placed before x (y ∷ filter q ys)) (y ∷ filter q ys)) [ true ↦ rw e refl | false ↦ refl ]
+      | false ↦ filter-placed q x ys h.1
     ]
   ] refl
 
-  pub filter-insertion_sort : (q : A → Bool) (xs : List A) → filter q (in_order before xs) ≡ in_order before (filter q xs)
-  filter-insertion_sort q [] = refl
-  filter-insertion_sort q (x ∷ xs) = filter-insert_sorted q x (in_order before xs) (in_order-insertion_sort xs) ∙ elim (q x) as (λ b. cond b (placed before x (filter q (in_order before xs))) (filter q (in_order before xs)) ≡ in_order before (cond b (x ∷ filter q xs) (filter q xs))) [
-    | true ↦ ap (placed before x) (filter-insertion_sort q xs)
-    | false ↦ filter-insertion_sort q xs
+  pub filter-in_order : (q : A → Bool) (xs : List A) → filter q (in_order before xs) ≡ in_order before (filter q xs)
+  filter-in_order q [] = refl
+  filter-in_order q (x ∷ xs) = filter-placed q x (in_order before xs) (in_order-in_order xs) ∙ elim (q x) as (λ b. cond b (placed before x (filter q (in_order before xs))) (filter q (in_order before xs)) ≡ in_order before (cond b (x ∷ filter q xs) (filter q xs))) [
+    | true ↦ ap (placed before x) (filter-in_order q xs)
+    | false ↦ filter-in_order q xs
   ]

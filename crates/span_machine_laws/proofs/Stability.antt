@@ -10,7 +10,7 @@ use Rattle.span_machine.specs.Sorting.{in_order}
 use Rattle.span_mutate.specs.Directories.{Root}
 use Rattle.span_machine.specs.Machine.{is_at}
 use Rattle.span_machine.specs.Tables.{is_before, upto, mutations_of}
-use Rattle.span_machine_laws.proofs.Ordered.{IsOrder, filter-insertion_sort}
+use Rattle.span_machine_laws.proofs.Ordered.{IsOrder, filter-in_order}
 
 pub before_by : (t u n k : ℕ) → (nat_lt t u || (t == u && nat_lt n k)) ≡ true → (t < u) ⊎ ((t ≡ u) × (n < k))
 before_by t u n k h = grind (arith, nat_tests)
@@ -71,10 +71,10 @@ pub kept_at : List Table → Root → List Commit → ℕ → List Commit
 kept_at schema root log s = filter (touches schema root) (filter (λ d. nat_le d.timestamp s) log)
 
 -- the changes are those of the commits that touch the directory
-pub changes_at-filter_rows : (schema : List Table) (root : Root) (log : List Commit) (s : ℕ) → changes_at schema root (in_order is_before (kept_at schema root log s)) ≡ changes_at schema root (upto log s)
+pub changes_at-kept : (schema : List Table) (root : Root) (log : List Commit) (s : ℕ) → changes_at schema root (in_order is_before (kept_at schema root log s)) ≡ changes_at schema root (upto log s)
 unfolding kept_at
-changes_at-filter_rows schema root log s =
-    ap (changes_at schema root) (sym (filter-insertion_sort is_before is_before-order (touches schema root) (filter (λ d. nat_le d.timestamp s) log)))
+changes_at-kept schema root log s =
+    ap (changes_at schema root) (sym (filter-in_order is_before is_before-order (touches schema root) (filter (λ d. nat_le d.timestamp s) log)))
     ∙ changes_at-filter schema root (upto log s)
 
 -- a new commit changes a directory's rows at s only where it changes the directory, at s or earlier
@@ -85,4 +85,4 @@ changes_at-more schema root log c s apart =
     let same : kept_at schema root (log ++ c ∷ []) s ≡ kept_at schema root log s =
     ap (filter (touches schema root)) (filter-append q log (c ∷ [])) ∙ filter-append (touches schema root) (filter q log) (filter q (c ∷ []))
     ∙ ap (λ l. filter (touches schema root) (filter q log) ++ l) (not_kept schema root c s apart) ∙ append-nil _ in
-    sym (changes_at-filter_rows schema root (log ++ c ∷ []) s) ∙ ap (λ l. changes_at schema root (in_order is_before l)) same ∙ changes_at-filter_rows schema root log s
+    sym (changes_at-kept schema root (log ++ c ∷ []) s) ∙ ap (λ l. changes_at schema root (in_order is_before l)) same ∙ changes_at-kept schema root log s

@@ -21,7 +21,8 @@ use Rattle.span_machine.specs.declared.step.Reply.TheVariants.{Refused}
 use Rattle.span_machine.specs.declared.step.Verdict.{Verdict}
 use Rattle.span_machine.specs.declared.step.Verdict.TheVariants as verdict
 use Rattle.span_machine.specs.declared.transaction.OpenTransaction.{OpenTransaction}
-use Rattle.span_machine.specs.Machine.{Machine, Answer, answer, refused, if_some, first_cause, unless_refused, for_transaction, for_slot, for_query, is_transaction, is_query, is_safe, is_undecided, begin_refusal, begun, mutations_refusal, capacity_refusal, prepare_timestamp, prepare_refusal, prepared, prepare_transaction, prepare, mutations_in, commit_timestamp, commit_refusal, committed, aborted, decide_transaction, decide, applied_at, apply_refusal, apply_transaction, apply_step, advanced, trim_refusal, trimmed, trim_slot, open_refusal, opened, open_query, with_risen_floor, with_slot_state, is_covered, cover, changed_first, scanned, scan_gap, scan_leaf, scan_query, scan, answer_on, meaning, finish_query, finish, closed}
+use Rattle.span_value.specs.Results.{first_cause}
+use Rattle.span_machine.specs.Machine.{Machine, Answer, answer, refused, if_some, unless_refused, for_transaction, for_slot, for_query, is_transaction, is_query, is_safe, is_undecided, begin_refusal, begun, mutations_refusal, capacity_refusal, prepare_timestamp, prepare_refusal, prepared, prepare_transaction, prepare, mutations_in, commit_timestamp, commit_refusal, committed, aborted, decide_transaction, decide, applied_at, apply_refusal, apply_transaction, apply_step, advanced, trim_refusal, trimmed, trim_slot, open_refusal, opened, open_query, with_risen_floor, with_slot_state, is_covered, cover, changed_first, scanned, scan_gap, scan_leaf, scan_query, scan, answer_on, meaning, finish_query, finish, closed}
 use Rattle.span_machine_laws.proofs.Causes.{may_abort}
 
 -- a Finish is refused for an arithmetic fault only by what its query means

@@ -8,7 +8,7 @@ use Rattle.span_schema.specs.Lineages.{MeetsRules}
 use Rattle.span_schema.specs.Numbers.{root_of}
 use Rattle.span_mutate.specs.declared.mutation.CheckedMutation.{CheckedMutation}
 use Rattle.span_mutate.specs.declared.row.TableRow.{TableRow}
-use Rattle.span_mutate.specs.Checking.{and_then}
+use Rattle.span_value.specs.Results.{and_then}
 use Rattle.span_mutate.specs.Database.{apply_one, apply}
 use Rattle.span_mutate.specs.Directories.{is_in_directory, directory, mutations_in, key_len, IsKeyed, root_row, IsDatabase, RunsTo, FirstFault, IsPutTogether, RootByRoot}
 use Rattle.span_mutate.proofs.Begins.{both_make, number_itself, taken_begins}

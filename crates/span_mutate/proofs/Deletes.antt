@@ -4,7 +4,7 @@ use Rattle.std.specs.List.{filter}
 use Rattle.span_value.specs.declared.refusal.Refusal.{Refusal}
 use Rattle.span_value.specs.declared.refusal.Refusal.TheVariants.{Exists, Missing, ParentMissing, HasChildren, RowTooLong}
 use Rattle.span_schema.specs.declared.table.Table.{Table}
-use Rattle.span_schema.specs.Rules.{first_cause}
+use Rattle.span_value.specs.Results.{first_cause}
 use Rattle.span_schema.specs.Numbers.{key_columns}
 use Rattle.span_mutate.specs.declared.mutation.MutationKind.{MutationKind}
 use Rattle.span_mutate.specs.declared.mutation.MutationKind.TheVariants.{Insert, Update, InsertOrUpdate, Delete}

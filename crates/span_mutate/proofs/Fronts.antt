@@ -3,7 +3,7 @@ use Rattle.span_value.specs.declared.refusal.Refusal.{Refusal}
 use Rattle.span_schema.specs.declared.table.Table.{Table}
 use Rattle.span_mutate.specs.declared.mutation.Mutation.{Mutation}
 use Rattle.span_mutate.specs.declared.mutation.CheckedMutation.{CheckedMutation}
-use Rattle.span_mutate.specs.Checking.{and_then}
+use Rattle.span_value.specs.Results.{and_then}
 use Rattle.span_mutate.specs.Checking.{checked, checked_all, with_front}
 
 front_one : (front : List CheckedMutation) (c : CheckedMutation) (r : Result (List CheckedMutation) Refusal) → with_front (front ++ c ∷ []) r ≡ with_front front (and_then r (λ cs. Ok (c ∷ cs)))

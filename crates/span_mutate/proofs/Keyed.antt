@@ -10,14 +10,14 @@ use Rattle.span_schema.specs.declared.table.Table.{Table}
 use Rattle.span_keycode.specs.Keys.{key_code}
 use Rattle.span_keycode.specs.declared.key.TheConstants.{MOST_BYTES}
 use Rattle.span_mutate.specs.Columns.{key_breaks, is_null_refused, is_too_long}
-use Rattle.span_schema.specs.Rules.{first_cause}
+use Rattle.span_value.specs.Results.{first_cause, and_then}
 use Rattle.span_schema.specs.Tables.{table_place}
 use Rattle.span_schema.specs.Numbers.{number_named, table_at, key_columns}
 use Rattle.span_keycode.proofs.KindTests.{kinds_length}
 use Rattle.span_keycode.specs.Coding.{are_of_kinds}
 use Rattle.span_mutate.specs.declared.mutation.Mutation.{Mutation}
 use Rattle.span_mutate.specs.declared.mutation.CheckedMutation.{CheckedMutation}
-use Rattle.span_mutate.specs.Checking.{unless, and_then, key_causes, cells_cause, lack_causes, mutation_cause, typed, checked_at, checked_in, checked, checked_all}
+use Rattle.span_mutate.specs.Checking.{unless, key_causes, cells_cause, lack_causes, mutation_cause, typed, checked_at, checked_in, checked, checked_all}
 use Rattle.span_mutate.specs.Directories.{IsKeyed, AreKeyed}
 use Rattle.span_mutate.proofs.Families.{number_here}
 

@@ -9,7 +9,7 @@ use Rattle.span_value.specs.declared.refusal.Refusal.{Refusal}
 use Rattle.span_value.specs.declared.refusal.Refusal.TheVariants.{Exists, Missing, ParentMissing, HasChildren, RowTooLong}
 use Rattle.span_schema.specs.declared.table.Table.{Table}
 use Rattle.span_schema.specs.Lineages.{MeetsRules}
-use Rattle.span_schema.specs.Rules.{first_cause}
+use Rattle.span_value.specs.Results.{first_cause}
 use Rattle.span_schema.specs.Numbers.{IsTable, table_at, parent_of, key_columns, root_of}
 use Rattle.span_rowcode.specs.Rows.{row_code}
 use Rattle.span_rowcode.specs.declared.pack.TheConstants.{MOST_BYTES}

@@ -18,7 +18,8 @@ use Rattle.span_schema.specs.Layouts as layout
 use Rattle.span_schema.specs.Lineages.{MeetsRules}
 use Rattle.span_schema.specs.Numbers.{table_at, key_in, columns_in, other_kinds}
 use Rattle.span_schema.proofs.Judged.{passes_at}
-use Rattle.span_schema.specs.Rules.{first_cause, has_repeated_column, has_bad_column, has_unknown_key, has_repeated_key, has_bad_lengths}
+use Rattle.span_value.specs.Results.{first_cause}
+use Rattle.span_schema.specs.Rules.{has_repeated_column, has_bad_column, has_unknown_key, has_repeated_key, has_bad_lengths}
 use Rattle.span_mutate.specs.declared.mutation.NamedValue.{NamedValue}
 use Rattle.span_mutate.specs.declared.mutation.Mutation.{Mutation}
 use Rattle.span_mutate.specs.declared.mutation.MutationKind.{MutationKind}

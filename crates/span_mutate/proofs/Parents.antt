@@ -14,7 +14,7 @@ use Rattle.span_value.specs.declared.refusal.Refusal.{Refusal}
 use Rattle.span_value.specs.declared.refusal.Refusal.TheVariants.{Exists, Missing, ParentMissing, HasChildren, RowTooLong}
 use Rattle.span_schema.specs.declared.table.Table.{Table}
 use Rattle.span_schema.specs.Lineages.{parent_at, path_at}
-use Rattle.span_schema.specs.Rules.{first_cause}
+use Rattle.span_value.specs.Results.{first_cause}
 use Rattle.span_schema.specs.Numbers.{IsTable, parent_of, key_columns}
 use Rattle.span_keycode.proofs.Levels.{back}
 use Rattle.span_keycode.proofs.LevelLaws.{path_child}

@@ -5,7 +5,7 @@ use Rattle.span_value.specs.declared.refusal.Refusal.{Refusal}
 use Rattle.span_schema.specs.declared.table.Table.{Table}
 use Rattle.span_mutate.specs.declared.mutation.CheckedMutation.{CheckedMutation}
 use Rattle.span_mutate.specs.declared.row.TableRow.{TableRow}
-use Rattle.span_mutate.specs.Checking.{and_then}
+use Rattle.span_value.specs.Results.{and_then}
 use Rattle.span_mutate.specs.Database.{apply_one, apply}
 
 range_next : (n i : ℕ) → i < n → range_with_len (i + 1) (n - i) ≡ (i + 1) ∷ range_with_len (i + 1 + 1) (n - (i + 1))

@@ -10,14 +10,13 @@ use Rattle.span_value.specs.declared.refusal.Refusal.{Refusal}
 use Rattle.span_value.specs.declared.refusal.Refusal.TheVariants.{Exists, Missing, ParentMissing, HasChildren, RowTooLong}
 use Rattle.span_schema.specs.declared.table.Table.{Table}
 use Rattle.span_schema.specs.Fitting.{Fits}
-use Rattle.span_schema.specs.Rules.{first_cause}
+use Rattle.span_value.specs.Results.{first_cause, and_then}
 use Rattle.span_schema.specs.Numbers.{key_columns, parent_of, other_kinds}
 use Rattle.span_rowcode.specs.Rows.{AreCells, row_code}
 use Rattle.span_rowcode.specs.declared.pack.TheConstants.{MOST_BYTES}
 use Rattle.span_mutate.specs.declared.mutation.CheckedMutation.{CheckedMutation}
 use Rattle.span_mutate.specs.declared.row.TableRow.{TableRow}
 use Rattle.span_mutate.specs.Columns.{is_delete}
-use Rattle.span_mutate.specs.Checking.{and_then}
 use Rattle.span_mutate.specs.Rows.{is_same_key, is_at, row_at, with_row}
 use Rattle.span_mutate.specs.Database.{is_insert, is_update, is_delete_blocked, lacks_parent, is_under, merge_cells, cells_after, causes, row_after, without_rows, changed, apply_one, apply}
 use Rattle.span_mutate.specs.Directories.{rows_cmp}

@@ -1,11 +1,11 @@
 -- What a mutation is checked for before any row is looked at.
 use Rattle.std.specs.Prelude.{ℕ, Bool, not, ◌||◌, ◌&&◌, nat_lt, List, [], ◌∷◌, ◌++◌, length, Option, Some, None, is_none, Result, Ok, Err}
 use Rattle.std.specs.Option.{option_or}
+use Rattle.span_value.specs.Results.{and_then, first_cause}
 use Rattle.span_value.specs.declared.value.Value.{Value}
 use Rattle.span_value.specs.declared.refusal.Refusal.{Refusal}
 use Rattle.span_value.specs.declared.refusal.Refusal.TheVariants.{NoTable, NoColumn, WrongType, NullNotAllowed, ValueTooLong, KeyTooLong, EmptyTransaction}
 use Rattle.span_schema.specs.declared.table.Table.{Table}
-use Rattle.span_schema.specs.Rules.{first_cause}
 use Rattle.span_schema.specs.Numbers.{number_named, table_at, key_columns}
 use Rattle.span_keycode.specs.Coding.{are_of_kinds}
 use Rattle.span_keycode.specs.Keys.{key_code}
@@ -20,11 +20,6 @@ use Rattle.span_mutate.specs.Columns.{cell_column, has_wrong_type, is_null_refus
 abbrev pub unless : {A : Type 0} → Option Refusal → A → Result A Refusal
 unless None x = Ok x
 unless (Some why) x = Err why
-
--- the next step at the value, or the refusal
-abbrev pub and_then : {A B : Type 0} → Result A Refusal → (A → Result B Refusal) → Result B Refusal
-and_then (Ok x) next = next x
-and_then (Err why) next = Err why
 
 -- the whole key of table n: one value of the right type for each key column; then NOT NULL, the lengths, the length of its coding
 abbrev pub key_causes : List Table → ℕ → Table → List Value → List (Bool × Refusal)

@@ -10,7 +10,7 @@ use Rattle.span_value.specs.declared.refusal.Refusal.{Refusal}
 use Rattle.span_value.specs.declared.refusal.Refusal.TheVariants.{Exists, Missing, ParentMissing, HasChildren, RowTooLong}
 use Rattle.span_schema.specs.declared.table.Table.{Table}
 use Rattle.span_schema.specs.declared.table.Parent.{Parent}
-use Rattle.span_schema.specs.Rules.{first_cause}
+use Rattle.span_value.specs.Results.{first_cause, and_then}
 use Rattle.span_schema.specs.Numbers.{table_at, key_columns, parent_of, path_of}
 use Rattle.span_rowcode.specs.Rows.{row_code}
 use Rattle.span_rowcode.specs.declared.pack.TheConstants.{MOST_BYTES}
@@ -19,7 +19,7 @@ use Rattle.span_mutate.specs.declared.mutation.MutationKind.TheVariants.{Insert,
 use Rattle.span_mutate.specs.declared.mutation.CheckedMutation.{CheckedMutation}
 use Rattle.span_mutate.specs.declared.row.TableRow.{TableRow}
 use Rattle.span_mutate.specs.Columns.{is_delete}
-use Rattle.span_mutate.specs.Checking.{unless, and_then}
+use Rattle.span_mutate.specs.Checking.{unless}
 use Rattle.span_mutate.specs.Rows.{begins, row_at, with_row}
 
 -- the rows of table n, in the order of its primary key

@@ -1,6 +1,6 @@
 //! The check of one mutation against the schema, before any row is looked at.
 ghost use Rattle.std.specs.Prelude.{◌≡◌, ◌⊎◌, [], IfOk, MatchResult, None, Some, Ok, Err, take};
-ghost use Rattle.span_schema.specs.Rules.{first_cause};
+ghost use Rattle.span_value.specs.Results.{first_cause};
 ghost use Rattle.span_schema.specs.Numbers.{IsTable, table_at};
 ghost use Rattle.span_keycode.specs.Keys.{IsCodedKey};
 ghost use Rattle.span_mutate.specs.Typed.{IsTypedMutation};
@@ -123,7 +123,7 @@ fn check_at(
     ensures table { IfOk result (λ c. c.table ≡ number) }
     ensures typed { IfOk result (λ c. IsTypedMutation schema.now c) }
 {
-    let _tables = schema.tables();
+    schema.meets_rules();
     let table = schema.table(number);
     check_rules(alloc, schema, number, table, &mutation)?;
     let cells = values_named(

@@ -16,14 +16,14 @@ abbrev pub OrFault : Type 0 → Type 0
 OrFault A = Option A
 
 -- the next step at it; a fault stays a fault
-abbrev pub and_then : {A B : Type 0} → OrFault A → (A → OrFault B) → OrFault B
-and_then (Some x) next = next x
-and_then None next = None
+abbrev pub unless_fault : {A B : Type 0} → OrFault A → (A → OrFault B) → OrFault B
+unless_fault (Some x) next = next x
+unless_fault None next = None
 
 -- the same, as an operator
 infixl 10 ◌>>=◌
 abbrev pub ◌>>=◌ : {A B : Type 0} → OrFault A → (A → OrFault B) → OrFault B
-found >>= next = and_then found next
+found >>= next = unless_fault found next
 
 abbrev pub Rows : Type 0
 Rows = OrFault (List Row)

@@ -9,7 +9,8 @@ use Rattle.span_value.specs.declared.refusal.Refusal.TheVariants.{TooMany, Dupli
 use Rattle.span_schema.specs.declared.rules.TheConstants.{MOST_LEVELS, MOST_TABLES}
 use Rattle.span_schema.specs.declared.table.Table.{Table}
 use Rattle.span_schema.specs.Tables.{table_place}
-use Rattle.span_schema.specs.Rules.{has_too_many, has_bad_column, has_no_parent, has_other_key, first_cause, causes_of}
+use Rattle.span_value.specs.Results.{first_cause}
+use Rattle.span_schema.specs.Rules.{has_too_many, has_bad_column, has_no_parent, has_other_key, causes_of}
 use Rattle.span_schema.specs.Lineages.{path_at, cause_in, cause_at, MeetsRules}
 
 passed : (b : Bool) (x : Refusal) (r : Option Refusal) → cond b (Some x) r ≡ None → (b ≡ false) × (r ≡ None)

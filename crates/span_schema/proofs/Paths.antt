@@ -9,7 +9,8 @@ use Rattle.span_schema.specs.declared.table.Table.{Table}
 use Rattle.span_schema.specs.declared.table.Parent.{Parent}
 use Rattle.span_schema.specs.declared.lineage.Lineage.{Lineage}
 use Rattle.span_schema.specs.Tables.{parent_place, parent_place_of}
-use Rattle.span_schema.specs.Rules.{first_cause, causes_of}
+use Rattle.span_value.specs.Results.{first_cause}
+use Rattle.span_schema.specs.Rules.{causes_of}
 use Rattle.span_schema.specs.Lineages.{parent_in, parent_at, above, path_in, path_at, lineage_at, path_of_line, path_below, lineage_in, judged_in, cause_in, cause_at}
 
 position_within : {X : Type 0} (p : X → Bool) (xs : List X) (i : ℕ) → position p xs ≡ Some i → i < length xs

@@ -5,7 +5,8 @@ use Rattle.span_value.specs.declared.refusal.Refusal.{Refusal}
 use Rattle.span_schema.specs.declared.table.Table.{Table}
 use Rattle.span_schema.specs.declared.lineage.Lineage.{Lineage}
 use Rattle.span_schema.specs.Tables.{parent_place}
-use Rattle.span_schema.specs.Rules.{first_cause, causes_of}
+use Rattle.span_value.specs.Results.{first_cause}
+use Rattle.span_schema.specs.Rules.{causes_of}
 
 abbrev pub parent_in : List Table → Option Table → Option ℕ
 parent_in before None = None

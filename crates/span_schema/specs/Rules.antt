@@ -95,7 +95,3 @@ causes_of before t level =
     ∷ (has_other_key before t, KeyNotPrefixed)
     ∷ (nat_lt MOST_LEVELS level, HierarchyTooDeep)
     ∷ []
-
-abbrev pub first_cause : List (Bool × Refusal) → Option Refusal
-first_cause [] = None
-first_cause (c ∷ cs) = (if c.0 then Some c.1 else first_cause cs)

@@ -2,7 +2,8 @@
 ghost use Rattle.std.specs.Prelude.{◌≡◌, ℕ, ◌+◌, ◌<◌, ◌≤◌, ◌++◌, ◌∷◌, [], ◌⊎◌, MatchResult, IfOk, IfSome, length, map};
 ghost use Rattle.std.specs.List.{range_with_len, filter};
 ghost use Rattle.span_schema.specs.Tables.{parent_place};
-ghost use Rattle.span_schema.specs.Rules.{first_cause, causes_of};
+ghost use Rattle.span_value.specs.Results.{first_cause};
+ghost use Rattle.span_schema.specs.Rules.{causes_of};
 ghost use Rattle.span_schema.specs.Lineages.{lineage_at, path_below, path_at, lineage_in, is_parent, children_at, judged_in, MeetsRules, IsFirstCause};
 
 use super::rules::check_table;

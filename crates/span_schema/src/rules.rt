@@ -2,7 +2,8 @@
 ghost use Rattle.std.specs.Prelude.{◌≡◌, ◌<◌, ◌≤◌, MatchResult, length};
 ghost use Rattle.span_schema.specs.Tables.{table_place, is_same_type, type_named, table_named};
 ghost use Rattle.std.specs.Option.{option_copied};
-ghost use Rattle.span_schema.specs.Rules.{has_too_many, has_bad_column, has_repeated_column, has_repeated_key, has_bad_length, has_bad_lengths, has_no_parent, has_other_key, has_unknown_key, extends_key, begins_key, is_same_key_column, first_cause, causes_of};
+ghost use Rattle.span_value.specs.Results.{first_cause};
+ghost use Rattle.span_schema.specs.Rules.{has_too_many, has_bad_column, has_repeated_column, has_repeated_key, has_bad_length, has_bad_lengths, has_no_parent, has_other_key, has_unknown_key, extends_key, begins_key, is_same_key_column, causes_of};
 
 use super::table::{
     Column, KeyColumn, Table, are_same, is_in_key, place_of_column, place_of_parent, place_of_table,

@@ -67,6 +67,13 @@ impl Schema {
         self.tables.as_slice()
     }
 
+    /// A law, for proofs: the tables meet the rules of a schema. It does nothing.
+    pub fn meets_rules(&self)
+        ensures { MeetsRules self.now }
+    {
+        let _ = &self.lines;
+    }
+
     /// How many tables there are. Their numbers are from 1 to this.
     pub fn len(&self) -> usize
         ensures { result ≡ length self.now }

@@ -165,7 +165,7 @@ pub(crate) fn writes_of(
     ensures ok { IfOk result (λ ws. AreWrites schema.now mutations.now store.now ws.items) }
     ensures fault { IfErr result (λ why. IsFault schema.now mutations.now store.now why) }
 {
-    let _tables = schema.tables();
+    schema.meets_rules();
     let roots = roots_of(alloc, schema, mutations)?;
     let found = keys_under(alloc, store, roots.as_slice())?;
     let rows = read_rows(alloc, schema, found.as_slice())?;

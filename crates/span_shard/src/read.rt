@@ -31,7 +31,7 @@ pub fn table_row(
 ) -> Result<TableRow, Refusal>
     ensures { MatchResult result (λ r. IsTyped schema.now r × (key.now ≡ code_of schema.now r) × (row.now ≡ row_code r.cells)) (λ why. (why ≡ Refusal.OutOfMemory) ⊎ IsNoTableRow schema.now key.now row.now) }
 {
-    let _tables = schema.tables();
+    schema.meets_rules();
     let key = decode_key(alloc, schema, key)?;
     let cells = unpack(alloc, schema, key.table, row)?;
     Ok(TableRow {

@@ -21,7 +21,7 @@ fn root_of(alloc: Global, schema: &Schema, mutation: &CheckedMutation) -> Result
     requires { IsTypedMutation schema.now mutation.now }
     ensures { MatchResult result (λ key. key ≡ root_code schema.now mutation.now) (λ why. why ≡ Refusal.OutOfMemory) }
 {
-    let _tables = schema.tables();
+    schema.meets_rules();
     let key = encode_key(alloc, schema, mutation.table, mutation.key.as_slice())?;
     Ok(Key::from_slice(alloc, root_prefix(schema, &key))?)
 }

@@ -34,7 +34,8 @@ use Rattle.span_typing.specs.declared.typed.Mode.{Mode}
 use Rattle.span_typing.specs.declared.typed.Mode.TheVariants.{Rows, Groups}
 use Rattle.span_typing.specs.Kinds.{takes}
 use Rattle.span_typing.specs.Scopes.{item_named, column_place}
-use Rattle.span_typing.specs.Steps.{and_then, pure, ◌>>=◌}
+use Rattle.span_value.specs.Results.{and_then}
+use Rattle.span_typing.specs.Steps.{pure, ◌>>=◌}
 use Rattle.span_typing.specs.Typing.{Finds, typing, kind_at, column_at}
 use Rattle.span_binder.specs.declared.bound.OutputColumn.{OutputColumn}
 use Rattle.span_binder.specs.declared.bound.Source.{Source}

@@ -25,7 +25,7 @@ use Rattle.span_expr.specs.declared.expr.Expr.{Expr}
 use Rattle.span_expr.specs.declared.expr.Expr.TheOpen.{Expr-F}
 use Rattle.span_expr.specs.declared.expr.Expr.TheViews.{roll-Expr}
 use Rattle.span_expr.specs.declared.expr.Expr.TheFolds.{ind-Expr, map-Expr, fold-roll-Expr}
-use Rattle.span_expr.specs.Outcomes.{and_then, strict, is_null, null_test, condition_of, outcome_of, logical_not, if_true, first_non_null, both}
+use Rattle.span_expr.specs.Outcomes.{at_value, strict, is_null, null_test, condition_of, outcome_of, logical_not, if_true, first_non_null, both}
 use Rattle.span_expr.specs.Operators.{number, is_int64, apply_operator, calculate, concatenation, append_text, append_bytes, calculate_ints, arithmetic_negation, compare_values, holds, length_of, has_prefix, column_of}
 use Rattle.span_expr.specs.Patterns.{like}
 use Rattle.span_expr.specs.Meaning.{apply_link, case_value, match_value, at_operands, val, link_val, arm_val, between, in_list, and_also, or_else, or_equal, all_of, any_of}
@@ -58,7 +58,7 @@ number_kept z = of_test (is_int64 z) where
   of_test true = refl
   of_test false = tt {0}
 
-then_kept : (k : Kind) (o : Outcome) (next : Value → Outcome) → ((v : Value) → IsOutcomeOf k (next v)) → IsOutcomeOf k (and_then o next)
+then_kept : (k : Kind) (o : Outcome) (next : Value → Outcome) → ((v : Value) → IsOutcomeOf k (next v)) → IsOutcomeOf k (at_value o next)
 then_kept k (Val v) next follows = follows v
 then_kept k Fault next follows = tt {0}
 
@@ -265,7 +265,7 @@ module _ (types : List Kind) (row : List Value) (row_is : IsRowOf types row) whe
   layer_kept : (y : Expr-F Told) (k : Kind) → typing_at types (map-Expr Expr Typing (is_of types) (map-Expr Told Expr expr_of y)) k ≡ true → IsOutcomeOf k (at_operands row (map-Expr Expr Outcome (val row) (map-Expr Told Expr expr_of y)))
   layer_kept (Expr-F.Literal v) k t = t
   layer_kept (Expr-F.Column place) k t = column_kept types row place k row_is t
-  layer_kept (Expr-F.Negative a) k t = of_same kind.Int k (is_of types a.0 kind.Int) (and_then (val row a.0) arithmetic_negation) t (then_kept kind.Int (val row a.0) arithmetic_negation opposite_kept)
+  layer_kept (Expr-F.Negative a) k t = of_same kind.Int k (is_of types a.0 kind.Int) (at_value (val row a.0) arithmetic_negation) t (then_kept kind.Int (val row a.0) arithmetic_negation opposite_kept)
   layer_kept (Expr-F.Chain first links) k t =
       let parts : (is_of types first.0 k ≡ true) × (list_all (is_link_of k) (map link_type (map of_link links)) ≡ true) = both_true (is_of types first.0 k) (list_all (is_link_of k) (map link_type (map of_link links))) t in
       chained_kept k (val row first.0) (map (link_val row) (map of_link links)) (first.1 k parts.0) (links_kept k links parts.1)
@@ -275,12 +275,12 @@ module _ (types : List Kind) (row : List Value) (row_is : IsRowOf types row) whe
       of_same kind.Bool k (has_type (λ j. is_of types a.0 j && is_of types low.0 j && is_of types high.0 j)) (between (val row a.0) (val row low.0) (val row high.0)) t (condition_kept (between_condition (val row a.0) (val row low.0) (val row high.0)))
   layer_kept (Expr-F.In a members) k t =
       of_same kind.Bool k (has_type (λ j. is_of types a.0 j && all_are (map (is_of types) (map expr_of members)) j)) (in_list (val row a.0) (map (val row) (map expr_of members))) t (condition_kept (fold (or_equal (val row a.0)) (Known False) (map (val row) (map expr_of members))))
-  layer_kept (Expr-F.Like a pattern) k t = of_same kind.Bool k (is_of types a.0 kind.Str) (and_then (val row a.0) (like pattern)) t (then_kept kind.Bool (val row a.0) (like pattern) (like_kept pattern))
+  layer_kept (Expr-F.Like a pattern) k t = of_same kind.Bool k (is_of types a.0 kind.Str) (at_value (val row a.0) (like pattern)) t (then_kept kind.Bool (val row a.0) (like pattern) (like_kept pattern))
   layer_kept (Expr-F.StartsWith a front) k t =
       of_same kind.Bool k (has_type (λ j. is_text j && is_of types a.0 j && is_of types front.0 j)) (strict has_prefix (val row a.0) (val row front.0)) t (strict_kept kind.Bool has_prefix (val row a.0) (val row front.0) begun_kept)
-  layer_kept (Expr-F.Length a) k t = of_same kind.Int k (has_type (λ j. is_text j && is_of types a.0 j)) (and_then (val row a.0) length_of) t (then_kept kind.Int (val row a.0) length_of measured_kept)
-  layer_kept (Expr-F.IsNull a) k t = of_same kind.Bool k (has_type (is_of types a.0)) (and_then (val row a.0) null_test) t (then_kept kind.Bool (val row a.0) null_test (λ v. refl))
-  layer_kept (Expr-F.Not a) k t = of_same kind.Bool k (is_of types a.0 kind.Bool) (and_then (val row a.0) logical_not) t (then_kept kind.Bool (val row a.0) logical_not denied_kept)
+  layer_kept (Expr-F.Length a) k t = of_same kind.Int k (has_type (λ j. is_text j && is_of types a.0 j)) (at_value (val row a.0) length_of) t (then_kept kind.Int (val row a.0) length_of measured_kept)
+  layer_kept (Expr-F.IsNull a) k t = of_same kind.Bool k (has_type (is_of types a.0)) (at_value (val row a.0) null_test) t (then_kept kind.Bool (val row a.0) null_test (λ v. refl))
+  layer_kept (Expr-F.Not a) k t = of_same kind.Bool k (is_of types a.0 kind.Bool) (at_value (val row a.0) logical_not) t (then_kept kind.Bool (val row a.0) logical_not denied_kept)
   layer_kept (Expr-F.And first more) k t =
       of_same kind.Bool k (are_conditions (is_of types first.0) (map (is_of types) (map expr_of more))) (all_of (val row first.0) (map (val row) (map expr_of more))) t (condition_kept (fold and_also (condition_of (val row first.0)) (map (val row) (map expr_of more))))
   layer_kept (Expr-F.Or first more) k t =

@@ -27,7 +27,7 @@ use Rattle.span_typing.specs.declared.typed.Chain.{Chain}
 use Rattle.span_typing.specs.declared.function.CalledFunction.{CalledFunction}
 use Rattle.span_typing.specs.declared.function.CalledFunction.TheVariants as called
 use Rattle.span_typing.specs.Kinds.{takes, common_kind, common_kind_of_all, or_int, text_kind}
-use Rattle.span_typing.specs.Steps.{and_then}
+use Rattle.span_value.specs.Results.{and_then}
 use Rattle.span_typing.specs.Operators.{typed, kinds_of, exprs_of, integer, unary_minus, logical_not, null_test, comparison_of, comparison_test, between, in_list, like_test_of, like_test, operator_of, link_kind, arm_of, otherwise_kind, otherwise_of, value_kind, case_kind, case_of, match_of, calculation_of, length_of, starts_with, coalesce_of, one_of, two_of, three_of, some_of, if_of, apply_function, operand_for, operand_of, aggregate_kind}
 use Rattle.span_typing.specs.Operators.{has_condition as is_condition}
 use Rattle.span_typing.specs.Typing.{append_link, chain_of, all_true, some_true}

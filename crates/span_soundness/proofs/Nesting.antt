@@ -20,7 +20,7 @@ use Rattle.span_query.specs.declared.query.BoundQuery.{BoundQuery}
 use Rattle.span_query.specs.declared.query.BoundQuery.TheOpen.{BoundQuery-F}
 use Rattle.span_query.specs.declared.query.BoundQuery.TheViews.{roll-BoundQuery}
 use Rattle.span_params.specs.declared.params.Parameter.{Parameter}
-use Rattle.span_typing.specs.Steps.{and_then}
+use Rattle.span_value.specs.Results.{and_then}
 use Rattle.span_binder.specs.declared.bound.Source.{Source}
 use Rattle.span_binder.specs.declared.bound.FromItems.{FromItems}
 use Rattle.span_binder.specs.declared.bound.TypedQuery.{TypedQuery}

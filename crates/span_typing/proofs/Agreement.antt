@@ -5,7 +5,7 @@ use Rattle.span_value.specs.declared.value.Kind.{Kind}
 use Rattle.span_value.specs.declared.refusal.Refusal.{Refusal}
 use Rattle.span_value.specs.declared.refusal.Refusal.TheVariants.{TypeMismatch}
 use Rattle.span_typing.specs.declared.typed.Typed.{Typed}
-use Rattle.span_typing.specs.Steps.{and_then}
+use Rattle.span_value.specs.Results.{and_then}
 use Rattle.span_typing.specs.Kinds.{common_kind, common_kind_with}
 use Rattle.span_typing.specs.Operators.{two_of, three_of}
 

@@ -14,7 +14,8 @@ use Rattle.span_typing.specs.declared.typed.Mode.{Mode}
 use Rattle.span_typing.specs.declared.typed.Mode.TheVariants.{Rows}
 use Rattle.span_typing.specs.declared.scope.Scope.{Scope}
 use Rattle.span_typing.specs.declared.function.CalledFunction.{CalledFunction}
-use Rattle.span_typing.specs.Steps.{and_then, ◌>>=◌, TypingStep, Gives, Leaves}
+use Rattle.span_value.specs.Results.{and_then}
+use Rattle.span_typing.specs.Steps.{◌>>=◌, TypingStep, Gives, Leaves}
 use Rattle.span_typing.specs.Operators.{in_list, case_of, match_of, apply_function}
 use Rattle.span_typing.specs.Typing.{Operand, each, conditions, links, arms, compared_arms, optional, kind_of, chain_of, of_one, of_two, of_three, membership, chain, junction, searched_case, simple_case, unknown_call, aggregate_call, function_call, aggregate}
 use Rattle.span_typing.proofs.Stepping.{made_of, made_of_two, made_of_three, made_step}

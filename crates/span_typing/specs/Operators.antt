@@ -31,7 +31,7 @@ use Rattle.span_typing.specs.declared.typed.TypedArm.{TypedArm}
 use Rattle.span_typing.specs.declared.function.CalledFunction.{CalledFunction}
 use Rattle.span_typing.specs.declared.function.CalledFunction.TheVariants as called
 use Rattle.span_typing.specs.Kinds.{takes, common_kind, common_kind_of_all, or_int, text_kind}
-use Rattle.span_typing.specs.Steps.{and_then}
+use Rattle.span_value.specs.Results.{and_then}
 
 abbrev pub typed : Expr → Kind → Typed
 typed e k = record { expr = e; kind = Some k }

@@ -8,7 +8,7 @@ use Rattle.span_syntax.specs.declared.tree.Column.{Column}
 use Rattle.span_syntax.specs.declared.tree.Spelling.{Spelling}
 use Rattle.span_typing.specs.declared.scope.ScopeColumn.{ScopeColumn}
 use Rattle.span_typing.specs.declared.scope.Scope.{Scope}
-use Rattle.span_typing.specs.Steps.{and_then}
+use Rattle.span_value.specs.Results.{and_then}
 
 abbrev pub is_named : List ℕ → Option (List ℕ) → Bool
 is_named name None = false

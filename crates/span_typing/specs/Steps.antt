@@ -1,13 +1,9 @@
 -- Steps along a query: each may be refused, and adds to what was found on the way.
 use Rattle.std.specs.Prelude.{◌≡◌, ◌≢◌, List, [], ◌∷◌, ◌++◌, Result, Ok, Err}
 use Rattle.std.specs.List.{fold}
+use Rattle.span_value.specs.Results.{and_then}
 use Rattle.span_value.specs.declared.refusal.Refusal.{Refusal}
 use Rattle.span_value.specs.declared.refusal.Refusal.TheVariants as refusal
-
--- the next step at what was found; a refusal stays a refusal
-abbrev pub and_then : {A B : Type 0} → Result A Refusal → (A → Result B Refusal) → Result B Refusal
-and_then (Ok x) next = next x
-and_then (Err why) next = Err why
 
 -- from what was found so far to what is found then
 abbrev pub TypingStep : Type 0 → Type 0 → Type 0

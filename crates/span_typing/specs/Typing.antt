@@ -35,7 +35,8 @@ use Rattle.span_typing.specs.declared.function.CalledFunction.TheVariants as cal
 use Rattle.span_typing.specs.Kinds.{common_kind}
 use Rattle.span_typing.specs.Scopes.{column_place}
 use Rattle.span_typing.specs.Functions.{function_named}
-use Rattle.span_typing.specs.Steps.{TypingStep, and_then, pure, from_result, ◌>>=◌, fold_steps, all_of}
+use Rattle.span_value.specs.Results.{and_then}
+use Rattle.span_typing.specs.Steps.{TypingStep, pure, from_result, ◌>>=◌, fold_steps, all_of}
 use Rattle.span_typing.specs.Operators.{typed, integer, unary_minus, logical_not, null_test, comparison_test, between, in_list, like_test, are_conditions, operator_of, link_kind, case_of, match_of, apply_function, operand_of, aggregate_kind}
 
 -- ---- literals, columns and parameters

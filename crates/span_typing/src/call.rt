@@ -1,6 +1,7 @@
 //! What calls make of typed operands.
 ghost use Rattle.std.specs.Prelude.{◌≡◌, ◌∷◌, []};
-ghost use Rattle.span_typing.specs.Steps.{Gives, and_then};
+ghost use Rattle.span_value.specs.Results.{and_then};
+ghost use Rattle.span_typing.specs.Steps.{Gives};
 ghost use Rattle.span_typing.specs.Operators as spec;
 
 use super::choice::{case_of_arms, coalesce_of};

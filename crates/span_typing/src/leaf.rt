@@ -3,7 +3,8 @@ ghost use Rattle.std.specs.Prelude.{◌≡◌, ◌==◌, ◌+◌, Ok, position, 
 ghost use Rattle.std.specs.Option.{option_copied};
 ghost use Rattle.span_schema.specs.Tables.{is_same_name};
 ghost use Rattle.span_params.specs.Parameters.{parameter_named};
-ghost use Rattle.span_typing.specs.Steps.{Gives, Leaves, and_then};
+ghost use Rattle.span_value.specs.Results.{and_then};
+ghost use Rattle.span_typing.specs.Steps.{Gives, Leaves};
 ghost use Rattle.span_typing.specs.Operators as operators;
 ghost use Rattle.span_typing.specs.Typing as spec;
 

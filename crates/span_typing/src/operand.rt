@@ -1,6 +1,7 @@
 //! Steps from the results of operands.
 ghost use Rattle.std.specs.Prelude.{◌≡◌, ◌++◌, ◌∷◌, [], Ok, Err};
-ghost use Rattle.span_typing.specs.Steps.{Gives, and_then};
+ghost use Rattle.span_value.specs.Results.{and_then};
+ghost use Rattle.span_typing.specs.Steps.{Gives};
 ghost use Rattle.span_typing.specs.Typing as spec;
 
 use super::kind::common_kind;

@@ -2,7 +2,8 @@
 //!
 //! Each takes the results of its operands, so that the first refusal among them is the one that is returned.
 ghost use Rattle.std.specs.Prelude.{◌≡◌, ◌∷◌, [], Ok, IfOk};
-ghost use Rattle.span_typing.specs.Steps.{Gives, and_then};
+ghost use Rattle.span_value.specs.Results.{and_then};
+ghost use Rattle.span_typing.specs.Steps.{Gives};
 ghost use Rattle.span_expr.specs.declared.expr.Expr.TheVariants as expr;
 ghost use Rattle.span_typing.specs.Kinds.{common_kind_of_all};
 ghost use Rattle.span_typing.specs.Operators as spec;

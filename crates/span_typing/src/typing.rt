@@ -4,7 +4,8 @@
 //! depth of the recursion is bounded by the nesting of the query.
 ghost use Rattle.std.specs.Prelude.{◌≡◌, ◌++◌, ◌∷◌, [], Ok, map};
 ghost use Rattle.std.specs.Option.{option_map};
-ghost use Rattle.span_typing.specs.Steps.{Gives, Leaves, and_then};
+ghost use Rattle.span_value.specs.Results.{and_then};
+ghost use Rattle.span_typing.specs.Steps.{Gives, Leaves};
 ghost use Rattle.span_typing.specs.Functions as functions;
 ghost use Rattle.span_typing.specs.Operators as operators;
 ghost use Rattle.span_typing.specs.Typing as spec;

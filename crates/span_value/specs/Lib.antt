@@ -2,3 +2,4 @@ pub mod Cells
 pub mod Orders
 pub mod Refusals
 pub mod Truths
+pub mod Results

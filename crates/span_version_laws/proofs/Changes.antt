@@ -38,7 +38,7 @@ use Rattle.span_machine.specs.Machine.{Machine, is_at}
 use Rattle.span_machine.specs.Kept.{Change, has_same_key, is_same, put_at, deletion_at, changes_between, ok_or, after_mutations, changes_from, database_after, changes_of, database_of}
 use Rattle.span_machine_laws.proofs.Lists.{filter_swap, found_passes}
 use Rattle.span_machine_laws.proofs.Locality.{apply-directory, apply-database, empty_database, ok_same}
-use Rattle.span_machine_laws.proofs.Ordered.{all_placed, filter-insertion_sort}
+use Rattle.span_machine_laws.proofs.Ordered.{all_placed, filter-in_order}
 use Rattle.span_machine_laws.proofs.Stability.{is_before-order, touches, none_of}
 use Rattle.span_machine_laws.proofs.InPlace.{IsRising, commits_at, front_through, in_order_rising}
 use Rattle.span_machine_laws.proofs.Claims.{all_kept}
@@ -374,4 +374,4 @@ module _ (schema : List Table) (rules : MeetsRules schema) (m : Machine) (reache
   pub changes_of_key : (k : List ℕ) → is_under schema root k ≡ true → filter (is_at_key k) (changes_of schema m.log) ≡ changes_made schema root k (commits_at schema root m.log)
   changes_of_key k under =
       changes_from_key schema rules root is_root k under [] (database_of schema m.log) (in_order is_before m.log) empty_is (all_in_order (IsCommitBy schema) m.log reached.by_schema.log) log_made.made
-      ∙ ap (changes_made schema root k) (filter-insertion_sort is_before is_before-order (touches schema root) m.log ∙ in_order_rising (commits_at schema root m.log) (reached.placed root (coded_root schema root is_root)).rising)
+      ∙ ap (changes_made schema root k) (filter-in_order is_before is_before-order (touches schema root) m.log ∙ in_order_rising (commits_at schema root m.log) (reached.placed root (coded_root schema root is_root)).rising)

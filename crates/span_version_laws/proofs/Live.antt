@@ -37,7 +37,7 @@ use Rattle.span_machine.specs.Kept.{Change, put_at, deletion_at, is_same, has_sa
 use Rattle.span_machine_laws.proofs.Tests.{first_true, both_of}
 use Rattle.span_machine_laws.proofs.Lists.{IsIn, kept_in, all_in, all_found, all_filtered}
 use Rattle.span_machine_laws.proofs.Locality.{IsRoot, own_root, apply-succeeds, apply-directory, empty_database, ok_same}
-use Rattle.span_machine_laws.proofs.Ordered.{filter-insertion_sort}
+use Rattle.span_machine_laws.proofs.Ordered.{filter-in_order}
 use Rattle.span_machine_laws.proofs.Stability.{is_before-order, touches, is_some_of, none_of, changes_at, changes_at-cons, changes_at-filter}
 use Rattle.span_machine_laws.proofs.InPlace.{commits_at, claims, IsClaim, front_through, in_order_rising}
 use Rattle.span_machine_laws.proofs.Claims.{some_any, all_kept}
@@ -201,7 +201,7 @@ module _ (schema : List Table) (rules : MeetsRules schema) (m : Machine) (cs : L
   directory_now root is_root =
       let log = log_made schema rules m reached root is_root in
       let order : filter (touches schema root) (in_order is_before m.log) ≡ commits_at schema root m.log =
-      filter-insertion_sort is_before is_before-order (touches schema root) m.log ∙ in_order_rising (commits_at schema root m.log) (reached.placed root (coded_root schema root is_root)).rising in
+      filter-in_order is_before is_before-order (touches schema root) m.log ∙ in_order_rising (commits_at schema root m.log) (reached.placed root (coded_root schema root is_root)).rising in
       ap (apply schema []) (ap (changes_at schema root) (sym order) ∙ changes_at-filter schema root (in_order is_before m.log))
       ∙ apply-directory schema rules (mutations_of (in_order is_before m.log)) [] now root (coded_root schema root is_root) (empty_database schema) (log_keyed schema m reached root (coded_root schema root is_root)) log.made
 

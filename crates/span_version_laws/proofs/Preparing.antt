@@ -10,7 +10,7 @@ use Rattle.span_schema.specs.Lineages.{MeetsRules}
 use Rattle.span_truetime.specs.Limits.{timestamp_end}
 use Rattle.span_mutate.specs.declared.mutation.CheckedMutation.{CheckedMutation}
 use Rattle.span_mutate.specs.declared.row.TableRow.{TableRow}
-use Rattle.span_mutate.specs.Checking.{and_then}
+use Rattle.span_value.specs.Results.{and_then, first_cause}
 use Rattle.span_mutate.specs.Database.{apply}
 use Rattle.span_mutate.specs.Directories.{Root, directory, IsDatabase, AreKeyed}
 use Rattle.span_mutate.specs.Typed.{AreTyped, AreTypedMutations}
@@ -34,7 +34,7 @@ use Rattle.span_machine.specs.declared.transaction.Commit.{Commit}
 use Rattle.span_machine.specs.Sorting.{in_order}
 use Rattle.span_machine.specs.Tables.{is_before, upto, mutations_of, tables}
 use Rattle.span_machine.specs.Kept.{Change, changes_between, database_of, count_changes, live_with}
-use Rattle.span_machine.specs.Machine.{Machine, root_at, is_at, is_transaction, is_undecided, is_prepared_at, mutations_in, has_conflict, prepare_refusal, prepare_timestamp, prepared, add_prepared, changed_first, mutations_refusal, refusal_of, first_cause}
+use Rattle.span_machine.specs.Machine.{Machine, root_at, is_at, is_transaction, is_undecided, is_prepared_at, mutations_in, has_conflict, prepare_refusal, prepare_timestamp, prepared, add_prepared, changed_first, mutations_refusal, refusal_of}
 use Rattle.span_machine_laws.proofs.Causes.{may_prepare, undecided_is}
 use Rattle.span_machine_laws.proofs.Tests.{second_true, second_or, number_same}
 use Rattle.span_machine_laws.proofs.Lists.{found_passes, all_found, all_weaker}

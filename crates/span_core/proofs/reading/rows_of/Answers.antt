@@ -48,4 +48,4 @@ returns-clause-ok c =
     let entries = c.args.entries.now in
     let all : take c.loop-entry.entry-index entries ≡ entries = take_all c.loop-entry.entry-index entries (let stop = c.loop-entry-test.false in omega arith) in
     let read = subst (λ (es : List Entry). AreReadOf schema c.args.table (map entry_row es) c.loop-entry.rows.items) all c.loop-entry.invariant in
-    λ rows typed is. c.from_vec.ensures ∙ all_read schema c.tables-tables.ensures.rules c.args.table (map entry_row entries) c.loop-entry.rows.items read rows typed is
+    λ rows typed is. c.from_vec.ensures ∙ all_read schema c.meets_rules.ensures c.args.table (map entry_row entries) c.loop-entry.rows.items read rows typed is

@@ -33,4 +33,4 @@ pub returns-clause-history : goal.returns-clause-history
 returns-clause-history c =
     let done : into_iter_items c.loop-step.step-iterator ≡ [] = nil_from_length _ (sym c.loop-step.invariant.count ∙ c.in-None.ensures.steps.0) in
     let all : c.loop-step.yielded ≡ c.args.steps.items = sym (append-nil c.loop-step.yielded) ∙ ap (λ l. c.loop-step.yielded ++ l) (sym done) ∙ c.loop-step.invariant.rest in
-    run_history (Understands c.args.schema) c.args.schema c.tables-tables.ensures.rules c.args.steps.items c.loop-step.replies.items _ c.requires (subst (λ l. Run c.args.schema start l c.loop-step.replies.items c.loop-step.core.machine) all c.loop-step.invariant.ran)
+    run_history (Understands c.args.schema) c.args.schema c.meets_rules.ensures c.args.steps.items c.loop-step.replies.items _ c.requires (subst (λ l. Run c.args.schema start l c.loop-step.replies.items c.loop-step.core.machine) all c.loop-step.invariant.ran)

@@ -3,8 +3,8 @@ use Rattle.span_machine.specs.Machine.{is_prepared_at}
 use Rattle.span_journal.proofs.transactions.count_prepared.Given as goal
 
 -- how many of those so far are prepared at the slot
-abbrev pub invariant-loop-filter_rows : goal.invariant-loop-kept
-invariant-loop-filter_rows l = record {
+abbrev pub invariant-loop-kept : goal.invariant-loop-kept
+invariant-loop-kept l = record {
   counted : l.prepared ≡ count_by (is_prepared_at l.slot) (take l.kept-index l.transactions);
   few : l.prepared ≤ l.kept-index;
 }

@@ -11,7 +11,7 @@ prove-unreachable-requires c =
     let tables = c.args.schema.now in
     let t = c.table-table.result.now in
     let n = c.args.number in
-    let fit = mutation_kinds tables c.tables-tables.ensures.rules n t c.args.mutation c.table-table.ensures c.in_ok-check_rules.ensures.cause in
+    let fit = mutation_kinds tables c.meets_rules.ensures n t c.args.mutation c.table-table.ensures c.in_ok-check_rules.ensures.cause in
     let items : c.in_ok-cells.cells.items ≡ values_named t.key c.args.mutation.cells t.columns = c.in_ok-cells.ensures ∙ cc in
     let all : are_named_kinds c.other_kinds.result.now c.as_slice-4.result.now ≡ true =
     ap (λ (ks : List Kind). are_named_kinds ks c.as_slice-4.result.now) c.other_kinds.ensures ∙ ap (are_named_kinds (other_kinds tables n)) (c.as_slice-4.ensures.value ∙ items) ∙ fit in

@@ -34,7 +34,7 @@ returns-in_err-after-clause-fault c =
     let read = subst (λ (l : List KeyVersions). AreRead tables l c.in_ok-rows.rows.items) c.as_slice-2.ensures.value c.in_ok-rows.ensures in
     let part = part_made tables ms roots cs found c.in_ok-rows.rows.items c.in_ok-before.before.items c.in_ok-roots.ensures f read c.in_ok-before.ensures in
     rw (p.1, p.2) (elim c.in_err-after.ensures [
-      | inl e ↦ fault_of tables c.tables-tables.ensures.rules ms c.requires.typed cs c.in_ok-before.before.items part c.in_err-after.field-0.0 e
+      | inl e ↦ fault_of tables c.meets_rules.ensures ms c.requires.typed cs c.in_ok-before.before.items part c.in_err-after.field-0.0 e
       | inr e ↦ λ db is tdb now. inl e
     ])
 
@@ -48,7 +48,7 @@ changes-requires-clause-typed c =
     let f = subst (λ (l : List (List ℕ)). AreKeysUnder l cs found) c.as_slice.ensures.value c.in_ok-found.ensures in
     let read = subst (λ (l : List KeyVersions). AreRead tables l c.in_ok-rows.rows.items) c.as_slice-2.ensures.value c.in_ok-rows.ensures in
     let part = part_made tables ms roots cs found c.in_ok-rows.rows.items c.in_ok-before.before.items c.in_ok-roots.ensures f read c.in_ok-before.ensures in
-    let after = run_after tables c.tables-tables.ensures.rules ms c.requires.typed cs c.in_ok-before.before.items part c.in_ok-after.after.items c.in_ok-after.ensures in
+    let after = run_after tables c.meets_rules.ensures ms c.requires.typed cs c.in_ok-before.before.items part c.in_ok-after.after.items c.in_ok-after.ensures in
     subst (AreTyped tables) (sym c.as_slice-4.ensures.value) after.typed
 
 pub returns-clause-ok : goal.returns-clause-ok
@@ -65,4 +65,4 @@ returns-clause-ok c =
     let part = part_made tables ms roots cs found c.in_ok-rows.rows.items c.in_ok-before.before.items c.in_ok-roots.ensures f read c.in_ok-before.ensures in
     let diffs0 = subst (λ (l : List KeyVersions). AreDiffs tables cs l c.as_slice-4.result.now ws) c.as_slice-3.ensures.value c.in_ok-writes.ensures in
     let diffs = subst (λ (l : List TableRow). AreDiffs tables cs found l ws) c.as_slice-4.ensures.value diffs0 in
-    writes_of tables c.tables-tables.ensures.rules ms c.requires.typed roots cs found c.in_ok-before.before.items after ws (roots_touched tables ms roots c.in_ok-roots.ensures) f part c.in_ok-after.ensures diffs
+    writes_of tables c.meets_rules.ensures ms c.requires.typed roots cs found c.in_ok-before.before.items after ws (roots_touched tables ms roots c.in_ok-roots.ensures) f part c.in_ok-after.ensures diffs

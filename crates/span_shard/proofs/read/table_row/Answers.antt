@@ -13,7 +13,7 @@ returns-in_err-cells c =
     rw (p.1, p.2) (elim c.in_err-cells.ensures [
       | inl e ↦ inr (record {
         none = λ r typed k row.
-            let same = one_key tables c.tables-tables.ensures.rules r.table key.table r.key key.values typed.0.0 c.in_ok-key.ensures.0.0 (sym k ∙ c.in_ok-key.ensures.1) in
+            let same = one_key tables c.meets_rules.ensures r.table key.table r.key key.values typed.0.0 c.in_ok-key.ensures.0.0 (sym k ∙ c.in_ok-key.ensures.1) in
             let P : ℕ → Type 0 = λ n. IsRow (other_kinds tables n) r.cells in
             e.1.none r.cells (subst P same.0 typed.1) row;
       })

@@ -9,14 +9,14 @@ use Rattle.span_binder.proofs.Giving.{gives_on, goes_on, stops}
 use Rattle.span_binder.proofs.Trees.{gives_table, gives_derived, gives_block, gives_query}
 use Rattle.span_binder.proofs.binding.Binder.+binding.Goals as goal
 
-pub item-returns-in-Table-clause-decode_all : goal.item-returns-in-Table-clause-meant
-item-returns-in-Table-clause-decode_all t c = gives_table c.args.self.schema.now c.args.self.params.now c.args.tree.now c.in-Table.name c.in-Table.alias c.args.leaves c.named_source.result c.in-Table.is c.named_source.ensures.meant
+pub item-returns-in-Table-clause-meant : goal.item-returns-in-Table-clause-meant
+item-returns-in-Table-clause-meant t c = gives_table c.args.self.schema.now c.args.self.params.now c.args.tree.now c.in-Table.name c.in-Table.alias c.args.leaves c.named_source.result c.in-Table.is c.named_source.ensures.meant
 
-pub item-returns-in-Derived-clause-decode_all : goal.item-returns-in-Derived-clause-meant
-item-returns-in-Derived-clause-decode_all t c = gives_derived c.args.self.schema.now c.args.self.params.now c.args.tree.now c.in-Derived.query c.get.result.now c.in-Derived.name c.args.leaves c.query.result c.derived_source.result c.in-Derived.is c.get.ensures c.query.ensures.meant c.derived_source.ensures
+pub item-returns-in-Derived-clause-meant : goal.item-returns-in-Derived-clause-meant
+item-returns-in-Derived-clause-meant t c = gives_derived c.args.self.schema.now c.args.self.params.now c.args.tree.now c.in-Derived.query c.get.result.now c.in-Derived.name c.args.leaves c.query.result c.derived_source.result c.in-Derived.is c.get.ensures c.query.ensures.meant c.derived_source.ensures
 
-pub block-returns-clause-decode_all : goal.block-returns-clause-meant
-block-returns-clause-decode_all t c = gives_block c.args.self.schema.now c.args.self.params.now c.args.tree.now c.args.leaves c.as_slice.result.now c.item.result c.start_from-first.result c.join_items-from.result c.block_of_found.result c.as_slice.ensures c.item.ensures.meant c.start_from-first.ensures c.join_items-from.ensures.meant c.block_of_found.ensures
+pub block-returns-clause-meant : goal.block-returns-clause-meant
+block-returns-clause-meant t c = gives_block c.args.self.schema.now c.args.self.params.now c.args.tree.now c.args.leaves c.as_slice.result.now c.item.result c.start_from-first.result c.join_items-from.result c.block_of_found.result c.as_slice.ensures c.item.ensures.meant c.start_from-first.ensures c.join_items-from.ensures.meant c.block_of_found.ensures
 
 pub join_items-loop-join-preserved : goal.join_items-loop-join-preserved
 join_items-loop-join-preserved t c =
@@ -47,8 +47,8 @@ block-returns-clause-tables t c = λ h.
     let first : HasTables schema c.start_from-first.result = has_tables_on schema c.item.result _ c.start_from-first.result c.start_from-first.ensures (c.item.ensures.tables h) (λ p k. k) in
     has_tables_on schema c.join_items-from.result _ c.block_of_found.result c.block_of_found.ensures (c.join_items-from.ensures.tables first) (λ p k. has_tables_made schema (bind_block params (block_tail c.args.tree.now) p.0) p.1 k)
 
-pub join_items-returns-in_err-so_far-2-clause-decode_all : goal.join_items-returns-in_err-so_far-2-clause-meant
-join_items-returns-in_err-so_far-2-clause-decode_all t c =
+pub join_items-returns-in_err-so_far-2-clause-meant : goal.join_items-returns-in_err-so_far-2-clause-meant
+join_items-returns-in_err-so_far-2-clause-meant t c =
     let schema = c.args.self.schema.now in
     let params = c.args.self.params.now in
     let why = c.in_err-so_far-2.field-0.0 in
@@ -57,5 +57,5 @@ join_items-returns-in_err-so_far-2-clause-decode_all t c =
     let answer = stops (spec.join_step schema params) (spec.next_join params) c.args.joins.now c.loop-join.join-index c.join-item.result c.loop-join.so_far _ c.loop-join.invariant.meant c.loop-join-test.true c.join-item.is why next in
     search (rules, answer)
 
-pub query-returns-clause-decode_all : goal.query-returns-clause-meant
-query-returns-clause-decode_all t c = gives_query c.args.self.schema.now c.args.self.params.now c.args.tree.now c.args.leaves c.as_slice.result.now c.as_slice-2.result.now c.block.result c.first_of-first.result c.others-blocks.result c.query_of_found.result c.as_slice.ensures c.as_slice-2.ensures c.block.ensures.meant c.first_of-first.ensures c.others-blocks.ensures.meant c.query_of_found.ensures
+pub query-returns-clause-meant : goal.query-returns-clause-meant
+query-returns-clause-meant t c = gives_query c.args.self.schema.now c.args.self.params.now c.args.tree.now c.args.leaves c.as_slice.result.now c.as_slice-2.result.now c.block.result c.first_of-first.result c.others-blocks.result c.query_of_found.result c.as_slice.ensures c.as_slice-2.ensures c.block.ensures.meant c.first_of-first.ensures c.others-blocks.ensures.meant c.query_of_found.ensures

@@ -1,5 +1,5 @@
 use Rattle.std.proofs.Common.{◌≡◌, map, drop}
-use Rattle.span_typing.specs.Steps.{and_then}
+use Rattle.span_value.specs.Results.{and_then}
 use Rattle.span_binder.specs.Onward.{fold_results}
 use Rattle.span_binder.specs.Sources.{AreTables, HasTables}
 use Rattle.span_binder.specs.Queries as spec
