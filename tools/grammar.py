@@ -211,6 +211,7 @@ def items_of(node):
 
 
 def alternatives_of(node):
+    """What a choice is between; another expression is the only one."""
     return list(node.items) if is_kind(node, "choice") else [node]
 
 
@@ -247,6 +248,7 @@ def parsed(rule, text):
     words = re.findall(r'"[^"]+"|\w+|[][{}()|]|\S', text)
 
     def expression(end):
+        """What stands up to an end, which stays."""
         alternatives, items = [], []
         while words and words[0] != end:
             word = words.pop(0)
@@ -263,6 +265,7 @@ def parsed(rule, text):
         return choice(alternatives + [row(items)])
 
     def bracketed(word):
+        """What an opening bracket begins."""
         inside = expression({"[": "]", "{": "}", "(": ")"}[word])
         words.pop(0)
         return inside if word == "(" else Node("option" if word == "[" else "repeat", (inside,))

@@ -92,6 +92,7 @@ use Rattle.span_syntax.specs.Expressions.{span_of, spelling_of, spelling, close_
 
 
 def expressing_antt(writer):
+    """span_syntax's proofs/Expressing.antt."""
     return module("Expressions are read as the grammar's theory reads them, and built.", EXPRESSIONS, SPELLING + columns(writer)
                   + "module _ (n : ℕ) where\n" + signs(writer) + INSIDE + insides(writer) + DEEP + openings(writer)
                   + primaries(writer) + operators(writer) + predicates(writer) + junctions(writer) + DEPTHS)
@@ -112,6 +113,7 @@ module _ (text : List ℕ) (n : ℕ) where
 
 
 def columns(writer):
+    """The columns of a table."""
     qualified, first = built("(column_of first)", option(in_text("qualifier"))), "(first : Spelling)"
     return writer.lemmas("text", [
         ("qualifier", "Qualifier", after(token(sign("Dot")), spelling(NAME))),
@@ -128,6 +130,7 @@ COMPARISONS = [
 
 
 def signs(writer):
+    """Directions, operators and comparisons, and NOT."""
     return writer.lemmas("", [
         ("direction", "Direction", either(constant("false", word("Asc")), constant("true", word("Desc")), nothing("false"))),
         ("term_sign", "TermSign", either(constant("operator.Times", sign("Star")), constant("operator.Concat", sign("Concat")))),
@@ -145,6 +148,7 @@ module _ (n : ℕ) (p : Piece Expr) (gp : Good n (rule_of part.Expression) p) wh
 
 
 def insides(writer):
+    """What follows the opening of a call, a list or CASE."""
     expression = known("p", "gp")
 
     def of(name):
@@ -187,6 +191,7 @@ def expr(name, given=""):
 
 
 def openings(writer):
+    """What begins with an opening, or with the name of a call."""
     def deep(name):
         return known(f"inner.{name}", f"deep.{name} m e")
 
@@ -209,6 +214,7 @@ def openings(writer):
 
 
 def primaries(writer):
+    """Literals, and what the grammar calls prim and unary."""
     def literal(value, name):
         return constant(f"e.{value} (span_of t.token)", word(name))
 
@@ -227,6 +233,7 @@ def primaries(writer):
 
 
 def operators(writer):
+    """Operands with operators between them."""
     def rows(name, operand, part):
         link = "(λ x. roll-Link (record { operator = o; operand = x }))"
         return [
@@ -243,6 +250,7 @@ def chain(operand, function, more):
 
 
 def predicates(writer):
+    """What follows an operand in a predicate."""
     return writer.lemmas(EXPRESSION, [
         ("comparison_test", "Compared", then(called("comparison", "", "n"), "c", built("(λ x. (false, predicate_test.Compared c x))", expr("sum")))),
         ("is_null", "IsNull", built("(λ is_not. (is_not, predicate_test.IsNull))", called("null_words", "", "n"))),
@@ -262,6 +270,7 @@ def predicates(writer):
 
 
 def junctions(writer):
+    """NOT, AND and OR."""
     return writer.lemmas(EXPRESSION, [
         ("negated", "Negated", either(expr("negation"), expr("predicate"))),
         ("conjunction_more", "ConjunctionMore", after(token(word("And")), expr("negated"))),
@@ -297,6 +306,7 @@ use Rattle.span_syntax.proofs.Shrinking.{shrinking}
 
 
 def shrinking_antt(writer):
+    """span_syntax's proofs/Shrinking.antt."""
     chains = [("term", "Term"), ("sum", "Sum"), ("conjunction", "Conjunction"), ("expression", "Expression")]
     body = SHRINKING
     for name, part in chains:
@@ -400,6 +410,7 @@ use Rattle.span_syntax.proofs.Expressing.{spelling_good, closing_good, column_go
 
 
 def querying_antt(writer):
+    """span_parser's proofs/Querying.antt."""
     statement = then(known("query text n (nested_query text n)", "query_good text n (nested_query text n) (λ m e. query_deep text n m e)"),
                      "q", built("(λ both. both.0)", beside("q", called("maybe_semicolon", "", "n"))))
     return module("Queries are read as the grammar's theory reads them, and built.", QUERIES, "module _ (n : ℕ) where\n"
@@ -409,6 +420,7 @@ def querying_antt(writer):
 
 
 def query_words(writer):
+    """What consists of words and numbers alone."""
     limit = then(token("sort.Int"), "rows", built("(λ skip. record { rows = value_of rows.token.kind; skip = skip })", called("maybe_skip")))
     return writer.lemmas("", [
         ("quantifier", "MaybeQuantifier", either(constant("false", word("All")), constant("true", word("Distinct")), nothing("false"))),
@@ -425,6 +437,7 @@ def query_words(writer):
 
 
 def query_names(writer):
+    """Aliases, and the columns of ORDER BY."""
     return writer.lemmas("text", [
         ("as_name", "AsName", after(token(word("As")), spelling(NAME))),
         ("alias", "Alias", either(built("Some", in_text("as_name")), option(spelling(NAME)))),
@@ -437,6 +450,7 @@ def query_names(writer):
 
 
 def query_lists(writer):
+    """ORDER BY and GROUP BY, and all columns of a table."""
     column = known("column text", "column_good text n")
     return writer.lemmas("text", [
         ("sort_key_more", "SortKeyMore", after(token(sign("Comma")), in_text("sort_key"))),
@@ -453,6 +467,7 @@ def query_lists(writer):
 
 
 def query_clauses(writer):
+    """What has expressions: the select list, WHERE, HAVING and ON."""
     expression = known("expression text n (after text n)", "expression_good text n (after text n) (deep text n)")
 
     def of(name):
@@ -480,6 +495,7 @@ SUBQUERIES = """  -- what is a query one opening deeper is read so, where there 
 
 
 def query_items(writer):
+    """What stands in FROM."""
     join = then(called("join_kind", "", "n"), "is_left", then(expr("item"), "joined", built(
         "(λ both. join_of is_left both.0 both.1)", beside("joined", called("join_on", "text n")))))
     return writer.lemmas(EXPRESSION, [
@@ -493,6 +509,7 @@ def query_items(writer):
 
 
 def query_blocks(writer):
+    """Blocks, unions and whole queries."""
     outputs = then(called("outputs", "text n"), "output_list", built("(block_of is_distinct)", beside("output_list", expr("block_from"))))
     blocks = writer.lemmas(EXPRESSION, [
         ("block_joins", "BlockFromJoins", then(each(expr("join")), "joins", beside("joins", called("block_filter", "text n")))),
@@ -522,6 +539,7 @@ statement_good text n = """
 
 
 def falling_antt(writer):
+    """span_parser's proofs/Falling.antt."""
     query = "text n (nested_query text n)"
     deep = f"{query} (λ m e. query_deep text n m e)"
     body = "".join([
@@ -585,6 +603,7 @@ IN_COLUMNS = """  in_columns : (m : ℕ) → n ≡ suc m → Good m (rule_of par
 
 
 def declaring_antt(writer):
+    """span_schematext's proofs/Declaring.antt."""
     return module("Declarations are read as the grammar's theory reads them, and built.", DECLARATIONS,
                   "module _ (n : ℕ) where\n" + schema_words(writer) + "module _ (n : ℕ) where\n" + column_types(writer) + DECLARED_NAME
                   + parents_and_keys(writer) + "module _ (text : List ℕ) (n : ℕ) where\n" + table_columns(writer)
@@ -592,6 +611,7 @@ def declaring_antt(writer):
 
 
 def schema_words(writer):
+    """What consists of words and numbers alone."""
     return writer.lemmas("", [
         ("length_bound", "LengthBound", either(built("at_most", token("sort.Int")), built("unbounded", token(context("Max"))))),
         ("in_length", "InLength", then(called("length_bound"), "most", constant("most", sign("Close")))),
@@ -607,6 +627,7 @@ def schema_words(writer):
 
 
 def column_types(writer):
+    """The types of columns."""
     return writer.lemmas("n", [
         ("length_parenthesis", "LengthParenthesis", opening(called("in_length", "", "m"))),
         ("long_type", "LongType",
@@ -622,6 +643,7 @@ def enclosed(first, more):
 
 
 def parents_and_keys(writer):
+    """INTERLEAVE IN PARENT and the columns of a key."""
     cascade = built("(λ cascade. record { name = above; cascade = cascade })", called("maybe_on_delete", "", "n"))
     order = built("(λ desc. record { name = column; desc = desc })", called("direction", "", "n"))
     return writer.lemmas("text", [
@@ -639,6 +661,7 @@ TABLE_NAME = known("name text", "name_good text n")
 
 
 def table_columns(writer):
+    """The columns of a table, with their types."""
     column = built("(λ is_not_null. record { name = column; kind = type_of; not_null = is_not_null })", called("maybe_not_null", "", "n"))
     return writer.lemmas("text n", [
         ("table_column", "TableColumn", then(TABLE_NAME, "column", then(called("column_type", "n", "n"), "type_of", column))),
@@ -648,6 +671,7 @@ def table_columns(writer):
 
 
 def tables(writer):
+    """Tables, and the whole schema."""
     def of(name, given=""):
         return called(name, f"text n {given}".strip(), given)
 
@@ -670,6 +694,7 @@ def tables(writer):
 
 
 def lasting_antt(writer):
+    """span_schematext's proofs/Lasting.antt."""
     body = "".join([
         shrinks(writer, "key_column_more", "KeyColumnRest", "text", "text 0", False),
         shrinks(writer, "table_column_more", "TableColumnRest", "text n", "text n"),
