@@ -1,6 +1,6 @@
 """The grammar of docs/SQL.md, cut into the parts that span_grammar reads by: each one token, or made of at most two other parts.
 
-The rules are read from docs/SQL.md. They are rewritten a little, so that one token decides each choice (`rewritten`), and then each
+The rules are read from docs/SQL.md. They are rewritten a little, so that one token decides each choice (`rewrite`), and then each
 expression in them becomes a part. NAMES below says how each part is called: an expression that has no name there, or a name whose
 expression docs/SQL.md does not have, is an error. tools/grammar_tables.py and tools/grammar_pieces.py write files from what is found.
 """
@@ -25,8 +25,8 @@ TOKENS = {
     "separator": ("Separator", "Separator"), "last_semicolon": ("LastSemicolon", "LastSemicolon"),
 }
 
-# Tokens that are told from others of their kind by what follows them: in which rule, what stands there, and what is read for it.
-TOLD_APART = [
+# Tokens that what follows them distinguishes from others of their kind: in which rule, what it has, and what is read in its place.
+TOKEN_VARIANTS = [
     ("statement", '";"', "any_semicolon"),
     ("out", 'name "." "*"', 'name_of_all "." "*"'),
     ("schema", '{";" table}', "{separator table}"),
@@ -34,10 +34,10 @@ TOLD_APART = [
 ]
 
 # Rules whose alternatives are taken into another rule, since several of them begin with one token: the rule, and the rules taken in.
-TAKEN_IN = {"prim": ["col", "call"]}
+INLINED = {"prim": ["col", "call"]}
 
 # What begins with a word that may be left out, and is read as two alternatives: one with the word, one without.
-SPLIT = ["[AS] name", "[INNER] JOIN"]
+EXPANDED = ["[AS] name", "[INNER] JOIN"]
 
 # What opens beside a parenthesis: the rule, and the token. All that follows the token in its row is one deeper.
 OPENINGS = [("case", "CASE"), ("neg", "NOT"), ("unary", '"-"')]
@@ -243,12 +243,12 @@ def text_of(node):
     return " ".join(f"({text})" if is_kind(item, "choice") else text for item, text in zip(node.items, texts))
 
 
-def parsed(rule, text):
+def parse(rule, text):
     """The expression that a rule's text is."""
     words = re.findall(r'"[^"]+"|\w+|[][{}()|]|\S', text)
 
     def expression(end):
-        """What stands up to an end, which stays."""
+        """The expression up to an end, which is left."""
         alternatives, items = [], []
         while words and words[0] != end:
             word = words.pop(0)
@@ -309,10 +309,10 @@ def read_signs(page):
 
 # ---- rewriting the rules
 
-def told_apart(rules):
-    """The rules, with the tokens that are told from others of their kind."""
+def distinguish_tokens(rules):
+    """The rules, with the tokens of TOKEN_VARIANTS."""
     rules = dict(rules)
-    for rule, old, new in TOLD_APART:
+    for rule, old, new in TOKEN_VARIANTS:
         if rules.get(rule, "").count(old) != 1:
             stop(f"docs/SQL.md: rule {rule} does not have {old} in it once")
         rules[rule] = rules[rule].replace(old, new)
@@ -322,18 +322,18 @@ def told_apart(rules):
 def with_integers(rules):
     """The rules, with two more: what follows a minus is an integer or something else, so that -9223372036854775808 can be read."""
     unary, prim = rules.get("unary"), rules.get("prim")
-    if unary != parsed("unary", '"-" unary | prim') or alternatives_of(prim)[0] != "int":
+    if unary != parse("unary", '"-" unary | prim') or alternatives_of(prim)[0] != "int":
         stop('docs/SQL.md: unary is not "-" unary | prim, or prim does not begin with int')
-    opposite = parsed("unary", '"-" signed')
+    opposite = parse("unary", '"-" signed')
     return {**rules, "unary": choice([opposite, "prim"]), "signed": choice(["int", "other_unary"]),
             "other_unary": choice([opposite, "prim_but_int"])}
 
 
-def taken_in(rule, node, rules):
+def inline_rules(rule, node, rules):
     """A rule's expression, with the alternatives of the rules that it takes in, each of which begins with one token."""
     found = []
     for one in alternatives_of(node):
-        if one not in TAKEN_IN.get(rule, []):
+        if one not in INLINED.get(rule, []):
             found.append(one)
             continue
         for first, *rest in map(items_of, alternatives_of(rules[one])):
@@ -341,53 +341,53 @@ def taken_in(rule, node, rules):
     return choice(found)
 
 
-def split(node):
-    """An expression in which what SPLIT names is two alternatives."""
+def expand_options(node):
+    """An expression in which what EXPANDED names is two alternatives."""
     if isinstance(node, str):
         return node
-    items = [split(item) for item in node.items]
+    items = [expand_options(item) for item in node.items]
     if node.kind == "choice":
         return choice(items)
     if node.kind != "row":
         return choice([Node("option", (choice(items),))]) if node.kind == "option" else Node(node.kind, tuple(items))
     for at in range(len(items) - 1):
-        if is_kind(items[at], "option") and text_of(row(items[at:at + 2])) in SPLIT:
+        if is_kind(items[at], "option") and text_of(row(items[at:at + 2])) in EXPANDED:
             items[at:at + 2] = [choice([row([items[at].items[0], items[at + 1]]), items[at + 1]])]
             break
     return row(items)
 
 
-def factored(node):
+def factor(node):
     """An expression in which no two alternatives begin with the same: that is taken out in front of them."""
     if isinstance(node, str):
         return node
     if node.kind != "choice":
-        return Node(node.kind, tuple(factored(item) for item in node.items))
+        return Node(node.kind, tuple(factor(item) for item in node.items))
     groups = {}
     for one in node.items:
-        first, *rest = items_of(factored(one))
+        first, *rest = items_of(factor(one))
         groups.setdefault(first, []).append(rest)
     found = []
     for first, rests in groups.items():
         if not any(rests) and len(rests) > 1:
             stop(f"docs/SQL.md: two alternatives are the same: {text_of(first)}")
         if len(rests) > 1:
-            rests = [[factored(rests_of(rests))]]
+            rests = [[factor(join_rests(rests))]]
         found.append(row([first] + rests[0]))
     return choice(found)
 
 
-def rests_of(rests):
+def join_rests(rests):
     """One of some rows; what may be left out comes last."""
     found = sorted([row(rest) for rest in rests if rest], key=lambda one: is_kind(one, "option"))
     return choice(found if [] not in rests else [Node("option", (choice(found),))])
 
 
-def nested(rule, node):
+def nest(rule, node):
     """An expression in which an opening and what it encloses are one node."""
     if isinstance(node, str):
         return node
-    items = [nested(rule, item) for item in node.items]
+    items = [nest(rule, item) for item in node.items]
     if node.kind != "row":
         return Node(node.kind, tuple(items))
     if (rule, items[0]) in OPENINGS:
@@ -402,18 +402,18 @@ def nested(rule, node):
     return row(found)
 
 
-def rewritten(rules):
+def rewrite(rules):
     """The rules as they are read: under its name, each rule's expression."""
-    plain = {name: parsed(name, text) for name, text in told_apart(rules).items()}
-    for rule, others in TAKEN_IN.items():
+    plain = {name: parse(name, text) for name, text in distinguish_tokens(rules).items()}
+    for rule, others in INLINED.items():
         for one in others:
             if one not in plain or one not in alternatives_of(plain.get(rule, "")):
                 stop(f"docs/SQL.md: {one} is no alternative of rule {rule}")
     plain = with_integers(plain)
-    flat = {name: taken_in(name, node, plain) for name, node in plain.items()}
-    rules = {name: nested(name, factored(split(node))) for name, node in flat.items()}
+    flat = {name: inline_rules(name, node, plain) for name, node in plain.items()}
+    rules = {name: nest(name, factor(expand_options(node))) for name, node in flat.items()}
     # each opening beside a parenthesis counts in its own rule, and what follows a minus is of `unary` too
-    rules["other_unary"] = nested("unary", flat["other_unary"])
+    rules["other_unary"] = nest("unary", flat["other_unary"])
     return rules
 
 
@@ -446,14 +446,14 @@ class Grammar:
         words = re.findall(r"\b[A-Z][A-Z0-9]+\b", " ".join(rules.values()))
         self.words = [word.capitalize() for word in self.reserved]
         self.contexts = list(dict.fromkeys(word.capitalize() for word in words if word not in self.reserved))
-        self.rules = rewritten(rules)
+        self.rules = rewrite(rules)
         self.names = {name.text: name.part for name in NAMES}
         self.comments = {name.part: {TEXT: name.text, RULE: rules.get(name.text)}.get(name.comment, name.comment) for name in NAMES}
         self.places, self.tokens, self.parts = {}, {}, {}
         self.cover()
         for name in NAMES:
             self.add_named(name)
-        self.order = self.sorted_parts()
+        self.order = self.sort_parts()
 
     # from expressions to parts
 
@@ -464,7 +464,7 @@ class Grammar:
             if rule in self.names:
                 self.nodes[rule] = self.rules[rule]
                 self.collect(rule, self.rules[rule], used, True)
-            elif not any(rule in others for others in TAKEN_IN.values()):
+            elif not any(rule in others for others in INLINED.values()):
                 stop(f"docs/SQL.md has a rule {rule}, which has no name in tools/grammar.py")
         for name in NAMES:
             if name.text not in self.nodes:
@@ -484,13 +484,13 @@ class Grammar:
                 stop(f"docs/SQL.md, rule {rule}, has an expression that has no name in tools/grammar.py: {text}")
             self.nodes[text] = node
         parts = {
-            "opening": lambda: node.items[1:], "row": lambda: self.grouped(node.items),
+            "opening": lambda: node.items[1:], "row": lambda: self.group(node.items),
             "option": lambda: alternatives_of(node.items[0]), "choice": lambda: node.items, "repeat": lambda: node.items,
         }[node.kind]()
         for part in parts:
             self.collect(rule, part, used)
 
-    def grouped(self, items):
+    def group(self, items):
         """The items of a row, in which those that have a name together are one."""
         found, at = [], 0
         while at < len(items):
@@ -532,7 +532,7 @@ class Grammar:
         elif is_kind(node, "repeat"):
             self.parts[name.part] = Part(name.part, "Many", (self.part_of(node.items[0]),), comment)
         elif is_kind(node, "row"):
-            self.add_pairs(name, "Then", [self.part_of(item) for item in self.grouped(node.items)])
+            self.add_pairs(name, "Then", [self.part_of(item) for item in self.group(node.items)])
         elif is_kind(node, "option"):
             self.add_pairs(name, "Or", [self.part_of(item) for item in alternatives_of(node.items[0])] + ["Nothing"])
         elif is_kind(node, "choice"):
@@ -562,7 +562,7 @@ class Grammar:
         """A part as a term of antt."""
         return f"(part.Token {sort_term(self.tokens[name])})" if name in self.tokens else f"part.{name}"
 
-    def sorted_parts(self):
+    def sort_parts(self):
         """The parts after those that they are made of."""
         order = {}
 
