@@ -1,6 +1,6 @@
 """The grammar of docs/SQL.md, cut into the parts that span_grammar reads by: each one token, or made of at most two other parts.
 
-The rules are read from docs/SQL.md. They are rewritten a little, so that one token decides each choice (`rewritten`), and then each
+The rules are read from docs/SQL.md. They are rewritten a little, so that one token decides each choice (`rewrite`), and then each
 expression in them becomes a part. NAMES below says how each part is called: an expression that has no name there, or a name whose
 expression docs/SQL.md does not have, is an error. tools/grammar_tables.py and tools/grammar_pieces.py write files from what is found.
 """
@@ -25,8 +25,8 @@ TOKENS = {
     "separator": ("Separator", "Separator"), "last_semicolon": ("LastSemicolon", "LastSemicolon"),
 }
 
-# Tokens that are told from others of their kind by what follows them: in which rule, what stands there, and what is read for it.
-TOLD_APART = [
+# Tokens that what follows them distinguishes from others of their kind: in which rule, what it has, and what is read in its place.
+TOKEN_VARIANTS = [
     ("statement", '";"', "any_semicolon"),
     ("out", 'name "." "*"', 'name_of_all "." "*"'),
     ("schema", '{";" table}', "{separator table}"),
@@ -34,66 +34,69 @@ TOLD_APART = [
 ]
 
 # Rules whose alternatives are taken into another rule, since several of them begin with one token: the rule, and the rules taken in.
-TAKEN_IN = {"prim": ["col", "call"]}
+INLINED = {"prim": ["col", "call"]}
 
 # What begins with a word that may be left out, and is read as two alternatives: one with the word, one without.
-SPLIT = ["[AS] name", "[INNER] JOIN"]
+EXPANDED = ["[AS] name", "[INNER] JOIN"]
 
 # What opens beside a parenthesis: the rule, and the token. All that follows the token in its row is one deeper.
 OPENINGS = [("case", "CASE"), ("neg", "NOT"), ("unary", '"-"')]
 
 Name = namedtuple("Name", "part text comment place", defaults=("", None))
 
+# Comments: the name of the rule or the expression as it is in NAMES, or the whole rule as docs/SQL.md has it.
+TEXT, RULE = "its text", "its rule"
+
 # The parts in the order in which they are written: each with its name, and the rule or the expression that it is, and a comment.
 # What has a place opens: the place is how that which follows the opening is called, one deeper.
 NAMES = [Name(*row) for row in [
     # expressions
     ("Nothing", "", "nothing"),
-    ("Parenthesis", '"(" expr ")"', '"(" expr ")"', "InParenthesis"),
-    ("Arguments", '"(" ["*" | expr {"," expr}] ")"', '"(" ["*" | expr {"," expr}] ")"', "InArguments"),
-    ("Members", '"(" expr {"," expr} ")"', '"(" expr {"," expr} ")"', "InMembers"),
-    ("Subquery", '"(" query ")"', '"(" query ")"', "InSubquery"),
-    ("Case", "case", "CASE [expr] WHEN expr THEN expr {WHEN expr THEN expr} [ELSE expr] END", "InCase"),
-    ("Negation", "NOT neg", "NOT neg", "InNegation"),
+    ("Parenthesis", '"(" expr ")"', TEXT, "InParenthesis"),
+    ("Arguments", '"(" ["*" | expr {"," expr}] ")"', TEXT, "InArguments"),
+    ("Members", '"(" expr {"," expr} ")"', TEXT, "InMembers"),
+    ("Subquery", '"(" query ")"', TEXT, "InSubquery"),
+    ("Case", "case", RULE, "InCase"),
+    ("Negation", "NOT neg", TEXT, "InNegation"),
     ("Opposite", '"-" signed', '"-" unary', "InOpposite"),
-    ("Qualifier", '"." name', '"." name'),
+    ("Qualifier", '"." name', TEXT),
     ("AfterName", '["(" ["*" | expr {"," expr}] ")" | "." name]', "what makes a name a call or a column of a table"),
     ("Named", 'name ["(" ["*" | expr {"," expr}] ")" | "." name]', "call | col, of which a name stands in front"),
     ("IfCall", 'IF "(" ["*" | expr {"," expr}] ")"', 'IF "(" .. ")"'),
-    ("Primary", "prim", "prim"),
-    ("Unary", "unary", '"-" unary | prim'),
+    ("Primary", "prim", TEXT),
+    ("Unary", "unary", RULE),
     ("OtherUnary", "other_unary", "unary, and no integer"),
     ("Signed", "signed", "unary, where it is told whether it is an integer"),
     ("TermSign", '"*" | "||"'),
     ("TermMore", '("*" | "||") unary'),
     ("TermRest", '{("*" | "||") unary}'),
-    ("Term", "term", 'unary {("*" | "||") unary}'),
+    ("Term", "term", RULE),
     ("SumSign", '"+" | "-"'),
     ("SumMore", '("+" | "-") term'),
     ("SumRest", '{("+" | "-") term}'),
-    ("Sum", "sum", 'term {("+" | "-") term}'),
-    ("Comparison", "cmp", "cmp"),
-    ("Compared", "cmp sum", "cmp sum"),
+    ("Sum", "sum", RULE),
+    ("Comparison", "cmp", TEXT),
+    ("Compared", "cmp sum", TEXT),
     ("MaybeNot", "[NOT]"),
-    ("IsNull", "IS [NOT] NULL", "IS [NOT] NULL"),
-    ("Like", "LIKE string", "LIKE string"),
-    ("Between", "BETWEEN sum AND sum", "BETWEEN sum AND sum"),
-    ("Within", 'IN "(" expr {"," expr} ")"', 'IN "(" expr {"," expr} ")"'),
+    ("IsNull", "IS [NOT] NULL", TEXT),
+    ("Like", "LIKE string", TEXT),
+    ("Between", "BETWEEN sum AND sum", TEXT),
+    ("Within", 'IN "(" expr {"," expr} ")"', TEXT),
     ("Test", 'LIKE string | BETWEEN sum AND sum | IN "(" expr {"," expr} ")"'),
     ("MaybeNotTest", '[NOT] (LIKE string | BETWEEN sum AND sum | IN "(" expr {"," expr} ")")',
      "[NOT] LIKE ..  | [NOT] BETWEEN .. | [NOT] IN .."),
     ("PredicateRest", '[cmp sum | IS [NOT] NULL | [NOT] (LIKE string | BETWEEN sum AND sum | IN "(" expr {"," expr} ")")]'),
-    ("Predicate", "pred", "pred"),
-    ("Negated", "neg", "NOT neg | pred"),
+    ("Predicate", "pred", TEXT),
+    ("Negated", "neg", RULE),
     ("ConjunctionMore", "AND neg"),
     ("ConjunctionRest", "{AND neg}"),
-    ("Conjunction", "conj", "neg {AND neg}"),
+    ("Conjunction", "conj", RULE),
     ("ExpressionMore", "OR conj"),
     ("ExpressionRest", "{OR conj}"),
-    ("Expression", "expr", "conj {OR conj}"),
+    ("Expression", "expr", RULE),
     ("ListMore", '"," expr'),
     ("ListRest", '{"," expr}'),
-    ("List", 'expr {"," expr}', 'expr {"," expr}'),
+    ("List", 'expr {"," expr}', TEXT),
     # what follows an opening
     ("InParenthesis", 'expr ")"'),
     ("ArgumentList", '["*" | expr {"," expr}]'),
@@ -110,37 +113,37 @@ NAMES = [Name(*row) for row in [
     ("Alias", "[AS name | name]", "[[AS] name]"),
     ("AllOfTable", 'name_of_all "." "*"', 'name "." "*"'),
     ("OutputExpression", "expr [AS name | name]"),
-    ("Output", "out", "out"),
+    ("Output", "out", TEXT),
     ("OutputMore", '"," out'),
     ("OutputRest", '{"," out}'),
     ("Outputs", 'out {"," out}'),
     ("RequiredAlias", "AS name | name", "[AS] name"),
     ("NamedItem", "name [AS name | name]", "name [[AS] name]"),
     ("DerivedItem", '"(" query ")" (AS name | name)', '"(" query ")" [AS] name'),
-    ("Item", "item", "item"),
+    ("Item", "item", TEXT),
     ("InnerJoin", "INNER JOIN"),
     ("MaybeOuter", "[OUTER]"),
     ("LeftJoin", "LEFT [OUTER] JOIN"),
     ("JoinKind", "INNER JOIN | JOIN | LEFT [OUTER] JOIN"),
-    ("Join", "join", "join"),
+    ("Join", "join", TEXT),
     ("Joins", "{join}"),
     ("MaybeQuantifier", "[ALL | DISTINCT]"),
     ("Where", "WHERE expr"),
     ("MaybeWhere", "[WHERE expr]"),
     ("MaybeQualifier", '["." name]'),
-    ("Column", "col", "col"),
+    ("Column", "col", TEXT),
     ("ColumnMore", '"," col'),
     ("ColumnRest", '{"," col}'),
     ("GroupBy", 'GROUP BY col {"," col}'),
     ("MaybeGroupBy", '[GROUP BY col {"," col}]'),
     ("Having", "HAVING expr"),
     ("MaybeHaving", "[HAVING expr]"),
-    ("Block", "block", "block"),
+    ("Block", "block", TEXT),
     ("UnionMore", "UNION ALL block"),
     ("UnionRest", "{UNION ALL block}"),
     ("Direction", "[ASC | DESC]"),
     ("SortColumn", "name | int"),
-    ("SortKey", "key", "key"),
+    ("SortKey", "key", TEXT),
     ("SortKeyMore", '"," key'),
     ("SortKeyRest", '{"," key}'),
     ("OrderBy", 'ORDER BY key {"," key}'),
@@ -149,37 +152,37 @@ NAMES = [Name(*row) for row in [
     ("MaybeSkip", "[OFFSET int]"),
     ("Limit", "LIMIT int [OFFSET int]"),
     ("MaybeLimit", "[LIMIT int [OFFSET int]]"),
-    ("Query", "query", "query"),
+    ("Query", "query", TEXT),
     ("InSubquery", 'query ")"'),
     ("MaybeSemicolon", "[any_semicolon]"),
-    ("Statement", "statement", "statement"),
+    ("Statement", "statement", TEXT),
     # schemas
     ("LengthBound", "int | MAX"),
     ("LongKind", "STRING | BYTES"),
-    ("LengthParenthesis", '"(" (int | MAX) ")"', '"(" (int | MAX) ")"', "InLength"),
+    ("LengthParenthesis", '"(" (int | MAX) ")"', TEXT, "InLength"),
     ("LongType", '(STRING | BYTES) "(" (int | MAX) ")"'),
-    ("Type", "type", "type"),
+    ("Type", "type", TEXT),
     ("NotNull", "NOT NULL"),
     ("MaybeNotNull", "[NOT NULL]"),
-    ("TableColumn", "column", "column"),
+    ("TableColumn", "column", TEXT),
     ("TableColumnMore", '"," column'),
     ("TableColumnRest", '{"," column}'),
-    ("TableColumns", '"(" column {"," column} ")"', '"(" column {"," column} ")"', "InTableColumns"),
-    ("KeyColumn", "keycol", "keycol"),
+    ("TableColumns", '"(" column {"," column} ")"', TEXT, "InTableColumns"),
+    ("KeyColumn", "keycol", TEXT),
     ("KeyColumnMore", '"," keycol'),
     ("KeyColumnRest", '{"," keycol}'),
-    ("KeyColumns", '"(" keycol {"," keycol} ")"', '"(" keycol {"," keycol} ")"', "InKeyColumns"),
+    ("KeyColumns", '"(" keycol {"," keycol} ")"', TEXT, "InKeyColumns"),
     ("NoAction", "NO ACTION"),
     ("Action", "CASCADE | NO ACTION"),
     ("OnDelete", "ON DELETE (CASCADE | NO ACTION)"),
     ("MaybeOnDelete", "[ON DELETE (CASCADE | NO ACTION)]"),
     ("Interleave", '"," INTERLEAVE IN PARENT name [ON DELETE (CASCADE | NO ACTION)]'),
     ("MaybeInterleave", '["," INTERLEAVE IN PARENT name [ON DELETE (CASCADE | NO ACTION)]]'),
-    ("Table", "table", "table"),
+    ("Table", "table", TEXT),
     ("TableMore", "separator table"),
     ("TableRest", "{separator table}"),
     ("MaybeLastSemicolon", "[last_semicolon]"),
-    ("Schema", "schema", "schema"),
+    ("Schema", "schema", TEXT),
     ("InLength", '(int | MAX) ")"'),
     ("InTableColumns", 'column {"," column} ")"'),
     ("InKeyColumns", 'keycol {"," keycol} ")"'),
@@ -208,6 +211,7 @@ def items_of(node):
 
 
 def alternatives_of(node):
+    """What a choice is between; another expression is the only one."""
     return list(node.items) if is_kind(node, "choice") else [node]
 
 
@@ -239,11 +243,12 @@ def text_of(node):
     return " ".join(f"({text})" if is_kind(item, "choice") else text for item, text in zip(node.items, texts))
 
 
-def parsed(rule, text):
+def parse(rule, text):
     """The expression that a rule's text is."""
     words = re.findall(r'"[^"]+"|\w+|[][{}()|]|\S', text)
 
     def expression(end):
+        """The expression up to an end, which is left."""
         alternatives, items = [], []
         while words and words[0] != end:
             word = words.pop(0)
@@ -260,6 +265,7 @@ def parsed(rule, text):
         return choice(alternatives + [row(items)])
 
     def bracketed(word):
+        """What an opening bracket begins."""
         inside = expression({"[": "]", "{": "}", "(": ")"}[word])
         words.pop(0)
         return inside if word == "(" else Node("option" if word == "[" else "repeat", (inside,))
@@ -303,10 +309,10 @@ def read_signs(page):
 
 # ---- rewriting the rules
 
-def told_apart(rules):
-    """The rules, with the tokens that are told from others of their kind."""
+def distinguish_tokens(rules):
+    """The rules, with the tokens of TOKEN_VARIANTS."""
     rules = dict(rules)
-    for rule, old, new in TOLD_APART:
+    for rule, old, new in TOKEN_VARIANTS:
         if rules.get(rule, "").count(old) != 1:
             stop(f"docs/SQL.md: rule {rule} does not have {old} in it once")
         rules[rule] = rules[rule].replace(old, new)
@@ -316,18 +322,18 @@ def told_apart(rules):
 def with_integers(rules):
     """The rules, with two more: what follows a minus is an integer or something else, so that -9223372036854775808 can be read."""
     unary, prim = rules.get("unary"), rules.get("prim")
-    if unary != parsed("unary", '"-" unary | prim') or alternatives_of(prim)[0] != "int":
+    if unary != parse("unary", '"-" unary | prim') or alternatives_of(prim)[0] != "int":
         stop('docs/SQL.md: unary is not "-" unary | prim, or prim does not begin with int')
-    opposite = parsed("unary", '"-" signed')
+    opposite = parse("unary", '"-" signed')
     return {**rules, "unary": choice([opposite, "prim"]), "signed": choice(["int", "other_unary"]),
             "other_unary": choice([opposite, "prim_but_int"])}
 
 
-def taken_in(rule, node, rules):
+def inline_rules(rule, node, rules):
     """A rule's expression, with the alternatives of the rules that it takes in, each of which begins with one token."""
     found = []
     for one in alternatives_of(node):
-        if one not in TAKEN_IN.get(rule, []):
+        if one not in INLINED.get(rule, []):
             found.append(one)
             continue
         for first, *rest in map(items_of, alternatives_of(rules[one])):
@@ -335,51 +341,53 @@ def taken_in(rule, node, rules):
     return choice(found)
 
 
-def split(node):
-    """An expression in which what SPLIT names is two alternatives."""
+def expand_options(node):
+    """An expression in which what EXPANDED names is two alternatives."""
     if isinstance(node, str):
         return node
-    items = [split(item) for item in node.items]
+    items = [expand_options(item) for item in node.items]
     if node.kind == "choice":
         return choice(items)
     if node.kind != "row":
         return choice([Node("option", (choice(items),))]) if node.kind == "option" else Node(node.kind, tuple(items))
     for at in range(len(items) - 1):
-        if is_kind(items[at], "option") and text_of(row(items[at:at + 2])) in SPLIT:
+        if is_kind(items[at], "option") and text_of(row(items[at:at + 2])) in EXPANDED:
             items[at:at + 2] = [choice([row([items[at].items[0], items[at + 1]]), items[at + 1]])]
             break
     return row(items)
 
 
-def factored(node):
+def factor(node):
     """An expression in which no two alternatives begin with the same: that is taken out in front of them."""
     if isinstance(node, str):
         return node
     if node.kind != "choice":
-        return Node(node.kind, tuple(factored(item) for item in node.items))
+        return Node(node.kind, tuple(factor(item) for item in node.items))
     groups = {}
     for one in node.items:
-        first, *rest = items_of(factored(one))
+        first, *rest = items_of(factor(one))
         groups.setdefault(first, []).append(rest)
     found = []
     for first, rests in groups.items():
+        if not any(rests) and len(rests) > 1:
+            stop(f"docs/SQL.md: two alternatives are the same: {text_of(first)}")
         if len(rests) > 1:
-            rests = [[factored(rests_of(rests))]]
+            rests = [[factor(join_rests(rests))]]
         found.append(row([first] + rests[0]))
     return choice(found)
 
 
-def rests_of(rests):
+def join_rests(rests):
     """One of some rows; what may be left out comes last."""
     found = sorted([row(rest) for rest in rests if rest], key=lambda one: is_kind(one, "option"))
     return choice(found if [] not in rests else [Node("option", (choice(found),))])
 
 
-def nested(rule, node):
+def nest(rule, node):
     """An expression in which an opening and what it encloses are one node."""
     if isinstance(node, str):
         return node
-    items = [nested(rule, item) for item in node.items]
+    items = [nest(rule, item) for item in node.items]
     if node.kind != "row":
         return Node(node.kind, tuple(items))
     if (rule, items[0]) in OPENINGS:
@@ -394,18 +402,18 @@ def nested(rule, node):
     return row(found)
 
 
-def rewritten(rules):
+def rewrite(rules):
     """The rules as they are read: under its name, each rule's expression."""
-    plain = {name: parsed(name, text) for name, text in told_apart(rules).items()}
-    for rule, others in TAKEN_IN.items():
+    plain = {name: parse(name, text) for name, text in distinguish_tokens(rules).items()}
+    for rule, others in INLINED.items():
         for one in others:
             if one not in plain or one not in alternatives_of(plain.get(rule, "")):
                 stop(f"docs/SQL.md: {one} is no alternative of rule {rule}")
     plain = with_integers(plain)
-    flat = {name: taken_in(name, node, plain) for name, node in plain.items()}
-    rules = {name: nested(name, factored(split(node))) for name, node in flat.items()}
+    flat = {name: inline_rules(name, node, plain) for name, node in plain.items()}
+    rules = {name: nest(name, factor(expand_options(node))) for name, node in flat.items()}
     # each opening beside a parenthesis counts in its own rule, and what follows a minus is of `unary` too
-    rules["other_unary"] = nested("unary", flat["other_unary"])
+    rules["other_unary"] = nest("unary", flat["other_unary"])
     return rules
 
 
@@ -438,13 +446,14 @@ class Grammar:
         words = re.findall(r"\b[A-Z][A-Z0-9]+\b", " ".join(rules.values()))
         self.words = [word.capitalize() for word in self.reserved]
         self.contexts = list(dict.fromkeys(word.capitalize() for word in words if word not in self.reserved))
-        self.rules = rewritten(rules)
+        self.rules = rewrite(rules)
         self.names = {name.text: name.part for name in NAMES}
+        self.comments = {name.part: {TEXT: name.text, RULE: rules.get(name.text)}.get(name.comment, name.comment) for name in NAMES}
         self.places, self.tokens, self.parts = {}, {}, {}
         self.cover()
         for name in NAMES:
             self.add_named(name)
-        self.order = self.sorted_parts()
+        self.order = self.sort_parts()
 
     # from expressions to parts
 
@@ -455,7 +464,7 @@ class Grammar:
             if rule in self.names:
                 self.nodes[rule] = self.rules[rule]
                 self.collect(rule, self.rules[rule], used, True)
-            elif not any(rule in others for others in TAKEN_IN.values()):
+            elif not any(rule in others for others in INLINED.values()):
                 stop(f"docs/SQL.md has a rule {rule}, which has no name in tools/grammar.py")
         for name in NAMES:
             if name.text not in self.nodes:
@@ -475,13 +484,13 @@ class Grammar:
                 stop(f"docs/SQL.md, rule {rule}, has an expression that has no name in tools/grammar.py: {text}")
             self.nodes[text] = node
         parts = {
-            "opening": lambda: node.items[1:], "row": lambda: self.grouped(node.items),
+            "opening": lambda: node.items[1:], "row": lambda: self.group(node.items),
             "option": lambda: alternatives_of(node.items[0]), "choice": lambda: node.items, "repeat": lambda: node.items,
         }[node.kind]()
         for part in parts:
             self.collect(rule, part, used)
 
-    def grouped(self, items):
+    def group(self, items):
         """The items of a row, in which those that have a name together are one."""
         found, at = [], 0
         while at < len(items):
@@ -514,16 +523,16 @@ class Grammar:
 
     def add_named(self, name):
         """Adds the part that a row of NAMES is, after the parts that stand for the rest of it."""
-        node = self.nodes[name.text]
+        node, comment = self.nodes[name.text], self.comments[name.part]
         if node is None:
-            self.parts[name.part] = Part(name.part, "Empty", (), name.comment)
+            self.parts[name.part] = Part(name.part, "Empty", (), comment)
         elif is_kind(node, "opening"):
             self.places[name.place] = self.part_of(node.items[1])
-            self.parts[name.part] = Part(name.part, "Open", (self.sort_of(node.items[0]), name.place), name.comment)
+            self.parts[name.part] = Part(name.part, "Open", (self.sort_of(node.items[0]), name.place), comment)
         elif is_kind(node, "repeat"):
-            self.parts[name.part] = Part(name.part, "Many", (self.part_of(node.items[0]),), name.comment)
+            self.parts[name.part] = Part(name.part, "Many", (self.part_of(node.items[0]),), comment)
         elif is_kind(node, "row"):
-            self.add_pairs(name, "Then", [self.part_of(item) for item in self.grouped(node.items)])
+            self.add_pairs(name, "Then", [self.part_of(item) for item in self.group(node.items)])
         elif is_kind(node, "option"):
             self.add_pairs(name, "Or", [self.part_of(item) for item in alternatives_of(node.items[0])] + ["Nothing"])
         elif is_kind(node, "choice"):
@@ -541,7 +550,7 @@ class Grammar:
             names.append(next(one for one in unused if one not in self.parts and one not in names))
         for at in reversed(range(len(names))):
             second = names[at + 1] if at + 1 < len(names) else operands[-1]
-            self.parts[names[at]] = Part(names[at], shape, (operands[at], second), name.comment if at == 0 else "")
+            self.parts[names[at]] = Part(names[at], shape, (operands[at], second), self.comments[name.part] if at == 0 else "")
 
     # what the parts are, once they are found
 
@@ -553,7 +562,7 @@ class Grammar:
         """A part as a term of antt."""
         return f"(part.Token {sort_term(self.tokens[name])})" if name in self.tokens else f"part.{name}"
 
-    def sorted_parts(self):
+    def sort_parts(self):
         """The parts after those that they are made of."""
         order = {}
 

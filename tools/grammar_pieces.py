@@ -14,14 +14,13 @@ sys.dont_write_bytecode = True
 
 import generated
 import grammar as source
-from generated import lines
-from pieces import (Writer, after, beside, built, called, constant, context, each, either, known, nothing, opening, option, sign, then, token,
-                    word)
+from generated import lines, lines_of
+from pieces import (Writer, after, apply, beside, constant, context, each, either, nothing, opening, option, proved, reference, sign, then,
+                    token, word)
 
 def module(title, imports, body):
     """A file of antt: what it is, its imports, and its text."""
-    kept = lines(line for line in imports.split("\n") if line)
-    return f"-- {title}\n{kept}\n{body}"
+    return f"-- {title}\n{lines(lines_of(imports))}\n{body}"
 
 
 TOKENS = """
@@ -50,22 +49,22 @@ NAME = "sort.Name"
 
 def spelling(sort):
     """What a token of a sort is spelled."""
-    return known(f"spelling text {sort}", f"spelling_good text n {sort}")
+    return proved(f"spelling text {sort}", f"spelling_good text n {sort}", sort)
 
 
 def closing(piece):
     """A piece, and a parenthesis that closes."""
-    return then(piece, "x", known("close_parenthesis x", "closing_good m x"))
+    return then(piece, "x", proved("close_parenthesis x", "closing_good m x"))
 
 
 def first_and(first, more):
     """A piece, and one any number of times: the list of both."""
-    return then(first, "first", built("(λ more. first ∷ more)", each(more)))
+    return then(first, "first", apply("(λ more. first ∷ more)", each(more)))
 
 
 def in_text(name):
     """A definition over the text."""
-    return called(name, "text")
+    return reference(name, "text")
 
 
 # ---- expressions: span_syntax's proofs/Expressing.antt and proofs/Shrinking.antt
@@ -83,11 +82,17 @@ use Rattle.span_syntax.specs.declared.tree.Expr.{Expr}
 use Rattle.span_syntax.specs.declared.tree.Expr.TheVariants as e
 use Rattle.span_syntax.specs.declared.tree.Link.{roll-Link}
 """ + RULES + """
-use Rattle.span_syntax.specs.Expressions.{span_of, spelling_of, spelling, close_parenthesis, arm_of, then_value, integer_of, qualifier, column_of, qualified_column, column, direction, chain_of, conjunction_of, disjunction_of, apply_test, term_sign, sum_sign, comparison, maybe_not, null_words, list_more, list, when, case_operand, case_else, case_end, case_arms, case_of, in_case, argument_list, Inner, parenthesis, arguments, members, case, negation, opposite, after_name, call_or_column, if_call, compound, word_literal, other_primary, primary, unary, other_unary, signed, term_more, term, sum_more, sum, comparison_test, is_null, like, high_end, between, within, negatable_test, maybe_not_test, predicate_rest, predicate, negated, conjunction_more, conjunction, expression_more, expression, after}
+use Rattle.span_syntax.specs.Expressions.{span_of, spelling_of, spelling, close_parenthesis, arm_of, then_value, integer_of, qualifier,
+    column_of, qualified_column, column, direction, chain_of, conjunction_of, disjunction_of, apply_test, term_sign, sum_sign, comparison,
+    maybe_not, null_words, list_more, list, when, case_operand, case_else, case_end, case_arms, case_of, in_case, argument_list, Inner,
+    parenthesis, arguments, members, case, negation, opposite, after_name, call_or_column, if_call, compound, word_literal, other_primary,
+    primary, unary, other_unary, signed, term_more, term, sum_more, sum, comparison_test, is_null, like, high_end, between, within,
+    negatable_test, maybe_not_test, predicate_rest, predicate, negated, conjunction_more, conjunction, expression_more, expression, after}
 """ + GOOD
 
 
 def expressing_antt(writer):
+    """span_syntax's proofs/Expressing.antt."""
     return module("Expressions are read as the grammar's theory reads them, and built.", EXPRESSIONS, SPELLING + columns(writer)
                   + "module _ (n : ℕ) where\n" + signs(writer) + INSIDE + insides(writer) + DEEP + openings(writer)
                   + primaries(writer) + operators(writer) + predicates(writer) + junctions(writer) + DEPTHS)
@@ -108,12 +113,13 @@ module _ (text : List ℕ) (n : ℕ) where
 
 
 def columns(writer):
-    qualified, first = built("(column_of first)", option(in_text("qualifier"))), "(first : Spelling)"
+    """The columns of a table."""
+    qualified, first = apply("(column_of first)", option(in_text("qualifier"))), "(first : Spelling)"
     return writer.lemmas("text", [
         ("qualifier", "Qualifier", after(token(sign("Dot")), spelling(NAME))),
         ("qualified_column", "MaybeQualifier", qualified, first),
         ("qualified_name", "AfterNameFromQualifier", qualified, first, "qualified_column"),
-        ("column", "Column", then(spelling(NAME), "first", called("qualified_column", "text first", "first"))),
+        ("column", "Column", then(spelling(NAME), "first", reference("qualified_column", "text first", "first"))),
     ])
 
 
@@ -124,13 +130,14 @@ COMPARISONS = [
 
 
 def signs(writer):
+    """Directions, operators and comparisons, and NOT."""
     return writer.lemmas("", [
         ("direction", "Direction", either(constant("false", word("Asc")), constant("true", word("Desc")), nothing("false"))),
         ("term_sign", "TermSign", either(constant("operator.Times", sign("Star")), constant("operator.Concat", sign("Concat")))),
         ("sum_sign", "SumSign", either(constant("operator.Plus", sign("Plus")), constant("operator.Minus", sign("Minus")))),
         ("comparison", "Comparison", either(*[constant(f"how.{how}", sign(one)) for how, one in COMPARISONS])),
         ("maybe_not", "MaybeNot", either(constant("true", word("Not")), nothing("false"))),
-        ("null_words", "IsNull", after(token(word("Is")), then(called("maybe_not"), "is_not", constant("is_not", word("Null"))))),
+        ("null_words", "IsNull", after(token(word("Is")), then(reference("maybe_not"), "is_not", constant("is_not", word("Null"))))),
     ])
 
 
@@ -141,25 +148,26 @@ module _ (n : ℕ) (p : Piece Expr) (gp : Good n (rule_of part.Expression) p) wh
 
 
 def insides(writer):
-    expression = known("p", "gp")
+    """What follows the opening of a call, a list or CASE."""
+    expression = proved("p", "gp")
 
     def of(name):
-        return called(name, "p")
+        return reference(name, "p")
 
     return writer.lemmas("p", [
         ("list_more", "ListMore", after(token(sign("Comma")), expression)),
-        ("list", "List", then(expression, "first", built("(λ all. all.0 ∷ all.1)", beside("first", each(of("list_more")))))),
+        ("list", "List", then(expression, "first", apply("(λ all. all.0 ∷ all.1)", beside("first", each(of("list_more")))))),
         ("then_value", "WhenFromWordThen", after(token(word("Then")), expression)),
-        ("when", "When", after(token(word("When")), then(expression, "condition", built("arm_of", beside("condition", of("then_value")))))),
+        ("when", "When", after(token(word("When")), then(expression, "condition", apply("arm_of", beside("condition", of("then_value")))))),
         ("case_else", "CaseElse", option(after(token(word("Else")), expression))),
         ("case_operand", "CaseOperand", option(expression)),
         ("case_end", "InCaseFromCaseElse",
-         then(of("case_else"), "otherwise", built("(λ both. both.0)", beside("otherwise", token(word("End")))))),
+         then(of("case_else"), "otherwise", apply("(λ both. both.0)", beside("otherwise", token(word("End")))))),
         ("case_arms", "InCaseFromWhen",
          then(of("when"), "arm", then(beside("arm", each(of("when"))), "all", beside("(all.0 ∷ all.1)", of("case_end"))))),
-        ("in_case", "InCase", then(of("case_operand"), "operand", built("case_of", beside("operand", of("case_arms"))))),
+        ("in_case", "InCase", then(of("case_operand"), "operand", apply("case_of", beside("operand", of("case_arms"))))),
         ("argument_list", "ArgumentList",
-         either(constant("e.CallStar name", sign("Star")), built("(e.Call name)", of("list")), nothing("(e.Call name [])")), "(name : Spelling)"),
+         either(constant("e.CallStar name", sign("Star")), apply("(e.Call name)", of("list")), nothing("(e.Call name [])")), "(name : Spelling)"),
     ])
 
 
@@ -179,15 +187,16 @@ EXPRESSION = "text n inner"
 
 def expr(name, given=""):
     """A definition of expressions."""
-    return called(name, f"{EXPRESSION} {given}".strip(), given)
+    return reference(name, f"{EXPRESSION} {given}".strip(), given)
 
 
 def openings(writer):
+    """What begins with an opening, or with the name of a call."""
     def deep(name):
-        return known(f"inner.{name}", f"deep.{name} m e")
+        return proved(f"inner.{name}", f"deep.{name} m e")
 
     def inside(name, given=""):
-        return known(f"{name} inner.expression{given}", f"{name}_good m inner.expression (deep.expression m e){given}")
+        return proved(f"{name} inner.expression{given}", f"{name}_good m inner.expression (deep.expression m e){given}")
 
     name = "(name : Spelling)"
     return writer.lemmas(EXPRESSION, [
@@ -195,16 +204,17 @@ def openings(writer):
         ("arguments", "Arguments", opening(closing(inside("argument_list", " name"))), name),
         ("members", "Members", opening(closing(inside("list")))),
         ("case", "Case", opening(inside("in_case"))),
-        ("negation", "Negation", built("e.Not", opening(deep("negated")))),
+        ("negation", "Negation", apply("e.Not", opening(deep("negated")))),
         ("opposite", "Opposite", opening(deep("signed"))),
         ("after_name", "AfterName",
-         either(expr("arguments", "name"), built("e.Column", known("qualified_column text name", "qualified_name_good text n name"))), name),
+         either(expr("arguments", "name"), apply("e.Column", proved("qualified_column text name", "qualified_name_good text n name"))), name),
         ("call_or_column", "Named", then(spelling(NAME), "name", expr("after_name", "name"))),
         ("if_call", "IfCall", then(spelling(word("If")), "name", expr("arguments", "name"))),
     ])
 
 
 def primaries(writer):
+    """Literals, and what the grammar calls prim and unary."""
     def literal(value, name):
         return constant(f"e.{value} (span_of t.token)", word(name))
 
@@ -212,21 +222,22 @@ def primaries(writer):
         ("compound", "PrimaryFromNamed", either(*map(expr, ["call_or_column", "if_call", "case", "parenthesis"]))),
         ("word_literal", "PrimaryFromWordTrue",
          either(literal("Truth true", "True"), literal("Truth false", "False"), literal("Null", "Null"),
-                built("e.Parameter", spelling("sort.Parameter")), expr("compound"))),
+                apply("e.Parameter", spelling("sort.Parameter")), expr("compound"))),
         ("other_primary", "PrimaryFromAString",
-         either(built("e.Str", spelling("sort.Str")), built("e.Bytes", spelling("sort.Bytes")), expr("word_literal"))),
+         either(apply("e.Str", spelling("sort.Str")), apply("e.Bytes", spelling("sort.Bytes")), expr("word_literal"))),
         ("primary", "Primary", either(constant("e.Integer (integer_of false t)", "sort.Int"), expr("other_primary"))),
         ("unary", "Unary", either(expr("opposite"), expr("primary"))),
         ("other_unary", "OtherUnary", either(expr("opposite"), expr("other_primary"))),
-        ("signed", "Signed", either(constant("e.Integer (integer_of true t)", "sort.Int"), built("e.Negative", expr("other_unary")))),
+        ("signed", "Signed", either(constant("e.Integer (integer_of true t)", "sort.Int"), apply("e.Negative", expr("other_unary")))),
     ])
 
 
 def operators(writer):
+    """Operands with operators between them."""
     def rows(name, operand, part):
         link = "(λ x. roll-Link (record { operator = o; operand = x }))"
         return [
-            (f"{name}_more", f"{part}More", then(called(f"{name}_sign", "", "n"), "o", built(link, expr(operand)))),
+            (f"{name}_more", f"{part}More", then(reference(f"{name}_sign", "", "n"), "o", apply(link, expr(operand)))),
             (name, part, chain(operand, "chain_of", f"{name}_more")),
         ]
 
@@ -235,29 +246,31 @@ def operators(writer):
 
 def chain(operand, function, more):
     """An operand and more of them, joined by a function."""
-    return then(expr(operand), "first", built(f"(λ all. {function} all.0 all.1)", beside("first", each(expr(more)))))
+    return then(expr(operand), "first", apply(f"(λ all. {function} all.0 all.1)", beside("first", each(expr(more)))))
 
 
 def predicates(writer):
+    """What follows an operand in a predicate."""
     return writer.lemmas(EXPRESSION, [
-        ("comparison_test", "Compared", then(called("comparison", "", "n"), "c", built("(λ x. (false, predicate_test.Compared c x))", expr("sum")))),
-        ("is_null", "IsNull", built("(λ is_not. (is_not, predicate_test.IsNull))", called("null_words", "", "n"))),
-        ("like", "Like", after(token(word("Like")), built("predicate_test.Like", spelling("sort.Str")))),
+        ("comparison_test", "Compared", then(reference("comparison", "", "n"), "c", apply("(λ x. (false, predicate_test.Compared c x))", expr("sum")))),
+        ("is_null", "IsNull", apply("(λ is_not. (is_not, predicate_test.IsNull))", reference("null_words", "", "n"))),
+        ("like", "Like", after(token(word("Like")), apply("predicate_test.Like", spelling("sort.Str")))),
         ("high_end", "BetweenFromWordAnd", after(token(word("And")), expr("sum"))),
         ("between", "Between", after(token(word("Between")), then(
-            expr("sum"), "low", built("(λ ends. predicate_test.Between ends.0 ends.1)", beside("low", expr("high_end")))))),
-        ("within", "Within", after(token(word("In")), built("predicate_test.In", expr("members")))),
+            expr("sum"), "low", apply("(λ ends. predicate_test.Between ends.0 ends.1)", beside("low", expr("high_end")))))),
+        ("within", "Within", after(token(word("In")), apply("predicate_test.In", expr("members")))),
         ("negatable_test", "Test", either(expr("like"), expr("between"), expr("within"))),
         ("maybe_not_test", "MaybeNotTest",
-         then(called("maybe_not", "", "n"), "is_not", built("(λ question. (is_not, question))", expr("negatable_test")))),
+         then(reference("maybe_not", "", "n"), "is_not", apply("(λ question. (is_not, question))", expr("negatable_test")))),
         ("predicate_rest", "PredicateRest",
          either(expr("comparison_test"), expr("is_null"), expr("maybe_not_test"), nothing("(false, predicate_test.Nothing)"))),
         ("predicate", "Predicate",
-         then(expr("sum"), "x", built("(λ both. apply_test both.0 both.1)", beside("x", expr("predicate_rest"))))),
+         then(expr("sum"), "x", apply("(λ both. apply_test both.0 both.1)", beside("x", expr("predicate_rest"))))),
     ])
 
 
 def junctions(writer):
+    """NOT, AND and OR."""
     return writer.lemmas(EXPRESSION, [
         ("negated", "Negated", either(expr("negation"), expr("predicate"))),
         ("conjunction_more", "ConjunctionMore", after(token(word("And")), expr("negated"))),
@@ -293,6 +306,7 @@ use Rattle.span_syntax.proofs.Shrinking.{shrinking}
 
 
 def shrinking_antt(writer):
+    """span_syntax's proofs/Shrinking.antt."""
     chains = [("term", "Term"), ("sum", "Sum"), ("conjunction", "Conjunction"), ("expression", "Expression")]
     body = SHRINKING
     for name, part in chains:
@@ -385,15 +399,20 @@ use Rattle.span_parser.specs.declared.tree.Block.{Block}
 use Rattle.span_parser.specs.declared.tree.Query.{Query}
 """ + RULES + """
 use Rattle.span_syntax.specs.Expressions.{value_of, integer_of, spelling, close_parenthesis, column, direction, after, expression}
-use Rattle.span_parser.specs.Queries.{as_name, alias, required_alias, sort_column, sort_key, sort_key_more, sort_keys, order_by, maybe_order_by, skip, maybe_skip, limit_clause, maybe_limit, quantifier, column_more, columns, group_by, maybe_group_by, all_of_table, maybe_outer, left_join, inner_join, join_kind, maybe_semicolon, where_clause, maybe_where, having, maybe_having, output_expression, output, output_more, outputs, subquery, named_item, derived_item, item, join_of, block_of, query_of, join_on, join, block_groups, block_filter, order_and_limit, unions, block_joins, block_from, block_body, block, union_more, query, nested_query, statement}
+use Rattle.span_parser.specs.Queries.{as_name, alias, required_alias, sort_column, sort_key, sort_key_more, sort_keys, order_by,
+    maybe_order_by, skip, maybe_skip, limit_clause, maybe_limit, quantifier, column_more, columns, group_by, maybe_group_by, all_of_table,
+    maybe_outer, left_join, inner_join, join_kind, maybe_semicolon, where_clause, maybe_where, having, maybe_having, output_expression,
+    output, output_more, outputs, subquery, named_item, derived_item, item, join_of, block_of, query_of, join_on, join, block_groups,
+    block_filter, order_and_limit, unions, block_joins, block_from, block_body, block, union_more, query, nested_query, statement}
 """ + GOOD + """
 use Rattle.span_syntax.proofs.Expressing.{spelling_good, closing_good, column_good, direction_good, expression_good, deep}
 """
 
 
 def querying_antt(writer):
-    statement = then(known("query text n (nested_query text n)", "query_good text n (nested_query text n) (λ m e. query_deep text n m e)"),
-                     "q", built("(λ both. both.0)", beside("q", called("maybe_semicolon", "", "n"))))
+    """span_parser's proofs/Querying.antt."""
+    statement = then(proved("query text n (nested_query text n)", "query_good text n (nested_query text n) (λ m e. query_deep text n m e)"),
+                     "q", apply("(λ both. both.0)", beside("q", reference("maybe_semicolon", "", "n"))))
     return module("Queries are read as the grammar's theory reads them, and built.", QUERIES, "module _ (n : ℕ) where\n"
                   + query_words(writer) + "module _ (text : List ℕ) (n : ℕ) where\n" + query_names(writer) + query_lists(writer)
                   + query_clauses(writer) + SUBQUERIES + query_items(writer) + query_blocks(writer) + QUERY_DEPTHS
@@ -401,35 +420,38 @@ def querying_antt(writer):
 
 
 def query_words(writer):
-    limit = then(token("sort.Int"), "rows", built("(λ skip. record { rows = value_of rows.token.kind; skip = skip })", called("maybe_skip")))
+    """What consists of words and numbers alone."""
+    limit = then(token("sort.Int"), "rows", apply("(λ skip. record { rows = value_of rows.token.kind; skip = skip })", reference("maybe_skip")))
     return writer.lemmas("", [
         ("quantifier", "MaybeQuantifier", either(constant("false", word("All")), constant("true", word("Distinct")), nothing("false"))),
         ("maybe_outer", "MaybeOuter", either(constant("true", word("Outer")), nothing("false"))),
         ("skip", "Skip", after(token(context("Offset")), constant("value_of t.token.kind", "sort.Int"))),
-        ("maybe_skip", "MaybeSkip", either(called("skip"), nothing("0"))),
+        ("maybe_skip", "MaybeSkip", either(reference("skip"), nothing("0"))),
         ("limit_clause", "Limit", after(token(word("Limit")), limit)),
-        ("maybe_limit", "MaybeLimit", option(called("limit_clause"))),
+        ("maybe_limit", "MaybeLimit", option(reference("limit_clause"))),
         ("inner_join", "InnerJoin", after(token(word("Inner")), constant("false", word("Join")))),
-        ("left_join", "LeftJoin", after(token(word("Left")), called("maybe_outer"), constant("true", word("Join")))),
-        ("join_kind", "JoinKind", either(called("inner_join"), constant("false", word("Join")), called("left_join"))),
+        ("left_join", "LeftJoin", after(token(word("Left")), reference("maybe_outer"), constant("true", word("Join")))),
+        ("join_kind", "JoinKind", either(reference("inner_join"), constant("false", word("Join")), reference("left_join"))),
         ("maybe_semicolon", "MaybeSemicolon", either(constant("true", "sort.AnySemicolon"), nothing("false"))),
     ])
 
 
 def query_names(writer):
+    """Aliases, and the columns of ORDER BY."""
     return writer.lemmas("text", [
         ("as_name", "AsName", after(token(word("As")), spelling(NAME))),
-        ("alias", "Alias", either(built("Some", in_text("as_name")), option(spelling(NAME)))),
+        ("alias", "Alias", either(apply("Some", in_text("as_name")), option(spelling(NAME)))),
         ("required_alias", "RequiredAlias", either(in_text("as_name"), spelling(NAME))),
         ("sort_column", "SortColumn",
-         either(built("by.Name", spelling(NAME)), constant("by.Place (integer_of false t)", "sort.Int"))),
-        ("sort_key", "SortKey", then(in_text("sort_column"), "column", built(
-            "(λ is_descending. record { column = column; is_descending = is_descending })", called("direction", "", "n")))),
+         either(apply("by.Name", spelling(NAME)), constant("by.Place (integer_of false t)", "sort.Int"))),
+        ("sort_key", "SortKey", then(in_text("sort_column"), "column", apply(
+            "(λ is_descending. record { column = column; is_descending = is_descending })", reference("direction", "", "n")))),
     ])
 
 
 def query_lists(writer):
-    column = known("column text", "column_good text n")
+    """ORDER BY and GROUP BY, and all columns of a table."""
+    column = proved("column text", "column_good text n")
     return writer.lemmas("text", [
         ("sort_key_more", "SortKeyMore", after(token(sign("Comma")), in_text("sort_key"))),
         ("sort_keys", "OrderByFromSortKey", first_and(in_text("sort_key"), in_text("sort_key_more"))),
@@ -445,10 +467,11 @@ def query_lists(writer):
 
 
 def query_clauses(writer):
-    expression = known("expression text n (after text n)", "expression_good text n (after text n) (deep text n)")
+    """What has expressions: the select list, WHERE, HAVING and ON."""
+    expression = proved("expression text n (after text n)", "expression_good text n (after text n) (deep text n)")
 
     def of(name):
-        return called(name, "text n")
+        return reference(name, "text n")
 
     return writer.lemmas("text n", [
         ("where_clause", "Where", after(token(word("Where")), expression)),
@@ -456,10 +479,10 @@ def query_clauses(writer):
         ("having", "Having", after(token(word("Having")), expression)),
         ("maybe_having", "MaybeHaving", option(of("having"))),
         ("output_expression", "OutputExpression",
-         then(expression, "value", built("(λ both. output_item.Value both.0 both.1)", beside("value", in_text("alias"))))),
+         then(expression, "value", apply("(λ both. output_item.Value both.0 both.1)", beside("value", in_text("alias"))))),
         ("output", "Output", either(constant("output_item.All", sign("Star")), in_text("all_of_table"), of("output_expression"))),
         ("output_more", "OutputMore", after(token(sign("Comma")), of("output"))),
-        ("outputs", "Outputs", then(of("output"), "first", built("(λ all. all.0 ∷ all.1)", beside("first", each(of("output_more")))))),
+        ("outputs", "Outputs", then(of("output"), "first", apply("(λ all. all.0 ∷ all.1)", beside("first", each(of("output_more")))))),
         ("join_on", "JoinFromWordOn", after(token(word("On")), expression)),
         ("block_groups", "BlockFromMaybeGroupBy", then(in_text("maybe_group_by"), "groups", beside("groups", of("maybe_having")))),
         ("block_filter", "BlockFromMaybeWhere", then(of("maybe_where"), "filter", beside("filter", of("block_groups")))),
@@ -472,31 +495,33 @@ SUBQUERIES = """  -- what is a query one opening deeper is read so, where there 
 
 
 def query_items(writer):
-    join = then(called("join_kind", "", "n"), "is_left", then(expr("item"), "joined", built(
-        "(λ both. join_of is_left both.0 both.1)", beside("joined", called("join_on", "text n")))))
+    """The items of FROM and their joins."""
+    join = then(reference("join_kind", "", "n"), "is_left", then(expr("item"), "joined", apply(
+        "(λ both. join_of is_left both.0 both.1)", beside("joined", reference("join_on", "text n")))))
     return writer.lemmas(EXPRESSION, [
-        ("subquery", "Subquery", opening(closing(known("inner", "good_inside m e")))),
-        ("named_item", "NamedItem", then(spelling(NAME), "name", built("(source.Table name)", in_text("alias")))),
+        ("subquery", "Subquery", opening(closing(proved("inner", "good_inside m e")))),
+        ("named_item", "NamedItem", then(spelling(NAME), "name", apply("(source.Table name)", in_text("alias")))),
         ("derived_item", "DerivedItem",
-         then(expr("subquery"), "query", built("(λ both. source.Derived both.0 both.1)", beside("query", in_text("required_alias"))))),
+         then(expr("subquery"), "query", apply("(λ both. source.Derived both.0 both.1)", beside("query", in_text("required_alias"))))),
         ("item", "Item", either(expr("named_item"), expr("derived_item"))),
         ("join", "Join", join),
     ], indent="    ")
 
 
 def query_blocks(writer):
-    outputs = then(called("outputs", "text n"), "output_list", built("(block_of is_distinct)", beside("output_list", expr("block_from"))))
+    """Blocks, unions and whole queries."""
+    outputs = then(reference("outputs", "text n"), "output_list", apply("(block_of is_distinct)", beside("output_list", expr("block_from"))))
     blocks = writer.lemmas(EXPRESSION, [
-        ("block_joins", "BlockFromJoins", then(each(expr("join")), "joins", beside("joins", called("block_filter", "text n")))),
+        ("block_joins", "BlockFromJoins", then(each(expr("join")), "joins", beside("joins", reference("block_filter", "text n")))),
         ("block_from", "BlockFromWordFrom", after(token(word("From")), then(expr("item"), "from", beside("from", expr("block_joins"))))),
-        ("block_body", "BlockFromMaybeQuantifier", then(called("quantifier", "", "n"), "is_distinct", outputs)),
+        ("block_body", "BlockFromMaybeQuantifier", then(reference("quantifier", "", "n"), "is_distinct", outputs)),
         ("block", "Block", after(token(word("Select")), expr("block_body"))),
         ("union_more", "UnionMore", after(token(word("Union")), token(word("All")), expr("block"))),
     ], indent="    ")
-    ordered = then(in_text("maybe_order_by"), "order", beside("order", called("maybe_limit", "", "n")))
+    ordered = then(in_text("maybe_order_by"), "order", beside("order", reference("maybe_limit", "", "n")))
     return blocks + writer.lemma("text", "order_and_limit", "QueryFromMaybeOrderBy", ordered, indent="    ") + writer.lemmas(EXPRESSION, [
         ("unions", "QueryFromUnionRest", then(each(expr("union_more")), "others", beside("others", in_text("order_and_limit")))),
-        ("query", "Query", then(expr("block"), "first", built("query_of", beside("first", expr("unions"))))),
+        ("query", "Query", then(expr("block"), "first", apply("query_of", beside("first", expr("unions"))))),
     ], indent="    ")
 
 
@@ -514,6 +539,7 @@ statement_good text n = """
 
 
 def falling_antt(writer):
+    """span_parser's proofs/Falling.antt."""
     query = "text n (nested_query text n)"
     deep = f"{query} (λ m e. query_deep text n m e)"
     body = "".join([
@@ -551,7 +577,10 @@ use Rattle.span_grammar.specs.declared.grammar.Shape.TheVariants as shape
 use Rattle.span_syntax.specs.Expressions.{direction}
 """ + GOOD.replace(" beside_good,", "") + """
 use Rattle.span_syntax.proofs.Expressing.{direction_good}
-use Rattle.span_schematext.specs.Declarations.{name_of, name, at_most, unbounded, length_bound, in_length, long_kind, long_of, not_null, maybe_not_null, no_action, action, on_delete, maybe_on_delete, maybe_last_semicolon, parent, in_parent, interleave, maybe_interleave, key_column, key_column_more, in_key_columns, length_parenthesis, long_type, column_type, table_column, table_column_more, in_table_columns, key_columns, table_columns, key_and_parent, primary_key, named_table, table, table_more, tables}
+use Rattle.span_schematext.specs.Declarations.{name_of, name, at_most, unbounded, length_bound, in_length, long_kind, long_of, not_null,
+    maybe_not_null, no_action, action, on_delete, maybe_on_delete, maybe_last_semicolon, parent, in_parent, interleave, maybe_interleave,
+    key_column, key_column_more, in_key_columns, length_parenthesis, long_type, column_type, table_column, table_column_more,
+    in_table_columns, key_columns, table_columns, key_and_parent, primary_key, named_table, table, table_more, tables}
 """
 
 DECLARED_NAME = """module _ (text : List ℕ) (n : ℕ) where
@@ -574,6 +603,7 @@ IN_COLUMNS = """  in_columns : (m : ℕ) → n ≡ suc m → Good m (rule_of par
 
 
 def declaring_antt(writer):
+    """span_schematext's proofs/Declaring.antt."""
     return module("Declarations are read as the grammar's theory reads them, and built.", DECLARATIONS,
                   "module _ (n : ℕ) where\n" + schema_words(writer) + "module _ (n : ℕ) where\n" + column_types(writer) + DECLARED_NAME
                   + parents_and_keys(writer) + "module _ (text : List ℕ) (n : ℕ) where\n" + table_columns(writer)
@@ -581,38 +611,41 @@ def declaring_antt(writer):
 
 
 def schema_words(writer):
+    """What consists of words and numbers alone."""
     return writer.lemmas("", [
-        ("length_bound", "LengthBound", either(built("at_most", token("sort.Int")), built("unbounded", token(context("Max"))))),
-        ("in_length", "InLength", then(called("length_bound"), "most", constant("most", sign("Close")))),
+        ("length_bound", "LengthBound", either(apply("at_most", token("sort.Int")), apply("unbounded", token(context("Max"))))),
+        ("in_length", "InLength", then(reference("length_bound"), "most", constant("most", sign("Close")))),
         ("long_kind", "LongKind", either(constant("true", context("String")), constant("false", context("Bytes")))),
         ("not_null", "NotNull", after(token(word("Not")), constant("true", word("Null")))),
-        ("maybe_not_null", "MaybeNotNull", either(called("not_null"), nothing("false"))),
+        ("maybe_not_null", "MaybeNotNull", either(reference("not_null"), nothing("false"))),
         ("no_action", "NoAction", after(token(context("No")), constant("false", context("Action")))),
-        ("action", "Action", either(constant("true", context("Cascade")), called("no_action"))),
-        ("on_delete", "OnDelete", after(token(word("On")), token(context("Delete")), called("action"))),
-        ("maybe_on_delete", "MaybeOnDelete", either(called("on_delete"), nothing("false"))),
+        ("action", "Action", either(constant("true", context("Cascade")), reference("no_action"))),
+        ("on_delete", "OnDelete", after(token(word("On")), token(context("Delete")), reference("action"))),
+        ("maybe_on_delete", "MaybeOnDelete", either(reference("on_delete"), nothing("false"))),
         ("maybe_last_semicolon", "MaybeLastSemicolon", either(constant("true", "sort.LastSemicolon"), nothing("false"))),
     ])
 
 
 def column_types(writer):
+    """The types of columns."""
     return writer.lemmas("n", [
-        ("length_parenthesis", "LengthParenthesis", opening(called("in_length", "", "m"))),
+        ("length_parenthesis", "LengthParenthesis", opening(reference("in_length", "", "m"))),
         ("long_type", "LongType",
-         then(called("long_kind", "", "n"), "is_string", built("(long_of is_string)", called("length_parenthesis", "n")))),
+         then(reference("long_kind", "", "n"), "is_string", apply("(long_of is_string)", reference("length_parenthesis", "n")))),
         ("column_type", "Type",
-         either(constant("kind.Int", context("Int64")), constant("kind.Bool", context("Bool")), called("long_type", "n"))),
+         either(constant("kind.Int", context("Int64")), constant("kind.Bool", context("Bool")), reference("long_type", "n"))),
     ])
 
 
-def enclosed(first, more):
+def list_in_parentheses(first, more):
     """A list of one or more, and the parenthesis that closes."""
     return then(first, "first", then(each(more), "more", constant("first ∷ more", sign("Close"))))
 
 
 def parents_and_keys(writer):
-    cascade = built("(λ cascade. record { name = above; cascade = cascade })", called("maybe_on_delete", "", "n"))
-    order = built("(λ desc. record { name = column; desc = desc })", called("direction", "", "n"))
+    """INTERLEAVE IN PARENT and the columns of a key."""
+    cascade = apply("(λ cascade. record { name = above; cascade = cascade })", reference("maybe_on_delete", "", "n"))
+    order = apply("(λ desc. record { name = column; desc = desc })", reference("direction", "", "n"))
     return writer.lemmas("text", [
         ("parent", "InterleaveFromAName", then(in_text("name"), "above", cascade)),
         ("in_parent", "InterleaveFromWordIn", after(token(word("In")), token(context("Parent")), in_text("parent"))),
@@ -620,33 +653,35 @@ def parents_and_keys(writer):
         ("maybe_interleave", "MaybeInterleave", option(in_text("interleave"))),
         ("key_column", "KeyColumn", then(in_text("name"), "column", order)),
         ("key_column_more", "KeyColumnMore", after(token(sign("Comma")), in_text("key_column"))),
-        ("in_key_columns", "InKeyColumns", enclosed(in_text("key_column"), in_text("key_column_more"))),
+        ("in_key_columns", "InKeyColumns", list_in_parentheses(in_text("key_column"), in_text("key_column_more"))),
     ])
 
 
-TABLE_NAME = known("name text", "name_good text n")
+TABLE_NAME = proved("name text", "name_good text n")
 
 
 def table_columns(writer):
-    column = built("(λ is_not_null. record { name = column; kind = type_of; not_null = is_not_null })", called("maybe_not_null", "", "n"))
+    """The columns of a table, with their types."""
+    column = apply("(λ is_not_null. record { name = column; kind = type_of; not_null = is_not_null })", reference("maybe_not_null", "", "n"))
     return writer.lemmas("text n", [
-        ("table_column", "TableColumn", then(TABLE_NAME, "column", then(called("column_type", "n", "n"), "type_of", column))),
-        ("table_column_more", "TableColumnMore", after(token(sign("Comma")), called("table_column", "text n"))),
-        ("in_table_columns", "InTableColumns", enclosed(called("table_column", "text n"), called("table_column_more", "text n"))),
+        ("table_column", "TableColumn", then(TABLE_NAME, "column", then(reference("column_type", "n", "n"), "type_of", column))),
+        ("table_column_more", "TableColumnMore", after(token(sign("Comma")), reference("table_column", "text n"))),
+        ("in_table_columns", "InTableColumns", list_in_parentheses(reference("table_column", "text n"), reference("table_column_more", "text n"))),
     ])
 
 
 def tables(writer):
+    """Tables, and the whole schema."""
     def of(name, given=""):
-        return called(name, f"text n {given}".strip(), given)
+        return reference(name, f"text n {given}".strip(), given)
 
     columns = "(table : List ℕ) → (columns : List Column)"
     table = "(λ above. record { name = table; columns = columns; key = key; parent = above })"
-    keys = opening(known("in_key_columns text", "in_key_columns_good text m"))
+    keys = opening(proved("in_key_columns text", "in_key_columns_good text m"))
     return writer.lemmas("text n", [("key_columns", "KeyColumns", keys)]) + IN_COLUMNS + writer.lemmas("text n", [
-        ("table_columns", "TableColumns", opening(known("in_table_columns text (n - 1)", "in_columns m e"))),
+        ("table_columns", "TableColumns", opening(proved("in_table_columns text (n - 1)", "in_columns m e"))),
         ("key_and_parent", "TableFromKeyColumns",
-         then(of("key_columns"), "key", built(table, known("maybe_interleave text", "maybe_interleave_good text n"))), columns),
+         then(of("key_columns"), "key", apply(table, proved("maybe_interleave text", "maybe_interleave_good text n"))), columns),
         ("primary_key", "TableFromWordPrimary",
          after(token(context("Primary")), token(context("Key")), of("key_and_parent", "table columns")), columns),
         ("named_table", "TableFromAName",
@@ -654,11 +689,12 @@ def tables(writer):
         ("table", "Table", after(token(word("Create")), token(context("Table")), of("named_table"))),
         ("table_more", "TableMore", after(token("sort.Separator"), of("table"))),
         ("tables", "Schema", then(of("table"), "first", then(
-            each(of("table_more")), "more", built("(λ u. first ∷ more)", called("maybe_last_semicolon", "", "n"))))),
+            each(of("table_more")), "more", apply("(λ u. first ∷ more)", reference("maybe_last_semicolon", "", "n"))))),
     ])
 
 
 def lasting_antt(writer):
+    """span_schematext's proofs/Lasting.antt."""
     body = "".join([
         shrinks(writer, "key_column_more", "KeyColumnRest", "text", "text 0", False),
         shrinks(writer, "table_column_more", "TableColumnRest", "text n", "text n"),

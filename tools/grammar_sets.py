@@ -30,6 +30,7 @@ class Sets:
 
     @functools.cache
     def may_be_nothing(self, name):
+        """Whether a part may take no token."""
         shape, operands = self.grammar.shape(name)
         if shape == "Then":
             return all(self.may_be_nothing(operand) for operand in operands)
@@ -80,6 +81,7 @@ class Sets:
         return self.going[name]
 
     def goes_on_anew(self, name):
+        """The same, from those of the parts that it is made of."""
         shape, operands = self.grammar.shape(name)
         if shape in ("Empty", "One"):
             return frozenset()

@@ -96,6 +96,7 @@ class Tables:
 # ---- src
 
 def class_rt(t):
+    """src/class.rt: the classes of tokens."""
     contexts = t.grammar.contexts
     return r"""//! Classes of tokens: what the grammar asks of a token.
 //!
@@ -174,6 +175,7 @@ pub enum Sort {
 
 
 def grammar_rt(t):
+    """src/grammar.rt: the parts and their shapes."""
     documented = lines((f"    /// `{part.comment}`\n" if part.comment else "") + f"    {part.name}," for part in t.parts)
     return """//! The grammar, part by part.
 ghost use Rattle.std.specs.Prelude.{◌≡◌};
@@ -239,6 +241,7 @@ pub(crate) fn part_inside(place: Place) -> Part
 # ---- specs
 
 def shapes_antt(t):
+    """specs/Shapes.antt: the shapes of the parts."""
     return module("How each part of the grammar is made of others.", VARIANTS + SHAPE, """unfoldable pub shape_of : Part → Shape
 shape_of (part.Token s) = shape.One s
 """ + lines(f"shape_of part.{part.name} = {t.shape_term(part)}" for part in t.parts) + """
@@ -248,6 +251,7 @@ unfoldable pub part_inside : Place → Part
 
 
 def grammar_antt(t):
+    """specs/Grammar.antt: the rules of the parts."""
     body = ""
     for part in t.order:
         rule = t.rule(part.name)
@@ -263,6 +267,7 @@ abbrev pub inside : Place → Rule
 
 
 def contexts_antt(t):
+    """specs/Contexts.antt: the words that are names elsewhere."""
     return module("How the words are spelled that are names and words of the grammar.", """
 use Rattle.std.specs.Prelude.{ℕ, List, ◌∷◌, [], codes, Option, Some, None, if◌then◌else◌}
 use Rattle.std.specs.Str.{bytes_eq, str_to_ascii_lowercase}
@@ -283,6 +288,7 @@ context_word bytes = matching_word CONTEXTS bytes
 # ---- proofs: parts and rules
 
 def shaped_antt(t):
+    """proofs/Shaped.antt: shapes and rules agree."""
     return module("Each part is shaped as the grammar's rule of it.", """
 use Rattle.std.proofs.Common.{◌≡◌, refl}
 """ + VARIANTS + SHAPE + f"""
@@ -309,6 +315,7 @@ unfolding part_inside rule_of
 
 
 def ranks_antt(t):
+    """proofs/Ranks.antt: no part is made of itself but through an opening."""
     proofs = {"Then": "(lit< tt, lit< tt)", "Or": "(lit< tt, lit< tt)", "Many": "lit< tt"}
     return module("How high a part stands above those that it is made of.", """
 use Rattle.std.proofs.Common.{ℕ, ◌<◌, lit<}
@@ -338,6 +345,7 @@ rank_small (part.Token s) = lit< tt
 # ---- proofs: trees of each part
 
 def imports_of_trees(t):
+    """What the proofs about trees import, as far as they use it."""
     return """
 use Rattle.std.proofs.Common.{◌≡◌, ◌∙◌, Bool, true, false, refl, ap}
 use Rattle.std.specs.Prelude.{◌||◌, ◌&&◌}
@@ -349,6 +357,7 @@ use Rattle.span_grammar.proofs.Sound.{{Has, Ends}}
 
 
 def having_antt(t):
+    """proofs/Having.antt: a tree of each part."""
     imports = """
 use denote.Enum.Bare.{true_same}
 use Rattle.span_lexer.specs.contracts.token.Word.{the_type as word_type}
@@ -433,6 +442,7 @@ one_has s = (Leaf (sample s), sample_is s)
 
 
 def ending_antt(t):
+    """proofs/Ending.antt: what was begun can be ended."""
     def proof(part):
         a, b = part.operands[0] if part.operands else None, part.operands[-1] if part.operands else None
         return {
@@ -461,6 +471,7 @@ pub inside_ends : (p : Place) → Ends inside (inside p)
 # ---- proofs: what may be nothing
 
 def nothings_antt(t):
+    """proofs/Nothings.antt: which parts may be nothing."""
     def proof(part):
         if part.shape not in ("Then", "Or"):
             return "refl"
@@ -487,6 +498,7 @@ def boolean(value):
 
 
 def repeated_antt(t):
+    """proofs/Repeated.antt: what is repeated is never nothing."""
     repeated = [part for part in t.order if part.shape == "Many"]
     others = [part for part in t.order if part.shape != "Many"]
     lemmas = sorted({f"{snake(part.operands[0])}_nothing" for part in repeated})
@@ -519,6 +531,7 @@ def numbers(t, classes):
 
 
 def tables_antt(t):
+    """proofs/Tables.antt: the classes of tokens by number."""
     number = t.sets.number
     plain = ["AllOf", "Parameter", "Int", "Str", "Bytes"]
 
@@ -556,10 +569,12 @@ abbrev pub place_codes : Place → List ℕ
 
 
 def firsts_antt(t):
+    """proofs/Firsts.antt: with which tokens each part begins."""
     return lists(t, "The tokens with which each part begins, by number.", "first", t.sets.first)
 
 
 def goings_antt(t):
+    """proofs/Goings.antt: with which tokens each part goes on."""
     return lists(t, "The tokens with which a tree of each part may go on where it could end, by number.", "goes", t.sets.goes_on)
 
 
@@ -571,6 +586,7 @@ def lists(t, title, ending, classes_of):
 
 
 def facts_antt(t):
+    """proofs/Facts.antt: one token decides each choice."""
     return module("One token decides every choice of the grammar.", """
 use Rattle.std.proofs.Common.{true, false, refl, ℕ, List, []}
 """ + VARIANTS + f"""
@@ -612,6 +628,7 @@ def fact(t, part):
 # ---- proofs: the words that are names elsewhere
 
 def spelled_antt(t):
+    """proofs/Spelled.antt: looking up a word that is a name elsewhere."""
     return module("Looking a word up that is a name and a word of the grammar.", """
 use Rattle.std.proofs.Common.{◌≡◌, ◌≢◌, ℕ, ◌+◌, ◌<◌, ◌≤◌, true, false, List, [], ◌∷◌, length, drop, get_or, Some, None, refl, sym, ap, ◌∙◌, arith}
 use Rattle.std.proofs.lemmas.Grind.{common_steps}

@@ -35,14 +35,14 @@ def nothing(value):
     return Piece("nothing", (value,))
 
 
-def built(function, piece):
+def apply(function, piece):
     """A function of what a piece reads."""
-    return Piece("built", (function, piece))
+    return Piece("apply", (function, piece))
 
 
 def constant(value, sort):
     """One token of a sort, and a value."""
-    return built(f"(λ t. {value})", token(sort))
+    return apply(f"(λ t. {value})", token(sort))
 
 
 def then(first, name, second):
@@ -62,7 +62,7 @@ def either(*pieces):
 
 def option(piece):
     """A piece or nothing."""
-    return either(built("Some", piece), nothing("None"))
+    return either(apply("Some", piece), nothing("None"))
 
 
 def each(piece):
@@ -80,9 +80,9 @@ def beside(value, piece):
     return Piece("beside", (value, piece))
 
 
-def known(definition, proof):
-    """A piece that has a name, and the proof that it reads as its part's rule."""
-    return Piece("known", (definition, proof))
+def proved(definition, proof, name=None):
+    """A piece that has a name, and the proof that it reads as its part's rule. The name is a lemma's, or a sort's for one token."""
+    return Piece("proved", (definition, proof, name))
 
 
 # Definitions whose lemma is not called as they are.
@@ -92,9 +92,9 @@ LEMMAS = {
 }
 
 
-def called(name, applied="", given=""):
+def reference(name, applied="", given=""):
     """A definition, applied so, and its lemma."""
-    return known(f"{name} {applied}".strip(), f"{LEMMAS.get(name, name)}_good {given}".strip())
+    return proved(f"{name} {applied}".strip(), f"{LEMMAS.get(name, name)}_good {given}".strip(), name)
 
 
 # what is written of them
@@ -107,12 +107,26 @@ class Writer:
 
     def __init__(self, grammar):
         self.grammar = grammar
+        self.part_of = {}  # the part that the lemma on each definition speaks of
+
+    def misfit(self, part, reader):
+        """Stops: the tables do not fit the grammar."""
+        stop(f"the part {part} is not read by {reader}: docs/SQL.md has changed, and so must the tables of tools/grammar_pieces.py")
+
+    def require_known(self, part, name):
+        """Stops where a definition that has a lemma, or a sort of tokens, is not of this part."""
+        is_sort = name is not None and "sort." in name
+        found = sort_term(self.grammar.tokens[part]) if is_sort and part in self.grammar.tokens else part
+        if found != (name if is_sort else self.part_of.get(name, part)):
+            self.misfit(part, name)
 
     def operands(self, kind, part, sort=None):
         """The operands of a part, whose shape must be a piece's of this kind."""
+        if part not in self.grammar.parts and part not in self.grammar.tokens:
+            self.misfit(part, "anything, since there is none")
         shape, operands = self.grammar.shape(part)
         if shape != SHAPES[kind] or (sort and sort_term(operands[0]) != sort):
-            stop(f"the part {part} is {shape}, and tools/grammar_pieces.py reads it by {kind} {sort or ''}: change its tables with docs/SQL.md")
+            self.misfit(part, f"{kind} {sort or ''}".strip())
         return operands
 
     def definition(self, piece, part, depth):
@@ -120,9 +134,9 @@ class Writer:
         kind, arguments = piece
         if kind in ("token", "nothing"):
             return f"({kind} {arguments[0]})"
-        if kind == "known":
+        if kind == "proved":
             return f"({arguments[0]})"
-        if kind == "built":
+        if kind == "apply":
             return f"({arguments[0]} <$> {self.definition(arguments[1], part, depth)})"
         if kind == "beside":
             return f"(pair_with {arguments[0]} {self.definition(arguments[1], part, depth)})"
@@ -138,10 +152,11 @@ class Writer:
     def proof(self, piece, part, depth):
         """That a piece reads a part as the grammar's rule of it, with so many openings left."""
         kind, arguments = piece
-        if kind == "known":
+        if kind == "proved":
+            self.require_known(part, arguments[2])
             return f"({arguments[1]})"
-        if kind in ("built", "beside"):
-            lemma, (value, inner) = {"built": "map_good", "beside": "beside_good"}[kind], arguments
+        if kind in ("apply", "beside"):
+            lemma, (value, inner) = {"apply": "map_good", "beside": "beside_good"}[kind], arguments
             return f"({lemma} {value} {self.definition(inner, part, depth)} {self.proof(inner, part, depth)})"
         operands = self.operands(kind, part, arguments[0] if kind == "token" else None)
         if kind in ("token", "nothing"):
@@ -159,6 +174,7 @@ class Writer:
 
     def lemma(self, applied, name, part, piece, arguments="", of=None, indent="  "):
         """The lemma that a definition, which is this piece applied so, reads as the rule of the part. It is `of`, or else `name`."""
+        self.part_of[name] = part
         of, name = of or name, LEMMAS.get(name, name)
         names = " ".join(re.findall(r"\((\w+) :", arguments))
         definition = " ".join(filter(None, [of, applied, names]))
