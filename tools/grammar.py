@@ -61,7 +61,7 @@ NAMES = [Name(*row) for row in [
     ("Opposite", '"-" signed', '"-" unary', "InOpposite"),
     ("Qualifier", '"." name', TEXT),
     ("AfterName", '["(" ["*" | expr {"," expr}] ")" | "." name]', "what makes a name a call or a column of a table"),
-    ("Named", 'name ["(" ["*" | expr {"," expr}] ")" | "." name]', "call | col, of which a name stands in front"),
+    ("Named", 'name ["(" ["*" | expr {"," expr}] ")" | "." name]', "call | col, with a name first"),
     ("IfCall", 'IF "(" ["*" | expr {"," expr}] ")"', 'IF "(" .. ")"'),
     ("Primary", "prim", TEXT),
     ("Unary", "unary", RULE),
@@ -522,7 +522,7 @@ class Grammar:
         return (TOKENS[token][0], None) if token in TOKENS else stop(f"docs/SQL.md: {token} is neither a rule nor a token")
 
     def add_named(self, name):
-        """Adds the part that a row of NAMES is, after the parts that stand for the rest of it."""
+        """Adds the part that a row of NAMES is, after the parts that are the rest of it."""
         node, comment = self.nodes[name.text], self.comments[name.part]
         if node is None:
             self.parts[name.part] = Part(name.part, "Empty", (), comment)

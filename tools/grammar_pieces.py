@@ -141,7 +141,7 @@ def signs(writer):
     ])
 
 
-INSIDE = """-- ---- what stands inside an opening
+INSIDE = """-- ---- what is inside an opening
 
 module _ (n : ℕ) (p : Piece Expr) (gp : Good n (rule_of part.Expression) p) where
 """
@@ -173,7 +173,7 @@ def insides(writer):
 
 DEEP = """-- ---- expressions
 
--- what stands one opening deeper is read so, where there is one left
+-- what is one opening deeper is read so, where there is one left
 pub record Deep (n : ℕ) (inner : Inner) : Type 0 where
   pub expression : (m : ℕ) → n ≡ suc m → Good m (rule_of part.Expression) inner.expression
   pub negated : (m : ℕ) → n ≡ suc m → Good m (rule_of part.Negated) inner.negated

@@ -142,7 +142,7 @@ pub enum Class {
     Str,
     Bytes,
     Sign(Sign),
-    /// A semicolon behind which the text ends.
+    /// A semicolon after which the text ends.
     LastSemicolon,
 }
 
@@ -166,7 +166,7 @@ pub enum Sort {
     Str,
     Bytes,
     Sign(Sign),
-    /// A semicolon behind which the text goes on.
+    /// A semicolon after which the text goes on.
     Separator,
     LastSemicolon,
     AnySemicolon,
@@ -191,7 +191,7 @@ pub enum Part {
     Token(Sort),
 """ + documented + """}
 
-/// Where the grammar goes on behind an opening, one deeper.
+/// Where the grammar goes on after an opening, one deeper.
 #[derive(Clone, Copy)]
 pub enum Place {
 """ + lines(f"    {place}," for place, _ in t.inside) + SHAPE_RT + lines(
@@ -219,17 +219,17 @@ pub enum Shape {
     Empty,
     /// One token.
     One(Sort),
-    /// A part, and one behind it.
+    /// A part, and one after it.
     Then(Part, Part),
     /// The first part where it can begin with the token that comes, else the second.
     Or(Part, Part),
     /// A part any number of times.
     Many(Part),
-    /// An opening token, and what stands at the place behind it, one deeper.
+    /// An opening token, and what is at the place after it, one deeper.
     Open(Sort, Place),
 }
 
-/// What stands at a place.
+/// What may be at a place.
 #[tactic(auto, unfolding(crate::specs::Shapes::part_inside))]
 pub(crate) fn part_inside(place: Place) -> Part
     ensures { result ≡ part_inside place }
@@ -245,7 +245,7 @@ def shapes_antt(t):
     return module("How each part of the grammar is made of others.", VARIANTS + SHAPE, """unfoldable pub shape_of : Part → Shape
 shape_of (part.Token s) = shape.One s
 """ + lines(f"shape_of part.{part.name} = {t.shape_term(part)}" for part in t.parts) + """
--- what stands behind an opening
+-- what is after an opening
 unfoldable pub part_inside : Place → Part
 """ + lines(f"part_inside place.{place} = part.{part}" for place, part in t.inside))
 
@@ -257,11 +257,11 @@ def grammar_antt(t):
         rule = t.rule(part.name)
         body += f"-- {part.comment}\n" if part.comment else ""
         body += f"unfoldable pub {rule} : Rule\n{rule} = {t.rule_term(part)}\n"
-    return module("The grammar of queries and of schema texts, as rules. What is commented stands in the grammar's own words.", VARIANTS + """
+    return module("The grammar of queries and of schema texts, as rules. What is commented is in the grammar's own words.", VARIANTS + """
 use Rattle.span_grammar.specs.Rules.{Rule, Empty, One, Then, Or, Many, Open}""", body + """unfoldable pub rule_of : Part → Rule
 rule_of (part.Token s) = One s
 """ + lines(f"rule_of part.{part.name} = {t.rule(part.name)}" for part in t.parts) + """
--- what stands behind an opening
+-- what is after an opening
 abbrev pub inside : Place → Rule
 """ + lines(f"inside place.{place} = {t.rule(part)}" for place, part in t.inside))
 
@@ -317,7 +317,7 @@ unfolding part_inside rule_of
 def ranks_antt(t):
     """proofs/Ranks.antt: no part is made of itself but through an opening."""
     proofs = {"Then": "(lit< tt, lit< tt)", "Or": "(lit< tt, lit< tt)", "Many": "lit< tt"}
-    return module("How high a part stands above those that it is made of.", """
+    return module("How high a part is above those that it is made of.", """
 use Rattle.std.proofs.Common.{ℕ, ◌<◌, lit<}
 """ + VARIANTS + SHAPE + """
 use Rattle.span_grammar.specs.Shapes.{shape_of}
@@ -541,7 +541,7 @@ def tables_antt(t):
     def sorts(names):
         return lines(f"sort_codes sort.{name} = {numbers(t, t.sets.of_sort((name, None)))}" for name in names)
 
-    return module("The classes of tokens by number, and those that go on behind a place.", """
+    return module("The classes of tokens by number, and those that go on after a place.", """
 use Rattle.std.proofs.Common.{ℕ, List, [], ◌∷◌}
 """ + VARIANTS + CLASSES.replace("use Rattle.span_grammar.specs.declared.class.Lexeme.{Lexeme}\n", "") + """
 use Rattle.span_lexer.specs.declared.token.Word.{Word}
@@ -563,7 +563,7 @@ abbrev pub sort_codes : Sort → List ℕ
 sort_codes (sort.Word w) = word_code w ∷ []
 """ + sorts(["Name"]) + "sort_codes (sort.Context w) = context_code w ∷ []\n" + sorts(plain) + """sort_codes (sort.Sign s) = sign_code s ∷ []
 """ + sorts(["Separator", "LastSemicolon", "AnySemicolon"]) + """
--- what goes on where a tree of what stands behind an opening could end
+-- what goes on where a tree of what is after an opening could end
 abbrev pub place_codes : Place → List ℕ
 """ + lines(f"place_codes place.{place} = {numbers(t, t.sets.inside[place])}" for place, _ in t.inside))
 

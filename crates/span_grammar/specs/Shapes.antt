@@ -212,7 +212,7 @@ shape_of part.InTableColumns = shape.Then part.TableColumn part.InTableColumnsFr
 shape_of part.InKeyColumnsFromKeyColumnRest = shape.Then part.KeyColumnRest (part.Token (sort.Sign sign.Close))
 shape_of part.InKeyColumns = shape.Then part.KeyColumn part.InKeyColumnsFromKeyColumnRest
 
--- what stands behind an opening
+-- what is after an opening
 unfoldable pub part_inside : Place → Part
 part_inside place.InParenthesis = part.InParenthesis
 part_inside place.InArguments = part.InArguments

@@ -41,7 +41,7 @@ pub enum Class {
     Str,
     Bytes,
     Sign(Sign),
-    /// A semicolon behind which the text ends.
+    /// A semicolon after which the text ends.
     LastSemicolon,
 }
 
@@ -65,7 +65,7 @@ pub enum Sort {
     Str,
     Bytes,
     Sign(Sign),
-    /// A semicolon behind which the text goes on.
+    /// A semicolon after which the text goes on.
     Separator,
     LastSemicolon,
     AnySemicolon,

@@ -32,7 +32,7 @@ pub enum Part {
     AfterNameFromQualifier,
     /// `what makes a name a call or a column of a table`
     AfterName,
-    /// `call | col, of which a name stands in front`
+    /// `call | col, with a name first`
     Named,
     /// `IF "(" .. ")"`
     IfCall,
@@ -262,7 +262,7 @@ pub enum Part {
     InKeyColumns,
 }
 
-/// Where the grammar goes on behind an opening, one deeper.
+/// Where the grammar goes on after an opening, one deeper.
 #[derive(Clone, Copy)]
 pub enum Place {
     InParenthesis,
@@ -284,17 +284,17 @@ pub enum Shape {
     Empty,
     /// One token.
     One(Sort),
-    /// A part, and one behind it.
+    /// A part, and one after it.
     Then(Part, Part),
     /// The first part where it can begin with the token that comes, else the second.
     Or(Part, Part),
     /// A part any number of times.
     Many(Part),
-    /// An opening token, and what stands at the place behind it, one deeper.
+    /// An opening token, and what is at the place after it, one deeper.
     Open(Sort, Place),
 }
 
-/// What stands at a place.
+/// What may be at a place.
 #[tactic(auto, unfolding(crate::specs::Shapes::part_inside))]
 pub(crate) fn part_inside(place: Place) -> Part
     ensures { result ≡ part_inside place }

@@ -72,7 +72,7 @@ module _ (n : ℕ) where
   unfolding null_words shape_of part_inside
   null_words_good = then_good n part.IsNull (part.Token (sort.Word word.Is)) part.IsNullFromMaybeNot refl (token (sort.Word word.Is)) (λ _. ((maybe_not) >>= (λ is_not. ((λ t. is_not) <$> (token (sort.Word word.Null)))))) (token_good n (sort.Word word.Is)) (λ _. (then_good n part.IsNullFromMaybeNot part.MaybeNot (part.Token (sort.Word word.Null)) refl (maybe_not) (λ is_not. ((λ t. is_not) <$> (token (sort.Word word.Null)))) (maybe_not_good) (λ is_not. (map_good (λ t. is_not) (token (sort.Word word.Null)) (token_good n (sort.Word word.Null))))))
 
--- ---- what stands inside an opening
+-- ---- what is inside an opening
 
 module _ (n : ℕ) (p : Piece Expr) (gp : Good n (rule_of part.Expression) p) where
   pub list_more_good : Good n (rule_of part.ListMore) (list_more p)
@@ -117,7 +117,7 @@ module _ (n : ℕ) (p : Piece Expr) (gp : Good n (rule_of part.Expression) p) wh
 
 -- ---- expressions
 
--- what stands one opening deeper is read so, where there is one left
+-- what is one opening deeper is read so, where there is one left
 pub record Deep (n : ℕ) (inner : Inner) : Type 0 where
   pub expression : (m : ℕ) → n ≡ suc m → Good m (rule_of part.Expression) inner.expression
   pub negated : (m : ℕ) → n ≡ suc m → Good m (rule_of part.Negated) inner.negated

@@ -10,5 +10,5 @@ use Rattle.span_parser.proofs.parse.query_of.Goals as goal
 pub returns : goal.returns
 returns c =
     let same : lexemes_of c.args.text.now c.args.tokens.now ≡ c.as_slice.result.now = sym (c.as_slice.ensures.value ∙ c.in_ok-found.ensures) in
-    reports (read_to_end (statement c.args.text.now limit) (lexemes_of c.args.text.now c.args.tokens.now)) c.in-Err.fault c.misread-refusal.result
-    (λ n. ap (read_to_end (statement c.args.text.now limit)) same ∙ c.in-Err.ensures n) c.misread-refusal.ensures.refusal
+    reports (read_to_end (statement c.args.text.now limit) (lexemes_of c.args.text.now c.args.tokens.now)) c.in-Err.fault c.read_error-refusal.result
+    (λ n. ap (read_to_end (statement c.args.text.now limit)) same ∙ c.in-Err.ensures n) c.read_error-refusal.ensures.refusal
