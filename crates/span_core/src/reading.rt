@@ -72,14 +72,14 @@ fn rows_of(
     for entry in entries {
         let row = table_row(alloc, schema, entry.key, entry.row)?;
         if row.table == table {
-            rows.push(declared(alloc, schema, &row)?)?;
+            rows.push(row_in_declared_order(alloc, schema, &row)?)?;
         }
     }
     Ok(Seq::from_vec(rows))
 }
 
 /// The values of a row in the order in which its table declares the columns.
-fn declared(alloc: Global, schema: &Schema, row: &TableRow) -> Result<Row, Refusal>
+fn row_in_declared_order(alloc: Global, schema: &Schema, row: &TableRow) -> Result<Row, Refusal>
     requires { IsTable schema.now row.now.table }
     ensures { MatchResult result (λ values. values ≡ declared_row schema.now row.now) (λ why. why ≡ Refusal.OutOfMemory) }
 {

@@ -10,12 +10,12 @@ use Rattle.span_command.specs.Record.{row_records}
 use Rattle.span_core.specs.declared.slot.SlotReport.{SlotReport}
 
 -- a word and a number
-abbrev pub numbered : List ℕ → ℕ → List ℕ
-numbered word n = word ++ 32 ∷ decimal n
+abbrev pub word_number : List ℕ → ℕ → List ℕ
+word_number word n = word ++ 32 ∷ decimal n
 
 -- the same, and the end of the line
 abbrev pub number_line : List ℕ → ℕ → List ℕ
-number_line word n = numbered word n ++ 10 ∷ []
+number_line word n = word_number word n ++ 10 ∷ []
 
 -- a line of one word
 abbrev pub word_line : List ℕ → List ℕ
@@ -23,17 +23,17 @@ word_line word = word ++ 10 ∷ []
 
 -- the line of an open query
 abbrev pub opened_line : ℕ → ℕ → ℕ → List ℕ
-opened_line query s leaves = numbered (codes "query") query ++ numbered (codes " at") s ++ number_line (codes " leaves") leaves
+opened_line query s leaves = word_number (codes "query") query ++ word_number (codes " at") s ++ number_line (codes " leaves") leaves
 
 -- a slot's number and range
 abbrev pub slot_range : ℕ → List ℕ
-slot_range slot = numbered (codes "shard") slot ++ codes " [-,-)"
+slot_range slot = word_number (codes "shard") slot ++ codes " [-,-)"
 
 abbrev pub slot_times : SlotReport → List ℕ
-slot_times state = numbered (codes " last") state.last ++ numbered (codes " floor") state.floor ++ numbered (codes " horizon") state.horizon
+slot_times state = word_number (codes " last") state.last ++ word_number (codes " floor") state.floor ++ word_number (codes " horizon") state.horizon
 
 abbrev pub slot_counts : SlotReport → List ℕ
-slot_counts state = numbered (codes " live") state.live ++ number_line (codes " prepared") state.prepared
+slot_counts state = word_number (codes " live") state.live ++ number_line (codes " prepared") state.prepared
 
 -- the line of a slot
 abbrev pub slot_line : ℕ → SlotReport → List ℕ
@@ -41,7 +41,7 @@ slot_line slot state = slot_range slot ++ slot_times state ++ slot_counts state
 
 -- how many rows there are, and their records
 abbrev pub rows_lines : ℕ → List (List Value) → List ℕ
-rows_lines s rows = numbered (codes "rows") (length rows) ++ number_line (codes " at") s ++ row_records rows
+rows_lines s rows = word_number (codes "rows") (length rows) ++ number_line (codes " at") s ++ row_records rows
 
 -- the lines that a reply is answered by
 abbrev pub reply_text : Reply → List ℕ

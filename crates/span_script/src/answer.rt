@@ -2,7 +2,7 @@
 ghost use Rattle.std.specs.Prelude.{◌≡◌, ◌++◌, ℕ, List, [], codes, length, nat_le, take, IfErr, OnOk, IfOk, IsOkUnless};
 ghost use Rattle.std.specs.Fmt.{decimal};
 ghost use Rattle.span_value.specs.Refusals.{number_of};
-ghost use Rattle.span_script.specs.Lines.{numbered, number_line, word_line, opened_line, slot_range, slot_times, slot_counts, slot_line, rows_lines, reply_text, AreShards};
+ghost use Rattle.span_script.specs.Lines.{word_number, number_line, word_line, opened_line, slot_range, slot_times, slot_counts, slot_line, rows_lines, reply_text, AreShards};
 ghost use Rattle.span_command.specs.Device.{risen};
 
 use itoa::Buffer;
@@ -96,8 +96,8 @@ impl Answers {
     }
 
     /// A word and a number.
-    fn numbered(&mut self, word: &str, number: u64) -> Result<(), Refusal>
-        ensures added { OnOk result (self.new ≡ self.old ++ numbered word.now number) }
+    fn word_number(&mut self, word: &str, number: u64) -> Result<(), Refusal>
+        ensures added { OnOk result (self.new ≡ self.old ++ word_number word.now number) }
         ensures memory { IsOkUnless result Refusal.OutOfMemory }
     {
         self.text(word)?;
@@ -119,12 +119,12 @@ impl Answers {
         ensures added { OnOk result (self.new ≡ self.old ++ number_line word.now number) }
         ensures memory { IsOkUnless result Refusal.OutOfMemory }
     {
-        self.numbered(word, number)?;
+        self.word_number(word, number)?;
         self.text("\n")
     }
 
     /// The answer to a refused command.
-    pub fn refused(&mut self, why: Refusal) -> Result<(), Refusal>
+    pub fn refusal_line(&mut self, why: Refusal) -> Result<(), Refusal>
         ensures added { OnOk result (self.new ≡ self.old ++ number_line (codes "refused") (number_of why)) }
         ensures memory { IsOkUnless result Refusal.OutOfMemory }
     {
@@ -144,21 +144,21 @@ impl Answers {
             Reply::Applied => self.word_line("applied"),
             Reply::Floor(floor) => self.number_line("floor", *floor),
             Reply::Trimmed(live) => self.number_line("trimmed", *live as u64),
-            Reply::Opened { query, s, leaves } => self.opened(*query, *s, *leaves),
+            Reply::Opened { query, s, leaves } => self.opened_line(*query, *s, *leaves),
             Reply::Scanned => self.word_line("scanned"),
             Reply::Nothing => self.word_line("nothing"),
             Reply::Rows { s, rows } => self.rows(alloc, *s, rows.as_slice()),
             Reply::Closed => self.word_line("closed"),
-            Reply::Refused(why) => self.refused(*why),
+            Reply::Refused(why) => self.refusal_line(*why),
         }
     }
 
-    fn opened(&mut self, query: u64, s: u64, leaves: usize) -> Result<(), Refusal>
+    fn opened_line(&mut self, query: u64, s: u64, leaves: usize) -> Result<(), Refusal>
         ensures added { OnOk result (self.new ≡ self.old ++ opened_line query s leaves) }
         ensures memory { IsOkUnless result Refusal.OutOfMemory }
     {
-        self.numbered("query", query)?;
-        self.numbered(" at", s)?;
+        self.word_number("query", query)?;
+        self.word_number(" at", s)?;
         self.number_line(" leaves", leaves as u64)
     }
 
@@ -167,7 +167,7 @@ impl Answers {
         ensures added { OnOk result (self.new ≡ self.old ++ rows_lines s rows.now) }
         ensures memory { IsOkUnless result Refusal.OutOfMemory }
     {
-        self.numbered("rows", rows.len() as u64)?;
+        self.word_number("rows", rows.len() as u64)?;
         self.number_line(" at", s)?;
         let text = rows_text(alloc, rows)?;
         self.bytes.extend_from_slice(text.as_slice())?;
@@ -203,7 +203,7 @@ impl Answers {
         ensures added { OnOk result (self.new ≡ self.old ++ slot_range slot) }
         ensures memory { IsOkUnless result Refusal.OutOfMemory }
     {
-        self.numbered("shard", slot as u64)?;
+        self.word_number("shard", slot as u64)?;
         self.text(" [-,-)")
     }
 
@@ -211,16 +211,16 @@ impl Answers {
         ensures added { OnOk result (self.new ≡ self.old ++ slot_times state) }
         ensures memory { IsOkUnless result Refusal.OutOfMemory }
     {
-        self.numbered(" last", state.last)?;
-        self.numbered(" floor", state.floor)?;
-        self.numbered(" horizon", state.horizon)
+        self.word_number(" last", state.last)?;
+        self.word_number(" floor", state.floor)?;
+        self.word_number(" horizon", state.horizon)
     }
 
     fn slot_counts(&mut self, state: SlotReport) -> Result<(), Refusal>
         ensures added { OnOk result (self.new ≡ self.old ++ slot_counts state) }
         ensures memory { IsOkUnless result Refusal.OutOfMemory }
     {
-        self.numbered(" live", state.live as u64)?;
+        self.word_number(" live", state.live as u64)?;
         self.number_line(" prepared", state.prepared as u64)
     }
 }

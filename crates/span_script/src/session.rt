@@ -76,7 +76,7 @@ impl Session {
             Ok(()) => Ok(()),
             Err(why) => {
                 answers.cut(before);
-                answers.refused(why)
+                answers.refusal_line(why)
             }
         }
     }
@@ -88,7 +88,7 @@ impl Session {
         match self.load.take() {
             Some(load) => {
                 self.gathered.truncate(load.before);
-                answers.refused(Refusal::BadCommand)
+                answers.refusal_line(Refusal::BadCommand)
             }
             None => Ok(()),
         }

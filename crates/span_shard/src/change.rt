@@ -27,7 +27,7 @@ use span_value::seq::Seq;
 use std::alloc::{AllocError, Global};
 
 /// A row, its key coded and its cells packed.
-fn coded(alloc: Global, schema: &Schema, row: &TableRow) -> Result<Write, Refusal>
+fn code_row(alloc: Global, schema: &Schema, row: &TableRow) -> Result<Write, Refusal>
     requires { IsTyped schema.now row.now }
     ensures { MatchResult result (λ w. w ≡ coded schema.now row.now) (λ why. why ≡ Refusal.OutOfMemory) }
 {
@@ -45,13 +45,13 @@ fn writes_of_rows(alloc: Global, schema: &Schema, rows: &[TableRow]) -> Result<V
 {
     let mut writes = Vec::with_capacity(alloc, rows.len())?;
     for row in rows {
-        writes.push(coded(alloc, schema, row)?)?;
+        writes.push(code_row(alloc, schema, row)?)?;
     }
     Ok(writes)
 }
 
 /// By their keys.
-fn sorted(writes: Vec<Write>) -> Result<Vec<Write>, AllocError>
+fn sort_writes(writes: Vec<Write>) -> Result<Vec<Write>, AllocError>
     ensures { IfOk result
         (λ all. IsPermutation writes.items all.items × IsSortedBy (λ v w. is_lt (byte_order v.key w.key)) all.items) }
 {
@@ -149,7 +149,7 @@ fn changes(
         (λ why. why ≡ Refusal.OutOfMemory) }
 {
     let all = writes_of_rows(alloc, schema, after)?;
-    let left = sorted(all)?;
+    let left = sort_writes(all)?;
     let mut gone = deletions(alloc, found, left.as_slice())?;
     let mut writes = keep_changes(store, left);
     writes.append(&mut gone)?;

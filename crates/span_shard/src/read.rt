@@ -79,7 +79,7 @@ pub(crate) fn read_rows(
 }
 
 /// The rows in the order of a database.
-fn sorted(schema: &Schema, rows: Vec<TableRow>) -> Result<Vec<TableRow>, AllocError>
+fn sort_rows(schema: &Schema, rows: Vec<TableRow>) -> Result<Vec<TableRow>, AllocError>
     ensures { IfOk result
         (λ all. IsPermutation rows.items all.items × IsSortedBy (λ q r. is_lt (rows_cmp schema.now q r)) all.items) }
 {
@@ -122,7 +122,7 @@ pub(crate) fn in_order(
 ) -> Result<Vec<TableRow>, AllocError>
     ensures { IfOk result (λ once. AreInOrderOnce schema.now rows.items once.items) }
 {
-    let all = sorted(schema, rows)?;
+    let all = sort_rows(schema, rows)?;
     let once = without_repeats(alloc, schema, all)?;
     Ok(once)
 }

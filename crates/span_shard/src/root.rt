@@ -43,7 +43,7 @@ fn all_roots(
     Ok(roots)
 }
 
-fn sorted(roots: Vec<Key>) -> Result<Vec<Key>, AllocError>
+fn sort_roots(roots: Vec<Key>) -> Result<Vec<Key>, AllocError>
     ensures { IfOk result (λ all. IsPermutation roots.items all.items) }
 {
     let mut roots = roots;
@@ -63,7 +63,7 @@ pub(crate) fn roots_of(
         (λ why. why ≡ Refusal.OutOfMemory) }
 {
     let roots = all_roots(alloc, schema, mutations)?;
-    Ok(sorted(roots)?)
+    Ok(sort_roots(roots)?)
 }
 
 // Whether the root before is the same.

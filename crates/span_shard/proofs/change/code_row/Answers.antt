@@ -3,7 +3,7 @@ use Rattle.std.proofs.lemmas.Result.{err_from_is_err_and}
 use Rattle.span_value.specs.declared.value.Value.{Value}
 use Rattle.span_keycode.specs.Keys.{encode_cause}
 use Rattle.span_shard.proofs.Codes.{never_refused}
-use Rattle.span_shard.proofs.change.coded.Goals as goal
+use Rattle.span_shard.proofs.change.code_row.Goals as goal
 
 pub returns-in_err-key : goal.returns-in_err-key
 returns-in_err-key c =

@@ -5,7 +5,7 @@ use Rattle.std.proofs.lemmas.List.Sorted.{ranks_by}
 use Rattle.span_keycode.specs.Order.{byte_order}
 use Rattle.span_shard.specs.declared.write.Write.{Write}
 use Rattle.span_shard.proofs.Bytes.{bytes_total}
-use Rattle.span_shard.proofs.change.sorted.Goals as goal
+use Rattle.span_shard.proofs.change.sort_writes.Goals as goal
 
 pub returns : goal.returns
 returns c = (

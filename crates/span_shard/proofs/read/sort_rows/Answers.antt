@@ -5,7 +5,7 @@ use Rattle.std.proofs.lemmas.List.Sorted.{ranks_by}
 use Rattle.span_mutate.specs.declared.row.TableRow.{TableRow}
 use Rattle.span_mutate.specs.Directories.{rows_cmp}
 use Rattle.span_mutate.proofs.Orders.{rows_total}
-use Rattle.span_shard.proofs.read.sorted.Goals as goal
+use Rattle.span_shard.proofs.read.sort_rows.Goals as goal
 
 pub returns : goal.returns
 returns c =
