@@ -4,6 +4,7 @@ ghost use Rattle.std.specs.Fmt.{decimal};
 ghost use Rattle.span_value.specs.Refusals.{number_of};
 ghost use Rattle.span_script.specs.Lines.{word_number, number_line, word_line, opened_line, slot_range, slot_times, slot_counts, slot_line, rows_lines, reply_text, AreShards};
 ghost use Rattle.span_command.specs.Device.{risen};
+ghost use Rattle.span_script.specs.declared.answer.TheConstants.{MOST_KEPT};
 
 use itoa::Buffer;
 use span_command::device::Output;
@@ -54,7 +55,7 @@ impl Answers {
 
     /// Whether it is time to write them.
     pub fn are_many(&self) -> bool
-        ensures { result ≡ nat_le 65536 (length self.now) }
+        ensures { result ≡ nat_le MOST_KEPT (length self.now) }
     {
         self.bytes.len() >= MOST_KEPT
     }
