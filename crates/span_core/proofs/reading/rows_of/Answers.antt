@@ -8,7 +8,7 @@ use Rattle.span_shard.specs.declared.shard.Entry.{Entry}
 use Rattle.span_shard.specs.Reading.{entry_row}
 use Rattle.span_core.proofs.Entries.{AreReadOf, more_read, all_read, entry_is, shown_step, not_rows}
 use Rattle.span_core.proofs.reading.rows_of.Goals as goal
-use Rattle.span_core.proofs.reading.rows_of.Goals.{then-row-table+in_ok-declared+in_ok-push, else-row-table}
+use Rattle.span_core.proofs.reading.rows_of.Goals.{then-row-table+in_ok-row_in_declared_order+in_ok-push, else-row-table}
 
 abbrev nothing : Entry
 nothing = record { key = record { ref_ptr = (0, 0); now = [] }; row = record { ref_ptr = (0, 0); now = [] } }
@@ -34,8 +34,8 @@ loop-entry-preserved c =
     let P : List (List Value) → Type 0 = λ vs. AreReadOf schema n (map entry_row (take i entries) ++ entry_row e ∷ []) vs in
     subst (λ (es : List KeyRow). AreReadOf schema n es c.if-row-table.rows.items) (sym (shown_step entries i nothing c.loop-entry-test.true))
     (elim c.if-row-table.branch [
-      | then-row-table+in_ok-declared+in_ok-push w ↦
-          let items = ap (λ v. v.items) w.rows-is ∙ w.in_ok-push.ensures.items ∙ ap (λ v. rows ++ v ∷ []) w.in_ok-declared.ensures in
+      | then-row-table+in_ok-row_in_declared_order+in_ok-push w ↦
+          let items = ap (λ v. v.items) w.rows-is ∙ w.in_ok-push.ensures.items ∙ ap (λ v. rows ++ v ∷ []) w.in_ok-row_in_declared_order.ensures in
           subst P (sym items) (more_read schema n (map entry_row (take i entries)) rows (entry_row e) r true read.0 (entry_is schema e r read.1 read.2) (eq-eqb r.table n w.if-row-table.true) c.loop-entry.invariant)
       | else-row-table w ↦
           let items = ap (λ v. v.items) w.rows-is ∙ sym (append-nil rows) in
