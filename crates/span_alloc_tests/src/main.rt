@@ -34,7 +34,12 @@ fn run(rt: &(impl AllocGlobal + Print + Eprint)) -> Result<(), ProgramError> {
 }
 
 /// Takes a step, and once more where it answers `OutOfMemory`.
-fn take(rt: &impl Eprint, alloc: Global, core: &mut Core, number: usize) -> Result<Reply, ProgramError> {
+fn take(
+    rt: &impl Eprint,
+    alloc: Global,
+    core: &mut Core,
+    number: usize,
+) -> Result<Reply, ProgramError> {
     let reply = reply_at(alloc, core, number)?;
     match reply {
         Reply::Refused(Refusal::OutOfMemory) => {

@@ -44,7 +44,11 @@ impl Database {
     }
 
     /// The rows that answer a query.
-    pub fn ask(&mut self, alloc: Global, question: &Question<'_>) -> Result<Seq<Row>, QuestionError> {
+    pub fn ask(
+        &mut self,
+        alloc: Global,
+        question: &Question<'_>,
+    ) -> Result<Seq<Row>, QuestionError> {
         let step = Step::Open {
             text: Text::from_str(alloc, question.text)?,
             params: question.params(alloc)?,
@@ -62,7 +66,12 @@ impl Database {
     }
 
     /// Scans the leaves of an open query, and answers its rows.
-    fn read(&mut self, alloc: Global, query: u64, leaves: usize) -> Result<Seq<Row>, QuestionError> {
+    fn read(
+        &mut self,
+        alloc: Global,
+        query: u64,
+        leaves: usize,
+    ) -> Result<Seq<Row>, QuestionError> {
         for leaf in 0..leaves {
             self.scan(alloc, query, leaf)?;
         }

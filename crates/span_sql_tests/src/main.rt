@@ -51,7 +51,9 @@ fn answer_set(rt: &(impl AllocGlobal + Print + Files), name: &str) -> Result<(),
     for question in questions(alloc, texts.as_str())?.iter() {
         match database.ask(alloc, question) {
             Ok(rows) => write_rows(rt, rows.as_slice())?,
-            Err(QuestionError::Program(ProgramError::Refused(why))) => println!(rt; "refused {why}")?,
+            Err(QuestionError::Program(ProgramError::Refused(why))) => println!(rt;
+                "refused {why}"
+            )?,
             Err(error) => return Err(error),
         }
     }
@@ -59,7 +61,11 @@ fn answer_set(rt: &(impl AllocGlobal + Print + Files), name: &str) -> Result<(),
 }
 
 /// The content of one of the files of a set.
-fn read(rt: &(impl AllocGlobal + Files), name: &str, ending: &str) -> Result<String, QuestionError> {
+fn read(
+    rt: &(impl AllocGlobal + Files),
+    name: &str,
+    ending: &str,
+) -> Result<String, QuestionError> {
     let path = format!(in rt.alloc(); "{name}.{ending}")?;
     Ok(fs::read_to_string(rt, path)?)
 }
