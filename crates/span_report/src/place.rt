@@ -1,7 +1,7 @@
 //! Places in the input of a program.
-ghost use Rattle.std.specs.Prelude.{◌≡◌, ◌+◌, length, min};
+ghost use Rattle.std.specs.Prelude.{◌≡◌, ◌==◌, ◌+◌, length, min, position, reverse, take};
 ghost use Rattle.span_report.specs.Lines.{place_text};
-ghost use Rattle.span_report.specs.Places.{line_of, byte_in_line};
+ghost use Rattle.span_report.specs.Places.{line_after, byte_after, place_after};
 
 use std::fmt;
 
@@ -26,17 +26,35 @@ impl Place {
 
     /// The place with this many bytes of the file before it.
     pub fn in_lines(file: &[u8], offset: usize) -> Place
-        ensures { result ≡ Place.Line (line_of offset file.now) (byte_in_line offset file.now) }
+        ensures { result ≡ place_after (take (min offset (length file.now)) file.now) }
     {
         let before = &file[..offset.min(file.len())];
-        let lines = before.iter().filter(|byte| **byte == b'\n').count();
-        let bytes = before
-            .iter()
-            .rev()
-            .position(|byte| *byte == b'\n')
-            .unwrap_or(before.len());
-        Place::Line(lines + 1, bytes + 1)
+        Place::Line(line_after(before), byte_after(before))
     }
+}
+
+/// The line that follows these bytes.
+fn line_after(before: &[u8]) -> usize
+    ensures { result ≡ line_after before.now }
+{
+    before.iter().filter(|byte| **byte == b'\n').count() + 1
+}
+
+/// The byte, within its line, that follows these bytes.
+fn byte_after(before: &[u8]) -> usize
+    ensures { result ≡ byte_after before.now }
+{
+    match since_line_end(before) {
+        Some(bytes) => bytes + 1,
+        None => before.len() + 1,
+    }
+}
+
+/// How many bytes follow the last line end, where there is one.
+fn since_line_end(before: &[u8]) -> Option<usize>
+    ensures { result ≡ position (λ byte. byte == 10) (reverse before.now) }
+{
+    before.iter().rev().position(|byte| *byte == b'\n')
 }
 
 impl fmt::Display for Place {
