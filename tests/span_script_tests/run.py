@@ -6,8 +6,9 @@
     run.py --devices        and, for each script, each read and each write failing in turn
     run.py NAME ..          these scripts alone
 
-A test is NAME.script, NAME.expected, NAME.schema where it has a schema of its own (else default.schema), and NAME.status where its exit
-status is not 0. A file that ends in .gz is compressed.
+A test is NAME.script, NAME.expected, NAME.schema where it has a schema of its own (else default.schema), NAME.status where its exit
+status is not 0, and NAME.error where its schema is refused: what the line on standard error has after the name of the schema's file. A
+file that ends in .gz is compressed.
 
 With an allocation refused, the answers before the line that met it are those of NAME.expected, and that line is answered `refused 90`; or the
 program ends with status 1 after a beginning of these answers. With a device that fails it ends with status 1 after a beginning of them.
@@ -49,6 +50,7 @@ class Row:
         self.name = name
         self.expected = read(name + ".expected")
         self.status = int(read(name + ".status") or b"0")
+        self.error = read(name + ".error")
         self.schema = self.put(folder, "schema", read(name + ".schema") or read("default.schema"))
         self.script = self.put(folder, "script", read(name + ".script"))
 
@@ -78,12 +80,21 @@ def build():
 
 def check_row(row):
     """What is wrong with a row; None where nothing is."""
-    written, _, status = row.run()
+    written, errors, status = row.run()
     if status != row.status:
         return f"status {status}, wanted {row.status}"
+    if errors != wanted_errors(row):
+        return f"standard error has {errors!r}, wanted {wanted_errors(row)!r}"
     if written != row.expected:
         return first_difference(written, row.expected)
     return None
+
+
+def wanted_errors(row):
+    """What a row writes on standard error."""
+    if row.error is None:
+        return b""
+    return b"span_script_tests: " + row.schema.encode() + row.error
 
 
 def first_difference(written, wanted):

@@ -8,61 +8,22 @@ mod steps;
 use schema::users_and_albums;
 use span_core::database::Core;
 use span_core::{Refusal, Reply, Row, Value};
-use std::alloc::{AllocError, AllocFailed, Global};
-use std::io;
+use span_report::error::ProgramError;
+use std::alloc::Global;
 use std::process::ExitCode;
 use steps::reply_at;
-use thiserror::Error;
-
-/// Why the program ends early.
-#[derive(Debug, Drop, Error)]
-pub enum Fault {
-    #[error("out of memory")]
-    Memory,
-    #[error("{0}")]
-    Device(io::Error),
-    #[error("refused {0}")]
-    Refused(Refusal),
-}
-
-impl From<AllocError> for Fault {
-    fn from(_error: AllocError) -> Fault {
-        Fault::Memory
-    }
-}
-
-impl<T: Drop> From<AllocFailed<T>> for Fault {
-    fn from(_error: AllocFailed<T>) -> Fault {
-        Fault::Memory
-    }
-}
-
-impl From<io::Error> for Fault {
-    fn from(error: io::Error) -> Fault {
-        Fault::Device(error)
-    }
-}
-
-impl From<Refusal> for Fault {
-    fn from(why: Refusal) -> Fault {
-        match why {
-            Refusal::OutOfMemory => Fault::Memory,
-            _ => Fault::Refused(why),
-        }
-    }
-}
 
 fn main(rt: HostRuntime) -> ExitCode {
     match run(&rt) {
         Ok(()) => ExitCode::SUCCESS,
-        Err(fault) => {
-            let _ = eprintln!(rt; "span_alloc_tests: {fault}");
+        Err(error) => {
+            let _ = eprintln!(rt; "span_alloc_tests: {error}");
             ExitCode::from(1)
         }
     }
 }
 
-fn run(rt: &(impl AllocGlobal + Print + Eprint)) -> Result<(), Fault> {
+fn run(rt: &(impl AllocGlobal + Print + Eprint)) -> Result<(), ProgramError> {
     let alloc = rt.alloc();
     let mut core = Core::new(alloc, users_and_albums(alloc)?)?;
     for number in 0..steps::COUNT {
@@ -73,7 +34,12 @@ fn run(rt: &(impl AllocGlobal + Print + Eprint)) -> Result<(), Fault> {
 }
 
 /// Takes a step, and once more where it answers `OutOfMemory`.
-fn take(rt: &impl Eprint, alloc: Global, core: &mut Core, number: usize) -> Result<Reply, Fault> {
+fn take(
+    rt: &impl Eprint,
+    alloc: Global,
+    core: &mut Core,
+    number: usize,
+) -> Result<Reply, ProgramError> {
     let reply = reply_at(alloc, core, number)?;
     match reply {
         Reply::Refused(Refusal::OutOfMemory) => {
@@ -84,7 +50,7 @@ fn take(rt: &impl Eprint, alloc: Global, core: &mut Core, number: usize) -> Resu
     }
 }
 
-fn write_reply(rt: &impl Print, reply: &Reply) -> Result<(), Fault> {
+fn write_reply(rt: &impl Print, reply: &Reply) -> Result<(), ProgramError> {
     match reply {
         Reply::Rows { s, rows } => {
             println!(rt; "rows {} at {s}", rows.len())?;
@@ -98,7 +64,7 @@ fn write_reply(rt: &impl Print, reply: &Reply) -> Result<(), Fault> {
     Ok(())
 }
 
-fn write_row(rt: &impl Print, row: &Row) -> Result<(), Fault> {
+fn write_row(rt: &impl Print, row: &Row) -> Result<(), ProgramError> {
     for value in row.as_slice() {
         match value {
             Value::Int(n) => print!(rt; "{n} ")?,

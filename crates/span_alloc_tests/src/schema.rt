@@ -1,11 +1,11 @@
 //! The schema: users, and the albums of each, which are deleted with their user.
-use super::Fault;
 use span_core::{Column, ColumnType, KeyColumn, Parent, Schema, Seq, Table, Text};
+use span_report::error::ProgramError;
 use std::alloc::Global;
 
 /// `Users (uid INT64 NOT NULL, email STRING(MAX)) PRIMARY KEY (uid)` and `Albums (uid INT64 NOT NULL, aid INT64 NOT NULL,
 /// name STRING(MAX)) PRIMARY KEY (uid, aid), INTERLEAVE IN PARENT Users ON DELETE CASCADE`.
-pub fn users_and_albums(alloc: Global) -> Result<Schema, Fault> {
+pub fn users_and_albums(alloc: Global) -> Result<Schema, ProgramError> {
     let mut tables = Vec::new(alloc);
     tables.push(table(alloc, "Users", &["uid"], "email", None)?)?;
     let users = Parent {
@@ -23,7 +23,7 @@ fn table(
     keys: &[&str],
     text: &str,
     parent: Option<Parent>,
-) -> Result<Table, Fault> {
+) -> Result<Table, ProgramError> {
     let mut columns = Seq::new(alloc);
     let mut key = Seq::new(alloc);
     for name in keys {

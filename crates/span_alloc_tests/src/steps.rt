@@ -1,10 +1,10 @@
 //! The steps, by their number.
-use super::Fault;
 use span_core::database::Core;
 use span_core::{
     Bound, Interval, Mutation, MutationKind, NamedValue, Params, Reply, Seq, Step, Text,
     Transaction, Value, Verdict,
 };
+use span_report::error::ProgramError;
 use std::alloc::Global;
 
 /// How many steps there are.
@@ -64,7 +64,7 @@ const CHANGES: [Asked<'static>; 2] = [
 
 /// Takes the step of this number. A query reads the users between the two transactions, and one the albums
 /// after both; a trim leaves what is read from then on.
-pub fn reply_at(alloc: Global, core: &mut Core, number: usize) -> Result<Reply, Fault> {
+pub fn reply_at(alloc: Global, core: &mut Core, number: usize) -> Result<Reply, ProgramError> {
     match number {
         0 => begin(alloc, core, &ROWS),
         1 => Ok(prepare(alloc, core, 1)),
@@ -86,7 +86,7 @@ pub fn reply_at(alloc: Global, core: &mut Core, number: usize) -> Result<Reply, 
     }
 }
 
-fn begin(alloc: Global, core: &mut Core, rows: &[Asked<'_>]) -> Result<Reply, Fault> {
+fn begin(alloc: Global, core: &mut Core, rows: &[Asked<'_>]) -> Result<Reply, ProgramError> {
     let mut mutations = Vec::new(alloc);
     for row in rows {
         mutations.push(mutation(alloc, row)?)?;
@@ -101,7 +101,7 @@ fn begin(alloc: Global, core: &mut Core, rows: &[Asked<'_>]) -> Result<Reply, Fa
     ))
 }
 
-fn mutation(alloc: Global, row: &Asked<'_>) -> Result<Mutation, Fault> {
+fn mutation(alloc: Global, row: &Asked<'_>) -> Result<Mutation, ProgramError> {
     let mut key = Seq::new(alloc);
     for number in row.key {
         key.push(Value::Int(*number))?;
@@ -132,7 +132,7 @@ fn prepare(alloc: Global, core: &mut Core, txn: u64) -> Reply {
     )
 }
 
-fn decide(alloc: Global, core: &mut Core, txn: u64, earliest: u64) -> Result<Reply, Fault> {
+fn decide(alloc: Global, core: &mut Core, txn: u64, earliest: u64) -> Result<Reply, ProgramError> {
     let interval = interval_from(earliest)?;
     Ok(core.step(
         alloc,
@@ -145,7 +145,7 @@ fn decide(alloc: Global, core: &mut Core, txn: u64, earliest: u64) -> Result<Rep
     ))
 }
 
-fn apply(alloc: Global, core: &mut Core, txn: u64, earliest: u64) -> Result<Reply, Fault> {
+fn apply(alloc: Global, core: &mut Core, txn: u64, earliest: u64) -> Result<Reply, ProgramError> {
     let interval = interval_from(earliest)?;
     Ok(core.step(
         alloc,
@@ -158,7 +158,7 @@ fn apply(alloc: Global, core: &mut Core, txn: u64, earliest: u64) -> Result<Repl
     ))
 }
 
-fn open(alloc: Global, core: &mut Core, text: &str, bound: Bound) -> Result<Reply, Fault> {
+fn open(alloc: Global, core: &mut Core, text: &str, bound: Bound) -> Result<Reply, ProgramError> {
     let step = Step::Open {
         text: Text::from_str(alloc, text)?,
         params: Params::new(alloc),
@@ -168,7 +168,7 @@ fn open(alloc: Global, core: &mut Core, text: &str, bound: Bound) -> Result<Repl
     Ok(core.step(alloc, step))
 }
 
-fn scan(alloc: Global, core: &mut Core, query: u64) -> Result<Reply, Fault> {
+fn scan(alloc: Global, core: &mut Core, query: u64) -> Result<Reply, ProgramError> {
     let interval = interval_from(300)?;
     Ok(core.step(
         alloc,
@@ -181,12 +181,12 @@ fn scan(alloc: Global, core: &mut Core, query: u64) -> Result<Reply, Fault> {
     ))
 }
 
-fn advance(alloc: Global, core: &mut Core) -> Result<Reply, Fault> {
+fn advance(alloc: Global, core: &mut Core) -> Result<Reply, ProgramError> {
     let interval = interval_from(400)?;
     Ok(core.step(alloc, Step::Advance { slot: 0, interval }))
 }
 
 /// What the clock answers: ten timestamps.
-fn interval_from(earliest: u64) -> Result<Interval, Fault> {
+fn interval_from(earliest: u64) -> Result<Interval, ProgramError> {
     Ok(Interval::new(earliest, earliest.saturating_add(10))?)
 }

@@ -1,14 +1,16 @@
 //! For tests alone: `span_script_tests SCHEMA SCRIPT` reads both files and runs the script over a new database of the schema.
 //!
-//! It writes the answers, and ends with status 0. A refused schema writes `schema refused N`, status 3. A file that can't be read, a
+//! It writes the answers, and ends with status 0. A refused schema writes `schema refused N`, and a line on standard error with the place
+//! in the file, the number, the name and the message: status 3. A file that can't be read, a
 //! device that fails or out of memory: a line on standard error, status 1; a wrong command line: status 2.
 #![tactic(auto)]
 
-mod fault;
-
-use fault::Fault;
 use span_core::database::Core;
 use span_core::{Refusal, Schema};
+use span_report::error::ProgramError;
+use span_report::grammar::schema_place;
+use span_report::place::Place;
+use span_report::report::Report;
 use span_schematext::text::parse_schema;
 use span_script::Counted;
 use span_script::run::run as run_script;
@@ -23,15 +25,15 @@ const USAGE: &str = "usage: span_script_tests SCHEMA SCRIPT";
 fn main(rt: HostRuntime) -> ExitCode {
     match answer(&rt) {
         Ok(status) => ExitCode::from(status),
-        Err(fault) => {
-            let _ = eprintln!(rt; "span_script_tests: {fault}");
+        Err(error) => {
+            let _ = eprintln!(rt; "span_script_tests: {error}");
             ExitCode::from(1)
         }
     }
 }
 
 /// Does what the command line asks for, and answers the exit status.
-fn answer<R: AllocGlobal + Print + Eprint + Env + Files>(rt: &R) -> Result<u8, Fault> {
+fn answer<R: AllocGlobal + Print + Eprint + Env + Files>(rt: &R) -> Result<u8, ProgramError> {
     let mut words = env::args(rt)?;
     let _program = words.next();
     let (schema, script, rest) = (words.next(), words.next(), words.next());
@@ -45,15 +47,15 @@ fn answer<R: AllocGlobal + Print + Eprint + Env + Files>(rt: &R) -> Result<u8, F
 }
 
 /// Runs the script of a file over a new database of the schema of another.
-fn run_files<R: AllocGlobal + Print + Files>(
+fn run_files<R: AllocGlobal + Print + Eprint + Files>(
     rt: &R,
     schema: &str,
     script: &str,
-) -> Result<u8, Fault> {
+) -> Result<u8, ProgramError> {
     let alloc = rt.alloc();
-    let schema = fs::read(rt, schema)?;
+    let bytes = fs::read(rt, schema)?;
     let script = File::open(rt, script)?;
-    match read_schema(rt, schema.as_slice()) {
+    match read_schema(rt, bytes.as_slice()) {
         Ok(schema) => {
             let mut core = Core::new(alloc, schema)?;
             let mut input = Counted::new(script);
@@ -61,9 +63,10 @@ fn run_files<R: AllocGlobal + Print + Files>(
             run_script(alloc, &mut input, &mut output, &mut core)?;
             Ok(0)
         }
-        Err(Refusal::OutOfMemory) => Err(Fault::Memory),
+        Err(Refusal::OutOfMemory) => Err(ProgramError::Memory),
         Err(why) => {
             println!(rt; "schema refused {why}")?;
+            report(rt, schema, bytes.as_slice(), why);
             Ok(3)
         }
     }
@@ -75,4 +78,19 @@ fn read_schema(rt: &impl AllocGlobal, bytes: &[u8]) -> Result<Schema, Refusal> {
         Ok(text) => parse_schema(rt.alloc(), text),
         Err(_) => Err(Refusal::BadToken),
     }
+}
+
+/// Reports the refusal of a schema file on standard error.
+fn report(rt: &(impl AllocGlobal + Eprint), file: &str, bytes: &[u8], refusal: Refusal) {
+    let place = match str::from_utf8(bytes) {
+        Ok(text) => schema_place(rt.alloc(), text, refusal),
+        Err(error) => Place::in_lines(bytes, error.valid_up_to()),
+    };
+    let report = Report {
+        program: "span_script_tests",
+        input: file,
+        place,
+        refusal,
+    };
+    report.write(rt);
 }

@@ -1,5 +1,5 @@
 //! The database that the queries are asked of.
-use super::fault::Fault;
+use super::error::QuestionError;
 use super::question::Question;
 use super::row::insert_of;
 use span_core::database::Core;
@@ -31,7 +31,7 @@ pub struct Database {
 
 impl Database {
     /// A database with the rows of these lines, committed in one transaction.
-    pub fn load(alloc: Global, schema: Schema, lines: &str) -> Result<Database, Fault> {
+    pub fn load(alloc: Global, schema: Schema, lines: &str) -> Result<Database, QuestionError> {
         let mut core = Core::new(alloc, schema)?;
         let mut mutations = Vec::new(alloc);
         for line in lines.split_terminator('\n') {
@@ -44,7 +44,11 @@ impl Database {
     }
 
     /// The rows that answer a query.
-    pub fn ask(&mut self, alloc: Global, question: &Question<'_>) -> Result<Seq<Row>, Fault> {
+    pub fn ask(
+        &mut self,
+        alloc: Global,
+        question: &Question<'_>,
+    ) -> Result<Seq<Row>, QuestionError> {
         let step = Step::Open {
             text: Text::from_str(alloc, question.text)?,
             params: question.params(alloc)?,
@@ -62,7 +66,12 @@ impl Database {
     }
 
     /// Scans the leaves of an open query, and answers its rows.
-    fn read(&mut self, alloc: Global, query: u64, leaves: usize) -> Result<Seq<Row>, Fault> {
+    fn read(
+        &mut self,
+        alloc: Global,
+        query: u64,
+        leaves: usize,
+    ) -> Result<Seq<Row>, QuestionError> {
         for leaf in 0..leaves {
             self.scan(alloc, query, leaf)?;
         }
@@ -72,7 +81,7 @@ impl Database {
         }
     }
 
-    fn scan(&mut self, alloc: Global, query: u64, leaf: usize) -> Result<(), Fault> {
+    fn scan(&mut self, alloc: Global, query: u64, leaf: usize) -> Result<(), QuestionError> {
         let step = Step::Scan {
             query,
             leaf,
@@ -85,7 +94,7 @@ impl Database {
         }
     }
 
-    fn close(&mut self, alloc: Global, query: u64) -> Result<(), Fault> {
+    fn close(&mut self, alloc: Global, query: u64) -> Result<(), QuestionError> {
         match self.core.step(alloc, Step::Close { query }) {
             Reply::Closed => Ok(()),
             reply => Err(reply.into()),
@@ -94,7 +103,7 @@ impl Database {
 }
 
 /// Commits a transaction of these mutations.
-fn commit(alloc: Global, core: &mut Core, mutations: Vec<Mutation>) -> Result<(), Fault> {
+fn commit(alloc: Global, core: &mut Core, mutations: Vec<Mutation>) -> Result<(), QuestionError> {
     let txn = begin(alloc, core, mutations)?;
     let prepare = Step::Prepare {
         owner: OWNER,
@@ -128,7 +137,7 @@ fn commit(alloc: Global, core: &mut Core, mutations: Vec<Mutation>) -> Result<()
 }
 
 /// Begins a transaction of these mutations, and answers its number.
-fn begin(alloc: Global, core: &mut Core, mutations: Vec<Mutation>) -> Result<u64, Fault> {
+fn begin(alloc: Global, core: &mut Core, mutations: Vec<Mutation>) -> Result<u64, QuestionError> {
     let transaction = Transaction::new(alloc, core.schema(), mutations)?;
     let step = Step::Begin {
         owner: OWNER,
@@ -141,6 +150,6 @@ fn begin(alloc: Global, core: &mut Core, mutations: Vec<Mutation>) -> Result<u64
 }
 
 /// What the clock answers, from this timestamp on.
-fn clock(earliest: u64) -> Result<Interval, Fault> {
+fn clock(earliest: u64) -> Result<Interval, QuestionError> {
     Ok(Interval::new(earliest, earliest.saturating_add(UNSURE))?)
 }

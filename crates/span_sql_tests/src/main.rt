@@ -6,15 +6,16 @@
 #![tactic(auto)]
 
 mod database;
-mod fault;
+mod error;
 mod question;
 mod record;
 mod row;
 
 use database::Database;
-use fault::Fault;
+use error::QuestionError;
 use question::questions;
 use record::write_rows;
+use span_report::error::ProgramError;
 use span_schematext::text::parse_schema;
 use std::process::ExitCode;
 use std::rt::{Env, Files};
@@ -23,15 +24,15 @@ use std::{env, fs};
 fn main(rt: HostRuntime) -> ExitCode {
     match run(&rt) {
         Ok(()) => ExitCode::SUCCESS,
-        Err(fault) => {
-            let _ = eprintln!(rt; "span_sql_tests: {fault}");
+        Err(error) => {
+            let _ = eprintln!(rt; "span_sql_tests: {error}");
             ExitCode::from(1)
         }
     }
 }
 
 /// Answers the sets that the command line names.
-fn run(rt: &(impl AllocGlobal + Print + Env + Files)) -> Result<(), Fault> {
+fn run(rt: &(impl AllocGlobal + Print + Env + Files)) -> Result<(), QuestionError> {
     for name in env::args(rt)?.skip(1) {
         answer_set(rt, name.as_str())?;
     }
@@ -39,7 +40,7 @@ fn run(rt: &(impl AllocGlobal + Print + Env + Files)) -> Result<(), Fault> {
 }
 
 /// Writes the name of a set, and the answer to each of its queries.
-fn answer_set(rt: &(impl AllocGlobal + Print + Files), name: &str) -> Result<(), Fault> {
+fn answer_set(rt: &(impl AllocGlobal + Print + Files), name: &str) -> Result<(), QuestionError> {
     let alloc = rt.alloc();
     println!(rt; "{name}")?;
     let schema = read(rt, name, "schema")?;
@@ -50,15 +51,21 @@ fn answer_set(rt: &(impl AllocGlobal + Print + Files), name: &str) -> Result<(),
     for question in questions(alloc, texts.as_str())?.iter() {
         match database.ask(alloc, question) {
             Ok(rows) => write_rows(rt, rows.as_slice())?,
-            Err(Fault::Refused(why)) => println!(rt; "refused {why}")?,
-            Err(fault) => return Err(fault),
+            Err(QuestionError::Program(ProgramError::Refused(why))) => println!(rt;
+                "refused {why}"
+            )?,
+            Err(error) => return Err(error),
         }
     }
     Ok(())
 }
 
 /// The content of one of the files of a set.
-fn read(rt: &(impl AllocGlobal + Files), name: &str, ending: &str) -> Result<String, Fault> {
+fn read(
+    rt: &(impl AllocGlobal + Files),
+    name: &str,
+    ending: &str,
+) -> Result<String, QuestionError> {
     let path = format!(in rt.alloc(); "{name}.{ending}")?;
     Ok(fs::read_to_string(rt, path)?)
 }

@@ -6,7 +6,7 @@ ghost use Rattle.std.specs.Prelude.{◌≡◌, ◌≢◌, IfSome, MatchOption};
 ghost use Rattle.span_value.specs.declared.value.Kind.{Kind};
 ghost use Rattle.span_sql_tests.specs.Lines.{type_name, parameter_words};
 
-use super::fault::Fault;
+use super::error::QuestionError;
 use span_core::{Kind, Params, Refusal, Text};
 use span_value::cell::read_cell;
 use std::alloc::Global;
@@ -39,7 +39,7 @@ impl Question<'_> {
 }
 
 /// The questions of a file, in order.
-pub fn questions(alloc: Global, file: &str) -> Result<Vec<Question<'_>>, Fault> {
+pub fn questions(alloc: Global, file: &str) -> Result<Vec<Question<'_>>, QuestionError> {
     let mut questions = Vec::new(alloc);
     for block in file.split("\n\n") {
         if let Some(question) = question_of(alloc, block)? {
@@ -50,7 +50,7 @@ pub fn questions(alloc: Global, file: &str) -> Result<Vec<Question<'_>>, Fault> 
 }
 
 /// The question of a block, if there is a query in it.
-fn question_of(alloc: Global, block: &str) -> Result<Option<Question<'_>>, Fault> {
+fn question_of(alloc: Global, block: &str) -> Result<Option<Question<'_>>, QuestionError> {
     let mut parameters = Vec::new(alloc);
     for line in block.split('\n') {
         if line.is_empty() || line.starts_with('#') {
@@ -61,7 +61,7 @@ fn question_of(alloc: Global, block: &str) -> Result<Option<Question<'_>>, Fault
             return Ok(Some(Question { text, parameters }));
         };
         let Some(given) = parameter_of(words) else {
-            return Err(Fault::Line(String::from_str(alloc, line)?));
+            return Err(QuestionError::Line(String::from_str(alloc, line)?));
         };
         parameters.push(given)?;
     }

@@ -1,5 +1,5 @@
 //! Records: the fields of one line, and rows as lines.
-use super::fault::Fault;
+use super::error::QuestionError;
 use csv::{ReaderBuilder, StringRecord, Writer};
 use span_core::{Row, Value};
 use span_value::cell::cell_text;
@@ -22,7 +22,7 @@ pub fn fields_of(alloc: Global, text: &str) -> Result<StringRecord, csv::Error> 
 }
 
 /// Writes how many rows there are, and each as a record of its cells.
-pub fn write_rows(rt: &(impl AllocGlobal + Print), rows: &[Row]) -> Result<(), Fault> {
+pub fn write_rows(rt: &(impl AllocGlobal + Print), rows: &[Row]) -> Result<(), QuestionError> {
     println!(rt; "rows {}", rows.len())?;
     let mut records = Writer::from_writer(io::writer(rt));
     for row in rows {
@@ -38,7 +38,7 @@ fn write_cells<W: io::Write + Drop>(
     alloc: Global,
     records: &mut Writer<W>,
     row: &[Value],
-) -> Result<(), Fault> {
+) -> Result<(), QuestionError> {
     for value in row {
         let cell = cell_text(alloc, value)?;
         records.write_field(cell.as_bytes())?;

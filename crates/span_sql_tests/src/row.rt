@@ -2,7 +2,7 @@
 ghost use Rattle.std.specs.Prelude.{◌≡◌, IfSome};
 ghost use Rattle.span_sql_tests.specs.Lines.{insert_line};
 
-use super::fault::Fault;
+use super::error::QuestionError;
 use super::record::fields_of;
 use csv::StringRecord;
 use span_core::{Column, Mutation, MutationKind, NamedValue, Refusal, Schema, Seq, Text, Value};
@@ -11,17 +11,17 @@ use span_value::cell::read_cell;
 use std::alloc::Global;
 
 /// The insert of a line. The record has a field for each column of the table, in the order of their declaration.
-pub fn insert_of(alloc: Global, schema: &Schema, line: &str) -> Result<Mutation, Fault> {
+pub fn insert_of(alloc: Global, schema: &Schema, line: &str) -> Result<Mutation, QuestionError> {
     let Some((name, record)) = table_and_record(line) else {
-        return Err(Fault::Line(String::from_str(alloc, line)?));
+        return Err(QuestionError::Line(String::from_str(alloc, line)?));
     };
     let Some(table) = schema.find(name) else {
-        return Err(Fault::Refused(Refusal::NoTable));
+        return Err(Refusal::NoTable.into());
     };
     let columns = schema.table(table).columns.as_slice();
     let fields = fields_of(alloc, record)?;
     if fields.len() != columns.len() {
-        return Err(Fault::Refused(Refusal::WrongType));
+        return Err(Refusal::WrongType.into());
     }
     let mut key = Seq::new(alloc);
     for place in schema.key_places(table) {

@@ -1,12 +1,12 @@
 //! The program `spansql`.
 //!
-//! `spansql first TEXT` commits two rows in a new database, runs the query TEXT at the commit timestamp, and writes what was answered.
+//! `spansql first TEXT` commits two rows in a new database, runs the query TEXT at the commit timestamp, and writes what was answered;
+//! of a refusal also a line on standard error, with its place in the query, its number, name and message.
 #![tactic(auto)]
 
-mod fault;
 mod first;
 
-use fault::Fault;
+use span_report::error::ProgramError;
 use std::env;
 use std::process::ExitCode;
 use std::rt::Env;
@@ -17,15 +17,15 @@ const USAGE: &str = "usage: spansql first TEXT";
 fn main(rt: HostRuntime) -> ExitCode {
     match answer(&rt) {
         Ok(status) => ExitCode::from(status),
-        Err(fault) => {
-            let _ = eprintln!(rt; "spansql: {fault}");
+        Err(error) => {
+            let _ = eprintln!(rt; "spansql: {error}");
             ExitCode::from(1)
         }
     }
 }
 
 /// Does what the command line asks for, and answers the exit status.
-fn answer(rt: &(impl AllocGlobal + Print + Eprint + Env)) -> Result<u8, Fault> {
+fn answer(rt: &(impl AllocGlobal + Print + Eprint + Env)) -> Result<u8, ProgramError> {
     let mut words = env::args(rt)?;
     let _program = words.next();
     let (verb, text, rest) = (words.next(), words.next(), words.next());

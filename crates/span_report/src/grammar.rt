@@ -1,0 +1,44 @@
+//! Where the grammar refuses a text.
+ghost use Rattle.std.specs.Prelude.{◌≡◌, ◌⊎◌};
+ghost use Rattle.span_grammar.specs.Judged.{IsRefused};
+
+use super::place::Place;
+use span_grammar::judge::Goal;
+use span_parser::parse::parse_select;
+use span_schematext::text::parse_tables;
+use span_value::refusal::Refusal;
+use std::alloc::Global;
+
+/// Whether this is a refusal of the lexer or the grammar, which is at one place.
+fn has_place(why: Refusal) -> bool {
+    match why {
+        Refusal::TextTooLong | Refusal::BadToken | Refusal::Syntax | Refusal::TooDeep => true,
+        _ => false,
+    }
+}
+
+/// The byte at which a query is refused so. It is known only where the grammar does refuse the query so.
+pub fn query_place(alloc: Global, query: &str, why: Refusal) -> Place
+    ensures { (result ≡ Place.Unknown) ⊎ IsRefused Goal.Statement query.now why }
+{
+    if !has_place(why) {
+        return Place::Unknown;
+    }
+    match parse_select(alloc, query) {
+        Err(error) if error.refusal == why => Place::in_text(query, error.place),
+        _ => Place::Unknown,
+    }
+}
+
+/// The line and byte at which a schema text is refused so. They are known only where the grammar does refuse the text so.
+pub fn schema_place(alloc: Global, text: &str, why: Refusal) -> Place
+    ensures { (result ≡ Place.Unknown) ⊎ IsRefused Goal.Schema text.now why }
+{
+    if !has_place(why) {
+        return Place::Unknown;
+    }
+    match parse_tables(alloc, text) {
+        Err(error) if error.refusal == why => Place::in_lines(text.as_bytes(), error.place),
+        _ => Place::Unknown,
+    }
+}

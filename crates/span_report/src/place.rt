@@ -1,0 +1,72 @@
+//! Places in the input of a program.
+ghost use Rattle.std.specs.Prelude.{◌≡◌, ◌==◌, ◌+◌, length, min, position, reverse, take};
+ghost use Rattle.span_report.specs.Lines.{place_text};
+ghost use Rattle.span_report.specs.Places.{line_after, byte_after, place_after};
+
+use std::fmt;
+
+/// Where in an input the cause of a refusal is. Lines and bytes are counted from 1.
+#[derive(Clone, Copy, Debug, PartialEq, Eq)]
+pub enum Place {
+    /// Not at one place, or the place is not known.
+    Unknown,
+    /// A byte of a text.
+    Byte(usize),
+    /// A line of a file, and a byte of this line.
+    Line(usize, usize),
+}
+
+impl Place {
+    /// The place with this many bytes of the text before it.
+    pub fn in_text(text: &str, offset: usize) -> Place
+        ensures { result ≡ Place.Byte (min offset (length text.now) + 1) }
+    {
+        Place::Byte(offset.min(text.len()) + 1)
+    }
+
+    /// The place with this many bytes of the file before it.
+    pub fn in_lines(file: &[u8], offset: usize) -> Place
+        ensures { result ≡ place_after (take (min offset (length file.now)) file.now) }
+    {
+        let before = &file[..offset.min(file.len())];
+        Place::Line(line_after(before), byte_after(before))
+    }
+}
+
+/// The line that follows these bytes.
+fn line_after(before: &[u8]) -> usize
+    ensures { result ≡ line_after before.now }
+{
+    before.iter().filter(|byte| **byte == b'\n').count() + 1
+}
+
+/// The byte, within its line, that follows these bytes.
+fn byte_after(before: &[u8]) -> usize
+    ensures { result ≡ byte_after before.now }
+{
+    match since_line_end(before) {
+        Some(bytes) => bytes + 1,
+        None => before.len() + 1,
+    }
+}
+
+/// How many bytes follow the last line end, where there is one.
+fn since_line_end(before: &[u8]) -> Option<usize>
+    ensures { result ≡ position (λ byte. byte == 10) (reverse before.now) }
+{
+    before.iter().rev().position(|byte| *byte == b'\n')
+}
+
+impl fmt::Display for Place {
+    ghost use Rattle.std.specs.Prelude.{Some};
+
+    ghost output = { λ place. Some (place_text place) };
+
+    fn fmt<W: fmt::Write>(&self, f: &mut fmt::Formatter<W>) -> fmt::Result {
+        match *self {
+            Place::Unknown => Ok(()),
+            Place::Byte(byte) => write!(f, ", byte {byte}"),
+            Place::Line(line, byte) => write!(f, ", line {line}, byte {byte}"),
+        }
+    }
+}
