@@ -1,5 +1,7 @@
 //! The arena: its nodes, its chains and its free ones.
 ghost use Rattle.std.specs.Prelude.{◌≡◌, true, [], None, Some, IfOk, IfErr, OnErr, nat_lt};
+ghost use Rattle.span_arena.specs.Limits.{most_nodes};
+ghost use Rattle.span_arena.specs.declared.arena.TheConstants.{MOST_NODES};
 ghost use Rattle.std.specs.Option.{option_copied};
 ghost use Rattle.span_arena.specs.Content.{Content, versions, prepared_at, IsChain, AreAllChains, IsInOrder, is_unused, prepared_for, live, newest_upto, IsPrepared, linked, given_back, trimmed, cleared, kept_by, with_kept, without_chain, IsNewChain, IsReserved, IsRefusedNode};
 
@@ -14,6 +16,11 @@ use std::marker::Model;
 
 /// The most nodes in use that `Arena::new` allows.
 pub const MOST_NODES: usize = 16_777_216;
+
+/// The limit is the number that the definitions name.
+pub fn limit_is_stated()
+    ensures { MOST_NODES ≡ most_nodes }
+{}
 
 /// An arena. Contracts see the versions of each chain, what is prepared in each node, and how many nodes are free.
 #[derive(Debug, Drop)]

@@ -6,3 +6,4 @@ pub mod Reads
 pub mod Laws
 pub mod Roots
 pub mod Ranges
+pub mod Limits

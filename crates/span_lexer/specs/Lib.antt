@@ -6,3 +6,4 @@ pub mod Spellings
 pub mod Tokens
 pub mod LiteralValues
 pub mod LiteralPieces
+pub mod Limits

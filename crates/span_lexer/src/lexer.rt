@@ -2,6 +2,8 @@
 //!
 //! A text is read from left to right, each time one blank, one comment or one token.
 ghost use Rattle.std.specs.Prelude.{◌≡◌, ◌==◌, ◌⊎◌, ◌+◌, ◌<◌, ◌≤◌, ◌-◌, length, drop, List, IfSome, IfOk, OnOk, IfErr};
+ghost use Rattle.span_lexer.specs.Limits.{longest_text};
+ghost use Rattle.span_lexer.specs.declared.lexer.TheConstants.{LONGEST_TEXT};
 ghost use Rattle.std.specs.List.{prefix_len};
 ghost use Rattle.span_lexer.specs.Characters as character;
 ghost use Rattle.span_lexer.specs.Lexing as spec;
@@ -30,6 +32,11 @@ pub(crate) enum LexResult {
 
 /// The greatest length of a query or schema text in bytes.
 pub const LONGEST_TEXT: usize = 65536;
+
+/// The limit is the number that the definitions name.
+pub fn limit_is_stated()
+    ensures { LONGEST_TEXT ≡ longest_text }
+{}
 
 /// The greatest integer that a text may contain.
 pub const GREATEST_INTEGER: u64 = 9223372036854775807;

@@ -1,5 +1,7 @@
 //! Packing rows.
 ghost use Rattle.std.specs.Prelude.{◌≡◌, ◌⊎◌, ◌+◌, ◌<◌, ◌≤◌, ◌++◌, ◌∷◌, MatchOption, MatchResult, OnOk, length};
+ghost use Rattle.span_rowcode.specs.Limits.{longest_row};
+ghost use Rattle.span_rowcode.specs.declared.pack.TheConstants.{MOST_BYTES};
 ghost use Rattle.span_rowcode.specs.Rows.{bytes_code, cell_code, row_code};
 ghost use Rattle.std.specs.Int.{to_be_bytes, w64};
 
@@ -9,6 +11,11 @@ use std::alloc::{AllocError, Global};
 
 /// The most bytes of a packed row.
 pub const MOST_BYTES: usize = 1_048_576;
+
+/// The limit is the number that the definitions name.
+pub fn limit_is_stated()
+    ensures { MOST_BYTES ≡ longest_row }
+{}
 
 /// The packed row of these cells: the values of a row's columns outside the primary key, in the order of their declaration.
 ///

@@ -5,3 +5,4 @@ pub mod Layouts
 pub mod Schemas
 pub mod Numbers
 pub mod Fitting
+pub mod Limits
