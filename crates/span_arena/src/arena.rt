@@ -53,7 +53,7 @@ impl Model for Arena {
 impl Arena {
     /// An empty arena of at most 2^24 nodes in use. It takes no memory.
     pub fn new(alloc: Global) -> Arena
-        ensures { result ≡ record { chains = []; prepared = []; free = 0; most = MOST_NODES } }
+        ensures { result ≡ record { chains = []; prepared = []; free = 0; most = most_nodes } }
     {
         Arena::with_most(alloc, MOST_NODES)
     }

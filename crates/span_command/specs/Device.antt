@@ -2,7 +2,7 @@
 use Rattle.std.specs.Prelude.{ℕ, ◌+◌, ◌-◌, ◌^◌, min, List, length, Option, Some, None, nat_le, if◌then◌else◌}
 use Rattle.std.specs.Option.{option_and_then}
 use Rattle.span_command.specs.declared.device.Counted.{Counted}
-use Rattle.span_command.specs.declared.device.TheConstants.{MOST_BYTES}
+use Rattle.span_command.specs.Limits.{longest_input}
 
 -- the count after one more failure; it stays at its greatest value
 abbrev pub risen : ℕ → ℕ
@@ -15,4 +15,4 @@ failures_of c = c.failures
 -- The bytes that an input still gives after `count` bytes: what its device is known to have left, where that does not go beyond what an
 -- input gives.
 abbrev pub remaining_input : ℕ → Option (List ℕ) → Option (List ℕ)
-remaining_input count known = option_and_then (λ bytes. if nat_le (count + length bytes) MOST_BYTES then Some bytes else None) known
+remaining_input count known = option_and_then (λ bytes. if nat_le (count + length bytes) longest_input then Some bytes else None) known

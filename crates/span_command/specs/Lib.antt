@@ -6,3 +6,4 @@ pub mod Texts
 pub mod Unread
 pub mod Words
 pub mod Record
+pub mod Limits

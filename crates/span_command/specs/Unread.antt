@@ -3,16 +3,16 @@ use Rattle.std.specs.Prelude.{◌≡◌, ◌⊎◌, ℕ, ◌<◌, ◌≤◌, Lis
 use Rattle.span_command.specs.declared.line.Line.{Line}
 use Rattle.span_command.specs.declared.line.Line.TheVariants.{Text, Unreadable}
 use Rattle.span_command.specs.declared.line.Lines.{Lines}
-use Rattle.span_command.specs.declared.line.TheConstants.{LONGEST_LINE}
+use Rattle.span_command.specs.Limits.{longest_line}
 use Rattle.span_command.specs.Texts.{HasNoLf, NextLine}
 
 -- the bytes are more than a line may have
 abbrev pub IsTooLong : List ℕ → Type 0
-IsTooLong bytes = LONGEST_LINE < length bytes
+IsTooLong bytes = longest_line < length bytes
 
 -- what the bytes of a line read as: their text, or Unreadable where they are too long or not in UTF-8
 abbrev pub ReadsAs : List ℕ → Line → Type 0
-ReadsAs bytes (Text text) = (length bytes ≤ LONGEST_LINE) × IsUtf8 bytes × (text.now ≡ bytes)
+ReadsAs bytes (Text text) = (length bytes ≤ longest_line) × IsUtf8 bytes × (text.now ≡ bytes)
 ReadsAs bytes Unreadable = IsTooLong bytes ⊎ ¬ IsUtf8 bytes
 
 -- the bytes that are held: those that were read and not taken

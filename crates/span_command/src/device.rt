@@ -1,6 +1,8 @@
 //! Where scripts come from and answers go: devices that count their failures.
 ghost use Rattle.std.specs.Prelude.{◌≡◌, ◌≤◌, ◌<◌, ℕ, List, Option, None, length, take, IfOk, IfErr, IfSome, IfNone, OnOk};
 ghost use Rattle.std.specs.Io.KnownBytes.{Consumes, IsAtEnd, Keeps, ReadConsumes};
+ghost use Rattle.span_command.specs.Limits.{longest_input};
+ghost use Rattle.span_command.specs.declared.device.TheConstants.{MOST_BYTES};
 ghost use Rattle.span_command.specs.Device.{risen, failures_of, remaining_input};
 
 use span_value::refusal::Refusal;
@@ -9,6 +11,11 @@ use std::io::{ErrorKind, Read, Write};
 
 /// An input gives at most this many bytes; a read beyond them is a failure.
 pub const MOST_BYTES: u64 = 1 << 63;
+
+/// The limit is the number that the definitions name.
+pub fn limit_is_stated()
+    ensures { MOST_BYTES ≡ longest_input }
+{}
 
 /// What a script is read from.
 pub trait Input {

@@ -1,11 +1,18 @@
 //! The lines of a script, from an input, with one buffer. `reader` has what is done with them.
-ghost use Rattle.std.specs.Prelude.{◌≤◌, slice_range, vec_len};
+ghost use Rattle.std.specs.Prelude.{◌≡◌, ◌≤◌, slice_range, vec_len};
+ghost use Rattle.span_command.specs.Limits.{longest_line};
+ghost use Rattle.span_command.specs.declared.line.TheConstants.{LONGEST_LINE};
 ghost use Rattle.span_command.specs.Texts.{HasNoLf};
 
 mod reader;
 
 /// How many bytes a line may have, without the LF that ends it.
 pub const LONGEST_LINE: usize = 2_097_152;
+
+/// The limit is the number that the definitions name.
+pub fn limit_is_stated()
+    ensures { LONGEST_LINE ≡ longest_line }
+{}
 
 /// A line, without the LF that ends it.
 #[derive(Clone, Copy, Debug, PartialEq, Eq)]

@@ -2,7 +2,7 @@
 use Rattle.std.specs.Prelude.{◌≡◌, ◌⊎◌, ℕ, ◌<◌, ◌≤◌, length, List, Result, Err}
 use Rattle.span_value.specs.declared.refusal.Refusal.{Refusal}
 use Rattle.span_value.specs.declared.refusal.Refusal.TheVariants as refusal
-use Rattle.span_lexer.specs.declared.lexer.TheConstants.{LONGEST_TEXT}
+use Rattle.span_lexer.specs.Limits.{longest_text}
 use Rattle.span_lexer.specs.Tokens.{Item, AreItems, text_of, tokens_of}
 use Rattle.span_grammar.specs.declared.class.Lexeme.{Lexeme}
 use Rattle.span_grammar.specs.declared.judge.Goal.{Goal}
@@ -16,7 +16,7 @@ use Rattle.span_grammar.specs.Classes.{lexemes_of}
 pub record HasItems (text : List ℕ) (items : List Item) : Type 0 where
   pub are : AreItems items
   pub spells : text ≡ text_of items
-  pub short : length text ≤ LONGEST_TEXT
+  pub short : length text ≤ longest_text
 
 -- the tokens among them with their classes
 abbrev pub lexemes_in : List ℕ → List Item → List Lexeme
@@ -39,8 +39,8 @@ IsTokenRefusal goal tokens other = ⊥
 -- what a refusal implies of a text: it is too long; else it does not consist of items; else no tree goes on at a token, or a token is an
 -- opening that is too deep, whichever comes first; or memory ran out
 abbrev pub IsRefused : Goal → List ℕ → Refusal → Type 0
-IsRefused goal text refusal.TextTooLong = LONGEST_TEXT < length text
-IsRefused goal text refusal.BadToken = (length text ≤ LONGEST_TEXT) × ((items : List Item) → AreItems items → text ≡ text_of items → ⊥)
+IsRefused goal text refusal.TextTooLong = longest_text < length text
+IsRefused goal text refusal.BadToken = (length text ≤ longest_text) × ((items : List Item) → AreItems items → text ≡ text_of items → ⊥)
 IsRefused goal text refusal.Syntax = (items : List Item) × HasItems text items × IsWrong inside (goal_rule goal) (lexemes_in text items)
 IsRefused goal text refusal.TooDeep = (items : List Item) × HasItems text items × IsTooDeep inside (goal_rule goal) (lexemes_in text items)
 IsRefused goal text refusal.OutOfMemory = Unit {0}

@@ -10,7 +10,7 @@ use Rattle.span_schema.specs.declared.table.Table.{Table}
 use Rattle.span_schema.specs.Lineages.{parent_at}
 use Rattle.span_schema.specs.Numbers.{IsTable, key_at, key_columns, own_key_columns, columns_above, path_of}
 use Rattle.span_keycode.specs.Coding.{AreFit, are_of_kinds, tuple_code, tuple_cmp}
-use Rattle.span_keycode.specs.declared.key.TheConstants.{MOST_BYTES}
+use Rattle.span_keycode.specs.Limits.{longest_key}
 
 -- a table's number, and the values of the key columns that are its own
 pub record Level : Type 0 where
@@ -49,11 +49,11 @@ IsKey tables n vs = IsTable tables n × AreFit (key_columns tables n) vs
 
 -- the same, where its coding is not too long
 abbrev pub IsCodedKey : List Table → ℕ → List Value → Type 0
-IsCodedKey tables n vs = IsKey tables n vs × (length (key_code tables n vs) ≤ MOST_BYTES)
+IsCodedKey tables n vs = IsKey tables n vs × (length (key_code tables n vs) ≤ longest_key)
 
 -- why a key has no coding: a value that fits no column, and then its length
 abbrev pub encode_cause : List Table → ℕ → List Value → Option Refusal
-encode_cause tables n vs = (if are_of_kinds (key_columns tables n) vs then (if nat_lt MOST_BYTES (length (key_code tables n vs)) then Some KeyTooLong else None) else Some WrongType)
+encode_cause tables n vs = (if are_of_kinds (key_columns tables n) vs then (if nat_lt longest_key (length (key_code tables n vs)) then Some KeyTooLong else None) else Some WrongType)
 
 abbrev pub level_cmp : List Table → Level → Level → Ordering
 level_cmp tables l m = ordering_then (nat_cmp l.table m.table) (tuple_cmp (own_key_columns tables l.table) l.values m.values)

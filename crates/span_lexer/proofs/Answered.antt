@@ -3,7 +3,7 @@ use Rattle.std.proofs.Common.{◌≡◌, ◌⊎◌, inl, inr, ℕ, ◌≤◌, le
 use Rattle.span_value.specs.declared.refusal.Refusal.{Refusal}
 use Rattle.span_value.specs.declared.refusal.Refusal.TheVariants as refusal
 use Rattle.span_lexer.specs.declared.token.Token.{Token}
-use Rattle.span_lexer.specs.declared.lexer.TheConstants.{LONGEST_TEXT}
+use Rattle.span_lexer.specs.Limits.{longest_text}
 use Rattle.span_lexer.specs.Lexing.{lex_from}
 use Rattle.span_lexer.specs.Readings.{IsReadError}
 use Rattle.span_lexer.specs.Tokens.{Item, AreItems, text_of, tokens_of}
@@ -18,7 +18,7 @@ read_is text found e is are same = some_is found (tokens_of 0 is) (sym e ∙ ap 
 pub read_is_not : (text : List ℕ) → lex_from 0 0 text ≡ None → (is : List Item) → AreItems is → text ≡ text_of is → ⊥
 read_is_not text e is are same = let t : None ≡ Some (tokens_of 0 is) = sym e ∙ ap (lex_from 0 0) same ∙ items_read 0 is are in cc
 
-pub misread_is : (text : List ℕ) (r : Refusal) → length text ≤ LONGEST_TEXT → (r ≡ refusal.OutOfMemory) ⊎ ((r ≡ refusal.BadToken) × (lex_from 0 0 text ≡ None)) → IsReadError text r
+pub misread_is : (text : List ℕ) (r : Refusal) → length text ≤ longest_text → (r ≡ refusal.OutOfMemory) ⊎ ((r ≡ refusal.BadToken) × (lex_from 0 0 text ≡ None)) → IsReadError text r
 misread_is text r l (inl e) = subst (IsReadError text) (sym e) tt
 misread_is text r l (inr h) = subst (IsReadError text) (sym h.0) (l, read_is_not text h.1)
 

@@ -5,7 +5,6 @@ use Rattle.span_lexer.specs.declared.token.Word.{Word}
 use Rattle.span_lexer.specs.declared.token.Word.TheVariants as w
 use Rattle.span_lexer.specs.declared.token.Sign.{Sign}
 use Rattle.span_lexer.specs.declared.token.Sign.TheVariants as s
-use Rattle.span_lexer.specs.declared.token.TheConstants.{WORDS}
 
 abbrev pub word : Word → List ℕ
 word w.All = codes "all"
@@ -68,6 +67,14 @@ unfoldable pub matching_word : List Word → List ℕ → Option Word
 matching_word [] bytes = None
 matching_word (v ∷ vs) bytes = if bytes_eq (str_to_ascii_lowercase bytes) (word v) then Some v else matching_word vs bytes
 
+-- the reserved words
+abbrev pub reserved_words : List Word
+reserved_words =
+    w.All ∷ w.And ∷ w.As ∷ w.Asc ∷ w.Between ∷ w.By ∷ w.Case ∷ w.Create ∷ w.Desc ∷
+    w.Distinct ∷ w.Else ∷ w.End ∷ w.False ∷ w.From ∷ w.Group ∷ w.Having ∷ w.If ∷ w.In ∷
+    w.Inner ∷ w.Is ∷ w.Join ∷ w.Left ∷ w.Like ∷ w.Limit ∷ w.Not ∷ w.Null ∷ w.On ∷
+    w.Or ∷ w.Order ∷ w.Outer ∷ w.Select ∷ w.Then ∷ w.True ∷ w.Union ∷ w.When ∷ w.Where ∷ []
+
 -- the reserved word that the bytes spell in any case
 abbrev pub reserved_word : List ℕ → Option Word
-reserved_word bytes = matching_word WORDS bytes
+reserved_word bytes = matching_word reserved_words bytes

@@ -341,12 +341,12 @@ fn lexemes(alloc: Global, bytes: &[u8]) -> Result<Vec<Token>, ReadError>
 pub fn tokens(alloc: Global, text: &str) -> Result<Seq<Token>, ReadError>
     // The result is the tokens of the items that the text consists of.
     ensures read { IfOk result (λ found. (is : List Item) × AreItems is × (text.now ≡ text_of is) × (found ≡ tokens_of 0 is)) }
-    ensures short { OnOk result (length text.now ≤ LONGEST_TEXT) }
+    ensures short { OnOk result (length text.now ≤ longest_text) }
     // A text that consists of items, and is not too long, is read.
     ensures read_all { (is : List Item)
         → AreItems is
         → text.now ≡ text_of is
-        → length text.now ≤ LONGEST_TEXT
+        → length text.now ≤ longest_text
         → ReadsOrOutOfMemory (tokens_of 0 is) result }
     // The refusal distinguishes a text that is too long from one that does not consist of items.
     ensures refused { IfErr result (λ e. IsReadError text.now e.refusal) }

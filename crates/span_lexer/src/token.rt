@@ -1,6 +1,7 @@
 //! Tokens, and what they are spelled by.
 ghost use Rattle.std.specs.Prelude.{◌≡◌};
 ghost use Rattle.span_lexer.specs.Spellings as spelled;
+ghost use Rattle.span_lexer.specs.declared.token.TheConstants.{WORDS};
 
 /// A reserved word. None of them is ever a name.
 #[derive(Clone, Copy, Debug, PartialEq, Eq)]
@@ -82,6 +83,11 @@ pub const WORDS: [Word; 36] = [
     Word::When,
     Word::Where,
 ];
+
+/// The reserved words are those that the definitions list.
+pub fn words_are_stated()
+    ensures { WORDS ≡ spelled.reserved_words }
+{}
 
 /// A sign.
 #[derive(Clone, Copy, Debug, PartialEq, Eq)]

@@ -8,7 +8,7 @@ use Rattle.span_value.specs.declared.refusal.Refusal.{Refusal}
 use Rattle.span_value.specs.declared.refusal.Refusal.TheVariants.{WrongType, NullNotAllowed, ValueTooLong, KeyTooLong}
 use Rattle.span_schema.specs.declared.table.Table.{Table}
 use Rattle.span_keycode.specs.Keys.{key_code}
-use Rattle.span_keycode.specs.declared.key.TheConstants.{MOST_BYTES}
+use Rattle.span_keycode.specs.Limits.{longest_key}
 use Rattle.span_mutate.specs.Columns.{key_breaks, is_null_refused, is_too_long}
 use Rattle.span_value.specs.Results.{first_cause, and_then}
 use Rattle.span_schema.specs.Tables.{table_place}
@@ -38,7 +38,7 @@ right_kinds tables n t key e = not_not (are_of_kinds (key_columns tables n) key)
     (first_none (not (are_of_kinds (key_columns tables n) key)) WrongType (
     (key_breaks is_null_refused t.columns t.key key, NullNotAllowed)
     ∷ (key_breaks is_too_long t.columns t.key key, ValueTooLong)
-    ∷ (nat_lt MOST_BYTES (length (key_code tables n key)), KeyTooLong)
+    ∷ (nat_lt longest_key (length (key_code tables n key)), KeyTooLong)
     ∷ []
     ) e)
 

@@ -12,7 +12,7 @@ use Rattle.span_schema.specs.Lineages.{MeetsRules}
 use Rattle.span_value.specs.Results.{first_cause}
 use Rattle.span_schema.specs.Numbers.{IsTable, table_at, parent_of, key_columns, root_of}
 use Rattle.span_rowcode.specs.Rows.{row_code}
-use Rattle.span_rowcode.specs.declared.pack.TheConstants.{MOST_BYTES}
+use Rattle.span_rowcode.specs.Limits.{longest_row}
 use Rattle.span_mutate.specs.declared.mutation.CheckedMutation.{CheckedMutation}
 use Rattle.span_mutate.specs.declared.row.TableRow.{TableRow}
 use Rattle.span_mutate.specs.Columns.{is_delete}
@@ -79,7 +79,7 @@ cause_by m before orphan held = first_cause (
     ∷ (is_update m.kind && is_none before, Missing)
     ∷ (not (is_delete m.kind) && orphan, ParentMissing)
     ∷ (is_delete m.kind && is_some before && held, HasChildren)
-    ∷ (not (is_delete m.kind) && nat_lt MOST_BYTES (length (row_code (cells_after m before))), RowTooLong)
+    ∷ (not (is_delete m.kind) && nat_lt longest_row (length (row_code (cells_after m before))), RowTooLong)
     ∷ []
     )
 

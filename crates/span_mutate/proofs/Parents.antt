@@ -2,7 +2,7 @@
 use Rattle.std.proofs.Common.{◌≡◌, ℕ, zero, suc, ◌+◌, ◌-◌, ◌<◌, ◌≤◌, Bool, true, false, ◌==◌, ◌||◌, ◌&&◌, not, cond, List, [], ◌∷◌, Option, Some, None, is_some, is_none, Result, Ok, Err, length, take, refl, sym, ap, subst, ◌∙◌, arith}
 use Rattle.std.specs.Prelude.{nat_lt}
 use Rattle.span_rowcode.specs.Rows.{row_code}
-use Rattle.span_rowcode.specs.declared.pack.TheConstants.{MOST_BYTES}
+use Rattle.span_rowcode.specs.Limits.{longest_row}
 use Rattle.std.specs.List.{filter, find, list_any, range_with_len, AllByRecursion}
 use Rattle.std.specs.declared.cmp.Ordering.{Ordering}
 use Rattle.std.specs.declared.cmp.Ordering.TheVariants.{Less, Equal, Greater}
@@ -221,7 +221,7 @@ step_parents tables m db next is has e =
     let parts = unless_none (first_cause (causes tables db m before)) (changed tables db m before) next e in
     let orphan = third (is_insert m.kind && is_some before) (is_update m.kind && is_none before) (not (is_delete m.kind) && lacks_parent tables (parent_of tables m.table) m.key db) Exists Missing ParentMissing (
     (is_delete m.kind && is_some before && is_delete_blocked tables m.table m.key db, HasChildren)
-    ∷ (not (is_delete m.kind) && nat_lt MOST_BYTES (length (row_code (cells_after m before))), RowTooLong)
+    ∷ (not (is_delete m.kind) && nat_lt longest_row (length (row_code (cells_after m before))), RowTooLong)
     ∷ []
     ) parts.0 in
     subst (HasParents tables) parts.1

@@ -13,7 +13,7 @@ use Rattle.span_schema.specs.Fitting.{Fits}
 use Rattle.span_value.specs.Results.{first_cause, and_then}
 use Rattle.span_schema.specs.Numbers.{key_columns, parent_of, other_kinds}
 use Rattle.span_rowcode.specs.Rows.{AreCells, row_code}
-use Rattle.span_rowcode.specs.declared.pack.TheConstants.{MOST_BYTES}
+use Rattle.span_rowcode.specs.Limits.{longest_row}
 use Rattle.span_mutate.specs.declared.mutation.CheckedMutation.{CheckedMutation}
 use Rattle.span_mutate.specs.declared.row.TableRow.{TableRow}
 use Rattle.span_mutate.specs.Columns.{is_delete}
@@ -68,37 +68,37 @@ rest_none false w rest e = e
 
 -- a row that is put is not too long
 short_enough : (tables : List Table) (db : List TableRow) (m : CheckedMutation) (before : Option TableRow) → is_delete m.kind ≡ false → first_cause (causes tables db m before) ≡ None
-    → length (row_code (cells_after m before)) ≤ MOST_BYTES
+    → length (row_code (cells_after m before)) ≤ longest_row
 short_enough tables db m before kind e =
     let e1 = rest_none (is_insert m.kind && is_some before) Exists (
     (is_update m.kind && is_none before, Missing)
     ∷ (not (is_delete m.kind) && lacks_parent tables (parent_of tables m.table) m.key db, ParentMissing)
     ∷ (is_delete m.kind && is_some before && is_delete_blocked tables m.table m.key db, HasChildren)
-    ∷ (not (is_delete m.kind) && nat_lt MOST_BYTES (length (row_code (cells_after m before))), RowTooLong)
+    ∷ (not (is_delete m.kind) && nat_lt longest_row (length (row_code (cells_after m before))), RowTooLong)
     ∷ []
     ) e in
     let e2 = rest_none (is_update m.kind && is_none before) Missing (
     (not (is_delete m.kind) && lacks_parent tables (parent_of tables m.table) m.key db, ParentMissing)
     ∷ (is_delete m.kind && is_some before && is_delete_blocked tables m.table m.key db, HasChildren)
-    ∷ (not (is_delete m.kind) && nat_lt MOST_BYTES (length (row_code (cells_after m before))), RowTooLong)
+    ∷ (not (is_delete m.kind) && nat_lt longest_row (length (row_code (cells_after m before))), RowTooLong)
     ∷ []
     ) e1 in
     let e3 = rest_none (not (is_delete m.kind) && lacks_parent tables (parent_of tables m.table) m.key db) ParentMissing (
     (is_delete m.kind && is_some before && is_delete_blocked tables m.table m.key db, HasChildren)
-    ∷ (not (is_delete m.kind) && nat_lt MOST_BYTES (length (row_code (cells_after m before))), RowTooLong)
+    ∷ (not (is_delete m.kind) && nat_lt longest_row (length (row_code (cells_after m before))), RowTooLong)
     ∷ []
     ) e2 in
     let e4 = rest_none (is_delete m.kind && is_some before && is_delete_blocked tables m.table m.key db) HasChildren (
-    (not (is_delete m.kind) && nat_lt MOST_BYTES (length (row_code (cells_after m before))), RowTooLong)
+    (not (is_delete m.kind) && nat_lt longest_row (length (row_code (cells_after m before))), RowTooLong)
     ∷ []
     ) e3 in
-    let e5 : (not (is_delete m.kind) && nat_lt MOST_BYTES (length (row_code (cells_after m before)))) ≡ false =
-    first_none (not (is_delete m.kind) && nat_lt MOST_BYTES (length (row_code (cells_after m before)))) RowTooLong [] e4 in
-    let f : nat_lt MOST_BYTES (length (row_code (cells_after m before))) ≡ false =
-    sym (ap (λ (b : Bool). not b && nat_lt MOST_BYTES (length (row_code (cells_after m before)))) kind) ∙ e5 in
+    let e5 : (not (is_delete m.kind) && nat_lt longest_row (length (row_code (cells_after m before)))) ≡ false =
+    first_none (not (is_delete m.kind) && nat_lt longest_row (length (row_code (cells_after m before)))) RowTooLong [] e4 in
+    let f : nat_lt longest_row (length (row_code (cells_after m before))) ≡ false =
+    sym (ap (λ (b : Bool). not b && nat_lt longest_row (length (row_code (cells_after m before)))) kind) ∙ e5 in
     below (length (row_code (cells_after m before))) f
   where
-    below : (n : ℕ) → nat_lt MOST_BYTES n ≡ false → n ≤ MOST_BYTES
+    below : (n : ℕ) → nat_lt longest_row n ≡ false → n ≤ longest_row
     below n f = grind (arith, nat_tests)
 
 step_typed : (tables : List Table) (db : List TableRow) (m : CheckedMutation) (next : List TableRow) → AreTyped tables db → IsTypedMutation tables m → apply_one tables db m ≡ Ok next → AreTyped tables next

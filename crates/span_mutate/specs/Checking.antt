@@ -9,7 +9,7 @@ use Rattle.span_schema.specs.declared.table.Table.{Table}
 use Rattle.span_schema.specs.Numbers.{number_named, table_at, key_columns}
 use Rattle.span_keycode.specs.Coding.{are_of_kinds}
 use Rattle.span_keycode.specs.Keys.{key_code}
-use Rattle.span_keycode.specs.declared.key.TheConstants.{MOST_BYTES}
+use Rattle.span_keycode.specs.Limits.{longest_key}
 use Rattle.span_mutate.specs.declared.mutation.NamedValue.{NamedValue}
 use Rattle.span_mutate.specs.declared.mutation.MutationKind.{MutationKind}
 use Rattle.span_mutate.specs.declared.mutation.Mutation.{Mutation}
@@ -27,7 +27,7 @@ key_causes tables n t key =
     (not (are_of_kinds (key_columns tables n) key), WrongType)
     ∷ (key_breaks is_null_refused t.columns t.key key, NullNotAllowed)
     ∷ (key_breaks is_too_long t.columns t.key key, ValueTooLong)
-    ∷ (nat_lt MOST_BYTES (length (key_code tables n key)), KeyTooLong)
+    ∷ (nat_lt longest_key (length (key_code tables n key)), KeyTooLong)
     ∷ []
 
 -- a cell, given those before it: it names a column outside the key that none before it names, and a Delete has none; then its value

@@ -13,7 +13,7 @@ use Rattle.span_schema.specs.declared.table.Parent.{Parent}
 use Rattle.span_value.specs.Results.{first_cause, and_then}
 use Rattle.span_schema.specs.Numbers.{table_at, key_columns, parent_of, path_of}
 use Rattle.span_rowcode.specs.Rows.{row_code}
-use Rattle.span_rowcode.specs.declared.pack.TheConstants.{MOST_BYTES}
+use Rattle.span_rowcode.specs.Limits.{longest_row}
 use Rattle.span_mutate.specs.declared.mutation.MutationKind.{MutationKind}
 use Rattle.span_mutate.specs.declared.mutation.MutationKind.TheVariants.{Insert, Update}
 use Rattle.span_mutate.specs.declared.mutation.CheckedMutation.{CheckedMutation}
@@ -97,7 +97,7 @@ causes tables db m before =
     ∷ (is_update m.kind && is_none before, Missing)
     ∷ (not (is_delete m.kind) && lacks_parent tables (parent_of tables m.table) m.key db, ParentMissing)
     ∷ (is_delete m.kind && is_some before && is_delete_blocked tables m.table m.key db, HasChildren)
-    ∷ (not (is_delete m.kind) && nat_lt MOST_BYTES (length (row_code (cells_after m before))), RowTooLong)
+    ∷ (not (is_delete m.kind) && nat_lt longest_row (length (row_code (cells_after m before))), RowTooLong)
     ∷ []
 
 abbrev pub row_after : CheckedMutation → Option TableRow → TableRow

@@ -6,7 +6,7 @@ ghost use Rattle.std.specs.List.{list_any, filter};
 ghost use Rattle.std.specs.Option.{option_copied, unwrap_or};
 ghost use Rattle.span_schema.specs.Numbers.{IsTable, parent_of};
 ghost use Rattle.span_rowcode.specs.Rows.{row_code};
-ghost use Rattle.span_rowcode.specs.declared.pack.TheConstants.{MOST_BYTES};
+ghost use Rattle.span_rowcode.specs.Limits.{longest_row};
 ghost use Rattle.span_mutate.specs.Columns.{is_delete};
 ghost use Rattle.span_mutate.specs.Rows.{row_at};
 ghost use Rattle.span_mutate.specs.Database.{is_at_or_below, tables_under, cascades, blocks_delete, tables_blocking_delete, is_in, is_under, is_delete_blocked, lacks_parent, cells_of, merge_cells, apply_one, apply};
@@ -163,9 +163,9 @@ fn merge_cells(alloc: Global, named: &[Option<Value>], old: &[Value]) -> Result<
 // The refusal of a row that is too long to be packed.
 fn check_length(alloc: Global, cells: &[Value]) -> Result<(), Refusal>
     ensures { MatchResult result
-        (λ _. nat_lt MOST_BYTES (length (row_code cells.now)) ≡ false)
+        (λ _. nat_lt longest_row (length (row_code cells.now)) ≡ false)
         (λ why.
-        ((why ≡ Refusal.RowTooLong) × (nat_lt MOST_BYTES (length (row_code cells.now)) ≡ true))
+        ((why ≡ Refusal.RowTooLong) × (nat_lt longest_row (length (row_code cells.now)) ≡ true))
         ⊎ (why ≡ Refusal.OutOfMemory)) }
 {
     let _packed = pack(alloc, cells)?;

@@ -5,7 +5,7 @@ use Rattle.span_value.specs.declared.value.Value.{Value}
 use Rattle.span_value.specs.declared.value.Value.TheVariants.{Null, Int, Str, Bytes, Bool as Flag}
 use Rattle.span_value.specs.declared.value.Kind.{Kind}
 use Rattle.span_schema.specs.Fitting.{Fits}
-use Rattle.span_rowcode.specs.declared.pack.TheConstants.{MOST_BYTES}
+use Rattle.span_rowcode.specs.Limits.{longest_row}
 
 abbrev pub bit : Bool → ℕ
 bit false = 0
@@ -37,7 +37,7 @@ AreCells (k ∷ ks) (v ∷ vs) = Fits k v × AreCells ks vs
 
 -- the cells of a row whose packing is not too long
 abbrev pub IsRow : List Kind → List Value → Type 0
-IsRow ks vs = AreCells ks vs × (length (row_code vs) ≤ MOST_BYTES)
+IsRow ks vs = AreCells ks vs × (length (row_code vs) ≤ longest_row)
 
 -- the bytes code no row
 pub record IsNoRow (ks : List Kind) (bytes : List ℕ) : Type 0 where

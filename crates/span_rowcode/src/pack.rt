@@ -22,9 +22,9 @@ pub fn limit_is_stated()
 /// `RowTooLong`: the packed row has more than 1,048,576 bytes. `OutOfMemory`: memory ran out.
 pub fn pack(alloc: Global, cells: &[Value]) -> Result<Vec<u8>, Refusal>
     ensures { MatchResult result
-        (λ bytes. (bytes.items ≡ row_code cells.now) × (length (row_code cells.now) ≤ MOST_BYTES))
+        (λ bytes. (bytes.items ≡ row_code cells.now) × (length (row_code cells.now) ≤ longest_row))
         (λ why.
-        ((why ≡ Refusal.RowTooLong) × (MOST_BYTES < length (row_code cells.now))) ⊎ (why ≡ Refusal.OutOfMemory)) }
+        ((why ≡ Refusal.RowTooLong) × (longest_row < length (row_code cells.now))) ⊎ (why ≡ Refusal.OutOfMemory)) }
 {
     match bytes_left(cells) {
         None => Err(Refusal::RowTooLong),

@@ -6,7 +6,7 @@ use Rattle.std.proofs.lemmas.List.{length-take-le}
 use Rattle.std.proofs.lemmas.Option.{slice_get_within, slice_get_cases}
 use Rattle.span_value.specs.declared.refusal.Refusal.{Refusal}
 use Rattle.span_value.specs.declared.refusal.Refusal.TheVariants.{TooMany, DuplicateTable, BadColumn, NoParent, KeyNotPrefixed, HierarchyTooDeep}
-use Rattle.span_schema.specs.declared.rules.TheConstants.{MOST_LEVELS, MOST_TABLES}
+use Rattle.span_schema.specs.Limits.{most_levels, most_tables}
 use Rattle.span_schema.specs.declared.table.Table.{Table}
 use Rattle.span_schema.specs.Tables.{table_place}
 use Rattle.span_value.specs.Results.{first_cause}
@@ -23,7 +23,7 @@ pub record Passes (before : List Table) (t : Table) (level : ℕ) : Type 0 where
   pub columns : has_bad_column t ≡ false
   pub parent : has_no_parent before t ≡ false
   pub key : has_other_key before t ≡ false
-  pub depth : nat_lt MOST_LEVELS level ≡ false
+  pub depth : nat_lt most_levels level ≡ false
 
 pub all_passed : (before : List Table) (t : Table) (level : ℕ) → first_cause (causes_of before t level) ≡ None → Passes before t level
 all_passed before t level h =
@@ -32,7 +32,7 @@ all_passed before t level h =
     let c = passed (has_bad_column t) BadColumn _ b.1 in
     let d = passed (has_no_parent before t) NoParent _ c.1 in
     let e = passed (has_other_key before t) KeyNotPrefixed _ d.1 in
-    let f = passed (nat_lt MOST_LEVELS level) HierarchyTooDeep _ e.1 in
+    let f = passed (nat_lt most_levels level) HierarchyTooDeep _ e.1 in
     record { few = a.0; new_name = b.0; columns = c.0; parent = d.0; key = e.0; depth = f.0 }
 
 pub passes_at : (tables : List Table) → MeetsRules tables → (i : ℕ) (t : Table) → slice_get tables i ≡ Some t → Passes (take i tables) t (length (path_at tables i))
@@ -41,16 +41,16 @@ passes_at tables rules i t at =
     all_passed (take i tables) t (length (path_at tables i)) (sym (ap (cause_in (take i tables) (length (path_at tables i))) at) ∙ none)
 
 -- a schema has no more tables than it may
-pub few_tables : (tables : List Table) → MeetsRules tables → length tables ≤ MOST_TABLES
+pub few_tables : (tables : List Table) → MeetsRules tables → length tables ≤ most_tables
 few_tables tables rules = by_last (length tables) refl
   where
-    by_last : (n : ℕ) → length tables ≡ n → length tables ≤ MOST_TABLES
+    by_last : (n : ℕ) → length tables ≡ n → length tables ≤ most_tables
     by_last zero e = omega arith
     by_last (suc n) e = elim (slice_get_cases tables n).1 [
       | inl here ↦ (let few = (passes_at tables rules n here.0 here.2).few in
-          let both = or_both (nat_le MOST_TABLES (length (take n tables))) _ few in
+          let both = or_both (nat_le most_tables (length (take n tables))) _ few in
           let len : length (take n tables) ≡ n = length-take-le n tables (omega arith) in
-          let less : n < MOST_TABLES = grind (arith, nat_tests, both.0, len) in omega arith)
+          let less : n < most_tables = grind (arith, nat_tests, both.0, len) in omega arith)
       | inr gone ↦ absurd (omega arith)
     ]
       where

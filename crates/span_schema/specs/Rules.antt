@@ -5,7 +5,7 @@ use Rattle.span_value.specs.declared.refusal.Refusal.{Refusal}
 use Rattle.span_value.specs.declared.refusal.Refusal.TheVariants.{TooMany, DuplicateTable, BadColumn, NoParent, KeyNotPrefixed, HierarchyTooDeep}
 use Rattle.span_value.specs.declared.value.ColumnType.{ColumnType}
 use Rattle.span_value.specs.declared.value.ColumnType.TheVariants.{Int, Str, Bytes, Bool as Truth}
-use Rattle.span_schema.specs.declared.rules.TheConstants.{MOST_TABLES, MOST_COLUMNS, MOST_LEVELS, LONGEST}
+use Rattle.span_schema.specs.Limits.{most_tables, most_columns, most_levels, longest_column}
 use Rattle.span_schema.specs.declared.table.Table.{Table}
 use Rattle.span_schema.specs.declared.table.Column.{Column}
 use Rattle.span_schema.specs.declared.table.KeyColumn.{KeyColumn}
@@ -14,7 +14,7 @@ use Rattle.span_schema.specs.Tables.{is_same_name, column_place, is_key_name, ta
 
 -- too many tables, or too many columns
 abbrev pub has_too_many : List Table → Table → Bool
-has_too_many before t = nat_le MOST_TABLES (length before) || nat_lt MOST_COLUMNS (length t.columns)
+has_too_many before t = nat_le most_tables (length before) || nat_lt most_columns (length t.columns)
 
 -- two columns of one name
 abbrev pub has_repeated_column : List Column → Bool
@@ -31,7 +31,7 @@ has_unknown_key columns key = list_any (λ (k : KeyColumn). is_none (column_plac
 
 abbrev pub is_outside : Option ℕ → Bool
 is_outside None = false
-is_outside (Some n) = (n == 0) || nat_lt LONGEST n
+is_outside (Some n) = (n == 0) || nat_lt longest_column n
 
 -- a greatest length that is 0 or too great
 abbrev pub has_bad_length : ColumnType → Bool
@@ -93,5 +93,5 @@ causes_of before t level =
     ∷ (has_bad_column t, BadColumn)
     ∷ (has_no_parent before t, NoParent)
     ∷ (has_other_key before t, KeyNotPrefixed)
-    ∷ (nat_lt MOST_LEVELS level, HierarchyTooDeep)
+    ∷ (nat_lt most_levels level, HierarchyTooDeep)
     ∷ []

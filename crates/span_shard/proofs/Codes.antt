@@ -14,7 +14,7 @@ use Rattle.span_schema.specs.Fitting.{Fits, is_of_kind}
 use Rattle.span_schema.specs.Numbers.{key_columns}
 use Rattle.span_keycode.specs.Coding.{AreFit, are_of_kinds}
 use Rattle.span_keycode.specs.Keys.{IsCodedKey, key_code, encode_cause}
-use Rattle.span_keycode.specs.declared.key.TheConstants.{MOST_BYTES}
+use Rattle.span_keycode.specs.Limits.{longest_key}
 
 fits_kind : (k : Kind) (v : Value) → Fits k v → is_of_kind k v ≡ true
 fits_kind k Null h = refl
@@ -47,8 +47,8 @@ not_over n m h = grind (arith, nat_tests)
 -- nothing refuses a key that has a coding
 pub coded_no_cause : (tables : List Table) (n : ℕ) (vs : List Value) → IsCodedKey tables n vs → encode_cause tables n vs ≡ None
 coded_no_cause tables n vs k =
-    ap (λ (b : Bool). cond b (cond (nat_lt MOST_BYTES (length (key_code tables n vs))) (Some KeyTooLong) None) (Some WrongType)) (fit_kinds (key_columns tables n) vs k.0.1)
-    ∙ ap (λ (b : Bool). cond b (Some KeyTooLong) None) (not_over (length (key_code tables n vs)) MOST_BYTES k.1)
+    ap (λ (b : Bool). cond b (cond (nat_lt longest_key (length (key_code tables n vs))) (Some KeyTooLong) None) (Some WrongType)) (fit_kinds (key_columns tables n) vs k.0.1)
+    ∙ ap (λ (b : Bool). cond b (Some KeyTooLong) None) (not_over (length (key_code tables n vs)) longest_key k.1)
 
 pub never_refused : (tables : List Table) (n : ℕ) (vs : List Value) (why : Refusal) → IsCodedKey tables n vs → encode_cause tables n vs ≡ Some why → ⊥
 never_refused tables n vs why k e = let f : None ≡ Some why = sym_to (encode_cause tables n vs) (coded_no_cause tables n vs k) e in cc

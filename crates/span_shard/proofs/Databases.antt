@@ -12,7 +12,7 @@ use Rattle.span_schema.specs.Numbers.{other_kinds}
 use Rattle.span_keycode.specs.Keys.{key_code}
 use Rattle.span_keycode.proofs.KeyLaws.{one_key}
 use Rattle.span_rowcode.specs.Rows.{IsRow, row_code}
-use Rattle.span_rowcode.specs.declared.pack.TheConstants.{MOST_BYTES}
+use Rattle.span_rowcode.specs.Limits.{longest_row}
 use Rattle.span_rowcode.proofs.RowReads.{one_row}
 use Rattle.span_mutate.specs.declared.mutation.CheckedMutation.{CheckedMutation}
 use Rattle.span_mutate.specs.declared.row.TableRow.{TableRow}
@@ -122,7 +122,7 @@ behind_first tables rules x y xs ys tx tys h same =
         let back : rows_cmp tables x r ≡ Equal = k.antisymm x r ∙ ap ordering_reverse e in
         k.antisymm y x ∙ ap ordering_reverse (k.congr x r y back) ∙ sym (k.antisymm y r) ∙ less
 
-short : (n : ℕ) → n ≤ MOST_BYTES → n < 2 ^ 32
+short : (n : ℕ) → n ≤ longest_row → n < 2 ^ 32
 short n h = omega arith
 
 some_cells : (a b : List ℕ) → Some a ≡ Some b → a ≡ b

@@ -8,7 +8,7 @@ use Rattle.std.specs.Ordering.{is_eq}
 use Rattle.std.proofs.lemmas.List.Sums.{sum_by-cons}
 use Rattle.span_value.specs.declared.refusal.Refusal.{Refusal}
 use Rattle.span_keycode.specs.Order.{byte_order}
-use Rattle.span_arena.specs.declared.arena.TheConstants.{MOST_NODES}
+use Rattle.span_arena.specs.Limits.{most_nodes}
 use Rattle.span_arena.specs.declared.token.Chain.{Chain}
 use Rattle.span_arena.specs.Content.{Content}
 use Rattle.span_keyindex.specs.Arenas.{IsArenaOf}
@@ -25,7 +25,7 @@ use Rattle.span_shard.proofs.Counting.{live_is}
 use Rattle.span_shard.proofs.Horizons.{live_used}
 
 -- what the arena refuses, by the keys
-pub refused_there : (es fs : List Entry) (a b : Content) (ps : List PreparedNode) (key : List ℕ) (chain : Chain) → IsSlot es fs a b ps key chain → IsArenaOf fs b → a.most ≡ MOST_NODES → AllByRecursion IsInUse (all_kept a ps es)
+pub refused_there : (es fs : List Entry) (a b : Content) (ps : List PreparedNode) (key : List ℕ) (chain : Chain) → IsSlot es fs a b ps key chain → IsArenaOf fs b → a.most ≡ most_nodes → AllByRecursion IsInUse (all_kept a ps es)
     → (why : Refusal) → IsRefusedFor b chain.number why → IsPutRefused (all_kept a ps es) key why
 refused_there es fs a b ps key chain slot own most used why refused = elim refused [
   | inl memory ↦ inl memory

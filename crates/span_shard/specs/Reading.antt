@@ -6,7 +6,7 @@ use Rattle.std.specs.Ordering.{eq_by_cmp, is_lt}
 use Rattle.std.specs.Str.{bytes_eq}
 use Rattle.span_value.specs.declared.refusal.Refusal.{Refusal}
 use Rattle.span_value.specs.declared.refusal.Refusal.TheVariants.{OutOfMemory, ShardFull}
-use Rattle.span_arena.specs.declared.arena.TheConstants.{MOST_NODES}
+use Rattle.span_arena.specs.Limits.{most_nodes}
 use Rattle.span_arena.specs.Content.{Content}
 use Rattle.span_keyindex.specs.declared.entry.Entry.{Entry as IndexEntry}
 use Rattle.span_schema.specs.declared.table.Table.{Table}
@@ -130,4 +130,4 @@ pub record IsFull (tables : List Table) (ms : List CheckedMutation) (txn : ℕ) 
   pub full : why ≡ ShardFull
   pub writes : List Write
   pub of : AreWrites tables ms cs writes
-  pub over : MOST_NODES < live (with_writes txn writes cs)
+  pub over : most_nodes < live (with_writes txn writes cs)

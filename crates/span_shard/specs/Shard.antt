@@ -5,7 +5,7 @@ use Rattle.std.specs.declared.cmp.Ordering.{Ordering}
 use Rattle.std.specs.declared.cmp.Ordering.TheVariants.{Less, Equal, Greater}
 use Rattle.span_value.specs.declared.refusal.Refusal.{Refusal}
 use Rattle.span_value.specs.declared.refusal.Refusal.TheVariants.{OutOfMemory, ShardFull}
-use Rattle.span_arena.specs.declared.arena.TheConstants.{MOST_NODES}
+use Rattle.span_arena.specs.Limits.{most_nodes}
 use Rattle.span_schema.specs.declared.table.Table.{Table}
 use Rattle.span_keycode.specs.Order.{byte_order}
 use Rattle.span_keycode.specs.declared.range.KeyRange.{KeyRange}
@@ -152,8 +152,8 @@ live cs = sum_by kept_of cs
 
 -- out of memory; or nothing is prepared at the key, and as many versions are kept as may be
 abbrev pub IsPutRefused : List KeyVersions → List ℕ → Refusal → Type 0
-IsPutRefused cs key why = (why ≡ OutOfMemory) ⊎ ((why ≡ ShardFull) × (prepared_at cs key ≡ None) × (live cs ≡ MOST_NODES))
+IsPutRefused cs key why = (why ≡ OutOfMemory) ⊎ ((why ≡ ShardFull) × (prepared_at cs key ≡ None) × (live cs ≡ most_nodes))
 
 -- out of memory; or the writes would bring the number of kept versions over the most
 abbrev pub ArePutsRefused : ℕ → List Write → List KeyVersions → Refusal → Type 0
-ArePutsRefused txn ws cs why = (why ≡ OutOfMemory) ⊎ ((why ≡ ShardFull) × (MOST_NODES < live (with_writes txn ws cs)))
+ArePutsRefused txn ws cs why = (why ≡ OutOfMemory) ⊎ ((why ≡ ShardFull) × (most_nodes < live (with_writes txn ws cs)))

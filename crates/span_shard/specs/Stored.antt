@@ -5,7 +5,7 @@ use Rattle.std.specs.List.{AllByRecursion}
 use Rattle.span_value.specs.declared.refusal.Refusal.{Refusal}
 use Rattle.span_value.specs.declared.refusal.Refusal.TheVariants.{OutOfMemory, ShardFull}
 use Rattle.span_arena.specs.Content.{Content, Prepared, versions, prepared_at, prepared_for, IsChain, IsInOrder, live, linked, given_back, kept_upto}
-use Rattle.span_arena.specs.declared.arena.TheConstants.{MOST_NODES}
+use Rattle.span_arena.specs.Limits.{most_nodes}
 use Rattle.span_arena.specs.declared.version.Version as arena
 use Rattle.span_keyindex.specs.Arenas.{IsArenaOf, HasSameChains}
 use Rattle.span_keyindex.specs.declared.entry.Entry.{Entry}
@@ -71,7 +71,7 @@ pub record AreOwned (a : Content) (ps : List PreparedNode) : Type 0 where
 pub record IsStored (es : List Entry) (a : Content) (ps : List PreparedNode) : Type 0 where
   pub own : IsArenaOf es a
   pub owned : AreOwned a ps
-  pub most : a.most ≡ MOST_NODES
+  pub most : a.most ≡ most_nodes
 
 -- ---- prepare
 

@@ -1,5 +1,6 @@
 //! The versions of every key in a shard's range, and the writes that are prepared there.
 ghost use Rattle.std.specs.Prelude.{◌≡◌, ◌≤◌, ◌⊎◌, ℕ, [], List, map, IfOk, IfErr, OnOk, OnErr};
+ghost use Rattle.span_arena.specs.Limits.{most_nodes};
 ghost use Rattle.span_keycode.specs.declared.range.KeyRange.{KeyRange};
 ghost use Rattle.span_mutate.specs.Typed.{AreTypedMutations};
 ghost use Rattle.span_shard.specs.Reading.{entry_row, AreWrites, IsFault, IsFull};
@@ -11,7 +12,6 @@ use super::change::writes_of;
 use super::place::rows_in;
 use super::store::Store;
 use super::write::Write;
-use span_arena::arena::MOST_NODES;
 use span_keycode::range::KeyRange;
 use span_mutate::mutation::CheckedMutation;
 use span_schema::schema::Schema;
@@ -80,7 +80,7 @@ impl Shard {
 
     /// A law, which takes no time: no more versions are kept than may be.
     pub fn keeps_at_most(&self)
-        ensures { live self.now ≤ MOST_NODES }
+        ensures { live self.now ≤ most_nodes }
     {
         let _kept = self.store.live();
     }
@@ -94,7 +94,7 @@ impl Shard {
 
     /// Prepares what the mutations of a transaction write: at each key of their directories whose presence or row they change, the row
     /// that they leave there or a deletion, and the node for its version. The fault is that of the first mutation that has one, over
-    /// all directories, out of memory, or that the writes would bring the number of kept versions over `MOST_NODES`; it leaves all as
+    /// all directories, out of memory, or that the writes would bring the number of kept versions over 2^24; it leaves all as
     /// it was.
     ///
     /// The directories are found by binary search, and no others are read. `db` is any database whose rows in those directories are

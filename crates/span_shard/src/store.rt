@@ -1,5 +1,6 @@
 //! The keys of a shard, in an index with their chains; their versions and prepared writes, in an arena.
 ghost use Rattle.std.specs.Prelude.{◌≡◌, ◌≤◌, [], map, filter, IfErr, OnOk, OnErr};
+ghost use Rattle.span_arena.specs.Limits.{most_nodes};
 ghost use Rattle.std.specs.List.{AllByRecursion};
 ghost use Rattle.span_shard.specs.Versions.{applied_to_key, is_used};
 ghost use Rattle.span_shard.specs.Shard.{AreInOrder, IsInUse, IsPutRefused, with_write, trimmed_key, live};
@@ -7,7 +8,7 @@ ghost use Rattle.span_shard.specs.Shard.{AreInOrder, IsInUse, IsPutRefused, with
 use super::node::{PreparedNode, end_nodes, prepare_node};
 use super::trim::trim_chains;
 use super::write::Write;
-use span_arena::arena::{Arena, MOST_NODES};
+use span_arena::arena::Arena;
 use span_keyindex::index::KeyIndex;
 use span_value::refusal::Refusal;
 use std::alloc::Global;
@@ -50,7 +51,7 @@ impl Store {
     /// How many versions are kept, prepared ones included.
     pub(crate) fn live(&self) -> usize
         ensures live { result ≡ live self.now }
-        ensures most { live self.now ≤ MOST_NODES }
+        ensures most { live self.now ≤ most_nodes }
     {
         self.arena.live()
     }

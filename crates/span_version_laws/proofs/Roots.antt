@@ -13,7 +13,7 @@ use Rattle.span_schema.proofs.Numbered.{path_has}
 use Rattle.span_keycode.specs.Coding.{AreFit}
 use Rattle.span_keycode.specs.Keys.{IsKey, key_code}
 use Rattle.span_keycode.specs.Laws.{IsAtOrBelow}
-use Rattle.span_keycode.specs.declared.key.TheConstants.{MOST_BYTES}
+use Rattle.span_keycode.specs.Limits.{longest_key}
 use Rattle.span_keycode.proofs.Levels.{by_parents, key_split, keys_short, each_of, IsShort, back}
 use Rattle.span_keycode.proofs.LevelLaws.{fit_length, fit_split, path_child, path_root}
 use Rattle.span_keycode.proofs.KeyLaws.{begins_own_rows}
@@ -126,7 +126,7 @@ first_and_rest [] h = absurd (let less : 0 < 0 = h in omega arith)
 first_and_rest (n ∷ ns) h = refl
 
 -- the root row of a key that has a coding has one, which is the front of it
-pub coded_root_of : (schema : List Table) → MeetsRules schema → (n : ℕ) (key : List Value) → IsKey schema n key → length (key_code schema n key) ≤ MOST_BYTES
+pub coded_root_of : (schema : List Table) → MeetsRules schema → (n : ℕ) (key : List Value) → IsKey schema n key → length (key_code schema n key) ≤ longest_key
     → IsCodedRoot schema (root_row schema n key) × ((rest : List ℕ) × (key_code schema n key ≡ key_code schema (root_row schema n key).table (root_row schema n key).key ++ rest))
 coded_root_of schema rules n key is_key most =
     let is : IsTable schema n = is_key.0 in

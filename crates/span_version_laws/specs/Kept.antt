@@ -8,7 +8,7 @@ use Rattle.span_schema.specs.declared.table.Table.{Table}
 use Rattle.span_schema.specs.Numbers.{IsTable, root_of}
 use Rattle.span_keycode.specs.Keys.{IsCodedKey, key_code}
 use Rattle.span_keycode.specs.Roots.{IsCoding}
-use Rattle.span_keycode.specs.declared.key.TheConstants.{MOST_BYTES}
+use Rattle.span_keycode.specs.Limits.{longest_key}
 use Rattle.span_mutate.specs.declared.mutation.CheckedMutation.{CheckedMutation}
 use Rattle.span_mutate.specs.declared.row.TableRow.{TableRow}
 use Rattle.span_keycode.specs.declared.range.KeyRange.{KeyRange}
@@ -45,7 +45,7 @@ IsCodedRoot schema root = (root_of schema root.table ≡ root.table) × IsCodedK
 -- the coding of a key, that is not too long
 pub record IsCodedCoding (schema : List Table) (k : List ℕ) : Type 0 where
   pub is : IsCoding schema k
-  pub short : length (key_code schema is.table is.values) ≤ MOST_BYTES
+  pub short : length (key_code schema is.table is.values) ≤ longest_key
 
 -- a coded key in its directory
 abbrev pub is_under : List Table → Root → List ℕ → Bool
