@@ -94,8 +94,8 @@ fn leaves_of(alloc: Global, schema: &Schema, text: &str) -> Result<usize, Progra
     }
 }
 
-/// The steps, in order: the transaction, and a query of this text with a scan of each of its leaves. The first transaction and the
-/// first query have the number 1.
+/// The steps, in order: the transaction, and the query with a scan of each of its leaves. The first transaction and the first query
+/// have the number 1.
 fn steps(
     alloc: Global,
     transaction: Transaction,
@@ -107,6 +107,21 @@ fn steps(
 {
     let decided = Interval::new(100, 110)?;
     let applied = Interval::new(200, 210)?;
+    let commit = commit_steps(alloc, transaction, decided, applied)?;
+    let all = with_query(alloc, commit, text, leaves, applied)?;
+    Ok(all)
+}
+
+/// The steps that commit the transaction, and apply it.
+fn commit_steps(
+    alloc: Global,
+    transaction: Transaction,
+    decided: Interval,
+    applied: Interval,
+) -> Result<Vec<Step>, AllocFailed<Step>>
+    ensures { IfOk result
+        (λ steps. (schema : List Table) → AreTypedMutations schema transaction → AreOfSchema schema steps.items) }
+{
     let mut steps = Vec::new(alloc);
     steps.push(Step::Begin {
         owner: 0,
@@ -129,7 +144,7 @@ fn steps(
         slot: 0,
         interval: applied,
     })?;
-    with_query(alloc, steps, text, leaves, applied)
+    Ok(steps)
 }
 
 /// The steps, and those of a query at the commit timestamp: it is opened, scanned and finished.
