@@ -35,7 +35,7 @@ use Rattle.span_soundness.specs.Bindings.{is_aggregate_of, AreAggregatesOf}
 use Rattle.span_soundness.specs.WellTyped.{leaf_types, IsItemOf, AreJoinsOf, IsFromOf, AreColumnsOf, IsGroupedOf, AreOutputsOf, IsBlockOf, AreBlocksOf, IsLayerOf}
 use Rattle.span_soundness.specs.Results.{AreRowsOf, AreResultsOf, AreTablesOf}
 use Rattle.span_soundness.proofs.Sameness.{both_true, same_kind}
-use Rattle.span_soundness.proofs.Keeping.{null_of, number_kept, column_kept, filter_rows as keeps_type}
+use Rattle.span_soundness.proofs.Keeping.{null_of, number_kept, column_kept, kept as keeps_type}
 
 -- ---- rows
 
