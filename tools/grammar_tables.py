@@ -104,6 +104,7 @@ def class_rt(t):
 //! a semicolon at the end of a text. With that, one token decides how reading goes on.
 ghost use Rattle.std.specs.Prelude.{◌≡◌};
 ghost use Rattle.span_grammar.specs.Contexts as spelled;
+ghost use Rattle.span_grammar.specs.declared.class.TheConstants.{CONTEXTS};
 
 use span_lexer::token::{Sign, Token, Word};
 
@@ -114,6 +115,11 @@ pub enum Context {
 /// The words that are names and words of the grammar.
 pub const CONTEXTS: [Context; {len(contexts)}] = [
 """ + lines(f"    Context::{word}," for word in contexts) + """];
+
+/// These words are those that the definitions list.
+pub fn contexts_are_stated()
+    ensures { CONTEXTS ≡ spelled.context_words }
+{}
 
 impl Context {
     /// The word in lower case.
@@ -273,15 +279,18 @@ use Rattle.std.specs.Prelude.{ℕ, List, ◌∷◌, [], codes, Option, Some, Non
 use Rattle.std.specs.Str.{bytes_eq, str_to_ascii_lowercase}
 use Rattle.span_grammar.specs.declared.class.Context.{Context}
 use Rattle.span_grammar.specs.declared.class.Context.TheVariants as context
-use Rattle.span_grammar.specs.declared.class.TheConstants.{CONTEXTS}
 """, "abbrev pub word : Context → List ℕ\n" + lines(f'word context.{word} = codes "{word.lower()}"' for word in t.grammar.contexts) + """
+-- all of them
+abbrev pub context_words : List Context
+context_words = """ + " ∷ ".join(f"context.{word}" for word in t.grammar.contexts) + """ ∷ []
+
 -- the first of some words that the bytes spell in any case
 unfoldable pub matching_word : List Context → List ℕ → Option Context
 matching_word [] bytes = None
 matching_word (v ∷ vs) bytes = if bytes_eq (str_to_ascii_lowercase bytes) (word v) then Some v else matching_word vs bytes
 
 abbrev pub context_word : List ℕ → Option Context
-context_word bytes = matching_word CONTEXTS bytes
+context_word bytes = matching_word context_words bytes
 """)
 
 

@@ -1,19 +1,10 @@
--- What functions answered of what was found by others.
-use Rattle.std.proofs.Common.{◌≡◌, ℕ, suc, ◌+◌, ◌<◌, List, ◌∷◌, length, map, drop, get_or, Result, Ok, Err, sym, ap, subst, ◌∙◌, arith}
+-- Along a list, what was found so far and what is found with one more item.
+use Rattle.std.proofs.Common.{◌≡◌, ℕ, suc, ◌+◌, ◌<◌, List, ◌∷◌, length, map, drop, get_or, Result, Ok, Err, sym, ap, ◌∙◌, arith}
 use Rattle.std.proofs.Math.Seq.{drop-cons}
 use Rattle.span_binder.specs.Onward.{fold_results}
 use Rattle.span_value.specs.declared.refusal.Refusal.{Refusal}
 use Rattle.span_value.specs.Results.{and_then}
 use Rattle.span_typing.specs.Steps.{Gives}
-
-same_err : {X : Type 0} (v w : Refusal) → (let o : Result X Refusal = Err v in o) ≡ Err w → v ≡ w
-same_err v w h = cc
-
--- what comes of what a function answered is what comes of what is meant
-pub gives_on : {A B : Type 0} (found : Result A Refusal) (o : Result A Refusal) (next : A → Result B Refusal) (r : Result B Refusal) → Gives found o → Gives r (and_then found next) → Gives r (and_then o next)
-gives_on (Ok x) o next r h g = subst (λ (p : Result _ Refusal). Gives r (and_then p next)) (sym h) g
-gives_on (Err v) o next (Ok y) h g = absurd cc
-gives_on (Err v) o next (Err w) h g = λ n. let same : v ≡ w = same_err v w (g n) in ap (λ p. and_then p next) (h (λ m. n (sym same ∙ m))) ∙ ap (λ u. Err u) same
 
 -- one more item of a list
 pub onward_at : {A X Y : Type 0} (f : X → Y) (step : A → Y → Result A Refusal) (xs : List X) (k : ℕ) (x : X) (found : A) → k < length xs → x ≡ get_or xs k x

@@ -1,4 +1,5 @@
 pub mod Giving
 pub mod Trees
-pub mod Leaves
+pub mod Adding
 pub mod Understanding
+pub mod Uniqueness

@@ -1,5 +1,5 @@
 -- The typed forms of trees of queries, by those of their parts.
-use Rattle.std.proofs.Common.{◌≡◌, List, [], ◌∷◌, map, refl, sym, ap, ◌∙◌, ℕ, Option, Result, Ok, subst}
+use Rattle.std.proofs.Common.{◌≡◌, List, [], ◌∷◌, map, refl, sym, ap, ◌∙◌, ℕ, Option, Result, Ok}
 use Rattle.span_value.specs.declared.refusal.Refusal.{Refusal}
 use Rattle.span_schema.specs.declared.table.Table.{Table}
 use Rattle.span_params.specs.declared.params.Parameter.{Parameter}
@@ -16,7 +16,6 @@ use Rattle.span_parser.specs.declared.tree.Item.TheOpen.{Query-F, Block-F, Item-
 use Rattle.span_parser.specs.declared.tree.Item.TheViews.{out-Query, out-Block}
 use Rattle.span_parser.specs.declared.tree.Item.TheFolds.{fold-Item, fold-Block, fold-Join, fold-Query, fold_out-Query, fold_out-Block, fold_out-Join, fold-roll-Item, map-Block, map-Query}
 use Rattle.span_value.specs.Results.{and_then}
-use Rattle.span_typing.specs.Steps.{Gives}
 use Rattle.span_binder.specs.declared.bound.TypedQuery.{TypedQuery}
 use Rattle.span_binder.specs.declared.bound.BoundBlock.{BoundBlock}
 use Rattle.span_binder.specs.declared.bound.BoundBlocks.{BoundBlocks}
@@ -27,7 +26,6 @@ use Rattle.span_binder.specs.Sources.{named_source, derived_source, start_from}
 use Rattle.span_binder.specs.Aggregating.{is_grouped}
 use Rattle.span_binder.specs.Blocks.{BlockTail, block_tail, block_tail_of, bind_block}
 use Rattle.span_binder.specs.Queries.{ItemStep, JoinStep, BlockStep, QueryStep, item_at, block_at, join_at, query_at, item_step, block_step, query_step, join_step, next_join, next_block, bind_query, only_block}
-use Rattle.span_binder.proofs.Giving.{gives_on}
 
 module _ (schema : List Table) (params : List Parameter) where
   -- ---- a layer of a tree, where its parts are replaced by their typed forms
@@ -132,71 +130,62 @@ module _ (schema : List Table) (params : List Parameter) where
       fold_out-Query ItemStep BlockStep JoinStep QueryStep (item_at schema) (block_at params) join_at query_at q
       ∙ ap query_at (query_layer_is (out-Query q))
 
-  -- ---- what functions answered
+  -- ---- one step of each, in terms of the steps of its parts
+
+  pub table_step : (tree : Item) (name : Spelling) (alias : Option Spelling) (leaves : List ℕ) → tree ≡ item.Table name alias
+      → item_step schema params tree leaves ≡ named_source schema name alias leaves
+  table_step tree name alias leaves is =
+      ap (λ (i : Item). item_step schema params i leaves) is ∙ ap (λ (s : ItemStep). s leaves) (table_is name alias)
+
+  pub derived_step : (tree : Item) (q : Query) (name : Spelling) (leaves : List ℕ) → tree ≡ item.Derived q name
+      → item_step schema params tree leaves ≡ and_then (query_step schema params q leaves) (λ p. Ok (derived_source name p.0, p.1))
+  derived_step tree q name leaves is =
+      ap (λ (i : Item). item_step schema params i leaves) is ∙ ap (λ (s : ItemStep). s leaves) (derived_is q name)
 
   ons_kept : (js : List Join) → map (λ (j : JoinStep). j.on) (map (join_step schema params) js) ≡ map (λ (j : Join). j.on) js
   ons_kept [] = refl
   ons_kept (j ∷ js) = ap (λ (l : List Expr). j.on ∷ l) (ons_kept js)
 
-  pub gives_table : (tree : Item) (name : Spelling) (alias : Option Spelling) (leaves : List ℕ) (r : Result (Source × List ℕ) Refusal) → tree ≡ item.Table name alias
-      → Gives r (named_source schema name alias leaves) → Gives r (item_step schema params tree leaves)
-  gives_table tree name alias leaves r is g =
-      subst (λ (i : Item). Gives r (item_step schema params i leaves)) (sym is)
-      (subst (λ (s : ItemStep). Gives r (s leaves)) (sym (table_is name alias)) g)
-
-  pub gives_derived : (tree : Item) (q read : Query) (name : Spelling) (leaves : List ℕ) (found : Result (TypedQuery × List ℕ) Refusal) (r : Result (Source × List ℕ) Refusal)
-      → tree ≡ item.Derived q name → read ≡ q → Gives found (query_step schema params read leaves) → Gives r (and_then found (λ p. Ok (derived_source name p.0, p.1)))
-      → Gives r (item_step schema params tree leaves)
-  gives_derived tree q read name leaves found r is same f g =
-      let whole : Gives r (and_then (query_step schema params read leaves) (λ p. Ok (derived_source name p.0, p.1))) = gives_on found (query_step schema params read leaves) _ r f g in
-      subst (λ (i : Item). Gives r (item_step schema params i leaves)) (sym is)
-      (subst (λ (s : ItemStep). Gives r (s leaves)) (sym (derived_is q name))
-      (subst (λ (x : Query). Gives r (and_then (query_step schema params x leaves) (λ p. Ok (derived_source name p.0, p.1)))) same whole))
-
-  behind_kept : (d : Block-F Item Block Join Query) → block_tail_of (λ (j : JoinStep). j.on) (block_layer d) ≡ block_tail_of (λ (j : Join). j.on) d
-  behind_kept d =
+  tail_kept : (d : Block-F Item Block Join Query) → block_tail_of (λ (j : JoinStep). j.on) (block_layer d) ≡ block_tail_of (λ (j : Join). j.on) d
+  tail_kept d =
       ap (λ (ons : List Expr). record { is_grouped = is_grouped d.groups d.having d.filter d.outputs ons; is_distinct = d.is_distinct; outputs = d.outputs; filter = d.filter; groups = d.groups; having = d.having })
       (ons_kept d.joins)
 
-  abbrev after_from : Block → List ℕ → List Join → BlockTail → Result (BoundBlock × List ℕ) Refusal
-  after_from b leaves js x =
-      and_then (and_then (and_then (item_step schema params (out-Block b).from leaves) (λ p. Ok (start_from p.0, p.1))) (fold_results (next_join params) (map (join_step schema params) js)))
+  abbrev block_after : Block → List ℕ → BlockTail → Result (BoundBlock × List ℕ) Refusal
+  block_after b leaves x =
+      and_then (and_then (and_then (item_step schema params (out-Block b).from leaves) (λ p. Ok (start_from p.0, p.1))) (fold_results (next_join params) (map (join_step schema params) (out-Block b).joins)))
       (λ p. and_then (bind_block params x p.0) (λ y. Ok (y, p.1)))
 
-  abbrev after_blocks : Query → List ℕ → List Block → List SortKey → Result (TypedQuery × List ℕ) Refusal
-  after_blocks q leaves bs order =
-      and_then (and_then (and_then (block_step schema params (out-Query q).first leaves) (λ p. Ok (only_block p.0, p.1))) (fold_results next_block (map (block_step schema params) bs)))
-      (λ p. and_then (bind_query p.0 order (out-Query q).limit) (λ y. Ok (y, p.1)))
+  pub block_steps : (b : Block) (leaves : List ℕ) → block_step schema params b leaves ≡ block_after b leaves (block_tail b)
+  block_steps b leaves = ap (λ (s : BlockStep). s leaves) (block_is b) ∙ ap (block_after b leaves) (tail_kept (out-Block b))
 
-  pub gives_block : (b : Block) (leaves : List ℕ) (js : List Join) (first : Result (Source × List ℕ) Refusal) (one from : Result (FromItems × List ℕ) Refusal) (r : Result (BoundBlock × List ℕ) Refusal)
-      → js ≡ (out-Block b).joins
-      → Gives first (item_step schema params (out-Block b).from leaves)
-      → Gives one (and_then first (λ p. Ok (start_from p.0, p.1)))
-      → Gives from (and_then one (fold_results (next_join params) (map (join_step schema params) js)))
-      → Gives r (and_then from (λ p. and_then (bind_block params (block_tail b) p.0) (λ x. Ok (x, p.1))))
-      → Gives r (block_step schema params b leaves)
-  gives_block b leaves js first one from r same f g h k =
-      let d : Block-F Item Block Join Query = out-Block b in
-      let started_on : Gives one (and_then (item_step schema params d.from leaves) (λ p. Ok (start_from p.0, p.1))) = gives_on first (item_step schema params d.from leaves) _ one f g in
-      let joined_on : Gives from (and_then (and_then (item_step schema params d.from leaves) (λ p. Ok (start_from p.0, p.1))) (fold_results (next_join params) (map (join_step schema params) js))) = gives_on one _ _ from started_on h in
-      let whole : Gives r (after_from b leaves js (block_tail b)) = gives_on from _ _ r joined_on k in
-      subst (λ (s : BlockStep). Gives r (s leaves)) (sym (block_is b))
-      (subst (λ (x : BlockTail). Gives r (after_from b leaves d.joins x)) (sym (behind_kept d))
-      (subst (λ (l : List Join). Gives r (after_from b leaves l (block_tail b))) same whole))
+  -- where the first item is found, and the FROM begins with it
+  pub block_from : (b : Block) (leaves : List ℕ) (js : List Join) (first : Source) (from : FromItems) (after : List ℕ) → js ≡ (out-Block b).joins → from ≡ start_from first
+      → item_step schema params (out-Block b).from leaves ≡ Ok (first, after)
+      → block_step schema params b leaves ≡ and_then (fold_results (next_join params) (map (join_step schema params) js) (from, after)) (λ p. and_then (bind_block params (block_tail b) p.0) (λ y. Ok (y, p.1)))
+  block_from b leaves js first from after same begins found =
+      let rest : FromItems × List ℕ → Result (BoundBlock × List ℕ) Refusal = λ p. and_then (bind_block params (block_tail b) p.0) (λ y. Ok (y, p.1)) in
+      block_steps b leaves
+      ∙ ap (λ (o : Result (Source × List ℕ) Refusal). and_then (and_then (and_then o (λ p. Ok (start_from p.0, p.1))) (fold_results (next_join params) (map (join_step schema params) (out-Block b).joins))) rest) found
+      ∙ ap (λ (l : List Join). and_then (fold_results (next_join params) (map (join_step schema params) l) (start_from first, after)) rest) (sym same)
+      ∙ ap (λ (f : FromItems). and_then (fold_results (next_join params) (map (join_step schema params) js) (f, after)) rest) (sym begins)
 
-  pub gives_query : (q : Query) (leaves : List ℕ) (bs : List Block) (order : List SortKey) (first : Result (BoundBlock × List ℕ) Refusal) (one all : Result (BoundBlocks × List ℕ) Refusal) (r : Result (TypedQuery × List ℕ) Refusal)
-      → bs ≡ (out-Query q).others
-      → order ≡ (out-Query q).order
-      → Gives first (block_step schema params (out-Query q).first leaves)
-      → Gives one (and_then first (λ p. Ok (only_block p.0, p.1)))
-      → Gives all (and_then one (fold_results next_block (map (block_step schema params) bs)))
-      → Gives r (and_then all (λ p. and_then (bind_query p.0 order (out-Query q).limit) (λ x. Ok (x, p.1))))
-      → Gives r (query_step schema params q leaves)
-  gives_query q leaves bs order first one all r same by f g h k =
-      let d : Query-F Item Block Join Query = out-Query q in
-      let first_on : Gives one (and_then (block_step schema params d.first leaves) (λ p. Ok (only_block p.0, p.1))) = gives_on first (block_step schema params d.first leaves) _ one f g in
-      let all_on : Gives all (and_then (and_then (block_step schema params d.first leaves) (λ p. Ok (only_block p.0, p.1))) (fold_results next_block (map (block_step schema params) bs))) = gives_on one _ _ all first_on h in
-      let whole : Gives r (after_blocks q leaves bs order) = gives_on all _ _ r all_on k in
-      subst (λ (s : QueryStep). Gives r (s leaves)) (sym (query_is q))
-      (subst (λ (l : List Block). Gives r (after_blocks q leaves l d.order)) same
-      (subst (λ (keys : List SortKey). Gives r (after_blocks q leaves bs keys)) by whole))
+  abbrev query_after : Query → List ℕ → Result (TypedQuery × List ℕ) Refusal
+  query_after q leaves =
+      and_then (and_then (and_then (block_step schema params (out-Query q).first leaves) (λ p. Ok (only_block p.0, p.1))) (fold_results next_block (map (block_step schema params) (out-Query q).others)))
+      (λ p. and_then (bind_query p.0 (out-Query q).order (out-Query q).limit) (λ y. Ok (y, p.1)))
+
+  pub query_steps : (q : Query) (leaves : List ℕ) → query_step schema params q leaves ≡ query_after q leaves
+  query_steps q leaves = ap (λ (s : QueryStep). s leaves) (query_is q)
+
+  -- where the first block is found
+  pub query_from : (q : Query) (leaves : List ℕ) (bs : List Block) (order : List SortKey) (first : BoundBlock) (blocks : BoundBlocks) (after : List ℕ) → bs ≡ (out-Query q).others → order ≡ (out-Query q).order → blocks ≡ only_block first
+      → block_step schema params (out-Query q).first leaves ≡ Ok (first, after)
+      → query_step schema params q leaves ≡ and_then (fold_results next_block (map (block_step schema params) bs) (blocks, after)) (λ p. and_then (bind_query p.0 order (out-Query q).limit) (λ y. Ok (y, p.1)))
+  query_from q leaves bs order first blocks after same by begins found =
+      let rest : List SortKey → BoundBlocks × List ℕ → Result (TypedQuery × List ℕ) Refusal = λ keys p. and_then (bind_query p.0 keys (out-Query q).limit) (λ y. Ok (y, p.1)) in
+      query_steps q leaves
+      ∙ ap (λ (o : Result (BoundBlock × List ℕ) Refusal). and_then (and_then (and_then o (λ p. Ok (only_block p.0, p.1))) (fold_results next_block (map (block_step schema params) (out-Query q).others))) (rest (out-Query q).order)) found
+      ∙ ap (λ (l : List Block). and_then (fold_results next_block (map (block_step schema params) l) (only_block first, after)) (rest (out-Query q).order)) (sym same)
+      ∙ ap (λ (x : BoundBlocks). and_then (fold_results next_block (map (block_step schema params) bs) (x, after)) (rest (out-Query q).order)) (sym begins)
+      ∙ ap (λ (keys : List SortKey). and_then (fold_results next_block (map (block_step schema params) bs) (blocks, after)) (rest keys)) (sym by)

@@ -22,7 +22,7 @@ use Rattle.span_typing.specs.declared.typed.Mode.TheVariants.{Groups}
 use Rattle.span_typing.specs.Scopes.{column_place}
 use Rattle.span_value.specs.Results.{and_then}
 use Rattle.span_typing.specs.Typing.{Finds, typing}
-use Rattle.span_binder.specs.declared.bound.OutputColumn.{OutputColumn}
+use Rattle.span_query.specs.declared.query.OutputColumn.{OutputColumn}
 use Rattle.span_binder.specs.declared.bound.FromItems.{FromItems}
 use Rattle.span_binder.specs.declared.bound.SelectItem.{SelectItem}
 use Rattle.span_binder.specs.declared.bound.BoundBlock.{BoundBlock}

@@ -28,7 +28,7 @@ use Rattle.span_query.specs.declared.query.Statement.{Statement}
 use Rattle.span_params.specs.declared.params.Parameter.{Parameter}
 use Rattle.span_typing.specs.Scopes.{one_place, is_named}
 use Rattle.span_value.specs.Results.{and_then}
-use Rattle.span_binder.specs.declared.bound.OutputColumn.{OutputColumn}
+use Rattle.span_query.specs.declared.query.OutputColumn.{OutputColumn}
 use Rattle.span_binder.specs.declared.bound.Source.{Source}
 use Rattle.span_binder.specs.declared.bound.FromItems.{FromItems}
 use Rattle.span_binder.specs.declared.bound.TypedQuery.{TypedQuery}
@@ -154,7 +154,7 @@ abbrev pub join_step : List Table → List Parameter → Join → JoinStep
 join_step schema params j = record { is_left = j.is_left; item = item_step schema params j.item; on = j.on }
 
 abbrev pub statement_of : TypedQuery × List ℕ → Statement
-statement_of p = record { query = p.0.query; leaves = p.1 }
+statement_of p = record { query = p.0.query; leaves = p.1; columns = p.0.columns }
 
 -- the statement, or the first fault
 abbrev pub bound : List Table → List Parameter → Query → Result Statement Refusal

@@ -25,7 +25,7 @@ use Rattle.span_typing.specs.Scopes.{item_named}
 use Rattle.span_value.specs.Results.{and_then}
 use Rattle.span_typing.specs.Steps.{TypingStep}
 use Rattle.span_typing.specs.Typing.{typing}
-use Rattle.span_binder.specs.declared.bound.OutputColumn.{OutputColumn}
+use Rattle.span_query.specs.declared.query.OutputColumn.{OutputColumn}
 use Rattle.span_binder.specs.declared.bound.Source.{Source}
 use Rattle.span_binder.specs.declared.bound.FromItems.{FromItems}
 use Rattle.span_binder.specs.declared.bound.TypedQuery.{TypedQuery}

@@ -3,16 +3,15 @@
 //! In a block faults are looked for in the items of the FROM with their ONs, from left to right, then in the select list, WHERE, GROUP BY
 //! and HAVING; after all blocks of a query in the columns of its union, and then in its ORDER BY. The first fault is the refusal.
 ghost use Rattle.std.specs.Prelude.{◌≡◌, map, IfOk};
-ghost use Rattle.span_value.specs.Results.{and_then};
 ghost use Rattle.span_typing.specs.Steps.{Gives};
 ghost use Rattle.span_binder.specs.Onward.{fold_results};
 ghost use Rattle.span_binder.specs.Sources.{AreTables, HasTables};
 ghost use Rattle.span_binder.specs.Queries as spec;
 
-use super::block::block_of_found;
-use super::bound::{BoundBlock, BoundBlocks, FromItems, Source, TypedQuery};
-use super::join::{add_found_item, start_from};
-use super::order::{first_of, query_of_found, with_block};
+use super::block::bind_block;
+use super::bound::{BoundBlock, BoundBlocks, FromItems, Source, TypedQuery, pair_with};
+use super::join::{add_item, start_from};
+use super::order::{bind_query, only_block, with_block};
 use super::source::{derived_source, named_source};
 use span_params::params::Params;
 use span_parser::tree;
@@ -42,29 +41,31 @@ impl Binder<'_> {
                 named_source(self.alloc, self.schema, name, alias, leaves)
             }
             tree::Item::Derived(query, name) => {
-                derived_source(self.alloc, name, self.query(query.get(), leaves))
+                let (bound, leaves) = self.query(query.get(), leaves)?;
+                Ok((derived_source(self.alloc, name, bound)?, leaves))
             }
         }
     }
 
-    /// The further items of a FROM.
+    /// A FROM with the further items.
     #[cycle(binding)]
     fn join_items(
         self,
-        first: Result<(FromItems, Seq<usize>), Refusal>,
+        first: (FromItems, Seq<usize>),
         joins: &[tree::Join],
     ) -> Result<(FromItems, Seq<usize>), Refusal>
         ensures meant { Gives result
-            (and_then first
             (fold_results (spec.next_join self.entry.params.now)
-            (map (spec.join_step self.entry.schema.now self.entry.params.now) joins.now))) }
-        ensures tables { HasTables self.entry.schema.now first → HasTables self.entry.schema.now result }
+            (map (spec.join_step self.entry.schema.now self.entry.params.now) joins.now)
+            first) }
+        ensures tables { AreTables self.entry.schema.now first.1 → HasTables self.entry.schema.now result }
     {
-        let mut so_far = first?;
+        let mut so_far = first;
         for join in joins {
             let (from, leaves) = so_far;
-            let item = self.item(&join.item, leaves);
-            so_far = add_found_item(self.alloc, self.params, from, join.is_left, item, &join.on)?;
+            let (from, (item, leaves)) = pair_with(from, self.item(&join.item, leaves))?;
+            let from = add_item(self.alloc, self.params, from, join.is_left, item, &join.on)?;
+            so_far = (from, leaves);
         }
         Ok(so_far)
     }
@@ -79,28 +80,30 @@ impl Binder<'_> {
         ensures meant { Gives result (spec.block_step self.entry.schema.now self.entry.params.now tree.now leaves) }
         ensures tables { AreTables self.entry.schema.now leaves → HasTables self.entry.schema.now result }
     {
-        let first = start_from(self.alloc, self.item(&tree.from, leaves));
-        let from = self.join_items(first, tree.joins.as_slice());
-        block_of_found(self.alloc, self.params, tree, from)
+        let (first, leaves) = self.item(&tree.from, leaves)?;
+        let first = start_from(self.alloc, first)?;
+        let (from, leaves) = self.join_items((first, leaves), tree.joins.as_slice())?;
+        Ok((bind_block(self.alloc, self.params, tree, from)?, leaves))
     }
 
     /// The further blocks of a query.
     #[cycle(binding)]
     fn others(
         self,
-        first: Result<(BoundBlocks, Seq<usize>), Refusal>,
+        first: (BoundBlocks, Seq<usize>),
         others: &[tree::Block],
     ) -> Result<(BoundBlocks, Seq<usize>), Refusal>
         ensures meant { Gives result
-            (and_then first
             (fold_results spec.next_block
-            (map (spec.block_step self.entry.schema.now self.entry.params.now) others.now))) }
-        ensures tables { HasTables self.entry.schema.now first → HasTables self.entry.schema.now result }
+            (map (spec.block_step self.entry.schema.now self.entry.params.now) others.now)
+            first) }
+        ensures tables { AreTables self.entry.schema.now first.1 → HasTables self.entry.schema.now result }
     {
-        let mut so_far = first?;
+        let mut so_far = first;
         for other in others {
             let (blocks, leaves) = so_far;
-            so_far = with_block(blocks, self.block(other, leaves))?;
+            let (blocks, (block, leaves)) = pair_with(blocks, self.block(other, leaves))?;
+            so_far = (with_block(blocks, block)?, leaves);
         }
         Ok(so_far)
     }
@@ -115,9 +118,11 @@ impl Binder<'_> {
         ensures meant { Gives result (spec.query_step self.entry.schema.now self.entry.params.now tree.now leaves) }
         ensures tables { AreTables self.entry.schema.now leaves → HasTables self.entry.schema.now result }
     {
-        let first = first_of(self.alloc, self.block(&tree.first, leaves));
-        let blocks = self.others(first, tree.others.as_slice());
-        query_of_found(self.alloc, blocks, tree.order.as_slice(), &tree.limit)
+        let (first, leaves) = self.block(&tree.first, leaves)?;
+        let first = only_block(self.alloc, first);
+        let (blocks, leaves) = self.others((first, leaves), tree.others.as_slice())?;
+        let query = bind_query(self.alloc, blocks, tree.order.as_slice(), &tree.limit)?;
+        Ok((query, leaves))
     }
 }
 
@@ -147,5 +152,6 @@ pub fn bind(
     Ok(Statement {
         query: bound.query,
         leaves,
+        columns: bound.columns,
     })
 }

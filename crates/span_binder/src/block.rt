@@ -1,17 +1,16 @@
 //! The clauses of a block after its FROM.
-ghost use Rattle.std.specs.Prelude.{◌≡◌, Ok, IfOk};
-ghost use Rattle.span_value.specs.Results.{and_then};
+ghost use Rattle.std.specs.Prelude.{◌≡◌, IfOk};
 ghost use Rattle.span_typing.specs.Steps.{Gives};
 ghost use Rattle.span_binder.specs.Blocks as spec;
 
 use super::aggregating::{is_grouped, mode_of};
-use super::bound::{BoundBlock, FromItems, OutputColumn, Parts, SelectItem};
+use super::bound::{BoundBlock, FromItems, Parts, SelectItem};
 use super::grouping::{filter_of, group_places, grouping_of, groups_named, having_of, with_keys};
 use super::output::select_list;
 use span_expr::expr::Expr;
 use span_params::params::Params;
 use span_parser::tree;
-use span_query::query::{Block, BoundQuery, Item, Join};
+use span_query::query::{Block, BoundQuery, Item, Join, OutputColumn};
 use span_typing::scope::Scope;
 use span_typing::typed::Mode;
 use span_typing::typing::Names;
@@ -131,7 +130,7 @@ fn block_in(
 
 /// A block from its FROM.
 #[tactic(auto, unfolding(crate::specs::Blocks::bind_block))]
-fn bind_block(
+pub(crate) fn bind_block(
     alloc: Global,
     params: &Params,
     tree: &tree::Block,
@@ -141,20 +140,4 @@ fn bind_block(
 {
     let keys = group_places(alloc, &from.scope, tree.groups.as_slice())?;
     block_in(alloc, params, tree, from, keys)
-}
-
-/// A block from its FROM, where that was found.
-pub(crate) fn block_of_found(
-    alloc: Global,
-    params: &Params,
-    tree: &tree::Block,
-    found: Result<(FromItems, Seq<usize>), Refusal>,
-) -> Result<(BoundBlock, Seq<usize>), Refusal>
-    ensures { Gives result
-        (and_then found
-        (λ p. and_then (spec.bind_block params.now (spec.block_tail tree.now) p.0) (λ b. Ok (b, p.1)))) }
-{
-    let (from, leaves) = found?;
-    let block = bind_block(alloc, params, tree, from)?;
-    Ok((block, leaves))
 }

@@ -1,19 +1,14 @@
 //! The intermediate results of the binder.
+ghost use Rattle.std.specs.Prelude.{◌≡◌, Ok};
+ghost use Rattle.span_value.specs.Results.{and_then};
+
 use span_expr::expr::Expr;
-use span_query::query::{Aggregate, Block, BoundQuery, Item, Join};
+use span_query::query::{Aggregate, Block, BoundQuery, Item, Join, OutputColumn};
 use span_typing::scope::Scope;
+use span_value::refusal::Refusal;
 use span_value::seq::Seq;
 use span_value::text::Text;
-use span_value::value::Kind;
 use sqlite_items::Items;
-
-/// A column of what a query or a block gives.
-#[derive(Debug, Drop)]
-pub struct OutputColumn {
-    /// Its alias, or else the name of its column; others have none.
-    pub name: Option<Text>,
-    pub kind: Kind,
-}
 
 /// One output of a block: an expression of its select list, and its column.
 #[derive(Debug, Drop)]
@@ -68,4 +63,18 @@ pub struct BoundBlocks {
 pub struct TypedQuery {
     pub query: BoundQuery,
     pub columns: Seq<OutputColumn>,
+}
+
+/// What was made before, and what was found after it.
+///
+/// Where that is refused, `before` is dropped here, at any type: to prove that the drop of a tree is safe takes long, at each place where
+/// a tree may be dropped. So this takes the result of the function that is called after `before` was made.
+pub(crate) fn pair_with<A: Drop, B: Drop>(
+    before: A,
+    found: Result<B, Refusal>,
+) -> Result<(A, B), Refusal>
+    ensures { result ≡ and_then found (λ after. Ok (before, after)) }
+{
+    let after = found?;
+    Ok((before, after))
 }

@@ -1,13 +1,12 @@
 //! FROM, item by item: the names up to each, and the conditions of the joins.
-ghost use Rattle.std.specs.Prelude.{◌≡◌, ◌++◌, ◌∷◌, [], Ok, IfOk, map};
-ghost use Rattle.span_value.specs.Results.{and_then};
+ghost use Rattle.std.specs.Prelude.{◌≡◌, ◌++◌, ◌∷◌, [], IfOk, map};
 ghost use Rattle.span_typing.specs.Steps.{Gives};
 ghost use Rattle.span_binder.specs.Sources as spec;
 
-use super::bound::{FromItems, OutputColumn, Source};
+use super::bound::{FromItems, Source};
 use span_expr::expr::Expr;
 use span_params::params::Params;
-use span_query::query::{BoundQuery, Join};
+use span_query::query::{BoundQuery, Join, OutputColumn};
 use span_syntax::tree;
 use span_typing::kind::takes;
 use span_typing::scope::{Scope, ScopeColumn, item_named};
@@ -79,7 +78,7 @@ fn no_names(alloc: Global) -> Scope
 }
 
 /// A FROM of its first item.
-fn from_source(alloc: Global, source: Source) -> Result<FromItems, AllocError>
+pub(crate) fn start_from(alloc: Global, source: Source) -> Result<FromItems, AllocError>
     ensures { IfOk result (λ from. from ≡ spec.start_from source) }
 {
     let scope = with_names(alloc, no_names(alloc), &source)?;
@@ -88,17 +87,6 @@ fn from_source(alloc: Global, source: Source) -> Result<FromItems, AllocError>
         first: source.item,
         joins: Items::new(alloc),
     })
-}
-
-/// A FROM of its first item, where that was found.
-pub(crate) fn start_from(
-    alloc: Global,
-    found: Result<(Source, Seq<usize>), Refusal>,
-) -> Result<(FromItems, Seq<usize>), Refusal>
-    ensures { Gives result (and_then found (λ p. Ok (spec.start_from p.0, p.1))) }
-{
-    let (source, leaves) = found?;
-    Ok((from_source(alloc, source)?, leaves))
 }
 
 /// A condition. The error is `TypeMismatch` where it is not BOOL.
@@ -159,7 +147,7 @@ fn has_item(scope: &Scope, name: &str) -> bool
 
 /// One more item of a FROM: its name is checked, and then its ON, which may use the items up to it. The error is `DuplicateAlias`
 /// where an item before has the name, or else one of the ON.
-fn add_item(
+pub(crate) fn add_item(
     alloc: Global,
     params: &Params,
     from: FromItems,
@@ -185,21 +173,4 @@ fn add_item(
         first,
         joins,
     })
-}
-
-/// A FROM with one more item, where that was found.
-pub(crate) fn add_found_item(
-    alloc: Global,
-    params: &Params,
-    from: FromItems,
-    is_left: bool,
-    found: Result<(Source, Seq<usize>), Refusal>,
-    on: &tree::Expr,
-) -> Result<(FromItems, Seq<usize>), Refusal>
-    ensures { Gives result
-        (and_then found (λ p. and_then (spec.add_item params.now from is_left p.0 on.now) (λ f. Ok (f, p.1)))) }
-{
-    let (source, leaves) = found?;
-    let from = add_item(alloc, params, from, is_left, source, on)?;
-    Ok((from, leaves))
 }

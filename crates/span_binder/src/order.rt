@@ -1,17 +1,15 @@
 //! What follows the blocks of a query: the columns of a union, ORDER BY and LIMIT.
-ghost use Rattle.std.specs.Prelude.{◌≡◌, ◌<◌, IfSome, IfOk, Ok, length, position};
+ghost use Rattle.std.specs.Prelude.{◌≡◌, ◌<◌, IfSome, IfOk, length, position};
 ghost use Rattle.std.specs.List.{list_any, list_all, zip};
 ghost use Rattle.std.specs.Option.{option_map};
 ghost use Rattle.span_typing.specs.Scopes.{is_named, one_place};
-ghost use Rattle.span_value.specs.Results.{and_then};
 ghost use Rattle.span_typing.specs.Steps.{Gives};
 ghost use Rattle.span_binder.specs.Queries as spec;
 
-use super::bound::{BoundBlock, BoundBlocks, OutputColumn, TypedQuery};
-use super::output::with_one;
+use super::bound::{BoundBlock, BoundBlocks, TypedQuery};
 use span_parser::tree;
 use span_parser::tree::SortColumn;
-use span_query::query::{Block, BoundQuery, Limit, SortKey};
+use span_query::query::{Block, BoundQuery, Limit, OutputColumn, SortKey};
 use span_schema::table::are_same;
 use span_value::refusal::Refusal;
 use span_value::seq::Seq;
@@ -133,7 +131,7 @@ fn sort_keys(
 {
     let mut all = Seq::new(alloc);
     for key in keys {
-        all = with_one(all, sort_key(columns, key))?;
+        all.push(sort_key(columns, key)?)?;
     }
     Ok(all)
 }
@@ -185,7 +183,7 @@ fn query_of(
 /// A query from its blocks. The error is `ColumnsDiffer` where a block gives other columns than the first, or else the first of the
 /// ORDER BY: `NoColumn`, `Ambiguous` or `BadOrdinal`; or out of memory.
 #[tactic(auto, unfolding(crate::specs::Queries::bind_query))]
-fn bind_query(
+pub(crate) fn bind_query(
     alloc: Global,
     blocks: BoundBlocks,
     order: &[tree::SortKey],
@@ -200,44 +198,21 @@ fn bind_query(
     Ok(query_of(alloc, blocks, keys, limit)?)
 }
 
-/// A query from its blocks, where these were found.
-pub(crate) fn query_of_found(
-    alloc: Global,
-    found: Result<(BoundBlocks, Seq<usize>), Refusal>,
-    order: &[tree::SortKey],
-    limit: &Option<tree::Limit>,
-) -> Result<(TypedQuery, Seq<usize>), Refusal>
-    ensures { Gives result (and_then found (λ p. and_then (spec.bind_query p.0 order.now limit.now) (λ b. Ok (b, p.1)))) }
+/// The blocks of a query up to its first.
+pub(crate) fn only_block(alloc: Global, first: BoundBlock) -> BoundBlocks
+    ensures { result ≡ spec.only_block first }
 {
-    let (blocks, leaves) = found?;
-    let bound = bind_query(alloc, blocks, order, limit)?;
-    Ok((bound, leaves))
-}
-
-/// The first block of a query, where it was found.
-pub(crate) fn first_of(
-    alloc: Global,
-    found: Result<(BoundBlock, Seq<usize>), Refusal>,
-) -> Result<(BoundBlocks, Seq<usize>), Refusal>
-    ensures { Gives result (and_then found (λ p. Ok (spec.only_block p.0, p.1))) }
-{
-    let (first, leaves) = found?;
-    let blocks = BoundBlocks {
+    BoundBlocks {
         first,
         others: Seq::new(alloc),
-    };
-    Ok((blocks, leaves))
+    }
 }
 
-/// One more block of a query, where it was found.
-pub(crate) fn with_block(
-    blocks: BoundBlocks,
-    found: Result<(BoundBlock, Seq<usize>), Refusal>,
-) -> Result<(BoundBlocks, Seq<usize>), Refusal>
-    ensures { Gives result (and_then found (λ p. Ok (spec.with_block blocks p.0, p.1))) }
+/// One more block of a query.
+pub(crate) fn with_block(blocks: BoundBlocks, block: BoundBlock) -> Result<BoundBlocks, AllocError>
+    ensures { IfOk result (λ all. all ≡ spec.with_block blocks block) }
 {
-    let (block, leaves) = found?;
     let BoundBlocks { first, mut others } = blocks;
     others.push(block)?;
-    Ok((BoundBlocks { first, others }, leaves))
+    Ok(BoundBlocks { first, others })
 }

@@ -1,15 +1,14 @@
 //! The output of a block: the typed expressions of its select list, and their columns.
-ghost use Rattle.std.specs.Prelude.{◌≡◌, ◌++◌, ◌∷◌, [], Ok, IfOk, length, slice_get};
-ghost use Rattle.span_value.specs.Results.{and_then};
+ghost use Rattle.std.specs.Prelude.{◌≡◌, IfOk, length, slice_get};
 ghost use Rattle.span_typing.specs.Steps.{Gives};
 ghost use Rattle.span_typing.specs.Scopes.{item_named as named};
 ghost use Rattle.span_typing.specs.Typing.{typing};
 ghost use Rattle.span_binder.specs.Outputs as spec;
 
-use super::bound::{OutputColumn, SelectItem};
+use super::bound::SelectItem;
 use super::join::copy_name;
 use span_parser::tree::Output;
-use span_query::query::Aggregate;
+use span_query::query::{Aggregate, OutputColumn};
 use span_syntax::tree::{Expr, Spelling};
 use span_typing::kind::or_int;
 use span_typing::leaf::column_at;
@@ -61,19 +60,6 @@ fn projected_column(
     Ok(projection(name, typed))
 }
 
-/// What was found before, and one more after it.
-pub(crate) fn with_one<T: Drop>(
-    before: Seq<T>,
-    found: Result<T, Refusal>,
-) -> Result<Seq<T>, Refusal>
-    ensures { Gives result (and_then found (λ x. Ok (before ++ x ∷ []))) }
-{
-    let one = found?;
-    let mut all = before;
-    all.push(one)?;
-    Ok(all)
-}
-
 #[tactic(auto, unfolding(crate::specs::Outputs::projected_columns))]
 fn projected_columns(
     alloc: Global,
@@ -85,7 +71,7 @@ fn projected_columns(
 {
     let mut all = Seq::new(alloc);
     for place in places {
-        all = with_one(all, projected_column(alloc, scope, mode, *place))?;
+        all.push(projected_column(alloc, scope, mode, *place)?)?;
     }
     Ok(all)
 }
@@ -194,17 +180,6 @@ fn project_value(
     Ok((all, found))
 }
 
-/// The output of a star, which has no aggregate.
-fn with_aggregates(
-    projection: Result<Seq<SelectItem>, Refusal>,
-    found: Seq<Aggregate>,
-) -> Result<ProjectionSoFar, Refusal>
-    ensures { Gives result (and_then projection (λ x. Ok (x, found))) }
-{
-    Ok((projection?, found))
-}
-
-#[tactic(auto, using(crate::proofs::Giving::gives_on))]
 fn project_output(
     names: Names<'_>,
     mode: Mode,
@@ -214,11 +189,11 @@ fn project_output(
     ensures { Gives result (spec.project_output names.entry.scope.now names.entry.params.now mode output.now found) }
 {
     match output {
-        Output::All => with_aggregates(project_all(names.alloc, names.scope, mode), found),
-        Output::AllOf(item) => with_aggregates(
-            project_item(names.alloc, names.scope, mode, item.text.as_str()),
-            found,
-        ),
+        Output::All => Ok((project_all(names.alloc, names.scope, mode)?, found)),
+        Output::AllOf(item) => {
+            let all = project_item(names.alloc, names.scope, mode, item.text.as_str())?;
+            Ok((all, found))
+        }
         Output::Value(tree, alias) => project_value(names, mode, tree, alias, found),
     }
 }

@@ -1,12 +1,11 @@
 //! The items of a FROM: tables and derived tables, by their names and with their columns.
-ghost use Rattle.std.specs.Prelude.{◌≡◌, ◌++◌, Ok, IfOk, map};
+ghost use Rattle.std.specs.Prelude.{◌≡◌, IfOk, map};
 ghost use Rattle.span_schema.specs.Numbers.{columns_of, IsTable};
-ghost use Rattle.span_value.specs.Results.{and_then};
 ghost use Rattle.span_typing.specs.Steps.{Gives};
 ghost use Rattle.span_binder.specs.Sources as spec;
 
-use super::bound::{OutputColumn, Source, TypedQuery};
-use span_query::query::Item;
+use super::bound::{Source, TypedQuery};
+use span_query::query::{Item, OutputColumn};
 use span_schema::schema::Schema;
 use span_schema::table::{Column, kind_of_type};
 use span_syntax::tree::Spelling;
@@ -90,20 +89,18 @@ pub(crate) fn named_source(
     Ok((source, leaves))
 }
 
-/// A derived table, whose query was found before.
+/// A derived table of its query.
 pub(crate) fn derived_source(
     alloc: Global,
     name: &Spelling,
-    found: Result<(TypedQuery, Seq<usize>), Refusal>,
-) -> Result<(Source, Seq<usize>), Refusal>
-    ensures { Gives result (and_then found (λ p. Ok (spec.derived_source name.now p.0, p.1))) }
+    bound: TypedQuery,
+) -> Result<Source, AllocError>
+    ensures { IfOk result (λ source. source ≡ spec.derived_source name.now bound) }
 {
-    let (bound, leaves) = found?;
     let TypedQuery { query, columns } = bound;
-    let source = Source {
+    Ok(Source {
         item: Item::Derived(Boxed::new(alloc, query)?),
         name: Text::from_str(alloc, name.text.as_str())?,
         columns,
-    };
-    Ok((source, leaves))
+    })
 }

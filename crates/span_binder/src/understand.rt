@@ -1,7 +1,9 @@
 //! From a query text to a statement.
-ghost use Rattle.std.specs.Prelude.{◌≡◌, ◌⊎◌, Result, Ok, Err, IfOk, IfErr};
+ghost use Rattle.std.specs.Prelude.{◌≡◌, ◌⊎◌, ℕ, List, Result, Ok, Err, IfOk, IfErr};
 ghost use Rattle.std.specs.List.{AllByRecursion};
 ghost use Rattle.span_query.specs.declared.query.Statement.{Statement};
+ghost use Rattle.span_params.specs.declared.params.Parameter.{Parameter};
+ghost use Rattle.span_schema.specs.declared.table.Table.{Table};
 ghost use Rattle.span_schema.specs.Numbers.{IsTable};
 ghost use Rattle.span_value.specs.declared.refusal.Refusal.{Refusal};
 ghost use Rattle.span_binder.specs.Understands.{Understands};
@@ -38,3 +40,11 @@ pub fn understand(
         Err(fault) => Err(fault.refusal),
     }
 }
+
+/// A query text, with parameters, is understood in one way at most.
+pub fn understanding_is_unique()
+    ensures { (schema : List Table) (text : List ℕ) (params : List Parameter) (u v : Result Statement Refusal)
+        → Understands schema text params u
+        → Understands schema text params v
+        → u ≡ v }
+{}

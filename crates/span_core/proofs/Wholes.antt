@@ -213,6 +213,17 @@ trimmed_steps schema j k cs slot h w d queries =
     ∙ ap (λ (i : ℕ). kept.live schema m.log m.transactions i h) (sym zero) in
     inl (no_text, tt, (ap reply.Trimmed number ∙ sym (ap (λ (a : Answer). a.0) e), d.after ∙ sym (ap (λ (a : Answer). a.1) e)))
 
+-- as many versions are kept as the machine counts at the slot's horizon
+pub live_here : (schema : List Table) (j : Journaled) (cs : List KeyVersions) (slot : ℕ) (slot_state : SlotState) → IsWhole schema j cs → slice_get (machine_of j).slots slot ≡ Some slot_state
+    → shard.live cs ≡ kept.live schema (machine_of j).log (machine_of j).transactions slot slot_state.horizon
+live_here schema j cs slot slot_state w here =
+    let m = machine_of j in
+    let zero = only_slot schema m w.reached slot slot_state here in
+    let here_zero : slice_get m.slots 0 ≡ Some slot_state = subst (λ (i : ℕ). slice_get m.slots i ≡ Some slot_state) zero here in
+    live_is_kept schema w.rules m cs w.reached w.kept
+    ∙ ap (kept.live schema m.log m.transactions 0) (horizon_here m.slots slot_state here_zero)
+    ∙ ap (λ (i : ℕ). kept.live schema m.log m.transactions i slot_state.horizon) (sym zero)
+
 -- ---- scan
 
 -- the answer of a scan that covers a leaf

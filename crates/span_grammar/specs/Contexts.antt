@@ -4,7 +4,6 @@ use Rattle.std.specs.Prelude.{ℕ, List, ◌∷◌, [], codes, Option, Some, Non
 use Rattle.std.specs.Str.{bytes_eq, str_to_ascii_lowercase}
 use Rattle.span_grammar.specs.declared.class.Context.{Context}
 use Rattle.span_grammar.specs.declared.class.Context.TheVariants as context
-use Rattle.span_grammar.specs.declared.class.TheConstants.{CONTEXTS}
 
 abbrev pub word : Context → List ℕ
 word context.Offset = codes "offset"
@@ -23,10 +22,14 @@ word context.String = codes "string"
 word context.Bytes = codes "bytes"
 word context.Max = codes "max"
 
+-- all of them
+abbrev pub context_words : List Context
+context_words = context.Offset ∷ context.Table ∷ context.Primary ∷ context.Key ∷ context.Interleave ∷ context.Parent ∷ context.Delete ∷ context.Cascade ∷ context.No ∷ context.Action ∷ context.Int64 ∷ context.Bool ∷ context.String ∷ context.Bytes ∷ context.Max ∷ []
+
 -- the first of some words that the bytes spell in any case
 unfoldable pub matching_word : List Context → List ℕ → Option Context
 matching_word [] bytes = None
 matching_word (v ∷ vs) bytes = if bytes_eq (str_to_ascii_lowercase bytes) (word v) then Some v else matching_word vs bytes
 
 abbrev pub context_word : List ℕ → Option Context
-context_word bytes = matching_word CONTEXTS bytes
+context_word bytes = matching_word context_words bytes

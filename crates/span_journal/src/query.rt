@@ -71,6 +71,7 @@ impl KeptQuery {
         let Statement {
             query,
             leaves: tables,
+            ..
         } = statement;
         let leaves = uncovered_leaves(alloc, tables.as_slice())?;
         let pieces = empty_pieces(alloc, tables.as_slice())?;

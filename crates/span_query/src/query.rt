@@ -1,15 +1,27 @@
 //! Typed queries, as the binder makes them.
 use span_expr::expr::Expr;
 use span_value::seq::Seq;
+use span_value::text::Text;
+use span_value::value::Kind;
 use sqlite_items::{Boxed, Items};
 
-/// A statement: its query, and the tables that it reads.
+/// A column of what a query gives.
+#[derive(Debug, Drop)]
+pub struct OutputColumn {
+    /// Its alias, or else the name of its column; others have none.
+    pub name: Option<Text>,
+    pub kind: Kind,
+}
+
+/// A statement: its query, the tables that it reads, and the columns of its result.
 #[derive(Debug, Drop)]
 pub struct Statement {
     pub query: BoundQuery,
     /// The leaves: the tables of all FROMs by their numbers in the schema, in the order of the query text. A table that is named twice is
     /// two leaves.
     pub leaves: Seq<usize>,
+    /// The columns of the rows of the result.
+    pub columns: Seq<OutputColumn>,
 }
 
 /// A query.

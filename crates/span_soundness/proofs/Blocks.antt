@@ -37,7 +37,7 @@ use Rattle.span_typing.specs.Scopes.{item_named, column_place}
 use Rattle.span_value.specs.Results.{and_then}
 use Rattle.span_typing.specs.Steps.{pure, ◌>>=◌}
 use Rattle.span_typing.specs.Typing.{Finds, typing, kind_at, column_at}
-use Rattle.span_binder.specs.declared.bound.OutputColumn.{OutputColumn}
+use Rattle.span_query.specs.declared.query.OutputColumn.{OutputColumn}
 use Rattle.span_binder.specs.declared.bound.Source.{Source}
 use Rattle.span_binder.specs.declared.bound.FromItems.{FromItems}
 use Rattle.span_binder.specs.declared.bound.SelectItem.{SelectItem}

@@ -1,6 +1,5 @@
 -- The laws of queries, put together.
 use Rattle.std.proofs.Common.{◌≡◌, ℕ, List, [], Result, Ok, Err, refl, subst}
-use Rattle.span_value.specs.declared.value.Kind.{Kind}
 use Rattle.span_value.specs.declared.refusal.Refusal.{Refusal}
 use Rattle.span_query.specs.declared.query.Statement.{Statement}
 use Rattle.span_value.specs.Results.{and_then}
@@ -27,10 +26,10 @@ queries_are_typed schema params q bound leaves are is = bound_is schema leaves p
 pub statements_are_typed : StatementsAreTyped
 statements_are_typed schema params q statement are is = go (query_step schema params q []) (λ answer leaves made. queries_are_typed schema params q answer leaves are made) is where
   go : (o : Result (TypedQuery × List ℕ) Refusal) → ((answer : TypedQuery) (leaves : List ℕ) → o ≡ Ok (answer, leaves) → IsQueryOf (types_of_leaves schema leaves) answer.query (output_types answer.columns)) → and_then o (λ p. Ok (statement_of p)) ≡ Ok statement
-      → (types : List Kind) × IsQueryOf (types_of_leaves schema statement.leaves) statement.query types
+      → IsQueryOf (types_of_leaves schema statement.leaves) statement.query (output_types statement.columns)
   go (Ok p) typed made =
       let same : statement_of p ≡ statement = ok_is (statement_of p) statement made in
-      subst (λ (s : Statement). (types : List Kind) × IsQueryOf (types_of_leaves schema s.leaves) s.query types) same (output_types p.0.columns, typed p.0 p.1 refl)
+      subst (λ (s : Statement). IsQueryOf (types_of_leaves schema s.leaves) s.query (output_types s.columns)) same (typed p.0 p.1 refl)
   go (Err why) typed made = absurd (not_ok why statement made)
 
 pub queries_keep_types : QueriesKeepTypes

@@ -80,7 +80,7 @@ QueriesAreTyped = (schema : List Table) (params : List Parameter) (q : Query) (a
 
 abbrev pub StatementsAreTyped : Type 0
 StatementsAreTyped = (schema : List Table) (params : List Parameter) (q : Query) (statement : Statement)
-    → AreTyped params → bound schema params q ≡ Ok statement → (types : List Kind) × IsQueryOf (types_of_leaves schema statement.leaves) statement.query types
+    → AreTyped params → bound schema params q ≡ Ok statement → IsQueryOf (types_of_leaves schema statement.leaves) statement.query (output_types statement.columns)
 
 abbrev pub QueriesKeepTypes : Type 0
 QueriesKeepTypes = (leaves : List (List Kind)) (tables : List (List Row)) (q : BoundQuery) (types : List Kind) → AreTablesOf leaves tables → IsQueryOf leaves q types → AreResultsOf types (meaning tables q)

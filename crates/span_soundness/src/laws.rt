@@ -33,7 +33,7 @@ pub fn queries_are_typed()
     ensures { QueriesAreTyped }
 {}
 
-/// Each statement that the binder makes of a query is well typed.
+/// Each statement that the binder makes of a query is well typed, and the types of its result are those of its columns.
 pub fn statements_are_typed()
     ensures { StatementsAreTyped }
 {}
