@@ -1,8 +1,7 @@
 //! The clauses of queries, read from tokens: a function for each rule.
-ghost use Rattle.std.specs.Prelude.{◌≡◌, ◌≤◌};
-ghost use Rattle.span_grammar.specs.Rules.{limit};
 ghost use Rattle.span_syntax.specs.Pieces.{Gives, each};
 ghost use Rattle.span_parser.specs.Queries as spec;
+ghost use Rattle.span_parser.specs.QueryTexts.{Reads, ReadsEach};
 
 use super::tree::{Limit, Output, SortColumn, SortKey};
 use span_grammar::class::{Context, Lexeme, Sort};
@@ -17,6 +16,7 @@ use span_syntax::token::{integer_of, integer_value, next_is, pair_with, spelling
 use span_syntax::tree::{Column, Expr, Spelling};
 use sqlite_items::Items;
 use std::alloc::Global;
+use std::marker::Model;
 
 /// `AS name`
 #[tactic(auto, unfolding(crate::specs::Queries::as_name))]
@@ -393,7 +393,7 @@ pub(crate) fn maybe_semicolon(tokens: &[Lexeme]) -> Result<(bool, &[Lexeme]), Sy
 pub(crate) type Conditions = (Option<Expr>, (Items<Column>, Option<Expr>));
 
 /// Reads the clauses that have expressions, with `left` openings left.
-#[derive(Clone, Copy)]
+#[derive(Drop)]
 pub(crate) struct Clauses<'t> {
     pub alloc: Global,
     /// The bytes of the text.
@@ -401,11 +401,22 @@ pub(crate) struct Clauses<'t> {
     pub left: usize,
 }
 
+impl<'t> Model for Clauses<'t> {
+    ghost use Rattle.std.specs.Prelude.{◌≤◌};
+    ghost use Rattle.span_grammar.specs.Rules.{limit};
+    ghost use Rattle.span_parser.specs.QueryTexts.{QueryText};
+
+    ghost Value = { QueryText };
+
+    ghost view = { λ c. record { text = c.text.now; left = c.left } };
+
+    ghost invariant = { λ c. c.left ≤ limit };
+}
+
 impl<'t> Clauses<'t> {
     /// An expression.
     pub(crate) fn expr<'a>(&self, tokens: &'a [Lexeme]) -> Result<(Expr, &'a [Lexeme]), SyntaxError>
-        requires { self.now.left ≤ limit }
-        ensures { Gives result ((spec.expr self.now.text.now self.now.left).read tokens.now) }
+        ensures { Reads self.now spec.expr tokens.now result }
     {
         read_expression(self.alloc, self.text, self.left, tokens)
     }
@@ -413,8 +424,7 @@ impl<'t> Clauses<'t> {
     /// `WHERE expr`
     #[tactic(auto, unfolding(crate::specs::Queries::where_clause))]
     fn where_clause<'a>(&self, tokens: &'a [Lexeme]) -> Result<(Expr, &'a [Lexeme]), SyntaxError>
-        requires { self.now.left ≤ limit }
-        ensures { Gives result ((spec.where_clause self.now.text.now self.now.left).read tokens.now) }
+        ensures { Reads self.now spec.where_clause tokens.now result }
     {
         let (_, rest) = take(Sort::Word(Word::Where), tokens)?;
         self.expr(rest)
@@ -426,8 +436,7 @@ impl<'t> Clauses<'t> {
         &self,
         tokens: &'a [Lexeme],
     ) -> Result<(Option<Expr>, &'a [Lexeme]), SyntaxError>
-        requires { self.now.left ≤ limit }
-        ensures { Gives result ((spec.maybe_where self.now.text.now self.now.left).read tokens.now) }
+        ensures { Reads self.now spec.maybe_where tokens.now result }
     {
         if !goes_on(Part::Where, tokens) {
             return Ok((None, tokens));
@@ -439,8 +448,7 @@ impl<'t> Clauses<'t> {
     /// `HAVING expr`
     #[tactic(auto, unfolding(crate::specs::Queries::having))]
     fn having<'a>(&self, tokens: &'a [Lexeme]) -> Result<(Expr, &'a [Lexeme]), SyntaxError>
-        requires { self.now.left ≤ limit }
-        ensures { Gives result ((spec.having self.now.text.now self.now.left).read tokens.now) }
+        ensures { Reads self.now spec.having tokens.now result }
     {
         let (_, rest) = take(Sort::Word(Word::Having), tokens)?;
         self.expr(rest)
@@ -452,8 +460,7 @@ impl<'t> Clauses<'t> {
         &self,
         tokens: &'a [Lexeme],
     ) -> Result<(Option<Expr>, &'a [Lexeme]), SyntaxError>
-        requires { self.now.left ≤ limit }
-        ensures { Gives result ((spec.maybe_having self.now.text.now self.now.left).read tokens.now) }
+        ensures { Reads self.now spec.maybe_having tokens.now result }
     {
         if !goes_on(Part::Having, tokens) {
             return Ok((None, tokens));
@@ -468,8 +475,7 @@ impl<'t> Clauses<'t> {
         &self,
         tokens: &'a [Lexeme],
     ) -> Result<(Output, &'a [Lexeme]), SyntaxError>
-        requires { self.now.left ≤ limit }
-        ensures { Gives result ((spec.output_expression self.now.text.now self.now.left).read tokens.now) }
+        ensures { Reads self.now spec.output_expression tokens.now result }
     {
         let (value, rest) = self.expr(tokens)?;
         let ((value, name), rest) = pair_with(value, alias(self.alloc, self.text, rest))?;
@@ -479,8 +485,7 @@ impl<'t> Clauses<'t> {
     /// `out`
     #[tactic(auto, unfolding(crate::specs::Queries::output))]
     fn output<'a>(&self, tokens: &'a [Lexeme]) -> Result<(Output, &'a [Lexeme]), SyntaxError>
-        requires { self.now.left ≤ limit }
-        ensures { Gives result ((spec.output self.now.text.now self.now.left).read tokens.now) }
+        ensures { Reads self.now spec.output tokens.now result }
     {
         if next_is(Sort::Sign(Sign::Star), tokens) {
             let (_, rest) = take(Sort::Sign(Sign::Star), tokens)?;
@@ -495,8 +500,7 @@ impl<'t> Clauses<'t> {
     /// `, out`
     #[tactic(auto, unfolding(crate::specs::Queries::output_more))]
     fn output_more<'a>(&self, tokens: &'a [Lexeme]) -> Result<(Output, &'a [Lexeme]), SyntaxError>
-        requires { self.now.left ≤ limit }
-        ensures { Gives result ((spec.output_more self.now.text.now self.now.left).read tokens.now) }
+        ensures { Reads self.now spec.output_more tokens.now result }
     {
         let (_, rest) = take(Sort::Sign(Sign::Comma), tokens)?;
         self.output(rest)
@@ -508,8 +512,7 @@ impl<'t> Clauses<'t> {
         &self,
         tokens: &'a [Lexeme],
     ) -> Result<(Items<Output>, &'a [Lexeme]), SyntaxError>
-        requires { self.now.left ≤ limit }
-        ensures { Gives result ((each Part.OutputMore (spec.output_more self.now.text.now self.now.left)).read tokens.now) }
+        ensures { ReadsEach self.now Part.OutputMore spec.output_more tokens.now result }
     {
         let mut found = Items::new(self.alloc);
         let mut rest = tokens;
@@ -527,8 +530,7 @@ impl<'t> Clauses<'t> {
         &self,
         tokens: &'a [Lexeme],
     ) -> Result<(Items<Output>, &'a [Lexeme]), SyntaxError>
-        requires { self.now.left ≤ limit }
-        ensures { Gives result ((spec.outputs self.now.text.now self.now.left).read tokens.now) }
+        ensures { Reads self.now spec.outputs tokens.now result }
     {
         let (first, rest) = self.output(tokens)?;
         let ((first, more), rest) = pair_with(first, self.output_rest(rest))?;
@@ -541,8 +543,7 @@ impl<'t> Clauses<'t> {
         &self,
         tokens: &'a [Lexeme],
     ) -> Result<(Expr, &'a [Lexeme]), SyntaxError>
-        requires { self.now.left ≤ limit }
-        ensures { Gives result ((spec.join_on self.now.text.now self.now.left).read tokens.now) }
+        ensures { Reads self.now spec.join_on tokens.now result }
     {
         let (_, rest) = take(Sort::Word(Word::On), tokens)?;
         self.expr(rest)
@@ -554,8 +555,7 @@ impl<'t> Clauses<'t> {
         &self,
         tokens: &'a [Lexeme],
     ) -> Result<((Items<Column>, Option<Expr>), &'a [Lexeme]), SyntaxError>
-        requires { self.now.left ≤ limit }
-        ensures { Gives result ((spec.block_groups self.now.text.now self.now.left).read tokens.now) }
+        ensures { Reads self.now spec.block_groups tokens.now result }
     {
         let (groups, rest) = maybe_group_by(self.alloc, self.text, tokens)?;
         pair_with(groups, self.maybe_having(rest))
@@ -567,8 +567,7 @@ impl<'t> Clauses<'t> {
         &self,
         tokens: &'a [Lexeme],
     ) -> Result<(Conditions, &'a [Lexeme]), SyntaxError>
-        requires { self.now.left ≤ limit }
-        ensures { Gives result ((spec.block_filter self.now.text.now self.now.left).read tokens.now) }
+        ensures { Reads self.now spec.block_filter tokens.now result }
     {
         let (filter, rest) = self.maybe_where(tokens)?;
         pair_with(filter, self.block_groups(rest))

@@ -1,11 +1,11 @@
 //! Queries, read from tokens: a function for each rule.
 //!
 //! As with expressions, a single function recurses, after the parenthesis of a derived table.
-ghost use Rattle.std.specs.Prelude.{◌≡◌, ◌<◌, ◌≤◌, ◌-◌};
+ghost use Rattle.std.specs.Prelude.{◌<◌, ◌≤◌};
 ghost use Rattle.span_grammar.specs.Rules.{limit};
-ghost use Rattle.span_syntax.specs.Pieces.{Gives, each};
+ghost use Rattle.span_syntax.specs.Pieces.{Gives};
 ghost use Rattle.span_parser.specs.Queries as spec;
-ghost use Rattle.span_parser.specs.Subqueries.{NestsQueries};
+ghost use Rattle.span_parser.specs.Subqueries.{NestsQueries, ReadsNested, ReadsQuery, ReadsEachQuery};
 
 use super::clause::{
     Clauses, Conditions, alias, join_kind, maybe_limit, maybe_order_by, maybe_semicolon,
@@ -20,13 +20,22 @@ use span_syntax::fault::SyntaxError;
 use span_syntax::token::{close_parenthesis, enter, pair_with, spelling, take};
 use sqlite_items::{Boxed, Items};
 use std::alloc::Global;
+use std::marker::Model;
 
 /// Reads queries, with `left` openings left.
-#[derive(Clone, Copy)]
+#[derive(Drop)]
 struct QueryReader<'t, F> {
     clauses: Clauses<'t>,
     /// Reads what is after an opening.
     read: F,
+}
+
+impl<'t, F> Model for QueryReader<'t, F> {
+    ghost use Rattle.span_syntax.specs.Reading.{Reading};
+
+    ghost Value = { Reading F };
+
+    ghost view = { λ r. record { text = r.clauses.text; left = r.clauses.left; read = r.read } };
 }
 
 impl<
@@ -35,10 +44,9 @@ impl<
     /// A query after an opening.
     #[tactic(auto, using(crate::proofs::Sublevels::level_steps))]
     fn after<'a>(&self, tokens: &'a [Lexeme]) -> Result<(Query, &'a [Lexeme]), SyntaxError>
-        requires nests { NestsQueries self.now.clauses.text.now self.now.clauses.left (F.pre self.now.read) (F.post self.now.read) }
-        requires limited { self.now.clauses.left ≤ limit }
-        requires deeper { 0 < self.now.clauses.left }
-        ensures { Gives result ((spec.nested_query self.now.clauses.text.now self.now.clauses.left).read tokens.now) }
+        requires nests { NestsQueries F.Fn self.now }
+        requires deeper { 0 < self.now.left }
+        ensures { ReadsNested self.now tokens.now result }
     {
         (self.read)(
             self.clauses.alloc,
@@ -51,11 +59,8 @@ impl<
     /// `"(" query ")"`
     #[tactic(auto, unfolding(crate::specs::Queries::subquery))]
     fn subquery<'a>(&self, tokens: &'a [Lexeme]) -> Result<(Query, &'a [Lexeme]), SyntaxError>
-        requires nests { NestsQueries self.now.clauses.text.now self.now.clauses.left (F.pre self.now.read) (F.post self.now.read) }
-        requires limited { self.now.clauses.left ≤ limit }
-        ensures { Gives result
-            ((spec.subquery self.now.clauses.text.now self.now.clauses.left (spec.nested_query self.now.clauses.text.now self.now.clauses.left)).read
-            tokens.now) }
+        requires nests { NestsQueries F.Fn self.now }
+        ensures { ReadsQuery self.now spec.subquery tokens.now result }
     {
         let (_, rest) = enter(self.clauses.left, Sort::Sign(Sign::Open), tokens)?;
         let (query, rest) = self.after(rest)?;
@@ -65,11 +70,8 @@ impl<
     /// `name [[AS] name]`
     #[tactic(auto, unfolding(crate::specs::Queries::named_item))]
     fn named_item<'a>(&self, tokens: &'a [Lexeme]) -> Result<(Item, &'a [Lexeme]), SyntaxError>
-        requires nests { NestsQueries self.now.clauses.text.now self.now.clauses.left (F.pre self.now.read) (F.post self.now.read) }
-        requires limited { self.now.clauses.left ≤ limit }
-        ensures { Gives result
-            ((spec.named_item self.now.clauses.text.now self.now.clauses.left (spec.nested_query self.now.clauses.text.now self.now.clauses.left)).read
-            tokens.now) }
+        requires nests { NestsQueries F.Fn self.now }
+        ensures { ReadsQuery self.now spec.named_item tokens.now result }
     {
         let (name, rest) = spelling(self.clauses.alloc, self.clauses.text, Sort::Name, tokens)?;
         let (other, rest) = alias(self.clauses.alloc, self.clauses.text, rest)?;
@@ -79,11 +81,8 @@ impl<
     /// `"(" query ")" [AS] name`
     #[tactic(auto, unfolding(crate::specs::Queries::derived_item))]
     fn derived_item<'a>(&self, tokens: &'a [Lexeme]) -> Result<(Item, &'a [Lexeme]), SyntaxError>
-        requires nests { NestsQueries self.now.clauses.text.now self.now.clauses.left (F.pre self.now.read) (F.post self.now.read) }
-        requires limited { self.now.clauses.left ≤ limit }
-        ensures { Gives result
-            ((spec.derived_item self.now.clauses.text.now self.now.clauses.left (spec.nested_query self.now.clauses.text.now self.now.clauses.left)).read
-            tokens.now) }
+        requires nests { NestsQueries F.Fn self.now }
+        ensures { ReadsQuery self.now spec.derived_item tokens.now result }
     {
         let (query, rest) = self.subquery(tokens)?;
         let name = required_alias(self.clauses.alloc, self.clauses.text, rest);
@@ -97,11 +96,8 @@ impl<
     /// `item`
     #[tactic(auto, unfolding(crate::specs::Queries::item))]
     fn item<'a>(&self, tokens: &'a [Lexeme]) -> Result<(Item, &'a [Lexeme]), SyntaxError>
-        requires nests { NestsQueries self.now.clauses.text.now self.now.clauses.left (F.pre self.now.read) (F.post self.now.read) }
-        requires limited { self.now.clauses.left ≤ limit }
-        ensures { Gives result
-            ((spec.item self.now.clauses.text.now self.now.clauses.left (spec.nested_query self.now.clauses.text.now self.now.clauses.left)).read
-            tokens.now) }
+        requires nests { NestsQueries F.Fn self.now }
+        ensures { ReadsQuery self.now spec.item tokens.now result }
     {
         if goes_on(Part::NamedItem, tokens) {
             return self.named_item(tokens);
@@ -112,11 +108,8 @@ impl<
     /// `join`
     #[tactic(auto, unfolding(crate::specs::Queries::join, crate::specs::Queries::join_of))]
     fn join<'a>(&self, tokens: &'a [Lexeme]) -> Result<(Join, &'a [Lexeme]), SyntaxError>
-        requires nests { NestsQueries self.now.clauses.text.now self.now.clauses.left (F.pre self.now.read) (F.post self.now.read) }
-        requires limited { self.now.clauses.left ≤ limit }
-        ensures { Gives result
-            ((spec.join self.now.clauses.text.now self.now.clauses.left (spec.nested_query self.now.clauses.text.now self.now.clauses.left)).read
-            tokens.now) }
+        requires nests { NestsQueries F.Fn self.now }
+        ensures { ReadsQuery self.now spec.join tokens.now result }
     {
         let (is_left, rest) = join_kind(tokens)?;
         let (item, rest) = self.item(rest)?;
@@ -127,11 +120,8 @@ impl<
     /// `{join}`
     #[tactic(auto, using(crate::proofs::Falling::loop_steps))]
     fn joins<'a>(&self, tokens: &'a [Lexeme]) -> Result<(Items<Join>, &'a [Lexeme]), SyntaxError>
-        requires nests { NestsQueries self.now.clauses.text.now self.now.clauses.left (F.pre self.now.read) (F.post self.now.read) }
-        requires limited { self.now.clauses.left ≤ limit }
-        ensures { Gives result
-            ((each Part.Join (spec.join self.now.clauses.text.now self.now.clauses.left (spec.nested_query self.now.clauses.text.now self.now.clauses.left))).read
-            tokens.now) }
+        requires nests { NestsQueries F.Fn self.now }
+        ensures { ReadsEachQuery self.now Part.Join spec.join tokens.now result }
     {
         let mut found = Items::new(self.clauses.alloc);
         let mut rest = tokens;
@@ -149,11 +139,8 @@ impl<
         &self,
         tokens: &'a [Lexeme],
     ) -> Result<((Items<Join>, Conditions), &'a [Lexeme]), SyntaxError>
-        requires nests { NestsQueries self.now.clauses.text.now self.now.clauses.left (F.pre self.now.read) (F.post self.now.read) }
-        requires limited { self.now.clauses.left ≤ limit }
-        ensures { Gives result
-            ((spec.block_joins self.now.clauses.text.now self.now.clauses.left (spec.nested_query self.now.clauses.text.now self.now.clauses.left)).read
-            tokens.now) }
+        requires nests { NestsQueries F.Fn self.now }
+        ensures { ReadsQuery self.now spec.block_joins tokens.now result }
     {
         let (joins, rest) = self.joins(tokens)?;
         pair_with(joins, self.clauses.block_filter(rest))
@@ -165,11 +152,8 @@ impl<
         &self,
         tokens: &'a [Lexeme],
     ) -> Result<((Item, (Items<Join>, Conditions)), &'a [Lexeme]), SyntaxError>
-        requires nests { NestsQueries self.now.clauses.text.now self.now.clauses.left (F.pre self.now.read) (F.post self.now.read) }
-        requires limited { self.now.clauses.left ≤ limit }
-        ensures { Gives result
-            ((spec.block_from self.now.clauses.text.now self.now.clauses.left (spec.nested_query self.now.clauses.text.now self.now.clauses.left)).read
-            tokens.now) }
+        requires nests { NestsQueries F.Fn self.now }
+        ensures { ReadsQuery self.now spec.block_from tokens.now result }
     {
         let (_, rest) = take(Sort::Word(Word::From), tokens)?;
         let (from, rest) = self.item(rest)?;
@@ -179,11 +163,8 @@ impl<
     /// What is after SELECT.
     #[tactic(auto, unfolding(crate::specs::Queries::block_body, crate::specs::Queries::block_of))]
     fn block_body<'a>(&self, tokens: &'a [Lexeme]) -> Result<(Block, &'a [Lexeme]), SyntaxError>
-        requires nests { NestsQueries self.now.clauses.text.now self.now.clauses.left (F.pre self.now.read) (F.post self.now.read) }
-        requires limited { self.now.clauses.left ≤ limit }
-        ensures { Gives result
-            ((spec.block_body self.now.clauses.text.now self.now.clauses.left (spec.nested_query self.now.clauses.text.now self.now.clauses.left)).read
-            tokens.now) }
+        requires nests { NestsQueries F.Fn self.now }
+        ensures { ReadsQuery self.now spec.block_body tokens.now result }
     {
         let (is_distinct, rest) = quantifier(tokens)?;
         let (outputs, rest) = self.clauses.outputs(rest)?;
@@ -207,11 +188,8 @@ impl<
     /// `block`
     #[tactic(auto, unfolding(crate::specs::Queries::block))]
     fn block<'a>(&self, tokens: &'a [Lexeme]) -> Result<(Block, &'a [Lexeme]), SyntaxError>
-        requires nests { NestsQueries self.now.clauses.text.now self.now.clauses.left (F.pre self.now.read) (F.post self.now.read) }
-        requires limited { self.now.clauses.left ≤ limit }
-        ensures { Gives result
-            ((spec.block self.now.clauses.text.now self.now.clauses.left (spec.nested_query self.now.clauses.text.now self.now.clauses.left)).read
-            tokens.now) }
+        requires nests { NestsQueries F.Fn self.now }
+        ensures { ReadsQuery self.now spec.block tokens.now result }
     {
         let (_, rest) = take(Sort::Word(Word::Select), tokens)?;
         self.block_body(rest)
@@ -220,11 +198,8 @@ impl<
     /// `UNION ALL block`
     #[tactic(auto, unfolding(crate::specs::Queries::union_more))]
     fn union_more<'a>(&self, tokens: &'a [Lexeme]) -> Result<(Block, &'a [Lexeme]), SyntaxError>
-        requires nests { NestsQueries self.now.clauses.text.now self.now.clauses.left (F.pre self.now.read) (F.post self.now.read) }
-        requires limited { self.now.clauses.left ≤ limit }
-        ensures { Gives result
-            ((spec.union_more self.now.clauses.text.now self.now.clauses.left (spec.nested_query self.now.clauses.text.now self.now.clauses.left)).read
-            tokens.now) }
+        requires nests { NestsQueries F.Fn self.now }
+        ensures { ReadsQuery self.now spec.union_more tokens.now result }
     {
         let (_, rest) = take(Sort::Word(Word::Union), tokens)?;
         let (_, rest) = take(Sort::Word(Word::All), rest)?;
@@ -237,11 +212,8 @@ impl<
         &self,
         tokens: &'a [Lexeme],
     ) -> Result<(Items<Block>, &'a [Lexeme]), SyntaxError>
-        requires nests { NestsQueries self.now.clauses.text.now self.now.clauses.left (F.pre self.now.read) (F.post self.now.read) }
-        requires limited { self.now.clauses.left ≤ limit }
-        ensures { Gives result
-            ((each Part.UnionMore (spec.union_more self.now.clauses.text.now self.now.clauses.left (spec.nested_query self.now.clauses.text.now self.now.clauses.left))).read
-            tokens.now) }
+        requires nests { NestsQueries F.Fn self.now }
+        ensures { ReadsEachQuery self.now Part.UnionMore spec.union_more tokens.now result }
     {
         let mut found = Items::new(self.clauses.alloc);
         let mut rest = tokens;
@@ -265,11 +237,8 @@ impl<
         ),
         SyntaxError,
     >
-        requires nests { NestsQueries self.now.clauses.text.now self.now.clauses.left (F.pre self.now.read) (F.post self.now.read) }
-        requires limited { self.now.clauses.left ≤ limit }
-        ensures { Gives result
-            ((spec.unions self.now.clauses.text.now self.now.clauses.left (spec.nested_query self.now.clauses.text.now self.now.clauses.left)).read
-            tokens.now) }
+        requires nests { NestsQueries F.Fn self.now }
+        ensures { ReadsQuery self.now spec.unions tokens.now result }
     {
         let (others, rest) = self.union_rest(tokens)?;
         let order = order_and_limit(self.clauses.alloc, self.clauses.text, rest);
@@ -279,11 +248,8 @@ impl<
     /// `query`
     #[tactic(auto, unfolding(crate::specs::Queries::query, crate::specs::Queries::query_of))]
     fn query<'a>(&self, tokens: &'a [Lexeme]) -> Result<(Query, &'a [Lexeme]), SyntaxError>
-        requires nests { NestsQueries self.now.clauses.text.now self.now.clauses.left (F.pre self.now.read) (F.post self.now.read) }
-        requires limited { self.now.clauses.left ≤ limit }
-        ensures { Gives result
-            ((spec.query self.now.clauses.text.now self.now.clauses.left (spec.nested_query self.now.clauses.text.now self.now.clauses.left)).read
-            tokens.now) }
+        requires nests { NestsQueries F.Fn self.now }
+        ensures { ReadsQuery self.now spec.query tokens.now result }
     {
         let (first, rest) = self.block(tokens)?;
         let ((first, (others, (order, limit))), rest) = pair_with(first, self.unions(rest))?;

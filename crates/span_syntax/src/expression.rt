@@ -2,11 +2,12 @@
 //!
 //! Each function knows the number of openings left, and is given the function that reads after one: so only one recurses, no deeper
 //! than openings may be nested.
-ghost use Rattle.std.specs.Prelude.{◌≡◌, ◌<◌, ◌≤◌, ◌-◌};
+ghost use Rattle.std.specs.Prelude.{◌≤◌};
 ghost use Rattle.span_grammar.specs.Rules.{limit};
-ghost use Rattle.span_syntax.specs.Pieces.{Gives, each};
+ghost use Rattle.span_syntax.specs.Pieces.{Gives};
 ghost use Rattle.span_syntax.specs.Expressions as spec;
 ghost use Rattle.span_syntax.specs.Nests.{Nests, at};
+ghost use Rattle.span_syntax.specs.Reading.{Reads, ReadsEach};
 
 use super::column::qualified_column;
 use super::fault::SyntaxError;
@@ -38,11 +39,8 @@ impl<
     /// `"(" expr ")"`
     #[tactic(auto, unfolding(crate::specs::Expressions::parenthesis))]
     fn parenthesis<'a>(&self, tokens: &'a [Lexeme]) -> Result<(Expr, &'a [Lexeme]), SyntaxError>
-        requires nests { Nests self.now.text.now self.now.left (F.pre self.now.read) (F.post self.now.read) }
-        requires limited { self.now.left ≤ limit }
-        ensures { Gives result
-            ((spec.parenthesis self.now.text.now self.now.left (spec.after self.now.text.now self.now.left)).read
-            tokens.now) }
+        requires nests { Nests F.Fn self.now }
+        ensures { Reads self.now spec.parenthesis tokens.now result }
     {
         let (_, rest) = enter(self.left, Sort::Sign(Sign::Open), tokens)?;
         let (inner, rest) = self.after(Level::Expression, rest)?;
@@ -56,11 +54,8 @@ impl<
         name: Spelling,
         tokens: &'a [Lexeme],
     ) -> Result<(Expr, &'a [Lexeme]), SyntaxError>
-        requires nests { Nests self.now.text.now self.now.left (F.pre self.now.read) (F.post self.now.read) }
-        requires limited { self.now.left ≤ limit }
-        ensures { Gives result
-            ((spec.arguments self.now.text.now self.now.left (spec.after self.now.text.now self.now.left) name).read
-            tokens.now) }
+        requires nests { Nests F.Fn self.now }
+        ensures { Reads self.now (λ text left inner. spec.arguments text left inner name) tokens.now result }
     {
         let (_, rest) = enter(self.left, Sort::Sign(Sign::Open), tokens)?;
         let (call, rest) = self.argument_list(name, rest)?;
@@ -70,11 +65,8 @@ impl<
     /// `"(" expr {"," expr} ")"`
     #[tactic(auto, unfolding(crate::specs::Expressions::members))]
     fn members<'a>(&self, tokens: &'a [Lexeme]) -> Result<(Items<Expr>, &'a [Lexeme]), SyntaxError>
-        requires nests { Nests self.now.text.now self.now.left (F.pre self.now.read) (F.post self.now.read) }
-        requires limited { self.now.left ≤ limit }
-        ensures { Gives result
-            ((spec.members self.now.text.now self.now.left (spec.after self.now.text.now self.now.left)).read
-            tokens.now) }
+        requires nests { Nests F.Fn self.now }
+        ensures { Reads self.now spec.members tokens.now result }
     {
         let (_, rest) = enter(self.left, Sort::Sign(Sign::Open), tokens)?;
         let (found, rest) = self.list(rest)?;
@@ -84,11 +76,8 @@ impl<
     /// A CASE.
     #[tactic(auto, unfolding(crate::specs::Expressions::case))]
     fn case<'a>(&self, tokens: &'a [Lexeme]) -> Result<(Expr, &'a [Lexeme]), SyntaxError>
-        requires nests { Nests self.now.text.now self.now.left (F.pre self.now.read) (F.post self.now.read) }
-        requires limited { self.now.left ≤ limit }
-        ensures { Gives result
-            ((spec.case self.now.text.now self.now.left (spec.after self.now.text.now self.now.left)).read
-            tokens.now) }
+        requires nests { Nests F.Fn self.now }
+        ensures { Reads self.now spec.case tokens.now result }
     {
         let (_, rest) = enter(self.left, Sort::Word(Word::Case), tokens)?;
         self.in_case(rest)
@@ -97,11 +86,8 @@ impl<
     /// `NOT neg`
     #[tactic(auto, unfolding(crate::specs::Expressions::negation))]
     fn negation<'a>(&self, tokens: &'a [Lexeme]) -> Result<(Expr, &'a [Lexeme]), SyntaxError>
-        requires nests { Nests self.now.text.now self.now.left (F.pre self.now.read) (F.post self.now.read) }
-        requires limited { self.now.left ≤ limit }
-        ensures { Gives result
-            ((spec.negation self.now.text.now self.now.left (spec.after self.now.text.now self.now.left)).read
-            tokens.now) }
+        requires nests { Nests F.Fn self.now }
+        ensures { Reads self.now spec.negation tokens.now result }
     {
         let (_, rest) = enter(self.left, Sort::Word(Word::Not), tokens)?;
         let (operand, rest) = self.after(Level::Negated, rest)?;
@@ -111,11 +97,8 @@ impl<
     /// `"-" unary`
     #[tactic(auto, unfolding(crate::specs::Expressions::opposite))]
     fn opposite<'a>(&self, tokens: &'a [Lexeme]) -> Result<(Expr, &'a [Lexeme]), SyntaxError>
-        requires nests { Nests self.now.text.now self.now.left (F.pre self.now.read) (F.post self.now.read) }
-        requires limited { self.now.left ≤ limit }
-        ensures { Gives result
-            ((spec.opposite self.now.text.now self.now.left (spec.after self.now.text.now self.now.left)).read
-            tokens.now) }
+        requires nests { Nests F.Fn self.now }
+        ensures { Reads self.now spec.opposite tokens.now result }
     {
         let (_, rest) = enter(self.left, Sort::Sign(Sign::Minus), tokens)?;
         self.after(Level::Signed, rest)
@@ -128,11 +111,8 @@ impl<
         name: Spelling,
         tokens: &'a [Lexeme],
     ) -> Result<(Expr, &'a [Lexeme]), SyntaxError>
-        requires nests { Nests self.now.text.now self.now.left (F.pre self.now.read) (F.post self.now.read) }
-        requires limited { self.now.left ≤ limit }
-        ensures { Gives result
-            ((spec.after_name self.now.text.now self.now.left (spec.after self.now.text.now self.now.left) name).read
-            tokens.now) }
+        requires nests { Nests F.Fn self.now }
+        ensures { Reads self.now (λ text left inner. spec.after_name text left inner name) tokens.now result }
     {
         if goes_on(Part::Arguments, tokens) {
             return self.arguments(name, tokens);
@@ -144,11 +124,8 @@ impl<
     /// A call or a column.
     #[tactic(auto, unfolding(crate::specs::Expressions::call_or_column))]
     fn call_or_column<'a>(&self, tokens: &'a [Lexeme]) -> Result<(Expr, &'a [Lexeme]), SyntaxError>
-        requires nests { Nests self.now.text.now self.now.left (F.pre self.now.read) (F.post self.now.read) }
-        requires limited { self.now.left ≤ limit }
-        ensures { Gives result
-            ((spec.call_or_column self.now.text.now self.now.left (spec.after self.now.text.now self.now.left)).read
-            tokens.now) }
+        requires nests { Nests F.Fn self.now }
+        ensures { Reads self.now spec.call_or_column tokens.now result }
     {
         let (name, rest) = spelling(self.alloc, self.text, Sort::Name, tokens)?;
         self.after_name(name, rest)
@@ -157,11 +134,8 @@ impl<
     /// A call of IF.
     #[tactic(auto, unfolding(crate::specs::Expressions::if_call))]
     fn if_call<'a>(&self, tokens: &'a [Lexeme]) -> Result<(Expr, &'a [Lexeme]), SyntaxError>
-        requires nests { Nests self.now.text.now self.now.left (F.pre self.now.read) (F.post self.now.read) }
-        requires limited { self.now.left ≤ limit }
-        ensures { Gives result
-            ((spec.if_call self.now.text.now self.now.left (spec.after self.now.text.now self.now.left)).read
-            tokens.now) }
+        requires nests { Nests F.Fn self.now }
+        ensures { Reads self.now spec.if_call tokens.now result }
     {
         let (name, rest) = spelling(self.alloc, self.text, Sort::Word(Word::If), tokens)?;
         self.arguments(name, rest)
@@ -170,11 +144,8 @@ impl<
     /// A call, a column, a CASE or an expression in parentheses.
     #[tactic(auto, unfolding(crate::specs::Expressions::compound))]
     fn compound<'a>(&self, tokens: &'a [Lexeme]) -> Result<(Expr, &'a [Lexeme]), SyntaxError>
-        requires nests { Nests self.now.text.now self.now.left (F.pre self.now.read) (F.post self.now.read) }
-        requires limited { self.now.left ≤ limit }
-        ensures { Gives result
-            ((spec.compound self.now.text.now self.now.left (spec.after self.now.text.now self.now.left)).read
-            tokens.now) }
+        requires nests { Nests F.Fn self.now }
+        ensures { Reads self.now spec.compound tokens.now result }
     {
         if goes_on(Part::Named, tokens) {
             return self.call_or_column(tokens);
@@ -191,11 +162,8 @@ impl<
     /// TRUE, FALSE, NULL, a parameter, or what has other parts.
     #[tactic(auto, unfolding(crate::specs::Expressions::word_literal))]
     fn word_literal<'a>(&self, tokens: &'a [Lexeme]) -> Result<(Expr, &'a [Lexeme]), SyntaxError>
-        requires nests { Nests self.now.text.now self.now.left (F.pre self.now.read) (F.post self.now.read) }
-        requires limited { self.now.left ≤ limit }
-        ensures { Gives result
-            ((spec.word_literal self.now.text.now self.now.left (spec.after self.now.text.now self.now.left)).read
-            tokens.now) }
+        requires nests { Nests F.Fn self.now }
+        ensures { Reads self.now spec.word_literal tokens.now result }
     {
         if next_is(Sort::Word(Word::True), tokens) {
             let (found, rest) = take(Sort::Word(Word::True), tokens)?;
@@ -219,11 +187,8 @@ impl<
     /// `prim`, but no integer.
     #[tactic(auto, unfolding(crate::specs::Expressions::other_primary))]
     fn other_primary<'a>(&self, tokens: &'a [Lexeme]) -> Result<(Expr, &'a [Lexeme]), SyntaxError>
-        requires nests { Nests self.now.text.now self.now.left (F.pre self.now.read) (F.post self.now.read) }
-        requires limited { self.now.left ≤ limit }
-        ensures { Gives result
-            ((spec.other_primary self.now.text.now self.now.left (spec.after self.now.text.now self.now.left)).read
-            tokens.now) }
+        requires nests { Nests F.Fn self.now }
+        ensures { Reads self.now spec.other_primary tokens.now result }
     {
         if next_is(Sort::Str, tokens) {
             let (literal, rest) = spelling(self.alloc, self.text, Sort::Str, tokens)?;
@@ -239,11 +204,8 @@ impl<
     /// `prim`
     #[tactic(auto, unfolding(crate::specs::Expressions::primary))]
     fn primary<'a>(&self, tokens: &'a [Lexeme]) -> Result<(Expr, &'a [Lexeme]), SyntaxError>
-        requires nests { Nests self.now.text.now self.now.left (F.pre self.now.read) (F.post self.now.read) }
-        requires limited { self.now.left ≤ limit }
-        ensures { Gives result
-            ((spec.primary self.now.text.now self.now.left (spec.after self.now.text.now self.now.left)).read
-            tokens.now) }
+        requires nests { Nests F.Fn self.now }
+        ensures { Reads self.now spec.primary tokens.now result }
     {
         if next_is(Sort::Int, tokens) {
             let (found, rest) = take(Sort::Int, tokens)?;
@@ -255,11 +217,8 @@ impl<
     /// `unary`
     #[tactic(auto, unfolding(crate::specs::Expressions::unary))]
     fn unary<'a>(&self, tokens: &'a [Lexeme]) -> Result<(Expr, &'a [Lexeme]), SyntaxError>
-        requires nests { Nests self.now.text.now self.now.left (F.pre self.now.read) (F.post self.now.read) }
-        requires limited { self.now.left ≤ limit }
-        ensures { Gives result
-            ((spec.unary self.now.text.now self.now.left (spec.after self.now.text.now self.now.left)).read
-            tokens.now) }
+        requires nests { Nests F.Fn self.now }
+        ensures { Reads self.now spec.unary tokens.now result }
     {
         if goes_on(Part::Opposite, tokens) {
             return self.opposite(tokens);
@@ -270,11 +229,8 @@ impl<
     /// `unary`, but no integer.
     #[tactic(auto, unfolding(crate::specs::Expressions::other_unary))]
     fn other_unary<'a>(&self, tokens: &'a [Lexeme]) -> Result<(Expr, &'a [Lexeme]), SyntaxError>
-        requires nests { Nests self.now.text.now self.now.left (F.pre self.now.read) (F.post self.now.read) }
-        requires limited { self.now.left ≤ limit }
-        ensures { Gives result
-            ((spec.other_unary self.now.text.now self.now.left (spec.after self.now.text.now self.now.left)).read
-            tokens.now) }
+        requires nests { Nests F.Fn self.now }
+        ensures { Reads self.now spec.other_unary tokens.now result }
     {
         if goes_on(Part::Opposite, tokens) {
             return self.opposite(tokens);
@@ -285,11 +241,8 @@ impl<
     /// What is after a minus. One directly before an integer belongs to it.
     #[tactic(auto, unfolding(crate::specs::Expressions::signed))]
     fn signed<'a>(&self, tokens: &'a [Lexeme]) -> Result<(Expr, &'a [Lexeme]), SyntaxError>
-        requires nests { Nests self.now.text.now self.now.left (F.pre self.now.read) (F.post self.now.read) }
-        requires limited { self.now.left ≤ limit }
-        ensures { Gives result
-            ((spec.signed self.now.text.now self.now.left (spec.after self.now.text.now self.now.left)).read
-            tokens.now) }
+        requires nests { Nests F.Fn self.now }
+        ensures { Reads self.now spec.signed tokens.now result }
     {
         if next_is(Sort::Int, tokens) {
             let (found, rest) = take(Sort::Int, tokens)?;
@@ -302,11 +255,8 @@ impl<
     /// An operator and the operand after it.
     #[tactic(auto, unfolding(crate::specs::Expressions::term_more))]
     fn term_more<'a>(&self, tokens: &'a [Lexeme]) -> Result<(Link, &'a [Lexeme]), SyntaxError>
-        requires nests { Nests self.now.text.now self.now.left (F.pre self.now.read) (F.post self.now.read) }
-        requires limited { self.now.left ≤ limit }
-        ensures { Gives result
-            ((spec.term_more self.now.text.now self.now.left (spec.after self.now.text.now self.now.left)).read
-            tokens.now) }
+        requires nests { Nests F.Fn self.now }
+        ensures { Reads self.now spec.term_more tokens.now result }
     {
         let (operator, rest) = term_sign(tokens)?;
         let (operand, rest) = self.unary(rest)?;
@@ -319,11 +269,8 @@ impl<
         &self,
         tokens: &'a [Lexeme],
     ) -> Result<(Items<Link>, &'a [Lexeme]), SyntaxError>
-        requires nests { Nests self.now.text.now self.now.left (F.pre self.now.read) (F.post self.now.read) }
-        requires limited { self.now.left ≤ limit }
-        ensures { Gives result
-            ((each Part.TermMore (spec.term_more self.now.text.now self.now.left (spec.after self.now.text.now self.now.left))).read
-            tokens.now) }
+        requires nests { Nests F.Fn self.now }
+        ensures { ReadsEach self.now Part.TermMore spec.term_more tokens.now result }
     {
         let mut found = Items::new(self.alloc);
         let mut rest = tokens;
@@ -338,11 +285,8 @@ impl<
     /// `term`
     #[tactic(auto, unfolding(crate::specs::Expressions::term))]
     fn term<'a>(&self, tokens: &'a [Lexeme]) -> Result<(Expr, &'a [Lexeme]), SyntaxError>
-        requires nests { Nests self.now.text.now self.now.left (F.pre self.now.read) (F.post self.now.read) }
-        requires limited { self.now.left ≤ limit }
-        ensures { Gives result
-            ((spec.term self.now.text.now self.now.left (spec.after self.now.text.now self.now.left)).read
-            tokens.now) }
+        requires nests { Nests F.Fn self.now }
+        ensures { Reads self.now spec.term tokens.now result }
     {
         let (first, rest) = self.unary(tokens)?;
         let ((first, more), rest) = pair_with(first, self.term_rest(rest))?;
@@ -352,11 +296,8 @@ impl<
     /// An operator and the operand after it.
     #[tactic(auto, unfolding(crate::specs::Expressions::sum_more))]
     fn sum_more<'a>(&self, tokens: &'a [Lexeme]) -> Result<(Link, &'a [Lexeme]), SyntaxError>
-        requires nests { Nests self.now.text.now self.now.left (F.pre self.now.read) (F.post self.now.read) }
-        requires limited { self.now.left ≤ limit }
-        ensures { Gives result
-            ((spec.sum_more self.now.text.now self.now.left (spec.after self.now.text.now self.now.left)).read
-            tokens.now) }
+        requires nests { Nests F.Fn self.now }
+        ensures { Reads self.now spec.sum_more tokens.now result }
     {
         let (operator, rest) = sum_sign(tokens)?;
         let (operand, rest) = self.term(rest)?;
@@ -366,11 +307,8 @@ impl<
     /// The operators with their operands.
     #[tactic(auto, using(crate::proofs::Shrinking::loop_steps))]
     fn sum_rest<'a>(&self, tokens: &'a [Lexeme]) -> Result<(Items<Link>, &'a [Lexeme]), SyntaxError>
-        requires nests { Nests self.now.text.now self.now.left (F.pre self.now.read) (F.post self.now.read) }
-        requires limited { self.now.left ≤ limit }
-        ensures { Gives result
-            ((each Part.SumMore (spec.sum_more self.now.text.now self.now.left (spec.after self.now.text.now self.now.left))).read
-            tokens.now) }
+        requires nests { Nests F.Fn self.now }
+        ensures { ReadsEach self.now Part.SumMore spec.sum_more tokens.now result }
     {
         let mut found = Items::new(self.alloc);
         let mut rest = tokens;
@@ -385,10 +323,8 @@ impl<
     /// `sum`
     #[tactic(auto, unfolding(crate::specs::Expressions::sum))]
     fn sum<'a>(&self, tokens: &'a [Lexeme]) -> Result<(Expr, &'a [Lexeme]), SyntaxError>
-        requires nests { Nests self.now.text.now self.now.left (F.pre self.now.read) (F.post self.now.read) }
-        requires limited { self.now.left ≤ limit }
-        ensures { Gives result
-            ((spec.sum self.now.text.now self.now.left (spec.after self.now.text.now self.now.left)).read tokens.now) }
+        requires nests { Nests F.Fn self.now }
+        ensures { Reads self.now spec.sum tokens.now result }
     {
         let (first, rest) = self.term(tokens)?;
         let ((first, more), rest) = pair_with(first, self.sum_rest(rest))?;
@@ -401,11 +337,8 @@ impl<
         &self,
         tokens: &'a [Lexeme],
     ) -> Result<((bool, PredicateTest), &'a [Lexeme]), SyntaxError>
-        requires nests { Nests self.now.text.now self.now.left (F.pre self.now.read) (F.post self.now.read) }
-        requires limited { self.now.left ≤ limit }
-        ensures { Gives result
-            ((spec.comparison_test self.now.text.now self.now.left (spec.after self.now.text.now self.now.left)).read
-            tokens.now) }
+        requires nests { Nests F.Fn self.now }
+        ensures { Reads self.now spec.comparison_test tokens.now result }
     {
         let (how, rest) = comparison(tokens)?;
         let (second, rest) = self.sum(rest)?;
@@ -418,11 +351,8 @@ impl<
         &self,
         tokens: &'a [Lexeme],
     ) -> Result<((bool, PredicateTest), &'a [Lexeme]), SyntaxError>
-        requires nests { Nests self.now.text.now self.now.left (F.pre self.now.read) (F.post self.now.read) }
-        requires limited { self.now.left ≤ limit }
-        ensures { Gives result
-            ((spec.is_null self.now.text.now self.now.left (spec.after self.now.text.now self.now.left)).read
-            tokens.now) }
+        requires nests { Nests F.Fn self.now }
+        ensures { Reads self.now spec.is_null tokens.now result }
     {
         let (is_not, rest) = null_words(tokens)?;
         Ok(((is_not, PredicateTest::IsNull), rest))
@@ -431,11 +361,8 @@ impl<
     /// `LIKE string`
     #[tactic(auto, unfolding(crate::specs::Expressions::like))]
     fn like<'a>(&self, tokens: &'a [Lexeme]) -> Result<(PredicateTest, &'a [Lexeme]), SyntaxError>
-        requires nests { Nests self.now.text.now self.now.left (F.pre self.now.read) (F.post self.now.read) }
-        requires limited { self.now.left ≤ limit }
-        ensures { Gives result
-            ((spec.like self.now.text.now self.now.left (spec.after self.now.text.now self.now.left)).read
-            tokens.now) }
+        requires nests { Nests F.Fn self.now }
+        ensures { Reads self.now spec.like tokens.now result }
     {
         let (_, rest) = take(Sort::Word(Word::Like), tokens)?;
         let (pattern, rest) = spelling(self.alloc, self.text, Sort::Str, rest)?;
@@ -445,11 +372,8 @@ impl<
     /// `AND sum`, after the low end of a BETWEEN.
     #[tactic(auto, unfolding(crate::specs::Expressions::high_end))]
     fn high_end<'a>(&self, tokens: &'a [Lexeme]) -> Result<(Expr, &'a [Lexeme]), SyntaxError>
-        requires nests { Nests self.now.text.now self.now.left (F.pre self.now.read) (F.post self.now.read) }
-        requires limited { self.now.left ≤ limit }
-        ensures { Gives result
-            ((spec.high_end self.now.text.now self.now.left (spec.after self.now.text.now self.now.left)).read
-            tokens.now) }
+        requires nests { Nests F.Fn self.now }
+        ensures { Reads self.now spec.high_end tokens.now result }
     {
         let (_, rest) = take(Sort::Word(Word::And), tokens)?;
         self.sum(rest)
@@ -461,11 +385,8 @@ impl<
         &self,
         tokens: &'a [Lexeme],
     ) -> Result<(PredicateTest, &'a [Lexeme]), SyntaxError>
-        requires nests { Nests self.now.text.now self.now.left (F.pre self.now.read) (F.post self.now.read) }
-        requires limited { self.now.left ≤ limit }
-        ensures { Gives result
-            ((spec.between self.now.text.now self.now.left (spec.after self.now.text.now self.now.left)).read
-            tokens.now) }
+        requires nests { Nests F.Fn self.now }
+        ensures { Reads self.now spec.between tokens.now result }
     {
         let (_, rest) = take(Sort::Word(Word::Between), tokens)?;
         let (low, rest) = self.sum(rest)?;
@@ -476,11 +397,8 @@ impl<
     /// `IN "(" expr {"," expr} ")"`
     #[tactic(auto, unfolding(crate::specs::Expressions::within))]
     fn within<'a>(&self, tokens: &'a [Lexeme]) -> Result<(PredicateTest, &'a [Lexeme]), SyntaxError>
-        requires nests { Nests self.now.text.now self.now.left (F.pre self.now.read) (F.post self.now.read) }
-        requires limited { self.now.left ≤ limit }
-        ensures { Gives result
-            ((spec.within self.now.text.now self.now.left (spec.after self.now.text.now self.now.left)).read
-            tokens.now) }
+        requires nests { Nests F.Fn self.now }
+        ensures { Reads self.now spec.within tokens.now result }
     {
         let (_, rest) = take(Sort::Word(Word::In), tokens)?;
         let (members, rest) = self.members(rest)?;
@@ -493,11 +411,8 @@ impl<
         &self,
         tokens: &'a [Lexeme],
     ) -> Result<(PredicateTest, &'a [Lexeme]), SyntaxError>
-        requires nests { Nests self.now.text.now self.now.left (F.pre self.now.read) (F.post self.now.read) }
-        requires limited { self.now.left ≤ limit }
-        ensures { Gives result
-            ((spec.negatable_test self.now.text.now self.now.left (spec.after self.now.text.now self.now.left)).read
-            tokens.now) }
+        requires nests { Nests F.Fn self.now }
+        ensures { Reads self.now spec.negatable_test tokens.now result }
     {
         if goes_on(Part::Like, tokens) {
             return self.like(tokens);
@@ -514,11 +429,8 @@ impl<
         &self,
         tokens: &'a [Lexeme],
     ) -> Result<((bool, PredicateTest), &'a [Lexeme]), SyntaxError>
-        requires nests { Nests self.now.text.now self.now.left (F.pre self.now.read) (F.post self.now.read) }
-        requires limited { self.now.left ≤ limit }
-        ensures { Gives result
-            ((spec.maybe_not_test self.now.text.now self.now.left (spec.after self.now.text.now self.now.left)).read
-            tokens.now) }
+        requires nests { Nests F.Fn self.now }
+        ensures { Reads self.now spec.maybe_not_test tokens.now result }
     {
         let (is_not, rest) = maybe_not(tokens)?;
         let (question, rest) = self.negatable_test(rest)?;
@@ -531,11 +443,8 @@ impl<
         &self,
         tokens: &'a [Lexeme],
     ) -> Result<((bool, PredicateTest), &'a [Lexeme]), SyntaxError>
-        requires nests { Nests self.now.text.now self.now.left (F.pre self.now.read) (F.post self.now.read) }
-        requires limited { self.now.left ≤ limit }
-        ensures { Gives result
-            ((spec.predicate_rest self.now.text.now self.now.left (spec.after self.now.text.now self.now.left)).read
-            tokens.now) }
+        requires nests { Nests F.Fn self.now }
+        ensures { Reads self.now spec.predicate_rest tokens.now result }
     {
         if goes_on(Part::Compared, tokens) {
             return self.comparison_test(tokens);
@@ -552,11 +461,8 @@ impl<
     /// `pred`
     #[tactic(auto, unfolding(crate::specs::Expressions::predicate))]
     fn predicate<'a>(&self, tokens: &'a [Lexeme]) -> Result<(Expr, &'a [Lexeme]), SyntaxError>
-        requires nests { Nests self.now.text.now self.now.left (F.pre self.now.read) (F.post self.now.read) }
-        requires limited { self.now.left ≤ limit }
-        ensures { Gives result
-            ((spec.predicate self.now.text.now self.now.left (spec.after self.now.text.now self.now.left)).read
-            tokens.now) }
+        requires nests { Nests F.Fn self.now }
+        ensures { Reads self.now spec.predicate tokens.now result }
     {
         let (first, rest) = self.sum(tokens)?;
         let ((first, question), rest) = pair_with(first, self.predicate_rest(rest))?;
@@ -566,11 +472,8 @@ impl<
     /// `neg`
     #[tactic(auto, unfolding(crate::specs::Expressions::negated))]
     fn negated<'a>(&self, tokens: &'a [Lexeme]) -> Result<(Expr, &'a [Lexeme]), SyntaxError>
-        requires nests { Nests self.now.text.now self.now.left (F.pre self.now.read) (F.post self.now.read) }
-        requires limited { self.now.left ≤ limit }
-        ensures { Gives result
-            ((spec.negated self.now.text.now self.now.left (spec.after self.now.text.now self.now.left)).read
-            tokens.now) }
+        requires nests { Nests F.Fn self.now }
+        ensures { Reads self.now spec.negated tokens.now result }
     {
         if goes_on(Part::Negation, tokens) {
             return self.negation(tokens);
@@ -584,11 +487,8 @@ impl<
         &self,
         tokens: &'a [Lexeme],
     ) -> Result<(Expr, &'a [Lexeme]), SyntaxError>
-        requires nests { Nests self.now.text.now self.now.left (F.pre self.now.read) (F.post self.now.read) }
-        requires limited { self.now.left ≤ limit }
-        ensures { Gives result
-            ((spec.conjunction_more self.now.text.now self.now.left (spec.after self.now.text.now self.now.left)).read
-            tokens.now) }
+        requires nests { Nests F.Fn self.now }
+        ensures { Reads self.now spec.conjunction_more tokens.now result }
     {
         let (_, rest) = take(Sort::Word(Word::And), tokens)?;
         self.negated(rest)
@@ -600,11 +500,8 @@ impl<
         &self,
         tokens: &'a [Lexeme],
     ) -> Result<(Items<Expr>, &'a [Lexeme]), SyntaxError>
-        requires nests { Nests self.now.text.now self.now.left (F.pre self.now.read) (F.post self.now.read) }
-        requires limited { self.now.left ≤ limit }
-        ensures { Gives result
-            ((each Part.ConjunctionMore (spec.conjunction_more self.now.text.now self.now.left (spec.after self.now.text.now self.now.left))).read
-            tokens.now) }
+        requires nests { Nests F.Fn self.now }
+        ensures { ReadsEach self.now Part.ConjunctionMore spec.conjunction_more tokens.now result }
     {
         let mut found = Items::new(self.alloc);
         let mut rest = tokens;
@@ -619,11 +516,8 @@ impl<
     /// `conj`
     #[tactic(auto, unfolding(crate::specs::Expressions::conjunction))]
     fn conjunction<'a>(&self, tokens: &'a [Lexeme]) -> Result<(Expr, &'a [Lexeme]), SyntaxError>
-        requires nests { Nests self.now.text.now self.now.left (F.pre self.now.read) (F.post self.now.read) }
-        requires limited { self.now.left ≤ limit }
-        ensures { Gives result
-            ((spec.conjunction self.now.text.now self.now.left (spec.after self.now.text.now self.now.left)).read
-            tokens.now) }
+        requires nests { Nests F.Fn self.now }
+        ensures { Reads self.now spec.conjunction tokens.now result }
     {
         let (first, rest) = self.negated(tokens)?;
         let ((first, more), rest) = pair_with(first, self.conjunction_rest(rest))?;
@@ -633,11 +527,8 @@ impl<
     /// OR and the operand after it.
     #[tactic(auto, unfolding(crate::specs::Expressions::expression_more))]
     fn expression_more<'a>(&self, tokens: &'a [Lexeme]) -> Result<(Expr, &'a [Lexeme]), SyntaxError>
-        requires nests { Nests self.now.text.now self.now.left (F.pre self.now.read) (F.post self.now.read) }
-        requires limited { self.now.left ≤ limit }
-        ensures { Gives result
-            ((spec.expression_more self.now.text.now self.now.left (spec.after self.now.text.now self.now.left)).read
-            tokens.now) }
+        requires nests { Nests F.Fn self.now }
+        ensures { Reads self.now spec.expression_more tokens.now result }
     {
         let (_, rest) = take(Sort::Word(Word::Or), tokens)?;
         self.conjunction(rest)
@@ -649,11 +540,8 @@ impl<
         &self,
         tokens: &'a [Lexeme],
     ) -> Result<(Items<Expr>, &'a [Lexeme]), SyntaxError>
-        requires nests { Nests self.now.text.now self.now.left (F.pre self.now.read) (F.post self.now.read) }
-        requires limited { self.now.left ≤ limit }
-        ensures { Gives result
-            ((each Part.ExpressionMore (spec.expression_more self.now.text.now self.now.left (spec.after self.now.text.now self.now.left))).read
-            tokens.now) }
+        requires nests { Nests F.Fn self.now }
+        ensures { ReadsEach self.now Part.ExpressionMore spec.expression_more tokens.now result }
     {
         let mut found = Items::new(self.alloc);
         let mut rest = tokens;
@@ -668,11 +556,8 @@ impl<
     /// `expr`
     #[tactic(auto, unfolding(crate::specs::Expressions::expression))]
     fn expression<'a>(&self, tokens: &'a [Lexeme]) -> Result<(Expr, &'a [Lexeme]), SyntaxError>
-        requires nests { Nests self.now.text.now self.now.left (F.pre self.now.read) (F.post self.now.read) }
-        requires limited { self.now.left ≤ limit }
-        ensures { Gives result
-            ((spec.expression self.now.text.now self.now.left (spec.after self.now.text.now self.now.left)).read
-            tokens.now) }
+        requires nests { Nests F.Fn self.now }
+        ensures { Reads self.now spec.expression tokens.now result }
     {
         let (first, rest) = self.conjunction(tokens)?;
         let ((first, more), rest) = pair_with(first, self.expression_rest(rest))?;

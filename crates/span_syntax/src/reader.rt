@@ -1,9 +1,8 @@
 //! Readers of what is inside an opening: of expressions, of lists of them and of the arms of CASE.
-ghost use Rattle.std.specs.Prelude.{◌≡◌, ◌<◌, ◌≤◌, ◌-◌};
-ghost use Rattle.span_grammar.specs.Rules.{limit};
-ghost use Rattle.span_syntax.specs.Pieces.{Gives, each};
+ghost use Rattle.std.specs.Prelude.{◌<◌};
 ghost use Rattle.span_syntax.specs.Expressions as spec;
-ghost use Rattle.span_syntax.specs.Nests.{Nests, inner_at};
+ghost use Rattle.span_syntax.specs.Nests.{Nests, ReadsAfter};
+ghost use Rattle.span_syntax.specs.Reading.{ReadsInside, ReadsEachInside};
 
 use super::fault::SyntaxError;
 use super::operator::prepend;
@@ -15,6 +14,7 @@ use span_grammar::reader::goes_on;
 use span_lexer::token::{Sign, Word};
 use sqlite_items::{Boxed, Items};
 use std::alloc::Global;
+use std::marker::Model;
 
 /// What may come after an opening.
 #[derive(Clone, Copy, Debug, PartialEq, Eq)]
@@ -27,7 +27,7 @@ pub(crate) enum Level {
 }
 
 /// Reads expressions, with `left` openings left.
-#[derive(Clone, Copy)]
+#[derive(Drop)]
 pub(crate) struct Reader<'t, F> {
     pub alloc: Global,
     /// The bytes of the text.
@@ -35,6 +35,14 @@ pub(crate) struct Reader<'t, F> {
     pub left: usize,
     /// Reads what is after an opening.
     pub read: F,
+}
+
+impl<'t, F> Model for Reader<'t, F> {
+    ghost use Rattle.span_syntax.specs.Reading.{Reading};
+
+    ghost Value = { Reading F };
+
+    ghost view = { λ r. record { text = r.text.now; left = r.left; read = r.read } };
 }
 
 impl<
@@ -53,10 +61,9 @@ impl<
         level: Level,
         tokens: &'a [Lexeme],
     ) -> Result<(Expr, &'a [Lexeme]), SyntaxError>
-        requires nests { Nests self.now.text.now self.now.left (F.pre self.now.read) (F.post self.now.read) }
-        requires limited { self.now.left ≤ limit }
+        requires nests { Nests F.Fn self.now }
         requires deeper { 0 < self.now.left }
-        ensures { Gives result ((inner_at level (spec.after self.now.text.now self.now.left)).read tokens.now) }
+        ensures { ReadsAfter self.now level tokens.now result }
     {
         (self.read)(self.alloc, self.text, self.left - 1, level, tokens)
     }
@@ -64,10 +71,9 @@ impl<
     /// `, expr`
     #[tactic(auto, unfolding(crate::specs::Expressions::list_more))]
     fn list_more<'a>(&self, tokens: &'a [Lexeme]) -> Result<(Expr, &'a [Lexeme]), SyntaxError>
-        requires nests { Nests self.now.text.now self.now.left (F.pre self.now.read) (F.post self.now.read) }
-        requires limited { self.now.left ≤ limit }
+        requires nests { Nests F.Fn self.now }
         requires deeper { 0 < self.now.left }
-        ensures { Gives result ((spec.list_more (spec.after self.now.text.now self.now.left).expression).read tokens.now) }
+        ensures { ReadsInside self.now spec.list_more tokens.now result }
     {
         let (_, rest) = take(Sort::Sign(Sign::Comma), tokens)?;
         self.after(Level::Expression, rest)
@@ -79,12 +85,9 @@ impl<
         &self,
         tokens: &'a [Lexeme],
     ) -> Result<(Items<Expr>, &'a [Lexeme]), SyntaxError>
-        requires nests { Nests self.now.text.now self.now.left (F.pre self.now.read) (F.post self.now.read) }
-        requires limited { self.now.left ≤ limit }
+        requires nests { Nests F.Fn self.now }
         requires deeper { 0 < self.now.left }
-        ensures { Gives result
-            ((each Part.ListMore (spec.list_more (spec.after self.now.text.now self.now.left).expression)).read
-            tokens.now) }
+        ensures { ReadsEachInside self.now Part.ListMore spec.list_more tokens.now result }
     {
         let mut found = Items::new(self.alloc);
         let mut rest = tokens;
@@ -102,10 +105,9 @@ impl<
         &self,
         tokens: &'a [Lexeme],
     ) -> Result<(Items<Expr>, &'a [Lexeme]), SyntaxError>
-        requires nests { Nests self.now.text.now self.now.left (F.pre self.now.read) (F.post self.now.read) }
-        requires limited { self.now.left ≤ limit }
+        requires nests { Nests F.Fn self.now }
         requires deeper { 0 < self.now.left }
-        ensures { Gives result ((spec.list (spec.after self.now.text.now self.now.left).expression).read tokens.now) }
+        ensures { ReadsInside self.now spec.list tokens.now result }
     {
         let (first, rest) = self.after(Level::Expression, tokens)?;
         let ((first, more), rest) = pair_with(first, self.list_rest(rest))?;
@@ -115,10 +117,9 @@ impl<
     /// `THEN expr`
     #[tactic(auto, unfolding(crate::specs::Expressions::then_value))]
     fn then_value<'a>(&self, tokens: &'a [Lexeme]) -> Result<(Expr, &'a [Lexeme]), SyntaxError>
-        requires nests { Nests self.now.text.now self.now.left (F.pre self.now.read) (F.post self.now.read) }
-        requires limited { self.now.left ≤ limit }
+        requires nests { Nests F.Fn self.now }
         requires deeper { 0 < self.now.left }
-        ensures { Gives result ((spec.then_value (spec.after self.now.text.now self.now.left).expression).read tokens.now) }
+        ensures { ReadsInside self.now spec.then_value tokens.now result }
     {
         let (_, rest) = take(Sort::Word(Word::Then), tokens)?;
         self.after(Level::Expression, rest)
@@ -127,10 +128,9 @@ impl<
     /// `WHEN expr THEN expr`
     #[tactic(auto, unfolding(crate::specs::Expressions::when, crate::specs::Expressions::arm_of))]
     fn when<'a>(&self, tokens: &'a [Lexeme]) -> Result<(Arm, &'a [Lexeme]), SyntaxError>
-        requires nests { Nests self.now.text.now self.now.left (F.pre self.now.read) (F.post self.now.read) }
-        requires limited { self.now.left ≤ limit }
+        requires nests { Nests F.Fn self.now }
         requires deeper { 0 < self.now.left }
-        ensures { Gives result ((spec.when (spec.after self.now.text.now self.now.left).expression).read tokens.now) }
+        ensures { ReadsInside self.now spec.when tokens.now result }
     {
         let (_, rest) = take(Sort::Word(Word::When), tokens)?;
         let (condition, rest) = self.after(Level::Expression, rest)?;
@@ -141,11 +141,9 @@ impl<
     /// `{WHEN expr THEN expr}`
     #[tactic(auto, using(crate::proofs::Shrinking::loop_steps))]
     fn when_rest<'a>(&self, tokens: &'a [Lexeme]) -> Result<(Items<Arm>, &'a [Lexeme]), SyntaxError>
-        requires nests { Nests self.now.text.now self.now.left (F.pre self.now.read) (F.post self.now.read) }
-        requires limited { self.now.left ≤ limit }
+        requires nests { Nests F.Fn self.now }
         requires deeper { 0 < self.now.left }
-        ensures { Gives result
-            ((each Part.When (spec.when (spec.after self.now.text.now self.now.left).expression)).read tokens.now) }
+        ensures { ReadsEachInside self.now Part.When spec.when tokens.now result }
     {
         let mut found = Items::new(self.alloc);
         let mut rest = tokens;
@@ -163,10 +161,9 @@ impl<
         &self,
         tokens: &'a [Lexeme],
     ) -> Result<(Option<Boxed<Expr>>, &'a [Lexeme]), SyntaxError>
-        requires nests { Nests self.now.text.now self.now.left (F.pre self.now.read) (F.post self.now.read) }
-        requires limited { self.now.left ≤ limit }
+        requires nests { Nests F.Fn self.now }
         requires deeper { 0 < self.now.left }
-        ensures { Gives result ((spec.case_operand (spec.after self.now.text.now self.now.left).expression).read tokens.now) }
+        ensures { ReadsInside self.now spec.case_operand tokens.now result }
     {
         if !goes_on(Part::Expression, tokens) {
             return Ok((None, tokens));
@@ -181,10 +178,9 @@ impl<
         &self,
         tokens: &'a [Lexeme],
     ) -> Result<(Option<Boxed<Expr>>, &'a [Lexeme]), SyntaxError>
-        requires nests { Nests self.now.text.now self.now.left (F.pre self.now.read) (F.post self.now.read) }
-        requires limited { self.now.left ≤ limit }
+        requires nests { Nests F.Fn self.now }
         requires deeper { 0 < self.now.left }
-        ensures { Gives result ((spec.case_else (spec.after self.now.text.now self.now.left).expression).read tokens.now) }
+        ensures { ReadsInside self.now spec.case_else tokens.now result }
     {
         if !goes_on(Part::Else, tokens) {
             return Ok((None, tokens));
@@ -200,10 +196,9 @@ impl<
         &self,
         tokens: &'a [Lexeme],
     ) -> Result<(Option<Boxed<Expr>>, &'a [Lexeme]), SyntaxError>
-        requires nests { Nests self.now.text.now self.now.left (F.pre self.now.read) (F.post self.now.read) }
-        requires limited { self.now.left ≤ limit }
+        requires nests { Nests F.Fn self.now }
         requires deeper { 0 < self.now.left }
-        ensures { Gives result ((spec.case_end (spec.after self.now.text.now self.now.left).expression).read tokens.now) }
+        ensures { ReadsInside self.now spec.case_end tokens.now result }
     {
         let (otherwise, rest) = self.case_else(tokens)?;
         let ((otherwise, _), rest) = pair_with(otherwise, take(Sort::Word(Word::End), rest))?;
@@ -216,10 +211,9 @@ impl<
         &self,
         tokens: &'a [Lexeme],
     ) -> Result<((Items<Arm>, Option<Boxed<Expr>>), &'a [Lexeme]), SyntaxError>
-        requires nests { Nests self.now.text.now self.now.left (F.pre self.now.read) (F.post self.now.read) }
-        requires limited { self.now.left ≤ limit }
+        requires nests { Nests F.Fn self.now }
         requires deeper { 0 < self.now.left }
-        ensures { Gives result ((spec.case_arms (spec.after self.now.text.now self.now.left).expression).read tokens.now) }
+        ensures { ReadsInside self.now spec.case_arms tokens.now result }
     {
         let (arm, rest) = self.when(tokens)?;
         let ((arm, more), rest) = pair_with(arm, self.when_rest(rest))?;
@@ -233,10 +227,9 @@ impl<
         &self,
         tokens: &'a [Lexeme],
     ) -> Result<(Expr, &'a [Lexeme]), SyntaxError>
-        requires nests { Nests self.now.text.now self.now.left (F.pre self.now.read) (F.post self.now.read) }
-        requires limited { self.now.left ≤ limit }
+        requires nests { Nests F.Fn self.now }
         requires deeper { 0 < self.now.left }
-        ensures { Gives result ((spec.in_case (spec.after self.now.text.now self.now.left).expression).read tokens.now) }
+        ensures { ReadsInside self.now spec.in_case tokens.now result }
     {
         let (operand, rest) = self.case_operand(tokens)?;
         let ((operand, (arms, otherwise)), rest) = pair_with(operand, self.case_arms(rest))?;
@@ -250,11 +243,9 @@ impl<
         name: Spelling,
         tokens: &'a [Lexeme],
     ) -> Result<(Expr, &'a [Lexeme]), SyntaxError>
-        requires nests { Nests self.now.text.now self.now.left (F.pre self.now.read) (F.post self.now.read) }
-        requires limited { self.now.left ≤ limit }
+        requires nests { Nests F.Fn self.now }
         requires deeper { 0 < self.now.left }
-        ensures { Gives result
-            ((spec.argument_list (spec.after self.now.text.now self.now.left).expression name).read tokens.now) }
+        ensures { ReadsInside self.now (λ inside. spec.argument_list inside name) tokens.now result }
     {
         if next_is(Sort::Sign(Sign::Star), tokens) {
             let (_, rest) = take(Sort::Sign(Sign::Star), tokens)?;

@@ -5,7 +5,7 @@ use Rattle.span_parser.specs.Queries.{union_more, nested_query}
 use Rattle.span_parser.proofs.query.QueryReader.union_rest.Given as goal
 
 abbrev pub invariant-loop-rest : goal.invariant-loop-rest
-invariant-loop-rest g l = each_read (union_more l.self.clauses.text.now l.self.clauses.left (nested_query l.self.clauses.text.now l.self.clauses.left)).read part.UnionMore l.found l.rest ≡ each_read (union_more l.fn.self.clauses.text.now l.fn.self.clauses.left (nested_query l.fn.self.clauses.text.now l.fn.self.clauses.left)).read part.UnionMore [] l.fn.tokens
+invariant-loop-rest g l = each_read (union_more l.self.text l.self.left (nested_query l.self.text l.self.left)).read part.UnionMore l.found l.rest ≡ each_read (union_more l.fn.self.text l.fn.self.left (nested_query l.fn.self.text l.fn.self.left)).read part.UnionMore [] l.fn.tokens
 
 abbrev pub decreases-loop-rest : goal.decreases-loop-rest
 decreases-loop-rest g l = length l.rest

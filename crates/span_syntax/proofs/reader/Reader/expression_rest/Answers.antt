@@ -2,4 +2,4 @@ use Rattle.span_syntax.proofs.Shrinking.{expression_more_shrinks}
 use Rattle.span_syntax.proofs.reader.Reader.expression_rest.Goals as goal
 
 pub loop-rest-smaller : goal.loop-rest-smaller
-loop-rest-smaller g c = (expression_more_shrinks c.args.self.now.text.now c.args.self.now.left c.requires.limited).falls c.loop-rest.rest.now c.in_ok-next.after.now c.in_ok-next.next c.in_ok-next.ensures
+loop-rest-smaller g c = (expression_more_shrinks c.args.self.now.text c.args.self.now.left c.requires.nests.limited).falls c.loop-rest.rest.now c.in_ok-next.after.now c.in_ok-next.next c.in_ok-next.ensures

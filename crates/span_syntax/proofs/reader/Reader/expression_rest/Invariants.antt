@@ -5,7 +5,7 @@ use Rattle.span_syntax.specs.Expressions.{after, expression_more}
 use Rattle.span_syntax.proofs.reader.Reader.expression_rest.Given as goal
 
 abbrev pub invariant-loop-rest : goal.invariant-loop-rest
-invariant-loop-rest g l = each_read (expression_more l.self.text.now l.self.left (after l.self.text.now l.self.left)).read part.ExpressionMore l.found l.rest ≡ each_read (expression_more l.fn.self.text.now l.fn.self.left (after l.fn.self.text.now l.fn.self.left)).read part.ExpressionMore [] l.fn.tokens
+invariant-loop-rest g l = each_read (expression_more l.self.text l.self.left (after l.self.text l.self.left)).read part.ExpressionMore l.found l.rest ≡ each_read (expression_more l.fn.self.text l.fn.self.left (after l.fn.self.text l.fn.self.left)).read part.ExpressionMore [] l.fn.tokens
 
 abbrev pub decreases-loop-rest : goal.decreases-loop-rest
 decreases-loop-rest g l = length l.rest

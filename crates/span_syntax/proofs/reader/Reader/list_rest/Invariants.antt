@@ -5,7 +5,7 @@ use Rattle.span_syntax.specs.Expressions.{after, list_more}
 use Rattle.span_syntax.proofs.reader.Reader.list_rest.Given as goal
 
 abbrev pub invariant-loop-rest : goal.invariant-loop-rest
-invariant-loop-rest g l = each_read (list_more (after l.self.text.now l.self.left).expression).read part.ListMore l.found l.rest ≡ each_read (list_more (after l.fn.self.text.now l.fn.self.left).expression).read part.ListMore [] l.fn.tokens
+invariant-loop-rest g l = each_read (list_more (after l.self.text l.self.left).expression).read part.ListMore l.found l.rest ≡ each_read (list_more (after l.fn.self.text l.fn.self.left).expression).read part.ListMore [] l.fn.tokens
 
 abbrev pub decreases-loop-rest : goal.decreases-loop-rest
 decreases-loop-rest g l = length l.rest
