@@ -93,11 +93,6 @@ Operand = Mode → Finds Typed
 abbrev pub each : List Operand → Mode → Finds (List Typed)
 each os m = all_of (λ (a : Operand). a m) os
 
--- the type of what was found, if it was
-abbrev pub kind_of : Result Typed Refusal → Option Kind
-kind_of (Ok x) = x.kind
-kind_of (Err why) = None
-
 unfoldable pub condition_of : Option Kind → Typed → Result TypedExpr Refusal
 condition_of k x = if are_conditions k x.kind then Ok x.expr else Err TypeMismatch
 
@@ -186,6 +181,11 @@ case None os other = searched_case os other
 case (Some a) os other = simple_case a os other
 
 -- ---- calls
+
+-- the place of a new aggregate, at rows of the groups
+unfoldable pub next_place : Scope → Mode → List Aggregate → Result ℕ Refusal
+next_place scope Rows found = Err NotGrouped
+next_place scope Groups found = Ok (length scope.keys + length found)
 
 -- a new aggregate of the block; its place is after the grouped columns and the aggregates before it
 unfoldable pub new_aggregate : Scope → Mode → Aggregate → Kind → Finds Typed
