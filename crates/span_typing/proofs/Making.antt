@@ -1,6 +1,5 @@
 -- What is made of operands, by what functions answered of them.
-use Rattle.std.proofs.Common.{◌≡◌, ◌≢◌, ◌∷◌, [], List, map, Option, Some, None, Result, Ok, Err, sym, ap, subst, ◌∙◌}
-use Rattle.span_value.specs.declared.value.Kind.{Kind}
+use Rattle.std.proofs.Common.{◌≡◌, List, Option, Result, Ok, Err, subst}
 use Rattle.span_value.specs.declared.refusal.Refusal.{Refusal}
 use Rattle.span_value.specs.declared.refusal.Refusal.TheVariants as refusal
 use Rattle.span_syntax.specs.declared.tree.Operator.{Operator}
@@ -15,7 +14,7 @@ use Rattle.span_typing.specs.declared.typed.Mode.TheVariants.{Rows}
 use Rattle.span_typing.specs.declared.scope.Scope.{Scope}
 use Rattle.span_typing.specs.declared.function.CalledFunction.{CalledFunction}
 use Rattle.span_value.specs.Results.{and_then}
-use Rattle.span_typing.specs.Steps.{◌>>=◌, TypingStep, from_result, Gives, Leaves}
+use Rattle.span_typing.specs.Steps.{◌>>=◌, from_result, Gives, Leaves}
 use Rattle.span_typing.specs.Operators.{in_list, case_of, match_of, apply_function}
 use Rattle.span_typing.specs.Typing.{Operand, each, conditions, links, arms, compared_arms, optional, chain_of, of_one, of_two, of_three, membership, chain, junction, searched_case, simple_case, unknown_call, aggregate_call, function_call, aggregate}
 use Rattle.span_typing.proofs.Stepping.{made_of, made_of_two, made_of_three, made_step, stopped, stopped_second}

@@ -1,6 +1,5 @@
 -- The typed expression of a syntax tree, or the first fault in it: operands come before their operator.
-use Rattle.std.specs.List.{fold}
-use Rattle.std.specs.Prelude.{ℕ, ◌+◌, ◌==◌, Bool, true, false, List, [], ◌∷◌, ◌++◌, length, drop, position, slice_get, Option, Some, None, Result, Ok, Err, if◌then◌else◌}
+use Rattle.std.specs.Prelude.{ℕ, ◌+◌, ◌==◌, Bool, List, [], ◌∷◌, ◌++◌, length, drop, position, slice_get, Option, Some, None, Result, Ok, Err, if◌then◌else◌}
 use Rattle.span_value.specs.declared.value.Value.TheVariants as value
 use Rattle.span_value.specs.declared.value.Kind.{Kind}
 use Rattle.span_value.specs.declared.value.Kind.TheVariants as kind
@@ -15,7 +14,6 @@ use Rattle.span_syntax.specs.declared.tree.Expr.TheOpen.{Expr-F, Arm-F, Link-F}
 use Rattle.span_syntax.specs.declared.tree.Expr.TheFolds.{fold-Expr}
 use Rattle.span_expr.specs.declared.expr.Expr.TheVariants as expr
 use Rattle.span_expr.specs.declared.expr.Expr.{Expr as TypedExpr}
-use Rattle.span_expr.specs.declared.expr.Link.{Link}
 use Rattle.span_query.specs.declared.query.Aggregate.{Aggregate}
 use Rattle.span_query.specs.declared.query.Aggregate.TheVariants.{CountRows, Of}
 use Rattle.span_query.specs.declared.query.Function.{Function}

@@ -1,4 +1,4 @@
-use Rattle.std.proofs.Common.{rules, arith, ◌≡◌, ◌+◌, ◌<◌, ◌++◌, ◌∷◌, [], List, map, drop, refl, sym, ap, subst, ◌∙◌, Some, None, Ok, Err, Option, Result}
+use Rattle.std.proofs.Common.{rules, arith, ◌<◌, ◌++◌, ◌∷◌, [], List, map, refl, sym, subst, Ok, Err, Option, Result}
 use Rattle.std.specs.Option.{option_map}
 use Rattle.span_syntax.specs.declared.tree.Operator.{Operator}
 use Rattle.span_expr.specs.declared.expr.Expr.{Expr as TypedExpr}
@@ -11,7 +11,7 @@ use Rattle.span_typing.specs.declared.typed.TypedArm.{TypedArm}
 use Rattle.span_typing.specs.declared.typed.Chain.{Chain}
 use Rattle.span_typing.specs.Steps.{TypingStep, Leaves, append_step, from_result, ◌>>=◌}
 use Rattle.span_typing.specs.Operators.{unary_minus, logical_not, null_test, like_test, comparison_test, between, in_list, case_of, match_of, apply_function}
-use Rattle.span_typing.specs.Typing.{Operand, typing, arm_typing, link_typing, each, conditions, condition, condition_of, links, append_link, next_link, arms, arm, arm_typed, check_kind, compared_arms, compared_arm, chain, chain_of, all_true, some_true, aggregate, case}
+use Rattle.span_typing.specs.Typing.{Operand, typing, arm_typing, link_typing, condition, condition_of, append_link, next_link, arm, arm_typed, check_kind, compared_arm, chain_of, all_true, some_true, aggregate}
 use Rattle.span_typing.proofs.Sizes.{size, all_sizes, arm_size, link_size, smaller_at}
 use Rattle.span_typing.proofs.Layers.{chain_read, case_read, negative_read, null_test_read, denied_read, like_read, case_some}
 use Rattle.span_typing.proofs.Stepping.{made_of, made_of_two, stopped, given, gives, given_with, refused_with, given_two, refused_two, given_three, refused_three, second_refused, taken, refused}

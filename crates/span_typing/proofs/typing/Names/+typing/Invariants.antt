@@ -1,4 +1,4 @@
-use Rattle.std.proofs.Common.{◌≡◌, ◌+◌, [], map, drop, Ok}
+use Rattle.std.proofs.Common.{◌≡◌, ◌+◌, map, drop, Ok}
 use Rattle.std.specs.Option.{option_map}
 use Rattle.std.specs.List.{fold}
 use Rattle.span_typing.specs.Steps.{next_of, append_step}
