@@ -265,6 +265,7 @@ impl Names<'_> {
         Ok(all)
     }
 
+    /// An operand of an AND or an OR after the first, which is of this type.
     #[cycle(typing)]
     fn condition(
         self,
@@ -328,6 +329,7 @@ impl Names<'_> {
         Ok(all)
     }
 
+    /// An arm of a CASE without an operand.
     #[cycle(typing)]
     fn arm(
         self,
@@ -366,6 +368,7 @@ impl Names<'_> {
         Ok(all)
     }
 
+    /// An arm of a CASE whose operand is of this type.
     #[cycle(typing)]
     fn compared_arm(
         self,

@@ -20,8 +20,6 @@ use Rattle.span_typing.proofs.typing.Names.+typing.Goals as goal
 
 -- ---- what is made of operands
 
--- ---- what is made of operands
-
 pub comparison-returns-in_err-left : goal.comparison-returns-in_err-left
 comparison-returns-in_err-left t c =
     let whole = two_stopped (comparison_test c.args.comparison) (typing c.args.self.scope.now c.args.self.params.now c.args.left.now) (typing c.args.self.scope.now c.args.self.params.now c.args.right.now) c.args.mode c.args.found.now c.bind.new.found c.bind.new.found c.bind.result c.in_err-left.field-0.0 c.bind.ensures c.in_err-left.was in
