@@ -1,5 +1,5 @@
 -- The one type of many operands, and operands by their number.
-use Rattle.std.proofs.Common.{◌≡◌, ℕ, suc, ◌<◌, List, [], ◌∷◌, ◌++◌, map, drop, length, get_or, Option, Result, Ok, Err, refl, ap, sym, ◌∙◌}
+use Rattle.std.proofs.Common.{◌≡◌, ℕ, suc, ◌<◌, List, [], ◌∷◌, ◌++◌, map, drop, length, get_or, Option, Ok, Err, refl, ap, sym, ◌∙◌}
 use Rattle.std.proofs.Math.Seq.{drop-cons}
 use Rattle.span_value.specs.declared.value.Kind.{Kind}
 use Rattle.span_value.specs.declared.refusal.Refusal.{Refusal}
@@ -7,7 +7,7 @@ use Rattle.span_value.specs.declared.refusal.Refusal.TheVariants.{TypeMismatch}
 use Rattle.span_typing.specs.declared.typed.Typed.{Typed}
 use Rattle.span_value.specs.Results.{and_then}
 use Rattle.span_typing.specs.Kinds.{common_kind, common_kind_with}
-use Rattle.span_typing.specs.Operators.{two_of, three_of}
+use Rattle.span_typing.specs.Operators.{one_of, two_of, three_of}
 
 -- a refusal stays one
 pub refused_stays : (ks : List (Option Kind)) (why : Refusal) → common_kind_with ks (Err why) ≡ Err why
@@ -34,4 +34,11 @@ three_behind (x ∷ []) z = refl
 three_behind (x ∷ y ∷ []) z = refl
 three_behind (x ∷ y ∷ w ∷ ws) z = four_or_more x y w ws z
 
-pub ruleset counting = (three_behind)
+-- two are one and one after it
+pub two_behind : (xs : List Typed) (z : Typed) → two_of (xs ++ (z ∷ [])) ≡ and_then (one_of xs) (λ x. Ok (x, z))
+two_behind [] z = refl
+two_behind (x ∷ []) z = refl
+two_behind (x ∷ y ∷ []) z = refl
+two_behind (x ∷ y ∷ w ∷ ws) z = refl
+
+pub ruleset counting = (two_behind, three_behind)

@@ -1,9 +1,9 @@
 -- Types of operands. None is that of a NULL literal, which takes the type of the other operands in its place.
-use Rattle.std.specs.Prelude.{Bool, true, false, List, [], ◌∷◌, Option, Some, None, Result, Ok, Err, if◌then◌else◌}
+use Rattle.std.specs.Prelude.{Bool, true, List, [], ◌∷◌, Option, Some, None, Result, Ok, Err, if◌then◌else◌}
 use denote.Enum.Bare.{sameb}
 use Rattle.span_value.specs.contracts.value.Kind.{the_type as kind_type}
 use Rattle.span_value.specs.declared.value.Kind.{Kind}
-use Rattle.span_value.specs.declared.value.Kind.TheVariants.{Int, Str, Bytes, Bool as Truth}
+use Rattle.span_value.specs.declared.value.Kind.TheVariants.{Int, Str, Bytes}
 use Rattle.span_value.specs.declared.refusal.Refusal.{Refusal}
 use Rattle.span_value.specs.declared.refusal.Refusal.TheVariants.{TypeMismatch}
 

@@ -1,8 +1,7 @@
 -- The typed expression that an operator or a call makes of typed operands.
-use Rattle.std.specs.Prelude.{ℕ, ℤ, pos, neg_ℤ, ◌^◌, ◌&&◌, nat_lt, Bool, true, false, List, [], ◌∷◌, ◌++◌, map, chars, Option, Some, None, Result, Ok, Err, if◌then◌else◌}
+use Rattle.std.specs.Prelude.{ℕ, pos, neg_ℤ, ◌^◌, ◌&&◌, nat_lt, Bool, List, [], ◌∷◌, map, chars, Option, Some, None, Result, Ok, Err, if◌then◌else◌}
 use Rattle.std.specs.List.{list_all}
 use Rattle.std.specs.Option.{option_map}
-use Rattle.span_value.specs.declared.value.Value.{Value}
 use Rattle.span_value.specs.declared.value.Value.TheVariants as value
 use Rattle.span_value.specs.declared.value.Kind.{Kind}
 use Rattle.span_value.specs.declared.value.Kind.TheVariants as kind
@@ -16,7 +15,6 @@ use Rattle.span_syntax.specs.declared.tree.Operator.TheVariants.{Plus, Minus, Ti
 use Rattle.span_expr.specs.declared.expr.Expr.{Expr}
 use Rattle.span_expr.specs.declared.expr.Expr.TheVariants as expr
 use Rattle.span_expr.specs.declared.expr.Arm.{Arm}
-use Rattle.span_expr.specs.declared.expr.Link.{Link}
 use Rattle.span_expr.specs.declared.expr.PatternPart.{PatternPart}
 use Rattle.span_expr.specs.declared.expr.Comparison.{Comparison as Compares}
 use Rattle.span_expr.specs.declared.expr.Comparison.TheVariants as compares

@@ -1,6 +1,5 @@
 -- The typed expression of a syntax tree, or the first fault in it: operands come before their operator.
-use Rattle.std.specs.List.{fold}
-use Rattle.std.specs.Prelude.{ℕ, ◌+◌, ◌==◌, Bool, true, false, List, [], ◌∷◌, ◌++◌, length, drop, position, slice_get, Option, Some, None, Result, Ok, Err, if◌then◌else◌}
+use Rattle.std.specs.Prelude.{ℕ, ◌+◌, ◌==◌, Bool, List, [], ◌∷◌, ◌++◌, length, drop, position, slice_get, Option, Some, None, Result, Ok, Err, if◌then◌else◌}
 use Rattle.span_value.specs.declared.value.Value.TheVariants as value
 use Rattle.span_value.specs.declared.value.Kind.{Kind}
 use Rattle.span_value.specs.declared.value.Kind.TheVariants as kind
@@ -15,7 +14,6 @@ use Rattle.span_syntax.specs.declared.tree.Expr.TheOpen.{Expr-F, Arm-F, Link-F}
 use Rattle.span_syntax.specs.declared.tree.Expr.TheFolds.{fold-Expr}
 use Rattle.span_expr.specs.declared.expr.Expr.TheVariants as expr
 use Rattle.span_expr.specs.declared.expr.Expr.{Expr as TypedExpr}
-use Rattle.span_expr.specs.declared.expr.Link.{Link}
 use Rattle.span_query.specs.declared.query.Aggregate.{Aggregate}
 use Rattle.span_query.specs.declared.query.Aggregate.TheVariants.{CountRows, Of}
 use Rattle.span_query.specs.declared.query.Function.{Function}
@@ -92,11 +90,6 @@ Operand = Mode → Finds Typed
 
 abbrev pub each : List Operand → Mode → Finds (List Typed)
 each os m = all_of (λ (a : Operand). a m) os
-
--- the type of what was found, if it was
-abbrev pub kind_of : Result Typed Refusal → Option Kind
-kind_of (Ok x) = x.kind
-kind_of (Err why) = None
 
 unfoldable pub condition_of : Option Kind → Typed → Result TypedExpr Refusal
 condition_of k x = if are_conditions k x.kind then Ok x.expr else Err TypeMismatch
@@ -186,6 +179,11 @@ case None os other = searched_case os other
 case (Some a) os other = simple_case a os other
 
 -- ---- calls
+
+-- the place of a new aggregate, at rows of the groups
+unfoldable pub next_place : Scope → Mode → List Aggregate → Result ℕ Refusal
+next_place scope Rows found = Err NotGrouped
+next_place scope Groups found = Ok (length scope.keys + length found)
 
 -- a new aggregate of the block; its place is after the grouped columns and the aggregates before it
 unfoldable pub new_aggregate : Scope → Mode → Aggregate → Kind → Finds Typed

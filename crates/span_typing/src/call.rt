@@ -1,13 +1,15 @@
 //! What calls make of typed operands.
-ghost use Rattle.std.specs.Prelude.{◌≡◌, ◌∷◌, []};
+ghost use Rattle.std.specs.Prelude.{◌≡◌, ◌∷◌, [], Ok};
 ghost use Rattle.span_value.specs.Results.{and_then};
 ghost use Rattle.span_typing.specs.Steps.{Gives};
+ghost use Rattle.span_typing.specs.Kinds as kinds;
 ghost use Rattle.span_typing.specs.Operators as spec;
 
-use super::choice::{case_of_arms, coalesce_of};
+use super::choice::{case_of, coalesce_of};
 use super::function::CalledFunction;
 use super::kind::{common_kind, takes, text_kind};
-use super::operator::{TypingResult, box_expr, typed};
+use super::operator::{TypingResult, typed};
+use super::step::{append, box_second, box_two, keep_if, pair_with};
 use super::typed::{Typed, TypedArm};
 use span_expr::expr::{Expr, Link, Operator};
 use span_query::query::Function;
@@ -22,18 +24,22 @@ fn one_of(operands: Seq<Typed>) -> Result<Typed, Refusal>
 {
     let mut operands = operands.into_vec();
     match operands.pop() {
-        Some(only) if operands.is_empty() => Ok(only),
-        _ => Err(Refusal::TypeMismatch),
+        Some(only) => keep_if(operands.is_empty(), only),
+        None => Err(Refusal::TypeMismatch),
     }
 }
 
+#[tactic(auto, using(crate::proofs::Agreement::counting))]
 fn two_of(operands: Seq<Typed>) -> Result<(Typed, Typed), Refusal>
     ensures { result ≡ spec.two_of operands }
 {
     let mut operands = operands.into_vec();
-    match (operands.pop(), operands.pop()) {
-        (Some(second), Some(first)) if operands.is_empty() => Ok((first, second)),
-        _ => Err(Refusal::TypeMismatch),
+    match operands.pop() {
+        Some(second) => {
+            let (second, first) = pair_with(second, one_of(Seq::from_vec(operands)))?;
+            Ok((first, second))
+        }
+        None => Err(Refusal::TypeMismatch),
     }
 }
 
@@ -42,33 +48,39 @@ fn two_of(operands: Seq<Typed>) -> Result<(Typed, Typed), Refusal>
 fn calculation_of(alloc: Global, operator: Operator, left: Typed, right: Typed) -> TypingResult
     ensures { Gives result (spec.calculation_of operator left right) }
 {
-    if !(takes(Kind::Int, left.kind) && takes(Kind::Int, right.kind)) {
-        return Err(Refusal::TypeMismatch);
-    }
+    let are_integers = takes(Kind::Int, left.kind) && takes(Kind::Int, right.kind);
+    let (left, right) = keep_if(are_integers, (left.expr, right.expr))?;
+    let (right, left) = box_second(alloc, right, left)?;
     let mut links = Items::new(alloc);
     links.push(Link {
         operator,
-        operand: right.expr,
+        operand: right,
     })?;
-    Ok(typed(Expr::Chain(Boxed::new(alloc, left.expr)?, links), Kind::Int))
+    Ok(typed(Expr::Chain(left, links), Kind::Int))
 }
 
 #[tactic(auto, unfolding(crate::specs::Operators::length_of))]
 fn length_of(alloc: Global, operand: Typed) -> TypingResult
     ensures { Gives result (spec.length_of operand) }
 {
-    let _ = text_kind(operand.kind)?;
-    Ok(typed(Expr::Length(Boxed::new(alloc, operand.expr)?), Kind::Int))
+    let (operand, _) = pair_with(operand.expr, text_kind(operand.kind))?;
+    Ok(typed(Expr::Length(Boxed::new(alloc, operand)?), Kind::Int))
+}
+
+/// The type of two operands that are both strings or both BYTES.
+fn common_text_kind(left: Option<Kind>, right: Option<Kind>) -> Result<Kind, Refusal>
+    ensures { result ≡ and_then (kinds.common_kind left right) kinds.text_kind }
+{
+    text_kind(common_kind(left, right)?)
 }
 
 #[tactic(auto, unfolding(crate::specs::Operators::starts_with))]
 fn starts_with(alloc: Global, text: Typed, front: Typed) -> TypingResult
     ensures { Gives result (spec.starts_with text front) }
 {
-    let kind = common_kind(text.kind, front.kind)?;
-    let _ = text_kind(kind)?;
-    let text = box_expr(alloc, text)?;
-    let front = box_expr(alloc, front)?;
+    let kind = common_text_kind(text.kind, front.kind);
+    let ((text, front), _) = pair_with((text, front), kind)?;
+    let (text, front) = box_two(alloc, text.expr, front.expr)?;
     Ok(typed(Expr::StartsWith(text, front), Kind::Bool))
 }
 
@@ -77,11 +89,22 @@ fn three_of(operands: Seq<Typed>) -> Result<(Typed, Typed, Typed), Refusal>
     ensures { result ≡ spec.three_of operands }
 {
     let mut operands = operands.into_vec();
-    let Some(third) = operands.pop() else {
-        return Err(Refusal::TypeMismatch);
-    };
-    let (first, second) = two_of(Seq::from_vec(operands))?;
-    Ok((first, second, third))
+    match operands.pop() {
+        Some(third) => {
+            let first = two_of(Seq::from_vec(operands));
+            let (third, (first, second)) = pair_with(third, first)?;
+            Ok((first, second, third))
+        }
+        None => Err(Refusal::TypeMismatch),
+    }
+}
+
+fn arm_of(alloc: Global, condition: Typed, value: Typed) -> Result<Seq<TypedArm>, Refusal>
+    ensures { Gives result (Ok (record { condition = condition; value = value } ∷ [])) }
+{
+    let mut arms = Seq::new(alloc);
+    append(&mut arms, TypedArm { condition, value })?;
+    Ok(arms)
 }
 
 /// `IF(c, x, y)` is `CASE WHEN c THEN x ELSE y END`.
@@ -89,9 +112,8 @@ fn three_of(operands: Seq<Typed>) -> Result<(Typed, Typed, Typed), Refusal>
 fn if_of(alloc: Global, condition: Typed, value: Typed, otherwise: Typed) -> TypingResult
     ensures { Gives result (spec.if_of condition value otherwise) }
 {
-    let mut arms = Seq::new(alloc);
-    arms.push(TypedArm { condition, value })?;
-    case_of_arms(alloc, arms, Some(otherwise))
+    let (otherwise, arms) = pair_with(otherwise, arm_of(alloc, condition, value))?;
+    case_of(alloc, arms, Some(otherwise))
 }
 
 fn if_null(alloc: Global, operands: Seq<Typed>) -> TypingResult
@@ -118,11 +140,10 @@ fn coalesce_some(alloc: Global, operands: Seq<Typed>) -> TypingResult
 pub(crate) fn apply_function(
     alloc: Global,
     function: CalledFunction,
-    operands: Result<Seq<Typed>, Refusal>,
+    operands: Seq<Typed>,
 ) -> TypingResult
-    ensures { Gives result (and_then operands (λ xs. spec.apply_function function xs)) }
+    ensures { Gives result (spec.apply_function function operands) }
 {
-    let operands = operands?;
     match function {
         CalledFunction::Aggregate(_) => Err(Refusal::TypeMismatch),
         CalledFunction::Divide => {
@@ -149,12 +170,10 @@ pub(crate) fn apply_function(
 
 /// The operand of an aggregate. SUM takes INT64 alone.
 #[tactic(auto, unfolding(crate::specs::Operators::operand_of))]
-pub(crate) fn operand_of(function: Function, operands: Result<Seq<Typed>, Refusal>) -> TypingResult
-    ensures { Gives result (and_then operands (λ xs. spec.operand_of function xs)) }
+pub(crate) fn operand_of(function: Function, operands: Seq<Typed>) -> TypingResult
+    ensures { result ≡ spec.operand_of function operands }
 {
-    let operand = one_of(operands?)?;
-    if function == Function::Sum && !takes(Kind::Int, operand.kind) {
-        return Err(Refusal::TypeMismatch);
-    }
-    Ok(operand)
+    let operand = one_of(operands)?;
+    let is_right = function != Function::Sum || takes(Kind::Int, operand.kind);
+    keep_if(is_right, operand)
 }

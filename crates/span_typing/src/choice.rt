@@ -1,14 +1,14 @@
 //! The typed expressions of lists of operands and of choices.
-ghost use Rattle.std.specs.Prelude.{◌≡◌, ◌++◌, ◌∷◌, [], Ok, IfOk, map};
+ghost use Rattle.std.specs.Prelude.{◌≡◌, ◌∷◌, IfOk, map};
 ghost use Rattle.std.specs.List.{list_all};
-ghost use Rattle.span_value.specs.Results.{and_then};
 ghost use Rattle.span_typing.specs.Steps.{Gives};
 ghost use Rattle.span_typing.specs.Kinds.{common_kind_of_all};
 ghost use Rattle.span_expr.specs.declared.expr.Expr.TheVariants as expr;
 ghost use Rattle.span_typing.specs.Operators as spec;
 
 use super::kind::{common_kind, or_int, takes};
-use super::operator::{TypingResult, both, typed};
+use super::operator::{TypingResult, typed};
+use super::step::{box_second, pair_with};
 use super::typed::{Typed, TypedArm};
 use span_expr::expr::{Arm, Expr};
 use span_value::refusal::Refusal;
@@ -42,20 +42,14 @@ fn exprs_of(alloc: Global, operands: Seq<Typed>) -> Result<Items<Expr>, AllocErr
 
 /// An IN.
 #[tactic(auto, unfolding(crate::specs::Operators::in_list))]
-pub(crate) fn in_list(
-    alloc: Global,
-    operand: TypingResult,
-    members: Result<Seq<Typed>, Refusal>,
-) -> TypingResult
-    ensures { Gives result (and_then operand (λ x. and_then members (λ ys. spec.in_list x ys))) }
+pub(crate) fn in_list(alloc: Global, operand: Typed, members: Seq<Typed>) -> TypingResult
+    ensures { Gives result (spec.in_list operand members) }
 {
-    let operand = operand?;
-    let members = members?;
-    kind_of_all(members.as_slice(), operand.kind)?;
-    Ok(typed(
-        Expr::In(Boxed::new(alloc, operand.expr)?, exprs_of(alloc, members)?),
-        Kind::Bool,
-    ))
+    let kind = kind_of_all(members.as_slice(), operand.kind);
+    let (operand, _) = pair_with(operand.expr, kind)?;
+    let operand = Boxed::new(alloc, operand)?;
+    let members = exprs_of(alloc, members)?;
+    Ok(typed(Expr::In(operand, members), Kind::Bool))
 }
 
 #[tactic(auto, unfolding(crate::specs::Operators::coalesce_of, crate::specs::Kinds::common_kind))]
@@ -142,32 +136,19 @@ fn case_expr(
 ) -> Result<Expr, AllocError>
     ensures { IfOk result (λ e. e ≡ expr.Case (map spec.arm_of arms) (spec.otherwise_of otherwise)) }
 {
+    let otherwise = otherwise_of(alloc, otherwise)?;
     let arms = arms_of(alloc, arms)?;
-    Ok(Expr::Case(arms, otherwise_of(alloc, otherwise)?))
-}
-
-#[tactic(auto, unfolding(crate::specs::Operators::case_of))]
-pub(crate) fn case_of_arms(
-    alloc: Global,
-    arms: Seq<TypedArm>,
-    otherwise: Option<Typed>,
-) -> TypingResult
-    ensures { Gives result (spec.case_of arms otherwise) }
-{
-    let kind = case_kind(arms.as_slice(), &otherwise)?;
-    Ok(typed(case_expr(alloc, arms, otherwise)?, kind))
+    Ok(Expr::Case(arms, otherwise))
 }
 
 /// A CASE without an operand.
-pub(crate) fn case_of(
-    alloc: Global,
-    arms: Result<Seq<TypedArm>, Refusal>,
-    otherwise: Result<Option<Typed>, Refusal>,
-) -> TypingResult
-    ensures { Gives result (and_then arms (λ xs. and_then otherwise (λ y. spec.case_of xs y))) }
+#[tactic(auto, unfolding(crate::specs::Operators::case_of))]
+pub(crate) fn case_of(alloc: Global, arms: Seq<TypedArm>, otherwise: Option<Typed>) -> TypingResult
+    ensures { Gives result (spec.case_of arms otherwise) }
 {
-    let (arms, otherwise) = both(arms, otherwise)?;
-    case_of_arms(alloc, arms, otherwise)
+    let kind = case_kind(arms.as_slice(), &otherwise);
+    let (otherwise, kind) = pair_with(otherwise, kind)?;
+    Ok(typed(case_expr(alloc, arms, otherwise)?, kind))
 }
 
 fn match_expr(
@@ -178,13 +159,15 @@ fn match_expr(
 ) -> Result<Expr, AllocError>
     ensures { IfOk result (λ e. e ≡ expr.Match operand (map spec.arm_of arms) (spec.otherwise_of otherwise)) }
 {
-    let operand = Boxed::new(alloc, operand)?;
+    let (otherwise, operand) = box_second(alloc, otherwise, operand)?;
+    let otherwise = otherwise_of(alloc, otherwise)?;
     let arms = arms_of(alloc, arms)?;
-    Ok(Expr::Match(operand, arms, otherwise_of(alloc, otherwise)?))
+    Ok(Expr::Match(operand, arms, otherwise))
 }
 
+/// A CASE with an operand, to which the conditions were compared.
 #[tactic(auto, unfolding(crate::specs::Operators::match_of))]
-fn match_of_arms(
+pub(crate) fn match_of(
     alloc: Global,
     operand: Typed,
     arms: Seq<TypedArm>,
@@ -192,20 +175,7 @@ fn match_of_arms(
 ) -> TypingResult
     ensures { Gives result (spec.match_of operand arms otherwise) }
 {
-    let kind = value_kind(arms.as_slice(), &otherwise)?;
-    Ok(typed(match_expr(alloc, operand.expr, arms, otherwise)?, kind))
-}
-
-/// A CASE with an operand, to which the conditions were compared.
-pub(crate) fn match_of(
-    alloc: Global,
-    operand: TypingResult,
-    arms: Result<Seq<TypedArm>, Refusal>,
-    otherwise: Result<Option<Typed>, Refusal>,
-) -> TypingResult
-    ensures { Gives result (and_then operand (λ x. and_then arms (λ xs. and_then otherwise (λ y. spec.match_of x xs y)))) }
-{
-    let operand = operand?;
-    let (arms, otherwise) = both(arms, otherwise)?;
-    match_of_arms(alloc, operand, arms, otherwise)
+    let kind = value_kind(arms.as_slice(), &otherwise);
+    let ((operand, otherwise), kind) = pair_with((operand.expr, otherwise), kind)?;
+    Ok(typed(match_expr(alloc, operand, arms, otherwise)?, kind))
 }

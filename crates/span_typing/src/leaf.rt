@@ -1,5 +1,5 @@
 //! The leaves of a tree: literals, parameters, columns; and the aggregates of the block.
-ghost use Rattle.std.specs.Prelude.{◌≡◌, ◌==◌, ◌+◌, Ok, position, drop, length};
+ghost use Rattle.std.specs.Prelude.{◌≡◌, ◌==◌, Ok, position, drop};
 ghost use Rattle.std.specs.Option.{option_copied};
 ghost use Rattle.span_schema.specs.Tables.{is_same_name};
 ghost use Rattle.span_params.specs.Parameters.{parameter_named};
@@ -13,6 +13,7 @@ use super::function::CalledFunction;
 use super::kind::or_int;
 use super::operator::{TypingResult, typed};
 use super::scope::{Scope, column_place};
+use super::step::{append, pair_with};
 use super::typed::{Mode, Typed};
 use span_expr::expr::Expr;
 use span_lexer::literal_value::{bytes_of, text_of};
@@ -133,10 +134,15 @@ pub(crate) fn column(scope: &Scope, mode: Mode, column: &Column) -> TypingResult
     column_at(scope, mode, column_place(scope, column)?)
 }
 
-/// The place after the grouped columns and the aggregates found so far.
-fn next_place(scope: &Scope, found: &Seq<Aggregate>) -> Result<usize, Refusal>
-    ensures { Gives result (Ok (length scope.now.keys + length found.now)) }
+/// The place after the grouped columns and the aggregates found so far. The error is `NotGrouped` where the mode is rows
+/// of the FROM.
+#[tactic(auto, unfolding(crate::specs::Typing::next_place))]
+fn next_place(scope: &Scope, mode: Mode, found: &Seq<Aggregate>) -> Result<usize, Refusal>
+    ensures { Gives result (spec.next_place scope.now mode found.now) }
 {
+    if mode == Mode::Rows {
+        return Err(Refusal::NotGrouped);
+    }
     match scope.keys.len().checked_add(found.len()) {
         Some(place) => Ok(place),
         None => Err(Refusal::OutOfMemory),
@@ -144,7 +150,7 @@ fn next_place(scope: &Scope, found: &Seq<Aggregate>) -> Result<usize, Refusal>
 }
 
 /// One more aggregate of the block. The error is `NotGrouped` where the mode is rows of the FROM.
-#[tactic(auto, unfolding(crate::specs::Typing::new_aggregate))]
+#[tactic(auto, unfolding(crate::specs::Typing::new_aggregate, crate::specs::Typing::next_place))]
 fn new_aggregate(
     scope: &Scope,
     mode: Mode,
@@ -154,16 +160,9 @@ fn new_aggregate(
 ) -> TypingResult
     ensures { Leaves result found.new (spec.new_aggregate scope.now mode aggregate kind found.old) }
 {
-    match mode {
-        Mode::Rows => Err(Refusal::NotGrouped),
-        Mode::Groups => {
-            let place = next_place(scope, found)?;
-            match found.push(aggregate) {
-                Ok(()) => Ok(typed(Expr::Column(place), kind)),
-                Err(_) => Err(Refusal::OutOfMemory),
-            }
-        }
-    }
+    let (aggregate, place) = pair_with(aggregate, next_place(scope, mode, found))?;
+    append(found, aggregate)?;
+    Ok(typed(Expr::Column(place), kind))
 }
 
 /// COUNT(*). The error is `TypeMismatch` for another name.
@@ -200,10 +199,10 @@ pub(crate) fn aggregate(
     scope: &Scope,
     mode: Mode,
     function: Function,
-    operands: Result<Seq<Typed>, Refusal>,
+    operands: Seq<Typed>,
     found: &mut Seq<Aggregate>,
 ) -> TypingResult
-    ensures { Leaves result found.new (and_then operands (λ xs. spec.aggregate scope.now mode function xs found.old)) }
+    ensures { Leaves result found.new (spec.aggregate scope.now mode function operands found.old) }
 {
     let Typed { expr, kind } = operand_of(function, operands)?;
     let kind = aggregate_kind(function, kind);

@@ -1,15 +1,12 @@
-//! The typed expressions of operators and choices, from typed operands.
-//!
-//! Each takes the results of its operands, so that the first refusal among them is the one that is returned.
-ghost use Rattle.std.specs.Prelude.{◌≡◌, ◌∷◌, [], Ok, IfOk};
-ghost use Rattle.span_value.specs.Results.{and_then};
+//! The typed expressions of operators, from typed operands.
+ghost use Rattle.std.specs.Prelude.{◌≡◌, ◌∷◌, [], Ok};
 ghost use Rattle.span_typing.specs.Steps.{Gives};
-ghost use Rattle.span_expr.specs.declared.expr.Expr.TheVariants as expr;
 ghost use Rattle.span_typing.specs.Kinds.{common_kind_of_all};
 ghost use Rattle.span_typing.specs.Operators as spec;
 ghost use Rattle.span_typing.specs.Typing.{append_link, chain_of};
 
 use super::kind::{common_kind, takes, text_kind};
+use super::step::{box_three, box_two, keep_if, pair_with};
 use super::typed::{Chain, Typed};
 use span_expr::expr::{Comparison, Expr, Link, Operator};
 use span_expr::pattern::parts_of;
@@ -18,7 +15,7 @@ use span_syntax::tree;
 use span_value::refusal::Refusal;
 use span_value::value::{Kind, Value};
 use sqlite_items::Boxed;
-use std::alloc::{AllocError, Global};
+use std::alloc::Global;
 
 /// The result for a tree, or for a part of one.
 pub(crate) type TypingResult = Result<Typed, Refusal>;
@@ -30,24 +27,6 @@ pub(crate) fn typed(expr: Expr, kind: Kind) -> Typed
         expr,
         kind: Some(kind),
     }
-}
-
-/// Both results, or the first refusal.
-pub(crate) fn both<A: Drop, B: Drop>(
-    first: Result<A, Refusal>,
-    second: Result<B, Refusal>,
-) -> Result<(A, B), Refusal>
-    ensures { result ≡ and_then first (λ x. and_then second (λ y. Ok (x, y))) }
-{
-    let first = first?;
-    Ok((first, second?))
-}
-
-/// The expression in a box.
-pub(crate) fn box_expr(alloc: Global, operand: Typed) -> Result<Boxed<Expr>, AllocError>
-    ensures { IfOk result (λ e. e ≡ operand.expr) }
-{
-    Boxed::new(alloc, operand.expr)
 }
 
 /// An integer literal. The error is `BadToken` for one outside INT64, which no token is.
@@ -65,35 +44,26 @@ pub(crate) fn integer(literal: tree::Integer) -> TypingResult
 }
 
 #[tactic(auto, unfolding(crate::specs::Operators::unary_minus))]
-pub(crate) fn unary_minus(alloc: Global, operand: TypingResult) -> TypingResult
-    ensures { Gives result (and_then operand spec.unary_minus) }
+pub(crate) fn unary_minus(alloc: Global, operand: Typed) -> TypingResult
+    ensures { Gives result (spec.unary_minus operand) }
 {
-    let Typed { expr, kind } = operand?;
-    if takes(Kind::Int, kind) {
-        Ok(typed(Expr::Negative(Boxed::new(alloc, expr)?), Kind::Int))
-    } else {
-        Err(Refusal::TypeMismatch)
-    }
+    let operand = keep_if(takes(Kind::Int, operand.kind), operand.expr)?;
+    Ok(typed(Expr::Negative(Boxed::new(alloc, operand)?), Kind::Int))
 }
 
 #[tactic(auto, unfolding(crate::specs::Operators::logical_not))]
-pub(crate) fn logical_not(alloc: Global, operand: TypingResult) -> TypingResult
-    ensures { Gives result (and_then operand spec.logical_not) }
+pub(crate) fn logical_not(alloc: Global, operand: Typed) -> TypingResult
+    ensures { Gives result (spec.logical_not operand) }
 {
-    let Typed { expr, kind } = operand?;
-    if takes(Kind::Bool, kind) {
-        Ok(typed(Expr::Not(Boxed::new(alloc, expr)?), Kind::Bool))
-    } else {
-        Err(Refusal::TypeMismatch)
-    }
+    let operand = keep_if(takes(Kind::Bool, operand.kind), operand.expr)?;
+    Ok(typed(Expr::Not(Boxed::new(alloc, operand)?), Kind::Bool))
 }
 
 #[tactic(auto, unfolding(crate::specs::Operators::null_test))]
-pub(crate) fn null_test(alloc: Global, operand: TypingResult) -> TypingResult
-    ensures { Gives result (and_then operand (λ x. Ok (spec.null_test x))) }
+pub(crate) fn null_test(alloc: Global, operand: Typed) -> TypingResult
+    ensures { Gives result (Ok (spec.null_test operand)) }
 {
-    let Typed { expr, .. } = operand?;
-    Ok(typed(Expr::IsNull(Boxed::new(alloc, expr)?), Kind::Bool))
+    Ok(typed(Expr::IsNull(Boxed::new(alloc, operand.expr)?), Kind::Bool))
 }
 
 #[tactic(auto, unfolding(crate::specs::Operators::comparison_of))]
@@ -110,21 +80,8 @@ fn comparison_of(comparison: tree::ComparisonOperator) -> Comparison
     }
 }
 
-fn comparison_expr(
-    alloc: Global,
-    left: Expr,
-    comparison: Comparison,
-    right: Expr,
-) -> Result<Expr, AllocError>
-    ensures { IfOk result (λ e. e ≡ expr.Compare left comparison right) }
-{
-    let left = Boxed::new(alloc, left)?;
-    let right = Boxed::new(alloc, right)?;
-    Ok(Expr::Compare(left, comparison, right))
-}
-
 #[tactic(auto, unfolding(crate::specs::Operators::comparison_test))]
-fn compare_operands(
+pub(crate) fn comparison_test(
     alloc: Global,
     left: Typed,
     comparison: tree::ComparisonOperator,
@@ -132,31 +89,11 @@ fn compare_operands(
 ) -> TypingResult
     ensures { Gives result (spec.comparison_test comparison left right) }
 {
-    let _ = common_kind(left.kind, right.kind)?;
+    let kind = common_kind(left.kind, right.kind);
+    let ((left, right), _) = pair_with((left, right), kind)?;
+    let (left, right) = box_two(alloc, left.expr, right.expr)?;
     let comparison = comparison_of(comparison);
-    let comparison_test = comparison_expr(alloc, left.expr, comparison, right.expr)?;
-    Ok(typed(comparison_test, Kind::Bool))
-}
-
-pub(crate) fn comparison_test(
-    alloc: Global,
-    left: TypingResult,
-    comparison: tree::ComparisonOperator,
-    right: TypingResult,
-) -> TypingResult
-    ensures { Gives result (and_then left (λ x. and_then right (λ y. spec.comparison_test comparison x y))) }
-{
-    let left = left?;
-    compare_operands(alloc, left, comparison, right?)
-}
-
-fn range_test(alloc: Global, operand: Expr, low: Expr, high: Expr) -> Result<Expr, AllocError>
-    ensures { IfOk result (λ e. e ≡ expr.Between operand low high) }
-{
-    let operand = Boxed::new(alloc, operand)?;
-    let low = Boxed::new(alloc, low)?;
-    let high = Boxed::new(alloc, high)?;
-    Ok(Expr::Between(operand, low, high))
+    Ok(typed(Expr::Compare(left, comparison, right), Kind::Bool))
 }
 
 /// The one type of three operands.
@@ -174,39 +111,25 @@ fn common_kind_of_all(
 
 /// The three operands of a BETWEEN are checked together.
 #[tactic(auto, unfolding(crate::specs::Operators::between))]
-fn between_operands(alloc: Global, operand: Typed, low: Typed, high: Typed) -> TypingResult
+pub(crate) fn between(alloc: Global, operand: Typed, low: Typed, high: Typed) -> TypingResult
     ensures { Gives result (spec.between operand low high) }
 {
-    let _ = common_kind_of_all(operand.kind, low.kind, high.kind)?;
-    let test = range_test(alloc, operand.expr, low.expr, high.expr)?;
-    Ok(typed(test, Kind::Bool))
-}
-
-pub(crate) fn between(
-    alloc: Global,
-    operand: TypingResult,
-    low: TypingResult,
-    high: TypingResult,
-) -> TypingResult
-    ensures { Gives result (and_then operand (λ x. and_then low (λ y. and_then high (λ z. spec.between x y z)))) }
-{
-    let operand = operand?;
-    let (low, high) = both(low, high)?;
-    between_operands(alloc, operand, low, high)
+    let kind = common_kind_of_all(operand.kind, low.kind, high.kind);
+    let ((operand, low, high), _) = pair_with((operand, low, high), kind)?;
+    let (operand, low, high) = box_three(alloc, operand.expr, low.expr, high.expr)?;
+    Ok(typed(Expr::Between(operand, low, high), Kind::Bool))
 }
 
 /// A LIKE, with its pattern as it is spelt.
 #[tactic(auto, unfolding(crate::specs::Operators::like_test))]
-pub(crate) fn like_test(alloc: Global, operand: TypingResult, pattern: &str) -> TypingResult
-    ensures { Gives result (and_then operand (spec.like_test pattern.now)) }
+pub(crate) fn like_test(alloc: Global, operand: Typed, pattern: &str) -> TypingResult
+    ensures { Gives result (spec.like_test pattern.now operand) }
 {
-    let Typed { expr, kind } = operand?;
-    if !takes(Kind::Str, kind) {
-        return Err(Refusal::TypeMismatch);
-    }
+    let operand = keep_if(takes(Kind::Str, operand.kind), operand.expr)?;
+    let operand = Boxed::new(alloc, operand)?;
     let pattern = text_of(alloc, pattern)?;
     let parts = parts_of(alloc, pattern.as_str())?;
-    Ok(typed(Expr::Like(Boxed::new(alloc, expr)?, parts), Kind::Bool))
+    Ok(typed(Expr::Like(operand, parts), Kind::Bool))
 }
 
 /// Whether both operands of an AND or an OR can be conditions.
@@ -252,19 +175,16 @@ pub(crate) fn link_kind(
 pub(crate) fn append_link(
     chain: Chain,
     operator: tree::Operator,
-    operand: TypingResult,
+    operand: Typed,
 ) -> Result<Chain, Refusal>
-    ensures { Gives result (and_then operand (λ x. append_link chain operator x)) }
+    ensures { Gives result (append_link chain operator operand) }
 {
-    let Typed { expr, kind } = operand?;
-    let Chain {
-        kind: before,
-        mut links,
-    } = chain;
-    let kind = link_kind(operator, before, kind)?;
+    let kind = link_kind(operator, chain.kind, operand.kind);
+    let (operand, kind) = pair_with(operand.expr, kind)?;
+    let mut links = chain.links;
     links.push(Link {
         operator: operator_of(operator),
-        operand: expr,
+        operand,
     })?;
     Ok(Chain {
         kind: Some(kind),
@@ -274,15 +194,10 @@ pub(crate) fn append_link(
 
 /// A chain after its first operand.
 #[tactic(auto, unfolding(crate::specs::Typing::chain_of))]
-pub(crate) fn chain_of(
-    alloc: Global,
-    first: TypingResult,
-    chain: Result<Chain, Refusal>,
-) -> TypingResult
-    ensures { Gives result (and_then first (λ x. and_then chain (λ c. Ok (chain_of x c)))) }
+pub(crate) fn chain_of(alloc: Global, first: Typed, chain: Chain) -> TypingResult
+    ensures { Gives result (Ok (chain_of first chain)) }
 {
-    let first = first?;
-    let Chain { kind, links } = chain?;
+    let Chain { kind, links } = chain;
     Ok(Typed {
         expr: Expr::Chain(Boxed::new(alloc, first.expr)?, links),
         kind,

@@ -14,14 +14,13 @@ use super::call::apply_function;
 use super::choice::{case_of, in_list, match_of};
 use super::function::{CalledFunction, function_named};
 use super::leaf::{aggregate, bytes, call_star, column, null, parameter, string, truth};
-use super::operand::{
-    all_true, arm_of, check_kind, condition_of, kind_of, push_result, some_true, unknown,
-};
+use super::operand::{all_true, check_kind, condition_of, some_true};
 use super::operator::{
     TypingResult, append_link, between, chain_of, comparison_test, integer, like_test, logical_not,
     null_test, unary_minus,
 };
 use super::scope::Scope;
+use super::step::{pair_with, push_result};
 use super::typed::{Chain, Mode, Typed, TypedArm};
 use span_expr::expr::Expr;
 use span_params::params::Params;
@@ -67,17 +66,17 @@ impl Names<'_> {
             tree::Expr::Case(operand, arms, otherwise) => {
                 self.case(mode, operand, arms.as_slice(), otherwise, found)
             }
-            tree::Expr::Negative(a) => unary_minus(self.alloc, self.bind(mode, a.get(), found)),
+            tree::Expr::Negative(a) => unary_minus(self.alloc, self.bind(mode, a.get(), found)?),
             tree::Expr::Chain(first, links) => {
                 self.chain(mode, first.get(), links.as_slice(), found)
             }
             tree::Expr::Compare(a, comparison, b) => {
                 self.comparison(mode, a.get(), *comparison, b.get(), found)
             }
-            tree::Expr::IsNull(a) => null_test(self.alloc, self.bind(mode, a.get(), found)),
+            tree::Expr::IsNull(a) => null_test(self.alloc, self.bind(mode, a.get(), found)?),
             tree::Expr::Like(a, pattern) => like_test(
                 self.alloc,
-                self.bind(mode, a.get(), found),
+                self.bind(mode, a.get(), found)?,
                 pattern.text.as_str(),
             ),
             tree::Expr::Between(a, low, high) => {
@@ -86,7 +85,7 @@ impl Names<'_> {
             tree::Expr::In(a, members) => {
                 self.membership(mode, a.get(), members.as_slice(), found)
             }
-            tree::Expr::Not(a) => logical_not(self.alloc, self.bind(mode, a.get(), found)),
+            tree::Expr::Not(a) => logical_not(self.alloc, self.bind(mode, a.get(), found)?),
             tree::Expr::And(first, more) => {
                 self.conjunction(mode, first.get(), more.as_slice(), found)
             }
@@ -112,8 +111,8 @@ impl Names<'_> {
             mode
             found.old) }
     {
-        let left = self.bind(mode, left, found);
-        let right = self.bind(mode, right, found);
+        let left = self.bind(mode, left, found)?;
+        let (left, right) = pair_with(left, self.bind(mode, right, found))?;
         comparison_test(self.alloc, left, comparison, right)
     }
 
@@ -134,9 +133,9 @@ impl Names<'_> {
             mode
             found.old) }
     {
-        let operand = self.bind(mode, operand, found);
-        let low = self.bind(mode, low, found);
-        let high = self.bind(mode, high, found);
+        let operand = self.bind(mode, operand, found)?;
+        let (operand, low) = pair_with(operand, self.bind(mode, low, found))?;
+        let ((operand, low), high) = pair_with((operand, low), self.bind(mode, high, found))?;
         between(self.alloc, operand, low, high)
     }
 
@@ -156,8 +155,8 @@ impl Names<'_> {
             mode
             found.old) }
     {
-        let operand = self.bind(mode, operand, found);
-        let members = self.each(mode, members, found);
+        let operand = self.bind(mode, operand, found)?;
+        let (operand, members) = pair_with(operand, self.each(mode, members, found))?;
         in_list(self.alloc, operand, members)
     }
 
@@ -176,8 +175,9 @@ impl Names<'_> {
             mode
             found.old) }
     {
-        let first = self.bind(mode, first, found);
-        let chain = self.links(mode, kind_of(&first), links, found);
+        let first = self.bind(mode, first, found)?;
+        let kind = first.kind;
+        let (first, chain) = pair_with(first, self.links(mode, kind, links, found))?;
         chain_of(self.alloc, first, chain)
     }
 
@@ -196,8 +196,9 @@ impl Names<'_> {
             mode
             found.old) }
     {
-        let first = self.bind(mode, first, found);
-        let more = self.conditions(mode, kind_of(&first), more, found);
+        let first = self.bind(mode, first, found)?;
+        let kind = first.kind;
+        let (first, more) = pair_with(first, self.conditions(mode, kind, more, found))?;
         all_true(self.alloc, first, more)
     }
 
@@ -216,8 +217,9 @@ impl Names<'_> {
             mode
             found.old) }
     {
-        let first = self.bind(mode, first, found);
-        let more = self.conditions(mode, kind_of(&first), more, found);
+        let first = self.bind(mode, first, found)?;
+        let kind = first.kind;
+        let (first, more) = pair_with(first, self.conditions(mode, kind, more, found))?;
         some_true(self.alloc, first, more)
     }
 
@@ -257,10 +259,28 @@ impl Names<'_> {
     {
         let mut all = Seq::new(self.alloc);
         for operand in operands {
-            let next = condition_of(kind, self.bind(mode, operand, found));
+            let next = self.condition(mode, kind, operand, found);
             all = push_result(all, next)?;
         }
         Ok(all)
+    }
+
+    /// An operand of an AND or an OR after the first, which is of this type.
+    #[cycle(typing)]
+    fn condition(
+        self,
+        mode: Mode,
+        kind: Option<Kind>,
+        operand: &tree::Expr,
+        found: &mut Seq<Aggregate>,
+    ) -> Result<Expr, Refusal>
+        ensures { Leaves result found.new
+            (spec.condition kind
+            (spec.typing self.entry.scope.now self.entry.params.now operand.now)
+            mode
+            found.old) }
+    {
+        condition_of(kind, self.bind(mode, operand, found)?)
     }
 
     /// A chain after an operand of this type. Each operator is checked as it comes.
@@ -284,7 +304,8 @@ impl Names<'_> {
         };
         for link in links {
             let operand = self.bind(mode, &link.operand, found);
-            chain = append_link(chain, link.operator, operand)?;
+            let (so_far, operand) = pair_with(chain, operand)?;
+            chain = append_link(so_far, link.operator, operand)?;
         }
         Ok(chain)
     }
@@ -302,11 +323,26 @@ impl Names<'_> {
     {
         let mut all = Seq::new(self.alloc);
         for arm in arms {
-            let condition = self.bind(mode, &arm.condition, found);
-            let value = self.bind(mode, &arm.value, found);
-            all = push_result(all, arm_of(condition, value))?;
+            let next = self.arm(mode, arm, found);
+            all = push_result(all, next)?;
         }
         Ok(all)
+    }
+
+    /// An arm of a CASE without an operand.
+    #[cycle(typing)]
+    fn arm(
+        self,
+        mode: Mode,
+        arm: &tree::Arm,
+        found: &mut Seq<Aggregate>,
+    ) -> Result<TypedArm, Refusal>
+        ensures { Leaves result found.new
+            (spec.arm (spec.arm_typing self.entry.scope.now self.entry.params.now arm.now) mode found.old) }
+    {
+        let condition = self.bind(mode, &arm.condition, found)?;
+        let (condition, value) = pair_with(condition, self.bind(mode, &arm.value, found))?;
+        Ok(TypedArm { condition, value })
     }
 
     /// The arms of a CASE whose operand is of this type. Each WHEN is compared before its THEN.
@@ -326,11 +362,30 @@ impl Names<'_> {
     {
         let mut all = Seq::new(self.alloc);
         for arm in arms {
-            let condition = check_kind(kind, self.bind(mode, &arm.condition, found));
-            let value = self.bind(mode, &arm.value, found);
-            all = push_result(all, arm_of(condition, value))?;
+            let next = self.compared_arm(mode, kind, arm, found);
+            all = push_result(all, next)?;
         }
         Ok(all)
+    }
+
+    /// An arm of a CASE whose operand is of this type.
+    #[cycle(typing)]
+    fn compared_arm(
+        self,
+        mode: Mode,
+        kind: Option<Kind>,
+        arm: &tree::Arm,
+        found: &mut Seq<Aggregate>,
+    ) -> Result<TypedArm, Refusal>
+        ensures { Leaves result found.new
+            (spec.compared_arm kind
+            (spec.arm_typing self.entry.scope.now self.entry.params.now arm.now)
+            mode
+            found.old) }
+    {
+        let condition = check_kind(kind, self.bind(mode, &arm.condition, found)?)?;
+        let (condition, value) = pair_with(condition, self.bind(mode, &arm.value, found))?;
+        Ok(TypedArm { condition, value })
     }
 
     #[cycle(typing)]
@@ -368,16 +423,18 @@ impl Names<'_> {
             found.old) }
     {
         match function_named(name) {
-            None => unknown(self.each(mode, operands, found)),
+            None => {
+                let _ = self.each(mode, operands, found)?;
+                Err(Refusal::TypeMismatch)
+            }
             Some(CalledFunction::Aggregate(function)) => {
-                let operands = self.each(Mode::Rows, operands, found);
+                let operands = self.each(Mode::Rows, operands, found)?;
                 aggregate(self.scope, mode, function, operands, found)
             }
-            Some(function) => apply_function(
-                self.alloc,
-                function,
-                self.each(mode, operands, found),
-            ),
+            Some(function) => {
+                let operands = self.each(mode, operands, found)?;
+                apply_function(self.alloc, function, operands)
+            }
         }
     }
 
@@ -400,14 +457,17 @@ impl Names<'_> {
     {
         match operand {
             None => {
-                let arms = self.arms(mode, arms, found);
-                let otherwise = self.optional(mode, otherwise, found);
+                let arms = self.arms(mode, arms, found)?;
+                let (arms, otherwise) = pair_with(arms, self.optional(mode, otherwise, found))?;
                 case_of(self.alloc, arms, otherwise)
             }
             Some(operand) => {
-                let operand = self.bind(mode, operand.get(), found);
-                let arms = self.compared_arms(mode, kind_of(&operand), arms, found);
+                let operand = self.bind(mode, operand.get(), found)?;
+                let kind = operand.kind;
+                let arms = self.compared_arms(mode, kind, arms, found);
+                let (operand, arms) = pair_with(operand, arms)?;
                 let otherwise = self.optional(mode, otherwise, found);
+                let ((operand, arms), otherwise) = pair_with((operand, arms), otherwise)?;
                 match_of(self.alloc, operand, arms, otherwise)
             }
         }

@@ -1,5 +1,5 @@
 use Rattle.std.proofs.Common.{◌≡◌, map}
-use Rattle.span_typing.specs.Operators.{exprs_of, arm_of}
+use Rattle.span_typing.specs.Operators.{arm_of}
 use Rattle.span_typing.proofs.choice.arms_of.Given as goal
 
 abbrev pub invariant-loop-arm : goal.invariant-loop-arm

@@ -1,5 +1,5 @@
-use Rattle.std.proofs.Common.{◌≡◌, map}
-use Rattle.span_typing.specs.Operators.{exprs_of, arm_of}
+use Rattle.std.proofs.Common.{◌≡◌}
+use Rattle.span_typing.specs.Operators.{exprs_of}
 use Rattle.span_typing.proofs.choice.exprs_of.Given as goal
 
 abbrev pub invariant-loop-operand : goal.invariant-loop-operand

@@ -1,4 +1,4 @@
-use Rattle.std.proofs.Common.{rules, ◌≡◌}
+use Rattle.std.proofs.Common.{rules}
 use Rattle.span_typing.specs.Typing.{column_at}
 use Rattle.span_typing.proofs.leaf.column_at.Goals as goal
 

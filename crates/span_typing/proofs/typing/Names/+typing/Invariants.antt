@@ -1,4 +1,4 @@
-use Rattle.std.proofs.Common.{◌≡◌, ◌+◌, [], map, drop, Ok}
+use Rattle.std.proofs.Common.{◌≡◌, ◌+◌, map, drop, Ok}
 use Rattle.std.specs.Option.{option_map}
 use Rattle.std.specs.List.{fold}
 use Rattle.span_typing.specs.Steps.{next_of, append_step}
@@ -76,3 +76,12 @@ decreases-call a = all_sizes (map size a.operands.now) + 2
 
 abbrev pub decreases-case : goal.decreases-case
 decreases-case a = ((or_zero (option_map size a.operand.now) + all_sizes (map arm_size a.arms.now)) + or_zero (option_map size a.otherwise.now)) + 2
+
+abbrev pub decreases-condition : goal.decreases-condition
+decreases-condition a = size a.operand.now + 1
+
+abbrev pub decreases-arm : goal.decreases-arm
+decreases-arm a = arm_size a.arm.now
+
+abbrev pub decreases-compared_arm : goal.decreases-compared_arm
+decreases-compared_arm a = arm_size a.arm.now
