@@ -126,15 +126,15 @@ def leading(ways):
         if part in GRAMMAR:
             left.append((depth, GRAMMAR[part], rest))
         elif isinstance(part, Part) and part.kind == "either":
-            left += [behind(depth, row, rest) for row in part.rows]
+            left += [later(depth, row, rest) for row in part.rows]
         elif isinstance(part, Part) and part.kind == "many":
-            left += [rest, behind(depth, part.rows[0], way)]
+            left += [rest, later(depth, part.rows[0], way)]
         else:
             found.add(way)
     return found
 
 
-def behind(depth, row, rest):
+def later(depth, row, rest):
     """The way of a row, with so many openings around it, and then the rest."""
     for part in reversed(row):
         rest = (depth, part, rest)
@@ -163,7 +163,7 @@ def recognise(goal, text):
             if not opens:
                 nexts.append(rest)
             elif depth < DEEPEST:
-                nexts.append(behind(depth + 1, part.rows[0], rest))
+                nexts.append(later(depth + 1, part.rows[0], rest))
             else:
                 is_too_deep = True
         if not nexts:

@@ -1,4 +1,4 @@
-"""Writes the texts that are timed into a folder, one a line: NAME, and NAME.cut, the same with a WHERE and nothing behind it."""
+"""Writes the texts that are timed into a folder, one a line: NAME, and NAME.cut, the same with a WHERE and nothing after it."""
 import sys
 
 LONGEST_TEXT = 65536

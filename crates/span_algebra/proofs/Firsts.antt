@@ -23,12 +23,12 @@ contains_row-unlike x y e (z ∷ rows) = elim (are_equal x z) as (λ b. are_equa
 unlike-more : (x y : Row) (rows : List Row) (b : Bool) → are_equal x y ≡ b → filter (unlike x) (rows ++ y ∷ []) ≡ filter (unlike x) rows ++ cond (not b) (y ∷ []) []
 unlike-more x y rows b e = filter-append (unlike x) rows (y ∷ []) ∙ ap (λ c. filter (unlike x) rows ++ cond (not c) (y ∷ []) []) e
 
-behind_first : (x y : Row) (rows : List Row) (alike : Bool) → are_equal x y ≡ alike → (known : Bool) → contains_row rows y ≡ known
+rest_first : (x y : Row) (rows : List Row) (alike : Bool) → are_equal x y ≡ alike → (known : Bool) → contains_row rows y ≡ known
     → x ∷ filter (unlike x) (cond known rows (rows ++ y ∷ [])) ≡ cond (alike || known) (x ∷ filter (unlike x) rows) (x ∷ filter (unlike x) rows ++ y ∷ [])
-behind_first x y rows true e true f = refl
-behind_first x y rows true e false f = ap (λ l. x ∷ l) (unlike-more x y rows true e ∙ append-nil (filter (unlike x) rows))
-behind_first x y rows false e true f = refl
-behind_first x y rows false e false f = ap (λ l. x ∷ l) (unlike-more x y rows false e)
+rest_first x y rows true e true f = refl
+rest_first x y rows true e false f = ap (λ l. x ∷ l) (unlike-more x y rows true e ∙ append-nil (filter (unlike x) rows))
+rest_first x y rows false e true f = refl
+rest_first x y rows false e false f = ap (λ l. x ∷ l) (unlike-more x y rows false e)
 
 same_any : (x y : Row) (rows : List Row) (alike : Bool) → are_equal x y ≡ alike → (alike || contains_row rows y) ≡ (alike || contains_row (filter (unlike x) rows) y)
 same_any x y rows true e = refl
@@ -39,7 +39,7 @@ pub distinct-more : (rows : List Row) (y : Row) → distinct (rows ++ y ∷ []) 
 distinct-more [] y = refl
 distinct-more (x ∷ rows) y =
     ap (λ (l : List Row). x ∷ filter (unlike x) l) (distinct-more rows y)
-    ∙ behind_first x y (distinct rows) (are_equal x y) refl (contains_row (distinct rows) y) refl
+    ∙ rest_first x y (distinct rows) (are_equal x y) refl (contains_row (distinct rows) y) refl
     ∙ ap (λ b. cond b (x ∷ filter (unlike x) (distinct rows)) (x ∷ filter (unlike x) (distinct rows) ++ y ∷ [])) (same_any x y (distinct rows) (are_equal x y) refl)
 
 pub is_added : (kept rows : List Row) (y : Row) → kept ≡ distinct rows → contains_row kept y ≡ false → kept ++ y ∷ [] ≡ distinct (rows ++ y ∷ [])

@@ -58,12 +58,12 @@ module _ (filter : Option Expr) (g : Grouping) (rows : List Row) (i : ℕ) (so_f
         few = omega (arith, passed.few, length-append passed.kept (row ∷ []));
       }
 
-      fault_behind : Any (λ a. operand_at row a ≡ None) g.aggregates → (rest : Rows) → (append_results (Some (passed.kept ++ row ∷ [])) rest >>= groups g) ≡ None
-      fault_behind any None = refl
-      fault_behind any (Some behind) = ap (groups g) (append_assoc passed.kept (row ∷ []) behind) ∙ groups-fault g passed.kept row behind any
+      fault_after : Any (λ a. operand_at row a ≡ None) g.aggregates → (rest : Rows) → (append_results (Some (passed.kept ++ row ∷ [])) rest >>= groups g) ≡ None
+      fault_after any None = refl
+      fault_after any (Some later) = ap (groups g) (append_assoc passed.kept (row ∷ []) later) ∙ groups-fault g passed.kept row later any
 
       pub take_fails : (why : Failure) → (◌≡◌ {A = Result (Unit {0}) Failure} (Err why) (Err failure.Fault) → Any (λ a. operand_at row a ≡ None) g.aggregates) → Gives (Err why) (filter_where filter rows >>= groups g)
-      take_fails failure.Fault any = ap (λ (o : Rows). o >>= groups g) with_it ∙ fault_behind (any refl) (filter_where filter (drop (i + 1) rows))
+      take_fails failure.Fault any = ap (λ (o : Rows). o >>= groups g) with_it ∙ fault_after (any refl) (filter_where filter (drop (i + 1) rows))
       take_fails failure.OutOfMemory any = tt {0}
 
     pub pass_drops : holds_where filter row ≡ Some false → HavePassed filter g rows (i + 1) so_far

@@ -121,15 +121,15 @@ either_one : (a b : Bool) → b ≡ true → (a || b) ≡ true
 either_one true b e = refl
 either_one false b e = e
 
-pub has_key : (places : List ℕ) (before : List Row) (row : Row) (behind : List Row) → contains_row (group_keys places (before ++ row ∷ behind)) (columns_at places row) ≡ true
-has_key [] before row behind = refl
-has_key (p ∷ ps) before row behind =
+pub has_key : (places : List ℕ) (before : List Row) (row : Row) (later : List Row) → contains_row (group_keys places (before ++ row ∷ later)) (columns_at places row) ≡ true
+has_key [] before row later = refl
+has_key (p ∷ ps) before row later =
     let key = columns_at (p ∷ ps) row in
     let keys = map (columns_at (p ∷ ps)) in
-    contains_row-distinct (keys (before ++ row ∷ behind)) key
-    ∙ ap (λ (ks : List Row). contains_row ks key) (map-append (columns_at (p ∷ ps)) before (row ∷ behind))
-    ∙ list_any-append (λ (x : Row). are_equal x key) (keys before) (key ∷ keys behind)
-    ∙ either_one (contains_row (keys before) key) (are_equal key key || contains_row (keys behind) key) (ap (λ b. b || contains_row (keys behind) key) (are_equal-itself key))
+    contains_row-distinct (keys (before ++ row ∷ later)) key
+    ∙ ap (λ (ks : List Row). contains_row ks key) (map-append (columns_at (p ∷ ps)) before (row ∷ later))
+    ∙ list_any-append (λ (x : Row). are_equal x key) (keys before) (key ∷ keys later)
+    ∙ either_one (contains_row (keys before) key) (are_equal key key || contains_row (keys later) key) (ap (λ b. b || contains_row (keys later) key) (are_equal-itself key))
 
 pub place_most : (ks : List Row) (k : Row) → place_of ks k ≤ length ks
 place_most [] k = omega arith

@@ -76,43 +76,43 @@ module _ (g : Grouping) (rows : List Row) where
 
 -- ---- faults
 
-behind_fault : {A : Type 0} (a : OrFault (List A)) → append_results a None ≡ None
-behind_fault (Some xs) = refl
-behind_fault None = refl
+after_fault : {A : Type 0} (a : OrFault (List A)) → append_results a None ≡ None
+after_fault (Some xs) = refl
+after_fault None = refl
 
 -- where one of them is the fault, all are
-each-fault : {A B : Type 0} (f : A → OrFault B) (before : List A) (x : A) (behind : List A) → f x ≡ None → each f (before ++ x ∷ behind) ≡ None
-each-fault f before x behind fault =
-    concat_map-append (λ x. option_map singleton (f x)) before (x ∷ behind)
-    ∙ ap (λ o. append_results (each f before) (append_results (option_map singleton o) (each f behind))) fault
-    ∙ behind_fault (each f before)
+each-fault : {A B : Type 0} (f : A → OrFault B) (before : List A) (x : A) (later : List A) → f x ≡ None → each f (before ++ x ∷ later) ≡ None
+each-fault f before x later fault =
+    concat_map-append (λ x. option_map singleton (f x)) before (x ∷ later)
+    ∙ ap (λ o. append_results (each f before) (append_results (option_map singleton o) (each f later))) fault
+    ∙ after_fault (each f before)
 
 each-any : {A B : Type 0} (f : A → OrFault B) (xs : List A) (k : ℕ) (x : A) → k < length xs → get_or xs k x ≡ x → f x ≡ None → each f xs ≡ None
 each-any f [] k x inside is fault = absurd (omega arith)
 each-any f (y ∷ xs) zero x inside is fault = ap (λ o. append_results (option_map singleton o) (each f xs)) (ap f is ∙ fault)
 each-any f (y ∷ xs) (suc k) x inside is fault =
-    ap (append_results (option_map singleton (f y))) (each-any f xs k x (omega arith) is fault) ∙ behind_fault (option_map singleton (f y))
+    ap (append_results (option_map singleton (f y))) (each-any f xs k x (omega arith) is fault) ∙ after_fault (option_map singleton (f y))
 
-aggregate-fault : (a : Aggregate) (before : List Row) (row : Row) (behind : List Row) → operand_at row a ≡ None → aggregate (before ++ row ∷ behind) a ≡ None
-aggregate-fault CountRows before row behind fault = absurd cc
-aggregate-fault (Of f e) before row behind fault =
-    ap (λ (o : OrFault (List Value)). o >>= (λ vs. value_of (of_values f (without_nulls vs)))) (each-fault (λ (r : Row). value_of (val r e)) before row behind fault)
+aggregate-fault : (a : Aggregate) (before : List Row) (row : Row) (later : List Row) → operand_at row a ≡ None → aggregate (before ++ row ∷ later) a ≡ None
+aggregate-fault CountRows before row later fault = absurd cc
+aggregate-fault (Of f e) before row later fault =
+    ap (λ (o : OrFault (List Value)). o >>= (λ vs. value_of (of_values f (without_nulls vs)))) (each-fault (λ (r : Row). value_of (val r e)) before row later fault)
 
-rows_with-at : (places : List ℕ) (key : Row) (before : List Row) (row : Row) (behind : List Row) → are_equal key (columns_at places row) ≡ true → rows_with places key (before ++ row ∷ behind) ≡ rows_with places key before ++ row ∷ rows_with places key behind
-rows_with-at places key before row behind alike =
-    filter-append (λ (r : Row). are_equal key (columns_at places r)) before (row ∷ behind)
-    ∙ ap (λ b. rows_with places key before ++ cond b (row ∷ rows_with places key behind) (rows_with places key behind)) alike
+rows_with-at : (places : List ℕ) (key : Row) (before : List Row) (row : Row) (later : List Row) → are_equal key (columns_at places row) ≡ true → rows_with places key (before ++ row ∷ later) ≡ rows_with places key before ++ row ∷ rows_with places key later
+rows_with-at places key before row later alike =
+    filter-append (λ (r : Row). are_equal key (columns_at places r)) before (row ∷ later)
+    ∙ ap (λ b. rows_with places key before ++ cond b (row ∷ rows_with places key later) (rows_with places key later)) alike
 
 -- AN OPERAND THAT FAULTS AT A ROW makes all the groups the fault
-pub groups-fault : (g : Grouping) (before : List Row) (row : Row) (behind : List Row) → Any (λ a. operand_at row a ≡ None) g.aggregates → groups g (before ++ row ∷ behind) ≡ None
-groups-fault g before row behind any =
-    let all = before ++ row ∷ behind in
+pub groups-fault : (g : Grouping) (before : List Row) (row : Row) (later : List Row) → Any (λ a. operand_at row a ≡ None) g.aggregates → groups g (before ++ row ∷ later) ≡ None
+groups-fault g before row later any =
+    let all = before ++ row ∷ later in
     let key = columns_at g.keys row in
     let keys = group_keys g.keys all in
-    let rest : List Row = rows_with g.keys key behind in
-    let within : place_of keys key < length keys = place_known keys key (has_key g.keys before row behind) in
+    let rest : List Row = rows_with g.keys key later in
+    let within : place_of keys key < length keys = place_known keys key (has_key g.keys before row later) in
     let aggregates : each (aggregate (rows_with g.keys key all)) g.aggregates ≡ None =
-    ap (λ (rows : List Row). each (aggregate rows) g.aggregates) (rows_with-at g.keys key before row behind (are_equal-itself key))
+    ap (λ (rows : List Row). each (aggregate rows) g.aggregates) (rows_with-at g.keys key before row later (are_equal-itself key))
     ∙ each-any (aggregate (rows_with g.keys key before ++ row ∷ rest)) g.aggregates any.0 any.1 any.2 any.3 (aggregate-fault any.1 (rows_with g.keys key before) row rest any.4) in
     let one : group_row g all key ≡ None = ap (λ (o : OrFault (List Value)). o >>= (λ vs. Some (key ++ vs))) aggregates in
     each-any (group_row g all) keys (place_of keys key) key within (place_found keys key key within) one

@@ -33,13 +33,13 @@ module _ {A : Type 0} (lt : A → A → Bool) where
   ]
 
   -- a sort's clause by neighbours, as each against those after it
-  behind_first : (x : A) (ys : List A) → ((k : ℕ) → k < length ys → lt (get_or ys k x) x ≡ false) → AllByRecursion (λ y. lt y x ≡ false) ys
-  behind_first x [] h = tt
-  behind_first x (y ∷ ys) h = (h 0 (omega arith), behind_first x ys (λ k below. h (suc k) (omega arith)))
+  rest_first : (x : A) (ys : List A) → ((k : ℕ) → k < length ys → lt (get_or ys k x) x ≡ false) → AllByRecursion (λ y. lt y x ≡ false) ys
+  rest_first x [] h = tt
+  rest_first x (y ∷ ys) h = (h 0 (omega arith), rest_first x ys (λ k below. h (suc k) (omega arith)))
 
   from_pairs : (ys : List A) → ((i j : ℕ) (d : A) → i ≤ j → j < length ys → lt (get_or ys j d) (get_or ys i d) ≡ false) → IsSorted lt ys
   from_pairs [] h = tt
-  from_pairs (y ∷ ys) h = (behind_first y ys (λ k below. h 0 (suc k) y (omega arith) (omega arith)), from_pairs ys (λ i j d le below. h (suc i) (suc j) d (omega arith) (omega arith)))
+  from_pairs (y ∷ ys) h = (rest_first y ys (λ k below. h 0 (suc k) y (omega arith) (omega arith)), from_pairs ys (λ i j d le below. h (suc i) (suc j) d (omega arith) (omega arith)))
 
   module _ (o : IsStrictWeakOrder lt) where
     pub from_sorted : (ys : List A) → IsSortedBy lt ys → IsSorted lt ys
@@ -64,9 +64,9 @@ module _ {A : Type 0} (lt : A → A → Bool) where
     -- of two items of which one comes before the other, not both tie with a third
     not_both : (z x y : A) → lt y x ≡ true → ties lt z x ≡ true → ties lt z y ≡ true → ⊥
     not_both z x y e p q =
-        let behind : lt y z ≡ false = neither (lt z y) (lt y z) q in
+        let later : lt y z ≡ false = neither (lt z y) (lt y z) q in
         let front : lt z x ≡ false = first_not (lt z x) (lt x z) p in
-        let bad : lt y x ≡ false = o.chain y z x behind front in
+        let bad : lt y x ≡ false = o.chain y z x later front in
         true≢false (sym e ∙ bad)
 
     placed_ties : (z x : A) (ys : List A) → filter (ties lt z) (insert_sorted lt x ys) ≡ filter (ties lt z) (x ∷ ys)

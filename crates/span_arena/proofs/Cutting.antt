@@ -79,8 +79,8 @@ module _ (nodes : List NodeRecord) (h count s : ℕ) (on : IsSomeRun (node_at no
         same_next ∙ ap (λ (vs : List Version). walk (node_at nodes) kept h ++ vs) e ∙ rw (front_more, append_assoc) refl
 
     -- an image is kept
-    pub cut_behind : (node_at nodes at).version.timestamp ≤ s → is_some (node_at nodes at).version.image ≡ true → walk (node_at nodes) (kept + 1) h ≡ kept_upto s (walk (node_at nodes) count h)
-    cut_behind le some =
+    pub cut_after : (node_at nodes at).version.timestamp ≤ s → is_some (node_at nodes at).version.image ≡ true → walk (node_at nodes) (kept + 1) h ≡ kept_upto s (walk (node_at nodes) count h)
+    cut_after le some =
         let t : nat_le (node_at nodes at).version.timestamp s ≡ true = grind (arith, nat_tests) in
         let e : kept_upto s (walk (node_at nodes) (suc (count - (kept + 1))) at) ≡ (node_at nodes at).version ∷ [] = rw t (kept_some (node_at nodes at).version (node_at nodes at).version.image some) in
         front_more ∙ sym (same_next ∙ ap (λ (vs : List Version). walk (node_at nodes) kept h ++ vs) e)

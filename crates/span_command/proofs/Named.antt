@@ -41,12 +41,12 @@ push columns names places name place rest h is =
     ∙ ap (λ (w : Option ℕ). map Some places ++ w ∷ map (column_place columns) rest) (sym is)
     ∙ h
 
-pub one_more : (columns : List Column) (names places rest name behind : List ℕ) (place : ℕ)
-    → Found columns names places rest → pieces rest ≡ name ∷ pieces behind
+pub one_more : (columns : List Column) (names places rest name following : List ℕ) (place : ℕ)
+    → Found columns names places rest → pieces rest ≡ name ∷ pieces following
     → column_place columns name ≡ Some place → list_any (λ other. other == place) places ≡ false
-    → Found columns names (places ++ place ∷ []) behind
-one_more columns names places rest name behind place h cut is new = (
-  push columns names places name place (pieces behind) (ap (λ (w : List (List ℕ)). map Some places ++ map (column_place columns) w) (sym cut) ∙ h.0) is,
+    → Found columns names (places ++ place ∷ []) following
+one_more columns names places rest name following place h cut is new = (
+  push columns names places name place (pieces following) (ap (λ (w : List (List ℕ)). map Some places ++ map (column_place columns) w) (sym cut) ∙ h.0) is,
   none_twice_push places place h.1 new,
 )
 
@@ -72,8 +72,8 @@ next_place [] (p ∷ places) next more e = (p, places, cc e, refl)
 next_place (b ∷ before) [] next more e = cc e
 next_place (b ∷ before) (p ∷ places) next more e =
     let first : b ≡ p = cc e in
-    let behind : map Some before ++ next ∷ more ≡ map Some places = cc e in
-    let found = next_place before places next more behind in
+    let following : map Some before ++ next ∷ more ≡ map Some places = cc e in
+    let found = next_place before places next more following in
     (found.0, found.1, found.2, cc (first, found.3))
 
 any_at : (p : ℕ → Bool) (xs : List ℕ) (y : ℕ) (ys : List ℕ) → p y ≡ true → list_any p (xs ++ y ∷ ys) ≡ true

@@ -3,8 +3,8 @@ use Rattle.std.proofs.Common.{◌≡◌, ◌∙◌, ℕ, suc, List, [], ◌∷�
 use Rattle.span_command.specs.Texts.{HasNoLf, NextLine}
 
 -- no LF is after the first byte
-behind_first : (b : ℕ) (line : List ℕ) → HasNoLf (b ∷ line) → HasNoLf line
-behind_first b line h = λ i l. h (suc i) (omega (arith, l))
+rest_first : (b : ℕ) (line : List ℕ) → HasNoLf (b ∷ line) → HasNoLf line
+rest_first b line h = λ i l. h (suc i) (omega (arith, l))
 
 -- the first LF ends the line
 same_first : (v w r s : List ℕ) → HasNoLf v → HasNoLf w → v ++ 10 ∷ r ≡ w ++ 10 ∷ s → (v ≡ w) × (r ≡ s)
@@ -14,13 +14,13 @@ same_first (a ∷ v) [] r s h k e = absurd (h 0 (omega arith) (cc e))
 same_first (a ∷ v) (b ∷ w) r s h k e =
     let first : a ≡ b = cc e in
     let rest : v ++ 10 ∷ r ≡ w ++ 10 ∷ s = cc e in
-    let same = same_first v w r s (behind_first a v h) (behind_first b w k) rest in
+    let same = same_first v w r s (rest_first a v h) (rest_first b w k) rest in
     (cc (first, same.0), same.1)
 
 -- a text with an LF has one
-lf_there : (line behind : List ℕ) → HasNoLf (line ++ 10 ∷ behind) → ⊥
-lf_there [] behind h = h 0 (omega arith) refl
-lf_there (b ∷ line) behind h = lf_there line behind (behind_first b (line ++ 10 ∷ behind) h)
+lf_there : (line following : List ℕ) → HasNoLf (line ++ 10 ∷ following) → ⊥
+lf_there [] following h = h 0 (omega arith) refl
+lf_there (b ∷ line) following h = lf_there line following (rest_first b (line ++ 10 ∷ following) h)
 
 -- what the next line is, and the rest after it, is settled by the text
 pub one_next : (text v r w s : List ℕ) → NextLine text v r → NextLine text w s → (v ≡ w) × (r ≡ s)

@@ -5,8 +5,8 @@ use Rattle.std.specs.Int.Digits.{digits_of}
 use Rattle.std.proofs.lemmas.Fmt.{decimal_nonempty, decimal-digits_of, decimal_digit}
 use Rattle.span_command.specs.Words.{HasNoSpace, IsWord, IsNumber, AreTwo, AreThree, spaced}
 
-behind : (b : ℕ) (word : List ℕ) → HasNoSpace (b ∷ word) → HasNoSpace word
-behind b word h = λ i l. h (suc i) (omega arith)
+following : (b : ℕ) (word : List ℕ) → HasNoSpace (b ∷ word) → HasNoSpace word
+following b word h = λ i l. h (suc i) (omega arith)
 
 -- the first space ends the word
 pub same_parts : (w v r s : List ℕ) → HasNoSpace w → HasNoSpace v → spaced w r ≡ spaced v s → (w ≡ v) × (r ≡ s)
@@ -16,7 +16,7 @@ same_parts (a ∷ w) [] r s h k e = absurd (h 0 (omega arith) (cc e))
 same_parts (a ∷ w) (b ∷ v) r s h k e =
     let first : a ≡ b = cc e in
     let rest : spaced w r ≡ spaced v s = cc e in
-    let same = same_parts w v r s (behind a w h) (behind b v k) rest in
+    let same = same_parts w v r s (following a w h) (following b v k) rest in
     (cc (first, same.0), same.1)
 
 space_at : (w r : List ℕ) → (length w < length (spaced w r)) × (get_or (spaced w r) (length w) 0 ≡ 32)

@@ -40,9 +40,9 @@ lets_go is_cut has_ended held front back rest text whole none long s = record {
 }
 
 -- nothing follows where there is nothing at all
-none_behind : (xs ys : List ℕ) → xs ++ ys ≡ [] → ys ≡ []
-none_behind [] ys e = e
-none_behind (x ∷ xs) ys e = cc e
+none_rest : (xs ys : List ℕ) → xs ++ ys ≡ [] → ys ≡ []
+none_rest [] ys e = e
+none_rest (x ∷ xs) ys e = cc e
 
 -- bytes that come are held
 pub grows : (is_cut ended ended_now : Bool) (held bytes text : List ℕ) (old new : Option (List ℕ)) → Consumes old new bytes
@@ -54,7 +54,7 @@ grows is_cut ended ended_now held bytes text (Some xs) (Some ys) came last s = r
   gone = s.gone;
   is_gone = s.is_gone;
   in_order = s.in_order ∙ ap (λ (w : List ℕ). s.gone ++ (held ++ w)) came ∙ ap (λ (w : List ℕ). s.gone ++ w) (sym (append_assoc held bytes ys));
-  all_came = λ e. ⊎_elim (λ at_end. at_end) (λ was. none_behind bytes ys (sym came ∙ s.all_came was)) (last e);
+  all_came = λ e. ⊎_elim (λ at_end. at_end) (λ was. none_rest bytes ys (sym came ∙ s.all_came was)) (last e);
 }
 
 -- where nothing came, all is as it was
@@ -109,17 +109,17 @@ kept_of false gone front h = ap (λ (w : List ℕ). w ++ front) h
 -- What taking a line leads to, said of its parts: `kept` is what is held of it, `back` what is held then.
 pub record TakesParts (is_cut has_ended : Bool) (kept back rest text : List ℕ) : Type 0 where
   pub line : List ℕ
-  pub behind : List ℕ
-  pub is_next : NextLine text line behind
+  pub following : List ℕ
+  pub is_next : NextLine text line following
   pub is_taken : IsKept is_cut kept line
-  pub stands : HasParts false has_ended back rest behind
+  pub stands : HasParts false has_ended back rest following
 
 -- an LF ends the line
 pub takes_first : (is_cut has_ended : Bool) (held front back rest text : List ℕ) → held ≡ front ++ 10 ∷ back → HasNoLf front
     → HasParts is_cut has_ended held rest text → TakesParts is_cut has_ended front back rest text
 takes_first is_cut has_ended held front back rest text whole none s = record {
   line = s.gone ++ front;
-  behind = back ++ rest;
+  following = back ++ rest;
   is_next = inl (
     none_in_both s.gone front (no_lf_gone is_cut s.gone s.is_gone) none,
     s.in_order ∙ ap (λ (w : List ℕ). s.gone ++ (w ++ rest)) whole
@@ -145,7 +145,7 @@ takes_last is_cut front rest text none some s =
     let long : 0 < length (s.gone ++ front) = some_bytes is_cut s.gone front s.is_gone some in
     record {
       line = s.gone ++ front;
-      behind = [];
+      following = [];
       is_next = inr (subst HasNoLf (sym whole) no_lf, (λ e. absurd (omega (arith, long, ap length (sym whole ∙ e)))), sym whole, refl);
       is_taken = kept_of is_cut s.gone front s.is_gone;
       stands = record { gone = []; is_gone = refl; in_order = sym over; all_came = λ e. over };
@@ -160,7 +160,7 @@ takes_next old new is_cut has_ended kept back (Some rest) text cut line left who
     let p = taken rest s in
     record {
       line = p.line;
-      behind = p.behind;
+      following = p.following;
       is_next = p.is_next;
       is_taken =
           subst (λ (b : Bool). IsKept b (slice_range new.buffer.items new.taken_from new.taken_to) p.line) (sym cut)

@@ -59,10 +59,10 @@ IsTaken lines line = IsKept lines.taken_is_cut (slice_range lines.buffer.items l
 -- the next line of the text was taken, and the rest after it stays
 pub record TakesNext (lines : Lines) (known : Option (List ℕ)) (text : List ℕ) : Type 0 where
   pub line : List ℕ
-  pub behind : List ℕ
-  pub is_next : NextLine text line behind
+  pub following : List ℕ
+  pub is_next : NextLine text line following
   pub is_taken : IsTaken lines line
-  pub stands : Stands lines known behind
+  pub stands : Stands lines known following
 
 -- what is held, and what is known about it, stays
 pub record HoldsSame (old new : Lines) : Type 0 where

@@ -220,9 +220,9 @@ fn places_named(
 {
     let mut places = Vec::new(alloc);
     let mut rest = names;
-    while let Some((name, behind)) = at_comma(rest) {
+    while let Some((name, following)) = at_comma(rest) {
         places.push(new_place(places.as_slice(), schema, table, name)?)?;
-        rest = behind;
+        rest = following;
     }
     places.push(new_place(places.as_slice(), schema, table, rest)?)?;
     Ok(places)

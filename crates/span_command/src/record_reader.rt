@@ -59,9 +59,9 @@ fn cut_at_commas(text: &str, fields: &mut StringRecord) -> Result<(), AllocError
     ensures { OnOk result (fields_of fields.new ≡ fields_of fields.old ++ pieces text.now) }
 {
     let mut rest = text;
-    while let Some((piece, behind)) = at_comma(rest) {
+    while let Some((piece, following)) = at_comma(rest) {
         fields.push_field(piece)?;
-        rest = behind;
+        rest = following;
     }
     fields.push_field(rest)
 }

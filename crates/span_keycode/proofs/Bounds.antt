@@ -81,12 +81,12 @@ less_before (a ∷ ks) (b ∷ bs) more d h = by_next (λ e some. less_before ks 
     ]
 
 -- what is above bytes is not before what is after them
-pub greater_behind : (k x more : List ℕ) → AreBytes k → Decides k x Greater → (next_after x ≢ []) × (byte_order (k ++ more) (next_after x) ≢ Less)
-greater_behind [] [] more f d = absurd (let e = decides-equal-nothing Greater d in cc)
-greater_behind (a ∷ ks) [] more f d = absurd (not_decided_before a ks Greater d)
-greater_behind [] (b ∷ bs) more f d = absurd (not_decided_after b bs Greater d)
-greater_behind (a ∷ ks) (b ∷ bs) more f d = elim (cases_order a b) [
-  | inl same ↦ (let again = greater_behind ks bs more f.1 (rest_decides a b ks bs Greater same d) in by_next same again (next_after bs) refl)
+pub greater_after : (k x more : List ℕ) → AreBytes k → Decides k x Greater → (next_after x ≢ []) × (byte_order (k ++ more) (next_after x) ≢ Less)
+greater_after [] [] more f d = absurd (let e = decides-equal-nothing Greater d in cc)
+greater_after (a ∷ ks) [] more f d = absurd (not_decided_before a ks Greater d)
+greater_after [] (b ∷ bs) more f d = absurd (not_decided_after b bs Greater d)
+greater_after (a ∷ ks) (b ∷ bs) more f d = elim (cases_order a b) [
+  | inl same ↦ (let again = greater_after ks bs more f.1 (rest_decides a b ks bs Greater same d) in by_next same again (next_after bs) refl)
   | inr (inl l) ↦ absurd (let e : Less ≡ Greater = sym (front_less a b (ks ++ []) (bs ++ []) l) ∙ d.at [] [] in cc)
   | inr (inr g) ↦ above g (next_after bs) refl
 ]

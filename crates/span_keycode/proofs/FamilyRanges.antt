@@ -28,14 +28,14 @@ turned_bytes false bs f = f
 turned_bytes true [] f = tt
 turned_bytes true (b ∷ bs) f = (flipped_byte b f.0, turned_bytes true bs f.1)
 
-abbrev behind_mark : Value → List ℕ
-behind_mark Null = []
-behind_mark (Int i) = to_be_bytes w64 (to_unsigned i)
-behind_mark (Str s) = escaped s
-behind_mark (Bytes s) = escaped s
-behind_mark (Flag b) = bit b ∷ []
+abbrev after_mark : Value → List ℕ
+after_mark Null = []
+after_mark (Int i) = to_be_bytes w64 (to_unsigned i)
+after_mark (Str s) = escaped s
+after_mark (Bytes s) = escaped s
+after_mark (Flag b) = bit b ∷ []
 
-marked : (d : Bool) (w : Value) → in_direction d (plain w) ≡ mark d (is_null w) ∷ in_direction d (behind_mark w)
+marked : (d : Bool) (w : Value) → in_direction d (plain w) ≡ mark d (is_null w) ∷ in_direction d (after_mark w)
 marked false Null = refl
 marked false (Int i) = refl
 marked false (Str s) = refl
@@ -117,7 +117,7 @@ with_value tables rules n w ws k t c cs root own v f some op =
           small = small;
           decides = decides-column c w v fit f;
           bytes = turned_bytes c.desc (plain w) (plain_bytes c.kind w fit);
-          rest = in_direction c.desc (behind_mark w);
+          rest = in_direction c.desc (after_mark w);
           marked = marked c.desc w;
           first = null_first w v some;
         } in

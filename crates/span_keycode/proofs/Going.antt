@@ -93,10 +93,10 @@ place_is : (tables : List Table) (n : ℕ) → IsTable tables n → (n - 1 < len
 place_is tables n t = (omega (arith, t.0, t.1), omega (arith, t.0))
 
 -- what follows the levels of o is nothing, or a level of a child
-behind : (tables : List Table) (o : Option ℕ) (ls more : List Level) (rest : List ℕ) → last_or None (tables_of ls) ≡ o → Continues tables None (tables_of (ls ++ more)) → AreLevels tables more → rest ≡ code_of tables more
+later : (tables : List Table) (o : Option ℕ) (ls more : List Level) (rest : List ℕ) → last_or None (tables_of ls) ≡ o → Continues tables None (tables_of (ls ++ more)) → AreLevels tables more → rest ≡ code_of tables more
     → (rest ≡ []) ⊎ Next tables o rest
-behind tables o ls [] rest last f g e = inl e
-behind tables o ls (m ∷ more) rest last f g e =
+later tables o ls [] rest last f g e = inl e
+later tables o ls (m ∷ more) rest last f g e =
     let P : List ℕ → Type 0 = λ ns. Continues tables None ns in
     let Q : Option ℕ → Type 0 = λ p. Continues tables p (m.table ∷ tables_of more) in
     let next = subst Q last (continues_split tables None (tables_of ls) (m.table ∷ tables_of more) (subst P (tables_append ls (m ∷ more)) f)) in
@@ -113,7 +113,7 @@ pub goes_on : (tables : List Table) → MeetsRules tables → (o : Option ℕ) (
     → code_above tables o vs ++ rest ≡ key_code tables m ws → (rest ≡ []) ⊎ Next tables o rest
 goes_on tables rules None vs rest a m ws k e =
     let known = levels_known tables rules m ws k in
-    behind tables None [] (levels_at tables (m - 1) ws) rest refl known.1 known.0 e
+    later tables None [] (levels_at tables (m - 1) ws) rest refl known.1 known.0 e
 goes_on tables rules (Some n) vs rest a m ws k e =
     let known = levels_known tables rules m ws k in
     let own = levels_known tables rules n vs a in
@@ -122,7 +122,7 @@ goes_on tables rules (Some n) vs rest a m ws k e =
     let Q : List Level → Type 0 = λ ls. AreLevels tables ls in
     let last : last_or None (tables_of (levels_at tables (n - 1) vs)) ≡ Some n =
     ap (last_or None) (tables_back tables vs (path_at tables (n - 1))) ∙ last_path tables (n - 1) ∙ ap (λ (k : ℕ). Some k) (place_is tables n a.0).1 in
-    behind tables (Some n) (levels_at tables (n - 1) vs) begins.0 rest last (subst P begins.1 known.1)
+    later tables (Some n) (levels_at tables (n - 1) vs) begins.0 rest last (subst P begins.1 known.1)
     (fit_part tables (levels_at tables (n - 1) vs) begins.0 (subst Q begins.1 known.0)) begins.2
 
 -- a coding is not empty

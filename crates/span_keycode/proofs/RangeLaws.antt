@@ -11,7 +11,7 @@ use Rattle.span_keycode.specs.Order.{byte_order, Decides}
 use Rattle.span_keycode.specs.Coding.{AreBytes, apply_direction}
 use Rattle.span_keycode.specs.Ranges.{in_front, next_after, low_of, high_of, holds, IsWithin}
 use Rattle.span_keycode.proofs.Order.{decided}
-use Rattle.span_keycode.proofs.Bounds.{begun_before, less_before, greater_behind, front_same, front_less, front_greater, above_nothing, not_less, grown}
+use Rattle.span_keycode.proofs.Bounds.{begun_before, less_before, greater_after, front_same, front_less, front_greater, above_nothing, not_less, grown}
 
 append_nothing : (xs : List ℕ) → xs ++ [] ≡ xs
 append_nothing [] = refl
@@ -66,8 +66,8 @@ module _ {t : ℕ} {d null : Bool} {k x more : List ℕ} {r : Ordering} (s : Sta
   pub after_greater : apply_direction d r ≡ Greater → byte_order (t ∷ (k ++ more)) (next_after (t ∷ x)) ≢ Less
   after_greater e =
       let P : Ordering → Type 0 = λ o. Decides k x o in
-      let behind = greater_behind k x more s.bytes (subst P e s.decides) in
-      by_next behind.0 behind.1 (next_after x) refl
+      let later = greater_after k x more s.bytes (subst P e s.decides) in
+      by_next later.0 later.1 (next_after x) refl
     where
       by_next : next_after x ≢ [] → byte_order (k ++ more) (next_after x) ≢ Less → (n : List ℕ) → next_after x ≡ n → byte_order (t ∷ (k ++ more)) (in_front t (next_after x)) ≢ Less
       by_next some not_below [] e2 = absurd (some e2)

@@ -92,14 +92,14 @@ rising-insert es new at rising gap i j d lt in_range =
     let dflt : (k : ℕ) → k < length (insert es at new) → get_or (insert es at new) k d ≡ get_or (insert es at new) k no_entry = λ k h. get_or_default (insert es at new) k d no_entry h in
     let before : (k : ℕ) → k < at → key_at (insert es at new) k ≡ key_at es k = λ k h. ap (λ (e : Entry). e.key) (get_or-insert_below es at new no_entry k h gap.in_range) in
     let here : key_at (insert es at new) at ≡ new.key = ap (λ (e : Entry). e.key) (get_or-insert_at es at new no_entry gap.in_range) in
-    let behind : (k : ℕ) → at < k → key_at (insert es at new) k ≡ key_at es (k - 1) = λ k h. (let f : k - 1 + 1 ≡ k = omega arith in subst (λ q. key_at (insert es at new) q ≡ key_at es (k - 1)) {x = k - 1 + 1} {y = k} f (ap (λ (e : Entry). e.key) (get_or-insert_above es at new no_entry (k - 1) (omega arith) gap.in_range))) in
+    let rest : (k : ℕ) → at < k → key_at (insert es at new) k ≡ key_at es (k - 1) = λ k h. (let f : k - 1 + 1 ≡ k = omega arith in subst (λ q. key_at (insert es at new) q ≡ key_at es (k - 1)) {x = k - 1 + 1} {y = k} f (ap (λ (e : Entry). e.key) (get_or-insert_above es at new no_entry (k - 1) (omega arith) gap.in_range))) in
     rw (dflt i (omega arith), dflt j in_range) (elim (cases_order j at) [
       | inl same ↦ (let a : i < at = omega arith in rw (same, here, before i a) (gap.smaller i a))
       | inr (inl under) ↦ (let a : i < at = omega arith in rw (before j under, before i a) (rises es rising i j lt (omega (arith, gap.in_range))))
       | inr (inr over) ↦ elim (cases_order i at) [
-        | inl same ↦ rw (same, here, behind j over) (turned (key_at es (j - 1)) new.key Greater (gap.greater (j - 1) (omega arith) (omega (arith, len))))
-        | inr (inl under) ↦ rw (before i under, behind j over) (rises es rising i (j - 1) (omega arith) (omega (arith, len)))
-        | inr (inr high) ↦ rw (behind i high, behind j over) (rises es rising (i - 1) (j - 1) (omega arith) (omega (arith, len)))
+        | inl same ↦ rw (same, here, rest j over) (turned (key_at es (j - 1)) new.key Greater (gap.greater (j - 1) (omega arith) (omega (arith, len))))
+        | inr (inl under) ↦ rw (before i under, rest j over) (rises es rising i (j - 1) (omega arith) (omega (arith, len)))
+        | inr (inr high) ↦ rw (rest i high, rest j over) (rises es rising (i - 1) (j - 1) (omega arith) (omega (arith, len)))
       ]
     ])
 
@@ -130,10 +130,10 @@ from_gap es key i gap = record { in_range = gap.in_range; smaller = λ j lt. ap 
 
 -- high is the end of the range, or where it begins if it would end before
 pub part_is : (range : KeyRange) (es : List Entry) (low high end : ℕ) → IsFrom es range.low low → IsFrom es range.high high → low ≤ end → high ≤ end → end ≤ length es → (low < end → end ≡ high) → entries_in range es ≡ take (end - low) (drop low es)
-part_is range es low high end first behind le from within ends =
+part_is range es low high end first rest le from within ends =
     let len : length (drop low es) ≡ length es - low = length-drop low es in
     filter_part (λ (e : Entry). is_within range e.key) no_entry es low (end - low) first.in_range (omega arith)
     (λ k lt. rw (first.smaller k lt) refl)
     (λ k lt. (let e : end ≡ high = ends (omega arith) in
-    rw (get_or-drop low es k no_entry) (rw (first.others (low + k) (omega arith) (omega arith), behind.smaller (low + k) (omega arith)) refl)))
-    (λ k past lt. rw (get_or-drop low es k no_entry) (rw (behind.others (low + k) (omega arith) (omega arith)) (and_false (not (is_lt (byte_order (key_at es (low + k)) range.low))))))
+    rw (get_or-drop low es k no_entry) (rw (first.others (low + k) (omega arith) (omega arith), rest.smaller (low + k) (omega arith)) refl)))
+    (λ k past lt. rw (get_or-drop low es k no_entry) (rw (rest.others (low + k) (omega arith) (omega arith)) (and_false (not (is_lt (byte_order (key_at es (low + k)) range.low))))))

@@ -62,6 +62,6 @@ pub(crate) fn entries_under<'a>(entries: &'a Vec<Entry>, front: &[u8]) -> &'a [E
     ensures { result.now ≡ entries_under front.now entries.now.items }
 {
     let low = first_from(entries, front);
-    let behind = entries.as_slice().split_at(low).1;
-    behind.split_at(prefix_len(behind, front)).0
+    let rest = entries.as_slice().split_at(low).1;
+    rest.split_at(prefix_len(rest, front)).0
 }

@@ -608,7 +608,7 @@ fn limits(rt: HostRuntime) -> Result<(), Refusal> {
     for (rows, skip, table, wanted) in LIMITS {
         let limit = Some(Limit { rows, skip });
         let part = order_query(a, only(a, quotient(a, 0)), &[], limit);
-        assert!(rt; gives(a, part, &[table], wanted)?, "{rows} behind {skip}");
+        assert!(rt; gives(a, part, &[table], wanted)?, "{rows} after {skip}");
     }
     Ok(())
 }

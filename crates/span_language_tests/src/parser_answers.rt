@@ -93,7 +93,7 @@ const AROUND: [(&str, &str, u8); 8] = [
 #[test]
 fn reserved_words(rt: HostRuntime) -> Result<(), AllocError> {
     let a = rt.alloc();
-    for (before, behind, number) in AROUND {
+    for (before, rest, number) in AROUND {
         // The bad token is at the `@`, one byte before the word.
         let place = if number == 2 {
             before.len() - 1
@@ -101,10 +101,10 @@ fn reserved_words(rt: HostRuntime) -> Result<(), AllocError> {
             before.len()
         };
         for word in RESERVED {
-            let text = format!(in a; "{before}{word}{behind}")?;
+            let text = format!(in a; "{before}{word}{rest}")?;
             assert_eq!(rt; answer(a, text.as_str()), (number, place), "at {text}");
         }
-        let text = format!(in a; "{before}name{behind}")?;
+        let text = format!(in a; "{before}name{rest}")?;
         assert_eq!(rt; answer(a, text.as_str()), (0, 0), "at {text}");
     }
     Ok(())
@@ -144,12 +144,12 @@ fn ends_and_integers(rt: HostRuntime) {
     }
 }
 
-/// `before` repeated `times` times, the part, and `behind` repeated as often.
+/// `before` repeated `times` times, the part, and `rest` repeated as often.
 fn within(
     alloc: Global,
     before: &str,
     part: &str,
-    behind: &str,
+    rest: &str,
     times: usize,
 ) -> Result<String, AllocError> {
     let mut text = String::new(alloc);
@@ -158,7 +158,7 @@ fn within(
     }
     text.push_str(part)?;
     for _ in 0..times {
-        text.push_str(behind)?;
+        text.push_str(rest)?;
     }
     Ok(text)
 }

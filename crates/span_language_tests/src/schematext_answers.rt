@@ -131,12 +131,12 @@ const AROUND: [(&str, &str, u8); 4] = [
 #[test]
 fn reserved_words(rt: HostRuntime) -> Result<(), AllocError> {
     let a = rt.alloc();
-    for (before, behind, number) in AROUND {
+    for (before, rest, number) in AROUND {
         for word in RESERVED {
-            let text = format!(in a; "{before}{word}{behind}")?;
+            let text = format!(in a; "{before}{word}{rest}")?;
             assert_eq!(rt; answer(a, text.as_str()), (3, before.len()), "at {text}");
         }
-        let text = format!(in a; "{before}a{behind}")?;
+        let text = format!(in a; "{before}a{rest}")?;
         assert_eq!(rt; answer(a, text.as_str()), (number, 0), "at {text}");
     }
     Ok(())

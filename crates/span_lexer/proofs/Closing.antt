@@ -5,8 +5,8 @@ use Rattle.span_lexer.specs.declared.literal.Literal.{Literal}
 use Rattle.span_lexer.specs.Literals.{closing_quote, piece_length, one_more, with_more}
 use Rattle.span_lexer.proofs.Words.{if_true, if_false}
 
-abbrev behind : Literal → ℕ → List ℕ → Option ℕ → Option ℕ
-behind t q bs o = elim o [ None ↦ None | Some n ↦ one_more (closing_quote t q (n - 1) bs) ]
+abbrev after : Literal → ℕ → List ℕ → Option ℕ → Option ℕ
+after t q bs o = elim o [ None ↦ None | Some n ↦ one_more (closing_quote t q (n - 1) bs) ]
 
 pub closed_nil : (t : Literal) (q k : ℕ) → closing_quote t q k [] ≡ None
 unfolding closing_quote
@@ -16,7 +16,7 @@ closed_in : (t : Literal) (q k b : ℕ) (bs : List ℕ) → closing_quote t q (s
 unfolding closing_quote
 closed_in t q k b bs = refl
 
-closed_at : (t : Literal) (q b : ℕ) (bs : List ℕ) → closing_quote t q 0 (b ∷ bs) ≡ (if b == q then Some 1 else behind t q bs (piece_length t (b ∷ bs)))
+closed_at : (t : Literal) (q b : ℕ) (bs : List ℕ) → closing_quote t q 0 (b ∷ bs) ≡ (if b == q then Some 1 else after t q bs (piece_length t (b ∷ bs)))
 unfolding closing_quote
 closed_at t q b bs = refl
 
@@ -50,14 +50,14 @@ one_plus (Some n) = ap Some (omega arith)
 pub piece_then : (t : Literal) (q b n : ℕ) (bs : List ℕ) → b ≢ q → piece_length t (b ∷ bs) ≡ Some n → 0 < n → closing_quote t q 0 (b ∷ bs) ≡ with_more n (closing_quote t q 0 (drop n (b ∷ bs)))
 piece_then t q b zero bs ne e pos = absurd (omega arith)
 piece_then t q b (suc n) bs ne e pos =
-    closed_at t q b bs ∙ if_false (b == q) (Some 1) (behind t q bs (piece_length t (b ∷ bs))) (differ b q (b == q) refl ne)
-    ∙ ap (behind t q bs) e ∙ ap (λ (k : ℕ). one_more (closing_quote t q k bs)) (let m : suc n - 1 ≡ n = omega arith in m) ∙ ap one_more (skipped t q n bs) ∙ with_suc n (closing_quote t q 0 (drop n bs))
+    closed_at t q b bs ∙ if_false (b == q) (Some 1) (after t q bs (piece_length t (b ∷ bs))) (differ b q (b == q) refl ne)
+    ∙ ap (after t q bs) e ∙ ap (λ (k : ℕ). one_more (closing_quote t q k bs)) (let m : suc n - 1 ≡ n = omega arith in m) ∙ ap one_more (skipped t q n bs) ∙ with_suc n (closing_quote t q 0 (drop n bs))
 
 pub no_piece : (t : Literal) (q b : ℕ) (bs : List ℕ) → b ≢ q → piece_length t (b ∷ bs) ≡ None → closing_quote t q 0 (b ∷ bs) ≡ None
-no_piece t q b bs ne e = closed_at t q b bs ∙ if_false (b == q) (Some 1) (behind t q bs (piece_length t (b ∷ bs))) (differ b q (b == q) refl ne) ∙ ap (behind t q bs) e
+no_piece t q b bs ne e = closed_at t q b bs ∙ if_false (b == q) (Some 1) (after t q bs (piece_length t (b ∷ bs))) (differ b q (b == q) refl ne) ∙ ap (after t q bs) e
 
 pub closed_here : (t : Literal) (q b : ℕ) (bs : List ℕ) → b ≡ q → closing_quote t q 0 (b ∷ bs) ≡ Some 1
-closed_here t q b bs e = closed_at t q b bs ∙ if_true (b == q) (Some 1) (behind t q bs (piece_length t (b ∷ bs))) (eq-eqb b q e)
+closed_here t q b bs e = closed_at t q b bs ∙ if_true (b == q) (Some 1) (after t q bs (piece_length t (b ∷ bs))) (eq-eqb b q e)
 
 -- ---- for the loop
 

@@ -38,15 +38,15 @@ found_passes test (y ∷ ys) x = elim (test y) as (λ b. test y ≡ b → cond b
   | false ↦ λ is e. found_passes test ys x e
 ] refl
 
-kept_behind : {A : Type 0} (xs ys : List A) (x y : A) → (IsIn x xs → IsIn x ys) → (i : ℕ) → slice_get (y ∷ xs) i ≡ Some x → IsIn x (y ∷ ys)
-kept_behind xs ys x y back zero e = (0, e)
-kept_behind xs ys x y back (suc i) e = let rest = back (i, e) in (suc rest.0, rest.1)
+kept_after : {A : Type 0} (xs ys : List A) (x y : A) → (IsIn x xs → IsIn x ys) → (i : ℕ) → slice_get (y ∷ xs) i ≡ Some x → IsIn x (y ∷ ys)
+kept_after xs ys x y back zero e = (0, e)
+kept_after xs ys x y back (suc i) e = let rest = back (i, e) in (suc rest.0, rest.1)
 
 -- what a filter keeps is in the list
 pub kept_in : {A : Type 0} (test : A → Bool) (xs : List A) (x : A) → IsIn x (filter test xs) → IsIn x xs
 kept_in test [] x = λ is. is
 kept_in test (y ∷ ys) x = elim (test y) as (λ b. IsIn x (cond b (y ∷ filter test ys) (filter test ys)) → IsIn x (y ∷ ys)) [
-  | true ↦ λ is. kept_behind (filter test ys) ys x y (kept_in test ys x) is.0 is.1
+  | true ↦ λ is. kept_after (filter test ys) ys x y (kept_in test ys x) is.0 is.1
   | false ↦ λ is. let rest = kept_in test ys x is in (suc rest.0, rest.1)
 ]
 

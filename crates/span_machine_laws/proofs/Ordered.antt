@@ -15,9 +15,9 @@ module _ {A : Type 0} (before : A → A → Bool) (o : IsOrder before) where
     | false ↦ (all.0, all_placed P x ys p all.1)
   ]
 
-  pub all_behind : (x y : A) (ys : List A) → before x y ≡ true → AllByRecursion (λ z. before z y ≡ false) ys → AllByRecursion (λ z. before x z ≡ true) ys
-  all_behind x y [] b all = tt
-  all_behind x y (z ∷ zs) b all = (o.across x y z b all.0, all_behind x y zs b all.1)
+  pub all_following : (x y : A) (ys : List A) → before x y ≡ true → AllByRecursion (λ z. before z y ≡ false) ys → AllByRecursion (λ z. before x z ≡ true) ys
+  all_following x y [] b all = tt
+  all_following x y (z ∷ zs) b all = (o.across x y z b all.0, all_following x y zs b all.1)
 
   pub all_apart : (x : A) (ys : List A) → AllByRecursion (λ z. before x z ≡ true) ys → AllByRecursion (λ z. before z x ≡ false) ys
   all_apart x [] all = tt
@@ -26,7 +26,7 @@ module _ {A : Type 0} (before : A → A → Bool) (o : IsOrder before) where
   pub placed-in_order : (x : A) (xs : List A) → IsInOrder before xs → IsInOrder before (placed before x xs)
   placed-in_order x [] h = (tt, tt)
   placed-in_order x (y ∷ ys) h = elim (before x y) as (λ b. before x y ≡ b → IsInOrder before (cond b (x ∷ y ∷ ys) (y ∷ placed before x ys))) [
-    | true ↦ λ e. (all_apart x (y ∷ ys) (e, all_behind x y ys e h.0), h)
+    | true ↦ λ e. (all_apart x (y ∷ ys) (e, all_following x y ys e h.0), h)
     | false ↦ λ e. (all_placed (λ z. before z y ≡ false) x ys e h.0, placed-in_order x ys h.1)
   ] refl
 
@@ -43,7 +43,7 @@ module _ {A : Type 0} (before : A → A → Bool) (o : IsOrder before) where
   pub filter-placed : (q : A → Bool) (x : A) (xs : List A) → IsInOrder before xs → filter q (placed before x xs) ≡ cond (q x) (placed before x (filter q xs)) (filter q xs)
   filter-placed q x [] h = elim (q x) as (λ b. cond b (x ∷ []) [] ≡ cond b (x ∷ []) []) [ true ↦ refl | false ↦ refl ]
   filter-placed q x (y ∷ ys) h = elim (before x y) as (λ b. before x y ≡ b → filter q (cond b (x ∷ y ∷ ys) (y ∷ placed before x ys)) ≡ cond (q x) (placed before x (filter q (y ∷ ys))) (filter q (y ∷ ys))) [
-    | true ↦ λ e. ap (λ l. cond (q x) l (filter q (y ∷ ys))) (sym (placed_front x (filter q (y ∷ ys)) (all_filtered (λ z. before x z ≡ true) q (y ∷ ys) (e, all_behind x y ys e h.0))))
+    | true ↦ λ e. ap (λ l. cond (q x) l (filter q (y ∷ ys))) (sym (placed_front x (filter q (y ∷ ys)) (all_filtered (λ z. before x z ≡ true) q (y ∷ ys) (e, all_following x y ys e h.0))))
     | false ↦ λ e. elim (q y) as (λ k. cond k (y ∷ filter q (placed before x ys)) (filter q (placed before x ys)) ≡ cond (q x) (placed before x (cond k (y ∷ filter q ys) (filter q ys))) (cond k (y ∷ filter q ys) (filter q ys))) [
       | true ↦ ap (λ l. y ∷ l) (filter-placed q x ys h.1) ∙ elim (q x) as (λ b. y ∷ cond b (placed before x (filter q ys)) (filter q ys) ≡ cond b (placed before x (y ∷ filter q ys)) (y ∷ filter q ys)) [ true ↦ rw e refl | false ↦ refl ]
       | false ↦ filter-placed q x ys h.1

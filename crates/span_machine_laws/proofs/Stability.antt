@@ -15,14 +15,14 @@ use Rattle.span_machine_laws.proofs.Ordered.{IsOrder, filter-in_order}
 pub before_by : (t u n k : ℕ) → (nat_lt t u || (t == u && nat_lt n k)) ≡ true → (t < u) ⊎ ((t ≡ u) × (n < k))
 before_by t u n k h = grind (arith, nat_tests)
 
-pub behind_by : (t u n k : ℕ) → (nat_lt t u || (t == u && nat_lt n k)) ≡ false → (u < t) ⊎ ((t ≡ u) × (k ≤ n))
-behind_by t u n k h = grind (arith, nat_tests)
+pub after_by : (t u n k : ℕ) → (nat_lt t u || (t == u && nat_lt n k)) ≡ false → (u < t) ⊎ ((t ≡ u) × (k ≤ n))
+after_by t u n k h = grind (arith, nat_tests)
 
 by_before : (t u n k : ℕ) → (t < u) ⊎ ((t ≡ u) × (n < k)) → (nat_lt t u || (t == u && nat_lt n k)) ≡ true
 by_before t u n k h = grind (arith, nat_tests)
 
-by_behind : (t u n k : ℕ) → (u < t) ⊎ ((t ≡ u) × (k ≤ n)) → (nat_lt t u || (t == u && nat_lt n k)) ≡ false
-by_behind t u n k h = grind (arith, nat_tests)
+by_rest : (t u n k : ℕ) → (u < t) ⊎ ((t ≡ u) × (k ≤ n)) → (nat_lt t u || (t == u && nat_lt n k)) ≡ false
+by_rest t u n k h = grind (arith, nat_tests)
 
 pub across_by : (t u v n k l : ℕ) → (t < u) ⊎ ((t ≡ u) × (n < k)) → (u < v) ⊎ ((v ≡ u) × (k ≤ l)) → (t < v) ⊎ ((t ≡ v) × (n < l))
 across_by t u v n k l p q = grind arith
@@ -32,8 +32,8 @@ apart_by t u n k h = grind arith
 
 pub is_before-order : IsOrder is_before
 is_before-order = record {
-  across = λ x y z p q. by_before _ _ _ _ (across_by _ y.timestamp _ _ y.number _ (before_by _ _ _ _ p) (behind_by z.timestamp _ z.number _ q));
-  apart = λ x y p. by_behind _ _ _ _ (apart_by x.timestamp y.timestamp x.number y.number (before_by x.timestamp _ x.number _ p));
+  across = λ x y z p q. by_before _ _ _ _ (across_by _ y.timestamp _ _ y.number _ (before_by _ _ _ _ p) (after_by z.timestamp _ z.number _ q));
+  apart = λ x y p. by_rest _ _ _ _ (apart_by x.timestamp y.timestamp x.number y.number (before_by x.timestamp _ x.number _ p));
 }
 
 -- the mutations of the directory in these commits

@@ -20,8 +20,8 @@ own_first : (tables : List Table) (x : TableRow) (xs : List TableRow) → direct
 own_first tables x xs = filter_yes (of_root tables (root_row tables x.table x.key)) x xs (in_own tables x.table x.key)
 
 -- what is first in a part of the rows after y is after y
-behind_first : (tables : List Table) (root : Root) (x y : TableRow) (xs ys : List TableRow) → AllByRecursion (λ q. rows_cmp tables y q ≡ Less) ys → directory tables root ys ≡ x ∷ xs → rows_cmp tables y x ≡ Less
-behind_first tables root x y xs ys h e =
+rest_first : (tables : List Table) (root : Root) (x y : TableRow) (xs ys : List TableRow) → AllByRecursion (λ q. rows_cmp tables y q ≡ Less) ys → directory tables root ys ≡ x ∷ xs → rows_cmp tables y x ≡ Less
+rest_first tables root x y xs ys h e =
     let P : List TableRow → Type 0 = AllByRecursion (λ q. rows_cmp tables y q ≡ Less) in
     let kept : P (x ∷ xs) = subst P e (all_filter (λ q. rows_cmp tables y q ≡ Less) (of_root tables root) ys h) in
     kept.0
@@ -33,13 +33,13 @@ tails : (x y : TableRow) (xs ys : List TableRow) → x ∷ xs ≡ y ∷ ys → x
 tails x y xs ys e = cc
 
 -- the first row of one is the first of the other, or after it
-first_behind : (tables : List Table) (x y : TableRow) (xs ys : List TableRow) → AllByRecursion (λ q. rows_cmp tables y q ≡ Less) ys
+first_after : (tables : List Table) (x y : TableRow) (xs ys : List TableRow) → AllByRecursion (λ q. rows_cmp tables y q ≡ Less) ys
     → directory tables (root_row tables x.table x.key) (x ∷ xs) ≡ directory tables (root_row tables x.table x.key) (y ∷ ys)
     → (b : Bool) → of_root tables (root_row tables x.table x.key) y ≡ b → (x ≡ y) ⊎ (rows_cmp tables y x ≡ Less)
-first_behind tables x y xs ys h e true f =
+first_after tables x y xs ys h e true f =
     inl (heads x y _ _ (sym (own_first tables x xs) ∙ e ∙ filter_yes (of_root tables (root_row tables x.table x.key)) y ys f))
-first_behind tables x y xs ys h e false f =
-    inr (behind_first tables (root_row tables x.table x.key) x y _ ys h (sym (filter_no (of_root tables (root_row tables x.table x.key)) y ys f) ∙ sym e ∙ own_first tables x xs))
+first_after tables x y xs ys h e false f =
+    inr (rest_first tables (root_row tables x.table x.key) x y _ ys h (sym (filter_no (of_root tables (root_row tables x.table x.key)) y ys f) ∙ sym e ∙ own_first tables x xs))
 
 never : (tables : List Table) (x y : TableRow) → rows_cmp tables x y ≡ Less → rows_cmp tables y x ≡ Less → x ≡ y
 never tables x y e f =
@@ -68,6 +68,6 @@ one_database tables rules (x ∷ xs) (y ∷ ys) a b same =
   where
     firsts : (c d : Bool) → of_root tables (root_row tables x.table x.key) y ≡ c → of_root tables (root_row tables y.table y.key) x ≡ d → x ≡ y
     firsts c d f g =
-        let one = first_behind tables x y xs ys b.0.0 (same (root_row tables x.table x.key) (root_is_table tables x.table a.1.0.0, root_keyed tables rules x.table x.key a.1.0)) c f in
-        let two = first_behind tables y x ys xs a.0.0 (sym (same (root_row tables y.table y.key) (root_is_table tables y.table b.1.0.0, root_keyed tables rules y.table y.key b.1.0))) d g in
+        let one = first_after tables x y xs ys b.0.0 (same (root_row tables x.table x.key) (root_is_table tables x.table a.1.0.0, root_keyed tables rules x.table x.key a.1.0)) c f in
+        let two = first_after tables y x ys xs a.0.0 (sym (same (root_row tables y.table y.key) (root_is_table tables y.table b.1.0.0, root_keyed tables rules y.table y.key b.1.0))) d g in
         elim one [ inl e ↦ e | inr e ↦ elim two [ inl h ↦ sym h | inr h ↦ never tables x y h e ] ]

@@ -109,12 +109,12 @@ names_apart (c ∷ cs) h =
     let parts = two_false (is_some (column_place cs c.name)) (has_repeated_column cs) h in
     let apart = none_placed (λ (d : Column). is_same_name d.name c.name) cs parts.0 in (
       ap (λ (b : Bool). cond b (Some c) (column_named cs c.name)) (lower_same c.name c.name refl),
-      all_map (λ (d : Column). (is_same_name d.name c.name ≡ false) × IsNamedSelf cs d) (IsNamedSelf (c ∷ cs)) behind cs
+      all_map (λ (d : Column). (is_same_name d.name c.name ≡ false) × IsNamedSelf cs d) (IsNamedSelf (c ∷ cs)) later cs
           (all_both (λ (d : Column). is_same_name d.name c.name ≡ false) (IsNamedSelf cs) cs apart (names_apart cs parts.1)),
     )
   where
-    behind : (d : Column) → (is_same_name d.name c.name ≡ false) × IsNamedSelf cs d → IsNamedSelf (c ∷ cs) d
-    behind d g = cases (is_same_name c.name d.name) refl
+    later : (d : Column) → (is_same_name d.name c.name ≡ false) × IsNamedSelf cs d → IsNamedSelf (c ∷ cs) d
+    later d g = cases (is_same_name c.name d.name) refl
       where
         cases : (b : Bool) → is_same_name c.name d.name ≡ b → cond b (Some c) (column_named cs d.name) ≡ Some d
         cases true e = absurd (let f : true ≡ false = sym (lower_same d.name c.name (sym (same_lower c.name d.name e))) ∙ g.0 in cc)

@@ -143,8 +143,8 @@ found_put {X} R p r same (x ∷ xs) g = cases (R x r) (p x) refl refl (λ f. fou
     at : R x r ≡ Equal → there R p r (x ∷ xs) ≡ there R p r xs
     at e = split (filter (λ x. is_lt (R x r)) xs) (filter (λ x. is_gt (R x r)) xs) (filter_no (λ x. is_lt (R x r)) x xs (ap is_lt e)) (filter_no (λ x. is_gt (R x r)) x xs (ap is_gt e))
 
-    behind : R x r ≡ Greater → there R p r (x ∷ xs) ≡ (list_any p (filter (λ x. is_lt (R x r)) xs) || (p r || (p x || list_any p (filter (λ x. is_gt (R x r)) xs))))
-    behind e = split (filter (λ x. is_lt (R x r)) xs) (x ∷ filter (λ x. is_gt (R x r)) xs) (filter_no (λ x. is_lt (R x r)) x xs (ap is_lt e)) (filter_yes (λ x. is_gt (R x r)) x xs (ap is_gt e))
+    later : R x r ≡ Greater → there R p r (x ∷ xs) ≡ (list_any p (filter (λ x. is_lt (R x r)) xs) || (p r || (p x || list_any p (filter (λ x. is_gt (R x r)) xs))))
+    later e = split (filter (λ x. is_lt (R x r)) xs) (x ∷ filter (λ x. is_gt (R x r)) xs) (filter_no (λ x. is_lt (R x r)) x xs (ap is_lt e)) (filter_yes (λ x. is_gt (R x r)) x xs (ap is_gt e))
 
     cases : (o : Ordering) (b : Bool) → R x r ≡ o → p x ≡ b → (list_any p xs ≡ true → there R p r xs ≡ true) → there R p r (x ∷ xs) ≡ true
     cases Less true e f again =
@@ -156,10 +156,10 @@ found_put {X} R p r same (x ∷ xs) g = cases (R x r) (p x) refl refl (λ f. fou
         ∙ or_true (list_any p (filter (λ x. is_lt (R x r)) xs))
     cases Equal false e f again = at e ∙ again (rest f)
     cases Greater true e f again =
-        behind e ∙ ap (λ (b : Bool). list_any p (filter (λ x. is_lt (R x r)) xs) || (p r || (b || list_any p (filter (λ x. is_gt (R x r)) xs)))) f
+        later e ∙ ap (λ (b : Bool). list_any p (filter (λ x. is_lt (R x r)) xs) || (p r || (b || list_any p (filter (λ x. is_gt (R x r)) xs)))) f
         ∙ ap (λ (b : Bool). list_any p (filter (λ x. is_lt (R x r)) xs) || b) (or_true (p r)) ∙ or_true (list_any p (filter (λ x. is_lt (R x r)) xs))
     cases Greater false e f again =
-        behind e ∙ ap (λ (b : Bool). list_any p (filter (λ x. is_lt (R x r)) xs) || (p r || (b || list_any p (filter (λ x. is_gt (R x r)) xs)))) f ∙ again (rest f)
+        later e ∙ ap (λ (b : Bool). list_any p (filter (λ x. is_lt (R x r)) xs) || (p r || (b || list_any p (filter (λ x. is_gt (R x r)) xs)))) f ∙ again (rest f)
 
 -- a row that was there, or another at its key, is there once a row is placed
 still_there : (tables : List Table) (q : ℕ) (key : List Value) (r : TableRow) (db : List TableRow) → list_any (is_at q key) db ≡ true → list_any (is_at q key) (put (rows_cmp tables) r db) ≡ true

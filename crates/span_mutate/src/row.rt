@@ -101,15 +101,15 @@ pub(crate) fn with_row(
     ensures { IfOk result (λ all. all.items ≡ with_row columns.now row rows.items) }
 {
     let mut front = Vec::new(alloc);
-    let mut behind = Vec::new(alloc);
+    let mut later = Vec::new(alloc);
     for old in rows {
         match row_order(columns, &old, &row) {
             Ordering::Less => front.push(old)?,
             Ordering::Equal => {}
-            Ordering::Greater => behind.push(old)?,
+            Ordering::Greater => later.push(old)?,
         }
     }
     front.push(row)?;
-    front.append(&mut behind)?;
+    front.append(&mut later)?;
     Ok(front)
 }

@@ -15,14 +15,14 @@ has_name_of p q = is_same_name q.name p.name
 here : (p q : Parameter) (qs : List Parameter) → is_same_name q.name p.name ≡ true → p ∷ qs ≡ with_parameter p (q ∷ qs)
 here p q qs is = sym (ap (λ (b : Bool). if b then p ∷ qs else q ∷ with_parameter p qs) is)
 
-behind : (p q : Parameter) (qs : List Parameter) → is_same_name q.name p.name ≡ false → q ∷ with_parameter p qs ≡ with_parameter p (q ∷ qs)
-behind p q qs is = sym (ap (λ (b : Bool). if b then p ∷ qs else q ∷ with_parameter p qs) is)
+rest : (p q : Parameter) (qs : List Parameter) → is_same_name q.name p.name ≡ false → q ∷ with_parameter p qs ≡ with_parameter p (q ∷ qs)
+rest p q qs is = sym (ap (λ (b : Bool). if b then p ∷ qs else q ∷ with_parameter p qs) is)
 
 set_at : (ps : List Parameter) (p : Parameter) (at : ℕ) → at < length ps → is_same_name (get_or ps at p).name p.name ≡ true → ((k : ℕ) → k < at → is_same_name (get_or ps k p).name p.name ≡ false) → slice_set ps at p ≡ with_parameter p ps
 set_at [] p at within found before = absurd (omega (arith, within))
 set_at (q ∷ qs) p zero within found before = here p q qs found
 set_at (q ∷ qs) p (suc n) within found before =
-    ap (λ (xs : List Parameter). q ∷ xs) (set_at qs p n (omega (arith, within)) found (λ k l. before (suc k) (omega (arith, l)))) ∙ behind p q qs (before zero (omega arith))
+    ap (λ (xs : List Parameter). q ∷ xs) (set_at qs p n (omega (arith, within)) found (λ k l. before (suc k) (omega (arith, l)))) ∙ rest p q qs (before zero (omega arith))
 
 pub in_its_place : (ps : List Parameter) (p : Parameter) (at : ℕ) → place_of ps p.name ≡ Some at → slice_set ps at p ≡ with_parameter p ps
 in_its_place ps p at found =
@@ -34,7 +34,7 @@ none_from [] p i none = refl
 none_from (q ∷ qs) p i none = go (has_name_of p q) refl none (none_from qs p (i + 1)) where
   go : (b : Bool) → has_name_of p q ≡ b → (if b then Some i else position_from (has_name_of p) (i + 1) qs) ≡ None → (position_from (has_name_of p) (i + 1) qs ≡ None → qs ++ p ∷ [] ≡ with_parameter p qs) → q ∷ (qs ++ p ∷ []) ≡ with_parameter p (q ∷ qs)
   go true is some more = absurd cc
-  go false is none_there more = ap (λ (xs : List Parameter). q ∷ xs) (more none_there) ∙ behind p q qs is
+  go false is none_there more = ap (λ (xs : List Parameter). q ∷ xs) (more none_there) ∙ rest p q qs is
 
 pub at_the_end : (ps : List Parameter) (p : Parameter) → place_of ps p.name ≡ None → ps ++ p ∷ [] ≡ with_parameter p ps
 at_the_end ps p none = none_from ps p 0 (sym (position_from-zero (has_name_of p) ps) ∙ none)

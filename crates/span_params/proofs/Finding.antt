@@ -35,14 +35,14 @@ not_other_way a b isnt = go (is_same_name b a) refl where
 -- ---- the added parameter is found
 
 -- one was in the place of the other
-in_place : {A : Type 0} (new old behind : A) (t u : Bool) → u ≡ t → (if t then new else behind) ≡ (if t then new else (if u then old else behind))
-in_place new old behind true u is = refl
-in_place new old behind false u is = ap (λ (v : Bool). if v then old else behind) (sym is)
+in_place : {A : Type 0} (new old rest : A) (t u : Bool) → u ≡ t → (if t then new else rest) ≡ (if t then new else (if u then old else rest))
+in_place new old rest true u is = refl
+in_place new old rest false u is = ap (λ (v : Bool). if v then old else rest) (sym is)
 
 -- one is before the other
-apart : {A : Type 0} (new other behind : A) (t u : Bool) → (t ≡ true → u ≡ false) → (if u then other else (if t then new else behind)) ≡ (if t then new else (if u then other else behind))
-apart new other behind true u no_two = ap (λ (v : Bool). if v then other else new) (no_two refl)
-apart new other behind false u no_two = refl
+apart : {A : Type 0} (new other rest : A) (t u : Bool) → (t ≡ true → u ≡ false) → (if u then other else (if t then new else rest)) ≡ (if t then new else (if u then other else rest))
+apart new other rest true u no_two = ap (λ (v : Bool). if v then other else new) (no_two refl)
+apart new other rest false u no_two = refl
 
 pub found : AddedIsFound
 found p [] name = refl

@@ -13,12 +13,12 @@ before n = omega arith
 at : List ℕ → ℕ → Piece Query
 at text n = query text n (nested_query text n)
 
-behind_is : (text : List ℕ) (n : ℕ) → 0 < n → query text (n - 1) (nested_query text (n - 1)) ≡ nested_query text n
+deeper_is : (text : List ℕ) (n : ℕ) → 0 < n → query text (n - 1) (nested_query text (n - 1)) ≡ nested_query text n
 unfolding nested_query at
-behind_is text zero h = absurd (omega arith)
-behind_is text (suc n) h = ap (at text) (before n)
+deeper_is text zero h = absurd (omega arith)
+deeper_is text (suc n) h = ap (at text) (before n)
 
-pub gives_behind : (text : List ℕ) (n : ℕ) (ts : List Lexeme) (r : Result (Query × Bor (List Lexeme)) SyntaxError) → 0 < n → Gives r ((query text (n - 1) (nested_query text (n - 1))).read ts) → Gives r ((nested_query text n).read ts)
-gives_behind text n ts r h g = subst (λ (p : Piece Query). Gives r (p.read ts)) (behind_is text n h) g
+pub gives_deeper : (text : List ℕ) (n : ℕ) (ts : List Lexeme) (r : Result (Query × Bor (List Lexeme)) SyntaxError) → 0 < n → Gives r ((query text (n - 1) (nested_query text (n - 1))).read ts) → Gives r ((nested_query text n).read ts)
+gives_deeper text n ts r h g = subst (λ (p : Piece Query). Gives r (p.read ts)) (deeper_is text n h) g
 
-pub ruleset level_steps = (gives_behind)
+pub ruleset level_steps = (gives_deeper)

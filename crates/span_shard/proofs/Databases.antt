@@ -63,9 +63,9 @@ not_coded tables k r h = cases (is_coded tables k r) refl
     cases false e = refl
 
 -- the rows after one have other coded keys
-none_behind : (tables : List Table) → MeetsRules tables → (x : TableRow) (xs : List TableRow) → IsTyped tables x → AreTyped tables xs → AllByRecursion (λ y. rows_cmp tables x y ≡ Less) xs
+none_rest : (tables : List Table) → MeetsRules tables → (x : TableRow) (xs : List TableRow) → IsTyped tables x → AreTyped tables xs → AllByRecursion (λ y. rows_cmp tables x y ≡ Less) xs
     → AllByRecursion (λ (y : TableRow). is_coded tables (code_of tables x) y ≡ false) xs
-none_behind tables rules x xs tx txs h =
+none_rest tables rules x xs tx txs h =
     all_map (λ (y : TableRow). IsTyped tables y × (rows_cmp tables x y ≡ Less)) (λ (y : TableRow). is_coded tables (code_of tables x) y ≡ false)
     (λ y g. not_coded tables (code_of tables x) y (λ e. apart tables rules x y tx g.0 g.1 e)) xs (all_both (IsTyped tables) (λ (y : TableRow). rows_cmp tables x y ≡ Less) xs txs h)
 
@@ -103,9 +103,9 @@ first_coded : (tables : List Table) (x : TableRow) (xs : List TableRow) → row_
 first_coded tables x xs = ap (λ (b : Bool). cells (cond b (Some x) (find (is_coded tables (code_of tables x)) xs))) (itself tables x)
 
 -- the first row of one is at or after the first of the other
-behind_first : (tables : List Table) → MeetsRules tables → (x y : TableRow) (xs ys : List TableRow) → IsTyped tables x → AreTyped tables (y ∷ ys) → AllByRecursion (λ r. rows_cmp tables y r ≡ Less) ys → AreAlike tables (x ∷ xs) (y ∷ ys)
+rest_first : (tables : List Table) → MeetsRules tables → (x y : TableRow) (xs ys : List TableRow) → IsTyped tables x → AreTyped tables (y ∷ ys) → AllByRecursion (λ r. rows_cmp tables y r ≡ Less) ys → AreAlike tables (x ∷ xs) (y ∷ ys)
     → ((x.table ≡ y.table) × (x.key ≡ y.key)) ⊎ (rows_cmp tables y x ≡ Less)
-behind_first tables rules x y xs ys tx tys h same =
+rest_first tables rules x y xs ys tx tys h same =
     let P : TableRow → Type 0 = λ r. IsTyped tables r × ((r ≡ y) ⊎ (rows_cmp tables y r ≡ Less)) in
     let all : AllByRecursion P (y ∷ ys) = ((tys.0, inl refl), all_map (λ (r : TableRow). IsTyped tables r × (rows_cmp tables y r ≡ Less)) P (λ r g. (g.0, inr g.1)) ys (all_both (IsTyped tables) (λ (r : TableRow). rows_cmp tables y r ≡ Less) ys tys.1 h)) in
     let found = row_there tables P (y ∷ ys) (code_of tables x) (row_code x.cells) all (sym (same (code_of tables x)) ∙ first_coded tables x xs) in
@@ -139,25 +139,25 @@ same_database tables rules (x ∷ xs) (y ∷ ys) ia ib ta tb same =
     let P : ℕ → Type 0 = λ n. IsRow (other_kinds tables n) x.cells in
     let inside : x.cells ≡ y.cells = let typed_x = subst P named.0 ta.0.1 in one_row (other_kinds tables y.table) x.cells y.cells typed_x.0 tb.0.1.0 (short (length (row_code x.cells)) typed_x.1) packed in
     let first : x ≡ y = same_row x y named.0 named.1 inside in
-    let rest : xs ≡ ys = same_database tables rules xs ys ia.1 ib.1 ta.1 tb.1 (behind first) in
+    let rest : xs ≡ ys = same_database tables rules xs ys ia.1 ib.1 ta.1 tb.1 (later first) in
     cc
   where
     firsts : (x.table ≡ y.table) × (x.key ≡ y.key)
-    firsts = elim (behind_first tables rules x y xs ys ta.0 tb ib.0 same) [
+    firsts = elim (rest_first tables rules x y xs ys ta.0 tb ib.0 same) [
       | inl e ↦ e
-      | inr less ↦ elim (behind_first tables rules y x ys xs tb.0 ta ia.0 (λ k. sym (same k))) [
+      | inr less ↦ elim (rest_first tables rules y x ys xs tb.0 ta ia.0 (λ k. sym (same k))) [
         | inl e ↦ (sym e.0, sym e.1)
         | inr more ↦ absurd (let f : Less ≡ Equal = sym ((rows_total tables).trans x y x more less) ∙ tied_itself (rows_total tables) x in cc)
       ]
     ]
 
-    behind : x ≡ y → AreAlike tables xs ys
-    behind first k = cases (is_coded tables k x) refl
+    later : x ≡ y → AreAlike tables xs ys
+    later first k = cases (is_coded tables k x) refl
       where
         nothing : (z : TableRow) (zs : List TableRow) → IsInOrder tables (z ∷ zs) → AreTyped tables (z ∷ zs) → is_coded tables k z ≡ true → row_coded tables zs k ≡ None
         nothing z zs iz tz e =
             let at : k ≡ code_of tables z = same_bytes k (code_of tables z) e in
-            ap cells (ap (λ (l : List ℕ). find (is_coded tables l) zs) at ∙ none_any (is_coded tables (code_of tables z)) zs (any_none (is_coded tables (code_of tables z)) zs (none_behind tables rules z zs tz.0 tz.1 iz.0)))
+            ap cells (ap (λ (l : List ℕ). find (is_coded tables l) zs) at ∙ none_any (is_coded tables (code_of tables z)) zs (any_none (is_coded tables (code_of tables z)) zs (none_rest tables rules z zs tz.0 tz.1 iz.0)))
 
         cases : (b : Bool) → is_coded tables k x ≡ b → row_coded tables xs k ≡ row_coded tables ys k
         cases true e = nothing x xs ia ta e ∙ sym (nothing y ys ib tb (ap (is_coded tables k) (sym first) ∙ e))

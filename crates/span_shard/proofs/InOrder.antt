@@ -24,15 +24,15 @@ all_with_write d txn w (c ∷ cs) e h =
       | Greater ↦ (h.0, all_with_write d txn w cs e h.1)
     ]
 
-all_behind : (key : List ℕ) (c : KeyVersions) (cs : List KeyVersions) → byte_order key c.key ≡ Less → AllByRecursion (λ d. keys_cmp c d ≡ Less) cs → AllByRecursion (λ (d : KeyVersions). byte_order key d.key ≡ Less) cs
-all_behind key c [] e h = tt
-all_behind key c (d ∷ cs) e h = (bytes_total.trans key c.key d.key e h.0, all_behind key c cs e h.1)
+all_following : (key : List ℕ) (c : KeyVersions) (cs : List KeyVersions) → byte_order key c.key ≡ Less → AllByRecursion (λ d. keys_cmp c d ≡ Less) cs → AllByRecursion (λ (d : KeyVersions). byte_order key d.key ≡ Less) cs
+all_following key c [] e h = tt
+all_following key c (d ∷ cs) e h = (bytes_total.trans key c.key d.key e h.0, all_following key c cs e h.1)
 
 pub in_order_with_write : (txn : ℕ) (w : Write) (cs : List KeyVersions) → AreInOrder cs → AreInOrder (with_write txn w cs)
 in_order_with_write txn w [] h = (tt, tt)
 in_order_with_write txn w (c ∷ cs) h =
     elim (byte_order w.key c.key) as (λ o. byte_order w.key c.key ≡ o → AreInOrder (by_order o (new_key txn w ∷ c ∷ cs) (with_prepared (prepared_write txn w) c ∷ cs) (c ∷ with_write txn w cs))) [
-      | Less ↦ λ e. ((e, all_behind w.key c cs e h.0), h)
+      | Less ↦ λ e. ((e, all_following w.key c cs e h.0), h)
       | Equal ↦ λ e. (h.0, h.1)
       | Greater ↦ λ e. (all_with_write c txn w cs (bytes_total.antisymm c.key w.key ∙ ap ordering_reverse e) h.0, in_order_with_write txn w cs h.1)
     ] refl

@@ -122,9 +122,9 @@ last_place {X} xs x = omega (arith, length-append xs (x ∷ []))
 
 pub once_pushed : (tables : List Table) (once more : List TableRow) (r : TableRow) (left rest all : List TableRow) → more ≡ once ++ r ∷ [] → left ≡ r ∷ rest → is_after_last tables (slice_get once (length once - 1)) r ≡ true
     → once ++ without_repeats tables (slice_get once (length once - 1)) left ≡ all → more ++ without_repeats tables (slice_get more (length more - 1)) rest ≡ all
-once_pushed tables once more r left rest all e f behind so_far =
+once_pushed tables once more r left rest all e f later so_far =
     ap (λ (l : List TableRow). l ++ without_repeats tables (slice_get l (length l - 1)) rest) e
     ∙ ap (λ (o : Option TableRow). (once ++ r ∷ []) ++ without_repeats tables o rest) (ap (slice_get (once ++ r ∷ [])) (last_place once r) ∙ last_there once r)
     ∙ append_assoc once (r ∷ []) (without_repeats tables (Some r) rest)
-    ∙ sym (ap (λ (l : List TableRow). once ++ without_repeats tables (slice_get once (length once - 1)) l) f ∙ ap (λ (b : Bool). once ++ cond b (r ∷ without_repeats tables (Some r) rest) (without_repeats tables (slice_get once (length once - 1)) rest)) behind)
+    ∙ sym (ap (λ (l : List TableRow). once ++ without_repeats tables (slice_get once (length once - 1)) l) f ∙ ap (λ (b : Bool). once ++ cond b (r ∷ without_repeats tables (Some r) rest) (without_repeats tables (slice_get once (length once - 1)) rest)) later)
     ∙ so_far

@@ -80,23 +80,23 @@ less_is Less e = refl
 less_is Equal e = absurd cc
 less_is Greater e = absurd cc
 
-all_behind : (tables : List Table) (q r : TableRow) → rows_cmp tables q r ≡ Less → (xs : List TableRow) → AllByRecursion (λ x. rows_cmp tables r x ≡ Less) xs → AllByRecursion (λ x. rows_cmp tables q x ≡ Less) xs
-all_behind tables q r e xs h = all_map (λ (x : TableRow). rows_cmp tables r x ≡ Less) (λ (x : TableRow). rows_cmp tables q x ≡ Less) (λ x f. (rows_total tables).trans q r x e f) xs h
+all_following : (tables : List Table) (q r : TableRow) → rows_cmp tables q r ≡ Less → (xs : List TableRow) → AllByRecursion (λ x. rows_cmp tables r x ≡ Less) xs → AllByRecursion (λ x. rows_cmp tables q x ≡ Less) xs
+all_following tables q r e xs h = all_map (λ (x : TableRow). rows_cmp tables r x ≡ Less) (λ (x : TableRow). rows_cmp tables q x ≡ Less) (λ x f. (rows_total tables).trans q r x e f) xs h
 
-once_behind : (tables : List Table) (last : TableRow) (xs : List TableRow) → AllByRecursion (λ x. rows_cmp tables last x ≡ Less) (without_repeats tables (Some last) xs)
-once_behind tables last [] = tt
-once_behind tables last (x ∷ xs) = cases (is_after_last tables (Some last) x) refl (once_behind tables last xs) (once_behind tables x xs)
+once_after : (tables : List Table) (last : TableRow) (xs : List TableRow) → AllByRecursion (λ x. rows_cmp tables last x ≡ Less) (without_repeats tables (Some last) xs)
+once_after tables last [] = tt
+once_after tables last (x ∷ xs) = cases (is_after_last tables (Some last) x) refl (once_after tables last xs) (once_after tables x xs)
   where
     cases : (b : Bool) → is_after_last tables (Some last) x ≡ b → AllByRecursion (λ x. rows_cmp tables last x ≡ Less) (without_repeats tables (Some last) xs) → AllByRecursion (λ y. rows_cmp tables x y ≡ Less) (without_repeats tables (Some x) xs)
         → AllByRecursion (λ x. rows_cmp tables last x ≡ Less) (cond b (x ∷ without_repeats tables (Some x) xs) (without_repeats tables (Some last) xs))
-    cases true e old new = let less : rows_cmp tables last x ≡ Less = less_is (rows_cmp tables last x) e in (less, all_behind tables last x less (without_repeats tables (Some x) xs) new)
+    cases true e old new = let less : rows_cmp tables last x ≡ Less = less_is (rows_cmp tables last x) e in (less, all_following tables last x less (without_repeats tables (Some x) xs) new)
     cases false e old new = old
 
 once_rising : (tables : List Table) (last : Option TableRow) (xs : List TableRow) → IsInOrder tables (without_repeats tables last xs)
 once_rising tables last [] = tt
 once_rising tables last (x ∷ xs) =
     elim (is_after_last tables last x) as (λ b. IsInOrder tables (cond b (x ∷ without_repeats tables (Some x) xs) (without_repeats tables last xs))) [
-      | true ↦ (once_behind tables x xs, once_rising tables (Some x) xs)
+      | true ↦ (once_after tables x xs, once_rising tables (Some x) xs)
       | false ↦ once_rising tables last xs
     ]
 

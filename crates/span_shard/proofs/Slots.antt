@@ -37,18 +37,18 @@ use Rattle.span_shard.proofs.Unused.{map_alike, keys_used, owned_used}
 
 pub with_write-here : (txn : ℕ) (w : Write) (xs ys : List KeyVersions) (c : KeyVersions) → AllByRecursion (λ d. byte_order w.key d.key ≡ Greater) xs → byte_order w.key c.key ≡ Equal
     → with_write txn w (xs ++ c ∷ ys) ≡ xs ++ with_prepared (prepared_write txn w) c ∷ ys
-with_write-here txn w [] ys c behind same = ap (λ o. by_order o (new_key txn w ∷ c ∷ ys) (with_prepared (prepared_write txn w) c ∷ ys) (c ∷ with_write txn w ys)) same
-with_write-here txn w (x ∷ xs) ys c behind same =
-    ap (λ o. by_order o (new_key txn w ∷ x ∷ (xs ++ c ∷ ys)) (with_prepared (prepared_write txn w) x ∷ (xs ++ c ∷ ys)) (x ∷ with_write txn w (xs ++ c ∷ ys))) behind.0
-    ∙ ap (λ (l : List KeyVersions). x ∷ l) (with_write-here txn w xs ys c behind.1 same)
+with_write-here txn w [] ys c later same = ap (λ o. by_order o (new_key txn w ∷ c ∷ ys) (with_prepared (prepared_write txn w) c ∷ ys) (c ∷ with_write txn w ys)) same
+with_write-here txn w (x ∷ xs) ys c later same =
+    ap (λ o. by_order o (new_key txn w ∷ x ∷ (xs ++ c ∷ ys)) (with_prepared (prepared_write txn w) x ∷ (xs ++ c ∷ ys)) (x ∷ with_write txn w (xs ++ c ∷ ys))) later.0
+    ∙ ap (λ (l : List KeyVersions). x ∷ l) (with_write-here txn w xs ys c later.1 same)
 
 pub with_write-between : (txn : ℕ) (w : Write) (xs ys : List KeyVersions) → AllByRecursion (λ d. byte_order w.key d.key ≡ Greater) xs → AllByRecursion (λ d. byte_order w.key d.key ≡ Less) ys
     → with_write txn w (xs ++ ys) ≡ xs ++ new_key txn w ∷ ys
-with_write-between txn w [] [] behind before = refl
-with_write-between txn w [] (y ∷ ys) behind before = ap (λ o. by_order o (new_key txn w ∷ y ∷ ys) (with_prepared (prepared_write txn w) y ∷ ys) (y ∷ with_write txn w ys)) before.0
-with_write-between txn w (x ∷ xs) ys behind before =
-    ap (λ o. by_order o (new_key txn w ∷ x ∷ (xs ++ ys)) (with_prepared (prepared_write txn w) x ∷ (xs ++ ys)) (x ∷ with_write txn w (xs ++ ys))) behind.0
-    ∙ ap (λ (l : List KeyVersions). x ∷ l) (with_write-between txn w xs ys behind.1 before)
+with_write-between txn w [] [] later before = refl
+with_write-between txn w [] (y ∷ ys) later before = ap (λ o. by_order o (new_key txn w ∷ y ∷ ys) (with_prepared (prepared_write txn w) y ∷ ys) (y ∷ with_write txn w ys)) before.0
+with_write-between txn w (x ∷ xs) ys later before =
+    ap (λ o. by_order o (new_key txn w ∷ x ∷ (xs ++ ys)) (with_prepared (prepared_write txn w) x ∷ (xs ++ ys)) (x ∷ with_write txn w (xs ++ ys))) later.0
+    ∙ ap (λ (l : List KeyVersions). x ∷ l) (with_write-between txn w xs ys later.1 before)
 
 turned : (a b : List ℕ) (o : Ordering) → byte_order a b ≡ o → byte_order b a ≡ ordering_reverse o
 turned a b o e = bytes_total.antisymm b a ∙ ap ordering_reverse e
@@ -81,29 +81,29 @@ greater_is Greater e = refl
 abbrev before : List ℕ → Entry → Bool
 before key e = is_lt (byte_order e.key key)
 
-abbrev behind : List ℕ → Entry → Bool
-behind key e = is_gt (byte_order e.key key)
+abbrev later : List ℕ → Entry → Bool
+later key e = is_gt (byte_order e.key key)
 
-all_behind : (key : List ℕ) (es : List Entry) → AllByRecursion (λ (e : Entry). byte_order e.key key ≡ Greater) es → filter (before key) es ++ filter (behind key) es ≡ es
-all_behind key [] h = refl
-all_behind key (e ∷ es) h =
+all_following : (key : List ℕ) (es : List Entry) → AllByRecursion (λ (e : Entry). byte_order e.key key ≡ Greater) es → filter (before key) es ++ filter (later key) es ≡ es
+all_following key [] h = refl
+all_following key (e ∷ es) h =
     let no : before key e ≡ false = ap is_lt h.0 in
-    let so : behind key e ≡ true = ap is_gt h.0 in
-    ap (λ b. cond b (e ∷ filter (before key) es) (filter (before key) es) ++ cond (behind key e) (e ∷ filter (behind key) es) (filter (behind key) es)) no
-    ∙ ap (λ b. filter (before key) es ++ cond b (e ∷ filter (behind key) es) (filter (behind key) es)) so
-    ∙ ap (λ (l : List Entry). l ++ e ∷ filter (behind key) es) (none_before es h.1)
-    ∙ ap (λ (l : List Entry). e ∷ l) (ap (λ (l : List Entry). l ++ filter (behind key) es) (sym (none_before es h.1)) ∙ all_behind key es h.1)
+    let so : later key e ≡ true = ap is_gt h.0 in
+    ap (λ b. cond b (e ∷ filter (before key) es) (filter (before key) es) ++ cond (later key e) (e ∷ filter (later key) es) (filter (later key) es)) no
+    ∙ ap (λ b. filter (before key) es ++ cond b (e ∷ filter (later key) es) (filter (later key) es)) so
+    ∙ ap (λ (l : List Entry). l ++ e ∷ filter (later key) es) (none_before es h.1)
+    ∙ ap (λ (l : List Entry). e ∷ l) (ap (λ (l : List Entry). l ++ filter (later key) es) (sym (none_before es h.1)) ∙ all_following key es h.1)
   where
     none_before : (es : List Entry) → AllByRecursion (λ (e : Entry). byte_order e.key key ≡ Greater) es → filter (before key) es ≡ []
     none_before [] h = refl
     none_before (e ∷ es) h = ap (λ b. cond b (e ∷ filter (before key) es) (filter (before key) es)) (ap is_lt h.0) ∙ none_before es h.1
 
 -- what does not have the key comes before it or after it
-parted : (a : Content) (ps : List PreparedNode) (key : List ℕ) (es : List Entry) → AreInOrder (all_kept a ps es) → IsAbsent es key → filter (before key) es ++ filter (behind key) es ≡ es
+parted : (a : Content) (ps : List PreparedNode) (key : List ℕ) (es : List Entry) → AreInOrder (all_kept a ps es) → IsAbsent es key → filter (before key) es ++ filter (later key) es ≡ es
 parted a ps key [] rising absent = refl
 parted a ps key (e ∷ es) rising absent = cases (byte_order e.key key) refl (parted a ps key es rising.1 (λ k d lt. absent (suc k) d (omega arith)))
   where
-    cases : (o : Ordering) → byte_order e.key key ≡ o → filter (before key) es ++ filter (behind key) es ≡ es → cond (is_lt o) (e ∷ filter (before key) es) (filter (before key) es) ++ cond (is_gt o) (e ∷ filter (behind key) es) (filter (behind key) es) ≡ e ∷ es
+    cases : (o : Ordering) → byte_order e.key key ≡ o → filter (before key) es ++ filter (later key) es ≡ es → cond (is_lt o) (e ∷ filter (before key) es) (filter (before key) es) ++ cond (is_gt o) (e ∷ filter (later key) es) (filter (later key) es) ≡ e ∷ es
     cases Less is again = ap (λ (l : List Entry). e ∷ l) again
     cases Equal is again = absurd (absent zero e (omega arith) (exact_bytes e.key key is))
     cases Greater is again =
@@ -113,10 +113,10 @@ parted a ps key (e ∷ es) rising absent = cases (byte_order e.key key) refl (pa
         (all_unmapped (λ (c : KeyVersions). byte_order e.key c.key ≡ Less) (kept_entry a ps) es rising.0) in
         none_in_front all
       where
-        none_in_front : AllByRecursion (λ (x : Entry). byte_order x.key key ≡ Greater) es → filter (before key) es ++ e ∷ filter (behind key) es ≡ e ∷ es
+        none_in_front : AllByRecursion (λ (x : Entry). byte_order x.key key ≡ Greater) es → filter (before key) es ++ e ∷ filter (later key) es ≡ e ∷ es
         none_in_front all =
             let none : filter (before key) es ≡ [] = none_before es all in
-            ap (λ (l : List Entry). l ++ e ∷ filter (behind key) es) none ∙ ap (λ (l : List Entry). e ∷ l) (ap (λ (l : List Entry). l ++ filter (behind key) es) (sym none) ∙ all_behind key es all)
+            ap (λ (l : List Entry). l ++ e ∷ filter (later key) es) none ∙ ap (λ (l : List Entry). e ∷ l) (ap (λ (l : List Entry). l ++ filter (later key) es) (sym none) ∙ all_following key es all)
           where
             none_before : (xs : List Entry) → AllByRecursion (λ (x : Entry). byte_order x.key key ≡ Greater) xs → filter (before key) xs ≡ []
             none_before [] h = refl
@@ -152,8 +152,8 @@ split_at (x ∷ xs) (suc i) e lt is =
     record { front = x ∷ rest.front; back = rest.back; whole = ap (λ (l : List Entry). x ∷ l) rest.whole }
 
 find_here : (key : List ℕ) (xs ys : List KeyVersions) (c : KeyVersions) → AllByRecursion (λ (d : KeyVersions). byte_order key d.key ≡ Greater) xs → is_key key c ≡ true → find (is_key key) (xs ++ c ∷ ys) ≡ Some c
-find_here key [] ys c behind same = ap (λ b. cond b (Some c) (find (is_key key) ys)) same
-find_here key (x ∷ xs) ys c behind same = ap (λ b. cond b (Some x) (find (is_key key) (xs ++ c ∷ ys))) (ap is_eq behind.0) ∙ find_here key xs ys c behind.1 same
+find_here key [] ys c later same = ap (λ b. cond b (Some c) (find (is_key key) ys)) same
+find_here key (x ∷ xs) ys c later same = ap (λ b. cond b (Some x) (find (is_key key) (xs ++ c ∷ ys))) (ap is_eq later.0) ∙ find_here key xs ys c later.1 same
 
 -- the key was there
 module _ (es : List Entry) (a : Content) (ps : List PreparedNode) (key : List ℕ) (chain : Chain) (owned : AreOwned a ps) (order : AreInOrder (all_kept a ps es)) (has : HasChain es key chain) where
@@ -227,7 +227,7 @@ module _ (es : List Entry) (a b : Content) (ps : List PreparedNode) (key : List 
   owned_new : AreOwned b ps
   owned_new = record { nodes = all_map (IsNodeOf a) (IsNodeOf b) node_stays ps owned.nodes; counted = λ c. ap (prepared_for c) prepared_is ∙ owned.counted c; once = owned.once }
 
-  parts : filter (before key) es ++ filter (behind key) es ≡ es
+  parts : filter (before key) es ++ filter (later key) es ≡ es
   parts = parted a ps key es order absent
 
   nothing : kept_entry b ps (entry key chain) ≡ record { key = key; versions = []; prepared = None }
@@ -235,16 +235,16 @@ module _ (es : List Entry) (a b : Content) (ps : List PreparedNode) (key : List 
       (ap (λ (o : Option (List arena.Version)). map version_of (versions_in o)) (is_new_chain a b chain.number new))
       (write-none b chain.number ps (sym (owned.counted chain.number) ∙ new.none_prepared))
 
-  mapped_parts : all_kept a ps es ≡ map (kept_entry a ps) (filter (before key) es) ++ map (kept_entry a ps) (filter (behind key) es)
-  mapped_parts = ap (map (kept_entry a ps)) (sym parts) ∙ map-append (kept_entry a ps) (filter (before key) es) (filter (behind key) es)
+  mapped_parts : all_kept a ps es ≡ map (kept_entry a ps) (filter (before key) es) ++ map (kept_entry a ps) (filter (later key) es)
+  mapped_parts = ap (map (kept_entry a ps)) (sym parts) ∙ map-append (kept_entry a ps) (filter (before key) es) (filter (later key) es)
 
   in_front : AllByRecursion (λ (d : KeyVersions). byte_order key d.key ≡ Greater) (map (kept_entry a ps) (filter (before key) es))
   in_front = all_mapped (λ (d : KeyVersions). byte_order key d.key ≡ Greater) (kept_entry a ps) (filter (before key) es)
       (all_map (λ (e : Entry). before key e ≡ true) (λ (e : Entry). byte_order key e.key ≡ Greater) (λ e h. turned e.key key Less (less_is (byte_order e.key key) h)) (filter (before key) es) (all_filter_itself (before key) es))
 
-  in_back : AllByRecursion (λ (d : KeyVersions). byte_order key d.key ≡ Less) (map (kept_entry a ps) (filter (behind key) es))
-  in_back = all_mapped (λ (d : KeyVersions). byte_order key d.key ≡ Less) (kept_entry a ps) (filter (behind key) es)
-      (all_map (λ (e : Entry). behind key e ≡ true) (λ (e : Entry). byte_order key e.key ≡ Less) (λ e h. turned e.key key Greater (greater_is (byte_order e.key key) h)) (filter (behind key) es) (all_filter_itself (behind key) es))
+  in_back : AllByRecursion (λ (d : KeyVersions). byte_order key d.key ≡ Less) (map (kept_entry a ps) (filter (later key) es))
+  in_back = all_mapped (λ (d : KeyVersions). byte_order key d.key ≡ Less) (kept_entry a ps) (filter (later key) es)
+      (all_map (λ (e : Entry). later key e ≡ true) (λ (e : Entry). byte_order key e.key ≡ Less) (λ e h. turned e.key key Greater (greater_is (byte_order e.key key) h)) (filter (later key) es) (all_filter_itself (later key) es))
 
   fresh_is : (txn : ℕ) (w : Write) → w.key ≡ key → new_key txn w ≡ with_prepared (prepared_write txn w) (kept_entry b ps (entry key chain))
   fresh_is txn w is =
@@ -254,7 +254,7 @@ module _ (es : List Entry) (a b : Content) (ps : List PreparedNode) (key : List 
   left_out =
       let f = kept_entry b ps in
       let xs = filter (before key) es in
-      let ys = filter (behind key) es in
+      let ys = filter (later key) es in
       ap (filter is_used) (map-append f xs (entry key chain ∷ ys))
       ∙ filter-append is_used (map f xs) (f (entry key chain) ∷ map f ys)
       ∙ ap (λ (k : KeyVersions). filter is_used (map f xs) ++ cond (is_used k) (k ∷ filter is_used (map f ys)) (filter is_used (map f ys))) nothing
@@ -264,7 +264,7 @@ module _ (es : List Entry) (a b : Content) (ps : List PreparedNode) (key : List 
   pub slot_new : IsSlot es (with_entry es (entry key chain)) a b ps key chain
   slot_new = record {
     front = filter (before key) es;
-    back = filter (behind key) es;
+    back = filter (later key) es;
     whole = refl;
     keys = key_is;
     owned = owned_new;
@@ -273,7 +273,7 @@ module _ (es : List Entry) (a b : Content) (ps : List PreparedNode) (key : List 
     put = λ txn w is. (
         let f = kept_entry a ps in
         let xs = map f (filter (before key) es) in
-        let ys = map f (filter (behind key) es) in
+        let ys = map f (filter (later key) es) in
         let P : List ℕ → Type 0 = λ k. AllByRecursion (λ (d : KeyVersions). byte_order k d.key ≡ Greater) xs in
         let Q : List ℕ → Type 0 = λ k. AllByRecursion (λ (d : KeyVersions). byte_order k d.key ≡ Less) ys in
         ap (with_write txn w) mapped_parts ∙ with_write-between txn w xs ys (subst P (sym is) in_front) (subst Q (sym is) in_back) ∙ ap (λ (k : KeyVersions). xs ++ k ∷ ys) (fresh_is txn w is));

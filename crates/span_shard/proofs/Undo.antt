@@ -115,16 +115,16 @@ free_open txn tables ms cs key any free = all_weaker (λ (c : KeyVersions). is_t
 pub writes_open : (txn : ℕ) (tables : List Table) (ms : List CheckedMutation) (ws : List Write) (cs : List KeyVersions) → AllByRecursion (λ (w : Write). is_touched tables ms w.key ≡ true) ws → IsFree tables ms cs → AllByRecursion (λ w. IsOpenAt txn w.key cs) ws
 writes_open txn tables ms ws cs touched free = all_weaker (λ (w : Write). is_touched tables ms w.key ≡ true) (λ (w : Write). IsOpenAt txn w.key cs) (λ w any. free_open txn tables ms cs w.key any free) ws touched
 
-all_behind : {A : Type 0} (P : A → Type 0) (front rest : List A) → AllByRecursion P (front ++ rest) → AllByRecursion P rest
-all_behind P [] rest all = all
-all_behind P (x ∷ xs) rest all = all_behind P xs rest all.1
+all_following : {A : Type 0} (P : A → Type 0) (front rest : List A) → AllByRecursion P (front ++ rest) → AllByRecursion P rest
+all_following P [] rest all = all
+all_following P (x ∷ xs) rest all = all_following P xs rest all.1
 
 -- giving up some of the writes leaves what was
 pub given_back : (txn : ℕ) (tables : List Table) (ms : List CheckedMutation) (ws : List Write) (cs ds : List KeyVersions) → AllByRecursion IsInUse cs → HasNoneOf txn cs → IsFree tables ms cs
     → AllByRecursion (λ (w : Write). is_touched tables ms w.key ≡ true) ws → HasSomeOf txn ws cs ds → applied txn None ds ≡ cs
 given_back txn tables ms ws cs ds used none free touched some =
     let vacant : AllByRecursion (λ w. IsOpenAt txn w.key cs) (some.front ++ some.rest) = subst (AllByRecursion (λ w. IsOpenAt txn w.key cs)) (sym some.whole) (writes_open txn tables ms ws cs touched free) in
-    ap (applied txn None) some.put ∙ applied-with_writes txn some.rest cs (all_behind (λ w. IsOpenAt txn w.key cs) some.front some.rest vacant) ∙ applied-none txn cs used none
+    ap (applied txn None) some.put ∙ applied-with_writes txn some.rest cs (all_following (λ w. IsOpenAt txn w.key cs) some.front some.rest vacant) ∙ applied-none txn cs used none
 
 -- ---- every key stays in use
 

@@ -46,7 +46,7 @@ use Rattle.span_binder.specs.declared.bound.TypedQuery.{TypedQuery}
 use Rattle.span_binder.specs.declared.bound.BoundBlock.{BoundBlock}
 use Rattle.span_binder.specs.declared.bound.BoundBlocks.{BoundBlocks}
 use Rattle.span_binder.specs.Onward.{fold_results}
-use Rattle.span_binder.specs.Onward.{append_result as one_behind}
+use Rattle.span_binder.specs.Onward.{append_result as one_after}
 use Rattle.span_binder.specs.Sources.{no_names, scope_column, with_names, has_item, check_bool, condition, start_from, join_of, with_join, add_item}
 use Rattle.span_binder.specs.Outputs.{projection, or_nameless, projected_column, projected_columns, all_places, places_of, item_places, output_name, project_all, project_item, project_value, project_output, project_next, select_list}
 use Rattle.span_binder.specs.Aggregating.{mode_of}
@@ -128,18 +128,18 @@ module _ (params : List Parameter) (params_are : AreTyped params) where
       then_made (IsTyped (row_types scope m kinds)) (ShownAt scope m kinds) (column_at scope m place) (λ x. Ok (projection (or_nameless (slice_get scope.columns place)) x)) (column_at_right scope m kinds place within)
       (λ x x_is. shown_is (row_types scope m kinds) (or_nameless (slice_get scope.columns place)) x x_is)
 
-  all_behind : {A : Type 0} (P : A → Type 0) (xs : List A) (x : A) → AllOf P xs → P x → AllOf P (xs ++ x ∷ [])
-  all_behind P [] x all is = (is, tt {0})
-  all_behind P (y ∷ ys) x all is = (all.0, all_behind P ys x all.1 is)
+  all_following : {A : Type 0} (P : A → Type 0) (xs : List A) (x : A) → AllOf P xs → P x → AllOf P (xs ++ x ∷ [])
+  all_following P [] x all is = (is, tt {0})
+  all_following P (y ∷ ys) x all is = (all.0, all_following P ys x all.1 is)
 
   all_both : {A : Type 0} (P : A → Type 0) (xs ys : List A) → AllOf P xs → AllOf P ys → AllOf P (xs ++ ys)
   all_both P [] ys all more = more
   all_both P (x ∷ xs) ys all more = (all.0, all_both P xs ys all.1 more)
 
-  each_made : {A X : Type 0} (P : A → Type 0) (Q : X → Type 0) (f : X → Result A Refusal) → ((x : X) → Q x → Made P (f x)) → (xs : List X) (found : List A) → AllOf Q xs → AllOf P found → Made (AllOf P) (fold_results (one_behind f) xs found)
+  each_made : {A X : Type 0} (P : A → Type 0) (Q : X → Type 0) (f : X → Result A Refusal) → ((x : X) → Q x → Made P (f x)) → (xs : List X) (found : List A) → AllOf Q xs → AllOf P found → Made (AllOf P) (fold_results (one_after f) xs found)
   each_made P Q f right [] found all are = are
-  each_made P Q f right (x ∷ xs) found all are = go (f x) (right x all.0) (λ a a_is. each_made P Q f right xs (found ++ (a ∷ [])) all.1 (all_behind P found a are a_is)) where
-    go : (r : Result _ Refusal) → Made P r → ((a : _) → P a → Made (AllOf P) (fold_results (one_behind f) xs (found ++ (a ∷ [])))) → Made (AllOf P) (and_then (and_then r (λ a. Ok (found ++ (a ∷ [])))) (fold_results (one_behind f) xs))
+  each_made P Q f right (x ∷ xs) found all are = go (f x) (right x all.0) (λ a a_is. each_made P Q f right xs (found ++ (a ∷ [])) all.1 (all_following P found a are a_is)) where
+    go : (r : Result _ Refusal) → Made P r → ((a : _) → P a → Made (AllOf P) (fold_results (one_after f) xs (found ++ (a ∷ [])))) → Made (AllOf P) (and_then (and_then r (λ a. Ok (found ++ (a ∷ [])))) (fold_results (one_after f) xs))
     go (Ok a) is follows = follows a is
     go (Err why) is follows = tt {0}
 
@@ -387,9 +387,9 @@ module _ (params : List Parameter) (params_are : AreTyped params) where
     keys_are columns [] all = tt {0}
     keys_are columns (key ∷ keys) all = (subst (λ (n : ℕ). key.column < n) (sym (length-map columns output_type)) all.0, keys_are columns keys all.1)
 
-    pub query_behind_is : ((d : BoundQuery-F BoundQuery) (types : List Kind) → IsLayerOf gives leaves d types → gives (roll-BoundQuery d) types) → (b : BoundBlocks) (order : List SortKey) (limit : Option Limit) → AreBound b → Made IsBound (bind_query b order limit)
+    pub query_after_is : ((d : BoundQuery-F BoundQuery) (types : List Kind) → IsLayerOf gives leaves d types → gives (roll-BoundQuery d) types) → (b : BoundBlocks) (order : List SortKey) (limit : Option Limit) → AreBound b → Made IsBound (bind_query b order limit)
     unfolding bind_query are_union_compatible
-    query_behind_is makes b order limit are = go (list_all (λ (other : BoundBlock). have_same_kinds b.first.columns other.columns) b.others) (others_are b.first.columns b.others are.1) where
+    query_after_is makes b order limit are = go (list_all (λ (other : BoundBlock). have_same_kinds b.first.columns other.columns) b.others) (others_are b.first.columns b.others are.1) where
       go : (same : Bool) → (same ≡ true → AreBlocksOf gives leaves (blocks_of b.others) (output_types b.first.columns)) → Made IsBound (if same then and_then (sort_keys b.first.columns order) (λ keys. Ok (query_of b keys limit)) else Err ColumnsDiffer)
       go false others = tt {0}
       go true others =

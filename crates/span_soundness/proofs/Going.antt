@@ -76,9 +76,9 @@ module _ (types : List Kind) where
       subst (λ (o : Result (_ × List Aggregate) Refusal). Leads R found kinds o) (rejoined step xs (step a x found))
       (then_keeps R R kinds (step a x) (λ b. fold_steps step b xs) (keeps kinds a x all.0 is) (λ more b b_is. along_keeps R P step keeps xs all.1 (kinds ++ more) b b_is) found are)
 
-  one_behind : {A : Type 0} (P : A → Type 0) (xs : List A) (x : A) → AllOf P xs → P x → AllOf P (xs ++ x ∷ [])
-  one_behind P [] x all is = (is, tt {0})
-  one_behind P (y ∷ ys) x all is = (all.0, one_behind P ys x all.1 is)
+  one_after : {A : Type 0} (P : A → Type 0) (xs : List A) (x : A) → AllOf P xs → P x → AllOf P (xs ++ x ∷ [])
+  one_after P [] x all is = (is, tt {0})
+  one_after P (y ∷ ys) x all is = (all.0, one_after P ys x all.1 is)
 
   abbrev pub Each : {A : Type 0} → (List Kind → A → Type 0) → List Kind → List A → Type 0
   Each R kinds xs = AllOf (R kinds) xs
@@ -87,5 +87,5 @@ module _ (types : List Kind) where
   all_keep R P step keeps xs all kinds =
       along_keeps (Each R) P (append_step step)
       (λ ks os x x_is os_are. then_keeps R (Each R) ks (step x) (λ a. pure (os ++ (a ∷ []))) (keeps x x_is ks)
-      (λ more a a_is. given_keeps (Each R) (ks ++ more) (Ok (os ++ (a ∷ []))) (λ later. one_behind (R ((ks ++ more) ++ later)) os a (later_on (Each R) ks more os os_are later) (a_is later))))
+      (λ more a a_is. given_keeps (Each R) (ks ++ more) (Ok (os ++ (a ∷ []))) (λ later. one_after (R ((ks ++ more) ++ later)) os a (later_on (Each R) ks more os os_are later) (a_is later))))
       xs all kinds [] (λ later. tt {0})

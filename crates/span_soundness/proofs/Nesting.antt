@@ -33,7 +33,7 @@ use Rattle.span_binder.specs.Queries.{only_block, with_block, bind_query, ItemSt
 use Rattle.span_soundness.specs.Bindings.{table_types, AreTyped}
 use Rattle.span_soundness.specs.WellTyped.{leaf_types, IsLayerOf}
 use Rattle.span_soundness.proofs.Agreeing.{Made, AllOf}
-use Rattle.span_soundness.proofs.Blocks.{IsSource, IsFrom, IsBlock, IsBound, AreBound, started_is, extended_is, block_is, query_behind_is}
+use Rattle.span_soundness.proofs.Blocks.{IsSource, IsFrom, IsBlock, IsBound, AreBound, started_is, extended_is, block_is, query_after_is}
 
 module _ (schema : List Table) (all : List ℕ) where
   -- the leaves found so far are the first of all
@@ -73,15 +73,15 @@ module _ (schema : List Table) (all : List ℕ) where
   abbrev pub Leaves : List (List Kind)
   Leaves = map types_of_table all
 
-  leaf_behind : (xs : List ℕ) (n : ℕ) (later : List ℕ) → unwrap_or (slice_get (map types_of_table ((xs ++ n ∷ []) ++ later)) (length xs)) [] ≡ types_of_table n
-  leaf_behind [] n later = refl
-  leaf_behind (x ∷ xs) n later = leaf_behind xs n later
+  leaf_after : (xs : List ℕ) (n : ℕ) (later : List ℕ) → unwrap_or (slice_get (map types_of_table ((xs ++ n ∷ []) ++ later)) (length xs)) [] ≡ types_of_table n
+  leaf_after [] n later = refl
+  leaf_after (x ∷ xs) n later = leaf_after xs n later
 
   leaf_there : (found : List ℕ) (n : ℕ) → IsFront (found ++ n ∷ []) → leaf_types Leaves (length found + 1) ≡ types_of_table n
   leaf_there found n front =
       ap (λ (l : List ℕ). leaf_types (map types_of_table l) (length found + 1)) front.1
       ∙ ap (λ (i : ℕ). leaf_types (map types_of_table ((found ++ (n ∷ [])) ++ front.0)) i) {x = length found + 1} {y = suc (length found)} (omega arith)
-      ∙ leaf_behind found n front.0
+      ∙ leaf_after found n front.0
 
   module _ (params : List Parameter) (params_are : AreTyped params) (gives : BoundQuery → List Kind → Type 0) (makes : (d : BoundQuery-F BoundQuery) (types : List Kind) → IsLayerOf gives Leaves d types → gives (roll-BoundQuery d) types) where
     abbrev SourceIs : Source → Type 0
@@ -143,13 +143,13 @@ module _ (schema : List Table) (all : List ℕ) where
 
     -- ---- queries
 
-    all_behind : (xs : List BoundBlock) (x : BoundBlock) → AllOf BlockIs xs → BlockIs x → AllOf BlockIs (xs ++ x ∷ [])
-    all_behind [] x are is = (is, tt {0})
-    all_behind (y ∷ ys) x are is = (are.0, all_behind ys x are.1 is)
+    all_following : (xs : List BoundBlock) (x : BoundBlock) → AllOf BlockIs xs → BlockIs x → AllOf BlockIs (xs ++ x ∷ [])
+    all_following [] x are is = (is, tt {0})
+    all_following (y ∷ ys) x are is = (are.0, all_following ys x are.1 is)
 
     next_block_sound : (p : BoundBlocks × List ℕ) (b : BlockStep) → BlockSound b → (IsFront p.1 → BlocksAre p.0) → LeadsTo BlocksAre p.1 (next_block p b)
     next_block_sound p b b_is p_is = then_leads BlockIs BlocksAre p.1 (b p.1) (λ q. Ok (with_block p.0 q.0, q.1)) (b_is p.1)
-        (λ q back q_is. here_leads BlocksAre (with_block p.0 q.0) q.1 (λ front. ((p_is (back front)).0, all_behind p.0.others q.0 (p_is (back front)).1 (q_is front))))
+        (λ q back q_is. here_leads BlocksAre (with_block p.0 q.0) q.1 (λ front. ((p_is (back front)).0, all_following p.0.others q.0 (p_is (back front)).1 (q_is front))))
 
     blocks_sound : (first : BlockStep) (others : List BlockStep) (found : List ℕ) → BlockSound first → AllOf BlockSound others → LeadsTo BlocksAre found (blocks first others found)
     blocks_sound first others found first_is others_are = then_leads BlocksAre BlocksAre found (and_then (first found) (λ p. Ok (only_block p.0, p.1))) (fold_results next_block others)
@@ -158,7 +158,7 @@ module _ (schema : List Table) (all : List ℕ) where
 
     query_sound : (q : Query-F ItemStep BlockStep JoinStep QueryStep) → BlockSound q.first → AllOf BlockSound q.others → QuerySound (query_at q)
     query_sound q first_is others_are found = then_leads BlocksAre BoundIs found (blocks q.first q.others found) (λ p. and_then (bind_query p.0 q.order q.limit) (λ b. Ok (b, p.1))) (blocks_sound q.first q.others found first_is others_are)
-        (λ p back p_is. made_leads BoundIs (bind_query p.0 q.order q.limit) p.1 (λ front. query_behind_is params params_are gives Leaves makes p.0 q.order q.limit (p_is front)))
+        (λ p back p_is. made_leads BoundIs (bind_query p.0 q.order q.limit) p.1 (λ front. query_after_is params params_are gives Leaves makes p.0 q.order q.limit (p_is front)))
 
     -- ---- trees
 

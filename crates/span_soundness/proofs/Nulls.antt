@@ -80,30 +80,30 @@ opposite_null (value.Bool b) is = not_true is
 
 -- what two strings or two BYTES answer
 module _ (f : Value → Value → Outcome) (strings : (a b : List ℕ) → IsNullOnlyIf false (f (value.Str a) (value.Str b))) (bytes : (a b : List ℕ) → IsNullOnlyIf false (f (value.Bytes a) (value.Bytes b))) where
-  behind_string : (a : List ℕ) (w : Value) → is_of_kind kind.Str w ≡ true → IsNullOnlyIf (is_null w) (f (value.Str a) w)
-  behind_string a value.Null is = where_null (f (value.Str a) value.Null)
-  behind_string a (value.Str b) is = strings a b
-  behind_string a (value.Int n) is = not_true is
-  behind_string a (value.Bytes b) is = not_true is
-  behind_string a (value.Bool b) is = not_true is
+  after_string : (a : List ℕ) (w : Value) → is_of_kind kind.Str w ≡ true → IsNullOnlyIf (is_null w) (f (value.Str a) w)
+  after_string a value.Null is = where_null (f (value.Str a) value.Null)
+  after_string a (value.Str b) is = strings a b
+  after_string a (value.Int n) is = not_true is
+  after_string a (value.Bytes b) is = not_true is
+  after_string a (value.Bool b) is = not_true is
 
-  behind_bytes : (a : List ℕ) (w : Value) → is_of_kind kind.Bytes w ≡ true → IsNullOnlyIf (is_null w) (f (value.Bytes a) w)
-  behind_bytes a value.Null is = where_null (f (value.Bytes a) value.Null)
-  behind_bytes a (value.Bytes b) is = bytes a b
-  behind_bytes a (value.Int n) is = not_true is
-  behind_bytes a (value.Str b) is = not_true is
-  behind_bytes a (value.Bool b) is = not_true is
+  after_bytes : (a : List ℕ) (w : Value) → is_of_kind kind.Bytes w ≡ true → IsNullOnlyIf (is_null w) (f (value.Bytes a) w)
+  after_bytes a value.Null is = where_null (f (value.Bytes a) value.Null)
+  after_bytes a (value.Bytes b) is = bytes a b
+  after_bytes a (value.Int n) is = not_true is
+  after_bytes a (value.Str b) is = not_true is
+  after_bytes a (value.Bool b) is = not_true is
 
   string_null : (v w : Value) → is_of_kind kind.Str v ≡ true → is_of_kind kind.Str w ≡ true → IsNullOnlyIf (is_null v || is_null w) (f v w)
   string_null value.Null w v_is w_is = where_null (f value.Null w)
-  string_null (value.Str a) w v_is w_is = behind_string a w w_is
+  string_null (value.Str a) w v_is w_is = after_string a w w_is
   string_null (value.Int n) w v_is w_is = not_true v_is
   string_null (value.Bytes a) w v_is w_is = not_true v_is
   string_null (value.Bool b) w v_is w_is = not_true v_is
 
   bytes_null : (v w : Value) → is_of_kind kind.Bytes v ≡ true → is_of_kind kind.Bytes w ≡ true → IsNullOnlyIf (is_null v || is_null w) (f v w)
   bytes_null value.Null w v_is w_is = where_null (f value.Null w)
-  bytes_null (value.Bytes a) w v_is w_is = behind_bytes a w w_is
+  bytes_null (value.Bytes a) w v_is w_is = after_bytes a w w_is
   bytes_null (value.Int n) w v_is w_is = not_true v_is
   bytes_null (value.Str a) w v_is w_is = not_true v_is
   bytes_null (value.Bool b) w v_is w_is = not_true v_is

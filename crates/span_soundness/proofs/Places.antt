@@ -80,18 +80,18 @@ column_right scope m aggregates c = then_made (Within scope.columns) (IsTyped (r
 
 -- ---- a new aggregate
 
-behind_keys : (type_at : ℕ → Kind) (keys : List ℕ) (types : List Kind) (n : ℕ) (k : Kind) → is_some (slice_get types n) k ≡ true → is_some (slice_get (map type_at keys ++ types) (length keys + n)) k ≡ true
-behind_keys type_at [] types n k is = subst (λ (i : ℕ). is_some (slice_get types i) k ≡ true) {x = n} {y = 0 + n} (omega arith) is
-behind_keys type_at (p ∷ keys) types n k is =
-    subst (λ (i : ℕ). is_some (slice_get (type_at p ∷ (map type_at keys ++ types)) i) k ≡ true) {x = suc (length keys + n)} {y = length (p ∷ keys) + n} (omega arith) (behind_keys type_at keys types n k is)
+after_keys : (type_at : ℕ → Kind) (keys : List ℕ) (types : List Kind) (n : ℕ) (k : Kind) → is_some (slice_get types n) k ≡ true → is_some (slice_get (map type_at keys ++ types) (length keys + n)) k ≡ true
+after_keys type_at [] types n k is = subst (λ (i : ℕ). is_some (slice_get types i) k ≡ true) {x = n} {y = 0 + n} (omega arith) is
+after_keys type_at (p ∷ keys) types n k is =
+    subst (λ (i : ℕ). is_some (slice_get (type_at p ∷ (map type_at keys ++ types)) i) k ≡ true) {x = suc (length keys + n)} {y = length (p ∷ keys) + n} (omega arith) (after_keys type_at keys types n k is)
 
-behind_aggregates : (types : List Kind) (found : List Aggregate) (kinds : List Kind) (k : Kind) (later : List Kind) → AreAggregatesOf types found kinds → is_some (slice_get ((kinds ++ (k ∷ [])) ++ later) (length found)) k ≡ true
-behind_aggregates types [] [] k later are = is_same k
-behind_aggregates types [] (j ∷ js) k later are = absurd are
-behind_aggregates types (a ∷ found) [] k later are = absurd are
-behind_aggregates types (a ∷ found) (j ∷ js) k later are = behind_aggregates types found js k later are.1
+after_aggregates : (types : List Kind) (found : List Aggregate) (kinds : List Kind) (k : Kind) (later : List Kind) → AreAggregatesOf types found kinds → is_some (slice_get ((kinds ++ (k ∷ [])) ++ later) (length found)) k ≡ true
+after_aggregates types [] [] k later are = is_same k
+after_aggregates types [] (j ∷ js) k later are = absurd are
+after_aggregates types (a ∷ found) [] k later are = absurd are
+after_aggregates types (a ∷ found) (j ∷ js) k later are = after_aggregates types found js k later are.1
 
 pub aggregate_there : (scope : Scope) (found : List Aggregate) (kinds : List Kind) (k : Kind) (later : List Kind) → AreAggregatesOf (column_types scope) found kinds → is_of (row_types scope Groups ((kinds ++ (k ∷ [])) ++ later)) (expr.Column (length scope.keys + length found)) k ≡ true
 aggregate_there scope found kinds k later are =
     column_is (row_types scope Groups ((kinds ++ (k ∷ [])) ++ later)) (length scope.keys + length found) k
-    ∙ behind_keys (kind_at scope) scope.keys ((kinds ++ (k ∷ [])) ++ later) (length found) k (behind_aggregates (column_types scope) found kinds k later are)
+    ∙ after_keys (kind_at scope) scope.keys ((kinds ++ (k ∷ [])) ++ later) (length found) k (after_aggregates (column_types scope) found kinds k later are)

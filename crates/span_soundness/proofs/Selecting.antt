@@ -270,14 +270,14 @@ group_keys_are types [] [] rows are rows_are = (tt {0}, tt {0})
 group_keys_are types [] (k ∷ ks) rows are rows_are = absurd are
 group_keys_are types (p ∷ ps) keys rows are rows_are = distinct_rows keys (map (columns_at (p ∷ ps)) rows) (keys_are types (p ∷ ps) keys rows are rows_are)
 
-behind_key : (keys kinds : List Kind) (key : Row) (o : OrFault Row) → IsRowOf keys key → IsRowOrFault kinds o → IsRowOrFault (keys ++ kinds) (o >>= (λ vs. Some (key ++ vs)))
-behind_key keys kinds key (Some vs) key_is is = both_row keys kinds key vs key_is is
-behind_key keys kinds key None key_is is = tt {0}
+after_key : (keys kinds : List Kind) (key : Row) (o : OrFault Row) → IsRowOf keys key → IsRowOrFault kinds o → IsRowOrFault (keys ++ kinds) (o >>= (λ vs. Some (key ++ vs)))
+after_key keys kinds key (Some vs) key_is is = both_row keys kinds key vs key_is is
+after_key keys kinds key None key_is is = tt {0}
 
 groups_are : (types : List Kind) (g : Grouping) (keys kinds : List Kind) (rows : List Row) → AreColumnsOf types g.keys keys → AreAggregatesOf types g.aggregates kinds → AreRowsOf types rows → AreResultsOf (keys ++ kinds) (groups g rows)
 groups_are types g keys kinds rows columns is are = gathered_rows keys (keys ++ kinds) (λ key. option_map singleton (group_row g rows key)) (group_keys g.keys rows)
     (λ key key_is. only_row (keys ++ kinds) (group_row g rows key)
-    (behind_key keys kinds key (each (aggregate (rows_with g.keys key rows)) g.aggregates) key_is
+    (after_key keys kinds key (each (aggregate (rows_with g.keys key rows)) g.aggregates) key_is
     (aggregates_are types (rows_with g.keys key rows) g.aggregates kinds is (filtered_rows types (λ (row : Row). are_equal key (columns_at g.keys row)) rows are))))
     (group_keys_are types g.keys keys rows columns are)
 

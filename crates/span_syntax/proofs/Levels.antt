@@ -14,14 +14,14 @@ use Rattle.span_syntax.specs.Nests.{inner_at, at}
 before : (n : ℕ) → suc n - 1 ≡ n
 before n = omega arith
 
-pub behind_is : (l : Level) (text : List ℕ) (n : ℕ) → 0 < n → at l text (n - 1) ≡ inner_at l (after text n)
+pub deeper_is : (l : Level) (text : List ℕ) (n : ℕ) → 0 < n → at l text (n - 1) ≡ inner_at l (after text n)
 unfolding after
-behind_is l text zero h = absurd (omega arith)
-behind_is level.Expression text (suc n) h = ap (at level.Expression text) (before n)
-behind_is level.Negated text (suc n) h = ap (at level.Negated text) (before n)
-behind_is level.Signed text (suc n) h = ap (at level.Signed text) (before n)
+deeper_is l text zero h = absurd (omega arith)
+deeper_is level.Expression text (suc n) h = ap (at level.Expression text) (before n)
+deeper_is level.Negated text (suc n) h = ap (at level.Negated text) (before n)
+deeper_is level.Signed text (suc n) h = ap (at level.Signed text) (before n)
 
-pub gives_behind : (l : Level) (text : List ℕ) (n : ℕ) (ts : List Lexeme) (r : Result (Expr × Bor (List Lexeme)) SyntaxError) → 0 < n → Gives r ((at l text (n - 1)).read ts) → Gives r ((inner_at l (after text n)).read ts)
-gives_behind l text n ts r h g = subst (λ (p : Piece Expr). Gives r (p.read ts)) (behind_is l text n h) g
+pub gives_deeper : (l : Level) (text : List ℕ) (n : ℕ) (ts : List Lexeme) (r : Result (Expr × Bor (List Lexeme)) SyntaxError) → 0 < n → Gives r ((at l text (n - 1)).read ts) → Gives r ((inner_at l (after text n)).read ts)
+gives_deeper l text n ts r h g = subst (λ (p : Piece Expr). Gives r (p.read ts)) (deeper_is l text n h) g
 
-pub ruleset level_steps = (gives_behind)
+pub ruleset level_steps = (gives_deeper)

@@ -28,17 +28,17 @@ four_or_more x y w [] z = refl
 four_or_more x y w (v ∷ vs) z = refl
 
 -- three are two and one after them
-pub three_behind : (xs : List Typed) (z : Typed) → three_of (xs ++ (z ∷ [])) ≡ and_then (two_of xs) (λ p. Ok (p.0, p.1, z))
-three_behind [] z = refl
-three_behind (x ∷ []) z = refl
-three_behind (x ∷ y ∷ []) z = refl
-three_behind (x ∷ y ∷ w ∷ ws) z = four_or_more x y w ws z
+pub three_after : (xs : List Typed) (z : Typed) → three_of (xs ++ (z ∷ [])) ≡ and_then (two_of xs) (λ p. Ok (p.0, p.1, z))
+three_after [] z = refl
+three_after (x ∷ []) z = refl
+three_after (x ∷ y ∷ []) z = refl
+three_after (x ∷ y ∷ w ∷ ws) z = four_or_more x y w ws z
 
 -- two are one and one after it
-pub two_behind : (xs : List Typed) (z : Typed) → two_of (xs ++ (z ∷ [])) ≡ and_then (one_of xs) (λ x. Ok (x, z))
-two_behind [] z = refl
-two_behind (x ∷ []) z = refl
-two_behind (x ∷ y ∷ []) z = refl
-two_behind (x ∷ y ∷ w ∷ ws) z = refl
+pub two_after : (xs : List Typed) (z : Typed) → two_of (xs ++ (z ∷ [])) ≡ and_then (one_of xs) (λ x. Ok (x, z))
+two_after [] z = refl
+two_after (x ∷ []) z = refl
+two_after (x ∷ y ∷ []) z = refl
+two_after (x ∷ y ∷ w ∷ ws) z = refl
 
-pub ruleset counting = (two_behind, three_behind)
+pub ruleset counting = (two_after, three_after)

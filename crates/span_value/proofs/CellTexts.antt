@@ -128,28 +128,28 @@ put_is : (front w : List ℕ) (o : Option (List ℕ)) → put front o ≡ Some w
 put_is front w None e = absurd cc
 put_is front w (Some x) e = (x, refl, some_is (front ++ x) w e)
 
-double_halved_behind : (v : Bool) (bs w : List ℕ) → unescaped_after v bs ≡ Some w → escaped w ≡ (if v then 92 ∷ bs else bs)
+double_halved_after : (v : Bool) (bs w : List ℕ) → unescaped_after v bs ≡ Some w → escaped w ≡ (if v then 92 ∷ bs else bs)
 unfolding unescaped_after
-double_halved_behind false [] w e = ap escaped (sym (some_is [] w e)) ∙ double_nil
-double_halved_behind true [] w e = absurd cc
-double_halved_behind false (b ∷ bs) w e =
+double_halved_after false [] w e = ap escaped (sym (some_is [] w e)) ∙ double_nil
+double_halved_after true [] w e = absurd cc
+double_halved_after false (b ∷ bs) w e =
     elim (b == 92) as (λ v. (b == 92) ≡ v → escaped w ≡ b ∷ bs) [
-      | true ↦ λ q. double_halved_behind true bs w (sym (if_true (b == 92) (unescaped_after true bs) (put (b ∷ []) (unescaped bs)) q) ∙ e) ∙ ap (λ (n : ℕ). n ∷ bs) (sym (eqb-true b 92 q))
+      | true ↦ λ q. double_halved_after true bs w (sym (if_true (b == 92) (unescaped_after true bs) (put (b ∷ []) (unescaped bs)) q) ∙ e) ∙ ap (λ (n : ℕ). n ∷ bs) (sym (eqb-true b 92 q))
       | false ↦ λ q.
           let p = put_is (b ∷ []) w (unescaped bs) (sym (if_false (b == 92) (unescaped_after true bs) (put (b ∷ []) (unescaped bs)) q) ∙ e) in
-          ap escaped (sym p.2) ∙ double_other b p.0 (λ same. absurd (let t : (b == 92) ≡ true = eq-eqb b 92 same in cc)) ∙ ap (λ (n : List ℕ). b ∷ n) (double_halved_behind false bs p.0 p.1)
+          ap escaped (sym p.2) ∙ double_other b p.0 (λ same. absurd (let t : (b == 92) ≡ true = eq-eqb b 92 same in cc)) ∙ ap (λ (n : List ℕ). b ∷ n) (double_halved_after false bs p.0 p.1)
     ] refl
-double_halved_behind true (b ∷ bs) w e =
+double_halved_after true (b ∷ bs) w e =
     elim (b == 92) as (λ v. (b == 92) ≡ v → escaped w ≡ 92 ∷ b ∷ bs) [
       | true ↦ λ q.
           let p = put_is (92 ∷ []) w (unescaped bs) (sym (if_true (b == 92) (put (92 ∷ []) (unescaped bs)) None q) ∙ e) in
-          ap escaped (sym p.2) ∙ double_back p.0 ∙ ap (λ (n : List ℕ). 92 ∷ 92 ∷ n) (double_halved_behind false bs p.0 p.1) ∙ ap (λ (n : ℕ). 92 ∷ n ∷ bs) (sym (eqb-true b 92 q))
+          ap escaped (sym p.2) ∙ double_back p.0 ∙ ap (λ (n : List ℕ). 92 ∷ 92 ∷ n) (double_halved_after false bs p.0 p.1) ∙ ap (λ (n : ℕ). 92 ∷ n ∷ bs) (sym (eqb-true b 92 q))
       | false ↦ λ q. absurd (let t : None ≡ Some w = sym (if_false (b == 92) (put (92 ∷ []) (unescaped bs)) None q) ∙ e in cc)
     ] refl
 
 -- what is read was doubled
 pub doubled_halved : (bs w : List ℕ) → unescaped bs ≡ Some w → escaped w ≡ bs
-doubled_halved bs w e = double_halved_behind false bs w e
+doubled_halved bs w e = double_halved_after false bs w e
 
 pub halved_is : (text v w : List ℕ) → unescaped text ≡ Some v → escaped w ≡ text → v ≡ w
 halved_is text v w e h = some_is v w (sym e ∙ ap unescaped (sym h) ∙ halved_doubled w)

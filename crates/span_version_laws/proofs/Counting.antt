@@ -132,12 +132,12 @@ old_is_early h (c ∷ cs) =
     ∙ or_turned (has_early h cs) (nat_le c.timestamp h)
 
 -- an older version after others is left out where one of them is at or below the horizon
-upto_behind : (h : ℕ) (vs : List Version) (v : Version) → kept_upto h (vs ++ v ∷ []) ≡ cond (has_old h vs) (kept_upto h vs) (vs ++ kept_upto h (v ∷ []))
-upto_behind h [] v = refl
-upto_behind h (w ∷ vs) v = elim (nat_le w.timestamp h) as (λ b. cond b (kept_version w w.row) (w ∷ kept_upto h (vs ++ v ∷ []))
+upto_after : (h : ℕ) (vs : List Version) (v : Version) → kept_upto h (vs ++ v ∷ []) ≡ cond (has_old h vs) (kept_upto h vs) (vs ++ kept_upto h (v ∷ []))
+upto_after h [] v = refl
+upto_after h (w ∷ vs) v = elim (nat_le w.timestamp h) as (λ b. cond b (kept_version w w.row) (w ∷ kept_upto h (vs ++ v ∷ []))
     ≡ cond (b || has_old h vs) (cond b (kept_version w w.row) (w ∷ kept_upto h vs)) (w ∷ (vs ++ kept_upto h (v ∷ [])))) [
       | true ↦ refl
-      | false ↦ ap (λ (l : List Version). w ∷ l) (upto_behind h vs v) ∙ inside (has_old h vs)
+      | false ↦ ap (λ (l : List Version). w ∷ l) (upto_after h vs v) ∙ inside (has_old h vs)
     ]
   where
     inside : (b : Bool) → w ∷ cond b (kept_upto h vs) (vs ++ kept_upto h (v ∷ [])) ≡ cond b (w ∷ kept_upto h vs) (w ∷ (vs ++ kept_upto h (v ∷ [])))
@@ -235,7 +235,7 @@ kept_count h (c ∷ cs) up =
     ∙ ap (λ (b : Bool). length (kept h cs) + cond b 1 0) (first_kept h c cs up)
     ∙ ap (λ (n : ℕ). n + cond (nat_lt h c.timestamp || (is_some c.row && not (has_early h cs))) 1 0) (kept_count h cs up.1)
     ∙ by_early (has_early h cs) refl
-    ∙ ap length (sym (upto_behind h (newest_first cs) (version_of c)))
+    ∙ ap length (sym (upto_after h (newest_first cs) (version_of c)))
   where
     by_early : (b : Bool) → has_early h cs ≡ b → length (kept_upto h (newest_first cs)) + cond (nat_lt h c.timestamp || (is_some c.row && not b)) 1 0
         ≡ length (cond (has_old h (newest_first cs)) (kept_upto h (newest_first cs)) (newest_first cs ++ kept_upto h (version_of c ∷ [])))

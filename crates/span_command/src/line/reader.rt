@@ -72,7 +72,7 @@ impl Lines {
         self.let_go();
         self.move_to_front();
         self.make_room()?;
-        let count = read_behind(input, &mut self.buffer, self.end)?;
+        let count = read_after(input, &mut self.buffer, self.end)?;
         if count == 0 {
             self.has_ended = true;
             return Ok(());
@@ -145,7 +145,7 @@ impl Lines {
 
     /// Takes what was searched as a line; the next begins at `next`.
     fn pass(&mut self, next: usize)
-        requires behind { self.old.searched ≤ next }
+        requires following { self.old.searched ≤ next }
         requires within { next ≤ self.old.end }
         ensures taken { slice_range self.new.buffer.items self.new.taken_from self.new.taken_to
             ≡ slice_range self.old.buffer.items self.old.start self.old.searched }
@@ -174,11 +174,7 @@ impl Lines {
 }
 
 /// Reads once into the buffer, after a front that stays.
-fn read_behind<I: Input>(
-    input: &mut I,
-    buffer: &mut Vec<u8>,
-    front: usize,
-) -> Result<usize, Refusal>
+fn read_after<I: Input>(input: &mut I, buffer: &mut Vec<u8>, front: usize) -> Result<usize, Refusal>
     requires { front < vec_len buffer.old }
     ensures front { take front buffer.new.items ≡ take front buffer.old.items }
     ensures fits { IfOk result (λ n. front + n ≤ vec_len buffer.new) }

@@ -1,7 +1,7 @@
 use Rattle.std.proofs.Common.{sym, ◌∙◌, arith, ◌<◌, length}
 use Rattle.std.proofs.lemmas.List.{get_or_default}
 use Rattle.span_arena.specs.Runs.{blank}
-use Rattle.span_arena.proofs.Cutting.{cut_in_range, cut_here, cut_more, cut_behind, cut_before}
+use Rattle.span_arena.proofs.Cutting.{cut_in_range, cut_here, cut_more, cut_after, cut_before}
 use Rattle.span_arena.proofs.cut.cut_at.Goals as goal
 
 pub index-node-requires : goal.index-node-requires
@@ -26,7 +26,7 @@ returns-then-node-horizon c =
     record {
       within = omega (arith, c.loop-kept-test.true);
       here = rw e (sym (cut_here _ _ _ c.args.horizon c.requires _ _ c.loop-kept-test.true c.loop-kept.invariant.here));
-      same = cut_behind _ _ _ c.args.horizon c.requires _ _ c.loop-kept-test.true c.loop-kept.invariant.here c.loop-kept.invariant.same (rw e at c.if-node-horizon.true) (rw (e, c.if-is_none.false) at c.is_none.ensures);
+      same = cut_after _ _ _ c.args.horizon c.requires _ _ c.loop-kept-test.true c.loop-kept.invariant.here c.loop-kept.invariant.same (rw e at c.if-node-horizon.true) (rw (e, c.if-is_none.false) at c.is_none.ensures);
     }
 
 pub loop-kept-preserved : goal.loop-kept-preserved

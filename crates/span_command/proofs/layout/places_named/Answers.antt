@@ -12,7 +12,7 @@ loop-name-init c = (c.utf8.names, rw c.new-places.ensures.items (none_found (col
 pub loop-name-preserved : goal.loop-name-preserved
 loop-name-preserved c =
     let grown : c.push.new.self.items ≡ c.loop-name.places.items ++ c.in_ok-new_place.field-0 ∷ [] = c.in_ok-push.ensures.items in
-    let more : Found (columns_of c.args.schema.now c.args.table) c.args.names.now (c.loop-name.places.items ++ c.in_ok-new_place.field-0 ∷ []) c.in-Some.behind.now = one_more (columns_of c.args.schema.now c.args.table) c.args.names.now c.loop-name.places.items c.loop-name.rest.now c.in-Some.name.now c.in-Some.behind.now c.in_ok-new_place.field-0 c.loop-name.invariant.1 c.in-Some.ensures.cut c.in_ok-new_place.ensures.place (rw c.as_slice.ensures.value at c.in_ok-new_place.ensures.new) in
+    let more : Found (columns_of c.args.schema.now c.args.table) c.args.names.now (c.loop-name.places.items ++ c.in_ok-new_place.field-0 ∷ []) c.in-Some.following.now = one_more (columns_of c.args.schema.now c.args.table) c.args.names.now c.loop-name.places.items c.loop-name.rest.now c.in-Some.name.now c.in-Some.following.now c.in_ok-new_place.field-0 c.loop-name.invariant.1 c.in-Some.ensures.cut c.in_ok-new_place.ensures.place (rw c.as_slice.ensures.value at c.in_ok-new_place.ensures.new) in
     (search rules, rw grown more)
 
 pub returns-clause-places : goal.returns-clause-places
@@ -23,7 +23,7 @@ returns-clause-places c =
 pub returns-in_err-new_place-clause-refusals : goal.returns-in_err-new_place-clause-refusals
 returns-in_err-new_place-clause-refusals c =
     let unplaced : IsUnplaced (columns_of c.args.schema.now c.args.table) c.loop-name.places.items c.in-Some.name.now = rw c.as_slice.ensures.value at c.in_err-new_place.ensures.refusals.1 in
-    let none = no_place (columns_of c.args.schema.now c.args.table) c.args.names.now c.loop-name.places.items c.loop-name.rest.now c.in-Some.name.now (pieces c.in-Some.behind.now) c.loop-name.invariant.1 c.in-Some.ensures.cut unplaced in
+    let none = no_place (columns_of c.args.schema.now c.args.table) c.args.names.now c.loop-name.places.items c.loop-name.rest.now c.in-Some.name.now (pieces c.in-Some.following.now) c.loop-name.invariant.1 c.in-Some.ensures.cut unplaced in
     let told = err_from_is_err_and c.from_residual.result c.from_residual.ensures.1 in
     rw (told.1, told.2) (inr (c.in_err-new_place.ensures.refusals.0, none))
 

@@ -10,6 +10,6 @@ use Rattle.span_mutate.proofs.row.with_row.Given as goal
 abbrev pub invariant-loop-old : goal.invariant-loop-old
 invariant-loop-old l = record {
   front : l.front.items ++ filter (λ (q : TableRow). is_lt (row_order l.columns q l.row)) (into_iter_items l.old-iterator) ≡ filter (λ (q : TableRow). is_lt (row_order l.columns q l.row)) l.fn.rows.items;
-  behind : l.behind.items ++ filter (λ (q : TableRow). is_gt (row_order l.columns q l.row)) (into_iter_items l.old-iterator) ≡ filter (λ (q : TableRow). is_gt (row_order l.columns q l.row)) l.fn.rows.items;
+  later : l.later.items ++ filter (λ (q : TableRow). is_gt (row_order l.columns q l.row)) (into_iter_items l.old-iterator) ≡ filter (λ (q : TableRow). is_gt (row_order l.columns q l.row)) l.fn.rows.items;
   count : into_iter_len l.old-iterator ≡ length (into_iter_items l.old-iterator);
 }

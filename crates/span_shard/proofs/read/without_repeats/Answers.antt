@@ -11,9 +11,9 @@ loop-row-preserved-in-Continue-branch-2 c =
     let tables = c.args.schema.now in
     let once = c.loop-row.once.items in
     let next = c.in-Some.ensures.steps in
-    let behind : is_after_last tables (slice_get once (length once - 1)) c.in-Some.row ≡ true =
+    let later : is_after_last tables (slice_get once (length once - 1)) c.in-Some.row ≡ true =
     ap (λ (o : Option TableRow). is_after_last tables o c.in-Some.row) (sym (c.last.ensures.value ∙ ap (λ (l : List TableRow). slice_get l (length l - 1)) c.deref.ensures.value)) ∙ sym c.is_after_last.ensures ∙ c.if-is_after_last.true in
     record {
-      so_far = once_pushed tables once c.push.new.self.items c.in-Some.row (into_iter_items c.loop-row.row-iterator) (into_iter_items c.next.new.self) _ c.in_ok-push.ensures.items next.0 behind c.loop-row.invariant.so_far;
+      so_far = once_pushed tables once c.push.new.self.items c.in-Some.row (into_iter_items c.loop-row.row-iterator) (into_iter_items c.next.new.self) _ c.in_ok-push.ensures.items next.0 later c.loop-row.invariant.so_far;
       count = omega (arith, ap length next.0, next.1, c.loop-row.invariant.count);
     }

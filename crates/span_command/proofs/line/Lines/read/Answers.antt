@@ -14,14 +14,14 @@ with_room old less front wide known text gone moved grown stood =
 pub invariant_of-self : goal.invariant_of-self
 invariant_of-self g c =
     let lines = c.make_room.new.self in
-    let read = c.read_behind.ensures in
+    let read = c.read_after.ensures in
     record {
       taken_in_order = lines.taken_in_order;
       taken_before = lines.taken_before;
       in_order = lines.in_order;
       searched_within = lines.searched_within;
       within = omega (arith, lines.within, read.len);
-      no_lf = still_none lines.buffer.items c.read_behind.new.buffer.items lines.start lines.searched lines.end read.front lines.searched_within lines.no_lf;
+      no_lf = still_none lines.buffer.items c.read_after.new.buffer.items lines.start lines.searched lines.end read.front lines.searched_within lines.no_lf;
     }
 
 pub returns-in_err-count-clause-stands : goal.returns-in_err-count-clause-stands
@@ -29,21 +29,21 @@ returns-in_err-count-clause-stands g c =
     let lines = c.make_room.new.self in
     let before = g.I.Input.remaining c.args.input.now in
     λ text stood.
-    failed lines.is_cut lines.has_ended lines.buffer.items c.read_behind.new.buffer.items lines.start lines.end text before (g.I.Input.remaining c.read_behind.new.input)
-    c.read_behind.ensures.front c.in_err-count.ensures.kept
+    failed lines.is_cut lines.has_ended lines.buffer.items c.read_after.new.buffer.items lines.start lines.end text before (g.I.Input.remaining c.read_after.new.input)
+    c.read_after.ensures.front c.in_err-count.ensures.kept
     (with_room c.args.self.now c.let_go.new.self c.move_to_front.new.self lines before text c.let_go.ensures c.move_to_front.ensures c.make_room.ensures.same stood)
 
 pub invariant_of-self-then-count-eq0 : goal.invariant_of-self-then-count-eq0
 invariant_of-self-then-count-eq0 g c =
     let lines = c.make_room.new.self in
-    let read = c.read_behind.ensures in
+    let read = c.read_after.ensures in
     record {
       taken_in_order = lines.taken_in_order;
       taken_before = lines.taken_before;
       in_order = lines.in_order;
       searched_within = lines.searched_within;
       within = omega (arith, lines.within, read.len);
-      no_lf = still_none lines.buffer.items c.read_behind.new.buffer.items lines.start lines.searched lines.end read.front lines.searched_within lines.no_lf;
+      no_lf = still_none lines.buffer.items c.read_after.new.buffer.items lines.start lines.searched lines.end read.front lines.searched_within lines.no_lf;
     }
 
 pub returns-then-count-eq0-clause-stands : goal.returns-then-count-eq0-clause-stands
@@ -51,15 +51,15 @@ returns-then-count-eq0-clause-stands g c =
     let lines = c.make_room.new.self in
     let before = g.I.Input.remaining c.args.input.now in
     λ text stood.
-    came lines.is_cut lines.has_ended true lines.buffer.items c.read_behind.new.buffer.items lines.start lines.end c.in_ok-count.count lines.end text before
-    (g.I.Input.remaining c.read_behind.new.input) c.read_behind.ensures.front (omega (arith, lines.in_order, lines.searched_within)) (omega (arith, c.if-count-eq0.true))
+    came lines.is_cut lines.has_ended true lines.buffer.items c.read_after.new.buffer.items lines.start lines.end c.in_ok-count.count lines.end text before
+    (g.I.Input.remaining c.read_after.new.input) c.read_after.ensures.front (omega (arith, lines.in_order, lines.searched_within)) (omega (arith, c.if-count-eq0.true))
     c.in_ok-count.ensures.bytes (λ ended. inl (c.in_ok-count.ensures.end c.if-count-eq0.true))
     (with_room c.args.self.now c.let_go.new.self c.move_to_front.new.self lines before text c.let_go.ensures c.move_to_front.ensures c.make_room.ensures.same stood)
 
 pub returns-then-count-eq0-clause-advances : goal.returns-then-count-eq0-clause-advances
 returns-then-count-eq0-clause-advances g c =
-    ends (g.I.Input.remaining c.args.input.now) (g.I.Input.remaining c.read_behind.new.input)
-    (take c.in_ok-count.count (drop c.make_room.new.self.end c.read_behind.new.buffer.items)) c.in_ok-count.ensures.bytes
+    ends (g.I.Input.remaining c.args.input.now) (g.I.Input.remaining c.read_after.new.input)
+    (take c.in_ok-count.count (drop c.make_room.new.self.end c.read_after.new.buffer.items)) c.in_ok-count.ensures.bytes
 
 pub invariant_of-self-2 : goal.invariant_of-self-2
 invariant_of-self-2 g c =
@@ -70,7 +70,7 @@ invariant_of-self-2 g c =
       in_order = lines.in_order;
       searched_within = omega (arith, lines.searched_within);
       within = c.in_ok-count.ensures.fits;
-      no_lf = still_none lines.buffer.items c.read_behind.new.buffer.items lines.start lines.searched lines.end c.read_behind.ensures.front lines.searched_within lines.no_lf;
+      no_lf = still_none lines.buffer.items c.read_after.new.buffer.items lines.start lines.searched lines.end c.read_after.ensures.front lines.searched_within lines.no_lf;
     }
 
 pub returns-clause-stands : goal.returns-clause-stands
@@ -78,17 +78,17 @@ returns-clause-stands g c =
     let lines = c.make_room.new.self in
     let before = g.I.Input.remaining c.args.input.now in
     λ text stood.
-    came lines.is_cut lines.has_ended lines.has_ended lines.buffer.items c.read_behind.new.buffer.items lines.start lines.end c.in_ok-count.count (lines.end + c.in_ok-count.count) text before
-    (g.I.Input.remaining c.read_behind.new.input) c.read_behind.ensures.front (omega (arith, lines.in_order, lines.searched_within)) refl
+    came lines.is_cut lines.has_ended lines.has_ended lines.buffer.items c.read_after.new.buffer.items lines.start lines.end c.in_ok-count.count (lines.end + c.in_ok-count.count) text before
+    (g.I.Input.remaining c.read_after.new.input) c.read_after.ensures.front (omega (arith, lines.in_order, lines.searched_within)) refl
     c.in_ok-count.ensures.bytes (λ ended. inr ended)
     (with_room c.args.self.now c.let_go.new.self c.move_to_front.new.self lines before text c.let_go.ensures c.move_to_front.ensures c.make_room.ensures.same stood)
 
 pub returns-clause-advances : goal.returns-clause-advances
 returns-clause-advances g c =
     let lines = c.make_room.new.self in
-    let buffer = c.read_behind.new.buffer in
+    let buffer = c.read_after.new.buffer in
     let count = c.in_ok-count.count in
     let room : count ≤ length (drop lines.end buffer.items) = omega (arith, length-drop lines.end buffer.items, c.in_ok-count.ensures.fits, buffer.ok) in
     let some : 0 < length (take count (drop lines.end buffer.items)) = omega (arith, length-take-le count (drop lines.end buffer.items) room, c.if-count-eq0.false) in
-    goes_on lines.has_ended (g.I.Input.remaining c.args.input.now) (g.I.Input.remaining c.read_behind.new.input)
+    goes_on lines.has_ended (g.I.Input.remaining c.args.input.now) (g.I.Input.remaining c.read_after.new.input)
     (take count (drop lines.end buffer.items)) c.in_ok-count.ensures.bytes some

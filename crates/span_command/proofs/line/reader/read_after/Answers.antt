@@ -1,6 +1,6 @@
 use Rattle.std.proofs.Common.{take, ap, ◌∙◌, rules}
 use Rattle.std.proofs.lemmas.List.{with_items_is, places}
-use Rattle.span_command.proofs.line.reader.read_behind.Goals as goal
+use Rattle.span_command.proofs.line.reader.read_after.Goals as goal
 
 pub returns-clause-front : goal.returns-clause-front
 returns-clause-front g c =
