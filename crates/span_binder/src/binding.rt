@@ -9,7 +9,7 @@ ghost use Rattle.span_binder.specs.Sources.{AreTables, HasTables};
 ghost use Rattle.span_binder.specs.Queries as spec;
 
 use super::block::bind_block;
-use super::bound::{BoundBlock, BoundBlocks, FromItems, Source, TypedQuery, pair_with};
+use super::bound::{BoundBlock, BoundBlocks, FromItems, Source, TypedQuery};
 use super::join::{add_item, start_from};
 use super::order::{bind_query, only_block, with_block};
 use super::source::{derived_source, named_source};
@@ -17,6 +17,7 @@ use span_params::params::Params;
 use span_parser::tree;
 use span_query::query::Statement;
 use span_schema::schema::Schema;
+use span_typing::step::pair_with;
 use span_value::refusal::Refusal;
 use span_value::seq::Seq;
 use std::alloc::Global;

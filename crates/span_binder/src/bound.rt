@@ -1,11 +1,7 @@
 //! The intermediate results of the binder.
-ghost use Rattle.std.specs.Prelude.{◌≡◌, Ok};
-ghost use Rattle.span_value.specs.Results.{and_then};
-
 use span_expr::expr::Expr;
 use span_query::query::{Aggregate, Block, BoundQuery, Item, Join, OutputColumn};
 use span_typing::scope::Scope;
-use span_value::refusal::Refusal;
 use span_value::seq::Seq;
 use span_value::text::Text;
 use sqlite_items::Items;
@@ -63,18 +59,4 @@ pub struct BoundBlocks {
 pub struct TypedQuery {
     pub query: BoundQuery,
     pub columns: Seq<OutputColumn>,
-}
-
-/// What was made before, and what was found after it.
-///
-/// Where that is refused, `before` is dropped here, at any type: to prove that the drop of a tree is safe takes long, at each place where
-/// a tree may be dropped. So this takes the result of the function that is called after `before` was made.
-pub(crate) fn pair_with<A: Drop, B: Drop>(
-    before: A,
-    found: Result<B, Refusal>,
-) -> Result<(A, B), Refusal>
-    ensures { result ≡ and_then found (λ after. Ok (before, after)) }
-{
-    let after = found?;
-    Ok((before, after))
 }

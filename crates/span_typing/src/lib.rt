@@ -9,6 +9,6 @@ pub mod leaf;
 mod operand;
 mod operator;
 pub mod scope;
-mod step;
+pub mod step;
 pub mod typed;
 pub mod typing;

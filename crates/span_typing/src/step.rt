@@ -15,7 +15,7 @@ use std::alloc::{AllocError, Global};
 ///
 /// It takes the result itself, not its value: the refusal drops `first` here, and a caller that owns a tree needs no
 /// other `?`.
-pub(crate) fn pair_with<A: Drop, B>(first: A, second: Result<B, Refusal>) -> Result<(A, B), Refusal>
+pub fn pair_with<A: Drop, B>(first: A, second: Result<B, Refusal>) -> Result<(A, B), Refusal>
     ensures { result ≡ and_then second (λ y. Ok (first, y)) }
 {
     let second = second?;
