@@ -1,3 +1,1 @@
-pub mod Begun
-pub mod Ends
 pub mod Shards

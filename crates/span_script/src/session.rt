@@ -1,13 +1,10 @@
 //! What a script has set and gathered, and its commands done one after another.
-ghost use Rattle.std.specs.Prelude.{◌≡◌, ◌⊎◌, ◌++◌, List, None, is_some, IfErr, IfOk, IfSome, IsOkUnless, OnOk};
+ghost use Rattle.std.specs.Prelude.{List, IfSome, IsOkUnless};
 ghost use Rattle.span_schema.specs.declared.table.Table.{Table};
 ghost use Rattle.span_machine.specs.Run.{IsOfSchema};
-ghost use Rattle.span_script.specs.Lines.{reply_text, Begins};
-ghost use Rattle.span_script.specs.Reports.{AreAnswered};
 ghost use Rattle.span_script.specs.Sessions.{IsFresh};
 
 use super::answer::Answers;
-use super::report::Refused;
 use csv::StringRecord;
 use span_command::command::{Command, read_command};
 use span_command::layout::Layout;
@@ -41,8 +38,8 @@ pub struct Session {
 /// A load between its first line and its `end`.
 #[derive(Drop)]
 struct Load {
-    /// How its records are read, or where and why it is refused, which is answered at its end.
-    layout: Result<Layout, Refused>,
+    /// How its records are read, or why it will be refused.
+    layout: Result<Layout, Refusal>,
     /// How many mutations were gathered before it.
     before: usize,
 }
@@ -64,126 +61,80 @@ impl Session {
         }
     }
 
-    /// Does what a line of this number asks for, and adds its answer. Returns the refused command that was answered so, if one was.
-    /// `OutOfMemory` where memory runs out for the answer.
-    #[tactic(auto, using(crate::proofs::Begun::front_taken))]
+    /// Does what a line asks for, and adds its answer. `OutOfMemory` where memory runs out for the answer.
     pub fn take_line(
         &mut self,
         alloc: Global,
         core: &mut Core,
-        number: u64,
         line: Line<'_>,
         answers: &mut Answers,
-    ) -> Result<Option<Refused>, Refusal>
-        ensures answered { IfOk result (AreAnswered answers.old answers.new) }
-        ensures here { self.old.load ≡ None → IfOk result (λ refused. IfSome refused (λ refused. refused.line ≡ number)) }
-        ensures memory { IsOkUnless result Refusal.OutOfMemory }
+    ) -> Result<(), Refusal>
+        ensures { IsOkUnless result Refusal.OutOfMemory }
     {
         let before = answers.len();
-        match self.answer_line(alloc, core, number, line, answers) {
-            Ok(()) => Ok(None),
-            Err(refused) => {
+        match self.answer_line(alloc, core, line, answers) {
+            Ok(()) => Ok(()),
+            Err(why) => {
                 answers.cut(before);
-                answers.refusal_line(refused.why)?;
-                Ok(Some(refused))
+                answers.refusal_line(why)
             }
         }
     }
 
-    /// The end of the script, after the line of this number: a load without its `end` is refused.
-    #[tactic(auto, using(crate::proofs::Begun::begins_itself))]
-    pub fn finish(&mut self, number: u64, answers: &mut Answers) -> Result<Option<Refused>, Refusal>
-        ensures answered { IfOk result (AreAnswered answers.old answers.new) }
-        ensures last { IfOk result (λ refused. IfSome refused (λ refused. (refused.why ≡ Refusal.BadCommand) × (refused.line ≡ number))) }
-        ensures unread { IfOk result (λ refused. is_some refused ≡ is_some self.old.load) }
-        ensures memory { IsOkUnless result Refusal.OutOfMemory }
+    /// The end of the script: a load without its `end` is refused.
+    pub fn finish(&mut self, answers: &mut Answers) -> Result<(), Refusal>
+        ensures { IsOkUnless result Refusal.OutOfMemory }
     {
         match self.load.take() {
             Some(load) => {
                 self.gathered.truncate(load.before);
-                answers.refusal_line(Refusal::BadCommand)?;
-                Ok(Some(Refused {
-                    line: number,
-                    why: Refusal::BadCommand,
-                }))
+                answers.refusal_line(Refusal::BadCommand)
             }
-            None => Ok(None),
+            None => Ok(()),
         }
     }
 
-    /// Adds the answer of a line, or answers where and why its command is refused.
-    #[tactic(auto, using(crate::proofs::Begun::begins_itself, crate::proofs::Begun::begins_on))]
     fn answer_line(
         &mut self,
         alloc: Global,
         core: &mut Core,
-        number: u64,
         line: Line<'_>,
         answers: &mut Answers,
-    ) -> Result<(), Refused>
-        ensures grows { Begins answers.old answers.new }
-        ensures here { self.old.load ≡ None → IfErr result (λ refused. refused.line ≡ number) }
-    {
+    ) -> Result<(), Refusal> {
         match self.load.take() {
-            Some(load) => self.load_line(alloc, load, number, line, answers),
-            None => match self.command_line(alloc, core, number, line, answers) {
-                Ok(()) => Ok(()),
-                Err(why) => Err(Refused { line: number, why }),
+            Some(load) => self.load_line(alloc, load, line, answers),
+            None => match line {
+                Line::Text(text) => self.answer_text(alloc, core, text, answers),
+                Line::Unreadable => Err(Refusal::BadCommand),
             },
         }
     }
 
-    /// A line that is in no load.
-    #[tactic(auto, using(crate::proofs::Begun::begins_itself, crate::proofs::Begun::begins_on))]
-    fn command_line(
-        &mut self,
-        alloc: Global,
-        core: &mut Core,
-        number: u64,
-        line: Line<'_>,
-        answers: &mut Answers,
-    ) -> Result<(), Refusal>
-        ensures { Begins answers.old answers.new }
-    {
-        match line {
-            Line::Text(text) => self.answer_text(alloc, core, number, text, answers),
-            Line::Unreadable => Err(Refusal::BadCommand),
-        }
-    }
-
     /// Does the command of a line; empty lines and remarks have none.
-    #[tactic(auto, using(crate::proofs::Begun::begins_itself, crate::proofs::Begun::begins_on))]
     fn answer_text(
         &mut self,
         alloc: Global,
         core: &mut Core,
-        number: u64,
         text: &str,
         answers: &mut Answers,
-    ) -> Result<(), Refusal>
-        ensures { Begins answers.old answers.new }
-    {
+    ) -> Result<(), Refusal> {
         if text.is_empty() || text.starts_with('#') {
             return Ok(());
         }
         match read_command(text) {
-            Some(command) => self.answer(alloc, core, number, command, answers),
+            Some(command) => self.answer(alloc, core, command, answers),
             None => Err(Refusal::BadCommand),
         }
     }
 
     /// Does a command, and adds its answer.
-    #[tactic(auto, using(crate::proofs::Begun::begins_itself, crate::proofs::Begun::begins_on))]
     fn answer(
         &mut self,
         alloc: Global,
         core: &mut Core,
-        number: u64,
         command: Command<'_>,
         answers: &mut Answers,
-    ) -> Result<(), Refusal>
-        ensures { Begins answers.old answers.new }
-    {
+    ) -> Result<(), Refusal> {
         match command {
             Command::Clock { earliest, latest } => {
                 self.clock = Interval::new(earliest, latest)?;
@@ -209,18 +160,20 @@ impl Session {
                 answers.word_line("ok")
             }
             Command::Load { table, columns } => {
-                let layout = Layout::of_columns(alloc, core.schema(), table, columns);
-                self.begin_load(number, layout);
+                self.load = Some(Load {
+                    layout: Layout::of_columns(alloc, core.schema(), table, columns),
+                    before: self.gathered.len(),
+                });
                 Ok(())
             }
             Command::Begin => self.begin(alloc, core, answers),
             Command::Open { bound, text } => {
                 let reply = self.open(alloc, core, bound, text)?;
-                add_reply(alloc, &reply, answers)
+                answers.reply(alloc, &reply)
             }
             Command::Query { bound, text } => {
                 let reply = self.query(alloc, core, bound, text)?;
-                add_reply(alloc, &reply, answers)
+                answers.reply(alloc, &reply)
             }
             Command::Shards => answers.slots(core),
             command => self.answer_numbered(alloc, core, command, answers),
@@ -228,20 +181,17 @@ impl Session {
     }
 
     /// Does a command that is one step of numbers alone.
-    #[tactic(auto, using(crate::proofs::Begun::begins_itself, crate::proofs::Begun::begins_on))]
     fn answer_numbered(
         &mut self,
         alloc: Global,
         core: &mut Core,
         command: Command<'_>,
         answers: &mut Answers,
-    ) -> Result<(), Refusal>
-        ensures { Begins answers.old answers.new }
-    {
+    ) -> Result<(), Refusal> {
         match step_of(command, self.clock) {
             Some(step) => {
                 let reply = core.step(alloc, step);
-                add_reply(alloc, &reply, answers)
+                answers.reply(alloc, &reply)
             }
             None => Err(Refusal::BadCommand),
         }
@@ -273,45 +223,29 @@ impl Session {
         Ok(())
     }
 
-    /// Begins the load of this line.
-    fn begin_load(&mut self, number: u64, layout: Result<Layout, Refusal>) {
-        let layout = match layout {
-            Ok(layout) => Ok(layout),
-            Err(why) => Err(Refused { line: number, why }),
-        };
-        self.load = Some(Load {
-            layout,
-            before: self.gathered.len(),
-        });
-    }
-
     /// Takes a line of a load. Its answer comes with its `end`.
-    #[tactic(auto, using(crate::proofs::Begun::begins_itself, crate::proofs::Begun::begins_on))]
     fn load_line(
         &mut self,
         alloc: Global,
         load: Load,
-        number: u64,
         line: Line<'_>,
         answers: &mut Answers,
-    ) -> Result<(), Refused>
-        ensures { Begins answers.old answers.new }
-    {
+    ) -> Result<(), Refusal> {
         match line {
-            Line::Text("end") => self.end_load(load, number, answers),
+            Line::Text("end") => self.end_load(load, answers),
             Line::Text(record) => {
-                self.load_record(alloc, load, number, record);
+                self.load_record(alloc, load, record);
                 Ok(())
             }
             Line::Unreadable => {
-                self.load_unreadable(load, number);
+                self.refuse_load(load.before, Refusal::BadCommand);
                 Ok(())
             }
         }
     }
 
     /// Gathers the insert of a record of a load that is not refused yet.
-    fn load_record(&mut self, alloc: Global, load: Load, number: u64, record: &str) {
+    fn load_record(&mut self, alloc: Global, load: Load, record: &str) {
         let Load { layout, before } = load;
         match layout {
             Ok(layout) => match self.gather(alloc, &layout, MutationKind::Insert, record) {
@@ -321,57 +255,39 @@ impl Session {
                         before,
                     });
                 }
-                Err(why) => self.refuse_load(before, Refused { line: number, why }),
+                Err(why) => self.refuse_load(before, why),
             },
-            Err(refused) => self.refuse_load(before, refused),
-        }
-    }
-
-    /// Refuses a load for an unreadable line, which goes before other causes. The first one counts.
-    fn load_unreadable(&mut self, load: Load, number: u64) {
-        let why = Refusal::BadCommand;
-        match load.layout {
-            Err(refused) if refused.why == why => self.refuse_load(load.before, refused),
-            _ => self.refuse_load(load.before, Refused { line: number, why }),
+            Err(why) => self.refuse_load(before, why),
         }
     }
 
     /// Lets go what a load has gathered. The load will be refused.
-    fn refuse_load(&mut self, before: usize, refused: Refused) {
+    fn refuse_load(&mut self, before: usize, why: Refusal) {
         self.gathered.truncate(before);
         self.load = Some(Load {
-            layout: Err(refused),
+            layout: Err(why),
             before,
         });
     }
 
-    /// Answers a load at its `end`, the line of this number.
-    #[tactic(auto, using(crate::proofs::Begun::begins_itself, crate::proofs::Begun::begins_on))]
-    fn end_load(&mut self, load: Load, number: u64, answers: &mut Answers) -> Result<(), Refused>
-        ensures { Begins answers.old answers.new }
-    {
+    /// Answers a load.
+    fn end_load(&mut self, load: Load, answers: &mut Answers) -> Result<(), Refusal> {
         match load.layout {
             Ok(_) => {
                 let loaded = self.gathered.len().saturating_sub(load.before);
-                match answers.number_line("loaded", loaded as u64) {
-                    Ok(()) => Ok(()),
-                    Err(why) => Err(Refused { line: number, why }),
-                }
+                answers.number_line("loaded", loaded as u64)
             }
-            Err(refused) => Err(refused),
+            Err(why) => Err(why),
         }
     }
 
     /// Begins a transaction of what was gathered, which is gathered no more whatever the answer is.
-    #[tactic(auto, using(crate::proofs::Begun::begins_itself, crate::proofs::Begun::begins_on))]
     fn begin(
         &mut self,
         alloc: Global,
         core: &mut Core,
         answers: &mut Answers,
-    ) -> Result<(), Refusal>
-        ensures { Begins answers.old answers.new }
-    {
+    ) -> Result<(), Refusal> {
         let gathered = mem::replace(&mut self.gathered, Vec::new(alloc));
         let transaction = Transaction::new(alloc, core.schema(), gathered)?;
         let step = Step::Begin {
@@ -379,7 +295,7 @@ impl Session {
             transaction,
         };
         let reply = core.step(alloc, step);
-        add_reply(alloc, &reply, answers)
+        answers.reply(alloc, &reply)
     }
 
     /// Opens a query with the parameters that are set. `OutOfMemory` is the refusal; others are replies.
@@ -434,19 +350,6 @@ impl Session {
             }
         }
         core.step(alloc, Step::Finish { query })
-    }
-}
-
-/// Adds the answer that a reply is. A refused step is a refused command.
-#[tactic(auto, using(crate::proofs::Begun::begins_itself))]
-fn add_reply(alloc: Global, reply: &Reply, answers: &mut Answers) -> Result<(), Refusal>
-    ensures added { OnOk result (answers.new ≡ answers.old ++ reply_text reply.now) }
-    ensures grows { Begins answers.old answers.new }
-    ensures refused { IfErr result (λ why. (why ≡ Refusal.OutOfMemory) ⊎ (reply.now ≡ Reply.Refused why)) }
-{
-    match reply {
-        Reply::Refused(why) => Err(*why),
-        reply => answers.reply(alloc, reply),
     }
 }
 
