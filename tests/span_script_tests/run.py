@@ -1,17 +1,23 @@
 #!/usr/bin/env python3
-"""Runs each script of this folder through the proved program span_script_tests, and compares what it writes and its exit status.
+"""Runs each script of this folder through the proved program span_script_tests, and compares what it writes, what it reports on standard error
+and its exit status.
 
     run.py                  every script
     run.py --allocations    and, for each script, each allocation refused in turn
-    run.py --devices        and, for each script, each read and each write failing in turn
+    run.py --devices        and, for each script, each read and each write failing in turn, and standard error failing
     run.py NAME ..          these scripts alone
 
 A test is NAME.script, NAME.expected, NAME.schema where it has a schema of its own (else default.schema), NAME.status where its exit
 status is not 0, and NAME.error where its schema is refused: what the line on standard error has after the name of the schema's file. A
 file that ends in .gz is compressed.
 
+Each refused command has one line on standard error, in the order of the answers: with the number that is answered, the name and message of
+docs/REFUSALS.md, a line of the script after those of the reports before, and a byte where the refusal is one of 1 to 4. NAME.errors has
+these lines exactly, of each what comes after the name of the script's file.
+
 With an allocation refused, the answers before the line that met it are those of NAME.expected, and that line is answered `refused 90`; or the
-program ends with status 1 after a beginning of these answers. With a device that fails it ends with status 1 after a beginning of them.
+program ends with status 1 after a beginning of these answers. With a device that fails it ends with status 1 after a beginning of them; where
+standard error fails the answers and the status are as ever.
 """
 import argparse
 import gzip
@@ -25,6 +31,8 @@ ROWS = os.path.dirname(os.path.abspath(__file__))
 TOP = os.path.dirname(os.path.dirname(ROWS))
 CRATE = os.path.join(TOP, "crates", "span_script_tests")
 PROGRAM = os.path.join(CRATE, "out", "span_script_tests")
+# A device on which every write fails.
+FULL = "/dev/full"
 # How many seconds a run may take.
 LONGEST = 60
 # How many allocations of a script are refused at most: of a longer one this many are refused, evenly spread.
@@ -43,6 +51,13 @@ def read(name):
     return None
 
 
+def refusals():
+    """The name and the message of each refusal, by its number, as docs/REFUSALS.md has them."""
+    with open(os.path.join(TOP, "docs", "REFUSALS.md"), "rb") as file:
+        rows = re.findall(rb"^\| (\d+) \| (\w+) \| (.+) \|$", file.read(), re.M)
+    return {number: (name, message) for number, name, message in rows}
+
+
 class Row:
     """A script, what it must write, and the status that it must end with."""
 
@@ -51,6 +66,7 @@ class Row:
         self.expected = read(name + ".expected")
         self.status = int(read(name + ".status") or b"0")
         self.error = read(name + ".error")
+        self.errors = read(name + ".errors")
         self.schema = self.put(folder, "schema", read(name + ".schema") or read("default.schema"))
         self.script = self.put(folder, "script", read(name + ".script"))
 
@@ -60,9 +76,9 @@ class Row:
             file.write(content)
         return path
 
-    def run(self, environment=None):
+    def run(self, environment=None, errors=subprocess.PIPE):
         done = subprocess.run([PROGRAM, self.schema, self.script], env=environment, timeout=LONGEST,
-                              stdin=subprocess.DEVNULL, capture_output=True, check=False)
+                              stdin=subprocess.DEVNULL, stdout=subprocess.PIPE, stderr=errors, check=False)
         return done.stdout, done.stderr, done.returncode
 
 
@@ -83,18 +99,58 @@ def check_row(row):
     written, errors, status = row.run()
     if status != row.status:
         return f"status {status}, wanted {row.status}"
-    if errors != wanted_errors(row):
-        return f"standard error has {errors!r}, wanted {wanted_errors(row)!r}"
     if written != row.expected:
         return first_difference(written, row.expected)
+    return wrong_errors(row, errors)
+
+
+def wrong_errors(row, errors):
+    """What is wrong with what a row writes on standard error; None where nothing is."""
+    if row.error is not None:
+        wanted = b"span_script_tests: " + row.schema.encode() + row.error
+        return None if errors == wanted else f"standard error has {errors!r}, wanted {wanted!r}"
+    if row.errors is not None:
+        wanted = b"".join(b"span_script_tests: " + row.script.encode() + line for line in row.errors.splitlines(keepends=True))
+        if errors != wanted:
+            return "standard error: " + first_difference(errors, wanted)
+    reports = reports_of(row, errors)
+    if len(reports) != errors.count(b"\n"):
+        return f"standard error has more than reports: {errors!r}"
+    if [report[2] for report in reports] != answered(row.expected):
+        return f"what is reported is not what is answered: {errors!r}"
+    return wrong_places(reports) or wrong_words(reports)
+
+
+def reports_of(row, errors):
+    """The line, the byte (empty where there is none), the number, the name and the message of each refused command that is reported."""
+    program = re.escape(b"span_script_tests: " + row.script.encode())
+    return re.findall(rb"^" + program + rb", line (\d+)(?:, byte (\d+))?: refused (\d+) (\w+): (.+)$", errors, re.M)
+
+
+def answered(written):
+    """The number of each refusal that is answered."""
+    return re.findall(rb"^refused (\d+)$", written, re.M)
+
+
+def wrong_places(reports):
+    """What is wrong with the places of reports: the lines rise, and there is a byte for the refusals 1 to 4 alone."""
+    last = 0
+    for line, byte, number, _, _ in reports:
+        if int(line) <= last:
+            return f"a report of line {int(line)} follows one of line {last}"
+        if (byte != b"") != (int(number) <= 4):
+            return f"the report of line {int(line)} has a byte and should have none, or has none"
+        last = int(line)
     return None
 
 
-def wanted_errors(row):
-    """What a row writes on standard error."""
-    if row.error is None:
-        return b""
-    return b"span_script_tests: " + row.schema.encode() + row.error
+def wrong_words(reports):
+    """What is wrong with the names and messages of reports; None where nothing is."""
+    words = refusals()
+    for line, _, number, name, message in reports:
+        if words[number] != (name, message):
+            return f"the report of line {int(line)} has {name!r}: {message!r}, wanted {words[number]!r}"
+    return None
 
 
 def first_difference(written, wanted):
@@ -127,8 +183,8 @@ def check_allocations(row, library):
     refused = 0
     for number in range(1, most + 1, step):
         environment["FAIL_AT"] = str(number)
-        written, _, status = row.run(environment)
-        wrong = judge_refusal(row, written, status)
+        written, errors, status = row.run(environment)
+        wrong = judge_refusal(row, written, status) or judge_reports(row, written, errors, status)
         if wrong:
             return refused, f"allocation {number}: {wrong}"
         refused += 1
@@ -136,16 +192,23 @@ def check_allocations(row, library):
 
 
 def check_devices(row, library):
-    """Lets the row's reads, then its writes, fail in turn: how many failed, and what is wrong, None where nothing is."""
+    """Lets the row's reads, then its writes, then standard error fail: how many failed, and what is wrong, None where nothing is."""
     environment = dict(os.environ, LD_PRELOAD=library)
     _, errors, _ = row.run(environment)
     reads, writes = re.search(rb"^reads (\d+) writes (\d+)$", errors, re.M).groups()
     for word, most in (("FAIL_READ", int(reads)), ("FAIL_WRITE", int(writes))):
         for number in range(1, most + 1):
-            written, _, status = row.run({**environment, word: str(number)})
+            written, errors, status = row.run({**environment, word: str(number)})
             if status != 1 or not row.expected.startswith(written):
                 return 0, f"{word}={number}: status {status}, or no beginning of the answers"
-    return int(reads) + int(writes), None
+            wrong = judge_reports(row, written, errors, status)
+            if wrong:
+                return 0, f"{word}={number}: {wrong}"
+    with open(FULL, "wb") as full:
+        written, _, status = row.run(errors=full)
+    if status != row.status or written != row.expected:
+        return 0, f"standard error fails: status {status}, or other answers"
+    return int(reads) + int(writes) + 1, None
 
 
 def judge_refusal(row, written, status):
@@ -159,6 +222,15 @@ def judge_refusal(row, written, status):
     at = written.find(b"refused 90\n")
     if at < 0 or not row.expected.startswith(written[:at]):
         return "neither the answers, nor their beginning and `refused 90`"
+    return None
+
+
+def judge_reports(row, written, errors, status):
+    """What is wrong with the reports of a run in which something failed; None where nothing is. Each refusal that is answered was reported."""
+    reported = [report[2] for report in reports_of(row, errors)]
+    numbers = answered(written)
+    if reported[:len(numbers)] != numbers or (status != 1 and reported != numbers):
+        return f"what is reported is not what is answered: {errors!r}"
     return None
 
 

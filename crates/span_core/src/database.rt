@@ -1,6 +1,7 @@
 //! The core and its steps.
 ghost use Rattle.std.specs.Prelude.{◌≡◌, IfOk, IfErr, Some, None, MatchOption, IfSome, length, slice_get, count_by};
 ghost use Rattle.span_core.specs.Histories.{Steps};
+ghost use Rattle.span_machine.specs.Kept.{live};
 ghost use Rattle.span_machine.specs.Machine.{start, is_prepared_at};
 ghost use Rattle.span_machine.specs.Run.{IsOfSchema};
 ghost use Rattle.span_mutate.specs.Typed.{AreTypedMutations};
@@ -86,6 +87,8 @@ impl Core {
             (slice_get self.now.machine.slots slot ≡ None)
             (λ s.
             slice_get self.now.machine.slots slot ≡ Some (record { last = s.last; floor = s.floor; horizon = s.horizon })) }
+        ensures live { IfSome result
+            (λ s. s.live ≡ live self.now.schema self.now.machine.log self.now.machine.transactions slot s.horizon) }
         ensures prepared { IfSome result (λ s. s.prepared ≡ count_by (is_prepared_at slot) self.now.machine.transactions) }
     {
         let slot_state = self.journal.slots().get(slot)?;

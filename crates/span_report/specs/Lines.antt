@@ -9,6 +9,7 @@ use Rattle.span_report.specs.declared.place.Place.TheVariants as place
 abbrev pub place_text : Place → List ℕ
 place_text place.Unknown = []
 place_text (place.Byte byte) = codes ", byte " ++ decimal byte
+place_text (place.WholeLine line) = codes ", line " ++ decimal line
 place_text (place.Line line byte) = codes ", line " ++ decimal line ++ codes ", byte " ++ decimal byte
 
 -- the number, the name and the message

@@ -1,6 +1,8 @@
 //! Where the grammar refuses a text.
 ghost use Rattle.std.specs.Prelude.{◌≡◌, ◌⊎◌};
 ghost use Rattle.span_grammar.specs.Judged.{IsRefused};
+ghost use Rattle.span_report.specs.Places.{in_line};
+ghost use Rattle.span_report.specs.declared.place.Place.{Place};
 
 use super::place::Place;
 use span_grammar::judge::Goal;
@@ -28,6 +30,14 @@ pub fn query_place(alloc: Global, query: &str, why: Refusal) -> Place
         Err(error) if error.refusal == why => Place::in_text(query, error.place),
         _ => Place::Unknown,
     }
+}
+
+/// The line of a script in which a query is refused so, and the byte of this line, where the query is in the line after `before` bytes.
+/// The byte is known only where the grammar does refuse the query so.
+pub fn script_place(alloc: Global, line: usize, before: usize, query: &str, why: Refusal) -> Place
+    ensures { (at : Place) × (result ≡ in_line line before at) × ((at ≡ Place.Unknown) ⊎ IsRefused Goal.Statement query.now why) }
+{
+    query_place(alloc, query, why).in_line(line, before)
 }
 
 /// The line and byte at which a schema text is refused so. They are known only where the grammar does refuse the text so.

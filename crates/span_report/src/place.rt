@@ -1,7 +1,7 @@
 //! Places in the input of a program.
 ghost use Rattle.std.specs.Prelude.{◌≡◌, ◌==◌, ◌+◌, length, min, position, reverse, take};
 ghost use Rattle.span_report.specs.Lines.{place_text};
-ghost use Rattle.span_report.specs.Places.{line_after, byte_after, place_after};
+ghost use Rattle.span_report.specs.Places.{line_after, byte_after, place_after, in_line};
 
 use std::fmt;
 
@@ -12,6 +12,8 @@ pub enum Place {
     Unknown,
     /// A byte of a text.
     Byte(usize),
+    /// A line of a file.
+    WholeLine(usize),
     /// A line of a file, and a byte of this line.
     Line(usize, usize),
 }
@@ -30,6 +32,16 @@ impl Place {
     {
         let before = &file[..offset.min(file.len())];
         Place::Line(line_after(before), byte_after(before))
+    }
+
+    /// The place in a file of a place in a text, where the text is in this line of the file after `before` bytes.
+    pub fn in_line(self, line: usize, before: usize) -> Place
+        ensures { result ≡ in_line line before self }
+    {
+        match self {
+            Place::Byte(byte) => Place::Line(line, before.saturating_add(byte)),
+            _ => Place::WholeLine(line),
+        }
     }
 }
 
@@ -66,6 +78,7 @@ impl fmt::Display for Place {
         match *self {
             Place::Unknown => Ok(()),
             Place::Byte(byte) => write!(f, ", byte {byte}"),
+            Place::WholeLine(line) => write!(f, ", line {line}"),
             Place::Line(line, byte) => write!(f, ", line {line}, byte {byte}"),
         }
     }

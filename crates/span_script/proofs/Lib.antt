@@ -1,1 +1,3 @@
+pub mod Begun
+pub mod Ends
 pub mod Shards

@@ -3,7 +3,7 @@ use Rattle.std.proofs.Common.{◌≡◌, ◌∙◌, ◌+◌, ℕ, List, [], ◌�
 use Rattle.std.proofs.lemmas.List.{append-nil, length-append}
 use Rattle.span_machine.specs.Machine.{Machine}
 use Rattle.span_core.specs.declared.slot.SlotReport.{SlotReport}
-use Rattle.span_script.specs.Lines.{IsState, AreStates, AreShards, slot_line, slot_lines, number_line}
+use Rattle.span_script.specs.Lines.{IsState, AreStates, AreShards, Begins, slot_line, slot_lines, number_line}
 
 -- the lines after those before report the first slots
 abbrev pub AreReported : Machine → List ℕ → ℕ → List ℕ → Type 0
@@ -54,3 +54,7 @@ all_reported m old header lines n all is told = (
   (told.0, told.1 ∙ all, told.2, ap (λ (w : List ℕ). w ++ slot_lines 0 told.0) is),
   told.3 ∙ append_assoc old header (slot_lines 0 told.0),
 )
+
+-- what was reported comes after what was there
+pub reported_after : (m : Machine) (old header lines : List ℕ) (n : ℕ) → AreReported m (old ++ header) n lines → Begins old lines
+reported_after m old header lines n told = (header ++ slot_lines 0 told.0, told.3 ∙ append_assoc old header (slot_lines 0 told.0))

@@ -2,6 +2,7 @@
 use Rattle.std.specs.Prelude.{◌≡◌, ◌+◌, Some, slice_get, count_by, ⊤, ℕ, List, [], ◌∷◌, ◌++◌, codes, length}
 use Rattle.std.specs.Fmt.{decimal}
 use Rattle.span_machine.specs.Machine.{Machine, is_prepared_at}
+use Rattle.span_value.specs.declared.refusal.Refusal.{Refusal}
 use Rattle.span_value.specs.Refusals.{number_of}
 use Rattle.span_machine.specs.declared.step.Reply.{Reply}
 use Rattle.span_machine.specs.declared.step.Reply.TheVariants as reply
@@ -20,6 +21,10 @@ number_line word n = word_number word n ++ 10 ∷ []
 -- a line of one word
 abbrev pub word_line : List ℕ → List ℕ
 word_line word = word ++ 10 ∷ []
+
+-- the line of a refused command
+abbrev pub refused_line : Refusal → List ℕ
+refused_line why = number_line (codes "refused") (number_of why)
 
 -- the line of an open query
 abbrev pub opened_line : ℕ → ℕ → ℕ → List ℕ
@@ -57,7 +62,7 @@ reply_text reply.Scanned = word_line (codes "scanned")
 reply_text reply.Nothing = word_line (codes "nothing")
 reply_text (reply.Rows s rows) = rows_lines s rows
 reply_text reply.Closed = word_line (codes "closed")
-reply_text (reply.Refused why) = number_line (codes "refused") (number_of why)
+reply_text (reply.Refused why) = refused_line why
 
 -- the report of a slot has its state's timestamps, and how many transactions are prepared there
 abbrev pub IsState : Machine → ℕ → SlotReport → Type 0
@@ -80,3 +85,7 @@ abbrev pub AreShards : Machine → List ℕ → Type 0
 AreShards m lines =
     (states : List SlotReport) × (length states ≡ length m.slots) × AreStates m 0 states
     × (lines ≡ number_line (codes "shards") (length m.slots) ++ slot_lines 0 states)
+
+-- the first answers are these
+abbrev pub Begins : List ℕ → List ℕ → Type 0
+Begins front answers = (rest : List ℕ) × (answers ≡ front ++ rest)

@@ -1,8 +1,7 @@
 //! Answers, as they are written in a script's output.
 ghost use Rattle.std.specs.Prelude.{◌≡◌, ◌++◌, ℕ, List, [], codes, length, nat_le, take, IfErr, OnOk, IfOk, IsOkUnless};
 ghost use Rattle.std.specs.Fmt.{decimal};
-ghost use Rattle.span_value.specs.Refusals.{number_of};
-ghost use Rattle.span_script.specs.Lines.{word_number, number_line, word_line, opened_line, slot_range, slot_times, slot_counts, slot_line, rows_lines, reply_text, AreShards};
+ghost use Rattle.span_script.specs.Lines.{word_number, number_line, word_line, opened_line, slot_range, slot_times, slot_counts, slot_line, rows_lines, refused_line, reply_text, AreShards, Begins};
 ghost use Rattle.span_command.specs.Device.{risen};
 ghost use Rattle.span_script.specs.declared.answer.TheConstants.{MOST_KEPT};
 
@@ -81,24 +80,30 @@ impl Answers {
         Ok(())
     }
 
+    #[tactic(auto, using(crate::proofs::Begun::begins_either))]
     fn text(&mut self, text: &str) -> Result<(), Refusal>
         ensures added { OnOk result (self.new ≡ self.old ++ text.now) }
+        ensures grows { Begins self.old self.new }
         ensures memory { IsOkUnless result Refusal.OutOfMemory }
     {
         self.bytes.extend_from_slice(text.as_bytes())?;
         Ok(())
     }
 
+    #[tactic(auto, using(crate::proofs::Begun::begins_on))]
     fn number(&mut self, number: u64) -> Result<(), Refusal>
         ensures added { OnOk result (self.new ≡ self.old ++ decimal number) }
+        ensures grows { Begins self.old self.new }
         ensures memory { IsOkUnless result Refusal.OutOfMemory }
     {
         self.text(Buffer::new().format(number))
     }
 
     /// A word and a number.
+    #[tactic(auto, using(crate::proofs::Begun::begins_on))]
     fn word_number(&mut self, word: &str, number: u64) -> Result<(), Refusal>
         ensures added { OnOk result (self.new ≡ self.old ++ word_number word.now number) }
+        ensures grows { Begins self.old self.new }
         ensures memory { IsOkUnless result Refusal.OutOfMemory }
     {
         self.text(word)?;
@@ -107,8 +112,10 @@ impl Answers {
     }
 
     /// A line of one word.
+    #[tactic(auto, using(crate::proofs::Begun::begins_on))]
     pub fn word_line(&mut self, word: &str) -> Result<(), Refusal>
         ensures added { OnOk result (self.new ≡ self.old ++ word_line word.now) }
+        ensures grows { Begins self.old self.new }
         ensures memory { IsOkUnless result Refusal.OutOfMemory }
     {
         self.text(word)?;
@@ -116,8 +123,10 @@ impl Answers {
     }
 
     /// A line of a word and a number.
+    #[tactic(auto, using(crate::proofs::Begun::begins_on))]
     pub fn number_line(&mut self, word: &str, number: u64) -> Result<(), Refusal>
         ensures added { OnOk result (self.new ≡ self.old ++ number_line word.now number) }
+        ensures grows { Begins self.old self.new }
         ensures memory { IsOkUnless result Refusal.OutOfMemory }
     {
         self.word_number(word, number)?;
@@ -125,16 +134,20 @@ impl Answers {
     }
 
     /// The answer to a refused command.
+    #[tactic(auto, using(crate::proofs::Begun::begins_on))]
     pub fn refusal_line(&mut self, why: Refusal) -> Result<(), Refusal>
-        ensures added { OnOk result (self.new ≡ self.old ++ number_line (codes "refused") (number_of why)) }
+        ensures added { OnOk result (self.new ≡ self.old ++ refused_line why) }
+        ensures grows { Begins self.old self.new }
         ensures memory { IsOkUnless result Refusal.OutOfMemory }
     {
         self.number_line("refused", why.number() as u64)
     }
 
     /// The answer that a reply is.
+    #[tactic(auto, using(crate::proofs::Begun::begins_on))]
     pub fn reply(&mut self, alloc: Global, reply: &Reply) -> Result<(), Refusal>
         ensures added { OnOk result (self.new ≡ self.old ++ reply_text reply.now) }
+        ensures grows { Begins self.old self.new }
         ensures memory { IsOkUnless result Refusal.OutOfMemory }
     {
         match reply {
@@ -154,8 +167,10 @@ impl Answers {
         }
     }
 
+    #[tactic(auto, using(crate::proofs::Begun::begins_on))]
     fn opened_line(&mut self, query: u64, s: u64, leaves: usize) -> Result<(), Refusal>
         ensures added { OnOk result (self.new ≡ self.old ++ opened_line query s leaves) }
+        ensures grows { Begins self.old self.new }
         ensures memory { IsOkUnless result Refusal.OutOfMemory }
     {
         self.word_number("query", query)?;
@@ -164,8 +179,10 @@ impl Answers {
     }
 
     /// How many rows there are, and each as a record of its cells.
+    #[tactic(auto, using(crate::proofs::Begun::begins_on, crate::proofs::Begun::begins_either))]
     fn rows(&mut self, alloc: Global, s: u64, rows: &[Row]) -> Result<(), Refusal>
         ensures added { OnOk result (self.new ≡ self.old ++ rows_lines s rows.now) }
+        ensures grows { Begins self.old self.new }
         ensures memory { IsOkUnless result Refusal.OutOfMemory }
     {
         self.word_number("rows", rows.len() as u64)?;
@@ -176,8 +193,10 @@ impl Answers {
     }
 
     /// How many slots are in use, and a line for each.
+    #[tactic(auto, using(crate::proofs::Begun::begins_on, crate::proofs::Shards::reported_after))]
     pub fn slots(&mut self, core: &Core) -> Result<(), Refusal>
         ensures added { OnOk result ((lines : List ℕ) × AreShards core.now.machine lines × (self.new ≡ self.old ++ lines)) }
+        ensures grows { Begins self.old self.new }
         ensures memory { IsOkUnless result Refusal.OutOfMemory }
     {
         self.number_line("shards", core.slots() as u64)?;
@@ -190,8 +209,10 @@ impl Answers {
     }
 
     /// The line of a slot.
+    #[tactic(auto, using(crate::proofs::Begun::begins_on))]
     fn slot(&mut self, slot: usize, state: SlotReport) -> Result<(), Refusal>
         ensures added { OnOk result (self.new ≡ self.old ++ slot_line slot state) }
+        ensures grows { Begins self.old self.new }
         ensures memory { IsOkUnless result Refusal.OutOfMemory }
     {
         self.slot_range(slot)?;
@@ -200,16 +221,20 @@ impl Answers {
     }
 
     /// A slot's number, and its range: the whole one.
+    #[tactic(auto, using(crate::proofs::Begun::begins_on))]
     fn slot_range(&mut self, slot: usize) -> Result<(), Refusal>
         ensures added { OnOk result (self.new ≡ self.old ++ slot_range slot) }
+        ensures grows { Begins self.old self.new }
         ensures memory { IsOkUnless result Refusal.OutOfMemory }
     {
         self.word_number("shard", slot as u64)?;
         self.text(" [-,-)")
     }
 
+    #[tactic(auto, using(crate::proofs::Begun::begins_on))]
     fn slot_times(&mut self, state: SlotReport) -> Result<(), Refusal>
         ensures added { OnOk result (self.new ≡ self.old ++ slot_times state) }
+        ensures grows { Begins self.old self.new }
         ensures memory { IsOkUnless result Refusal.OutOfMemory }
     {
         self.word_number(" last", state.last)?;
@@ -217,8 +242,10 @@ impl Answers {
         self.word_number(" horizon", state.horizon)
     }
 
+    #[tactic(auto, using(crate::proofs::Begun::begins_on))]
     fn slot_counts(&mut self, state: SlotReport) -> Result<(), Refusal>
         ensures added { OnOk result (self.new ≡ self.old ++ slot_counts state) }
+        ensures grows { Begins self.old self.new }
         ensures memory { IsOkUnless result Refusal.OutOfMemory }
     {
         self.word_number(" live", state.live as u64)?;

@@ -1,10 +1,13 @@
 //! What a script has set and gathered, and its commands done one after another.
-ghost use Rattle.std.specs.Prelude.{List, IfSome, IsOkUnless};
+ghost use Rattle.std.specs.Prelude.{◌≡◌, ◌⊎◌, ◌++◌, List, None, is_some, IfErr, IfOk, IfSome, IsOkUnless, OnOk};
 ghost use Rattle.span_schema.specs.declared.table.Table.{Table};
 ghost use Rattle.span_machine.specs.Run.{IsOfSchema};
+ghost use Rattle.span_script.specs.Lines.{reply_text, Begins};
+ghost use Rattle.span_script.specs.Reports.{AreAnswered};
 ghost use Rattle.span_script.specs.Sessions.{IsFresh};
 
 use super::answer::Answers;
+use super::report::Refused;
 use csv::StringRecord;
 use span_command::command::{Command, read_command};
 use span_command::layout::Layout;
@@ -38,8 +41,8 @@ pub struct Session {
 /// A load between its first line and its `end`.
 #[derive(Drop)]
 struct Load {
-    /// How its records are read, or why it will be refused.
-    layout: Result<Layout, Refusal>,
+    /// How its records are read, or where and why it is refused, which is answered at its end.
+    layout: Result<Layout, Refused>,
     /// How many mutations were gathered before it.
     before: usize,
 }
@@ -61,80 +64,126 @@ impl Session {
         }
     }
 
-    /// Does what a line asks for, and adds its answer. `OutOfMemory` where memory runs out for the answer.
+    /// Does what a line of this number asks for, and adds its answer. Returns the refused command that was answered so, if one was.
+    /// `OutOfMemory` where memory runs out for the answer.
+    #[tactic(auto, using(crate::proofs::Begun::front_taken))]
     pub fn take_line(
         &mut self,
         alloc: Global,
         core: &mut Core,
+        number: u64,
         line: Line<'_>,
         answers: &mut Answers,
-    ) -> Result<(), Refusal>
-        ensures { IsOkUnless result Refusal.OutOfMemory }
+    ) -> Result<Option<Refused>, Refusal>
+        ensures answered { IfOk result (AreAnswered answers.old answers.new) }
+        ensures here { self.old.load ≡ None → IfOk result (λ refused. IfSome refused (λ refused. refused.line ≡ number)) }
+        ensures memory { IsOkUnless result Refusal.OutOfMemory }
     {
         let before = answers.len();
-        match self.answer_line(alloc, core, line, answers) {
-            Ok(()) => Ok(()),
-            Err(why) => {
+        match self.answer_line(alloc, core, number, line, answers) {
+            Ok(()) => Ok(None),
+            Err(refused) => {
                 answers.cut(before);
-                answers.refusal_line(why)
+                answers.refusal_line(refused.why)?;
+                Ok(Some(refused))
             }
         }
     }
 
-    /// The end of the script: a load without its `end` is refused.
-    pub fn finish(&mut self, answers: &mut Answers) -> Result<(), Refusal>
-        ensures { IsOkUnless result Refusal.OutOfMemory }
+    /// The end of the script, after the line of this number: a load without its `end` is refused.
+    #[tactic(auto, using(crate::proofs::Begun::begins_itself))]
+    pub fn finish(&mut self, number: u64, answers: &mut Answers) -> Result<Option<Refused>, Refusal>
+        ensures answered { IfOk result (AreAnswered answers.old answers.new) }
+        ensures last { IfOk result (λ refused. IfSome refused (λ refused. (refused.why ≡ Refusal.BadCommand) × (refused.line ≡ number))) }
+        ensures unread { IfOk result (λ refused. is_some refused ≡ is_some self.old.load) }
+        ensures memory { IsOkUnless result Refusal.OutOfMemory }
     {
         match self.load.take() {
             Some(load) => {
                 self.gathered.truncate(load.before);
-                answers.refusal_line(Refusal::BadCommand)
+                answers.refusal_line(Refusal::BadCommand)?;
+                Ok(Some(Refused {
+                    line: number,
+                    why: Refusal::BadCommand,
+                }))
             }
-            None => Ok(()),
+            None => Ok(None),
         }
     }
 
+    /// Adds the answer of a line, or answers where and why its command is refused.
+    #[tactic(auto, using(crate::proofs::Begun::begins_itself, crate::proofs::Begun::begins_on))]
     fn answer_line(
         &mut self,
         alloc: Global,
         core: &mut Core,
+        number: u64,
         line: Line<'_>,
         answers: &mut Answers,
-    ) -> Result<(), Refusal> {
+    ) -> Result<(), Refused>
+        ensures grows { Begins answers.old answers.new }
+        ensures here { self.old.load ≡ None → IfErr result (λ refused. refused.line ≡ number) }
+    {
         match self.load.take() {
-            Some(load) => self.load_line(alloc, load, line, answers),
-            None => match line {
-                Line::Text(text) => self.answer_text(alloc, core, text, answers),
-                Line::Unreadable => Err(Refusal::BadCommand),
+            Some(load) => self.load_line(alloc, load, number, line, answers),
+            None => match self.command_line(alloc, core, number, line, answers) {
+                Ok(()) => Ok(()),
+                Err(why) => Err(Refused { line: number, why }),
             },
         }
     }
 
+    /// A line that is in no load.
+    #[tactic(auto, using(crate::proofs::Begun::begins_itself, crate::proofs::Begun::begins_on))]
+    fn command_line(
+        &mut self,
+        alloc: Global,
+        core: &mut Core,
+        number: u64,
+        line: Line<'_>,
+        answers: &mut Answers,
+    ) -> Result<(), Refusal>
+        ensures { Begins answers.old answers.new }
+    {
+        match line {
+            Line::Text(text) => self.answer_text(alloc, core, number, text, answers),
+            Line::Unreadable => Err(Refusal::BadCommand),
+        }
+    }
+
     /// Does the command of a line; empty lines and remarks have none.
+    #[tactic(auto, using(crate::proofs::Begun::begins_itself, crate::proofs::Begun::begins_on))]
     fn answer_text(
         &mut self,
         alloc: Global,
         core: &mut Core,
+        number: u64,
         text: &str,
         answers: &mut Answers,
-    ) -> Result<(), Refusal> {
+    ) -> Result<(), Refusal>
+        ensures { Begins answers.old answers.new }
+    {
         if text.is_empty() || text.starts_with('#') {
             return Ok(());
         }
         match read_command(text) {
-            Some(command) => self.answer(alloc, core, command, answers),
+            Some(command) => self.answer(alloc, core, number, command, answers),
             None => Err(Refusal::BadCommand),
         }
     }
 
     /// Does a command, and adds its answer.
+    #[tactic(auto, using(crate::proofs::Begun::begins_itself, crate::proofs::Begun::begins_on))]
     fn answer(
         &mut self,
         alloc: Global,
         core: &mut Core,
+        number: u64,
         command: Command<'_>,
         answers: &mut Answers,
-    ) -> Result<(), Refusal> {
+    ) -> Result<(), Refusal>
+        ensures { Begins answers.old answers.new }
+    {
         match command {
             Command::Clock { earliest, latest } => {
                 self.clock = Interval::new(earliest, latest)?;
@@ -160,20 +209,18 @@ impl Session {
                 answers.word_line("ok")
             }
             Command::Load { table, columns } => {
-                self.load = Some(Load {
-                    layout: Layout::of_columns(alloc, core.schema(), table, columns),
-                    before: self.gathered.len(),
-                });
+                let layout = Layout::of_columns(alloc, core.schema(), table, columns);
+                self.begin_load(number, layout);
                 Ok(())
             }
             Command::Begin => self.begin(alloc, core, answers),
             Command::Open { bound, text } => {
                 let reply = self.open(alloc, core, bound, text)?;
-                answers.reply(alloc, &reply)
+                add_reply(alloc, &reply, answers)
             }
             Command::Query { bound, text } => {
                 let reply = self.query(alloc, core, bound, text)?;
-                answers.reply(alloc, &reply)
+                add_reply(alloc, &reply, answers)
             }
             Command::Shards => answers.slots(core),
             command => self.answer_numbered(alloc, core, command, answers),
@@ -181,17 +228,20 @@ impl Session {
     }
 
     /// Does a command that is one step of numbers alone.
+    #[tactic(auto, using(crate::proofs::Begun::begins_itself, crate::proofs::Begun::begins_on))]
     fn answer_numbered(
         &mut self,
         alloc: Global,
         core: &mut Core,
         command: Command<'_>,
         answers: &mut Answers,
-    ) -> Result<(), Refusal> {
+    ) -> Result<(), Refusal>
+        ensures { Begins answers.old answers.new }
+    {
         match step_of(command, self.clock) {
             Some(step) => {
                 let reply = core.step(alloc, step);
-                answers.reply(alloc, &reply)
+                add_reply(alloc, &reply, answers)
             }
             None => Err(Refusal::BadCommand),
         }
@@ -223,29 +273,45 @@ impl Session {
         Ok(())
     }
 
+    /// Begins the load of this line.
+    fn begin_load(&mut self, number: u64, layout: Result<Layout, Refusal>) {
+        let layout = match layout {
+            Ok(layout) => Ok(layout),
+            Err(why) => Err(Refused { line: number, why }),
+        };
+        self.load = Some(Load {
+            layout,
+            before: self.gathered.len(),
+        });
+    }
+
     /// Takes a line of a load. Its answer comes with its `end`.
+    #[tactic(auto, using(crate::proofs::Begun::begins_itself, crate::proofs::Begun::begins_on))]
     fn load_line(
         &mut self,
         alloc: Global,
         load: Load,
+        number: u64,
         line: Line<'_>,
         answers: &mut Answers,
-    ) -> Result<(), Refusal> {
+    ) -> Result<(), Refused>
+        ensures { Begins answers.old answers.new }
+    {
         match line {
-            Line::Text("end") => self.end_load(load, answers),
+            Line::Text("end") => self.end_load(load, number, answers),
             Line::Text(record) => {
-                self.load_record(alloc, load, record);
+                self.load_record(alloc, load, number, record);
                 Ok(())
             }
             Line::Unreadable => {
-                self.refuse_load(load.before, Refusal::BadCommand);
+                self.load_unreadable(load, number);
                 Ok(())
             }
         }
     }
 
     /// Gathers the insert of a record of a load that is not refused yet.
-    fn load_record(&mut self, alloc: Global, load: Load, record: &str) {
+    fn load_record(&mut self, alloc: Global, load: Load, number: u64, record: &str) {
         let Load { layout, before } = load;
         match layout {
             Ok(layout) => match self.gather(alloc, &layout, MutationKind::Insert, record) {
@@ -255,39 +321,57 @@ impl Session {
                         before,
                     });
                 }
-                Err(why) => self.refuse_load(before, why),
+                Err(why) => self.refuse_load(before, Refused { line: number, why }),
             },
-            Err(why) => self.refuse_load(before, why),
+            Err(refused) => self.refuse_load(before, refused),
+        }
+    }
+
+    /// Refuses a load for an unreadable line, which goes before other causes. The first one counts.
+    fn load_unreadable(&mut self, load: Load, number: u64) {
+        let why = Refusal::BadCommand;
+        match load.layout {
+            Err(refused) if refused.why == why => self.refuse_load(load.before, refused),
+            _ => self.refuse_load(load.before, Refused { line: number, why }),
         }
     }
 
     /// Lets go what a load has gathered. The load will be refused.
-    fn refuse_load(&mut self, before: usize, why: Refusal) {
+    fn refuse_load(&mut self, before: usize, refused: Refused) {
         self.gathered.truncate(before);
         self.load = Some(Load {
-            layout: Err(why),
+            layout: Err(refused),
             before,
         });
     }
 
-    /// Answers a load.
-    fn end_load(&mut self, load: Load, answers: &mut Answers) -> Result<(), Refusal> {
+    /// Answers a load at its `end`, the line of this number.
+    #[tactic(auto, using(crate::proofs::Begun::begins_itself, crate::proofs::Begun::begins_on))]
+    fn end_load(&mut self, load: Load, number: u64, answers: &mut Answers) -> Result<(), Refused>
+        ensures { Begins answers.old answers.new }
+    {
         match load.layout {
             Ok(_) => {
                 let loaded = self.gathered.len().saturating_sub(load.before);
-                answers.number_line("loaded", loaded as u64)
+                match answers.number_line("loaded", loaded as u64) {
+                    Ok(()) => Ok(()),
+                    Err(why) => Err(Refused { line: number, why }),
+                }
             }
-            Err(why) => Err(why),
+            Err(refused) => Err(refused),
         }
     }
 
     /// Begins a transaction of what was gathered, which is gathered no more whatever the answer is.
+    #[tactic(auto, using(crate::proofs::Begun::begins_itself, crate::proofs::Begun::begins_on))]
     fn begin(
         &mut self,
         alloc: Global,
         core: &mut Core,
         answers: &mut Answers,
-    ) -> Result<(), Refusal> {
+    ) -> Result<(), Refusal>
+        ensures { Begins answers.old answers.new }
+    {
         let gathered = mem::replace(&mut self.gathered, Vec::new(alloc));
         let transaction = Transaction::new(alloc, core.schema(), gathered)?;
         let step = Step::Begin {
@@ -295,7 +379,7 @@ impl Session {
             transaction,
         };
         let reply = core.step(alloc, step);
-        answers.reply(alloc, &reply)
+        add_reply(alloc, &reply, answers)
     }
 
     /// Opens a query with the parameters that are set. `OutOfMemory` is the refusal; others are replies.
@@ -350,6 +434,19 @@ impl Session {
             }
         }
         core.step(alloc, Step::Finish { query })
+    }
+}
+
+/// Adds the answer that a reply is. A refused step is a refused command.
+#[tactic(auto, using(crate::proofs::Begun::begins_itself))]
+fn add_reply(alloc: Global, reply: &Reply, answers: &mut Answers) -> Result<(), Refusal>
+    ensures added { OnOk result (answers.new ≡ answers.old ++ reply_text reply.now) }
+    ensures grows { Begins answers.old answers.new }
+    ensures refused { IfErr result (λ why. (why ≡ Refusal.OutOfMemory) ⊎ (reply.now ≡ Reply.Refused why)) }
+{
+    match reply {
+        Reply::Refused(why) => Err(*why),
+        reply => answers.reply(alloc, reply),
     }
 }
 

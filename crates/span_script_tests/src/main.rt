@@ -1,10 +1,13 @@
 //! For tests alone: `span_script_tests SCHEMA SCRIPT` reads both files and runs the script over a new database of the schema.
 //!
-//! It writes the answers, and ends with status 0. A refused schema writes `schema refused N`, and a line on standard error with the place
-//! in the file, the number, the name and the message: status 3. A file that can't be read, a
+//! It writes the answers, and on standard error a line for each refused command with the place in the file, the number, the name and the
+//! message, and ends with status 0. A refused schema writes `schema refused N`, and such a line: status 3. A file that can't be read, a
 //! device that fails or out of memory: a line on standard error, status 1; a wrong command line: status 2.
 #![tactic(auto)]
 
+mod errors;
+
+use errors::Errors;
 use span_core::database::Core;
 use span_core::{Refusal, Schema};
 use span_report::error::ProgramError;
@@ -54,13 +57,14 @@ fn run_files<R: AllocGlobal + Print + Eprint + Files>(
 ) -> Result<u8, ProgramError> {
     let alloc = rt.alloc();
     let bytes = fs::read(rt, schema)?;
-    let script = File::open(rt, script)?;
+    let file = File::open(rt, script)?;
     match read_schema(rt, bytes.as_slice()) {
         Ok(schema) => {
             let mut core = Core::new(alloc, schema)?;
-            let mut input = Counted::new(script);
+            let mut input = Counted::new(file);
             let mut output = Counted::new(io::writer(rt));
-            run_script(alloc, &mut input, &mut output, &mut core)?;
+            let mut errors = Errors { rt, file: script };
+            run_script(alloc, &mut input, &mut output, &mut errors, &mut core)?;
             Ok(0)
         }
         Err(Refusal::OutOfMemory) => Err(ProgramError::Memory),
