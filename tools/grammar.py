@@ -66,7 +66,7 @@ NAMES = [Name(*row) for row in [
     ("Primary", "prim", TEXT),
     ("Unary", "unary", RULE),
     ("OtherUnary", "other_unary", "unary, and no integer"),
-    ("Signed", "signed", "unary, where it is told whether it is an integer"),
+    ("Signed", "signed", "unary, which differs for an integer"),
     ("TermSign", '"*" | "||"'),
     ("TermMore", '("*" | "||") unary'),
     ("TermRest", '{("*" | "||") unary}'),

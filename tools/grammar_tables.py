@@ -100,10 +100,10 @@ def class_rt(t):
     contexts = t.grammar.contexts
     return r"""//! Classes of tokens: what the grammar asks of a token.
 //!
-//! A name that is a word of the grammar in its place, as OFFSET, is told from other names; so is a name before `.` and `*`, and
+//! A name that is a word of the grammar in its place, as OFFSET, has a class of its own; so has a name before `.` and `*`, and
 //! a semicolon at the end of a text. With that, one token decides how reading goes on.
 ghost use Rattle.std.specs.Prelude.{◌≡◌};
-ghost use Rattle.span_grammar.specs.Contexts as spelled;
+ghost use Rattle.span_grammar.specs.Contexts as contexts;
 ghost use Rattle.span_grammar.specs.declared.class.TheConstants.{CONTEXTS};
 
 use span_lexer::token::{Sign, Token, Word};
@@ -118,13 +118,13 @@ pub const CONTEXTS: [Context; {len(contexts)}] = [
 
 /// These words are those that the definitions list.
 pub fn contexts_are_stated()
-    ensures { CONTEXTS ≡ spelled.context_words }
+    ensures { CONTEXTS ≡ contexts.context_words }
 {}
 
 impl Context {
     /// The word in lower case.
     pub fn spelling(self) -> &'static str
-        ensures { result.now ≡ spelled.word self }
+        ensures { result.now ≡ contexts.word self }
     {
         match self {
 """ + lines(f'            Context::{word} => "{word.lower()}",' for word in contexts) + """        }

@@ -31,8 +31,8 @@ name_class None = class.Name
 name_class (Some w) = class.Context w
 
 -- the bytes of a token
-abbrev pub spelled : List ℕ → Token → List ℕ
-spelled text t = take (t.end - t.start) (drop t.start text)
+abbrev pub token_bytes : List ℕ → Token → List ℕ
+token_bytes text t = take (t.end - t.start) (drop t.start text)
 
 -- a semicolon, by the tokens after it
 abbrev pub semicolon_class : List Token → Class
@@ -54,7 +54,7 @@ kind_class (kind.Sign s) bytes tail = sign_class s tail
 
 -- the class of a token of a text, by the tokens after it
 abbrev pub class_at : List ℕ → Token → List Token → Class
-class_at text t tail = kind_class t.kind (spelled text t) tail
+class_at text t tail = kind_class t.kind (token_bytes text t) tail
 
 -- the tokens of a text with their classes
 unfoldable pub lexemes_of : List ℕ → List Token → List Lexeme

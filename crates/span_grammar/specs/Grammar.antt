@@ -100,7 +100,7 @@ unary_rule = Or opposite_rule primary_rule
 unfoldable pub other_unary_rule : Rule
 other_unary_rule = Or opposite_rule primary_from_a_string_rule
 
--- unary, where it is told whether it is an integer
+-- unary, which differs for an integer
 unfoldable pub signed_rule : Rule
 signed_rule = Or (One sort.Int) other_unary_rule
 

@@ -34,7 +34,7 @@ fn class_at(text: &[u8], token: &Token, tail: &[Token]) -> Class
             if starts_all_of(tail) {
                 Class::AllOf
             } else {
-                name_class(spelled(text, token))
+                name_class(token_bytes(text, token))
             }
         }
         TokenKind::Parameter => Class::Parameter,
@@ -97,8 +97,8 @@ fn matching_word(words: &[Context], bytes: &[u8]) -> Option<Context>
 }
 
 /// The bytes of a token.
-pub fn spelled<'a>(text: &'a [u8], token: &Token) -> &'a [u8]
-    ensures { result.now ≡ spec.spelled text.now token.now }
+pub fn token_bytes<'a>(text: &'a [u8], token: &Token) -> &'a [u8]
+    ensures { result.now ≡ spec.token_bytes text.now token.now }
 {
     prefix(
         tail(text, token.start),

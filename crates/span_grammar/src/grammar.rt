@@ -51,7 +51,7 @@ pub enum Part {
     Unary,
     /// `unary, and no integer`
     OtherUnary,
-    /// `unary, where it is told whether it is an integer`
+    /// `unary, which differs for an integer`
     Signed,
     TermSign,
     TermMore,

@@ -24,7 +24,7 @@ pub trait Understanding {
     ghost understands: { List ℕ → List Parameter → Result Statement Refusal → Type 0 };
 }
 
-/// The theorem behind the headline, for any language: whatever the machine may reply to steps from its start is a history. Its log
+/// The theorem of the headline, for any language: whatever the machine may reply to steps from its start is a history. Its log
 /// holds just the commits that were answered, each applies at its place, and every answer has exactly the rows that its query means on
 /// the tables of all of them. The schema meets its rules, and the transactions that are begun were checked against it.
 pub fn runs_are_histories<U: Understanding>()

@@ -13,13 +13,13 @@ use Rattle.span_grammar.specs.declared.class.Lexeme.{Lexeme}
 use Rattle.span_grammar.specs.declared.class.Context.TheVariants as context
 use Rattle.span_grammar.specs.declared.class.Sort.TheVariants as sort
 use Rattle.span_grammar.specs.declared.grammar.Part.TheVariants as part
-use Rattle.span_grammar.specs.Classes.{spelled}
+use Rattle.span_grammar.specs.Classes.{token_bytes}
 use Rattle.span_syntax.specs.Pieces.{Piece, token, nothing, ◌<$>◌, ◌>>=◌, ◌>>◌, either, optional, each, opening}
 use Rattle.span_syntax.specs.Expressions.{value_of, direction}
 
 -- the text of a name
 abbrev pub name_of : List ℕ → Lexeme → List ℕ
-name_of text t = utf8_lossy (spelled text t.token)
+name_of text t = utf8_lossy (token_bytes text t.token)
 
 unfoldable pub name : List ℕ → Piece (List ℕ)
 name text = name_of text <$> token sort.Name

@@ -5,7 +5,7 @@ ghost use Rattle.span_syntax.specs.Pieces.{Gives, each};
 ghost use Rattle.span_schematext.specs.Declarations as spec;
 
 use span_grammar::class::{Context, Lexeme, Sort};
-use span_grammar::classify::spelled;
+use span_grammar::classify::token_bytes;
 use span_grammar::grammar::Part;
 use span_grammar::reader::goes_on;
 use span_lexer::token::{Sign, Word};
@@ -28,7 +28,7 @@ fn name<'a>(
     ensures { Gives result ((spec.name text.now).read tokens.now) }
 {
     let (lexeme, rest) = take(Sort::Name, tokens)?;
-    let spelling = String::from_utf8_lossy(alloc, spelled(text, &lexeme.token))?;
+    let spelling = String::from_utf8_lossy(alloc, token_bytes(text, &lexeme.token))?;
     Ok((Text::from_string(spelling), rest))
 }
 

@@ -9,8 +9,8 @@ use Rattle.span_script.specs.Lines.{IsState, AreStates, AreShards, Begins, slot_
 abbrev pub AreReported : Machine → List ℕ → ℕ → List ℕ → Type 0
 AreReported m before slot lines = (states : List SlotReport) × (length states ≡ slot) × AreStates m 0 states × (lines ≡ before ++ slot_lines 0 states)
 
-pub none_told : (m : Machine) (before : List ℕ) → AreReported m before 0 before
-none_told m before = ([], refl, tt, sym (append-nil before))
+pub none_reported : (m : Machine) (before : List ℕ) → AreReported m before 0 before
+none_reported m before = ([], refl, tt, sym (append-nil before))
 
 states_push : (m : Machine) (slot : ℕ) (states : List SlotReport) (state : SlotReport) → AreStates m slot states → IsState m (slot + length states) state
     → AreStates m slot (states ++ state ∷ [])
@@ -33,14 +33,14 @@ lines_push slot (first ∷ states) state =
 
 pub one_more : (m : Machine) (before : List ℕ) (slot : ℕ) (lines : List ℕ) (state : SlotReport)
     → AreReported m before slot lines → IsState m slot state → AreReported m before (slot + 1) (lines ++ slot_line slot state)
-one_more m before slot lines state told is =
-    let states = told.0 in
-    let here : length states ≡ slot = told.1 in
+one_more m before slot lines state known is =
+    let states = known.0 in
+    let here : length states ≡ slot = known.1 in
     let at : 0 + length states ≡ slot = omega (arith, here) in (
       states ++ state ∷ [],
       length-append states (state ∷ []) ∙ ap (λ k. k + 1) here,
-      states_push m 0 states state told.2 (subst (λ k. IsState m k state) (sym at) is),
-      ap (λ (w : List ℕ). w ++ slot_line slot state) told.3
+      states_push m 0 states state known.2 (subst (λ k. IsState m k state) (sym at) is),
+      ap (λ (w : List ℕ). w ++ slot_line slot state) known.3
           ∙ append_assoc before (slot_lines 0 states) (slot_line slot state)
           ∙ ap (λ k. before ++ (slot_lines 0 states ++ slot_line k state)) (sym at)
           ∙ ap (λ (w : List ℕ). before ++ w) (sym (lines_push 0 states state)),
@@ -48,13 +48,13 @@ one_more m before slot lines state told is =
 
 pub all_reported : (m : Machine) (old header lines : List ℕ) (n : ℕ) → n ≡ length m.slots
     → header ≡ number_line (codes "shards") (length m.slots)
-    → AreReported m (old ++ header) n lines → (told : List ℕ) × AreShards m told × (lines ≡ old ++ told)
-all_reported m old header lines n all is told = (
-  header ++ slot_lines 0 told.0,
-  (told.0, told.1 ∙ all, told.2, ap (λ (w : List ℕ). w ++ slot_lines 0 told.0) is),
-  told.3 ∙ append_assoc old header (slot_lines 0 told.0),
+    → AreReported m (old ++ header) n lines → (known : List ℕ) × AreShards m known × (lines ≡ old ++ known)
+all_reported m old header lines n all is known = (
+  header ++ slot_lines 0 known.0,
+  (known.0, known.1 ∙ all, known.2, ap (λ (w : List ℕ). w ++ slot_lines 0 known.0) is),
+  known.3 ∙ append_assoc old header (slot_lines 0 known.0),
 )
 
 -- what was reported comes after what was there
 pub reported_after : (m : Machine) (old header lines : List ℕ) (n : ℕ) → AreReported m (old ++ header) n lines → Begins old lines
-reported_after m old header lines n told = (header ++ slot_lines 0 told.0, told.3 ∙ append_assoc old header (slot_lines 0 told.0))
+reported_after m old header lines n known = (header ++ slot_lines 0 known.0, known.3 ∙ append_assoc old header (slot_lines 0 known.0))

@@ -26,7 +26,7 @@ pub struct QueryText<'a> {
 pub trait Reports {
     /// A command was refused; `query` is the query text of the line that is wrong, where that has one. A report that is lost changes no
     /// answer, so none of its failures is returned.
-    fn refused(&mut self, refused: Refused, query: Option<QueryText<'_>>);
+    fn report(&mut self, refused: Refused, query: Option<QueryText<'_>>);
 }
 
 /// The query text of a line; None where the line is no command that has one.

@@ -40,7 +40,7 @@ pub fn run<I: Input, O: Output, R: Reports>(
             number = number.saturating_add(1);
             let line = lines.line();
             if let Some(refused) = session.take_line(alloc, core, number, line, &mut answers)? {
-                reports.refused(refused, query_of(line));
+                reports.report(refused, query_of(line));
             }
             if answers.are_many() {
                 answers.write_to(output)?;
@@ -51,7 +51,7 @@ pub fn run<I: Input, O: Output, R: Reports>(
         }
     }
     if let Some(refused) = session.finish(number, &mut answers)? {
-        reports.refused(refused, None);
+        reports.report(refused, None);
     }
     answers.write_to(output)
 }

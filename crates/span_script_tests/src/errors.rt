@@ -13,7 +13,7 @@ pub struct Errors<'a, R> {
 }
 
 impl<R: AllocGlobal + Eprint> Reports for Errors<'_, R> {
-    fn refused(&mut self, refused: Refused, query: Option<QueryText<'_>>) {
+    fn report(&mut self, refused: Refused, query: Option<QueryText<'_>>) {
         let Refused { line, why } = refused;
         let line = line as usize;
         let place = match query {

@@ -26,7 +26,7 @@ use Rattle.span_syntax.specs.declared.tree.Expr.{Expr}
 use Rattle.span_syntax.specs.declared.tree.Expr.TheVariants as e
 use Rattle.span_syntax.specs.declared.tree.Arm.{Arm, roll-Arm}
 use Rattle.span_syntax.specs.declared.tree.Link.{Link, roll-Link}
-use Rattle.span_grammar.specs.Classes.{spelled}
+use Rattle.span_grammar.specs.Classes.{token_bytes}
 use Rattle.span_syntax.specs.Pieces.{Piece, token, nothing, ◌<$>◌, ◌>>=◌, ◌>>◌, either, optional, each, pair_with, opening}
 
 -- ---- tokens
@@ -36,7 +36,7 @@ span_of t = record { start = t.start; end = t.end }
 
 -- the spelling of a token, and its place
 abbrev pub spelling_of : List ℕ → Lexeme → Spelling
-spelling_of text t = record { text = utf8_lossy (spelled text t.token); span = span_of t.token }
+spelling_of text t = record { text = utf8_lossy (token_bytes text t.token); span = span_of t.token }
 
 abbrev pub value_of : TokenKind → ℕ
 value_of (kind.Int v) = v

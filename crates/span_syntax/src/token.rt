@@ -11,7 +11,7 @@ ghost use Rattle.span_syntax.specs.Expressions as spec;
 use super::fault::SyntaxError;
 use super::tree::{Integer, Span, Spelling};
 use span_grammar::class::{Lexeme, Sort};
-use span_grammar::classify::spelled;
+use span_grammar::classify::token_bytes;
 use span_grammar::grammar::Part;
 use span_grammar::reader::{goes_on, is_class};
 use span_lexer::token::{Sign, Token, TokenKind};
@@ -90,7 +90,7 @@ pub(crate) fn span_of(token: &Token) -> Span
 fn spelling_of(alloc: Global, text: &[u8], lexeme: Lexeme) -> Result<Spelling, AllocError>
     ensures { IfOk result (λ x. x ≡ spec.spelling_of text.now lexeme) }
 {
-    let spelling = String::from_utf8_lossy(alloc, spelled(text, &lexeme.token))?;
+    let spelling = String::from_utf8_lossy(alloc, token_bytes(text, &lexeme.token))?;
     Ok(Spelling {
         text: Text::from_string(spelling),
         span: span_of(&lexeme.token),

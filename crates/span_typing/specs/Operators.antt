@@ -31,8 +31,8 @@ use Rattle.span_typing.specs.declared.function.CalledFunction.TheVariants as cal
 use Rattle.span_typing.specs.Kinds.{takes, common_kind, common_kind_of_all, or_int, text_kind}
 use Rattle.span_value.specs.Results.{and_then}
 
-abbrev pub typed : Expr → Kind → Typed
-typed e k = record { expr = e; kind = Some k }
+abbrev pub of_kind : Expr → Kind → Typed
+of_kind e k = record { expr = e; kind = Some k }
 
 abbrev pub kinds_of : List Typed → List (Option Kind)
 kinds_of xs = map (λ (x : Typed). x.kind) xs
@@ -44,18 +44,18 @@ exprs_of xs = map (λ (x : Typed). x.expr) xs
 
 -- the lexer passes no other integer
 unfoldable pub integer : Integer → Result Typed Refusal
-integer n = if nat_lt n.value (2 ^ 63) then Ok (typed (expr.Literal (value.Int (if n.is_negative then neg_ℤ (pos n.value) else pos n.value))) kind.Int) else Err BadToken
+integer n = if nat_lt n.value (2 ^ 63) then Ok (of_kind (expr.Literal (value.Int (if n.is_negative then neg_ℤ (pos n.value) else pos n.value))) kind.Int) else Err BadToken
 
 -- ---- operators
 
 unfoldable pub unary_minus : Typed → Result Typed Refusal
-unary_minus x = if takes kind.Int x.kind then Ok (typed (expr.Negative x.expr) kind.Int) else Err TypeMismatch
+unary_minus x = if takes kind.Int x.kind then Ok (of_kind (expr.Negative x.expr) kind.Int) else Err TypeMismatch
 
 unfoldable pub logical_not : Typed → Result Typed Refusal
-logical_not x = if takes kind.Bool x.kind then Ok (typed (expr.Not x.expr) kind.Bool) else Err TypeMismatch
+logical_not x = if takes kind.Bool x.kind then Ok (of_kind (expr.Not x.expr) kind.Bool) else Err TypeMismatch
 
 unfoldable pub null_test : Typed → Typed
-null_test x = typed (expr.IsNull x.expr) kind.Bool
+null_test x = of_kind (expr.IsNull x.expr) kind.Bool
 
 unfoldable pub comparison_of : ComparisonOperator → Compares
 comparison_of tree.Equal = compares.Equal
@@ -66,18 +66,18 @@ comparison_of tree.Greater = compares.Greater
 comparison_of tree.AtLeast = compares.AtLeast
 
 unfoldable pub comparison_test : ComparisonOperator → Typed → Typed → Result Typed Refusal
-comparison_test c x y = and_then (common_kind x.kind y.kind) (λ k. Ok (typed (expr.Compare x.expr (comparison_of c) y.expr) kind.Bool))
+comparison_test c x y = and_then (common_kind x.kind y.kind) (λ k. Ok (of_kind (expr.Compare x.expr (comparison_of c) y.expr) kind.Bool))
 
 -- the operands are checked together
 unfoldable pub between : Typed → Typed → Typed → Result Typed Refusal
-between x low high = and_then (common_kind_of_all (x.kind ∷ low.kind ∷ high.kind ∷ [])) (λ k. Ok (typed (expr.Between x.expr low.expr high.expr) kind.Bool))
+between x low high = and_then (common_kind_of_all (x.kind ∷ low.kind ∷ high.kind ∷ [])) (λ k. Ok (of_kind (expr.Between x.expr low.expr high.expr) kind.Bool))
 
 unfoldable pub in_list : Typed → List Typed → Result Typed Refusal
-in_list x members = and_then (common_kind_of_all (x.kind ∷ kinds_of members)) (λ k. Ok (typed (expr.In x.expr (exprs_of members)) kind.Bool))
+in_list x members = and_then (common_kind_of_all (x.kind ∷ kinds_of members)) (λ k. Ok (of_kind (expr.In x.expr (exprs_of members)) kind.Bool))
 
 abbrev pub like_test_of : Expr → Option (List PatternPart) → Result Typed Refusal
 like_test_of e None = Err BadPattern
-like_test_of e (Some parts) = Ok (typed (expr.Like e parts) kind.Bool)
+like_test_of e (Some parts) = Ok (of_kind (expr.Like e parts) kind.Bool)
 
 -- the pattern is a string literal as it is spelt
 unfoldable pub like_test : List ℕ → Typed → Result Typed Refusal
@@ -121,24 +121,24 @@ abbrev pub case_kind : List TypedArm → Option Typed → Result Kind Refusal
 case_kind arms other = if list_all has_condition arms then value_kind arms other else Err TypeMismatch
 
 unfoldable pub case_of : List TypedArm → Option Typed → Result Typed Refusal
-case_of arms other = and_then (case_kind arms other) (λ k. Ok (typed (expr.Case (map arm_of arms) (otherwise_of other)) k))
+case_of arms other = and_then (case_kind arms other) (λ k. Ok (of_kind (expr.Case (map arm_of arms) (otherwise_of other)) k))
 
 unfoldable pub match_of : Typed → List TypedArm → Option Typed → Result Typed Refusal
-match_of x arms other = and_then (value_kind arms other) (λ k. Ok (typed (expr.Match x.expr (map arm_of arms) (otherwise_of other)) k))
+match_of x arms other = and_then (value_kind arms other) (λ k. Ok (of_kind (expr.Match x.expr (map arm_of arms) (otherwise_of other)) k))
 
 -- ---- calls
 
 unfoldable pub calculation_of : Calculates → Typed → Typed → Result Typed Refusal
-calculation_of op x y = if takes kind.Int x.kind && takes kind.Int y.kind then Ok (typed (expr.Chain x.expr (record { operator = op; operand = y.expr } ∷ [])) kind.Int) else Err TypeMismatch
+calculation_of op x y = if takes kind.Int x.kind && takes kind.Int y.kind then Ok (of_kind (expr.Chain x.expr (record { operator = op; operand = y.expr } ∷ [])) kind.Int) else Err TypeMismatch
 
 unfoldable pub length_of : Typed → Result Typed Refusal
-length_of x = and_then (text_kind x.kind) (λ k. Ok (typed (expr.Length x.expr) kind.Int))
+length_of x = and_then (text_kind x.kind) (λ k. Ok (of_kind (expr.Length x.expr) kind.Int))
 
 unfoldable pub starts_with : Typed → Typed → Result Typed Refusal
-starts_with x front = and_then (and_then (common_kind x.kind front.kind) text_kind) (λ k. Ok (typed (expr.StartsWith x.expr front.expr) kind.Bool))
+starts_with x front = and_then (and_then (common_kind x.kind front.kind) text_kind) (λ k. Ok (of_kind (expr.StartsWith x.expr front.expr) kind.Bool))
 
 unfoldable pub coalesce_of : List Typed → Result Typed Refusal
-coalesce_of xs = and_then (common_kind_of_all (kinds_of xs)) (λ k. Ok (typed (expr.Coalesce (exprs_of xs)) (or_int k)))
+coalesce_of xs = and_then (common_kind_of_all (kinds_of xs)) (λ k. Ok (of_kind (expr.Coalesce (exprs_of xs)) (or_int k)))
 
 -- ---- operands by their number; a wrong number is a wrong type
 

@@ -35,18 +35,18 @@ use Rattle.span_typing.specs.Scopes.{column_place}
 use Rattle.span_typing.specs.Functions.{function_named}
 use Rattle.span_value.specs.Results.{and_then}
 use Rattle.span_typing.specs.Steps.{TypingStep, pure, from_result, ◌>>=◌, fold_steps, all_of}
-use Rattle.span_typing.specs.Operators.{typed, integer, unary_minus, logical_not, null_test, comparison_test, between, in_list, like_test, are_conditions, operator_of, link_kind, case_of, match_of, apply_function, operand_of, aggregate_kind}
+use Rattle.span_typing.specs.Operators.{of_kind, integer, unary_minus, logical_not, null_test, comparison_test, between, in_list, like_test, are_conditions, operator_of, link_kind, case_of, match_of, apply_function, operand_of, aggregate_kind}
 
 -- ---- literals, columns and parameters
 
 unfoldable pub string : List ℕ → Typed
-string spelled = typed (expr.Literal (value.Str (text_of spelled))) kind.Str
+string spelled = of_kind (expr.Literal (value.Str (text_of spelled))) kind.Str
 
 unfoldable pub bytes : List ℕ → Typed
-bytes spelled = typed (expr.Literal (value.Bytes (bytes_of spelled))) kind.Bytes
+bytes spelled = of_kind (expr.Literal (value.Bytes (bytes_of spelled))) kind.Bytes
 
 abbrev pub truth : Bool → Typed
-truth b = typed (expr.Literal (value.Bool b)) kind.Bool
+truth b = of_kind (expr.Literal (value.Bool b)) kind.Bool
 
 abbrev pub null : Typed
 null = record { expr = expr.Literal value.Null; kind = None }
@@ -60,11 +60,11 @@ kind_at scope place = or_number (slice_get scope.columns place)
 
 abbrev pub key_typed : Kind → Option ℕ → Result Typed Refusal
 key_typed k None = Err NotGrouped
-key_typed k (Some place) = Ok (typed (expr.Column place) k)
+key_typed k (Some place) = Ok (of_kind (expr.Column place) k)
 
 -- at a row of the groups there are only the grouped columns
 unfoldable pub column_at : Scope → Mode → ℕ → Result Typed Refusal
-column_at scope Rows place = Ok (typed (expr.Column place) (kind_at scope place))
+column_at scope Rows place = Ok (of_kind (expr.Column place) (kind_at scope place))
 column_at scope Groups place = key_typed (kind_at scope place) (position (λ (k : ℕ). k == place) scope.keys)
 
 unfoldable pub column : Scope → Mode → Column → Result Typed Refusal
@@ -72,7 +72,7 @@ column scope m c = and_then (column_place scope c) (column_at scope m)
 
 abbrev pub parameter_typed : Option Parameter → Result Typed Refusal
 parameter_typed None = Err NoParameter
-parameter_typed (Some p) = Ok (typed (expr.Literal p.value) p.kind)
+parameter_typed (Some p) = Ok (of_kind (expr.Literal p.value) p.kind)
 
 -- it is spelt with its @
 unfoldable pub parameter : List Parameter → List ℕ → Result Typed Refusal
@@ -102,10 +102,10 @@ abbrev pub conditions : Option Kind → List Operand → Mode → Finds (List Ty
 conditions k os m = all_of (λ (a : Operand). condition k a m) os
 
 unfoldable pub all_true : Typed → List TypedExpr → Typed
-all_true x es = typed (expr.And x.expr es) kind.Bool
+all_true x es = of_kind (expr.And x.expr es) kind.Bool
 
 unfoldable pub some_true : Typed → List TypedExpr → Typed
-some_true x es = typed (expr.Or x.expr es) kind.Bool
+some_true x es = of_kind (expr.Or x.expr es) kind.Bool
 
 -- a chain, one operator on
 unfoldable pub append_link : Chain → Operator → Typed → Result Chain Refusal
@@ -188,7 +188,7 @@ next_place scope Groups found = Ok (length scope.keys + length found)
 -- a new aggregate of the block; its place is after the grouped columns and the aggregates before it
 unfoldable pub new_aggregate : Scope → Mode → Aggregate → Kind → Finds Typed
 new_aggregate scope Rows a k found = Err NotGrouped
-new_aggregate scope Groups a k found = Ok (typed (expr.Column (length scope.keys + length found)) k, found ++ (a ∷ []))
+new_aggregate scope Groups a k found = Ok (of_kind (expr.Column (length scope.keys + length found)) k, found ++ (a ∷ []))
 
 unfoldable pub aggregate : Scope → Mode → Function → List Typed → Finds Typed
 aggregate scope m f xs = from_result (operand_of f xs) >>= (λ x. new_aggregate scope m (Of f x.expr) (aggregate_kind f x.kind))

@@ -8,7 +8,7 @@ ghost use Rattle.span_typing.specs.Operators as spec;
 use super::choice::{case_of, coalesce_of};
 use super::function::CalledFunction;
 use super::kind::{common_kind, takes, text_kind};
-use super::operator::{TypingResult, typed};
+use super::operator::{TypingResult, of_kind};
 use super::step::{append, box_second, box_two, keep_if, pair_with};
 use super::typed::{Typed, TypedArm};
 use span_expr::expr::{Expr, Link, Operator};
@@ -56,7 +56,7 @@ fn calculation_of(alloc: Global, operator: Operator, left: Typed, right: Typed) 
         operator,
         operand: right,
     })?;
-    Ok(typed(Expr::Chain(left, links), Kind::Int))
+    Ok(of_kind(Expr::Chain(left, links), Kind::Int))
 }
 
 #[tactic(auto, unfolding(crate::specs::Operators::length_of))]
@@ -64,7 +64,7 @@ fn length_of(alloc: Global, operand: Typed) -> TypingResult
     ensures { Gives result (spec.length_of operand) }
 {
     let (operand, _) = pair_with(operand.expr, text_kind(operand.kind))?;
-    Ok(typed(Expr::Length(Boxed::new(alloc, operand)?), Kind::Int))
+    Ok(of_kind(Expr::Length(Boxed::new(alloc, operand)?), Kind::Int))
 }
 
 /// The type of two operands that are both strings or both BYTES.
@@ -81,7 +81,7 @@ fn starts_with(alloc: Global, text: Typed, front: Typed) -> TypingResult
     let kind = common_text_kind(text.kind, front.kind);
     let ((text, front), _) = pair_with((text, front), kind)?;
     let (text, front) = box_two(alloc, text.expr, front.expr)?;
-    Ok(typed(Expr::StartsWith(text, front), Kind::Bool))
+    Ok(of_kind(Expr::StartsWith(text, front), Kind::Bool))
 }
 
 #[tactic(auto, using(crate::proofs::Agreement::counting))]

@@ -7,7 +7,7 @@ ghost use Rattle.span_expr.specs.declared.expr.Expr.TheVariants as expr;
 ghost use Rattle.span_typing.specs.Operators as spec;
 
 use super::kind::{common_kind, or_int, takes};
-use super::operator::{TypingResult, typed};
+use super::operator::{TypingResult, of_kind};
 use super::step::{box_second, pair_with};
 use super::typed::{Typed, TypedArm};
 use span_expr::expr::{Arm, Expr};
@@ -49,7 +49,7 @@ pub(crate) fn in_list(alloc: Global, operand: Typed, members: Seq<Typed>) -> Typ
     let (operand, _) = pair_with(operand.expr, kind)?;
     let operand = Boxed::new(alloc, operand)?;
     let members = exprs_of(alloc, members)?;
-    Ok(typed(Expr::In(operand, members), Kind::Bool))
+    Ok(of_kind(Expr::In(operand, members), Kind::Bool))
 }
 
 #[tactic(auto, unfolding(crate::specs::Operators::coalesce_of, crate::specs::Kinds::common_kind))]
@@ -58,7 +58,7 @@ pub(crate) fn coalesce_of(alloc: Global, operands: Seq<Typed>) -> TypingResult
 {
     let kind = kind_of_all(operands.as_slice(), None)?;
     let exprs = exprs_of(alloc, operands)?;
-    Ok(typed(Expr::Coalesce(exprs), or_int(kind)))
+    Ok(of_kind(Expr::Coalesce(exprs), or_int(kind)))
 }
 
 fn have_conditions(arms: &[TypedArm]) -> bool
@@ -148,7 +148,7 @@ pub(crate) fn case_of(alloc: Global, arms: Seq<TypedArm>, otherwise: Option<Type
 {
     let kind = case_kind(arms.as_slice(), &otherwise);
     let (otherwise, kind) = pair_with(otherwise, kind)?;
-    Ok(typed(case_expr(alloc, arms, otherwise)?, kind))
+    Ok(of_kind(case_expr(alloc, arms, otherwise)?, kind))
 }
 
 fn match_expr(
@@ -177,5 +177,5 @@ pub(crate) fn match_of(
 {
     let kind = value_kind(arms.as_slice(), &otherwise);
     let ((operand, otherwise), kind) = pair_with((operand.expr, otherwise), kind)?;
-    Ok(typed(match_expr(alloc, operand, arms, otherwise)?, kind))
+    Ok(of_kind(match_expr(alloc, operand, arms, otherwise)?, kind))
 }

@@ -11,7 +11,7 @@ ghost use Rattle.span_typing.specs.Typing as spec;
 use super::call::operand_of;
 use super::function::CalledFunction;
 use super::kind::or_int;
-use super::operator::{TypingResult, typed};
+use super::operator::{TypingResult, of_kind};
 use super::scope::{Scope, column_place};
 use super::step::{append, pair_with};
 use super::typed::{Mode, Typed};
@@ -30,7 +30,7 @@ pub(crate) fn string(alloc: Global, spelled: &str) -> TypingResult
     ensures { Gives result (Ok (spec.string spelled.now)) }
 {
     let text = text_of(alloc, spelled)?;
-    Ok(typed(Expr::Literal(Value::Str(text)), Kind::Str))
+    Ok(of_kind(Expr::Literal(Value::Str(text)), Kind::Str))
 }
 
 #[tactic(auto, unfolding(crate::specs::Typing::bytes))]
@@ -38,13 +38,13 @@ pub(crate) fn bytes(alloc: Global, spelled: &str) -> TypingResult
     ensures { Gives result (Ok (spec.bytes spelled.now)) }
 {
     let bytes = bytes_of(alloc, spelled)?;
-    Ok(typed(Expr::Literal(Value::Bytes(bytes)), Kind::Bytes))
+    Ok(of_kind(Expr::Literal(Value::Bytes(bytes)), Kind::Bytes))
 }
 
 pub(crate) fn truth(value: bool) -> Typed
     ensures { result ≡ spec.truth value }
 {
-    typed(Expr::Literal(Value::Bool(value)), Kind::Bool)
+    of_kind(Expr::Literal(Value::Bool(value)), Kind::Bool)
 }
 
 pub(crate) fn null() -> Typed
@@ -83,7 +83,7 @@ pub(crate) fn parameter(alloc: Global, params: &Params, spelled: &str) -> Typing
         None => Err(Refusal::NoParameter),
         Some(parameter) => {
             let value = parameter.value.copy(alloc)?;
-            Ok(typed(Expr::Literal(value), parameter.kind))
+            Ok(of_kind(Expr::Literal(value), parameter.kind))
         }
     }
 }
@@ -105,7 +105,7 @@ pub fn column_at(scope: &Scope, mode: Mode, place: usize) -> TypingResult
 {
     let kind = kind_at(scope, place);
     match mode {
-        Mode::Rows => Ok(typed(Expr::Column(place), kind)),
+        Mode::Rows => Ok(of_kind(Expr::Column(place), kind)),
         Mode::Groups => key_typed(kind, place_of_key(scope.keys.as_slice(), place)),
     }
 }
@@ -115,7 +115,7 @@ fn key_typed(kind: Kind, key: Option<usize>) -> TypingResult
 {
     match key {
         None => Err(Refusal::NotGrouped),
-        Some(place) => Ok(typed(Expr::Column(place), kind)),
+        Some(place) => Ok(of_kind(Expr::Column(place), kind)),
     }
 }
 
@@ -162,7 +162,7 @@ fn new_aggregate(
 {
     let (aggregate, place) = pair_with(aggregate, next_place(scope, mode, found))?;
     append(found, aggregate)?;
-    Ok(typed(Expr::Column(place), kind))
+    Ok(of_kind(Expr::Column(place), kind))
 }
 
 /// COUNT(*). The error is `TypeMismatch` for another name.

@@ -4,7 +4,7 @@ ghost use Rattle.span_typing.specs.Steps.{Gives};
 ghost use Rattle.span_typing.specs.Typing as spec;
 
 use super::kind::common_kind;
-use super::operator::{TypingResult, are_conditions, typed};
+use super::operator::{TypingResult, are_conditions, of_kind};
 use super::step::{keep_if, pair_with};
 use super::typed::Typed;
 use span_expr::expr::Expr;
@@ -39,7 +39,7 @@ pub(crate) fn all_true(alloc: Global, first: Typed, more: Seq<Expr>) -> TypingRe
 {
     let first = Boxed::new(alloc, first.expr)?;
     let more = Items::from_vec(more.into_vec());
-    Ok(typed(Expr::And(first, more), Kind::Bool))
+    Ok(of_kind(Expr::And(first, more), Kind::Bool))
 }
 
 /// An OR, of its first operand and the others.
@@ -49,5 +49,5 @@ pub(crate) fn some_true(alloc: Global, first: Typed, more: Seq<Expr>) -> TypingR
 {
     let first = Boxed::new(alloc, first.expr)?;
     let more = Items::from_vec(more.into_vec());
-    Ok(typed(Expr::Or(first, more), Kind::Bool))
+    Ok(of_kind(Expr::Or(first, more), Kind::Bool))
 }

@@ -20,8 +20,8 @@ use std::alloc::Global;
 /// The result for a tree, or for a part of one.
 pub(crate) type TypingResult = Result<Typed, Refusal>;
 
-pub(crate) fn typed(expr: Expr, kind: Kind) -> Typed
-    ensures { result ≡ spec.typed expr kind }
+pub(crate) fn of_kind(expr: Expr, kind: Kind) -> Typed
+    ensures { result ≡ spec.of_kind expr kind }
 {
     Typed {
         expr,
@@ -37,7 +37,7 @@ pub(crate) fn integer(literal: tree::Integer) -> TypingResult
     match i64::try_from(literal.value) {
         Ok(value) => {
             let value = if literal.is_negative { -value } else { value };
-            Ok(typed(Expr::Literal(Value::Int(value)), Kind::Int))
+            Ok(of_kind(Expr::Literal(Value::Int(value)), Kind::Int))
         }
         Err(_) => Err(Refusal::BadToken),
     }
@@ -48,7 +48,7 @@ pub(crate) fn unary_minus(alloc: Global, operand: Typed) -> TypingResult
     ensures { Gives result (spec.unary_minus operand) }
 {
     let operand = keep_if(takes(Kind::Int, operand.kind), operand.expr)?;
-    Ok(typed(Expr::Negative(Boxed::new(alloc, operand)?), Kind::Int))
+    Ok(of_kind(Expr::Negative(Boxed::new(alloc, operand)?), Kind::Int))
 }
 
 #[tactic(auto, unfolding(crate::specs::Operators::logical_not))]
@@ -56,14 +56,14 @@ pub(crate) fn logical_not(alloc: Global, operand: Typed) -> TypingResult
     ensures { Gives result (spec.logical_not operand) }
 {
     let operand = keep_if(takes(Kind::Bool, operand.kind), operand.expr)?;
-    Ok(typed(Expr::Not(Boxed::new(alloc, operand)?), Kind::Bool))
+    Ok(of_kind(Expr::Not(Boxed::new(alloc, operand)?), Kind::Bool))
 }
 
 #[tactic(auto, unfolding(crate::specs::Operators::null_test))]
 pub(crate) fn null_test(alloc: Global, operand: Typed) -> TypingResult
     ensures { Gives result (Ok (spec.null_test operand)) }
 {
-    Ok(typed(Expr::IsNull(Boxed::new(alloc, operand.expr)?), Kind::Bool))
+    Ok(of_kind(Expr::IsNull(Boxed::new(alloc, operand.expr)?), Kind::Bool))
 }
 
 #[tactic(auto, unfolding(crate::specs::Operators::comparison_of))]
@@ -93,7 +93,7 @@ pub(crate) fn comparison_test(
     let ((left, right), _) = pair_with((left, right), kind)?;
     let (left, right) = box_two(alloc, left.expr, right.expr)?;
     let comparison = comparison_of(comparison);
-    Ok(typed(Expr::Compare(left, comparison, right), Kind::Bool))
+    Ok(of_kind(Expr::Compare(left, comparison, right), Kind::Bool))
 }
 
 /// The one type of three operands.
@@ -117,7 +117,7 @@ pub(crate) fn between(alloc: Global, operand: Typed, low: Typed, high: Typed) ->
     let kind = common_kind_of_all(operand.kind, low.kind, high.kind);
     let ((operand, low, high), _) = pair_with((operand, low, high), kind)?;
     let (operand, low, high) = box_three(alloc, operand.expr, low.expr, high.expr)?;
-    Ok(typed(Expr::Between(operand, low, high), Kind::Bool))
+    Ok(of_kind(Expr::Between(operand, low, high), Kind::Bool))
 }
 
 /// A LIKE, with its pattern as it is spelt.
@@ -129,7 +129,7 @@ pub(crate) fn like_test(alloc: Global, operand: Typed, pattern: &str) -> TypingR
     let operand = Boxed::new(alloc, operand)?;
     let pattern = text_of(alloc, pattern)?;
     let parts = parts_of(alloc, pattern.as_str())?;
-    Ok(typed(Expr::Like(operand, parts), Kind::Bool))
+    Ok(of_kind(Expr::Like(operand, parts), Kind::Bool))
 }
 
 /// Whether both operands of an AND or an OR can be conditions.

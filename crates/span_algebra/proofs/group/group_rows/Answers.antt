@@ -15,9 +15,9 @@ returns-in_err-is_kept c =
     let rows = c.args.rows.now in
     let row = c.row-item.result in
     let why = c.in_err-is_kept.field-0.0 in
-    let told : Gives (Err why) (holds_where filter row) = search rules in
+    let known : Gives (Err why) (holds_where filter row) = search rules in
     let fails : Gives (Err why) (filter_where filter rows >>= groups c.args.grouping.now) =
-    pass_fails filter c.args.grouping.now rows c.loop-row.row-index c.loop-row.groups.items c.loop-row.invariant row c.loop-row-test.true c.row-item.is why told in
+    pass_fails filter c.args.grouping.now rows c.loop-row.row-index c.loop-row.groups.items c.loop-row.invariant row c.loop-row-test.true c.row-item.is why known in
     search (rules, fails)
 
 pub returns-in_err-take_row : goal.returns-in_err-take_row

@@ -9,8 +9,8 @@ use Rattle.span_command.proofs.layout.cell_of.Goals as goal
 
 pub returns-in_err-value-clause-refusals : goal.returns-in_err-value-clause-refusals
 returns-in_err-value-clause-refusals c =
-    let told = err_from_is_err_and c.from_residual.result c.from_residual.ensures.1 in
-    rw (told.1, told.2) (by c.in_err-value.ensures.refusals)
+    let known = err_from_is_err_and c.from_residual.result c.from_residual.ensures.1 in
+    rw (known.1, known.2) (by c.in_err-value.ensures.refusals)
   where
     by : (c.in_err-value.field-0.0 ≡ refusal.OutOfMemory) ⊎ ((c.in_err-value.field-0.0 ≡ refusal.WrongType) × ((value : Value) → IsFieldCell (fields_of c.args.fields.now) c.args.part.now.at c.args.part.now.kind value → ⊥))
         → (c.in_err-value.field-0.0 ≡ refusal.OutOfMemory) ⊎ ((c.in_err-value.field-0.0 ≡ refusal.WrongType) × ((cell : NamedValue) → IsColumnCell (fields_of c.args.fields.now) c.args.part.now cell → ⊥))

@@ -15,8 +15,8 @@ loop-part-preserved c =
 
 pub returns-in_err-cell_of-clause-refusals : goal.returns-in_err-cell_of-clause-refusals
 returns-in_err-cell_of-clause-refusals c =
-    let told = err_from_is_err_and c.from_residual.result c.from_residual.ensures.1 in
-    rw (told.1, told.2) (by c.in_err-cell_of.ensures.refusals)
+    let known = err_from_is_err_and c.from_residual.result c.from_residual.ensures.1 in
+    rw (known.1, known.2) (by c.in_err-cell_of.ensures.refusals)
   where
     by : (c.in_err-cell_of.field-0.0 ≡ refusal.OutOfMemory) ⊎ ((c.in_err-cell_of.field-0.0 ≡ refusal.WrongType) × ((x : NamedValue) → IsColumnCell (fields_of c.args.fields.now) c.part-item.result x → ⊥))
         → (c.in_err-cell_of.field-0.0 ≡ refusal.OutOfMemory) ⊎ ((c.in_err-cell_of.field-0.0 ≡ refusal.WrongType) × ((xs : List NamedValue) → AllZip (IsColumnCell (fields_of c.args.fields.now)) c.args.parts.now xs → ⊥))

@@ -16,8 +16,8 @@ loop-part-preserved c =
 
 pub returns-in_err-value_at-clause-refusals : goal.returns-in_err-value_at-clause-refusals
 returns-in_err-value_at-clause-refusals c =
-    let told = err_from_is_err_and c.from_residual.result c.from_residual.ensures.1 in
-    rw (told.1, told.2) (by c.in_err-value_at.ensures.refusals)
+    let known = err_from_is_err_and c.from_residual.result c.from_residual.ensures.1 in
+    rw (known.1, known.2) (by c.in_err-value_at.ensures.refusals)
   where
     by : (c.in_err-value_at.field-0.0 ≡ refusal.OutOfMemory) ⊎ ((c.in_err-value_at.field-0.0 ≡ refusal.WrongType) × ((x : Value) → IsKeyCell (fields_of c.args.fields.now) (get_or c.args.parts.now c.loop-part.part-index (record { at = 0; kind = kind.Int })) x → ⊥))
         → (c.in_err-value_at.field-0.0 ≡ refusal.OutOfMemory) ⊎ ((c.in_err-value_at.field-0.0 ≡ refusal.WrongType) × ((xs : List Value) → AllZip (IsKeyCell (fields_of c.args.fields.now)) c.args.parts.now xs → ⊥))

@@ -24,12 +24,12 @@ pub returns-in_err-new_place-clause-refusals : goal.returns-in_err-new_place-cla
 returns-in_err-new_place-clause-refusals c =
     let unplaced : IsUnplaced (columns_of c.args.schema.now c.args.table) c.loop-name.places.items c.in-Some.name.now = rw c.as_slice.ensures.value at c.in_err-new_place.ensures.refusals.1 in
     let none = no_place (columns_of c.args.schema.now c.args.table) c.args.names.now c.loop-name.places.items c.loop-name.rest.now c.in-Some.name.now (pieces c.in-Some.following.now) c.loop-name.invariant.1 c.in-Some.ensures.cut unplaced in
-    let told = err_from_is_err_and c.from_residual.result c.from_residual.ensures.1 in
-    rw (told.1, told.2) (inr (c.in_err-new_place.ensures.refusals.0, none))
+    let known = err_from_is_err_and c.from_residual.result c.from_residual.ensures.1 in
+    rw (known.1, known.2) (inr (c.in_err-new_place.ensures.refusals.0, none))
 
 pub returns-in_err-new_place-2-clause-refusals : goal.returns-in_err-new_place-2-clause-refusals
 returns-in_err-new_place-2-clause-refusals c =
     let unplaced : IsUnplaced (columns_of c.args.schema.now c.args.table) c.loop-name.places.items c.loop-name.rest.now = rw c.as_slice-2.ensures.value at c.in_err-new_place-2.ensures.refusals.1 in
     let none = no_place (columns_of c.args.schema.now c.args.table) c.args.names.now c.loop-name.places.items c.loop-name.rest.now c.loop-name.rest.now [] c.loop-name.invariant.1 c.in_default.ensures.cut unplaced in
-    let told = err_from_is_err_and c.from_residual-in_err-new_place-2.result c.from_residual-in_err-new_place-2.ensures.1 in
-    rw (told.1, told.2) (inr (c.in_err-new_place-2.ensures.refusals.0, none))
+    let known = err_from_is_err_and c.from_residual-in_err-new_place-2.result c.from_residual-in_err-new_place-2.ensures.1 in
+    rw (known.1, known.2) (inr (c.in_err-new_place-2.ensures.refusals.0, none))

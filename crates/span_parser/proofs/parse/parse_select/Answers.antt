@@ -18,8 +18,8 @@ returns-in-Ok-clause-read c =
     let made : HasItems c.args.text.now is.0 = record { are = is.1; spells = is.2; short = c.in-Ok.ensures.short } in
     let same : read_to_end (statement c.as_bytes.result.now limit) (lexemes_of c.as_bytes.result.now c.as_slice.result.now) ≡ read_to_end (statement c.args.text.now limit) (lexemes_in c.args.text.now is.0) =
     ap (λ (w : List ℕ). read_to_end (statement w limit) (lexemes_of w c.as_slice.result.now)) c.as_bytes.ensures.value ∙ ap (λ (w : List Token). read_to_end (statement c.args.text.now limit) (lexemes_of c.args.text.now w)) (c.as_slice.ensures ∙ is.3) in
-    let told : Reports c.query_of.result (read_to_end (statement c.args.text.now limit) (lexemes_in c.args.text.now is.0)) = subst (λ (o : Result (Query) SyntaxError). Reports c.query_of.result o) same c.query_of.ensures in
-    text_value goal_of.Statement (statement c.args.text.now limit) (statement_good c.args.text.now limit) c.args.text.now is.0 made c.query_of.result told
+    let known : Reports c.query_of.result (read_to_end (statement c.args.text.now limit) (lexemes_in c.args.text.now is.0)) = subst (λ (o : Result (Query) SyntaxError). Reports c.query_of.result o) same c.query_of.ensures in
+    text_value goal_of.Statement (statement c.args.text.now limit) (statement_good c.args.text.now limit) c.args.text.now is.0 made c.query_of.result known
 
 pub returns-in-Ok-clause-read_all : goal.returns-in-Ok-clause-read_all
 returns-in-Ok-clause-read_all c =
@@ -27,8 +27,8 @@ returns-in-Ok-clause-read_all c =
     let made : HasItems c.args.text.now is.0 = record { are = is.1; spells = is.2; short = c.in-Ok.ensures.short } in
     let same : read_to_end (statement c.as_bytes.result.now limit) (lexemes_of c.as_bytes.result.now c.as_slice.result.now) ≡ read_to_end (statement c.args.text.now limit) (lexemes_in c.args.text.now is.0) =
     ap (λ (w : List ℕ). read_to_end (statement w limit) (lexemes_of w c.as_slice.result.now)) c.as_bytes.ensures.value ∙ ap (λ (w : List Token). read_to_end (statement c.args.text.now limit) (lexemes_of c.args.text.now w)) (c.as_slice.ensures ∙ is.3) in
-    let told : Reports c.query_of.result (read_to_end (statement c.args.text.now limit) (lexemes_in c.args.text.now is.0)) = subst (λ (o : Result (Query) SyntaxError). Reports c.query_of.result o) same c.query_of.ensures in
-    text_value_all goal_of.Statement (statement c.args.text.now limit) (statement_good c.args.text.now limit) c.args.text.now is.0 made c.query_of.result told
+    let known : Reports c.query_of.result (read_to_end (statement c.args.text.now limit) (lexemes_in c.args.text.now is.0)) = subst (λ (o : Result (Query) SyntaxError). Reports c.query_of.result o) same c.query_of.ensures in
+    text_value_all goal_of.Statement (statement c.args.text.now limit) (statement_good c.args.text.now limit) c.args.text.now is.0 made c.query_of.result known
 
 pub returns-in-Ok-clause-refused : goal.returns-in-Ok-clause-refused
 returns-in-Ok-clause-refused c =
@@ -36,8 +36,8 @@ returns-in-Ok-clause-refused c =
     let made : HasItems c.args.text.now is.0 = record { are = is.1; spells = is.2; short = c.in-Ok.ensures.short } in
     let same : read_to_end (statement c.as_bytes.result.now limit) (lexemes_of c.as_bytes.result.now c.as_slice.result.now) ≡ read_to_end (statement c.args.text.now limit) (lexemes_in c.args.text.now is.0) =
     ap (λ (w : List ℕ). read_to_end (statement w limit) (lexemes_of w c.as_slice.result.now)) c.as_bytes.ensures.value ∙ ap (λ (w : List Token). read_to_end (statement c.args.text.now limit) (lexemes_of c.args.text.now w)) (c.as_slice.ensures ∙ is.3) in
-    let told : Reports c.query_of.result (read_to_end (statement c.args.text.now limit) (lexemes_in c.args.text.now is.0)) = subst (λ (o : Result (Query) SyntaxError). Reports c.query_of.result o) same c.query_of.ensures in
-    text_refused goal_of.Statement (statement c.args.text.now limit) (statement_good c.args.text.now limit) c.args.text.now is.0 made c.query_of.result told
+    let known : Reports c.query_of.result (read_to_end (statement c.args.text.now limit) (lexemes_in c.args.text.now is.0)) = subst (λ (o : Result (Query) SyntaxError). Reports c.query_of.result o) same c.query_of.ensures in
+    text_refused goal_of.Statement (statement c.args.text.now limit) (statement_good c.args.text.now limit) c.args.text.now is.0 made c.query_of.result known
 
 pub returns-in-Ok-clause-refused_all : goal.returns-in-Ok-clause-refused_all
 returns-in-Ok-clause-refused_all c =
@@ -45,8 +45,8 @@ returns-in-Ok-clause-refused_all c =
     let made : HasItems c.args.text.now is.0 = record { are = is.1; spells = is.2; short = c.in-Ok.ensures.short } in
     let same : read_to_end (statement c.as_bytes.result.now limit) (lexemes_of c.as_bytes.result.now c.as_slice.result.now) ≡ read_to_end (statement c.args.text.now limit) (lexemes_in c.args.text.now is.0) =
     ap (λ (w : List ℕ). read_to_end (statement w limit) (lexemes_of w c.as_slice.result.now)) c.as_bytes.ensures.value ∙ ap (λ (w : List Token). read_to_end (statement c.args.text.now limit) (lexemes_of c.args.text.now w)) (c.as_slice.ensures ∙ is.3) in
-    let told : Reports c.query_of.result (read_to_end (statement c.args.text.now limit) (lexemes_in c.args.text.now is.0)) = subst (λ (o : Result (Query) SyntaxError). Reports c.query_of.result o) same c.query_of.ensures in
-    text_refused_all goal_of.Statement (statement c.args.text.now limit) (statement_good c.args.text.now limit) c.args.text.now is.0 made c.query_of.result told
+    let known : Reports c.query_of.result (read_to_end (statement c.args.text.now limit) (lexemes_in c.args.text.now is.0)) = subst (λ (o : Result (Query) SyntaxError). Reports c.query_of.result o) same c.query_of.ensures in
+    text_refused_all goal_of.Statement (statement c.args.text.now limit) (statement_good c.args.text.now limit) c.args.text.now is.0 made c.query_of.result known
 
 pub returns-in-Err-clause-read_all : goal.returns-in-Err-clause-read_all
 returns-in-Err-clause-read_all c = λ q t. misread_value goal_of.Statement (statement c.args.text.now limit).of c.args.text.now c.in-Err.why c.in-Err.ensures.refused q t
