@@ -4,16 +4,18 @@
     tests/edits.py [--jobs N]               every crate's edits
     tests/edits.py [--jobs N] CRATE ..      these crates' alone
 
-It works on a copy of the repository, in which these edits are in the place of those that the gate tries: it builds the libraries that the
-crates need, and then runs `rt must-fail` on N crates at a time (as many as there are processors, where no number is given). A crate's first
-edit takes as long as its proof. Run it for a crate whose contracts or code changed. Where all edits of a crate are refused, its line in
-tests/edits/README.md gets the date and the commit.
+It works on a copy of the repository, builds the libraries that the crates need, and tries N edits at a time (as many as there are
+processors, where no number is given), each over what `rt check` kept of its crate: so prove the crates first (`rt all check`), or the first
+edits of a crate take as long as its proof. Run it for a crate whose contracts or code changed. Where all edits of a crate are refused, its
+line in tests/edits/README.md gets the date and the commit.
 
 An edit that is refused only because a proof file names what the edit took away says little of the contract: such edits are counted apart.
 """
 import argparse
 import concurrent.futures
 import datetime
+import importlib.machinery
+import importlib.util
 import os
 import re
 import shutil
@@ -24,13 +26,14 @@ import tempfile
 TOP = os.path.dirname(os.path.dirname(os.path.abspath(__file__)))
 EDITS = os.path.join(TOP, "tests", "edits")
 README = os.path.join(EDITS, "README.md")
-REFUSED = ": refused, as it must be"
 BY_NAMES = "only because a proof file names"
+# Edits that are tried one after another over one copy of what is kept of their crate.
+TOGETHER = 8
 
 
 def arguments():
     reader = argparse.ArgumentParser(description=__doc__.split("\n", maxsplit=1)[0], allow_abbrev=False)
-    reader.add_argument("--jobs", type=int, default=os.cpu_count(), help="how many crates are worked on at a time")
+    reader.add_argument("--jobs", type=int, default=os.cpu_count(), help="how many edits are tried at a time")
     reader.add_argument("crates", nargs="*", metavar="CRATE")
     found = reader.parse_args()
     for crate in found.crates:
@@ -44,14 +47,17 @@ def crates_with_edits():
 
 
 def edits_of(crate):
-    return [name for name in os.listdir(os.path.join(EDITS, crate)) if name.endswith(".edit")]
+    folder = os.path.join(EDITS, crate)
+    return sorted(os.path.join(folder, name) for name in os.listdir(folder) if name.endswith(".edit"))
 
 
-def libraries_of_crates():
-    """The crates that each crate uses, itself not among them, in the order of crates.txt."""
-    with open(os.path.join(TOP, "crates.txt"), encoding="utf-8") as file:
-        lines = [line.split(":") for line in file if ":" in line and not line.startswith("#")]
-    return {name: words.split() for name, words in lines}
+def toolchain():
+    """The program `rt`, as a module: `rt must-fail` proves a crate anew before its first edit, and `must_fail` takes what is kept."""
+    file = os.path.realpath(shutil.which("rt") or sys.exit("edits: rt is not on the PATH"))
+    loader = importlib.machinery.SourceFileLoader("rt_program", file)
+    module = importlib.util.module_from_spec(importlib.util.spec_from_loader("rt_program", loader))
+    loader.exec_module(module)
+    return module
 
 
 def copy_of_repository(folder):
@@ -67,54 +73,73 @@ def copy_of_repository(folder):
             shutil.copytree(kept, os.path.join(folder, "crates", crate, "out"))
 
 
-def build_libraries(folder, crates):
+def build_libraries(crates):
     """Builds what these crates use, lowest first, where it was not built."""
-    uses = libraries_of_crates()
-    needed = {low for crate in crates for low in uses[crate]}
-    for crate in filter(needed.__contains__, uses):
-        subprocess.run(["rt", "lib"], cwd=os.path.join(folder, "crates", crate), check=True, stdout=subprocess.DEVNULL)
+    needed = {low.name: low for crate in crates for low in crate.below()}
+    for low in sorted(needed.values(), key=lambda it: len(it.below())):
+        subprocess.run(["rt", "lib"], cwd=low.folder, check=True, stdout=subprocess.DEVNULL)
 
 
-def try_crate(folder, crate):
-    """Runs `rt must-fail` on a crate, writes what it says, and returns how many edits were refused, how many of them only by names, and
-    whether all were."""
-    done = subprocess.run(["rt", "must-fail", crate], cwd=folder, capture_output=True, text=True, check=False)
-    print(done.stdout + done.stderr, end="", flush=True)
-    refused = [line for line in done.stdout.splitlines() if REFUSED in line]
-    by_names = sum(BY_NAMES in line for line in refused)
-    return len(refused), by_names, done.returncode == 0 and len(refused) == len(edits_of(crate))
+def try_edits(rt, crate, edits):
+    """Tries edits of a crate, writes what is said of each, and returns it with whether it was refused."""
+    flags, tried = ["--jobs", "1"], []
+    with tempfile.TemporaryDirectory(prefix="edits-") as kept:
+        of_crate = os.path.join(crate.folder, "out", "incremental")
+        if os.path.isdir(of_crate):
+            shutil.copytree(of_crate, kept, dirs_exist_ok=True)
+        for edit in edits:
+            tried.append(rt.must_fail(crate, edit, flags, kept))
+            print(tried[-1][1], flush=True)
+        # What is refused over kept work counts where the crate itself is proved over it.
+        if rt.checked(crate, {}, flags, kept).returncode:
+            print(f"edits: {crate.name} is not proved itself", flush=True)
+            return [(False, text) for _, text in tried]
+    return tried
 
 
-def write_line(crate, refused, by_names):
+def write_line(crate, tried):
     """Writes into the README that the crate's edits were refused today, and at which commit."""
     words = ["git", "describe", "--always", "--dirty"]
     commit = subprocess.run(words, cwd=TOP, check=True, capture_output=True, text=True).stdout.strip()
+    by_names = sum(BY_NAMES in text for _, text in tried)
     with open(README, encoding="utf-8") as file:
         text = file.read()
-    line = f"| `{crate}` | {refused} | {by_names or 'none'} | {datetime.date.today()} | {commit} |"
+    line = f"| `{crate}` | {len(tried)} | {by_names or 'none'} | {datetime.date.today()} | {commit} |"
     with open(README, "w", encoding="utf-8") as file:
         file.write(re.sub(rf"^\| `{crate}` \|.*$", line, text, flags=re.M))
 
 
-def main():
-    words = arguments()
-    crates = sorted(words.crates or crates_with_edits(), key=lambda it: -len(edits_of(it)))
-    total, is_well = 0, True
-    with tempfile.TemporaryDirectory() as folder, concurrent.futures.ThreadPoolExecutor(words.jobs) as pool:
-        copy_of_repository(folder)
-        for name in os.listdir(os.path.join(folder, "crates")):
-            shutil.rmtree(os.path.join(folder, "crates", name, "must-fail"), ignore_errors=True)
-        build_libraries(folder, crates)
+def try_all(rt, crates, jobs):
+    """Tries all edits of these crates, and returns what was said of each crate's. A crate whose edits are all refused gets its line."""
+    tried, left = {it.name: [] for it in crates}, {it.name: len(edits_of(it.name)) for it in crates}
+    with concurrent.futures.ThreadPoolExecutor(jobs) as pool:
+        running = {}
         for crate in crates:
-            shutil.copytree(os.path.join(EDITS, crate), os.path.join(folder, "crates", crate, "must-fail"))
-        tried = {pool.submit(try_crate, folder, crate): crate for crate in crates}
-        for future in concurrent.futures.as_completed(tried):
-            refused, by_names, are_all = future.result()
-            total, is_well = total + refused, is_well and are_all
-            if are_all:
-                write_line(tried[future], refused, by_names)
-    print(f"edits: {total} of {sum(len(edits_of(it)) for it in crates)} refused")
-    return int(not is_well)
+            edits = edits_of(crate.name)
+            for at in range(0, len(edits), TOGETHER):
+                running[pool.submit(try_edits, rt, crate, edits[at : at + TOGETHER])] = crate.name
+        for future in concurrent.futures.as_completed(running):
+            name = running[future]
+            tried[name] += future.result()
+            if len(tried[name]) == left[name] and all(well for well, _ in tried[name]):
+                write_line(name, tried[name])
+    return tried
+
+
+def main():
+    words, rt = arguments(), toolchain()
+    rt.rtlib.guarded()
+    with tempfile.TemporaryDirectory() as folder:
+        copy_of_repository(folder)
+        os.chdir(folder)
+        wanted = set(words.crates or crates_with_edits())
+        crates = [it for it in rt.rtlib.crates_below(folder) if it.name in wanted]
+        build_libraries(crates)
+        tried = try_all(rt, sorted(crates, key=lambda it: -len(it.below())), words.jobs)
+        os.chdir(TOP)
+    refused, edits = sum(well for it in tried.values() for well, _ in it), sum(map(len, tried.values()))
+    print(f"edits: {refused} of {edits} refused")
+    return int(refused < edits)
 
 
 if __name__ == "__main__":
