@@ -174,58 +174,58 @@ module _ (schema : List Table) (all : List ℕ) where
     abbrev queries : Query → QueryStep
     queries = fold-Query ItemStep BlockStep JoinStep QueryStep (item_at schema) (block_at params) join_at query_at
 
-    abbrev ItemKnown : Type 0
-    ItemKnown = (i : Item) × ItemSound (items i)
+    abbrev ItemTold : Type 0
+    ItemTold = (i : Item) × ItemSound (items i)
 
-    abbrev BlockKnown : Type 0
-    BlockKnown = (b : Block) × BlockSound (block_steps b)
+    abbrev BlockTold : Type 0
+    BlockTold = (b : Block) × BlockSound (block_steps b)
 
-    abbrev JoinKnown : Type 0
-    JoinKnown = (j : Join) × JoinSound (joins j)
+    abbrev JoinTold : Type 0
+    JoinTold = (j : Join) × JoinSound (joins j)
 
-    abbrev QueryKnown : Type 0
-    QueryKnown = (q : Query) × QuerySound (queries q)
+    abbrev QueryTold : Type 0
+    QueryTold = (q : Query) × QuerySound (queries q)
 
-    abbrev item_of : ItemKnown → Item
+    abbrev item_of : ItemTold → Item
     item_of x = x.0
 
-    abbrev block_of : BlockKnown → Block
+    abbrev block_of : BlockTold → Block
     block_of x = x.0
 
-    abbrev join_of : JoinKnown → Join
+    abbrev join_of : JoinTold → Join
     join_of x = x.0
 
-    abbrev query_of : QueryKnown → Query
+    abbrev query_of : QueryTold → Query
     query_of x = x.0
 
-    joins_known : (js : List JoinKnown) → AllOf JoinSound (map joins (map join_of js))
-    joins_known [] = tt {0}
-    joins_known (j ∷ js) = (j.1, joins_known js)
+    joins_told : (js : List JoinTold) → AllOf JoinSound (map joins (map join_of js))
+    joins_told [] = tt {0}
+    joins_told (j ∷ js) = (j.1, joins_told js)
 
-    blocks_known : (bs : List BlockKnown) → AllOf BlockSound (map block_steps (map block_of bs))
-    blocks_known [] = tt {0}
-    blocks_known (b ∷ bs) = (b.1, blocks_known bs)
+    blocks_told : (bs : List BlockTold) → AllOf BlockSound (map block_steps (map block_of bs))
+    blocks_told [] = tt {0}
+    blocks_told (b ∷ bs) = (b.1, blocks_told bs)
 
-    item_layer : (y : Item-F ItemKnown BlockKnown JoinKnown QueryKnown) → ItemSound (item_at schema (map-Item Item Block Join Query ItemStep BlockStep JoinStep QueryStep items block_steps joins queries (map-Item ItemKnown BlockKnown JoinKnown QueryKnown Item Block Join Query item_of block_of join_of query_of y)))
+    item_layer : (y : Item-F ItemTold BlockTold JoinTold QueryTold) → ItemSound (item_at schema (map-Item Item Block Join Query ItemStep BlockStep JoinStep QueryStep items block_steps joins queries (map-Item ItemTold BlockTold JoinTold QueryTold Item Block Join Query item_of block_of join_of query_of y)))
     item_layer (Item-F.Table name alias) = table_sound name alias
     item_layer (Item-F.Derived q name) = derived_sound (queries q.0) name q.1
 
-    block_layer : (y : Block-F ItemKnown BlockKnown JoinKnown QueryKnown) → BlockSound (block_at params (map-Block Item Block Join Query ItemStep BlockStep JoinStep QueryStep items block_steps joins queries (map-Block ItemKnown BlockKnown JoinKnown QueryKnown Item Block Join Query item_of block_of join_of query_of y)))
-    block_layer y = block_sound (map-Block Item Block Join Query ItemStep BlockStep JoinStep QueryStep items block_steps joins queries (map-Block ItemKnown BlockKnown JoinKnown QueryKnown Item Block Join Query item_of block_of join_of query_of y)) y.from.1 (joins_known y.joins)
+    block_layer : (y : Block-F ItemTold BlockTold JoinTold QueryTold) → BlockSound (block_at params (map-Block Item Block Join Query ItemStep BlockStep JoinStep QueryStep items block_steps joins queries (map-Block ItemTold BlockTold JoinTold QueryTold Item Block Join Query item_of block_of join_of query_of y)))
+    block_layer y = block_sound (map-Block Item Block Join Query ItemStep BlockStep JoinStep QueryStep items block_steps joins queries (map-Block ItemTold BlockTold JoinTold QueryTold Item Block Join Query item_of block_of join_of query_of y)) y.from.1 (joins_told y.joins)
 
-    query_layer : (y : Query-F ItemKnown BlockKnown JoinKnown QueryKnown) → QuerySound (query_at (map-Query Item Block Join Query ItemStep BlockStep JoinStep QueryStep items block_steps joins queries (map-Query ItemKnown BlockKnown JoinKnown QueryKnown Item Block Join Query item_of block_of join_of query_of y)))
-    query_layer y = query_sound (map-Query Item Block Join Query ItemStep BlockStep JoinStep QueryStep items block_steps joins queries (map-Query ItemKnown BlockKnown JoinKnown QueryKnown Item Block Join Query item_of block_of join_of query_of y)) y.first.1 (blocks_known y.others)
+    query_layer : (y : Query-F ItemTold BlockTold JoinTold QueryTold) → QuerySound (query_at (map-Query Item Block Join Query ItemStep BlockStep JoinStep QueryStep items block_steps joins queries (map-Query ItemTold BlockTold JoinTold QueryTold Item Block Join Query item_of block_of join_of query_of y)))
+    query_layer y = query_sound (map-Query Item Block Join Query ItemStep BlockStep JoinStep QueryStep items block_steps joins queries (map-Query ItemTold BlockTold JoinTold QueryTold Item Block Join Query item_of block_of join_of query_of y)) y.first.1 (blocks_told y.others)
 
     tree_sound : (q : Query) → QuerySound (queries q)
     tree_sound = ind-Query (λ (i : Item). ItemSound (items i)) (λ (b : Block). BlockSound (block_steps b)) (λ (j : Join). JoinSound (joins j)) (λ (q : Query). QuerySound (queries q))
         (λ x y is. subst (λ (z : Item-F Item Block Join Query). ItemSound (items (roll-Item z))) is
-        (subst ItemSound (sym (fold-roll-Item ItemStep BlockStep JoinStep QueryStep (item_at schema) (block_at params) join_at query_at (map-Item ItemKnown BlockKnown JoinKnown QueryKnown Item Block Join Query item_of block_of join_of query_of y))) (item_layer y)))
+        (subst ItemSound (sym (fold-roll-Item ItemStep BlockStep JoinStep QueryStep (item_at schema) (block_at params) join_at query_at (map-Item ItemTold BlockTold JoinTold QueryTold Item Block Join Query item_of block_of join_of query_of y))) (item_layer y)))
         (λ x y is. subst (λ (z : Block-F Item Block Join Query). BlockSound (block_steps (roll-Block z))) is
-        (subst BlockSound (sym (fold-roll-Block ItemStep BlockStep JoinStep QueryStep (item_at schema) (block_at params) join_at query_at (map-Block ItemKnown BlockKnown JoinKnown QueryKnown Item Block Join Query item_of block_of join_of query_of y))) (block_layer y)))
+        (subst BlockSound (sym (fold-roll-Block ItemStep BlockStep JoinStep QueryStep (item_at schema) (block_at params) join_at query_at (map-Block ItemTold BlockTold JoinTold QueryTold Item Block Join Query item_of block_of join_of query_of y))) (block_layer y)))
         (λ x y is. subst (λ (z : Join-F Item Block Join Query). JoinSound (joins (roll-Join z))) is
-        (subst JoinSound (sym (fold-roll-Join ItemStep BlockStep JoinStep QueryStep (item_at schema) (block_at params) join_at query_at (map-Join ItemKnown BlockKnown JoinKnown QueryKnown Item Block Join Query item_of block_of join_of query_of y))) y.item.1))
+        (subst JoinSound (sym (fold-roll-Join ItemStep BlockStep JoinStep QueryStep (item_at schema) (block_at params) join_at query_at (map-Join ItemTold BlockTold JoinTold QueryTold Item Block Join Query item_of block_of join_of query_of y))) y.item.1))
         (λ x y is. subst (λ (z : Query-F Item Block Join Query). QuerySound (queries (roll-Query z))) is
-        (subst QuerySound (sym (fold-roll-Query ItemStep BlockStep JoinStep QueryStep (item_at schema) (block_at params) join_at query_at (map-Query ItemKnown BlockKnown JoinKnown QueryKnown Item Block Join Query item_of block_of join_of query_of y))) (query_layer y)))
+        (subst QuerySound (sym (fold-roll-Query ItemStep BlockStep JoinStep QueryStep (item_at schema) (block_at params) join_at query_at (map-Query ItemTold BlockTold JoinTold QueryTold Item Block Join Query item_of block_of join_of query_of y))) (query_layer y)))
 
     pub bound_is : (q : Query) (b : TypedQuery) → query_step schema params q [] ≡ Ok (b, all) → BoundIs b
     unfolding query_step
