@@ -28,7 +28,7 @@ use Rattle.span_typing.specs.declared.function.CalledFunction.{CalledFunction}
 use Rattle.span_typing.specs.declared.function.CalledFunction.TheVariants as called
 use Rattle.span_typing.specs.Kinds.{takes, common_kind, common_kind_of_all, or_int, text_kind}
 use Rattle.span_value.specs.Results.{and_then}
-use Rattle.span_typing.specs.Operators.{typed, kinds_of, exprs_of, integer, unary_minus, logical_not, null_test, comparison_of, comparison_test, between, in_list, like_test_of, like_test, operator_of, link_kind, arm_of, otherwise_kind, otherwise_of, value_kind, case_kind, case_of, match_of, calculation_of, length_of, starts_with, coalesce_of, one_of, two_of, three_of, some_of, if_of, apply_function, operand_for, operand_of, aggregate_kind}
+use Rattle.span_typing.specs.Operators.{of_kind, kinds_of, exprs_of, integer, unary_minus, logical_not, null_test, comparison_of, comparison_test, between, in_list, like_test_of, like_test, operator_of, link_kind, arm_of, otherwise_kind, otherwise_of, value_kind, case_kind, case_of, match_of, calculation_of, length_of, starts_with, coalesce_of, one_of, two_of, three_of, some_of, if_of, apply_function, operand_for, operand_of, aggregate_kind}
 use Rattle.span_typing.specs.Operators.{has_condition as is_condition}
 use Rattle.span_typing.specs.Typing.{append_link, chain_of, all_true, some_true}
 use Rattle.span_soundness.specs.Types.{is_text, is_operand, has_type, all_are, are_conditions, is_link_of, has_condition, has_value, is_compared_with, is_else_of, is_of}
@@ -40,7 +40,7 @@ use Rattle.span_soundness.proofs.Forms.{link_type, arm_type, else_type, literal_
 module _ (types : List Kind) where
   -- ---- expressions of a type
 
-  pub typed_right : (e : Expr) (k : Kind) → is_of types e k ≡ true → IsTyped types (typed e k)
+  pub typed_right : (e : Expr) (k : Kind) → is_of types e k ≡ true → IsTyped types (of_kind e k)
   typed_right e k is = λ wanted t. subst (λ (z : Kind). is_of types e z ≡ true) (same_kind k wanted t) is
 
   pub own_right : (x : Typed) → IsTyped types x → is_of types x.expr (or_int x.kind) ≡ true
@@ -57,17 +57,17 @@ module _ (types : List Kind) where
 
   pub integer_right : (n : Integer) → Made (IsTyped types) (integer n)
   unfolding integer
-  integer_right n = made_if (IsTyped types) (nat_lt n.value (2 ^ 63)) (typed (expr.Literal (value.Int (if n.is_negative then neg_ℤ (pos n.value) else pos n.value))) kind.Int) BadToken
+  integer_right n = made_if (IsTyped types) (nat_lt n.value (2 ^ 63)) (of_kind (expr.Literal (value.Int (if n.is_negative then neg_ℤ (pos n.value) else pos n.value))) kind.Int) BadToken
       (λ t. typed_right (expr.Literal (value.Int (if n.is_negative then neg_ℤ (pos n.value) else pos n.value))) kind.Int (literal_is types (value.Int (if n.is_negative then neg_ℤ (pos n.value) else pos n.value)) kind.Int))
 
   pub negative_right : (x : Typed) → IsTyped types x → Made (IsTyped types) (unary_minus x)
   unfolding unary_minus
-  negative_right x x_is = made_if (IsTyped types) (takes kind.Int x.kind) (typed (expr.Negative x.expr) kind.Int) TypeMismatch
+  negative_right x x_is = made_if (IsTyped types) (takes kind.Int x.kind) (of_kind (expr.Negative x.expr) kind.Int) TypeMismatch
       (λ t. typed_right (expr.Negative x.expr) kind.Int (negative_is types x.expr kind.Int ∙ x_is kind.Int t))
 
   pub denied_right : (x : Typed) → IsTyped types x → Made (IsTyped types) (logical_not x)
   unfolding logical_not
-  denied_right x x_is = made_if (IsTyped types) (takes kind.Bool x.kind) (typed (expr.Not x.expr) kind.Bool) TypeMismatch
+  denied_right x x_is = made_if (IsTyped types) (takes kind.Bool x.kind) (of_kind (expr.Not x.expr) kind.Bool) TypeMismatch
       (λ t. typed_right (expr.Not x.expr) kind.Bool (not_is types x.expr kind.Bool ∙ x_is kind.Bool t))
 
   pub null_test_right : (x : Typed) → IsTyped types x → IsTyped types (null_test x)
@@ -76,13 +76,13 @@ module _ (types : List Kind) where
 
   pub compared_right : (c : ComparisonOperator) (x y : Typed) → IsTyped types x → IsTyped types y → Made (IsTyped types) (comparison_test c x y)
   unfolding comparison_test
-  compared_right c x y x_is y_is = then_made (CoversBoth x.kind y.kind) (IsTyped types) (common_kind x.kind y.kind) (λ k. Ok (typed (expr.Compare x.expr (comparison_of c) y.expr) kind.Bool)) (agreed_covers x.kind y.kind)
+  compared_right c x y x_is y_is = then_made (CoversBoth x.kind y.kind) (IsTyped types) (common_kind x.kind y.kind) (λ k. Ok (of_kind (expr.Compare x.expr (comparison_of c) y.expr) kind.Bool)) (agreed_covers x.kind y.kind)
       (λ k both. typed_right (expr.Compare x.expr (comparison_of c) y.expr) kind.Bool (comparison_is types x.expr (comparison_of c) y.expr kind.Bool
       ∙ of_this (λ j. is_of types x.expr j && is_of types y.expr j) (or_int k) (both_are (is_of types x.expr (or_int k)) (is_of types y.expr (or_int k)) (x_is (or_int k) (both.0 (or_int k) (takes_own k))) (y_is (or_int k) (both.1 (or_int k) (takes_own k))))))
 
   pub between_right : (x low high : Typed) → IsTyped types x → IsTyped types low → IsTyped types high → Made (IsTyped types) (between x low high)
   unfolding between
-  between_right x low high x_is low_is high_is = then_made (λ k. AllCovered k (x.kind ∷ low.kind ∷ high.kind ∷ [])) (IsTyped types) (common_kind_of_all (x.kind ∷ low.kind ∷ high.kind ∷ [])) (λ k. Ok (typed (expr.Between x.expr low.expr high.expr) kind.Bool)) (all_covered (x.kind ∷ low.kind ∷ high.kind ∷ []))
+  between_right x low high x_is low_is high_is = then_made (λ k. AllCovered k (x.kind ∷ low.kind ∷ high.kind ∷ [])) (IsTyped types) (common_kind_of_all (x.kind ∷ low.kind ∷ high.kind ∷ [])) (λ k. Ok (of_kind (expr.Between x.expr low.expr high.expr) kind.Bool)) (all_covered (x.kind ∷ low.kind ∷ high.kind ∷ []))
       (λ k all. typed_right (expr.Between x.expr low.expr high.expr) kind.Bool (between_is types x.expr low.expr high.expr kind.Bool
       ∙ of_this (λ j. is_of types x.expr j && is_of types low.expr j && is_of types high.expr j) (or_int k)
       (both_are (is_of types x.expr (or_int k) && is_of types low.expr (or_int k)) (is_of types high.expr (or_int k))
@@ -91,7 +91,7 @@ module _ (types : List Kind) where
 
   pub among_right : (x : Typed) (ys : List Typed) → IsTyped types x → AllOf (IsTyped types) ys → Made (IsTyped types) (in_list x ys)
   unfolding in_list
-  among_right x ys x_is ys_are = then_made (λ k. AllCovered k (x.kind ∷ kinds_of ys)) (IsTyped types) (common_kind_of_all (x.kind ∷ kinds_of ys)) (λ k. Ok (typed (expr.In x.expr (exprs_of ys)) kind.Bool)) (all_covered (x.kind ∷ kinds_of ys))
+  among_right x ys x_is ys_are = then_made (λ k. AllCovered k (x.kind ∷ kinds_of ys)) (IsTyped types) (common_kind_of_all (x.kind ∷ kinds_of ys)) (λ k. Ok (of_kind (expr.In x.expr (exprs_of ys)) kind.Bool)) (all_covered (x.kind ∷ kinds_of ys))
       (λ k all. typed_right (expr.In x.expr (exprs_of ys)) kind.Bool (in_is types x.expr (exprs_of ys) kind.Bool
       ∙ of_this (λ j. is_of types x.expr j && all_are (map (is_of types) (exprs_of ys)) j) (or_int k)
       (both_are (is_of types x.expr (or_int k)) (all_are (map (is_of types) (exprs_of ys)) (or_int k)) (x_is (or_int k) (all.0 (or_int k) (takes_own k))) (all_right (or_int k) ys (all_take (or_int k) k (kinds_of ys) (takes_own k) all.1) ys_are))))
@@ -244,14 +244,14 @@ module _ (types : List Kind) where
 
   pub case_right : (arms : List TypedArm) (other : Option Typed) → AllOf IsTypedArm arms → IsTypedElse other → Made (IsTyped types) (case_of arms other)
   unfolding case_of
-  case_right arms other arms_are other_is = then_made (IsCaseOf arms other) (IsTyped types) (case_kind arms other) (λ k. Ok (typed (expr.Case (map arm_of arms) (otherwise_of other)) k)) (case_kind_right arms other arms_are)
+  case_right arms other arms_are other_is = then_made (IsCaseOf arms other) (IsTyped types) (case_kind arms other) (λ k. Ok (of_kind (expr.Case (map arm_of arms) (otherwise_of other)) k)) (case_kind_right arms other arms_are)
       (λ k take. typed_right (expr.Case (map arm_of arms) (otherwise_of other)) k (case_is types (map arm_of arms) (otherwise_of other) k
       ∙ both_are (list_all has_condition (map (arm_type types) (map arm_of arms))) (list_all (has_value k) (map (arm_type types) (map arm_of arms)) && is_else_of k (else_type types (otherwise_of other))) take.0
       (both_are (list_all (has_value k) (map (arm_type types) (map arm_of arms))) (is_else_of k (else_type types (otherwise_of other))) (values_right arms k (of_arms arms arms_are) take.1.1) (else_right other k other_is take.1.0))))
 
   pub match_right : (x : Typed) (arms : List TypedArm) (other : Option Typed) → IsTyped types x → AllOf (IsComparedArm x.kind) arms → IsTypedElse other → Made (IsTyped types) (match_of x arms other)
   unfolding match_of
-  match_right x arms other x_is arms_are other_is = then_made (TakesValues arms other) (IsTyped types) (value_kind arms other) (λ k. Ok (typed (expr.Match x.expr (map arm_of arms) (otherwise_of other)) k)) (value_kind_right arms other)
+  match_right x arms other x_is arms_are other_is = then_made (TakesValues arms other) (IsTyped types) (value_kind arms other) (λ k. Ok (of_kind (expr.Match x.expr (map arm_of arms) (otherwise_of other)) k)) (value_kind_right arms other)
       (λ k take. typed_right (expr.Match x.expr (map arm_of arms) (otherwise_of other)) k (match_is types x.expr (map arm_of arms) (otherwise_of other) k
       ∙ both_are (has_type (is_of types x.expr) && list_all (is_compared_with (is_of types x.expr)) (map (arm_type types) (map arm_of arms))) (list_all (has_value k) (map (arm_type types) (map arm_of arms)) && is_else_of k (else_type types (otherwise_of other)))
       (both_are (has_type (is_of types x.expr)) (list_all (is_compared_with (is_of types x.expr)) (map (arm_type types) (map arm_of arms))) (has_right x x_is) (compared_arms_right x arms x_is arms_are))
@@ -261,7 +261,7 @@ module _ (types : List Kind) where
 
   calculated_right : (op : Operator) (x y : Typed) → is_operand op kind.Int ≡ true → IsTyped types x → IsTyped types y → Made (IsTyped types) (calculation_of op x y)
   unfolding calculation_of
-  calculated_right op x y operand x_is y_is = made_if (IsTyped types) (takes kind.Int x.kind && takes kind.Int y.kind) (typed (expr.Chain x.expr (record { operator = op; operand = y.expr } ∷ [])) kind.Int) TypeMismatch
+  calculated_right op x y operand x_is y_is = made_if (IsTyped types) (takes kind.Int x.kind && takes kind.Int y.kind) (of_kind (expr.Chain x.expr (record { operator = op; operand = y.expr } ∷ [])) kind.Int) TypeMismatch
       (λ t. let parts : (takes kind.Int x.kind ≡ true) × (takes kind.Int y.kind ≡ true) = both_true (takes kind.Int x.kind) (takes kind.Int y.kind) t in
       typed_right (expr.Chain x.expr (record { operator = op; operand = y.expr } ∷ [])) kind.Int (chain_is types x.expr (record { operator = op; operand = y.expr } ∷ []) kind.Int
       ∙ both_are (is_of types x.expr kind.Int) ((is_operand op kind.Int && is_of types y.expr kind.Int) && true) (x_is kind.Int parts.0)
@@ -269,7 +269,7 @@ module _ (types : List Kind) where
 
   length_right : (x : Typed) → IsTyped types x → Made (IsTyped types) (length_of x)
   unfolding length_of
-  length_right x x_is = then_made (IsText x.kind) (IsTyped types) (text_kind x.kind) (λ k. Ok (typed (expr.Length x.expr) kind.Int)) (text_is x.kind)
+  length_right x x_is = then_made (IsText x.kind) (IsTyped types) (text_kind x.kind) (λ k. Ok (of_kind (expr.Length x.expr) kind.Int)) (text_is x.kind)
       (λ k text. typed_right (expr.Length x.expr) kind.Int (length_is types x.expr kind.Int ∙ of_this (λ j. is_text j && is_of types x.expr j) k (both_are (is_text k) (is_of types x.expr k) text.0 (x_is k text.1))))
 
   abbrev AreTexts : Option Kind → Option Kind → Kind → Type 0
@@ -280,13 +280,13 @@ module _ (types : List Kind) where
 
   starts_right : (x front : Typed) → IsTyped types x → IsTyped types front → Made (IsTyped types) (starts_with x front)
   unfolding starts_with
-  starts_right x front x_is front_is = then_made (AreTexts x.kind front.kind) (IsTyped types) (and_then (common_kind x.kind front.kind) text_kind) (λ k. Ok (typed (expr.StartsWith x.expr front.expr) kind.Bool)) (texts_right x.kind front.kind)
+  starts_right x front x_is front_is = then_made (AreTexts x.kind front.kind) (IsTyped types) (and_then (common_kind x.kind front.kind) text_kind) (λ k. Ok (of_kind (expr.StartsWith x.expr front.expr) kind.Bool)) (texts_right x.kind front.kind)
       (λ k text. typed_right (expr.StartsWith x.expr front.expr) kind.Bool (starts_with_is types x.expr front.expr kind.Bool
       ∙ of_this (λ j. is_text j && is_of types x.expr j && is_of types front.expr j) k (both_are (is_text k && is_of types x.expr k) (is_of types front.expr k) (both_are (is_text k) (is_of types x.expr k) text.0 (x_is k text.1)) (front_is k text.2))))
 
   coalesced_right : (xs : List Typed) → AllOf (IsTyped types) xs → Made (IsTyped types) (coalesce_of xs)
   unfolding coalesce_of
-  coalesced_right xs all = then_made (λ k. AllCovered k (kinds_of xs)) (IsTyped types) (common_kind_of_all (kinds_of xs)) (λ k. Ok (typed (expr.Coalesce (exprs_of xs)) (or_int k))) (all_covered (kinds_of xs))
+  coalesced_right xs all = then_made (λ k. AllCovered k (kinds_of xs)) (IsTyped types) (common_kind_of_all (kinds_of xs)) (λ k. Ok (of_kind (expr.Coalesce (exprs_of xs)) (or_int k))) (all_covered (kinds_of xs))
       (λ k covered. typed_right (expr.Coalesce (exprs_of xs)) (or_int k) (coalesce_is types (exprs_of xs) (or_int k) ∙ all_right (or_int k) xs (all_take (or_int k) k (kinds_of xs) (takes_own k) covered) all))
 
   if_right : (c x y : Typed) → IsTyped types c → IsTyped types x → IsTyped types y → Made (IsTyped types) (if_of c x y)

@@ -27,10 +27,10 @@ pub statements_are_typed : StatementsAreTyped
 statements_are_typed schema params q statement are is = go (query_step schema params q []) (λ answer leaves made. queries_are_typed schema params q answer leaves are made) is where
   go : (o : Result (TypedQuery × List ℕ) Refusal) → ((answer : TypedQuery) (leaves : List ℕ) → o ≡ Ok (answer, leaves) → IsQueryOf (types_of_leaves schema leaves) answer.query (output_types answer.columns)) → and_then o (λ p. Ok (statement_of p)) ≡ Ok statement
       → IsQueryOf (types_of_leaves schema statement.leaves) statement.query (output_types statement.columns)
-  go (Ok p) typed made =
+  go (Ok p) of_kind made =
       let same : statement_of p ≡ statement = ok_is (statement_of p) statement made in
-      subst (λ (s : Statement). IsQueryOf (types_of_leaves schema s.leaves) s.query (output_types s.columns)) same (typed p.0 p.1 refl)
-  go (Err why) typed made = absurd (not_ok why statement made)
+      subst (λ (s : Statement). IsQueryOf (types_of_leaves schema s.leaves) s.query (output_types s.columns)) same (of_kind p.0 p.1 refl)
+  go (Err why) of_kind made = absurd (not_ok why statement made)
 
 pub queries_keep_types : QueriesKeepTypes
 queries_keep_types leaves tables q types are is = keeps_types leaves tables are q types is
