@@ -7,3 +7,4 @@ pub mod Steps
 pub mod Within
 pub mod Zips
 pub mod Plain
+pub mod Refusing

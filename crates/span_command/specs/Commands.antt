@@ -1,11 +1,11 @@
 -- The command that a line is.
-use Rattle.std.specs.Prelude.{◌≡◌, ◌≢◌, ℕ, List, codes, ⊤, true}
+use Rattle.std.specs.Prelude.{◌≡◌, ◌≢◌, ◌<◌, ◌^◌, ℕ, Bool, true, false, List, Option, MatchOption, codes, ⊤}
 use Rattle.std.specs.Fmt.{decimal}
 use Rattle.span_mutate.specs.declared.mutation.MutationKind.{MutationKind}
 use Rattle.span_mutate.specs.declared.mutation.MutationKind.TheVariants as mutation
 use Rattle.span_command.specs.declared.command.Command.{Command}
 use Rattle.span_command.specs.declared.command.Command.TheVariants as command
-use Rattle.span_command.specs.Words.{spaced, type_name, bound_text, IsWord, is_name_text}
+use Rattle.span_command.specs.Words.{spaced, type_name, bound_text, BoundFits, IsWord, is_name_text}
 
 -- a word and a number
 abbrev pub one : List ℕ → ℕ → List ℕ
@@ -47,14 +47,49 @@ command_text (command.Query bound text) = spaced (codes "query") (spaced (bound_
 command_text (command.Trim slot horizon) = two (codes "trim") slot horizon
 command_text command.Shards = codes "shards"
 
--- the parts of a command that are written as words are words, and its names are names
-abbrev pub AreWords : Command → Type 0
-AreWords (command.Param name kind cell) = is_name_text name.now ≡ true
-AreWords (command.Write kind table columns row) = (kind ≢ mutation.Delete) × IsWord table.now × IsWord columns.now
-AreWords (command.Delete table row) = IsWord table.now
-AreWords (command.Load table columns) = IsWord table.now × IsWord columns.now
-AreWords c = ⊤
+-- what a line can say of a command: its numbers fit in 64 bits, its words are words, its names are names, and a write is no delete
+abbrev pub IsWritable : Command → Type 0
+IsWritable (command.Clock earliest latest) = (earliest < 2 ^ 64) × (latest < 2 ^ 64)
+IsWritable (command.Param name kind cell) = is_name_text name.now ≡ true
+IsWritable (command.Write kind table columns row) = (kind ≢ mutation.Delete) × IsWord table.now × IsWord columns.now
+IsWritable (command.Delete table row) = IsWord table.now
+IsWritable (command.Load table columns) = IsWord table.now × IsWord columns.now
+IsWritable command.Begin = ⊤
+IsWritable (command.Prepare txn slot) = (txn < 2 ^ 64) × (slot < 2 ^ 64)
+IsWritable (command.Decide txn) = txn < 2 ^ 64
+IsWritable (command.Abort txn) = txn < 2 ^ 64
+IsWritable (command.Apply txn slot) = (txn < 2 ^ 64) × (slot < 2 ^ 64)
+IsWritable (command.Advance slot) = slot < 2 ^ 64
+IsWritable (command.Open bound text) = BoundFits bound
+IsWritable (command.Scan query leaf slot) = (query < 2 ^ 64) × (leaf < 2 ^ 64) × (slot < 2 ^ 64)
+IsWritable (command.Finish query) = query < 2 ^ 64
+IsWritable (command.Close query) = query < 2 ^ 64
+IsWritable (command.Query bound text) = BoundFits bound
+IsWritable (command.Trim slot horizon) = (slot < 2 ^ 64) × (horizon < 2 ^ 64)
+IsWritable command.Shards = ⊤
 
 -- the line is the command
 abbrev pub IsCommand : List ℕ → Command → Type 0
-IsCommand line c = AreWords c × (line ≡ command_text c)
+IsCommand line c = IsWritable c × (line ≡ command_text c)
+
+-- what is read of a line: the command that it is, or none where it is no command
+abbrev pub IsReadAs : List ℕ → Option Command → Type 0
+IsReadAs line result = MatchOption result ((c : Command) → ¬ IsCommand line c) (IsCommand line)
+
+-- the command has only numbers after its word
+abbrev pub has_only_numbers : Command → Bool
+has_only_numbers (command.Clock earliest latest) = true
+has_only_numbers (command.Prepare txn slot) = true
+has_only_numbers (command.Decide txn) = true
+has_only_numbers (command.Abort txn) = true
+has_only_numbers (command.Apply txn slot) = true
+has_only_numbers (command.Advance slot) = true
+has_only_numbers (command.Scan query leaf slot) = true
+has_only_numbers (command.Finish query) = true
+has_only_numbers (command.Close query) = true
+has_only_numbers (command.Trim slot horizon) = true
+has_only_numbers c = false
+
+-- the same, where only commands are looked for that have only numbers after their word
+abbrev pub IsNumberedReadAs : List ℕ → Option Command → Type 0
+IsNumberedReadAs line result = MatchOption result ((c : Command) → has_only_numbers c ≡ true → ¬ IsCommand line c) (IsCommand line)

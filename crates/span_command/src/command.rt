@@ -1,7 +1,8 @@
 //! Commands, and how a line is read as one.
-ghost use Rattle.std.specs.Prelude.{◌≢◌, IfSome, codes};
-ghost use Rattle.span_command.specs.Commands.{IsCommand, write_word};
-ghost use Rattle.span_command.specs.Words.{spaced};
+ghost use Rattle.std.specs.Prelude.{◌≢◌, ℕ, List, MatchOption, codes};
+ghost use Rattle.span_command.specs.Commands.{IsCommand, IsReadAs, IsNumberedReadAs, write_word};
+ghost use Rattle.span_command.specs.Words.{IsWord, spaced};
+ghost use Rattle.span_command.specs.declared.command.Command.{Command};
 
 use super::word::{
     bound_of, is_name, is_one_word, kind_of, number_of, three_numbers, two_numbers, word_and_rest,
@@ -83,12 +84,11 @@ pub enum Command<'a> {
 
 /// The command of a line; None where it is none.
 pub fn read_command(line: &str) -> Option<Command<'_>>
-    ensures { IfSome result (IsCommand line.now) }
+    ensures { MatchOption result ((c : Command) → ¬ IsCommand line.now c) (IsCommand line.now) }
 {
     match word_and_rest(line) {
         None => read_lone_word(line),
         Some((word, rest)) => match word {
-            "clock" => read_clock(rest),
             "param" => read_param(rest),
             "insert" => read_write(MutationKind::Insert, rest),
             "update" => read_write(MutationKind::Update, rest),
@@ -104,7 +104,8 @@ pub fn read_command(line: &str) -> Option<Command<'_>>
 
 /// A command that is one word.
 fn read_lone_word(word: &str) -> Option<Command<'_>>
-    ensures { IfSome result (IsCommand word.now) }
+    requires { (first : List ℕ) (rest : List ℕ) → IsWord first → word.now ≢ spaced first rest }
+    ensures { IsReadAs word.now result }
 {
     match word {
         "begin" => Some(Command::Begin),
@@ -115,9 +116,11 @@ fn read_lone_word(word: &str) -> Option<Command<'_>>
 
 /// A command that has only numbers after its word.
 fn read_numbered<'a>(word: &str, numbers: &str) -> Option<Command<'a>>
-    ensures { IfSome result (IsCommand (spaced word.now numbers.now)) }
+    requires { IsWord word.now }
+    ensures { IsNumberedReadAs (spaced word.now numbers.now) result }
 {
     match word {
+        "clock" => read_clock(numbers),
         "prepare" => read_prepare(numbers),
         "decide" => read_decide(numbers),
         "abort" => read_abort(numbers),
@@ -132,14 +135,14 @@ fn read_numbered<'a>(word: &str, numbers: &str) -> Option<Command<'a>>
 }
 
 fn read_clock<'a>(numbers: &str) -> Option<Command<'a>>
-    ensures { IfSome result (IsCommand (spaced (codes "clock") numbers.now)) }
+    ensures { IsReadAs (spaced (codes "clock") numbers.now) result }
 {
     let (earliest, latest) = two_numbers(numbers)?;
     Some(Command::Clock { earliest, latest })
 }
 
 fn read_param(words: &str) -> Option<Command<'_>>
-    ensures { IfSome result (IsCommand (spaced (codes "param") words.now)) }
+    ensures { IsReadAs (spaced (codes "param") words.now) result }
 {
     let (name, rest) = word_and_rest(words)?;
     let (kind, cell) = word_and_rest(rest)?;
@@ -152,7 +155,7 @@ fn read_param(words: &str) -> Option<Command<'_>>
 
 fn read_write(kind: MutationKind, words: &str) -> Option<Command<'_>>
     requires { kind ≢ MutationKind.Delete }
-    ensures { IfSome result (IsCommand (spaced (write_word kind) words.now)) }
+    ensures { IsReadAs (spaced (write_word kind) words.now) result }
 {
     let (table, rest) = word_and_rest(words)?;
     let (columns, record) = word_and_rest(rest)?;
@@ -165,14 +168,14 @@ fn read_write(kind: MutationKind, words: &str) -> Option<Command<'_>>
 }
 
 fn read_delete(words: &str) -> Option<Command<'_>>
-    ensures { IfSome result (IsCommand (spaced (codes "delete") words.now)) }
+    ensures { IsReadAs (spaced (codes "delete") words.now) result }
 {
     let (table, record) = word_and_rest(words)?;
     Some(Command::Delete { table, record })
 }
 
 fn read_load(words: &str) -> Option<Command<'_>>
-    ensures { IfSome result (IsCommand (spaced (codes "load") words.now)) }
+    ensures { IsReadAs (spaced (codes "load") words.now) result }
 {
     let (table, columns) = word_and_rest(words)?;
     if !is_one_word(columns) {
@@ -182,7 +185,7 @@ fn read_load(words: &str) -> Option<Command<'_>>
 }
 
 fn read_open(words: &str) -> Option<Command<'_>>
-    ensures { IfSome result (IsCommand (spaced (codes "open") words.now)) }
+    ensures { IsReadAs (spaced (codes "open") words.now) result }
 {
     let (bound, text) = word_and_rest(words)?;
     let bound = bound_of(bound)?;
@@ -190,7 +193,7 @@ fn read_open(words: &str) -> Option<Command<'_>>
 }
 
 fn read_query(words: &str) -> Option<Command<'_>>
-    ensures { IfSome result (IsCommand (spaced (codes "query") words.now)) }
+    ensures { IsReadAs (spaced (codes "query") words.now) result }
 {
     let (bound, text) = word_and_rest(words)?;
     let bound = bound_of(bound)?;
@@ -198,63 +201,63 @@ fn read_query(words: &str) -> Option<Command<'_>>
 }
 
 fn read_prepare<'a>(numbers: &str) -> Option<Command<'a>>
-    ensures { IfSome result (IsCommand (spaced (codes "prepare") numbers.now)) }
+    ensures { IsReadAs (spaced (codes "prepare") numbers.now) result }
 {
     let (txn, slot) = two_numbers(numbers)?;
     Some(Command::Prepare { txn, slot })
 }
 
 fn read_decide<'a>(number: &str) -> Option<Command<'a>>
-    ensures { IfSome result (IsCommand (spaced (codes "decide") number.now)) }
+    ensures { IsReadAs (spaced (codes "decide") number.now) result }
 {
     let txn = number_of(number)?;
     Some(Command::Decide { txn })
 }
 
 fn read_abort<'a>(number: &str) -> Option<Command<'a>>
-    ensures { IfSome result (IsCommand (spaced (codes "abort") number.now)) }
+    ensures { IsReadAs (spaced (codes "abort") number.now) result }
 {
     let txn = number_of(number)?;
     Some(Command::Abort { txn })
 }
 
 fn read_apply<'a>(numbers: &str) -> Option<Command<'a>>
-    ensures { IfSome result (IsCommand (spaced (codes "apply") numbers.now)) }
+    ensures { IsReadAs (spaced (codes "apply") numbers.now) result }
 {
     let (txn, slot) = two_numbers(numbers)?;
     Some(Command::Apply { txn, slot })
 }
 
 fn read_advance<'a>(number: &str) -> Option<Command<'a>>
-    ensures { IfSome result (IsCommand (spaced (codes "advance") number.now)) }
+    ensures { IsReadAs (spaced (codes "advance") number.now) result }
 {
     let slot = number_of(number)?;
     Some(Command::Advance { slot })
 }
 
 fn read_scan<'a>(numbers: &str) -> Option<Command<'a>>
-    ensures { IfSome result (IsCommand (spaced (codes "scan") numbers.now)) }
+    ensures { IsReadAs (spaced (codes "scan") numbers.now) result }
 {
     let (query, leaf, slot) = three_numbers(numbers)?;
     Some(Command::Scan { query, leaf, slot })
 }
 
 fn read_finish<'a>(number: &str) -> Option<Command<'a>>
-    ensures { IfSome result (IsCommand (spaced (codes "finish") number.now)) }
+    ensures { IsReadAs (spaced (codes "finish") number.now) result }
 {
     let query = number_of(number)?;
     Some(Command::Finish { query })
 }
 
 fn read_close<'a>(number: &str) -> Option<Command<'a>>
-    ensures { IfSome result (IsCommand (spaced (codes "close") number.now)) }
+    ensures { IsReadAs (spaced (codes "close") number.now) result }
 {
     let query = number_of(number)?;
     Some(Command::Close { query })
 }
 
 fn read_trim<'a>(numbers: &str) -> Option<Command<'a>>
-    ensures { IfSome result (IsCommand (spaced (codes "trim") numbers.now)) }
+    ensures { IsReadAs (spaced (codes "trim") numbers.now) result }
 {
     let (slot, horizon) = two_numbers(numbers)?;
     Some(Command::Trim { slot, horizon })

@@ -1,5 +1,5 @@
 //! The words of a command line: numbers, bounds, names and types.
-ghost use Rattle.std.specs.Prelude.{◌≡◌, ◌≢◌, ℕ, List, true, MatchOption};
+ghost use Rattle.std.specs.Prelude.{◌≡◌, ◌≢◌, ◌↔◌, ℕ, List, true, MatchOption};
 ghost use Rattle.std.specs.List.{list_all};
 ghost use Rattle.span_lexer.specs.Characters as character;
 ghost use Rattle.span_lexer.specs.Characters.{begins};
@@ -112,7 +112,7 @@ pub fn word_and_rest(words: &str) -> Option<(&str, &str)>
 
 /// Whether this is one word.
 pub fn is_one_word(words: &str) -> bool
-    ensures { (result ≡ true) → IsWord words.now }
+    ensures { (result ≡ true) ↔ IsWord words.now }
 {
     !words.is_empty() && !words.contains(' ')
 }

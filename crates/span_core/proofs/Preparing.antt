@@ -1,8 +1,9 @@
-use Rattle.std.proofs.Common.{◌≡◌, ℕ, ◌<◌, ◌≤◌, Bool, true, false, nat_lt, arith, [], ◌∷◌, List, Option, Some, None, refl, ap, sym, ◌∙◌, subst, inl, inr}
+use Rattle.std.proofs.Common.{◌≡◌, ℕ, ◌<◌, ◌≤◌, ◌==◌, ◌||◌, Bool, true, false, not, length, nat_lt, nat_le, arith, [], ◌∷◌, List, Option, Some, None, refl, ap, sym, ◌∙◌, subst, inl, inr}
 use Rattle.std.specs.Prelude.{slice_get, Ok, Err, ◌⊎◌}
 use Rattle.std.proofs.lemmas.Bool.Decides.{nat_tests}
 use Rattle.span_value.specs.declared.refusal.Refusal.{Refusal}
 use Rattle.span_value.specs.declared.refusal.Refusal.TheVariants as refusal
+use Rattle.span_truetime.specs.Limits.{timestamp_end}
 use Rattle.span_mutate.specs.declared.mutation.CheckedMutation.{CheckedMutation}
 use Rattle.span_shard.specs.declared.write.Write.{Write}
 use Rattle.span_shard.specs.KeyVersions.{KeyVersions}
@@ -13,7 +14,7 @@ use Rattle.span_machine.specs.declared.slot.SlotState.{SlotState}
 use Rattle.span_machine.specs.declared.transaction.OpenTransaction.{OpenTransaction}
 use Rattle.span_core.specs.Histories.{Steps}
 use Rattle.span_value.specs.Results.{first_cause}
-use Rattle.span_machine.specs.Machine.{Machine, Answer, refused, unless_refused, if_some, for_slot, mutations_in, mutations_refusal, prepare, prepare_transaction, prepare_refusal, capacity_refusal, prepared}
+use Rattle.span_machine.specs.Machine.{Machine, Answer, refused, unless_refused, if_some, for_slot, mutations_in, mutations_refusal, prepare, prepare_transaction, prepare_refusal, prepare_timestamp, capacity_refusal, prepared, is_undecided, is_prepared_at, has_conflict}
 use Rattle.span_machine.specs.Kept.{most_versions, live_with}
 use Rattle.span_version_laws.proofs.Trims.{horizon_here}
 use Rattle.span_machine.specs.Pieces.{Journaled, machine_of}
@@ -22,7 +23,8 @@ use Rattle.span_version_laws.specs.Kept.{AreKept, ArePieced}
 use Rattle.span_version_laws.proofs.Claimers.{only_slot}
 use Rattle.span_version_laws.proofs.Covers.{pieced_by_step}
 use Rattle.span_version_laws.proofs.Preparing.{its_typed, prepare_free, prepare_new, prepare_fault, prepare_well, kept_prepared, live_prepared}
-use Rattle.span_journal.specs.Judged.{MayPrepare, IsNoted, IsUnnoted, timestamp_refusal}
+use Rattle.span_journal.specs.Judged.{MayPrepare, IsNoted, IsUnnoted, has_wrong_state, note_cause}
+use Rattle.span_journal.proofs.Preparing.{timestamp_refusal, all_in, note_stamp}
 use Rattle.span_core.specs.Whole.{IsWhole}
 use Rattle.span_core.proofs.Wholes.{no_text}
 use Rattle.span_schema.specs.declared.table.Table.{Table}
@@ -34,6 +36,10 @@ use Rattle.span_shard.specs.Rows.{AreChanges}
 
 some_same : {A : Type 0} (x y : A) → Some x ≡ Some y → x ≡ y
 some_same x y e = cc
+
+first_passes : (wrong conflict : Bool) → first_cause ((wrong, refusal.WrongState) ∷ (conflict, refusal.Conflict) ∷ []) ≡ None → wrong ≡ false
+first_passes false conflict e = refl
+first_passes true conflict e = absurd (cc)
 
 above : (n k : ℕ) → n ≡ k → most_versions < n → nat_lt most_versions k ≡ true
 above n k same many = grind (arith, nat_tests)
@@ -57,6 +63,12 @@ module _ (schema : List Table) (j : Journaled) (cs : List KeyVersions) (w : IsWh
 
   pub new : HasNoneOf txn cs
   new = prepare_new schema w.rules (machine_of j) w.reached cs w.kept owner txn may.transaction may.slot_state may.found here_zero accepted_zero
+
+  -- nor is its state wrong
+  right : has_wrong_state slot may.transaction ≡ false
+  right =
+      ap (λ (ms : List CheckedMutation). not (is_undecided may.transaction) || is_prepared_at slot may.transaction || (length ms == 0)) (sym (all_in schema may.slot_state may.transaction.mutations))
+      ∙ first_passes (not (is_undecided may.transaction) || is_prepared_at slot may.transaction || (length (mutations_in schema may.slot_state may.transaction.mutations) == 0)) (has_conflict schema (machine_of j) slot (mutations_in schema may.slot_state may.transaction.mutations)) may.accepted
 
   -- what is left to check: the capacity, and then the timestamp
   abbrev stamped : Answer
@@ -122,8 +134,12 @@ module _ (schema : List Table) (j : Journaled) (cs : List KeyVersions) (w : IsWh
     prepared_is : (ts : ℕ) (n : Machine) → (d : IsNoted (machine_of j) owner txn slot ts n) → prepare schema (machine_of j) owner txn slot ≡ prepared (machine_of j) owner txn slot d.slot_state
     prepared_is ts n d =
         let same : d.slot_state ≡ may.slot_state = some_same d.slot_state may.slot_state (sym d.here ∙ may.here) in
+        let one : d.transaction ≡ may.transaction = some_same d.transaction may.transaction (sym d.found ∙ may.found) in
+        let stamp : timestamp_refusal d.slot_state ≡ None =
+        sym (ap (λ b. first_cause ((b, refusal.WrongState) ∷ (nat_le timestamp_end (prepare_timestamp d.slot_state), refusal.TimestampRange) ∷ [])) right)
+        ∙ ap (λ (t : OpenTransaction). note_cause slot t d.slot_state) (sym one) ∙ d.accepted in
         judged ∙ ap (λ (b : SlotState). unless_refused (machine_of j) (timestamp_refusal b) (prepared (machine_of j) owner txn slot b)) (sym same)
-        ∙ ap (λ (o : Option Refusal). unless_refused (machine_of j) o (prepared (machine_of j) owner txn slot d.slot_state)) d.stamped
+        ∙ ap (λ (o : Option Refusal). unless_refused (machine_of j) o (prepared (machine_of j) owner txn slot d.slot_state)) stamp
 
     pub noted_steps : (ts : ℕ) (n : Machine) → IsNoted (machine_of j) owner txn slot ts n → Steps schema (machine_of j) (step.Prepare owner txn slot) (reply.Prepared ts) n
     noted_steps ts n d =
@@ -145,13 +161,10 @@ module _ (schema : List Table) (j : Journaled) (cs : List KeyVersions) (w : IsWh
           pieced = subst (ArePieced schema (machine_of k)) (sym queries) (subst (λ (n : Machine). ArePieced schema n j.queries) (sym is) (pieced_by_step schema w.rules m w.reached j.queries refl w.pieced no_text (step.Prepare owner txn slot) tt));
         }
 
-    -- why it is not noted is the reply
+    -- why it is not noted is the reply: out of memory, or that no timestamp is left
     pub unnoted_steps : (why : Refusal) → IsUnnoted (machine_of j) owner txn slot why → Steps schema (machine_of j) (step.Prepare owner txn slot) (reply.Refused why) (machine_of j)
     unnoted_steps why (inl memory) = inr (refl, (ap reply.Refused memory, refl))
-    unnoted_steps why (inr (inl none)) = absurd (let f = may.found in cc)
-    unnoted_steps why (inr (inr (inl none))) = absurd (let f = may.here in cc)
-    unnoted_steps why (inr (inr (inr g))) =
-        let same : may.slot_state ≡ g.0 = some_same may.slot_state g.0 (sym may.here ∙ g.1) in
-        let e = judged ∙ ap (λ (b : SlotState). unless_refused (machine_of j) (timestamp_refusal b) (prepared (machine_of j) owner txn slot b)) same
-        ∙ ap (λ (o : Option Refusal). unless_refused (machine_of j) o (prepared (machine_of j) owner txn slot g.0)) g.2 in
+    unnoted_steps why (inr is) =
+        let late : timestamp_refusal may.slot_state ≡ Some why = sym (note_stamp (machine_of j) owner txn slot may.transaction may.found may.slot_state may.here right) ∙ is in
+        let e = judged ∙ ap (λ (o : Option Refusal). unless_refused (machine_of j) o (prepared (machine_of j) owner txn slot may.slot_state)) late in
         inl (no_text, tt, (sym (ap (λ (a : Answer). a.0) e), sym (ap (λ (a : Answer). a.1) e)))

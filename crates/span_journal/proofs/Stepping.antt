@@ -7,8 +7,8 @@ use Rattle.span_schema.specs.declared.table.Table.{Table}
 use Rattle.span_machine.specs.declared.slot.SlotState.{SlotState}
 use Rattle.span_machine.specs.declared.transaction.OpenTransaction.{OpenTransaction}
 use Rattle.span_machine.specs.Place.{IsPlace}
-use Rattle.span_journal.specs.Judged.{IsNoted, IsApplied, MayScan, decision_of}
-use Rattle.span_journal.proofs.Preparing.{a_stamp}
+use Rattle.span_journal.specs.Judged.{has_wrong_state, IsNoted, IsApplied, MayScan, decision_of}
+use Rattle.span_journal.proofs.Preparing.{may_note}
 use Rattle.span_value.specs.declared.refusal.Refusal.TheVariants as refusal
 use Rattle.span_machine.specs.declared.query.Leaf.{Leaf}
 use Rattle.span_machine.specs.declared.query.OpenQuery.{OpenQuery}
@@ -36,13 +36,15 @@ close_some j query p e =
 
 -- a transaction is noted as prepared
 pub noted : (j : Journaled) (owner txn slot ts at : ℕ) (t : OpenTransaction) (slot_state : SlotState) (bs : List SlotState) (txs : List OpenTransaction)
-    → IsPlace (is_transaction owner txn) j.transactions at t → slice_get j.slots slot ≡ Some slot_state → ts ≡ prepare_timestamp slot_state → ts < 2 ^ 62
+    → IsPlace (is_transaction owner txn) j.transactions at t → slice_get j.slots slot ≡ Some slot_state → has_wrong_state slot t ≡ false → ts ≡ prepare_timestamp slot_state → ts < 2 ^ 62
     → bs ≡ slice_set j.slots slot (record slot_state { last = ts }) → txs ≡ slice_set j.transactions at (add_prepared slot ts t)
     → IsNoted (machine_of j) owner txn slot ts (machine_of (record j { slots = bs; transactions = txs }))
-noted j owner txn slot ts at t slot_state bs txs place here is early slots_are txs_are = record {
+noted j owner txn slot ts at t slot_state bs txs place here right is early slots_are txs_are = record {
+  transaction = t;
   slot_state = slot_state;
+  found = place.found;
   here = here;
-  stamped = a_stamp slot_state (subst (λ n. n < 2 ^ 62) is early);
+  accepted = may_note slot t slot_state right (subst (λ n. n < 2 ^ 62) is early);
   at = is;
   after = ap (λ (l : List SlotState). machine_of (record j { slots = l; transactions = txs })) (slots_are ∙ ap (λ n. slice_set j.slots slot (record slot_state { last = n })) is)
       ∙ ap (λ (l : List OpenTransaction). machine_of (record j { slots = slice_set j.slots slot (record slot_state { last = prepare_timestamp slot_state }); transactions = l }))

@@ -1,9 +1,9 @@
 use Rattle.std.specs.List.{list_all}
-use Rattle.std.specs.Prelude.{◌≡◌, ◌≢◌, ℕ, false, true, nat_le, nat_lt, List, [], ◌∷◌, find, slice_get, slice_set, Option, Some, None, Result, Ok, Err, ◌⊎◌}
+use Rattle.std.specs.Prelude.{◌≡◌, ◌≢◌, ℕ, Bool, false, true, not, ◌||◌, ◌==◌, nat_le, nat_lt, List, [], ◌∷◌, length, find, slice_get, slice_set, Option, Some, None, Result, Ok, Err, ◌⊎◌}
 use Rattle.span_query.specs.Rows.{Row}
 use Rattle.span_query.specs.declared.query.BoundQuery.{BoundQuery}
 use Rattle.span_value.specs.declared.refusal.Refusal.{Refusal}
-use Rattle.span_value.specs.declared.refusal.Refusal.TheVariants.{OutOfMemory, TimestampRange, UnknownQuery, NoSlot, Incomplete}
+use Rattle.span_value.specs.declared.refusal.Refusal.TheVariants.{OutOfMemory, TimestampRange, UnknownTransaction, UnknownQuery, WrongState, NoSlot, Incomplete}
 use Rattle.span_schema.specs.declared.table.Table.{Table}
 use Rattle.span_mutate.specs.declared.mutation.CheckedMutation.{CheckedMutation}
 use Rattle.span_truetime.specs.declared.interval.Interval.{Interval}
@@ -17,7 +17,7 @@ use Rattle.span_machine.specs.declared.transaction.OpenTransaction.{OpenTransact
 use Rattle.span_machine.specs.declared.transaction.Decision.{Decision}
 use Rattle.span_machine.specs.declared.transaction.Decision.TheVariants as decision
 use Rattle.span_value.specs.Results.{first_cause}
-use Rattle.span_machine.specs.Machine.{trim_refusal, Machine, is_transaction, is_query, mutations_in, prepare_refusal, prepare_timestamp, prepared, apply_refusal, applied_at, changed_first, is_covered, is_safe, with_risen_floor, scan, with_slot_state}
+use Rattle.span_machine.specs.Machine.{trim_refusal, Machine, if_some, is_transaction, is_undecided, is_prepared_at, is_query, mutations_in, prepare_refusal, prepare_timestamp, prepared, apply_refusal, applied_at, changed_first, is_covered, is_safe, with_risen_floor, scan, with_slot_state}
 use Rattle.span_machine.specs.Pieces.{Pieced, Journaled, covered_by, machine_of}
 use Rattle.span_journal.specs.declared.journal.Gap.{Gap}
 
@@ -45,21 +45,32 @@ pub record MayPrepare (schema : List Table) (m : Machine) (owner txn slot : ℕ)
   pub accepted : prepare_refusal schema m slot transaction slot_state ≡ None
   pub mutations : ms ≡ mutations_in schema slot_state transaction.mutations
 
--- the refusal `TimestampRange`, if there is no prepare timestamp left
-abbrev pub timestamp_refusal : SlotState → Option Refusal
-timestamp_refusal slot_state = first_cause ((nat_le timestamp_end (prepare_timestamp slot_state), TimestampRange) ∷ [])
+-- the transaction may not be prepared at the slot: it is decided, or prepared there, or has no mutations
+abbrev pub has_wrong_state : ℕ → OpenTransaction → Bool
+has_wrong_state slot t = not (is_undecided t) || is_prepared_at slot t || (length t.mutations == 0)
+
+-- why the transaction is not noted as prepared at the slot, where memory suffices: its state, or no prepare timestamp left
+abbrev pub note_cause : ℕ → OpenTransaction → SlotState → Option Refusal
+note_cause slot t slot_state = first_cause ((has_wrong_state slot t, WrongState) ∷ (nat_le timestamp_end (prepare_timestamp slot_state), TimestampRange) ∷ [])
+
+-- the same of the transaction of this owner and number, which may not be there, nor the slot
+abbrev pub note_refusal : Machine → ℕ → ℕ → ℕ → Option Refusal
+note_refusal m owner txn slot =
+    if_some (find (is_transaction owner txn) m.transactions) (Some UnknownTransaction) (λ t. if_some (slice_get m.slots slot) (Some NoSlot) (note_cause slot t))
 
 -- the transaction is noted as prepared at the slot
 pub record IsNoted (old : Machine) (owner txn slot ts : ℕ) (new : Machine) : Type 0 where
+  pub transaction : OpenTransaction
   pub slot_state : SlotState
+  pub found : find (is_transaction owner txn) old.transactions ≡ Some transaction
   pub here : slice_get old.slots slot ≡ Some slot_state
-  pub stamped : timestamp_refusal slot_state ≡ None
+  pub accepted : note_cause slot transaction slot_state ≡ None
   pub at : ts ≡ prepare_timestamp slot_state
   pub after : new ≡ (prepared old owner txn slot slot_state).1
 
--- why a transaction is not noted: no such transaction, no such slot, no timestamp left, or out of memory
+-- why a transaction is not noted: out of memory, or its refusal
 abbrev pub IsUnnoted : Machine → ℕ → ℕ → ℕ → Refusal → Type 0
-IsUnnoted m owner txn slot why = (why ≡ OutOfMemory) ⊎ ((find (is_transaction owner txn) m.transactions ≡ None) ⊎ ((slice_get m.slots slot ≡ None) ⊎ ((slot_state : SlotState) × (slice_get m.slots slot ≡ Some slot_state) × (timestamp_refusal slot_state ≡ Some why))))
+IsUnnoted m owner txn slot why = (why ≡ OutOfMemory) ⊎ (note_refusal m owner txn slot ≡ Some why)
 
 -- the decided transaction is noted as applied at the slot
 pub record IsApplied (old : Machine) (owner txn slot : ℕ) (interval : Interval) (committed : Option ℕ) (new : Machine) : Type 0 where

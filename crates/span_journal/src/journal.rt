@@ -338,19 +338,24 @@ impl Journal {
         Ok(mutations)
     }
 
-    /// Notes that a transaction is prepared at the slot, and returns its prepare timestamp. A refusal leaves all as it was.
+    /// Notes that a transaction is prepared at the slot, and returns its prepare timestamp. `UnknownTransaction`, then `NoSlot`, then
+    /// `WrongState` where it is decided, prepared there or without mutations, then `TimestampRange`, then `OutOfMemory`; a refusal leaves
+    /// all as it was.
     pub fn note_prepared(&mut self, owner: u64, txn: u64, slot: usize) -> Result<u64, Refusal>
         ensures ok { IfOk result (λ ts. IsNoted (machine_of self.old) owner txn slot ts (machine_of self.new)) }
         ensures why { IfErr result (λ why. IsUnnoted (machine_of self.old) owner txn slot why) }
         ensures err { OnErr result (machine_of self.new ≡ machine_of self.old) }
         ensures pieces { self.new.queries ≡ self.old.queries }
     {
-        let Some((at, _)) = find_transaction(self.transactions.as_slice(), owner, txn) else {
+        let Some((at, kept)) = find_transaction(self.transactions.as_slice(), owner, txn) else {
             return Err(Refusal::UnknownTransaction);
         };
         let Some(slot_state) = slot_at(self.slots.as_slice(), slot) else {
             return Err(Refusal::NoSlot);
         };
+        if !may_prepare(kept, slot) {
+            return Err(Refusal::WrongState);
+        }
         let Some(timestamp) = prepare_timestamp(slot_state) else {
             return Err(Refusal::TimestampRange);
         };

@@ -3,7 +3,7 @@ ghost use Rattle.std.specs.Prelude.{◌≡◌, ◌<◌, ◌+◌, ◌≤◌, ◌&
 ghost use Rattle.std.specs.List.{list_any};
 ghost use Rattle.span_machine.specs.Machine.{is_at, root_at, is_undecided, is_transaction, is_prepared_at, with_decision, commit_of, add_prepared, without_prepared, have_common_root, apply_refusal};
 ghost use Rattle.span_machine.specs.Place.{IsPlace};
-ghost use Rattle.span_journal.specs.Judged.{decision_of};
+ghost use Rattle.span_journal.specs.Judged.{decision_of, has_wrong_state};
 
 use super::transaction::KeptTransaction;
 use span_machine::transaction::{Commit, Decision, Prepared};
@@ -229,7 +229,7 @@ pub(crate) fn remove_at(transactions: &mut Vec<KeptTransaction>, at: usize)
 
 /// Whether the transaction is in a state to be prepared at the slot, where all of its directories lie.
 pub(crate) fn may_prepare(transaction: &KeptTransaction, slot: usize) -> bool
-    ensures { result ≡ not (not (is_undecided transaction.now) || is_prepared_at slot transaction.now || (length transaction.now.mutations == 0)) }
+    ensures { result ≡ not (has_wrong_state slot transaction.now) }
 {
     if !transaction.is_undecided() {
         return false;

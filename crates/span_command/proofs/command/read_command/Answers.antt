@@ -1,0 +1,14 @@
+use Rattle.span_command.proofs.Refusing.{numbered}
+use Rattle.span_command.proofs.command.read_command.Goals as goal
+
+pub returns-in_default : goal.returns-in_default
+returns-in_default c = numbered c.args.line.now c.in-Some.word.now c.in-Some.rest.now c.in-Some.ensures.0 c.in-Some.ensures.1 (record {
+  param = c.in_default.not-param;
+  insert = c.in_default.not-insert;
+  update = c.in_default.not-update;
+  upsert = c.in_default.not-upsert;
+  delete = c.in_default.not-delete;
+  load = c.in_default.not-load;
+  opens = c.in_default.not-open;
+  query = c.in_default.not-query;
+}) c.read_numbered.result c.read_numbered.ensures
