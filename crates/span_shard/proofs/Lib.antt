@@ -23,3 +23,4 @@ pub mod Seeing
 pub mod Cutting
 pub mod Horizons
 pub mod Filling
+pub mod Later

@@ -5,7 +5,7 @@ ghost use Rattle.span_keycode.specs.declared.range.KeyRange.{KeyRange};
 ghost use Rattle.span_mutate.specs.Typed.{AreTypedMutations};
 ghost use Rattle.span_shard.specs.Reading.{entry_row, AreWrites, IsFault, IsFull};
 ghost use Rattle.std.specs.List.{AllByRecursion};
-ghost use Rattle.span_shard.specs.Shard.{with_writes, applied, trimmed, trimmed_key, snapshot, live, IsFree, HasNoneOf, HasSomeOf, ArePutsRefused, AreInOrder, IsInUse};
+ghost use Rattle.span_shard.specs.Shard.{with_writes, applied, trimmed, trimmed_key, snapshot, live, IsFree, HasNoneOf, HasSomeOf, HaveFallingVersions, ReadLastVersions, ArePutsRefused, AreInOrder, IsInUse, IsLaterCommit};
 ghost use Rattle.span_shard.specs.declared.write.Write.{Write};
 
 use super::change::writes_of;
@@ -78,6 +78,15 @@ impl Shard {
         let _ = &self.store;
     }
 
+    /// A law, which takes no time: the versions of each key are in the order of their timestamps, the latest first, and what a snapshot
+    /// reads of it at s is the last version at or below s.
+    pub fn versions_are_in_order(&self)
+        ensures falling { HaveFallingVersions self.now }
+        ensures last { ReadLastVersions self.now }
+    {
+        let _kept = self.store.live();
+    }
+
     /// A law, which takes no time: no more versions are kept than may be.
     pub fn keeps_at_most(&self)
         ensures { live self.now ≤ most_nodes }
@@ -128,9 +137,10 @@ impl Shard {
         }
     }
 
-    /// Ends the writes of a transaction: they become versions at its commit timestamp, or are given up where there is none. It takes
-    /// no memory, and moves links alone: `prepare` made the nodes.
+    /// Ends the writes of a transaction: they become versions at its commit timestamp, which is later than the versions that are there,
+    /// or are given up where there is none. It takes no memory, and moves links alone: `prepare` made the nodes.
     pub fn apply(&mut self, txn: u64, committed: Option<u64>)
+        requires { IsLaterCommit txn committed self.old }
         ensures { self.new ≡ applied txn committed self.old }
     {
         self.store.end(txn, committed);
