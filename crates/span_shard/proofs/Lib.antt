@@ -24,3 +24,4 @@ pub mod Cutting
 pub mod Horizons
 pub mod Filling
 pub mod Later
+pub mod Refused

@@ -3,7 +3,7 @@ ghost use Rattle.std.specs.Prelude.{◌≡◌, ◌≤◌, ◌⊎◌, ℕ, [], Li
 ghost use Rattle.span_arena.specs.Limits.{most_nodes};
 ghost use Rattle.span_keycode.specs.declared.range.KeyRange.{KeyRange};
 ghost use Rattle.span_mutate.specs.Typed.{AreTypedMutations};
-ghost use Rattle.span_shard.specs.Reading.{entry_row, AreWrites, IsFault, IsFull};
+ghost use Rattle.span_shard.specs.Reading.{entry_row, AreWrites, IsFault, IsFull, IsPrepareRefusal};
 ghost use Rattle.std.specs.List.{AllByRecursion};
 ghost use Rattle.span_shard.specs.Shard.{with_writes, applied, trimmed, trimmed_key, snapshot, live, IsFree, HasNoneOf, HasSomeOf, HaveFallingVersions, ReadLastVersions, ArePutsRefused, AreInOrder, IsInUse, IsLaterCommit};
 ghost use Rattle.span_shard.specs.declared.write.Write.{Write};
@@ -106,9 +106,10 @@ impl Shard {
     /// all directories, out of memory, or that the writes would bring the number of kept versions over 2^24; it leaves all as
     /// it was.
     ///
-    /// The directories are found by binary search, and no others are read. `db` is any database whose rows in those directories are
-    /// the ones that are here now: it may be the whole one. Bytes that are no key or row of the schema would be refused with
-    /// `BadKey` or `BadRow`; then there is no such database.
+    /// The directories are found by binary search, and no others are read. The fault is Apply's on any database whose rows in those
+    /// directories are the ones that are here now: it may be the whole one. Where there is none, since the bytes there are no such
+    /// rows, it is still one of `Exists`, `Missing`, `ParentMissing`, `HasChildren` and `RowTooLong`; `BadKey` or `BadRow` comes only
+    /// where the bytes under a key in those directories are no row of the schema's tables.
     pub fn prepare(
         &mut self,
         alloc: Global,
@@ -125,6 +126,7 @@ impl Shard {
             × AreWrites schema.now mutations.now self.old ws) }
         ensures fault { IfErr result
             (λ why. IsFault schema.now mutations.now self.old why ⊎ IsFull schema.now mutations.now txn self.old why) }
+        ensures number { IfErr result (λ why. IsPrepareRefusal schema.now mutations.now self.old why) }
         ensures err { OnErr result (self.new ≡ self.old) }
     {
         let writes = writes_of(alloc, schema, &self.store, mutations)?;
