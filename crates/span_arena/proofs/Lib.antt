@@ -7,3 +7,4 @@ pub mod Spares
 pub mod Walking
 pub mod Cutting
 pub mod Keeping
+pub mod Falling

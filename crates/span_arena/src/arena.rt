@@ -3,6 +3,7 @@ ghost use Rattle.std.specs.Prelude.{◌≡◌, true, [], None, Some, IfOk, IfErr
 ghost use Rattle.span_arena.specs.Limits.{most_nodes};
 ghost use Rattle.span_arena.specs.declared.arena.TheConstants.{MOST_NODES};
 ghost use Rattle.std.specs.Option.{option_copied};
+ghost use Rattle.span_arena.specs.Order.{IsNewestUpto, IsLaterFor, AreInTimeOrder};
 ghost use Rattle.span_arena.specs.Content.{Content, versions, prepared_at, IsChain, AreAllChains, IsInOrder, is_unused, prepared_for, live, newest_upto, IsPrepared, linked, given_back, trimmed, cleared, kept_by, with_kept, without_chain, IsNewChain, IsReserved, IsRefusedNode};
 
 use crate::cut::cut;
@@ -38,6 +39,7 @@ pub struct Arena {
 
 impl Model for Arena {
     ghost use Rattle.span_arena.specs.Content.{Content};
+    ghost use Rattle.span_arena.specs.Order.{AreInTimeOrder};
     ghost use Rattle.span_arena.specs.Runs.{content, IsSound, AreSpare};
 
     ghost Value = { Content };
@@ -47,6 +49,7 @@ impl Model for Arena {
     ghost invariant = { λ a. record {
       sound : IsSound a.nodes.items a.chains.items a.free a.free_count a.most;
       spare : AreSpare a.chains.items a.spare a.spare_count;
+      falling : AreInTimeOrder (content a.nodes.items a.chains.items a.free_count a.most);
     } };
 }
 
@@ -77,6 +80,7 @@ impl Arena {
     pub fn live(&self) -> usize
         ensures live { result ≡ live self.now }
         ensures order { IsInOrder self.now }
+        ensures falling { AreInTimeOrder self.now }
     {
         self.nodes.len() - self.free_count
     }
@@ -103,10 +107,12 @@ impl Arena {
         links.prepared > 0
     }
 
-    /// The newest version of a chain at or below `s`.
+    /// The newest version of a chain at or below `s`, a timestamp: every other version there is older. None where all versions are
+    /// later than `s`.
     pub fn newest_at(&self, chain: Chain, s: u64) -> Option<&Version>
         requires { IsChain self.now chain.number }
-        ensures { option_copied result ≡ newest_upto s (versions self.now chain.number) }
+        ensures first { option_copied result ≡ newest_upto s (versions self.now chain.number) }
+        ensures last { IsNewestUpto s (versions self.now chain.number) (option_copied result) }
     {
         let ChainRecord::Used(links) = self.chains[chain.number] else {
             unreachable!()
@@ -208,9 +214,10 @@ impl Arena {
         Ok(Node { number })
     }
 
-    /// Makes what is prepared in a node the newest version of its chain. It takes no memory.
+    /// Makes what is prepared in a node the newest version of its chain, at a timestamp that is later than those of its other
+    /// versions. It takes no memory.
     pub fn link(&mut self, node: Node, timestamp: u64)
-        requires { IsPrepared self.old node.number }
+        requires { IsLaterFor self.old node.number timestamp }
         ensures { self.new ≡ linked self.old node.number timestamp }
     {
         let cell = &mut self.nodes[node.number];

@@ -12,7 +12,7 @@ use Rattle.span_query.specs.Meaning as meant
 use Rattle.span_truetime.specs.declared.bound.Bound.{Bound}
 use Rattle.span_truetime.specs.declared.interval.Interval.{Interval}
 use Rattle.span_shard.specs.KeyVersions.{KeyVersions}
-use Rattle.span_shard.specs.Shard.{snapshot}
+use Rattle.span_shard.specs.Shard.{snapshot, IsLaterCommit}
 use Rattle.span_shard.specs.Shard as shard
 use Rattle.span_machine.specs.declared.step.Step.{Step}
 use Rattle.span_machine.specs.declared.step.Step.TheVariants as step
@@ -35,6 +35,7 @@ use Rattle.span_machine.specs.declared.transaction.Commit.{Commit}
 use Rattle.span_machine_laws.proofs.Causes.{may_trim}
 use Rattle.span_version_laws.proofs.Steps.{start_kept, kept_scan}
 use Rattle.span_version_laws.proofs.Applying.{kept_committed, kept_aborted}
+use Rattle.span_version_laws.proofs.Later.{later_committed}
 use Rattle.span_version_laws.proofs.Claimers.{only_slot}
 use Rattle.span_version_laws.proofs.Covers.{no_pieces, pieced_push, pieced_without, pieced_by_step, pieced_table, pieced_scanned, pieced_finish, covered-queries, find-queries, found_query}
 use Rattle.span_journal.specs.Judged.{IsApplied, IsRaised, MayScan, IsRegistered, IsUnregistered, IsCovered, decision_of}
@@ -141,6 +142,11 @@ kept_applied : (schema : List Table) (m : Machine) (cs : List KeyVersions) (owne
     → AreKept schema (applied_at (decision_of committed) m owner txn slot t).1 (shard.applied txn committed cs)
 kept_applied schema m cs owner txn slot None t reached kept found zero is = subst (λ i. AreKept schema (applied_at decision.Aborted m owner txn i t).1 (shard.applied txn None cs)) (sym zero) (kept_aborted schema m reached cs kept owner txn t found is)
 kept_applied schema m cs owner txn slot (Some ts) t reached kept found zero is = subst (λ i. AreKept schema (applied_at (decision.Committed ts) m owner txn i t).1 (shard.applied txn (Some ts) cs)) (sym zero) (kept_committed schema m reached cs kept owner txn t found ts is)
+
+-- a commit timestamp is later than the versions of every key where the transaction has a write prepared
+pub later_applied : (schema : List Table) (j : Journaled) (cs : List KeyVersions) (owner txn slot : ℕ) (interval : Interval) (committed : Option ℕ) (n : Machine) → IsWhole schema j cs → IsApplied (machine_of j) owner txn slot interval committed n → IsLaterCommit txn committed cs
+later_applied schema j cs owner txn slot interval None n w d = tt
+later_applied schema j cs owner txn slot interval (Some ts) n w d = later_committed schema w.rules (machine_of j) w.reached cs w.kept owner txn d.transaction d.found ts d.decision
 
 pub whole_applied : (schema : List Table) (j k : Journaled) (cs : List KeyVersions) (owner txn slot : ℕ) (interval : Interval) (committed : Option ℕ) → IsWhole schema j cs → IsApplied (machine_of j) owner txn slot interval committed (machine_of k) → k.queries ≡ j.queries
     → IsWhole schema k (shard.applied txn committed cs)

@@ -3,6 +3,7 @@ pub mod Codes
 pub mod Reading
 pub mod KindTests
 pub mod Levels
+pub mod Lengths
 pub mod LevelLaws
 pub mod Exact
 pub mod Plains

@@ -1,5 +1,6 @@
 //! The coding of one column's value.
-ghost use Rattle.std.specs.Prelude.{◌≡◌, ◌++◌, ◌∷◌, [], OnOk, IsTrue, length};
+ghost use Rattle.std.specs.Prelude.{◌≡◌, ◌≤◌, ◌++◌, ◌∷◌, [], OnOk, OnErr, IsTrue, length};
+ghost use Rattle.span_keycode.specs.Limits.{IsTooLong};
 ghost use Rattle.std.specs.Int.{to_be_bytes, w64};
 ghost use Rattle.span_keycode.specs.Coding.{to_unsigned, escaped, escaped_byte, in_direction, column_code, tuple_code, are_of_kinds, AreFit};
 
@@ -40,14 +41,18 @@ fn to_unsigned(number: i64) -> u64
 }
 
 fn push_directed(out: &mut Bytes, byte: u8, desc: bool) -> Result<(), AllocError>
-    ensures { OnOk result (out.new.items ≡ out.old.items ++ in_direction desc (byte ∷ [])) }
+    ensures bytes { OnOk result (out.new.items ≡ out.old.items ++ in_direction desc (byte ∷ [])) }
+    ensures capacity { out.old.capacity ≤ out.new.capacity }
+    ensures memory { OnErr result (IsTooLong out.old (in_direction desc (byte ∷ []))) }
 {
     out.push(apply_direction(byte, desc))?;
     Ok(())
 }
 
 fn push_escaped_byte(out: &mut Bytes, byte: u8, desc: bool) -> Result<(), AllocError>
-    ensures { OnOk result (out.new.items ≡ out.old.items ++ in_direction desc (escaped_byte byte [])) }
+    ensures bytes { OnOk result (out.new.items ≡ out.old.items ++ in_direction desc (escaped_byte byte [])) }
+    ensures capacity { out.old.capacity ≤ out.new.capacity }
+    ensures memory { OnErr result (IsTooLong out.old (in_direction desc (escaped_byte byte []))) }
 {
     push_directed(out, byte, desc)?;
     if byte == 0 {
@@ -57,7 +62,9 @@ fn push_escaped_byte(out: &mut Bytes, byte: u8, desc: bool) -> Result<(), AllocE
 }
 
 fn push_escaped(out: &mut Bytes, bytes: &[u8], desc: bool) -> Result<(), AllocError>
-    ensures { OnOk result (out.new.items ≡ out.old.items ++ in_direction desc (escaped bytes.now)) }
+    ensures bytes { OnOk result (out.new.items ≡ out.old.items ++ in_direction desc (escaped bytes.now)) }
+    ensures capacity { out.old.capacity ≤ out.new.capacity }
+    ensures memory { OnErr result (IsTooLong out.old (in_direction desc (escaped bytes.now))) }
 {
     for byte in bytes {
         push_escaped_byte(out, *byte, desc)?;
@@ -67,7 +74,9 @@ fn push_escaped(out: &mut Bytes, bytes: &[u8], desc: bool) -> Result<(), AllocEr
 }
 
 fn push_all(out: &mut Bytes, bytes: &[u8], desc: bool) -> Result<(), AllocError>
-    ensures { OnOk result (out.new.items ≡ out.old.items ++ in_direction desc bytes.now) }
+    ensures bytes { OnOk result (out.new.items ≡ out.old.items ++ in_direction desc bytes.now) }
+    ensures capacity { out.old.capacity ≤ out.new.capacity }
+    ensures memory { OnErr result (IsTooLong out.old (in_direction desc bytes.now)) }
 {
     for byte in bytes {
         push_directed(out, *byte, desc)?;
@@ -76,14 +85,18 @@ fn push_all(out: &mut Bytes, bytes: &[u8], desc: bool) -> Result<(), AllocError>
 }
 
 fn push_number(out: &mut Bytes, number: u64, desc: bool) -> Result<(), AllocError>
-    ensures { OnOk result (out.new.items ≡ out.old.items ++ in_direction desc (to_be_bytes w64 number)) }
+    ensures bytes { OnOk result (out.new.items ≡ out.old.items ++ in_direction desc (to_be_bytes w64 number)) }
+    ensures capacity { out.old.capacity ≤ out.new.capacity }
+    ensures memory { OnErr result (IsTooLong out.old (in_direction desc (to_be_bytes w64 number))) }
 {
     push_all(out, &number.to_be_bytes(), desc)
 }
 
-/// Adds the coding of a column's value. An error may leave a part of it.
+/// Adds the coding of a column's value. Memory runs out only where it does not fit into what is there, and may leave a part of it.
 pub(crate) fn push_value(out: &mut Bytes, column: KeyPart, value: &Value) -> Result<(), AllocError>
-    ensures { OnOk result (out.new.items ≡ out.old.items ++ column_code column value.now) }
+    ensures bytes { OnOk result (out.new.items ≡ out.old.items ++ column_code column value.now) }
+    ensures capacity { out.old.capacity ≤ out.new.capacity }
+    ensures memory { OnErr result (IsTooLong out.old (column_code column value.now)) }
 {
     let desc = column.desc;
     match value {
@@ -107,14 +120,17 @@ pub(crate) fn push_value(out: &mut Bytes, column: KeyPart, value: &Value) -> Res
     }
 }
 
-/// Adds the codings of columns, one value for each. An error may leave a part of them.
+/// Adds the codings of columns, one value for each. Memory runs out only where they do not fit into what is there, and may leave a
+/// part of them.
 pub(crate) fn push_tuple(
     out: &mut Bytes,
     columns: &[KeyPart],
     values: &[Value],
 ) -> Result<(), AllocError>
     requires { length columns.now ≡ length values.now }
-    ensures { OnOk result (out.new.items ≡ out.old.items ++ tuple_code columns.now values.now) }
+    ensures bytes { OnOk result (out.new.items ≡ out.old.items ++ tuple_code columns.now values.now) }
+    ensures capacity { out.old.capacity ≤ out.new.capacity }
+    ensures memory { OnErr result (IsTooLong out.old (tuple_code columns.now values.now)) }
 {
     for i in 0..columns.len() {
         push_value(out, columns[i], &values[i])?;

@@ -1,7 +1,8 @@
 //! Coding keys.
-ghost use Rattle.std.specs.Prelude.{◌≡◌, ◌⊎◌, ◌≤◌, ◌++◌, MatchResult, IfOk, OnOk, None, Some, length, take, drop};
+ghost use Rattle.std.specs.Prelude.{◌≡◌, ◌⊎◌, ◌<◌, ◌≤◌, ◌++◌, MatchResult, IfOk, IfErr, OnOk, OnErr, None, Some, length, take, drop};
 ghost use Rattle.span_schema.specs.Lineages.{MeetsRules};
 ghost use Rattle.span_schema.specs.Numbers.{IsTable, key_columns};
+ghost use Rattle.span_keycode.specs.Limits.{inline_bytes, IsTooLong};
 ghost use Rattle.span_keycode.specs.Keys.{IsCodedKey, key_code, level_code, level_of, encode_cause};
 
 use crate::column::{have_kinds, push_tuple};
@@ -24,12 +25,14 @@ pub fn encode_key(
     values: &[Value],
 ) -> Result<Key, Refusal>
     requires { IsTable schema.now table }
-    ensures { MatchResult result
+    ensures coded { MatchResult result
         (λ key.
         (encode_cause schema.now table values.now ≡ None)
         × IsCodedKey schema.now table values.now
         × (key ≡ key_code schema.now table values.now))
         (λ why. (encode_cause schema.now table values.now ≡ Some why) ⊎ (why ≡ Refusal.OutOfMemory)) }
+    ensures memory { IfErr result
+        (λ why. why ≡ Refusal.OutOfMemory → inline_bytes < length (key_code schema.now table values.now)) }
 {
     if !have_kinds(schema.key_columns(table), values) {
         return Err(Refusal::WrongType);
@@ -49,7 +52,8 @@ fn code(
 ) -> Result<SmallVec<u8, INLINE_BYTES>, AllocError>
     requires table { IsTable schema.now table }
     requires values { length (key_columns schema.now table) ≤ length values.now }
-    ensures { IfOk result (λ bytes. bytes.items ≡ key_code schema.now table values.now) }
+    ensures bytes { IfOk result (λ bytes. bytes.items ≡ key_code schema.now table values.now) }
+    ensures memory { OnErr result (inline_bytes < length (key_code schema.now table values.now)) }
 {
     let mut out = SmallVec::new(alloc);
     let path = schema.path_of(table);
@@ -68,7 +72,10 @@ fn push_level(
     requires table { IsTable schema.now table }
     requires rules { MeetsRules schema.now }
     requires values { length (key_columns schema.now table) ≤ length values.now }
-    ensures { OnOk result (out.new.items ≡ out.old.items ++ level_code schema.now (level_of schema.now values.now table)) }
+    ensures bytes { OnOk result
+        (out.new.items ≡ out.old.items ++ level_code schema.now (level_of schema.now values.now table)) }
+    ensures capacity { out.old.capacity ≤ out.new.capacity }
+    ensures memory { OnErr result (IsTooLong out.old (level_code schema.now (level_of schema.now values.now table))) }
 {
     out.push(table as u8)?;
     let most = schema.key_columns(table).len();

@@ -4,6 +4,7 @@ pub mod Breaks
 pub mod ByRoots
 pub mod Deletes
 pub mod Families
+pub mod Faults
 pub mod Filters
 pub mod Fronts
 pub mod Keyed

@@ -2,6 +2,7 @@ pub mod Columns
 pub mod Checking
 pub mod Rows
 pub mod Database
+pub mod Faults
 pub mod Directories
 pub mod Typed
 pub mod Touched

@@ -1,5 +1,6 @@
 //! The laws of mutations, each as the contract of a function that does nothing.
 ghost use Rattle.span_mutate.specs.Directories.{RootByRoot, OneDatabase, RowsInOrder, ParentsStay};
+ghost use Rattle.span_mutate.specs.Faults.{FaultsAreNamed};
 ghost use Rattle.span_mutate.specs.Touched.{TouchedAlone};
 ghost use Rattle.span_mutate.specs.Typed.{TypedStay};
 
@@ -31,4 +32,9 @@ pub fn typed_stay()
 /// Apply looks at the touched directories alone, and leaves all other rows: databases with the same rows there have the same outcome.
 pub fn touched_alone()
     ensures { TouchedAlone }
+{}
+
+/// Apply refuses mutations with `Exists`, `Missing`, `ParentMissing`, `HasChildren` or `RowTooLong`, and with nothing else.
+pub fn faults_are_named()
+    ensures { FaultsAreNamed }
 {}

@@ -7,7 +7,9 @@ use Rattle.std.proofs.lemmas.Bool.Decides.{nat_tests}
 use Rattle.std.proofs.lemmas.List.{get_or-set_same, get_or-set_other, take_more, append-nil, take_all, drop_all}
 use Rattle.std.proofs.lemmas.List.Elements.{filter-append}
 use Rattle.span_arena.specs.declared.version.Version as arena
-use Rattle.span_arena.specs.Content.{Content, Prepared, versions, versions_in, prepared_at, IsSomePrepared, IsPrepared, IsChain, given_back, linked, linked_as}
+use Rattle.span_arena.specs.Content.{Content, Prepared, versions, versions_in, prepared_at, IsSomePrepared, IsChain, given_back, linked, linked_as}
+use Rattle.span_arena.specs.Order.{IsLater}
+use Rattle.span_arena.specs.Order as order
 use Rattle.span_arena.proofs.Keeping.{chain_in_range}
 use Rattle.span_keyindex.specs.Arenas.{HasSameChains}
 use Rattle.span_keyindex.specs.declared.entry.Entry.{Entry}
@@ -17,8 +19,8 @@ use Rattle.span_shard.specs.declared.chain.Version.{Version}
 use Rattle.span_shard.specs.declared.chain.PreparedWrite.{PreparedWrite}
 use Rattle.span_shard.specs.declared.node.PreparedNode.{PreparedNode}
 use Rattle.span_shard.specs.KeyVersions.{KeyVersions}
-use Rattle.span_shard.specs.Versions.{with_version, applied_write, applied_to_key}
-use Rattle.span_shard.specs.Stored.{version_of, chain_versions, is_for, write_of, write_for, kept, kept_entry, all_kept, IsNodeOf, AreOwned, HasEnded, ended, is_other, remaining_nodes}
+use Rattle.span_shard.specs.Versions.{timestamps, with_version, applied_write, applied_to_key}
+use Rattle.span_shard.specs.Stored.{version_of, chain_versions, is_for, write_of, write_for, kept, kept_entry, all_kept, IsNodeOf, AreOwned, AreLaterEnds, HasEnded, IsEndable, IsLaterEnd, ended, is_other, remaining_nodes}
 use Rattle.span_shard.proofs.Lists.{all_filter_itself}
 use Rattle.span_shard.proofs.Owned.{all_back_of, kept_equal, owned_without, write_elsewhere, write_gone, write_was}
 
@@ -58,6 +60,21 @@ applied_own txn committed w key vs e =
     let t : (w.txn == txn) ≡ true = grind (arith, nat_tests) in
     ap (λ b. cond b (record { key = key; versions = with_version committed w.row vs; prepared = None }) (record { key = key; versions = vs; prepared = Some w })) t
 
+-- ---- the commit timestamp is later
+
+pub same_timestamps : (vs : List arena.Version) → timestamps (map version_of vs) ≡ order.timestamps vs
+same_timestamps [] = refl
+same_timestamps (v ∷ vs) = ap (λ (ts : List ℕ). v.timestamp ∷ ts) (same_timestamps vs)
+
+endable : (b : Content) (c n : ℕ) (image : Option (List ℕ)) (w : PreparedWrite) (txn : ℕ) (committed : Option ℕ) → prepared_at b n ≡ Some (record { chain = c; image = image }) → w.txn ≡ txn → IsLaterEnd txn committed (chain_versions b c) (Some w)
+    → IsEndable b n committed
+endable b c n image w txn None at of later = subst (λ (o : Option Prepared). IsSomePrepared o (λ _. Unit {0})) (sym at) tt
+endable b c n image w txn (Some ts) at of later = subst (λ (o : Option Prepared). IsSomePrepared o (λ p. IsLater ts (order.timestamps (versions b p.chain)))) (sym at) (subst (IsLater ts) (same_timestamps (versions b c)) (later of))
+
+no_write : (txn : ℕ) (committed : Option ℕ) (vs : List Version) → IsLaterEnd txn committed vs None
+no_write txn None vs = tt
+no_write txn (Some ts) vs = tt
+
 module _ (a b : Content) (xs ys : List PreparedNode) (p : PreparedNode) (owned : AreOwned a (xs ++ p ∷ ys)) (txn : ℕ) (committed : Option ℕ) (of : p.txn ≡ txn) (is : b ≡ ended a p.node.number committed) where
   at : IsNodeOf a p
   at = (all_back_of (IsNodeOf a) xs (p ∷ ys) owned.nodes).0
@@ -86,6 +103,18 @@ module _ (a b : Content) (xs ys : List PreparedNode) (p : PreparedNode) (owned :
         (ap (λ (x : Content). chain_versions x c) is ∙ ended-elsewhere a p.chain.number p.node.number c at.image committed differs at.prepared)
         (write_elsewhere a b xs ys p owned prepared_is same c differs))
   ]
+
+  pub ended_later : AreLaterEnds txn committed a (xs ++ p ∷ ys) → AreLaterEnds txn committed b (xs ++ ys)
+  ended_later later c = elim (cases_eq p.chain.number c) [
+    | inl equal ↦ subst (IsLaterEnd txn committed (chain_versions b c)) (sym (ap (write_for b (xs ++ ys)) (sym equal) ∙ write_gone a b xs ys p owned prepared_is same)) (no_write txn committed (chain_versions b c))
+    | inr differs ↦
+        subst (λ (vs : List Version). IsLaterEnd txn committed vs (write_for b (xs ++ ys) c)) (sym (ap (λ (x : Content). chain_versions x c) is ∙ ended-elsewhere a p.chain.number p.node.number c at.image committed differs at.prepared))
+        (subst (IsLaterEnd txn committed (chain_versions a c)) (sym (write_elsewhere a b xs ys p owned prepared_is same c differs)) (later c))
+  ]
+
+  pub own_endable : AreLaterEnds txn committed a (xs ++ p ∷ ys) → IsEndable a p.node.number committed
+  own_endable later = endable a p.chain.number p.node.number at.image (record { txn = p.txn; row = at.image }) txn committed at.prepared of
+      (subst (IsLaterEnd txn committed (chain_versions a p.chain.number)) (write_was a b xs ys p owned prepared_is same at.image at.prepared) (later p.chain.number))
 
   pub ended_owned : AreOwned b (xs ++ ys)
   ended_owned = owned_without a b xs ys p owned prepared_is same
@@ -125,10 +154,11 @@ module _ (ps : List PreparedNode) (i : ℕ) (p : PreparedNode) (lt : i < length 
     owned_here : AreOwned b (filter (is_other txn) (take i ps) ++ p ∷ drop (i + 1) ps)
     owned_here = subst (AreOwned b) before so_far.owned
 
-    pub is_prepared_here : IsPrepared b p.node.number
-    is_prepared_here =
-        let at = (all_back_of (IsNodeOf b) (filter (is_other txn) (take i ps)) (p ∷ drop (i + 1) ps) owned_here.nodes).0 in
-        subst (λ (o : Option Prepared). IsSomePrepared o (λ _. Unit {0})) (sym at.prepared) tt
+    pub endable_here : p.txn ≡ txn → AreLaterEnds txn committed b (remaining_nodes txn i ps) → IsEndable b p.node.number committed
+    endable_here e later = own_endable b (ended b p.node.number committed) (filter (is_other txn) (take i ps)) (drop (i + 1) ps) p owned_here txn committed e refl (subst (AreLaterEnds txn committed b) before later)
+
+    pub later_own : p.txn ≡ txn → (d : Content) → d ≡ ended b p.node.number committed → AreLaterEnds txn committed b (remaining_nodes txn i ps) → AreLaterEnds txn committed d (remaining_nodes txn (i + 1) ps)
+    later_own e d is later = subst (AreLaterEnds txn committed d) (sym (own_next e)) (ended_later b d (filter (is_other txn) (take i ps)) (drop (i + 1) ps) p owned_here txn committed e is (subst (AreLaterEnds txn committed b) before later))
 
     pub ends_own : p.txn ≡ txn → (d : Content) → d ≡ ended b p.node.number committed → HasEnded txn committed a d ps (remaining_nodes txn (i + 1) ps)
     ends_own e d is =

@@ -23,3 +23,5 @@ pub mod Seeing
 pub mod Cutting
 pub mod Horizons
 pub mod Filling
+pub mod Later
+pub mod Refused

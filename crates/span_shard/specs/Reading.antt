@@ -5,7 +5,7 @@ use Rattle.std.specs.List.Sorted.{IsPermutation, IsSortedBy}
 use Rattle.std.specs.Ordering.{eq_by_cmp, is_lt}
 use Rattle.std.specs.Str.{bytes_eq}
 use Rattle.span_value.specs.declared.refusal.Refusal.{Refusal}
-use Rattle.span_value.specs.declared.refusal.Refusal.TheVariants.{OutOfMemory, ShardFull}
+use Rattle.span_value.specs.declared.refusal.Refusal.TheVariants.{OutOfMemory, ShardFull, BadKey, BadRow}
 use Rattle.span_arena.specs.Limits.{most_nodes}
 use Rattle.span_arena.specs.Content.{Content}
 use Rattle.span_keyindex.specs.declared.entry.Entry.{Entry as IndexEntry}
@@ -16,6 +16,7 @@ use Rattle.span_mutate.specs.declared.mutation.CheckedMutation.{CheckedMutation}
 use Rattle.span_mutate.specs.declared.row.TableRow.{TableRow}
 use Rattle.span_mutate.specs.Database.{apply}
 use Rattle.span_mutate.specs.Directories.{rows_cmp, IsDatabase}
+use Rattle.span_mutate.specs.Faults.{is_mutation_fault}
 use Rattle.span_mutate.specs.Typed.{IsTyped, AreTyped}
 use Rattle.span_shard.specs.declared.write.Write.{Write}
 use Rattle.span_shard.specs.declared.shard.Entry.{Entry}
@@ -131,3 +132,29 @@ pub record IsFull (tables : List Table) (ms : List CheckedMutation) (txn : ℕ) 
   pub writes : List Write
   pub of : AreWrites tables ms cs writes
   pub over : most_nodes < live (with_writes txn writes cs)
+
+-- what reading bytes as a row of a table may be refused with
+abbrev pub is_read_refusal : Refusal → Bool
+is_read_refusal OutOfMemory = true
+is_read_refusal BadKey = true
+is_read_refusal BadRow = true
+is_read_refusal why = false
+
+-- a fault of mutations, a full shard, out of memory
+abbrev pub is_prepare_refusal : Refusal → Bool
+is_prepare_refusal OutOfMemory = true
+is_prepare_refusal ShardFull = true
+is_prepare_refusal why = is_mutation_fault why
+
+-- under a key that the mutations touch there are bytes now that are no row of a table
+pub record AreUnreadable (tables : List Table) (ms : List CheckedMutation) (cs : List KeyVersions) (why : Refusal) : Type 0 where
+  pub key : List ℕ
+  pub row : List ℕ
+  pub touched : is_touched tables ms key ≡ true
+  pub now : row_now cs key ≡ Some row
+  pub unread : IsNoTableRow tables key row
+  pub number : (why ≡ BadKey) ⊎ (why ≡ BadRow)
+
+-- with what a prepare may be refused
+abbrev pub IsPrepareRefusal : List Table → List CheckedMutation → List KeyVersions → Refusal → Type 0
+IsPrepareRefusal tables ms cs why = (is_prepare_refusal why ≡ true) ⊎ AreUnreadable tables ms cs why

@@ -6,6 +6,7 @@ use Rattle.std.specs.declared.cmp.Ordering.TheVariants.{Less, Equal, Greater}
 use Rattle.span_value.specs.declared.refusal.Refusal.{Refusal}
 use Rattle.span_value.specs.declared.refusal.Refusal.TheVariants.{OutOfMemory, ShardFull}
 use Rattle.span_arena.specs.Limits.{most_nodes}
+use Rattle.span_arena.specs.Order.{AreFalling}
 use Rattle.span_schema.specs.declared.table.Table.{Table}
 use Rattle.span_keycode.specs.Order.{byte_order}
 use Rattle.span_keycode.specs.declared.range.KeyRange.{KeyRange}
@@ -17,7 +18,7 @@ use Rattle.span_shard.specs.declared.chain.PreparedWrite.{PreparedWrite}
 use Rattle.span_shard.specs.declared.write.Write.{Write}
 use Rattle.span_shard.specs.KeyVersions.{KeyVersions}
 use Rattle.span_shard.specs.Rows.{row_coded, is_touched}
-use Rattle.span_shard.specs.Versions.{row_at, is_used, with_prepared, applied_to_key, kept_upto}
+use Rattle.span_shard.specs.Versions.{row_at, newest_at, is_used, with_prepared, applied_to_key, kept_upto, timestamps, IsNewestUpto, IsLaterWrite}
 
 -- A shard is what it has of each key, in order of the keys.
 
@@ -113,6 +114,19 @@ IsInUse c = is_used c ≡ true
 -- with the transaction's writes applied at its commit timestamp, or given up where there is none
 abbrev pub applied : ℕ → Option ℕ → List KeyVersions → List KeyVersions
 applied txn committed cs = filter is_used (map (applied_to_key txn committed) cs)
+
+-- the commit timestamp, where there is one, is later than the versions of every key where the transaction has a write prepared
+abbrev pub IsLaterCommit : ℕ → Option ℕ → List KeyVersions → Type 0
+IsLaterCommit txn None cs = Unit {0}
+IsLaterCommit txn (Some ts) cs = AllByRecursion (λ c. IsLaterWrite txn ts c.versions c.prepared) cs
+
+-- the versions of each key are in the order of their timestamps, the latest first
+abbrev pub HaveFallingVersions : List KeyVersions → Type 0
+HaveFallingVersions cs = AllByRecursion (λ c. AreFalling (timestamps c.versions)) cs
+
+-- what is read of a key at s is its last version at or below s
+abbrev pub ReadLastVersions : List KeyVersions → Type 0
+ReadLastVersions cs = AllByRecursion (λ c. (s : ℕ) → IsNewestUpto s c.versions (newest_at c.versions s)) cs
 
 -- ---- trim
 

@@ -4,7 +4,8 @@ use Rattle.std.specs.Prelude.{◌≡◌, ◌⊎◌, ℕ, ◌+◌, ◌<◌, ◌�
 use Rattle.std.specs.List.{AllByRecursion}
 use Rattle.span_value.specs.declared.refusal.Refusal.{Refusal}
 use Rattle.span_value.specs.declared.refusal.Refusal.TheVariants.{OutOfMemory, ShardFull}
-use Rattle.span_arena.specs.Content.{Content, Prepared, versions, prepared_at, prepared_for, IsChain, IsInOrder, live, linked, given_back, kept_upto}
+use Rattle.span_arena.specs.Content.{Content, Prepared, versions, prepared_at, prepared_for, IsChain, IsPrepared, IsInOrder, live, linked, given_back, kept_upto}
+use Rattle.span_arena.specs.Order.{IsLaterFor}
 use Rattle.span_arena.specs.Limits.{most_nodes}
 use Rattle.span_arena.specs.declared.version.Version as arena
 use Rattle.span_keyindex.specs.Arenas.{IsArenaOf, HasSameChains}
@@ -13,7 +14,7 @@ use Rattle.span_shard.specs.declared.chain.Version.{Version}
 use Rattle.span_shard.specs.declared.chain.PreparedWrite.{PreparedWrite}
 use Rattle.span_shard.specs.declared.node.PreparedNode.{PreparedNode}
 use Rattle.span_shard.specs.KeyVersions.{KeyVersions}
-use Rattle.span_shard.specs.Versions.{applied_to_key}
+use Rattle.span_shard.specs.Versions.{applied_to_key, IsLaterWrite}
 
 -- a version of the arena
 abbrev pub version_of : arena.Version → Version
@@ -97,6 +98,19 @@ IsRefusedFor a c why = (why ≡ OutOfMemory) ⊎ ((why ≡ ShardFull) × (prepar
 abbrev pub ended : Content → ℕ → Option ℕ → Content
 ended a node None = given_back a node
 ended a node (Some timestamp) = linked a node timestamp
+
+-- what is prepared in the node may be ended so: a version is later than those of its chain
+abbrev pub IsEndable : Content → ℕ → Option ℕ → Type 0
+IsEndable a node None = IsPrepared a node
+IsEndable a node (Some timestamp) = IsLaterFor a node timestamp
+
+abbrev pub IsLaterEnd : ℕ → Option ℕ → List Version → Option PreparedWrite → Type 0
+IsLaterEnd txn None vs write = Unit {0}
+IsLaterEnd txn (Some timestamp) vs write = IsLaterWrite txn timestamp vs write
+
+-- the commit timestamp, where there is one, is later than the versions of every chain for which the transaction has a node
+abbrev pub AreLaterEnds : ℕ → Option ℕ → Content → List PreparedNode → Type 0
+AreLaterEnds txn committed a ps = (c : ℕ) → IsLaterEnd txn committed (chain_versions a c) (write_for a ps c)
 
 -- the node is of another transaction
 abbrev pub is_other : ℕ → PreparedNode → Bool

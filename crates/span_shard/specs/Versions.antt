@@ -1,4 +1,5 @@
-use Rattle.std.specs.Prelude.{ℕ, Bool, true, false, ◌==◌, ◌||◌, not, nat_le, List, [], ◌∷◌, find, is_some, Option, Some, None, option_and_then, if◌then◌else◌}
+use Rattle.std.specs.Prelude.{◌≡◌, ℕ, Bool, true, false, ◌==◌, ◌||◌, not, nat_le, List, [], ◌∷◌, map, find, is_some, Option, Some, None, option_and_then, if◌then◌else◌}
+use Rattle.span_arena.specs.Order.{IsLater, IsLastUpto}
 use Rattle.span_shard.specs.declared.chain.Version.{Version}
 use Rattle.span_shard.specs.declared.chain.PreparedWrite.{PreparedWrite}
 use Rattle.span_shard.specs.KeyVersions.{KeyVersions}
@@ -37,6 +38,20 @@ applied_write (Some w) txn committed c = if w.txn == txn then record c { version
 -- the key once the transaction's write there is applied, at its commit timestamp, or given up where there is none
 abbrev pub applied_to_key : ℕ → Option ℕ → KeyVersions → KeyVersions
 applied_to_key txn committed c = applied_write c.prepared txn committed c
+
+-- ---- the order of versions
+
+abbrev pub timestamps : List Version → List ℕ
+timestamps vs = map (λ (v : Version). v.timestamp) vs
+
+-- the last of the versions at or below s, where there is one
+abbrev pub IsNewestUpto : ℕ → List Version → Option Version → Type 0
+IsNewestUpto s vs found = IsLastUpto Version (λ (v : Version). v.timestamp) s vs found
+
+-- where the write is the transaction's, its commit timestamp is later than the versions there
+abbrev pub IsLaterWrite : ℕ → ℕ → List Version → Option PreparedWrite → Type 0
+IsLaterWrite txn ts versions None = Unit {0}
+IsLaterWrite txn ts versions (Some w) = w.txn ≡ txn → IsLater ts (timestamps versions)
 
 -- ---- trimming
 

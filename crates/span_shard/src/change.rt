@@ -8,7 +8,7 @@ ghost use Rattle.span_keycode.specs.Order.{byte_order};
 ghost use Rattle.span_mutate.specs.Typed.{IsTyped, AreTyped, AreTypedMutations};
 ghost use Rattle.span_shard.specs.Writes.{is_of};
 ghost use Rattle.span_shard.specs.Shard.{AreInOrder, row_now};
-ghost use Rattle.span_shard.specs.Reading.{coded, is_same_row, row_of, AreDeletions, AreDiffs, AreWrites, IsFault};
+ghost use Rattle.span_shard.specs.Reading.{coded, is_same_row, row_of, AreDeletions, AreDiffs, AreWrites, IsFault, IsPrepareRefusal};
 
 use super::place::{StoredKey, row_now};
 use super::read::{in_order, read_rows};
@@ -167,6 +167,7 @@ pub(crate) fn writes_of(
     requires typed { AreTypedMutations schema.now mutations.now }
     ensures ok { IfOk result (λ ws. AreWrites schema.now mutations.now store.now ws.items) }
     ensures fault { IfErr result (λ why. IsFault schema.now mutations.now store.now why) }
+    ensures number { IfErr result (λ why. IsPrepareRefusal schema.now mutations.now store.now why) }
 {
     schema.meets_rules();
     let roots = roots_of(alloc, schema, mutations)?;

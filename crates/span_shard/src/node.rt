@@ -1,7 +1,7 @@
 //! The nodes in which writes are prepared.
 ghost use Rattle.std.specs.Prelude.{◌≡◌, ◌<◌, filter, IfErr, OnOk, OnErr};
-ghost use Rattle.span_arena.specs.Content.{IsChain, IsPrepared};
-ghost use Rattle.span_shard.specs.Stored.{AreOwned, HasPrepared, HasEnded, IsPlaceFor, IsRefusedFor, count_for, ended, is_other};
+ghost use Rattle.span_arena.specs.Content.{IsChain};
+ghost use Rattle.span_shard.specs.Stored.{AreOwned, AreLaterEnds, HasPrepared, HasEnded, IsEndable, IsPlaceFor, IsRefusedFor, count_for, ended, is_other};
 
 use span_arena::arena::Arena;
 use span_arena::token::{Chain, Node};
@@ -86,7 +86,7 @@ pub(crate) fn prepare_node(
 
 /// Makes what is prepared in a node a version at the commit timestamp, or gives it back where there is none.
 fn end_node(arena: &mut Arena, node: Node, committed: Option<u64>)
-    requires { IsPrepared arena.old node.number }
+    requires { IsEndable arena.old node.number committed }
     ensures { arena.new ≡ ended arena.old node.number committed }
 {
     match committed {
@@ -102,7 +102,8 @@ pub(crate) fn end_nodes(
     txn: u64,
     committed: Option<u64>,
 )
-    requires { AreOwned arena.old prepared.now.items }
+    requires owned { AreOwned arena.old prepared.now.items }
+    requires later { AreLaterEnds txn committed arena.old prepared.now.items }
     ensures { HasEnded txn committed arena.old arena.new prepared.now.items (filter (is_other txn) prepared.now.items) }
 {
     for place in 0..prepared.len() {

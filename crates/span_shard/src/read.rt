@@ -1,5 +1,5 @@
 //! The rows that are at keys now.
-ghost use Rattle.std.specs.Prelude.{◌≡◌, ◌⊎◌, None, Some, IfOk, MatchOption, MatchResult};
+ghost use Rattle.std.specs.Prelude.{◌≡◌, ◌⊎◌, None, Some, IfOk, IfErr, MatchOption, MatchResult, true};
 ghost use Rattle.std.specs.List.Sorted.{IsPermutation, IsSortedBy};
 ghost use Rattle.std.specs.Ordering.{is_lt};
 ghost use Rattle.std.specs.Option.{option_copied};
@@ -7,7 +7,7 @@ ghost use Rattle.span_rowcode.specs.Rows.{row_code};
 ghost use Rattle.span_mutate.specs.Directories.{rows_cmp};
 ghost use Rattle.span_mutate.specs.Typed.{IsTyped};
 ghost use Rattle.span_shard.specs.Rows.{code_of};
-ghost use Rattle.span_shard.specs.Reading.{row_of, AreRead, IsNoTableRow, IsUnread, HasUnread, is_after_last, without_repeats, AreInOrderOnce};
+ghost use Rattle.span_shard.specs.Reading.{row_of, AreRead, IsNoTableRow, IsUnread, HasUnread, is_read_refusal, is_after_last, without_repeats, AreInOrderOnce};
 
 use super::place::StoredKey;
 use span_keycode::decode::decode_key;
@@ -29,9 +29,10 @@ pub fn table_row(
     key: &[u8],
     row: &[u8],
 ) -> Result<TableRow, Refusal>
-    ensures { MatchResult result
+    ensures row { MatchResult result
         (λ r. IsTyped schema.now r × (key.now ≡ code_of schema.now r) × (row.now ≡ row_code r.cells))
         (λ why. (why ≡ Refusal.OutOfMemory) ⊎ IsNoTableRow schema.now key.now row.now) }
+    ensures number { IfErr result (λ why. is_read_refusal why ≡ true) }
 {
     schema.meets_rules();
     let key = decode_key(alloc, schema, key)?;
@@ -49,9 +50,10 @@ fn read_row(
     schema: &Schema,
     found: &StoredKey<'_>,
 ) -> Result<Option<TableRow>, Refusal>
-    ensures { MatchResult result
+    ensures row { MatchResult result
         (λ read. MatchOption read (row_of found.now ≡ None) (λ r. IsTyped schema.now r × (found.now.key ≡ code_of schema.now r) × (row_of found.now ≡ Some (row_code r.cells))))
         (λ why. (why ≡ Refusal.OutOfMemory) ⊎ IsUnread schema.now found.now (row_of found.now)) }
+    ensures number { IfErr result (λ why. is_read_refusal why ≡ true) }
 {
     match found.row_at(u64::MAX) {
         None => Ok(None),
@@ -65,9 +67,10 @@ pub(crate) fn read_rows(
     schema: &Schema,
     found: &[StoredKey<'_>],
 ) -> Result<Vec<TableRow>, Refusal>
-    ensures { MatchResult result
+    ensures rows { MatchResult result
         (λ rows. AreRead schema.now found.now rows.items)
         (λ why. (why ≡ Refusal.OutOfMemory) ⊎ HasUnread schema.now found.now) }
+    ensures number { IfErr result (λ why. is_read_refusal why ≡ true) }
 {
     let mut rows = Vec::new(alloc);
     for key in found {

@@ -3,9 +3,9 @@ ghost use Rattle.std.specs.Prelude.{◌≡◌, ◌≤◌, ◌⊎◌, ℕ, [], Li
 ghost use Rattle.span_arena.specs.Limits.{most_nodes};
 ghost use Rattle.span_keycode.specs.declared.range.KeyRange.{KeyRange};
 ghost use Rattle.span_mutate.specs.Typed.{AreTypedMutations};
-ghost use Rattle.span_shard.specs.Reading.{entry_row, AreWrites, IsFault, IsFull};
+ghost use Rattle.span_shard.specs.Reading.{entry_row, AreWrites, IsFault, IsFull, IsPrepareRefusal};
 ghost use Rattle.std.specs.List.{AllByRecursion};
-ghost use Rattle.span_shard.specs.Shard.{with_writes, applied, trimmed, trimmed_key, snapshot, live, IsFree, HasNoneOf, HasSomeOf, ArePutsRefused, AreInOrder, IsInUse};
+ghost use Rattle.span_shard.specs.Shard.{with_writes, applied, trimmed, trimmed_key, snapshot, live, IsFree, HasNoneOf, HasSomeOf, HaveFallingVersions, ReadLastVersions, ArePutsRefused, AreInOrder, IsInUse, IsLaterCommit};
 ghost use Rattle.span_shard.specs.declared.write.Write.{Write};
 
 use super::change::writes_of;
@@ -78,6 +78,15 @@ impl Shard {
         let _ = &self.store;
     }
 
+    /// A law, which takes no time: the versions of each key are in the order of their timestamps, the latest first, and what a snapshot
+    /// reads of it at s is the last version at or below s.
+    pub fn versions_are_in_order(&self)
+        ensures falling { HaveFallingVersions self.now }
+        ensures last { ReadLastVersions self.now }
+    {
+        let _kept = self.store.live();
+    }
+
     /// A law, which takes no time: no more versions are kept than may be.
     pub fn keeps_at_most(&self)
         ensures { live self.now ≤ most_nodes }
@@ -97,9 +106,10 @@ impl Shard {
     /// all directories, out of memory, or that the writes would bring the number of kept versions over 2^24; it leaves all as
     /// it was.
     ///
-    /// The directories are found by binary search, and no others are read. `db` is any database whose rows in those directories are
-    /// the ones that are here now: it may be the whole one. Bytes that are no key or row of the schema would be refused with
-    /// `BadKey` or `BadRow`; then there is no such database.
+    /// The directories are found by binary search, and no others are read. The fault is Apply's on any database whose rows in those
+    /// directories are the ones that are here now: it may be the whole one. Where there is none, since the bytes there are no such
+    /// rows, it is still one of `Exists`, `Missing`, `ParentMissing`, `HasChildren` and `RowTooLong`; `BadKey` or `BadRow` comes only
+    /// where the bytes under a key in those directories are no row of the schema's tables.
     pub fn prepare(
         &mut self,
         alloc: Global,
@@ -116,6 +126,7 @@ impl Shard {
             × AreWrites schema.now mutations.now self.old ws) }
         ensures fault { IfErr result
             (λ why. IsFault schema.now mutations.now self.old why ⊎ IsFull schema.now mutations.now txn self.old why) }
+        ensures number { IfErr result (λ why. IsPrepareRefusal schema.now mutations.now self.old why) }
         ensures err { OnErr result (self.new ≡ self.old) }
     {
         let writes = writes_of(alloc, schema, &self.store, mutations)?;
@@ -128,9 +139,10 @@ impl Shard {
         }
     }
 
-    /// Ends the writes of a transaction: they become versions at its commit timestamp, or are given up where there is none. It takes
-    /// no memory, and moves links alone: `prepare` made the nodes.
+    /// Ends the writes of a transaction: they become versions at its commit timestamp, which is later than the versions that are there,
+    /// or are given up where there is none. It takes no memory, and moves links alone: `prepare` made the nodes.
     pub fn apply(&mut self, txn: u64, committed: Option<u64>)
+        requires { IsLaterCommit txn committed self.old }
         ensures { self.new ≡ applied txn committed self.old }
     {
         self.store.end(txn, committed);

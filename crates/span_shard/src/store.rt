@@ -3,7 +3,7 @@ ghost use Rattle.std.specs.Prelude.{◌≡◌, ◌≤◌, [], map, filter, IfErr
 ghost use Rattle.span_arena.specs.Limits.{most_nodes};
 ghost use Rattle.std.specs.List.{AllByRecursion};
 ghost use Rattle.span_shard.specs.Versions.{applied_to_key, is_used};
-ghost use Rattle.span_shard.specs.Shard.{AreInOrder, IsInUse, IsPutRefused, with_write, trimmed_key, live};
+ghost use Rattle.span_shard.specs.Shard.{AreInOrder, HaveFallingVersions, IsInUse, IsLaterCommit, IsPutRefused, with_write, trimmed_key, live};
 
 use super::node::{PreparedNode, end_nodes, prepare_node};
 use super::trim::trim_chains;
@@ -52,6 +52,7 @@ impl Store {
     pub(crate) fn live(&self) -> usize
         ensures live { result ≡ live self.now }
         ensures most { live self.now ≤ most_nodes }
+        ensures falling { HaveFallingVersions self.now }
     {
         self.arena.live()
     }
@@ -78,6 +79,7 @@ impl Store {
 
     /// Applies the transaction's write at each key. It takes no memory, and moves links alone.
     pub(crate) fn end(&mut self, txn: u64, committed: Option<u64>)
+        requires { IsLaterCommit txn committed self.old }
         ensures { self.new ≡ map (applied_to_key txn committed) self.old }
     {
         end_nodes(&mut self.arena, &self.prepared, txn, committed);

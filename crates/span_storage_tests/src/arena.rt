@@ -1,7 +1,7 @@
 //! The limit on nodes, and a chain that is trimmed.
-ghost use Rattle.std.specs.Prelude.{IfOk, OnOk};
+ghost use Rattle.std.specs.Prelude.{◌+◌, IfOk, OnOk};
 ghost use Rattle.span_arena.specs.Content.{IsChain};
-ghost use Rattle.span_arena.specs.Tested.{IsReady};
+ghost use Rattle.span_arena.specs.Tested.{IsBefore, IsReady};
 
 use span_arena::arena::Arena;
 use span_arena::token::{Chain, Node};
@@ -52,20 +52,21 @@ fn fourth_node(rt: HostRuntime) -> Result<(), Fail> {
 
 // A chain with no version.
 fn empty(arena: &mut Arena) -> Result<Chain, Refusal>
-    ensures { IfOk result (λ chain. IsChain arena.new chain.number) }
+    ensures { IfOk result (λ chain. IsBefore arena.new chain.number 0) }
 {
-    arena.new_chain()
+    let chain = arena.new_chain()?;
+    Ok(chain)
 }
 
-// One version more.
+// One version more, which is later than those that are there.
 fn commit(
     arena: &mut Arena,
     chain: Chain,
     timestamp: u64,
     image: Option<Seq<u8>>,
 ) -> Result<(), Refusal>
-    requires { IsChain arena.old chain.number }
-    ensures { OnOk result (IsChain arena.new chain.number) }
+    requires { IsBefore arena.old chain.number timestamp }
+    ensures { OnOk result (IsBefore arena.new chain.number (timestamp + 1)) }
 {
     let node = arena.reserve_node(chain, image)?;
     arena.link(node, timestamp);
@@ -139,7 +140,7 @@ fn add_versions(
     arena: &mut Arena,
     chain: Chain,
 ) -> Result<Vec<(u64, Option<u8>)>, Fail>
-    requires { IsChain arena.old chain.number }
+    requires { IsBefore arena.old chain.number 0 }
     ensures { OnOk result (IsChain arena.new chain.number) }
 {
     let mut plain = Vec::new(alloc);

@@ -1,7 +1,7 @@
 //! A shard with directories of two tables, through transactions that commit and that abort. Keys and rows are coded by hand.
-ghost use Rattle.std.specs.Prelude.{IfOk};
+ghost use Rattle.std.specs.Prelude.{◌+◌, IfOk};
 ghost use Rattle.span_mutate.specs.Typed.{AreTypedMutations};
-ghost use Rattle.span_shard.specs.Tested.{IsIdle};
+ghost use Rattle.span_shard.specs.Tested.{IsIdleBefore};
 
 use span_keycode::key::Key;
 use span_keycode::range::KeyRange;
@@ -114,21 +114,21 @@ fn transaction(alloc: Global, schema: &Schema, asked: &[Asked<'_>]) -> Result<Tr
     Transaction::new(alloc, schema, mutations)
 }
 
-// Prepares a transaction, and ends it.
+// Prepares a transaction, and commits it, later than all that is there.
 fn run(
     alloc: Global,
     schema: &Schema,
     shard: &mut Shard,
     txn: u64,
     transaction: &Transaction,
-    committed: Option<u64>,
+    committed: u64,
 ) -> Result<(), Refusal>
-    requires idle { IsIdle shard.old }
+    requires idle { IsIdleBefore committed shard.old }
     requires typed { AreTypedMutations schema.now transaction.now }
-    ensures { IsIdle shard.new }
+    ensures { IsIdleBefore (committed + 1) shard.new }
 {
     shard.prepare(alloc, schema, txn, transaction.mutations())?;
-    shard.apply(txn, committed);
+    shard.apply(txn, Some(committed));
     Ok(())
 }
 
@@ -163,26 +163,27 @@ fn rows(alloc: Global, schema: &Schema) -> Result<Transaction, Refusal>
 
 // A shard with these rows at 111.
 fn filled(alloc: Global, schema: &Schema) -> Result<Shard, Refusal>
-    ensures { IfOk result (λ shard. IsIdle shard) }
+    ensures { IfOk result (λ shard. IsIdleBefore 112 shard) }
 {
     let first = rows(alloc, schema)?;
     let mut shard = Shard::new(alloc);
-    run(alloc, schema, &mut shard, 1, &first, Some(111))?;
+    run(alloc, schema, &mut shard, 1, &first, 111)?;
     Ok(shard)
 }
 
-// Runs one mutation as transaction 2, which commits at 222.
+// Runs one mutation as transaction 2.
 fn change(
     alloc: Global,
     schema: &Schema,
     shard: &mut Shard,
+    committed: u64,
     asked: Asked<'_>,
 ) -> Result<(), Refusal>
-    requires { IsIdle shard.old }
-    ensures { IsIdle shard.new }
+    requires { IsIdleBefore committed shard.old }
+    ensures { IsIdleBefore (committed + 1) shard.new }
 {
     let second = transaction(alloc, schema, &[asked])?;
-    run(alloc, schema, shard, 2, &second, Some(222))
+    run(alloc, schema, shard, 2, &second, committed)
 }
 
 // Why one mutation is refused as transaction 2, if it is: out of memory is an error here, so that it is never returned as a refusal.
@@ -190,12 +191,13 @@ fn refusal_of(
     alloc: Global,
     schema: &Schema,
     shard: &mut Shard,
+    committed: u64,
     asked: Asked<'_>,
 ) -> Result<Option<Refusal>, Refusal>
-    requires { IsIdle shard.old }
-    ensures { IsIdle shard.new }
+    requires { IsIdleBefore committed shard.old }
+    ensures { IsIdleBefore (committed + 1) shard.new }
 {
-    match change(alloc, schema, shard, asked) {
+    match change(alloc, schema, shard, committed, asked) {
         Ok(()) => Ok(None),
         Err(Refusal::OutOfMemory) => Err(Refusal::OutOfMemory),
         Err(why) => Ok(Some(why)),
@@ -264,6 +266,7 @@ fn cascade(rt: HostRuntime) -> Result<(), Fail> {
         alloc,
         &schema,
         &mut shard,
+        222,
         (MutationKind::Delete, "A", &[1], None),
     )?;
     assert_eq!(rt; shard.live(), 5);
@@ -284,6 +287,7 @@ fn unchanged(rt: HostRuntime) -> Result<(), Fail> {
         alloc,
         &schema,
         &mut shard,
+        222,
         (MutationKind::Update, "A", &[1], Some(7)),
     )?;
     assert_eq!(rt; shard.live(), 3);
@@ -291,6 +295,7 @@ fn unchanged(rt: HostRuntime) -> Result<(), Fail> {
         alloc,
         &schema,
         &mut shard,
+        333,
         (MutationKind::Update, "B", &[1, 3], Some(7)),
     )?;
     assert_eq!(rt; shard.live(), 4);
@@ -307,6 +312,7 @@ fn faults(rt: HostRuntime) -> Result<(), Fail> {
         alloc,
         &schema,
         &mut shard,
+        222,
         (MutationKind::Insert, "A", &[1], None),
     )?;
     assert_eq!(rt; twice, Some(Refusal::Exists));
@@ -314,6 +320,7 @@ fn faults(rt: HostRuntime) -> Result<(), Fail> {
         alloc,
         &schema,
         &mut shard,
+        333,
         (MutationKind::Insert, "B", &[3, 3], None),
     )?;
     assert_eq!(rt; alone, Some(Refusal::ParentMissing));
@@ -331,6 +338,7 @@ fn trimmed(rt: HostRuntime) -> Result<(), Fail> {
         alloc,
         &schema,
         &mut shard,
+        222,
         (MutationKind::Delete, "A", &[1], None),
     )?;
     assert_eq!(rt; shard.live(), 5);

@@ -14,3 +14,4 @@ pub mod Covers
 pub mod Counting
 pub mod Changes
 pub mod Live
+pub mod Later

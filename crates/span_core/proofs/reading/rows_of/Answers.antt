@@ -16,7 +16,7 @@ nothing = record { key = record { ref_ptr = (0, 0); now = [] }; row = record { r
 pub returns-in_err-row-clause-refused : goal.returns-in_err-row-clause-refused
 returns-in_err-row-clause-refused c =
     let p = err_from_is_err_and c.from_residual.result c.from_residual.ensures.1 in
-    rw (p.1, p.2) (elim c.in_err-row.ensures [
+    rw (p.1, p.2) (elim c.in_err-row.ensures.row [
       | inl memory ↦ inl memory
       | inr none ↦ inr (not_rows c.args.schema.now c.args.entries.now c.loop-entry.entry-index nothing c.loop-entry-test.true none)
     ])
@@ -30,7 +30,7 @@ loop-entry-preserved c =
     let rows = c.loop-entry.rows.items in
     let r = c.in_ok-row.row in
     let e = get_or entries i nothing in
-    let read = c.in_ok-row.ensures in
+    let read = c.in_ok-row.ensures.row in
     let P : List (List Value) → Type 0 = λ vs. AreReadOf schema n (map entry_row (take i entries) ++ entry_row e ∷ []) vs in
     subst (λ (es : List KeyRow). AreReadOf schema n es c.if-row-table.rows.items) (sym (shown_step entries i nothing c.loop-entry-test.true))
     (elim c.if-row-table.branch [

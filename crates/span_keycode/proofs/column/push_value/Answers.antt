@@ -11,17 +11,17 @@ after_first : (d : Bool) (a : ℕ) (xs : List ℕ) → in_direction d (a ∷ [])
 after_first false a xs = refl
 after_first true a xs = refl
 
-pub returns-in_ok-push_directed-in-Int : goal.returns-in_ok-push_directed-in-Int
-returns-in_ok-push_directed-in-Int c =
+pub returns-in_ok-push_directed-in-Int-clause-bytes : goal.returns-in_ok-push_directed-in-Int-clause-bytes
+returns-in_ok-push_directed-in-Int-clause-bytes c =
     let d = c.args.column.desc in
     let old = c.args.out.now.items in
     let fits : FitsSigned w64 c.in-Int.number = search rules in
     let number : c.to_unsigned.result ≡ to_unsigned c.in-Int.number = c.to_unsigned.ensures ∙ ap to_unsigned (to_z-of_z w64 c.in-Int.number fits) in
     on_ok_weaker c.push_number.result
     (λ e. e
-    ∙ ap (λ (xs : List ℕ). xs ++ in_direction d (to_be_bytes w64 c.to_unsigned.result)) c.in_ok-push_directed-in-Int.ensures
+    ∙ ap (λ (xs : List ℕ). xs ++ in_direction d (to_be_bytes w64 c.to_unsigned.result)) c.in_ok-push_directed-in-Int.ensures.bytes
     ∙ append_assoc old (in_direction d (1 ∷ [])) (in_direction d (to_be_bytes w64 c.to_unsigned.result))
     ∙ ap (λ (xs : List ℕ). old ++ xs) (after_first d 1 (to_be_bytes w64 c.to_unsigned.result))
     ∙ ap (λ (n : ℕ). old ++ in_direction d (1 ∷ to_be_bytes w64 n)) number
     ∙ ap (λ (v : Value). old ++ column_code c.args.column v) (sym c.in-Int.is))
-    c.push_number.ensures
+    c.push_number.ensures.bytes

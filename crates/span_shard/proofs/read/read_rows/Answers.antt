@@ -11,10 +11,10 @@ use Rattle.span_shard.proofs.Loops.{found_step, read_none, read_more, unread_at}
 use Rattle.span_shard.proofs.read.read_rows.Goals as goal
 use Rattle.span_shard.proofs.read.read_rows.Goals.{in-Some+in_ok-push, in_default}
 
-pub returns-in_err-row : goal.returns-in_err-row
-returns-in_err-row c =
+pub returns-in_err-row-clause-rows : goal.returns-in_err-row-clause-rows
+returns-in_err-row-clause-rows c =
     let p = err_from_is_err_and c.from_residual.result c.from_residual.ensures.1 in
-    rw (p.1, p.2) (elim c.in_err-row.ensures [
+    rw (p.1, p.2) (elim c.in_err-row.ensures.row [
       | inl e ↦ inl e
       | inr u ↦ inr (unread_at c.args.schema.now c.args.found.now c.loop-key.key-index c.key-item.result c.loop-key-test.true c.key-item.is u)
     ])
@@ -31,10 +31,10 @@ loop-key-preserved c =
     let P : List KeyVersions → Type 0 = λ cs. AreRead tables cs c.match-branch-2.rows.items in
     elim c.match-branch-2.branch [
       | in-Some+in_ok-push w ↦
-          let one = subst Q w.in-Some.is c.in_ok-row.ensures in
+          let one = subst Q w.in-Some.is c.in_ok-row.ensures.row in
           let whole = read_more tables (take i found) rows d w.in-Some.row one.0 one.1 one.2 c.loop-key.invariant in
           subst P (sym step) (subst (AreRead tables (take i found ++ d ∷ [])) (sym (ap (λ v. v.items) w.rows-is ∙ w.in_ok-push.ensures.items)) whole)
       | in_default w ↦
-          let whole = read_none tables (take i found) rows d (subst Q w.in_default.is c.in_ok-row.ensures) c.loop-key.invariant in
+          let whole = read_none tables (take i found) rows d (subst Q w.in_default.is c.in_ok-row.ensures.row) c.loop-key.invariant in
           subst P (sym step) (subst (AreRead tables (take i found ++ d ∷ [])) (sym (ap (λ v. v.items) w.rows-is)) whole)
     ]

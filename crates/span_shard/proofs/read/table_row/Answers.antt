@@ -5,8 +5,8 @@ use Rattle.span_keycode.proofs.KeyLaws.{one_key}
 use Rattle.span_rowcode.specs.Rows.{IsRow}
 use Rattle.span_shard.proofs.read.table_row.Goals as goal
 
-pub returns-in_err-cells : goal.returns-in_err-cells
-returns-in_err-cells c =
+pub returns-in_err-cells-clause-row : goal.returns-in_err-cells-clause-row
+returns-in_err-cells-clause-row c =
     let p = err_from_is_err_and c.from_residual-in_err-cells.result c.from_residual-in_err-cells.ensures.1 in
     let tables = c.args.schema.now in
     let key = c.in_ok-key.key in

@@ -9,7 +9,7 @@ pub returns-in_err-key : goal.returns-in_err-key
 returns-in_err-key c =
     let p = err_from_is_err_and c.from_residual.result c.from_residual.ensures.1 in
     let m = c.args.mutation.now in
-    rw (p.1, p.2) (elim c.in_err-key.ensures [
+    rw (p.1, p.2) (elim c.in_err-key.ensures.coded [
       | inl e ↦ absurd (never_refused c.args.schema.now m.table m.key c.in_err-key.field-0.0 c.requires.0 (subst (λ (vs : List Value). encode_cause c.args.schema.now m.table vs ≡ Some c.in_err-key.field-0.0) c.as_slice.ensures e))
       | inr e ↦ e
     ])

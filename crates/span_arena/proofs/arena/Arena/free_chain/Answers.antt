@@ -1,6 +1,8 @@
-use Rattle.std.proofs.Common.{ap, ◌∙◌, arith}
-use Rattle.span_arena.specs.Runs.{node_at}
+use Rattle.std.proofs.Common.{ap, sym, ◌∙◌, arith, subst}
+use Rattle.span_arena.specs.Runs.{node_at, content}
 use Rattle.span_arena.specs.Content.{without_chain}
+use Rattle.span_arena.specs.Order.{AreInTimeOrder}
+use Rattle.span_arena.proofs.Falling.{falling-free_chain}
 use Rattle.span_arena.proofs.Chains.{used_of}
 use Rattle.span_arena.proofs.Spares.{are_spare-free, spare_count_below, sound-free_chain, content-free_chain}
 use Rattle.span_arena.proofs.arena.Arena.free_chain.Goals as goal
@@ -28,6 +30,7 @@ invariant_of-self c =
     record {
       sound = sound-free_chain i.nodes.items i.chains.items i.free i.free_count i.most c.self.invariant.sound c.args.chain.number u.0 _ _ u.1 unused;
       spare = are_spare-free i.chains.items i.spare i.spare_count c.args.chain.number u.0 u.1 c.self.invariant.spare;
+      falling = subst AreInTimeOrder (sym (content-free_chain i.nodes.items i.chains.items i.free i.free_count i.most c.self.invariant.sound c.args.chain.number _ _)) (falling-free_chain (content i.nodes.items i.chains.items i.free_count i.most) c.args.chain.number c.self.invariant.falling);
     }
 
 pub returns : goal.returns

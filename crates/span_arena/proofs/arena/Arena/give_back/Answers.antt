@@ -1,5 +1,6 @@
-use Rattle.std.proofs.Common.{ap, ◌∙◌, refl, arith}
+use Rattle.std.proofs.Common.{ap, sym, ◌∙◌, refl, arith, subst}
 use Rattle.span_arena.specs.Content.{given_back}
+use Rattle.span_arena.specs.Order.{AreInTimeOrder}
 use Rattle.span_arena.proofs.Chains.{used_in_range, read_not_free}
 use Rattle.span_arena.proofs.Steps.{sound-give_back}
 use Rattle.span_arena.proofs.Contents.{held, links_held, content-give_back}
@@ -39,6 +40,7 @@ invariant_of-self c =
     record {
       sound = sound-give_back i.nodes.items i.chains.items i.free i.free_count i.most c.self.invariant.sound c.in-Reserved.chain c.in-Used.links l.0 c.args.node.number _ r.0.in_range r.0.was l.1 refl refl;
       spare = are_spare-used i.chains.items i.spare i.spare_count c.in-Reserved.chain c.in-Used.links _ l.0 c.self.invariant.spare;
+      falling = subst AreInTimeOrder (sym (content-give_back i.nodes.items i.chains.items i.free i.free_count i.most c.self.invariant.sound c.args.node.number _ _ r.0 c.in-Used.links l.0 _ refl)) c.self.invariant.falling;
     }
 
 pub returns : goal.returns

@@ -1,7 +1,9 @@
-use Rattle.std.proofs.Common.{◌≡◌, ◌∙◌, ap, refl, arith, ◌<◌, ◌+◌, ◌-◌, length}
+use Rattle.std.proofs.Common.{◌≡◌, ◌∙◌, ap, sym, refl, arith, ◌<◌, ◌+◌, ◌-◌, length, subst}
 use Rattle.std.proofs.lemmas.List.{get_or_default}
 use Rattle.span_arena.specs.Content.{Content, versions, with_kept, kept_by}
 use Rattle.span_arena.specs.Runs.{node_at, blank}
+use Rattle.span_arena.specs.Order.{AreInTimeOrder}
+use Rattle.span_arena.proofs.Falling.{falling-keep}
 use Rattle.span_arena.proofs.Chains.{used_of, read_used}
 use Rattle.span_arena.proofs.Spares.{are_spare-used}
 use Rattle.span_arena.proofs.Walking.{init_run}
@@ -54,4 +56,5 @@ invariant_of-self c =
     record {
       sound = trimming_ends i.nodes.items i.chains.items i.free i.free_count i.most c.args.chain.number c.loop-left.left c.loop-left.at c.loop-left.invariant.trimming (omega (arith, c.loop-left-test.false));
       spare = c.loop-left.invariant.spare;
+      falling = subst AreInTimeOrder (sym c.loop-left.invariant.same) (falling-keep c.args.self.now c.args.chain.number c.args.horizon (subst AreInTimeOrder c.self.view_is c.self.invariant.falling));
     }

@@ -1,5 +1,7 @@
-use Rattle.std.proofs.Common.{ap, ◌∙◌, refl, arith}
+use Rattle.std.proofs.Common.{ap, sym, ◌∙◌, refl, arith, subst}
 use Rattle.span_arena.specs.Content.{linked}
+use Rattle.span_arena.specs.Order.{AreInTimeOrder}
+use Rattle.span_arena.proofs.Falling.{falling-link}
 use Rattle.span_arena.proofs.Counts.{count-total}
 use Rattle.span_arena.proofs.Chains.{used_in_range, read_not_free, links_were}
 use Rattle.span_arena.proofs.Steps.{sound-link}
@@ -48,6 +50,7 @@ invariant_of-self c =
     record {
       sound = sound-link i.nodes.items i.chains.items i.free i.free_count i.most c.self.invariant.sound c.in-Reserved.chain c.in-Used.links l.0 c.args.node.number _ r.0.in_range r.0.was l.1 refl refl;
       spare = are_spare-used i.chains.items i.spare i.spare_count c.in-Reserved.chain c.in-Used.links _ l.0 c.self.invariant.spare;
+      falling = subst AreInTimeOrder (sym (content-link i.nodes.items i.chains.items i.free i.free_count i.most c.self.invariant.sound c.args.node.number _ _ r.0 c.in-Used.links l.0 _ c.args.timestamp refl refl refl)) (falling-link _ c.args.node.number c.args.timestamp c.self.invariant.falling (rw (← c.self.view_is) at c.requires));
     }
 
 pub returns : goal.returns

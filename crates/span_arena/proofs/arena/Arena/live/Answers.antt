@@ -1,4 +1,5 @@
-use Rattle.std.proofs.Common.{arith}
+use Rattle.std.proofs.Common.{arith, subst}
+use Rattle.span_arena.specs.Order.{AreInTimeOrder}
 use Rattle.span_arena.proofs.Contents.{live_is, in_order}
 use Rattle.span_arena.proofs.arena.Arena.live.Goals as goal
 
@@ -7,3 +8,6 @@ returns-clause-live c = let i = c.self.inside in rw (← c.self.view_is) (omega 
 
 pub returns-clause-order : goal.returns-clause-order
 returns-clause-order c = let i = c.self.inside in rw (← c.self.view_is) (in_order i.nodes.items i.chains.items i.free i.free_count i.most c.self.invariant.sound)
+
+pub returns-clause-falling : goal.returns-clause-falling
+returns-clause-falling c = subst AreInTimeOrder c.self.view_is c.self.invariant.falling

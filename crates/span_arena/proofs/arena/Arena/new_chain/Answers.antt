@@ -1,6 +1,7 @@
 use Rattle.std.proofs.Common.{◌≡◌, refl, arith, length}
 use Rattle.span_arena.specs.Runs.{AreSpare}
 use Rattle.span_arena.proofs.Spares.{spare_not_used, spare_in_range, spare_was, are_spare-taken, are_spare-push, all_chains, sound-new_chain, content-new_chain, sound-more_chains, content-more_chains}
+use Rattle.span_arena.proofs.Falling.{falling-new_chain}
 use Rattle.span_arena.proofs.arena.Arena.new_chain.Goals as goal
 
 pub unreachable-requires : goal.unreachable-requires
@@ -15,6 +16,7 @@ invariant_of-self c =
     record {
       sound = sound-new_chain i.nodes.items i.chains.items i.free i.free_count i.most c.self.invariant.sound i.spare _ _ (spare_in_range i.chains.items i.spare i.spare_count c.self.invariant.spare.list c.if-self-gt0.true) was.0;
       spare = are_spare-taken i.chains.items i.spare i.spare_count c.self.invariant.spare c.if-self-gt0.true c.index.result.now _ _ _ c.index.ensures c.in-Free.is;
+      falling = falling-new_chain _ _ i.spare c.self.invariant.falling (content-new_chain i.nodes.items i.chains.items i.free i.free_count i.most c.self.invariant.sound i.spare _ _ (spare_in_range i.chains.items i.spare i.spare_count c.self.invariant.spare.list c.if-self-gt0.true) was.0);
     }
 
 pub returns-then-self-gt0-clause-ok : goal.returns-then-self-gt0-clause-ok
@@ -32,9 +34,11 @@ returns-in_default-push-clause-memory c =
 pub invariant_of-self-2 : goal.invariant_of-self-2
 invariant_of-self-2 c =
     let i = c.self.inside in
+    let spare : AreSpare i.chains.items i.spare 0 = (let e : i.spare_count ≡ 0 = omega (arith, c.if-self-gt0.false) in rw e at c.self.invariant.spare) in
     rw c.in-Ok.ensures.items (record {
       sound = sound-more_chains i.nodes.items i.chains.items i.free i.free_count i.most c.self.invariant.sound;
       spare = are_spare-push i.chains.items _ i.spare i.spare_count (omega (arith, c.if-self-gt0.false)) c.self.invariant.spare;
+      falling = falling-new_chain _ _ _ c.self.invariant.falling (content-more_chains i.nodes.items i.chains.items i.free i.free_count i.most c.self.invariant.sound i.spare spare);
     })
 
 pub returns-clause-ok : goal.returns-clause-ok

@@ -1,7 +1,9 @@
-use Rattle.std.proofs.Common.{◌≡◌, ap, sym, ◌∙◌, arith, ◌<◌, length}
+use Rattle.std.proofs.Common.{◌≡◌, ap, sym, ◌∙◌, arith, ◌<◌, length, subst}
 use Rattle.span_arena.specs.Content.{newest_upto}
 use Rattle.span_arena.specs.Runs.{node_at}
 use Rattle.span_arena.proofs.Chains.{used_of, read_used}
+use Rattle.span_arena.specs.Order.{AreInTimeOrder}
+use Rattle.span_arena.proofs.Falling.{found_last}
 use Rattle.span_arena.proofs.Walking.{init_run, next_run, next_same, found_here, here_in_range}
 use Rattle.span_arena.proofs.arena.Arena.newest_at.Goals as goal
 
@@ -17,8 +19,13 @@ loop-left-init c =
 pub index-node-requires : goal.index-node-requires
 index-node-requires c = let lt : c.loop-left.at < length c.self.inside.nodes.items = here_in_range _ _ _ c.loop-left.invariant.run c.loop-left-test.true in omega (arith, c.self.inside.nodes.ok)
 
-pub returns-then-node-s : goal.returns-then-node-s
-returns-then-node-s c = sym (sym c.loop-left.invariant.same ∙ found_here _ _ _ c.loop-left.invariant.run c.loop-left-test.true _ c.index-node.ensures c.args.s c.if-node-s.true)
+pub returns-then-node-s-clause-first : goal.returns-then-node-s-clause-first
+returns-then-node-s-clause-first c = sym (sym c.loop-left.invariant.same ∙ found_here _ _ _ c.loop-left.invariant.run c.loop-left-test.true _ c.index-node.ensures c.args.s c.if-node-s.true)
+
+pub returns-then-node-s-clause-last : goal.returns-then-node-s-clause-last
+returns-then-node-s-clause-last c =
+    let falling = subst AreInTimeOrder c.self.view_is c.self.invariant.falling in
+    found_last c.args.s _ _ (sym (sym c.loop-left.invariant.same ∙ found_here _ _ _ c.loop-left.invariant.run c.loop-left-test.true _ c.index-node.ensures c.args.s c.if-node-s.true)) (falling c.args.chain.number)
 
 pub loop-left-preserved : goal.loop-left-preserved
 loop-left-preserved c = record {
@@ -26,7 +33,13 @@ loop-left-preserved c = record {
   same = next_same _ _ _ c.loop-left.invariant.run c.loop-left-test.true _ c.index-node.ensures c.args.s c.if-node-s.false ∙ c.loop-left.invariant.same;
 }
 
-pub returns : goal.returns
-returns c =
+pub returns-clause-first : goal.returns-clause-first
+returns-clause-first c =
     let e : c.loop-left.left ≡ 0 = omega (arith, c.loop-left-test.false) in
     rw e at c.loop-left.invariant.same
+
+pub returns-clause-last : goal.returns-clause-last
+returns-clause-last c =
+    let e : c.loop-left.left ≡ 0 = omega (arith, c.loop-left-test.false) in
+    let falling = subst AreInTimeOrder c.self.view_is c.self.invariant.falling in
+    found_last c.args.s _ _ (rw e at c.loop-left.invariant.same) (falling c.args.chain.number)

@@ -5,6 +5,7 @@ use Rattle.span_arena.proofs.Chains.{used_of, read_used, links_were}
 use Rattle.span_arena.proofs.Steps.{sound-reuse, sound-push}
 use Rattle.span_arena.proofs.Contents.{live_is, first_free, content-reuse, content-push}
 use Rattle.span_arena.proofs.Spares.{are_spare-used}
+use Rattle.span_arena.proofs.Falling.{falling-reserve}
 use Rattle.span_arena.proofs.arena.Arena.reserve_node.Goals as goal
 
 pub overflow_add-with_one_more : goal.overflow_add-with_one_more
@@ -33,6 +34,7 @@ invariant_of-self c =
     record {
       sound = rw (← e) (sound-reuse i.nodes.items i.chains.items i.free i.free_count i.most c.self.invariant.sound c.args.chain.number c.in-Used.links used (i.free_count - 1) _ n f.0 refl);
       spare = are_spare-used i.chains.items i.spare i.spare_count c.args.chain.number c.in-Used.links _ used c.self.invariant.spare;
+      falling = falling-reserve _ _ c.args.chain.number i.free c.args.image c.self.invariant.falling (content-reuse i.nodes.items i.chains.items i.free i.free_count i.most c.self.invariant.sound c.args.chain.number c.in-Used.links used c.args.image _ c.if-self-gt0.true f.0 f.1 refl);
     }
 
 pub returns-then-self-gt0-clause-ok : goal.returns-then-self-gt0-clause-ok
@@ -65,6 +67,7 @@ invariant_of-self-2 c =
     record {
       sound = rw c.in-Ok.ensures.items (sound-push i.nodes.items i.chains.items i.free i.free_count i.most c.self.invariant.sound c.args.chain.number c.in-Used.links used _ refl none room);
       spare = are_spare-used i.chains.items i.spare i.spare_count c.args.chain.number c.in-Used.links _ used c.self.invariant.spare;
+      falling = rw c.in-Ok.ensures.items (falling-reserve _ _ c.args.chain.number (length i.nodes.items) c.args.image c.self.invariant.falling (content-push i.nodes.items i.chains.items i.free i.free_count i.most c.self.invariant.sound c.args.chain.number c.in-Used.links used c.args.image _ none room refl));
     }
 
 pub returns-clause-ok : goal.returns-clause-ok

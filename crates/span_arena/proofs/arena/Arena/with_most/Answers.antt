@@ -13,4 +13,5 @@ invariant_of-result c = rw (c.new.ensures.items, c.new-2.ensures.items) (record 
     bounded = omega arith;
   };
   spare = record { list = tt; counted = refl };
+  falling = λ _. tt;
 })

@@ -1,11 +1,14 @@
 use Rattle.std.proofs.Common.{sym, subst}
-use Rattle.span_core.proofs.Wholes.{answered, applied_steps, whole_applied}
+use Rattle.span_core.proofs.Wholes.{answered, applied_steps, later_applied, whole_applied}
 use Rattle.span_core.proofs.database.Core.apply.Goals as goal
 use Rattle.span_machine.specs.Pieces.{machine_of}
 use Rattle.span_machine.specs.declared.step.Step.TheVariants as step
 use Rattle.span_machine.specs.declared.step.Reply.TheVariants as reply
 use Rattle.span_core.specs.Histories.{Steps}
 use Rattle.span_core.specs.Whole.{IsWhole, State}
+
+pub apply-requires : goal.apply-requires
+apply-requires c = later_applied c.self.inside.schema c.self.inside.journal c.self.inside.shard c.args.owner c.args.txn c.args.slot c.args.interval c.in-Ok.committed (machine_of c.note_applied.new.self) c.self.invariant c.in-Ok.ensures.ok
 
 pub invariant_of-self : goal.invariant_of-self
 invariant_of-self c =

@@ -2,10 +2,13 @@ use Rattle.std.proofs.Common.{◌∙◌, map, sym, ap, subst}
 use Rattle.std.specs.Prelude.{filter}
 use Rattle.std.specs.List.{AllByRecursion}
 use Rattle.span_shard.specs.Versions.{is_used, applied_to_key}
-use Rattle.span_shard.specs.Shard.{IsInUse, AreInOrder, applied}
+use Rattle.span_shard.specs.Shard.{IsInUse, AreInOrder, IsLaterCommit, applied}
 use Rattle.span_shard.proofs.Undo.{used_filtered, applied-committed}
 use Rattle.span_shard.proofs.InOrder.{in_order_applied}
 use Rattle.span_shard.proofs.shard.Shard.apply.Goals as goal
+
+pub end-requires : goal.end-requires
+end-requires c = subst (IsLaterCommit c.args.txn c.args.committed) (sym c.self.view_is) c.requires
 
 pub invariant_of-self : goal.invariant_of-self
 invariant_of-self c =

@@ -5,7 +5,14 @@ use Rattle.span_shard.specs.declared.node.PreparedNode.{PreparedNode}
 use Rattle.span_shard.specs.Versions.{applied_to_key}
 use Rattle.span_shard.specs.Stored.{AreOwned, all_kept, is_other}
 use Rattle.span_shard.proofs.Ending.{ended_list}
+use Rattle.span_shard.specs.Shard.{IsLaterCommit}
+use Rattle.span_shard.proofs.Later.{later_ends}
 use Rattle.span_shard.proofs.store.Store.end.Goals as goal
+
+pub end_nodes-requires-clause-later : goal.end_nodes-requires-clause-later
+end_nodes-requires-clause-later c =
+    let i = c.self.inside in
+    later_ends c.args.txn c.args.committed i.index i.arena i.prepared.items c.self.invariant.own (subst (IsLaterCommit c.args.txn c.args.committed) (sym c.self.view_is) c.requires)
 
 pub invariant_of-self : goal.invariant_of-self
 invariant_of-self c =

@@ -1,5 +1,6 @@
-use Rattle.std.proofs.Common.{◌∙◌, ap, arith}
-use Rattle.span_shard.specs.Shard.{live}
+use Rattle.std.proofs.Common.{◌∙◌, ap, arith, subst}
+use Rattle.span_shard.specs.Shard.{live, HaveFallingVersions}
+use Rattle.span_shard.proofs.Later.{keys_fall}
 use Rattle.span_shard.proofs.Counting.{live_is}
 use Rattle.span_shard.proofs.store.Store.live.Goals as goal
 
@@ -13,3 +14,6 @@ returns-clause-most c =
     let i = c.self.inside in
     let same = live_is i.index i.arena i.prepared.items c.self.invariant c.live.ensures.order ∙ ap live c.self.view_is in
     omega (arith, same, c.live.ensures.order.placed, c.live.ensures.order.bounded, c.self.invariant.most)
+
+pub returns-clause-falling : goal.returns-clause-falling
+returns-clause-falling c = let i = c.self.inside in subst HaveFallingVersions c.self.view_is (keys_fall i.arena i.prepared.items i.index c.live.ensures.falling)
