@@ -9,3 +9,4 @@ pub mod Words
 pub mod Digits
 pub mod Escapes
 pub mod ByPieces
+pub mod TokenTexts

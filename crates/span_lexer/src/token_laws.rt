@@ -1,0 +1,13 @@
+//! The laws of tokens, each as the contract of a function that does nothing.
+ghost use Rattle.span_lexer.specs.TokenTexts.{PartsAreReadUnchanged, TokensAreReadUnchanged};
+
+/// A part of a text in UTF-8 that begins and ends between characters is in UTF-8: a lossy reading of it gives the bytes that
+/// stand there, and no replacement character.
+pub fn parts_are_read_unchanged()
+    ensures { PartsAreReadUnchanged }
+{}
+
+/// Each token of a text in UTF-8 is such a part: the name that is read from a token is the one in the text.
+pub fn tokens_are_read_unchanged()
+    ensures { TokensAreReadUnchanged }
+{}
