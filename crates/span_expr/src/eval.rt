@@ -63,7 +63,9 @@ fn outcome_of<'a>(condition: Condition) -> EvalResult<'a>
 }
 
 fn unary_minus(operand: EvalResult<'_>) -> EvalResult<'_>
-    ensures value { (o : Outcome) → Gives operand.entry o → Gives result (outcomes.at_value o operators.arithmetic_negation) }
+    ensures value { (o : Outcome)
+        → Gives operand.entry o
+        → Gives result (outcomes.at_value o operators.arithmetic_negation) }
     ensures memory { RunsOutOnlyIf result (is_out_of_memory operand.entry) }
 {
     arithmetic_negation(operand?)
@@ -151,7 +153,10 @@ fn or_equal<'a>(
     operand: &EvalResult<'a>,
     member: EvalResult<'a>,
 ) -> Result<Condition, Failure>
-    ensures value { (o p : Outcome) → Gives operand.now o → Gives member.entry p → GivesCondition result (spec.or_equal o so_far p) }
+    ensures value { (o p : Outcome)
+        → Gives operand.now o
+        → Gives member.entry p
+        → GivesCondition result (spec.or_equal o so_far p) }
     ensures memory { RunsOutOnlyIf result (is_out_of_memory operand.now || is_out_of_memory member.entry) }
 {
     let found = compare_lent(Comparison::Equal, operand, member);
@@ -169,7 +174,9 @@ fn prefix_test<'a>(text: EvalResult<'a>, front: EvalResult<'a>) -> EvalResult<'a
 }
 
 fn like_test<'a>(operand: EvalResult<'a>, pattern: &[PatternPart]) -> EvalResult<'a>
-    ensures value { (o : Outcome) → Gives operand.entry o → Gives result (outcomes.at_value o (patterns.like pattern.now)) }
+    ensures value { (o : Outcome)
+        → Gives operand.entry o
+        → Gives result (outcomes.at_value o (patterns.like pattern.now)) }
     ensures memory { RunsOutOnlyIf result (is_out_of_memory operand.entry) }
 {
     match operand?.as_str() {
@@ -273,7 +280,9 @@ fn apply_links<'a>(
     links: &'a [Link<Expr>],
     row: &'a [Value],
 ) -> EvalResult<'a>
-    ensures value { (o : Outcome) → Gives first.entry o → Gives result (spec.apply_links o (map (spec.link_val row.now) links.now)) }
+    ensures value { (o : Outcome)
+        → Gives first.entry o
+        → Gives result (spec.apply_links o (map (spec.link_val row.now) links.now)) }
     ensures memory { RunsOutOnlyIf result (is_out_of_memory first.entry || memory.any_link_concatenation links.now) }
 {
     let mut so_far = first?;
@@ -293,7 +302,9 @@ fn all_of<'a>(
     more: &'a [Expr],
     row: &'a [Value],
 ) -> EvalResult<'a>
-    ensures value { (o : Outcome) → Gives first.entry o → Gives result (spec.all_of o (map (spec.val row.now) more.now)) }
+    ensures value { (o : Outcome)
+        → Gives first.entry o
+        → Gives result (spec.all_of o (map (spec.val row.now) more.now)) }
     ensures memory { RunsOutOnlyIf result (is_out_of_memory first.entry || memory.any_concatenation more.now) }
 {
     let mut so_far = condition_of(first)?;
@@ -315,7 +326,9 @@ fn any_of<'a>(
     more: &'a [Expr],
     row: &'a [Value],
 ) -> EvalResult<'a>
-    ensures value { (o : Outcome) → Gives first.entry o → Gives result (spec.any_of o (map (spec.val row.now) more.now)) }
+    ensures value { (o : Outcome)
+        → Gives first.entry o
+        → Gives result (spec.any_of o (map (spec.val row.now) more.now)) }
     ensures memory { RunsOutOnlyIf result (is_out_of_memory first.entry || memory.any_concatenation more.now) }
 {
     let mut so_far = condition_of(first)?;
@@ -336,7 +349,9 @@ fn in_list<'a>(
     members: &'a [Expr],
     row: &'a [Value],
 ) -> EvalResult<'a>
-    ensures value { (o : Outcome) → Gives operand.now o → Gives result (spec.in_list o (map (spec.val row.now) members.now)) }
+    ensures value { (o : Outcome)
+        → Gives operand.now o
+        → Gives result (spec.in_list o (map (spec.val row.now) members.now)) }
     ensures memory { RunsOutOnlyIf result (is_out_of_memory operand.now || memory.any_concatenation members.now) }
 {
     let mut so_far = Condition::Known(Truth::False);
@@ -386,7 +401,9 @@ fn match_value<'a>(
     arms: &'a [Arm<Expr>],
     row: &'a [Value],
 ) -> Option<EvalResult<'a>>
-    ensures value { (o : Outcome) → Gives operand.now o → GivesOr result (spec.match_value o (map (spec.arm_val row.now) arms.now)) }
+    ensures value { (o : Outcome)
+        → Gives operand.now o
+        → GivesOr result (spec.match_value o (map (spec.arm_val row.now) arms.now)) }
     ensures memory { IfSome
         result
         (λ found. RunsOutOnlyIf found (is_out_of_memory operand.now || memory.any_arm_concatenation arms.now)) }
