@@ -10,3 +10,4 @@ pub mod Digits
 pub mod Escapes
 pub mod ByPieces
 pub mod TokenTexts
+pub mod TokenIntegers

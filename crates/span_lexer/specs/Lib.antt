@@ -8,3 +8,4 @@ pub mod LiteralValues
 pub mod LiteralPieces
 pub mod Limits
 pub mod TokenTexts
+pub mod TokenIntegers
