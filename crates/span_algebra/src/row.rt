@@ -2,6 +2,7 @@
 ghost use Rattle.std.specs.Prelude.{◌≡◌, ◌++◌, ◌∷◌, [], IfOk, OnOk, replicate};
 ghost use Rattle.span_query.specs.Rows.{holds, value_of};
 ghost use Rattle.span_expr.specs.Meaning.{val};
+ghost use Rattle.span_expr.specs.Memory.{has_concatenation, RunsOutOnlyIf};
 ghost use Rattle.span_algebra.specs.Answers.{Gives};
 
 use span_expr::cell::Failure;
@@ -14,7 +15,8 @@ use std::alloc::{AllocError, Global};
 
 /// Whether the condition is TRUE at the row.
 pub(crate) fn is_met(alloc: Global, condition: &Expr, row: &[Value]) -> Result<bool, Failure>
-    ensures { Gives result (holds condition.now row.now) }
+    ensures holds { Gives result (holds condition.now row.now) }
+    ensures memory { RunsOutOnlyIf result (has_concatenation condition.now) }
 {
     Ok(evaluate(alloc, condition, row)?.truth() == Truth::True)
 }

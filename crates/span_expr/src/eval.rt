@@ -2,7 +2,7 @@
 //!
 //! Evaluating lends what it reads and walks chains of operators by loops, so that the depth of the recursion is bounded by the
 //! nesting of the query.
-ghost use Rattle.std.specs.Prelude.{◌≡◌, map, IfOk, IsOkUnless};
+ghost use Rattle.std.specs.Prelude.{◌≡◌, ◌||◌, map, false, IfOk, IfSome, IsOkUnless};
 ghost use Rattle.std.specs.List.{fold};
 ghost use Rattle.std.specs.Option.{option_map};
 ghost use Rattle.span_expr.specs.Cells.{owned_value, Gives, GivesOr, GivesCondition, GivesChoice};
@@ -10,6 +10,8 @@ ghost use Rattle.span_expr.specs.Outcomes as outcomes;
 ghost use Rattle.span_expr.specs.Operators as operators;
 ghost use Rattle.span_expr.specs.Patterns as patterns;
 ghost use Rattle.span_expr.specs.Meaning as spec;
+ghost use Rattle.span_expr.specs.Memory as memory;
+ghost use Rattle.span_expr.specs.Memory.{is_out_of_memory, RunsOutOnlyIf};
 ghost use Rattle.span_value.specs.declared.truth.Outcome.{Outcome};
 ghost use Rattle.span_value.specs.declared.truth.Outcome.TheVariants as outcome;
 ghost use Rattle.span_value.specs.declared.value.Value.TheVariants as value;
@@ -30,7 +32,8 @@ pub type EvalResult<'a> = Result<LentValue<'a>, Failure>;
 
 /// What an operand comes to as a condition.
 fn condition_of(found: EvalResult<'_>) -> Result<Condition, Failure>
-    ensures { (o : Outcome) → Gives found.entry o → GivesCondition result (outcomes.condition_of o) }
+    ensures value { (o : Outcome) → Gives found.entry o → GivesCondition result (outcomes.condition_of o) }
+    ensures memory { RunsOutOnlyIf result (is_out_of_memory found.entry) }
 {
     match found {
         Ok(cell) => Ok(Condition::Known(cell.truth())),
@@ -50,7 +53,8 @@ fn cell_of(truth: Truth) -> LentValue<'static>
 }
 
 fn outcome_of<'a>(condition: Condition) -> EvalResult<'a>
-    ensures { Gives result (outcomes.outcome_of condition) }
+    ensures value { Gives result (outcomes.outcome_of condition) }
+    ensures memory { is_out_of_memory result ≡ false }
 {
     match condition {
         Condition::Known(truth) => Ok(cell_of(truth)),
@@ -59,25 +63,31 @@ fn outcome_of<'a>(condition: Condition) -> EvalResult<'a>
 }
 
 fn unary_minus(operand: EvalResult<'_>) -> EvalResult<'_>
-    ensures { (o : Outcome) → Gives operand.entry o → Gives result (outcomes.at_value o operators.arithmetic_negation) }
+    ensures value { (o : Outcome)
+        → Gives operand.entry o
+        → Gives result (outcomes.at_value o operators.arithmetic_negation) }
+    ensures memory { RunsOutOnlyIf result (is_out_of_memory operand.entry) }
 {
     arithmetic_negation(operand?)
 }
 
 fn logical_not(operand: EvalResult<'_>) -> EvalResult<'_>
-    ensures { (o : Outcome) → Gives operand.entry o → Gives result (outcomes.at_value o outcomes.logical_not) }
+    ensures value { (o : Outcome) → Gives operand.entry o → Gives result (outcomes.at_value o outcomes.logical_not) }
+    ensures memory { RunsOutOnlyIf result (is_out_of_memory operand.entry) }
 {
     Ok(cell_of(not(operand?.truth())))
 }
 
 fn null_test(operand: EvalResult<'_>) -> EvalResult<'_>
-    ensures { (o : Outcome) → Gives operand.entry o → Gives result (outcomes.at_value o outcomes.null_test) }
+    ensures value { (o : Outcome) → Gives operand.entry o → Gives result (outcomes.at_value o outcomes.null_test) }
+    ensures memory { RunsOutOnlyIf result (is_out_of_memory operand.entry) }
 {
     Ok(LentValue::Bool(operand?.is_null()))
 }
 
 fn length(operand: EvalResult<'_>) -> EvalResult<'_>
-    ensures { (o : Outcome) → Gives operand.entry o → Gives result (outcomes.at_value o operators.length_of) }
+    ensures value { (o : Outcome) → Gives operand.entry o → Gives result (outcomes.at_value o operators.length_of) }
+    ensures memory { RunsOutOnlyIf result (is_out_of_memory operand.entry) }
 {
     Ok(length_of(&operand?))
 }
@@ -87,10 +97,11 @@ fn compare_values<'a>(
     left: EvalResult<'a>,
     right: EvalResult<'a>,
 ) -> EvalResult<'a>
-    ensures { (o p : Outcome)
+    ensures value { (o p : Outcome)
         → Gives left.entry o
         → Gives right.entry p
         → Gives result (outcomes.strict (operators.compare_values comparison) o p) }
+    ensures memory { RunsOutOnlyIf result (is_out_of_memory left.entry || is_out_of_memory right.entry) }
 {
     Ok(compare(comparison, &left?, &right?))
 }
@@ -101,10 +112,11 @@ fn compare_lent<'a>(
     left: &EvalResult<'a>,
     right: EvalResult<'a>,
 ) -> EvalResult<'a>
-    ensures { (o p : Outcome)
+    ensures value { (o p : Outcome)
         → Gives left.now o
         → Gives right.entry p
         → Gives result (outcomes.strict (operators.compare_values comparison) o p) }
+    ensures memory { RunsOutOnlyIf result (is_out_of_memory left.now || is_out_of_memory right.entry) }
 {
     match left {
         Ok(cell) => Ok(compare(comparison, cell, &right?)),
@@ -114,17 +126,21 @@ fn compare_lent<'a>(
 
 /// Whether a condition chooses its arm: where it is TRUE.
 fn chooses(condition: EvalResult<'_>) -> Result<bool, Failure>
-    ensures { (o : Outcome) → Gives condition.entry o → GivesChoice result o }
+    ensures value { (o : Outcome) → Gives condition.entry o → GivesChoice result o }
+    ensures memory { RunsOutOnlyIf result (is_out_of_memory condition.entry) }
 {
     Ok(condition?.truth() == Truth::True)
 }
 
 fn between<'a>(operand: EvalResult<'a>, low: EvalResult<'a>, high: EvalResult<'a>) -> EvalResult<'a>
-    ensures { (o p q : Outcome)
+    ensures value { (o p q : Outcome)
         → Gives operand.entry o
         → Gives low.entry p
         → Gives high.entry q
         → Gives result (spec.between o p q) }
+    ensures memory { RunsOutOnlyIf
+        result
+        (is_out_of_memory operand.entry || is_out_of_memory low.entry || is_out_of_memory high.entry) }
 {
     let above = condition_of(compare_lent(Comparison::AtLeast, &operand, low))?;
     let below = condition_of(compare_lent(Comparison::AtMost, &operand, high))?;
@@ -137,23 +153,31 @@ fn or_equal<'a>(
     operand: &EvalResult<'a>,
     member: EvalResult<'a>,
 ) -> Result<Condition, Failure>
-    ensures { (o p : Outcome) → Gives operand.now o → Gives member.entry p → GivesCondition result (spec.or_equal o so_far p) }
+    ensures value { (o p : Outcome)
+        → Gives operand.now o
+        → Gives member.entry p
+        → GivesCondition result (spec.or_equal o so_far p) }
+    ensures memory { RunsOutOnlyIf result (is_out_of_memory operand.now || is_out_of_memory member.entry) }
 {
     let found = compare_lent(Comparison::Equal, operand, member);
     Ok(either_strict(so_far, condition_of(found)?))
 }
 
 fn prefix_test<'a>(text: EvalResult<'a>, front: EvalResult<'a>) -> EvalResult<'a>
-    ensures { (o p : Outcome)
+    ensures value { (o p : Outcome)
         → Gives text.entry o
         → Gives front.entry p
         → Gives result (outcomes.strict operators.has_prefix o p) }
+    ensures memory { RunsOutOnlyIf result (is_out_of_memory text.entry || is_out_of_memory front.entry) }
 {
     Ok(has_prefix(&text?, &front?))
 }
 
 fn like_test<'a>(operand: EvalResult<'a>, pattern: &[PatternPart]) -> EvalResult<'a>
-    ensures { (o : Outcome) → Gives operand.entry o → Gives result (outcomes.at_value o (patterns.like pattern.now)) }
+    ensures value { (o : Outcome)
+        → Gives operand.entry o
+        → Gives result (outcomes.at_value o (patterns.like pattern.now)) }
+    ensures memory { RunsOutOnlyIf result (is_out_of_memory operand.entry) }
 {
     match operand?.as_str() {
         Some(text) => Ok(LentValue::Bool(fits(pattern, text))),
@@ -164,7 +188,8 @@ fn like_test<'a>(operand: EvalResult<'a>, pattern: &[PatternPart]) -> EvalResult
 /// What an expression comes to at a row. The error is `Fault` for an arithmetic error, or out of memory for a string that `||` makes.
 #[cycle(eval)]
 pub fn evaluate<'a>(alloc: Global, expr: &'a Expr, row: &'a [Value]) -> EvalResult<'a>
-    ensures { Gives result (spec.val row.now expr.now) }
+    ensures value { Gives result (spec.val row.now expr.now) }
+    ensures memory { RunsOutOnlyIf result (memory.has_concatenation expr.now) }
 {
     match expr {
         Expr::Literal(value) => Ok(lend(value)),
@@ -238,9 +263,10 @@ fn apply_link<'a>(
     so_far: LentValue<'a>,
     operand: EvalResult<'a>,
 ) -> EvalResult<'a>
-    ensures { (o : Outcome)
+    ensures value { (o : Outcome)
         → Gives operand.entry o
         → Gives result (outcomes.strict (operators.apply_operator operator) (outcome.Val (owned_value so_far.entry)) o) }
+    ensures memory { RunsOutOnlyIf result (memory.is_concatenation operator || is_out_of_memory operand.entry) }
 {
     apply(alloc, operator, so_far, &operand?)
 }
@@ -254,7 +280,10 @@ fn apply_links<'a>(
     links: &'a [Link<Expr>],
     row: &'a [Value],
 ) -> EvalResult<'a>
-    ensures { (o : Outcome) → Gives first.entry o → Gives result (spec.apply_links o (map (spec.link_val row.now) links.now)) }
+    ensures value { (o : Outcome)
+        → Gives first.entry o
+        → Gives result (spec.apply_links o (map (spec.link_val row.now) links.now)) }
+    ensures memory { RunsOutOnlyIf result (is_out_of_memory first.entry || memory.any_link_concatenation links.now) }
 {
     let mut so_far = first?;
     for link in links {
@@ -273,7 +302,10 @@ fn all_of<'a>(
     more: &'a [Expr],
     row: &'a [Value],
 ) -> EvalResult<'a>
-    ensures { (o : Outcome) → Gives first.entry o → Gives result (spec.all_of o (map (spec.val row.now) more.now)) }
+    ensures value { (o : Outcome)
+        → Gives first.entry o
+        → Gives result (spec.all_of o (map (spec.val row.now) more.now)) }
+    ensures memory { RunsOutOnlyIf result (is_out_of_memory first.entry || memory.any_concatenation more.now) }
 {
     let mut so_far = condition_of(first)?;
     for operand in more {
@@ -294,7 +326,10 @@ fn any_of<'a>(
     more: &'a [Expr],
     row: &'a [Value],
 ) -> EvalResult<'a>
-    ensures { (o : Outcome) → Gives first.entry o → Gives result (spec.any_of o (map (spec.val row.now) more.now)) }
+    ensures value { (o : Outcome)
+        → Gives first.entry o
+        → Gives result (spec.any_of o (map (spec.val row.now) more.now)) }
+    ensures memory { RunsOutOnlyIf result (is_out_of_memory first.entry || memory.any_concatenation more.now) }
 {
     let mut so_far = condition_of(first)?;
     for operand in more {
@@ -314,7 +349,10 @@ fn in_list<'a>(
     members: &'a [Expr],
     row: &'a [Value],
 ) -> EvalResult<'a>
-    ensures { (o : Outcome) → Gives operand.now o → Gives result (spec.in_list o (map (spec.val row.now) members.now)) }
+    ensures value { (o : Outcome)
+        → Gives operand.now o
+        → Gives result (spec.in_list o (map (spec.val row.now) members.now)) }
+    ensures memory { RunsOutOnlyIf result (is_out_of_memory operand.now || memory.any_concatenation members.now) }
 {
     let mut so_far = Condition::Known(Truth::False);
     for member in members {
@@ -330,7 +368,8 @@ fn value_or_null<'a>(
     otherwise: &'a Option<Boxed<Expr>>,
     row: &'a [Value],
 ) -> EvalResult<'a>
-    ensures { Gives result (spec.or_null_outcome (option_map (spec.val row.now) otherwise.now)) }
+    ensures value { Gives result (spec.or_null_outcome (option_map (spec.val row.now) otherwise.now)) }
+    ensures memory { RunsOutOnlyIf result (memory.in_some (option_map memory.has_concatenation otherwise.now)) }
 {
     match otherwise {
         Some(value) => evaluate(alloc, value.get(), row),
@@ -341,7 +380,8 @@ fn value_or_null<'a>(
 /// The value of the first arm whose condition is TRUE.
 #[cycle(eval)]
 fn case_value<'a>(alloc: Global, arms: &'a [Arm<Expr>], row: &'a [Value]) -> Option<EvalResult<'a>>
-    ensures { GivesOr result (spec.case_value (map (spec.arm_val row.now) arms.now)) }
+    ensures value { GivesOr result (spec.case_value (map (spec.arm_val row.now) arms.now)) }
+    ensures memory { IfSome result (λ found. RunsOutOnlyIf found (memory.any_arm_concatenation arms.now)) }
 {
     for arm in arms {
         match chooses(evaluate(alloc, &arm.condition, row)) {
@@ -361,7 +401,12 @@ fn match_value<'a>(
     arms: &'a [Arm<Expr>],
     row: &'a [Value],
 ) -> Option<EvalResult<'a>>
-    ensures { (o : Outcome) → Gives operand.now o → GivesOr result (spec.match_value o (map (spec.arm_val row.now) arms.now)) }
+    ensures value { (o : Outcome)
+        → Gives operand.now o
+        → GivesOr result (spec.match_value o (map (spec.arm_val row.now) arms.now)) }
+    ensures memory { IfSome
+        result
+        (λ found. RunsOutOnlyIf found (is_out_of_memory operand.now || memory.any_arm_concatenation arms.now)) }
 {
     for arm in arms {
         let equal = compare_lent(
@@ -381,7 +426,8 @@ fn match_value<'a>(
 /// The first value that is not NULL.
 #[cycle(eval)]
 fn first_non_null<'a>(alloc: Global, operands: &'a [Expr], row: &'a [Value]) -> EvalResult<'a>
-    ensures { Gives result (outcomes.first_non_null (map (spec.val row.now) operands.now)) }
+    ensures value { Gives result (outcomes.first_non_null (map (spec.val row.now) operands.now)) }
+    ensures memory { RunsOutOnlyIf result (memory.any_concatenation operands.now) }
 {
     for operand in operands {
         let found = evaluate(alloc, operand, row)?;

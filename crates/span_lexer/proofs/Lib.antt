@@ -9,3 +9,5 @@ pub mod Words
 pub mod Digits
 pub mod Escapes
 pub mod ByPieces
+pub mod TokenTexts
+pub mod TokenIntegers

@@ -7,3 +7,5 @@ pub mod Tokens
 pub mod LiteralValues
 pub mod LiteralPieces
 pub mod Limits
+pub mod TokenTexts
+pub mod TokenIntegers

@@ -7,4 +7,5 @@ pub mod literal;
 pub mod literal_laws;
 pub mod literal_value;
 pub mod token;
+pub mod token_laws;
 pub mod word;
