@@ -1,3 +1,4 @@
+pub mod Promised
 pub mod Wholes
 pub mod Preparing
 pub mod Runs

@@ -26,7 +26,7 @@ use Rattle.span_version_laws.proofs.Preparing.{its_typed, prepare_free, prepare_
 use Rattle.span_journal.specs.Judged.{MayPrepare, IsNoted, IsUnnoted, has_wrong_state, note_cause}
 use Rattle.span_journal.proofs.Preparing.{timestamp_refusal, all_in, note_stamp}
 use Rattle.span_core.specs.Whole.{IsWhole}
-use Rattle.span_core.proofs.Wholes.{no_text}
+use Rattle.span_core.proofs.Wholes.{no_text, past_answered}
 use Rattle.span_schema.specs.declared.table.Table.{Table}
 use Rattle.span_mutate.specs.declared.row.TableRow.{TableRow}
 use Rattle.span_mutate.specs.Database.{apply}
@@ -155,6 +155,7 @@ module _ (schema : List Table) (j : Journaled) (cs : List KeyVersions) (w : IsWh
         let kept = kept_prepared schema w.rules m w.reached cs w.kept owner txn may.transaction may.slot_state may.found here_zero accepted_zero ws (are_in ws are) in
         record {
           rules = w.rules;
+          past = past_answered schema m (step.Prepare owner txn slot) (machine_of k) w.past tt tt is;
           reached = subst (IsReached schema) (sym is) (answer_reached schema w.rules m w.reached no_text (step.Prepare owner txn slot) tt);
           kept = subst (λ (n : Machine). AreKept schema n (with_writes txn ws cs)) (sym d.after)
               (subst (λ (b : SlotState). AreKept schema (prepared m owner txn slot b).1 (with_writes txn ws cs)) same (subst (λ i. AreKept schema (prepared m owner txn i may.slot_state).1 (with_writes txn ws cs)) (sym zero_slot) kept));

@@ -41,6 +41,8 @@ use Rattle.span_version_laws.proofs.Covers.{no_pieces, pieced_push, pieced_witho
 use Rattle.span_journal.specs.Judged.{IsApplied, IsRaised, MayScan, IsRegistered, IsUnregistered, IsCovered, decision_of}
 use Rattle.span_core.specs.Whole.{IsWhole, IsRead, IsUnread}
 use Rattle.span_core.specs.Histories.{Steps}
+use Rattle.span_core.specs.Promises.{IsRunTo}
+use Rattle.span_core.proofs.Promised.{no_steps, one_more}
 use Rattle.span_binder.specs.Understands.{Understands}
 use Rattle.span_version_laws.proofs.Snapshots.{snapshot_when_safe}
 use Rattle.span_mutate.specs.declared.mutation.CheckedMutation.{CheckedMutation}
@@ -53,6 +55,7 @@ use Rattle.span_machine.specs.Run.{IsOfSchema}
 pub start_whole : (schema : List Table) → MeetsRules schema → (j : Journaled) → machine_of j ≡ start → j.queries ≡ [] → IsWhole schema j []
 start_whole schema rules j is none = record {
   rules = rules;
+  past = subst (IsRunTo schema) (sym is) (no_steps schema);
   reached = subst (IsReached schema) (sym is) (start_reached schema);
   kept = subst (λ (m : Machine). AreKept schema m []) (sym is) (start_kept schema);
   pieced = subst (ArePieced schema (machine_of j)) (sym none) (no_pieces schema (machine_of j));
@@ -83,17 +86,23 @@ pub refused_steps : (schema : List Table) (m : Machine) (text : List ℕ) (param
 refused_steps schema m text params bound interval why (inl memory) = inr (refl, (ap reply.Refused memory, refl))
 refused_steps schema m text params bound interval why (inr understood) = inl (Err why, understood, (refl, refl))
 
+-- the run goes on by a step that has no query text, to the machine after it
+pub past_answered : (schema : List Table) (m : Machine) (s : Step) (n : Machine) → IsRunTo schema m → IsOfSchema schema s → IsUnderstood (Understands schema) s no_text → n ≡ (answer schema m no_text s).1 → IsRunTo schema n
+past_answered schema m s n past of none is = one_more schema m n s (answer schema m no_text s).0 past of (inl (no_text, none, (refl, is)))
+
 -- a step that leaves the versions
 pub whole_step : (schema : List Table) (j k : Journaled) (cs : List KeyVersions) (s : Step) (r : Reply) → IsWhole schema j cs → Steps schema (machine_of j) s r (machine_of k) → IsOfSchema schema s → ((u : Result Statement Refusal) → AreKept schema (answer schema (machine_of j) u s).1 cs)
     → ((n : Machine) → ArePieced schema n j.queries → ArePieced schema n k.queries) → IsWhole schema k cs
 whole_step schema j k cs s r w (inl e) of kept pieces = record {
   rules = w.rules;
+  past = one_more schema (machine_of j) (machine_of k) s r w.past of (inl e);
   reached = subst (IsReached schema) (sym e.2.1) (answer_reached schema w.rules (machine_of j) w.reached e.0 s of);
   kept = subst (λ (m : Machine). AreKept schema m cs) (sym e.2.1) (kept e.0);
   pieced = pieces (machine_of k) (subst (λ (m : Machine). ArePieced schema m j.queries) (sym e.2.1) (pieced_by_step schema w.rules (machine_of j) w.reached j.queries refl w.pieced e.0 s of));
 }
 whole_step schema j k cs s r w (inr e) of kept pieces = record {
   rules = w.rules;
+  past = one_more schema (machine_of j) (machine_of k) s r w.past of (inr e);
   reached = subst (IsReached schema) (sym e.1.1) w.reached;
   kept = subst (λ (m : Machine). AreKept schema m cs) (sym e.1.1) w.kept;
   pieced = pieces (machine_of k) (subst (λ (m : Machine). ArePieced schema m j.queries) (sym e.1.1) w.pieced);
@@ -103,6 +112,7 @@ whole_step schema j k cs s r w (inr e) of kept pieces = record {
 pub whole_same : (schema : List Table) (j k : Journaled) (cs ds : List KeyVersions) → IsWhole schema j cs → machine_of k ≡ machine_of j → k.queries ≡ j.queries → ds ≡ cs → IsWhole schema k ds
 whole_same schema j k cs ds w is queries same = record {
   rules = w.rules;
+  past = subst (IsRunTo schema) (sym is) w.past;
   reached = subst (IsReached schema) (sym is) w.reached;
   kept = subst (AreKept schema (machine_of k)) (sym same) (subst (λ (m : Machine). AreKept schema m cs) (sym is) w.kept);
   pieced = subst (ArePieced schema (machine_of k)) (sym queries) (subst (λ (m : Machine). ArePieced schema m j.queries) (sym is) w.pieced);
@@ -158,6 +168,7 @@ whole_applied schema j k cs owner txn slot interval committed w d queries =
     let is : machine_of k ≡ (apply_step m owner txn slot interval).1 = d.after ∙ sym (ap (λ (a : Answer). a.1) e) in
     record {
       rules = w.rules;
+      past = past_answered schema m (step.Apply owner txn slot interval) (machine_of k) w.past tt tt is;
       reached = subst (IsReached schema) (sym is) (answer_reached schema w.rules m w.reached no_text (step.Apply owner txn slot interval) tt);
       kept = subst (λ (n : Machine). AreKept schema n (shard.applied txn committed cs)) (sym d.after) (kept_applied schema m cs owner txn slot committed d.transaction w.reached w.kept d.found zero d.decision);
       pieced = subst (ArePieced schema (machine_of k)) (sym queries) (subst (λ (n : Machine). ArePieced schema n j.queries) (sym is) (pieced_by_step schema w.rules m w.reached j.queries refl w.pieced no_text (step.Apply owner txn slot interval) tt));
@@ -192,6 +203,7 @@ whole_trimmed schema j k cs slot h w d queries =
     let high : d.slot_state.horizon ≤ h = not_below h d.slot_state.horizon (may_trim (nat_lt h d.slot_state.horizon) (is_safe m slot d.slot_state h) d.accepted).0 in
     record {
       rules = w.rules;
+      past = past_answered schema m (step.Trim slot h) (machine_of k) w.past tt tt is;
       reached = subst (IsReached schema) (sym is) (answer_reached schema w.rules m w.reached no_text (step.Trim slot h) tt);
       kept = subst (λ (n : Machine). AreKept schema n (shard.trimmed h cs)) (sym d.after)
           (subst (λ (i : ℕ). AreKept schema (trimmed schema m i h d.slot_state).1 (shard.trimmed h cs)) (sym zero) (kept_trimmed schema m cs w.kept h d.slot_state here high));
@@ -294,6 +306,7 @@ scanned_whole schema j k cs query leaf slot interval table s shown w d reading g
     let pieced = pieced_scanned schema w.rules m cs j.queries w.reached w.kept w.pieced query g.question (with_risen_floor d.slot_state d.question.s interval) g.found safe high leaf d.gap there shown reading_there in (
       record {
         rules = w.rules;
+        past = past_answered schema m (step.Scan query leaf slot interval) (machine_of k) w.past tt tt is;
         reached = subst (IsReached schema) (sym is) (answer_reached schema w.rules m w.reached no_text (step.Scan query leaf slot interval) tt);
         kept = subst (λ (n : Machine). AreKept schema n cs) (sym is) (kept_scan schema m w.reached cs w.kept query leaf slot interval);
         pieced = subst (λ (l : Journaled). ArePieced schema (machine_of l) l.queries) (sym g.after) pieced;

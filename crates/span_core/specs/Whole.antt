@@ -13,16 +13,18 @@ use Rattle.span_mutate.specs.declared.row.TableRow.{TableRow}
 use Rattle.span_mutate.specs.Typed.{AreTyped}
 use Rattle.span_shard.specs.Shard.{KeyRow, snapshot}
 use Rattle.span_version_laws.specs.Kept.{AreKept, ArePieced, IsReading, key_row, family}
+use Rattle.span_core.specs.Promises.{IsRunTo}
 
 -- a database in memory: its schema, and the machine
 pub record State : Type 0 where
   pub schema : List Table
   pub machine : Machine
 
--- a journal and a shard that belong together: the machine is one that a run reaches, the shard's versions are those of its commits,
--- and the pieces of covered leaves have the rows of its tables
+-- a journal and a shard that belong together: a run leads to the machine, and what holds of every machine that a run reaches holds of it;
+-- the shard's versions are those of its commits, and the pieces of covered leaves have the rows of its tables
 pub record IsWhole (schema : List Table) (j : Journaled) (cs : List KeyVersions) : Type 0 where
   pub rules : MeetsRules schema
+  pub past : IsRunTo schema (machine_of j)
   pub reached : IsReached schema (machine_of j)
   pub kept : AreKept schema (machine_of j) cs
   pub pieced : ArePieced schema (machine_of j) j.queries
