@@ -3,7 +3,7 @@ use Rattle.span_shard.proofs.Idle.{idle_up}
 use Rattle.span_storage_tests.proofs.shard.faults.Goals as goal
 
 pub refusal_of-twice-requires : goal.refusal_of-twice-requires
-refusal_of-twice-requires c = idle_up 112 222 _ (omega arith) c.in_ok-shard.ensures
+refusal_of-twice-requires g c = idle_up 112 222 _ (omega arith) c.in_ok-shard.ensures
 
 pub refusal_of-alone-requires : goal.refusal_of-alone-requires
-refusal_of-alone-requires c = idle_up 223 333 _ (omega arith) c.refusal_of-twice.ensures
+refusal_of-alone-requires g c = idle_up 223 333 _ (omega arith) c.refusal_of-twice.ensures
