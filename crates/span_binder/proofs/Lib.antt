@@ -3,3 +3,5 @@ pub mod Trees
 pub mod Adding
 pub mod Understanding
 pub mod Uniqueness
+pub mod Faults
+pub mod QueryFaults

@@ -25,7 +25,7 @@ by_test true why e = inl (same_true refusal_type (search rules) why OutOfMemory 
 by_test false why e = inr (λ same. false≢true (sym e ∙ ap (λ (w : Refusal). sameb refusal_type w OutOfMemory) same))
 
 -- memory ran out or not
-memory_or_not : (why : Refusal) → (why ≡ OutOfMemory) ⊎ (why ≢ OutOfMemory)
+pub memory_or_not : (why : Refusal) → (why ≡ OutOfMemory) ⊎ (why ≢ OutOfMemory)
 memory_or_not why = by_test (sameb refusal_type why OutOfMemory) why refl
 
 -- what was bound

@@ -5,3 +5,4 @@ pub mod Outputs
 pub mod Blocks
 pub mod Queries
 pub mod Understands
+pub mod Faults

@@ -2,10 +2,11 @@
 //!
 //! In a block faults are looked for in the items of the FROM with their ONs, from left to right, then in the select list, WHERE, GROUP BY
 //! and HAVING; after all blocks of a query in the columns of its union, and then in its ORDER BY. The first fault is the refusal.
-ghost use Rattle.std.specs.Prelude.{◌≡◌, map, IfOk};
+ghost use Rattle.std.specs.Prelude.{◌≡◌, ◌⊎◌, map, IfOk, IfErr};
 ghost use Rattle.span_typing.specs.Steps.{Gives};
 ghost use Rattle.span_binder.specs.Onward.{fold_results};
 ghost use Rattle.span_binder.specs.Sources.{AreTables, HasTables};
+ghost use Rattle.span_binder.specs.Faults.{IsTreeFault};
 ghost use Rattle.span_binder.specs.Queries as spec;
 
 use super::block::bind_block;
@@ -127,15 +128,8 @@ impl Binder<'_> {
     }
 }
 
-/// The typed query of a syntax tree on these tables and with these parameters, and its leaves: the tables of all its FROMs.
-///
-/// The error is the first of these faults in the tree, or out of memory:
-/// `TooManyTables`, the ninth table name of the query; `NoTable`, a name that no table has; `DuplicateAlias`, two items of a FROM with one
-/// name; `NoColumn` and `Ambiguous`, a name of no column, or of two; `TypeMismatch`, operands of types that their operator
-/// does not take; `NotGrouped`, a column of a grouped block that is not in its GROUP BY, or an aggregate where none is allowed;
-/// `BadPattern`, a LIKE pattern with a wrong escape; `NoParameter`, a parameter that was given no value; `ColumnsDiffer`, blocks of a union
-/// that differ in the number or types of their columns; `BadOrdinal`, an ordinal in ORDER BY of 0 or past the last column.
-pub fn bind(
+/// The statement of a tree, or the first fault in it.
+fn statement_of(
     alloc: Global,
     schema: &Schema,
     tree: &tree::Query,
@@ -155,4 +149,26 @@ pub fn bind(
         leaves,
         columns: bound.columns,
     })
+}
+
+/// The typed query of a syntax tree on these tables and with these parameters, and its leaves: the tables of all its FROMs.
+///
+/// The error is the first of these faults in the tree, or out of memory:
+/// `TooManyTables`, the ninth table name of the query; `NoTable`, a name that no table has; `DuplicateAlias`, two items of a FROM with one
+/// name; `NoColumn` and `Ambiguous`, a name of no column, or of two; `TypeMismatch`, operands of types that their operator
+/// does not take; `NotGrouped`, a column of a grouped block that is not in its GROUP BY, or an aggregate where none is allowed;
+/// `BadPattern`, a LIKE pattern with a wrong escape; `NoParameter`, a parameter that was given no value; `ColumnsDiffer`, blocks of a union
+/// that differ in the number or types of their columns; `BadOrdinal`, an ordinal in ORDER BY of 0 or past the last column.
+pub fn bind(
+    alloc: Global,
+    schema: &Schema,
+    tree: &tree::Query,
+    params: &Params,
+) -> Result<Statement, Refusal>
+    ensures statement { Gives result (spec.bound schema.now params.now tree.now) }
+    ensures leaves { IfOk result (λ statement. AreTables schema.now statement.leaves) }
+    // The fault is one of these: 10 to 20.
+    ensures faults { IfErr result (λ why. (why ≡ Refusal.OutOfMemory) ⊎ IsTreeFault why) }
+{
+    statement_of(alloc, schema, tree, params)
 }

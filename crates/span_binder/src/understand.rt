@@ -6,6 +6,7 @@ ghost use Rattle.span_params.specs.declared.params.Parameter.{Parameter};
 ghost use Rattle.span_schema.specs.declared.table.Table.{Table};
 ghost use Rattle.span_schema.specs.Numbers.{IsTable};
 ghost use Rattle.span_value.specs.declared.refusal.Refusal.{Refusal};
+ghost use Rattle.span_binder.specs.Faults.{IsQueryFault};
 ghost use Rattle.span_binder.specs.Understands.{Understands};
 
 use crate::binding::bind;
@@ -32,6 +33,8 @@ pub fn understand(
     ensures all { (u : Result Statement Refusal)
         → Understands schema.now text.now params.now u
         → (result ≡ u) ⊎ (result ≡ Err Refusal.OutOfMemory) }
+    // The refusal is a fault of the text, 1 to 4, or of its tree, 10 to 20.
+    ensures faults { IfErr result (λ why. (why ≡ Refusal.OutOfMemory) ⊎ IsQueryFault why) }
     // The leaves are tables of the schema.
     ensures leaves { IfOk result (λ q. AllByRecursion (IsTable schema.now) q.leaves) }
 {

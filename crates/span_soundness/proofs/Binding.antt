@@ -377,7 +377,7 @@ module _ (scope : Scope) where
     layer y = map-Expr Expr Arm Link Operand (Operand × Operand) (Operator × Operand) (typing scope params) arm_fold link_fold (map-Expr ToldTree ToldArm ToldLink Expr Arm Link tree_of arm_of link_of y)
 
     layer_sound : (y : Expr-F ToldTree ToldArm ToldLink) → Sound (at_operands scope params (layer y))
-    layer_sound (Expr-F.Integer n) = given_sound (integer n) (λ types. integer_right types n)
+    layer_sound (Expr-F.Integer n) = given_sound (Ok (integer n)) (λ types. integer_right types n)
     layer_sound (Expr-F.Str s) = given_sound (Ok (string s.text)) (λ types. string_right types s.text)
     layer_sound (Expr-F.Bytes s) = given_sound (Ok (bytes s.text)) (λ types. bytes_right types s.text)
     layer_sound (Expr-F.Truth b place) = given_sound (Ok (truth b)) (λ types. truth_right types b)

@@ -5,7 +5,7 @@ use Rattle.std.specs.List.{list_all}
 use Rattle.span_value.specs.declared.value.Kind.{Kind}
 use Rattle.span_value.specs.declared.value.Kind.TheVariants as kind
 use Rattle.span_value.specs.declared.value.Value.TheVariants as value
-use Rattle.span_value.specs.declared.refusal.Refusal.TheVariants.{TypeMismatch, BadToken}
+use Rattle.span_value.specs.declared.refusal.Refusal.TheVariants.{TypeMismatch}
 use Rattle.span_syntax.specs.declared.tree.Integer.{Integer}
 use Rattle.span_syntax.specs.declared.tree.ComparisonOperator.{ComparisonOperator}
 use Rattle.span_syntax.specs.declared.tree.Operator.{Operator as TreeOperator}
@@ -28,7 +28,7 @@ use Rattle.span_typing.specs.declared.function.CalledFunction.{CalledFunction}
 use Rattle.span_typing.specs.declared.function.CalledFunction.TheVariants as called
 use Rattle.span_typing.specs.Kinds.{takes, common_kind, common_kind_of_all, or_int, text_kind}
 use Rattle.span_value.specs.Results.{and_then}
-use Rattle.span_typing.specs.Operators.{of_kind, kinds_of, exprs_of, integer, unary_minus, logical_not, null_test, comparison_of, comparison_test, between, in_list, like_test_of, like_test, operator_of, link_kind, arm_of, otherwise_kind, otherwise_of, value_kind, case_kind, case_of, match_of, calculation_of, length_of, starts_with, coalesce_of, one_of, two_of, three_of, some_of, if_of, apply_function, operand_for, operand_of, aggregate_kind}
+use Rattle.span_typing.specs.Operators.{of_kind, kinds_of, exprs_of, number_of, integer, unary_minus, logical_not, null_test, comparison_of, comparison_test, between, in_list, like_test_of, like_test, operator_of, link_kind, arm_of, otherwise_kind, otherwise_of, value_kind, case_kind, case_of, match_of, calculation_of, length_of, starts_with, coalesce_of, one_of, two_of, three_of, some_of, if_of, apply_function, operand_for, operand_of, aggregate_kind}
 use Rattle.span_typing.specs.Operators.{has_condition as is_condition}
 use Rattle.span_typing.specs.Typing.{append_link, chain_of, all_true, some_true}
 use Rattle.span_soundness.specs.Types.{is_text, is_operand, has_type, all_are, are_conditions, is_link_of, has_condition, has_value, is_compared_with, is_else_of, is_of}
@@ -55,10 +55,9 @@ module _ (types : List Kind) where
 
   -- ---- operators
 
-  pub integer_right : (n : Integer) → Made (IsTyped types) (integer n)
+  pub integer_right : (n : Integer) → IsTyped types (integer n)
   unfolding integer
-  integer_right n = made_if (IsTyped types) (nat_lt n.value (2 ^ 63)) (of_kind (expr.Literal (value.Int (if n.is_negative then neg_ℤ (pos n.value) else pos n.value))) kind.Int) BadToken
-      (λ t. typed_right (expr.Literal (value.Int (if n.is_negative then neg_ℤ (pos n.value) else pos n.value))) kind.Int (literal_is types (value.Int (if n.is_negative then neg_ℤ (pos n.value) else pos n.value)) kind.Int))
+  integer_right n = typed_right (expr.Literal (value.Int (number_of n))) kind.Int (literal_is types (value.Int (number_of n)) kind.Int)
 
   pub negative_right : (x : Typed) → IsTyped types x → Made (IsTyped types) (unary_minus x)
   unfolding unary_minus

@@ -1,12 +1,12 @@
 -- The typed expression that an operator or a call makes of typed operands.
-use Rattle.std.specs.Prelude.{ℕ, pos, neg_ℤ, ◌^◌, ◌&&◌, nat_lt, Bool, List, [], ◌∷◌, map, chars, Option, Some, None, Result, Ok, Err, if◌then◌else◌}
+use Rattle.std.specs.Prelude.{ℕ, ℤ, pos, neg_ℤ, ◌^◌, ◌%◌, ◌&&◌, Bool, List, [], ◌∷◌, map, chars, Option, Some, None, Result, Ok, Err, if◌then◌else◌}
 use Rattle.std.specs.List.{list_all}
 use Rattle.std.specs.Option.{option_map}
 use Rattle.span_value.specs.declared.value.Value.TheVariants as value
 use Rattle.span_value.specs.declared.value.Kind.{Kind}
 use Rattle.span_value.specs.declared.value.Kind.TheVariants as kind
 use Rattle.span_value.specs.declared.refusal.Refusal.{Refusal}
-use Rattle.span_value.specs.declared.refusal.Refusal.TheVariants.{TypeMismatch, BadPattern, BadToken}
+use Rattle.span_value.specs.declared.refusal.Refusal.TheVariants.{TypeMismatch, BadPattern}
 use Rattle.span_syntax.specs.declared.tree.Integer.{Integer}
 use Rattle.span_syntax.specs.declared.tree.ComparisonOperator.{ComparisonOperator}
 use Rattle.span_syntax.specs.declared.tree.ComparisonOperator.TheVariants as tree
@@ -42,9 +42,12 @@ exprs_of xs = map (λ (x : Typed). x.expr) xs
 
 -- ---- literals
 
--- the lexer passes no other integer
-unfoldable pub integer : Integer → Result Typed Refusal
-integer n = if nat_lt n.value (2 ^ 63) then Ok (of_kind (expr.Literal (value.Int (if n.is_negative then neg_ℤ (pos n.value) else pos n.value))) kind.Int) else Err BadToken
+-- the number that an integer is in INT64; no integer of a text is 2^63 or more (span_lexer's law integers_are_int64)
+abbrev pub number_of : Integer → ℤ
+number_of n = let v : ℤ = pos (n.value % 2 ^ 63) in if n.is_negative then neg_ℤ v else v
+
+unfoldable pub integer : Integer → Typed
+integer n = of_kind (expr.Literal (value.Int (number_of n))) kind.Int
 
 -- ---- operators
 

@@ -224,7 +224,7 @@ link_at l = (l.operator, l.operand)
 
 -- One layer of a tree, where each operand is replaced by its typed form.
 abbrev pub at_operands : Scope → List Parameter → Expr-F Operand (Operand × Operand) (Operator × Operand) → Operand
-at_operands scope params (Expr-F.Integer n) = λ m. from_result (integer n)
+at_operands scope params (Expr-F.Integer n) = λ m. pure (integer n)
 at_operands scope params (Expr-F.Str s) = λ m. pure (string s.text)
 at_operands scope params (Expr-F.Bytes s) = λ m. pure (bytes s.text)
 at_operands scope params (Expr-F.Truth b place) = λ m. pure (truth b)

@@ -29,18 +29,20 @@ pub(crate) fn of_kind(expr: Expr, kind: Kind) -> Typed
     }
 }
 
-/// An integer literal. The error is `BadToken` for one outside INT64, which no token is.
-#[tactic(auto, unfolding(crate::specs::Operators::integer))]
-pub(crate) fn integer(literal: tree::Integer) -> TypingResult
-    ensures { Gives result (spec.integer literal) }
+/// The number of an integer literal. No text gives one of 2^63 or more.
+fn number_of(literal: tree::Integer) -> i64
+    ensures { result ≡ spec.number_of literal }
 {
-    match i64::try_from(literal.value) {
-        Ok(value) => {
-            let value = if literal.is_negative { -value } else { value };
-            Ok(of_kind(Expr::Literal(Value::Int(value)), Kind::Int))
-        }
-        Err(_) => Err(Refusal::BadToken),
-    }
+    let value = (literal.value % (1 << 63)) as i64;
+    if literal.is_negative { -value } else { value }
+}
+
+/// An integer literal.
+#[tactic(auto, unfolding(crate::specs::Operators::integer))]
+pub(crate) fn integer(literal: tree::Integer) -> Typed
+    ensures { result ≡ spec.integer literal }
+{
+    of_kind(Expr::Literal(Value::Int(number_of(literal))), Kind::Int)
 }
 
 #[tactic(auto, unfolding(crate::specs::Operators::unary_minus))]

@@ -50,7 +50,7 @@ impl Names<'_> {
         ensures { Leaves result found.new (spec.typing self.entry.scope.now self.entry.params.now tree.now mode found.old) }
     {
         match tree {
-            tree::Expr::Integer(literal) => integer(*literal),
+            tree::Expr::Integer(literal) => Ok(integer(*literal)),
             tree::Expr::Str(literal) => string(self.alloc, literal.text.as_str()),
             tree::Expr::Bytes(literal) => bytes(self.alloc, literal.text.as_str()),
             tree::Expr::Truth(value, _) => Ok(truth(*value)),

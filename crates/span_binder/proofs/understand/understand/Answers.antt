@@ -1,4 +1,5 @@
 use Rattle.span_binder.proofs.Understanding.{bound_answers, no_text_answers, bound_only, refused_only, ok_part, err_part, leaves_part}
+use Rattle.span_binder.proofs.QueryFaults.{text_fault, tree_part}
 use Rattle.span_binder.proofs.understand.understand.Goals as goal
 
 pub returns-in-Ok : goal.returns-in-Ok
@@ -11,6 +12,7 @@ returns-in-Ok c =
       understood = ok_part schema text params c.bind.result answers;
       refused = err_part schema text params c.bind.result answers;
       all = bound_only schema text params c.in-Ok.tree c.bind.result c.in-Ok.ensures.read_all c.in-Ok.ensures.refused_all c.bind.ensures.statement;
+      faults = tree_part c.bind.result c.bind.ensures.faults;
       leaves = leaves_part schema c.bind.result c.bind.ensures.leaves;
     }
 
@@ -23,5 +25,6 @@ returns-in-Err c =
       understood = tt;
       refused = no_text_answers schema text params c.in-Err.fault.refusal c.in-Err.ensures.refused;
       all = refused_only schema text params c.in-Err.fault.refusal c.in-Err.ensures.read_all c.in-Err.ensures.refused_all;
+      faults = text_fault text c.in-Err.fault.refusal c.in-Err.ensures.refused;
       leaves = tt;
     }
