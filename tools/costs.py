@@ -43,8 +43,8 @@ def read_process(number):
             numbers = file.read().rsplit(")", 1)[1].split()
     except OSError:
         return None
-    # user and system time, of the process and of its children that have ended
-    return crate, part_of(words, folder), sum(int(it) for it in numbers[11:15]) / TICKS
+    # user and system time of the process itself: the copies that it makes of itself are read on their own
+    return crate, part_of(words, folder), sum(int(it) for it in numbers[11:13]) / TICKS
 
 
 def watch(process):
