@@ -34,7 +34,7 @@ use Rattle.span_mutate.proofs.Runs.{run_on, run_faults}
 use Rattle.span_mutate.proofs.Keyed.{unless_none}
 
 -- a number of a range is found in it
-in_range : (a n t : ℕ) → a ≤ t → t < a + n → list_any (λ (k : ℕ). k == t) (range_with_len a n) ≡ true
+pub in_range : (a n t : ℕ) → a ≤ t → t < a + n → list_any (λ (k : ℕ). k == t) (range_with_len a n) ≡ true
 in_range a zero t h g = absurd (omega arith)
 in_range a (suc n) t h g = cases (a == t) refl (λ more. in_range (a + 1) n t more (omega arith))
   where

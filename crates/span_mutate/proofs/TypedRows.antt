@@ -30,13 +30,13 @@ over_fits : (k : Kind) (o : Option Value) (v : Value) → IfSome o (Fits k) → 
 over_fits k None v h g = g
 over_fits k (Some w) v h g = h
 
-over_none : (ks : List Kind) (ns : List (Option Value)) → AreNamed ks ns → AreCells ks (merge_cells ns [])
+pub over_none : (ks : List Kind) (ns : List (Option Value)) → AreNamed ks ns → AreCells ks (merge_cells ns [])
 over_none [] [] h = tt
 over_none [] (n ∷ ns) h = absurd h
 over_none (k ∷ ks) [] h = absurd h
 over_none (k ∷ ks) (n ∷ ns) h = (over_fits k n Null h.0 tt, over_none ks ns h.1)
 
-over_typed : (ks : List Kind) (ns : List (Option Value)) (vs : List Value) → AreNamed ks ns → AreCells ks vs → AreCells ks (merge_cells ns vs)
+pub over_typed : (ks : List Kind) (ns : List (Option Value)) (vs : List Value) → AreNamed ks ns → AreCells ks vs → AreCells ks (merge_cells ns vs)
 over_typed [] [] vs h g = tt
 over_typed [] (n ∷ ns) vs h g = absurd h
 over_typed (k ∷ ks) [] vs h g = absurd h
@@ -44,7 +44,7 @@ over_typed (k ∷ ks) (n ∷ ns) [] h g = absurd g
 over_typed (k ∷ ks) (n ∷ ns) (v ∷ vs) h g = (over_fits k n v h.0 g.0, over_typed ks ns vs h.1 g.1)
 
 -- what is found among typed rows is of the table, and typed
-abbrev IsTypedOf : List Table → ℕ → TableRow → Type 0
+abbrev pub IsTypedOf : List Table → ℕ → TableRow → Type 0
 IsTypedOf tables n r = (r.table ≡ n) × IsTyped tables r
 
 pub found_typed : (tables : List Table) (n : ℕ) (key : List Value) (db : List TableRow) → AreTyped tables db → IfSome (row_at n key db) (IsTypedOf tables n)
@@ -101,7 +101,7 @@ short_enough tables db m before kind e =
     below : (n : ℕ) → nat_lt longest_row n ≡ false → n ≤ longest_row
     below n f = grind (arith, nat_tests)
 
-step_typed : (tables : List Table) (db : List TableRow) (m : CheckedMutation) (next : List TableRow) → AreTyped tables db → IsTypedMutation tables m → apply_one tables db m ≡ Ok next → AreTyped tables next
+pub step_typed : (tables : List Table) (db : List TableRow) (m : CheckedMutation) (next : List TableRow) → AreTyped tables db → IsTypedMutation tables m → apply_one tables db m ≡ Ok next → AreTyped tables next
 step_typed tables db m next rows typed e =
     let parts = unless_none (first_cause (causes tables db m (row_at m.table m.key db))) (changed tables db m (row_at m.table m.key db)) next e in
     subst (AreTyped tables) parts.1 (pick (is_delete m.kind) refl parts.0)

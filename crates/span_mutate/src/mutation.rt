@@ -50,7 +50,7 @@ pub struct CheckedMutation {
 }
 
 /// Whether the mutation removes a row.
-pub(crate) fn is_delete(kind: MutationKind) -> bool
+pub fn is_delete(kind: MutationKind) -> bool
     ensures { result ≡ is_delete kind }
 {
     match kind {

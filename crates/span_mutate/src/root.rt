@@ -39,8 +39,8 @@ fn cascades(table: &Table) -> bool
     }
 }
 
-// Whether a row of a table stays where a row of this table, above it, is to be deleted.
-fn blocks_delete(schema: &Schema, table: usize, below: usize) -> bool
+/// Whether a row of a table stays where a row of this table, above it, is to be deleted.
+pub fn blocks_delete(schema: &Schema, table: usize, below: usize) -> bool
     requires { IsTable schema.now below }
     ensures { result ≡ blocks_delete schema.now table below }
 {
@@ -149,8 +149,9 @@ fn merge_cell(alloc: Global, named: &Option<Value>, old: Option<&Value>) -> Resu
     }
 }
 
-// The cells of a row once those that are named have changed.
-fn merge_cells(alloc: Global, named: &[Option<Value>], old: &[Value]) -> Result<Vec<Value>, Refusal>
+/// The cells of a row once those that are named have changed: what is not named is kept, or NULL where there is no row. `OutOfMemory`:
+/// memory ran out.
+pub fn merge_cells(alloc: Global, named: &[Option<Value>], old: &[Value]) -> Result<Vec<Value>, Refusal>
     ensures { MatchResult result (λ cells. cells.items ≡ merge_cells named.now old.now) (λ why. why ≡ Refusal.OutOfMemory) }
 {
     let mut cells = Vec::with_capacity(alloc, named.len())?;

@@ -75,7 +75,7 @@ run_database : (tables : List Table) → MeetsRules tables → (b : List TableRo
 run_database tables rules b ms is keyed (Ok x) h after e = subst (IsDatabase tables) (let f : x ≡ after = cc in f) h.0
 run_database tables rules b ms is keyed (Err why) h after e = absurd (cc)
 
-same_rest : (tables : List Table) (ms : List CheckedMutation) (a b : List TableRow) (r s : Result (List TableRow) Refusal) → IsSameOutcome tables ms a b r s → (y : List TableRow) → s ≡ Ok y → rows.untouched tables ms y ≡ rows.untouched tables ms b
+pub same_rest : (tables : List Table) (ms : List CheckedMutation) (a b : List TableRow) (r s : Result (List TableRow) Refusal) → IsSameOutcome tables ms a b r s → (y : List TableRow) → s ≡ Ok y → rows.untouched tables ms y ≡ rows.untouched tables ms b
 same_rest tables ms a b (Ok x) (Ok z) h y e = ap (rows.untouched tables ms) (let f : y ≡ z = cc in f) ∙ h.2
 same_rest tables ms a b (Ok x) (Err w) h y e = absurd h
 same_rest tables ms a b (Err v) (Ok z) h y e = absurd h
@@ -133,7 +133,7 @@ coded_any : (tables : List Table) (k : List ℕ) (xs : List TableRow) → list_a
 coded_any tables k [] = refl
 coded_any tables k (x ∷ xs) = ap (λ (b : Bool). is_coded tables k x || b) (coded_any tables k xs)
 
-differ : (a b : Option (List ℕ)) → not (is_same_row a b) ≡ true → b ≢ a
+pub differ : (a b : Option (List ℕ)) → not (is_same_row a b) ≡ true → b ≢ a
 differ None None e f = let g : false ≡ true = e in absurd (cc)
 differ None (Some b) e f = let g : Some b ≡ None = f in absurd (cc)
 differ (Some a) None e f = let g : None ≡ Some a = f in absurd (cc)
@@ -143,7 +143,7 @@ differ (Some a) (Some b) e f =
     let g : false ≡ true = ap not (sym yes) ∙ e in
     absurd (cc)
 
-alike : (a b : Option (List ℕ)) → not (is_same_row a b) ≡ false → a ≡ b
+pub alike : (a b : Option (List ℕ)) → not (is_same_row a b) ≡ false → a ≡ b
 alike None None e = refl
 alike None (Some b) e = absurd (let f : true ≡ false = e in cc)
 alike (Some a) None e = absurd (let f : true ≡ false = e in cc)

@@ -42,7 +42,7 @@ row_with n vs ws = record { table = n; key = vs; cells = ws }
 same_row : (q r : TableRow) → q.table ≡ r.table → q.key ≡ r.key → q.cells ≡ r.cells → q ≡ r
 same_row q r e f g = ap (λ (n : ℕ). row_with n q.key q.cells) e ∙ ap (λ (vs : List Value). row_with r.table vs q.cells) f ∙ ap (row_with r.table r.key) g
 
-keyed_equal : (tables : List Table) (q r : TableRow) → q.table ≡ r.table → q.key ≡ r.key → rows_cmp tables q r ≡ Equal
+pub keyed_equal : (tables : List Table) (q r : TableRow) → q.table ≡ r.table → q.key ≡ r.key → rows_cmp tables q r ≡ Equal
 keyed_equal tables q r e f =
     let P : ℕ → List Value → Type 0 = λ n vs. rows_cmp tables (record { table = n; key = vs; cells = q.cells }) r ≡ Equal in
     let first : P r.table r.key = tied_itself (rows_total tables) r in
@@ -55,7 +55,7 @@ apart tables rules q r tq tr less e =
     let f : Less ≡ Equal = sym less ∙ keyed_equal tables q r same.0 same.1 in
     absurd (cc)
 
-not_coded : (tables : List Table) (k : List ℕ) (r : TableRow) → (code_of tables r ≡ k → ⊥) → is_coded tables k r ≡ false
+pub not_coded : (tables : List Table) (k : List ℕ) (r : TableRow) → (code_of tables r ≡ k → ⊥) → is_coded tables k r ≡ false
 not_coded tables k r h = cases (is_coded tables k r) refl
   where
     cases : (b : Bool) → is_coded tables k r ≡ b → b ≡ false
@@ -168,7 +168,7 @@ same_database tables rules (x ∷ xs) (y ∷ ys) ia ib ta tb same =
 
 -- ---- the rows that pass a test
 
-find_kept : {X : Type 0} (test p : X → Bool) (xs : List X) → AllByRecursion (λ x. test x ≡ true → p x ≡ true) xs → find test (filter p xs) ≡ find test xs
+pub find_kept : {X : Type 0} (test p : X → Bool) (xs : List X) → AllByRecursion (λ x. test x ≡ true → p x ≡ true) xs → find test (filter p xs) ≡ find test xs
 find_kept test p [] h = refl
 find_kept {X} test p (x ∷ xs) h = cases (p x) (test x) (find_kept test p xs h.1) refl refl
   where
@@ -177,7 +177,7 @@ find_kept {X} test p (x ∷ xs) h = cases (p x) (test x) (find_kept test p xs h.
     cases false true again e f = absurd (let g : false ≡ true = sym e ∙ h.0 f in cc)
     cases false false again e f = ap (find test) (filter_no p x xs e) ∙ again ∙ sym (ap (λ (b : Bool). cond b (Some x) (find test xs)) f)
 
-find_lost : {X : Type 0} (test p : X → Bool) (xs : List X) → AllByRecursion (λ x. test x ≡ true → p x ≡ false) xs → find test (filter p xs) ≡ None
+pub find_lost : {X : Type 0} (test p : X → Bool) (xs : List X) → AllByRecursion (λ x. test x ≡ true → p x ≡ false) xs → find test (filter p xs) ≡ None
 find_lost test p [] h = refl
 find_lost {X} test p (x ∷ xs) h = cases (p x) (test x) (find_lost test p xs h.1) refl refl
   where

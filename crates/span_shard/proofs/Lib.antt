@@ -25,3 +25,9 @@ pub mod Horizons
 pub mod Filling
 pub mod Later
 pub mod Refused
+pub mod Under
+pub mod Overlays
+pub mod OverRows
+pub mod RunPuts
+pub mod RunDeletes
+pub mod RunAll

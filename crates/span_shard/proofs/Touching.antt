@@ -55,19 +55,19 @@ root_key tables rules n vs k = by_path (path_at tables (n - 1)) refl
           path = λ ms. ap (λ (m : ℕ). slice_index (path_of tables m ++ ms) 0) named ∙ ap (λ (ns : List ℕ). slice_index (ns ++ ms) 0) path ∙ number ∙ sym named;
         }
 
-same_truth : (a b : Bool) → (a ≡ true → b ≡ true) → (b ≡ true → a ≡ true) → a ≡ b
+pub same_truth : (a b : Bool) → (a ≡ true → b ≡ true) → (b ≡ true → a ≡ true) → a ≡ b
 same_truth true b f g = sym (f refl)
 same_truth false true f g = g refl
 same_truth false false f g = refl
 
 -- what is in front is what is taken
-front_taken : (us vs : List Value) → begins us vs ≡ true → us ≡ take (length us) vs
+pub front_taken : (us vs : List Value) → begins us vs ≡ true → us ≡ take (length us) vs
 front_taken us vs e =
     same_key us (take (length us) vs)
     (both_make _ _ (number_itself (length us) (length (take (length us) vs)) (sym (length-take-le (length us) vs (front_within us vs e)))) (front_of_taken us vs (length us) e (omega arith)))
 
 -- in bytes and in rows, one mutation
-touched_by : (tables : List Table) → MeetsRules tables → (m : CheckedMutation) → IsKey tables m.table m.key → (n : ℕ) (vs : List Value) → IsKey tables n vs
+pub touched_by : (tables : List Table) → MeetsRules tables → (m : CheckedMutation) → IsKey tables m.table m.key → (n : ℕ) (vs : List Value) → IsKey tables n vs
     → begins_with (key_code tables n vs) (root_code tables m) ≡ is_in_directory tables (root_row tables m.table m.key) n vs
 touched_by tables rules m mk n vs k = same_truth (begins_with (key_code tables n vs) (root_code tables m)) (is_in_directory tables (root_row tables m.table m.key) n vs) there back_again
   where

@@ -5,4 +5,5 @@ pub mod Writes
 pub mod Rows
 pub mod Shard
 pub mod Reading
+pub mod Overlay
 pub mod Tested

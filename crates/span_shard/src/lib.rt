@@ -6,9 +6,10 @@
 mod chain;
 mod change;
 mod node;
+mod overlay;
 mod place;
 pub mod read;
-mod root;
+mod run;
 pub mod shard;
 mod store;
 mod trim;

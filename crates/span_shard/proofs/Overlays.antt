@@ -1,0 +1,407 @@
+-- The keys below one, of those that mutations changed and of the others; the removal of rows.
+use Rattle.std.proofs.Common.{◌≡◌, ◌≢◌, ◌⊎◌, inl, inr, ℕ, Bool, true, false, not, ◌||◌, ◌&&◌, cond, List, [], ◌∷◌, ◌++◌, Option, Some, None, is_some, is_none, map, drop, length, refl, sym, ap, subst, ◌∙◌, append_assoc}
+use Rattle.std.specs.Prelude.{slice_get}
+use Rattle.std.specs.List.{filter, find, list_any, AllByRecursion}
+use Rattle.std.specs.List.Sorted.{IsStrictlySortedBy}
+use Rattle.std.specs.Option.{unwrap_or}
+use Rattle.std.specs.Ordering.{is_lt, is_le, ordering_reverse}
+use Rattle.std.specs.declared.cmp.Ordering.{Ordering}
+use Rattle.std.specs.declared.cmp.Ordering.TheVariants.{Less, Equal, Greater}
+use Rattle.std.specs.Map.{keys_of, lookup}
+use Rattle.std.proofs.lemmas.List.Kept.{IsStrictlySortedBy-filter}
+use Rattle.std.proofs.lemmas.List.{append-nil}
+use Rattle.std.proofs.lemmas.List.Folds.{list_any-append}
+use Rattle.std.specs.Cmp.{tied_itself}
+use Rattle.std.proofs.lemmas.Map.Keys.{sorted_head, sorted_tail}
+use Rattle.span_keycode.specs.Order.{byte_order}
+use Rattle.span_mutate.proofs.Filters.{filter_yes, filter_no}
+use Rattle.span_shard.specs.KeyVersions.{KeyVersions}
+use Rattle.span_shard.specs.Rows.{begins_with}
+use Rattle.span_shard.specs.Shard.{AreInOrder, is_key, versions_of, end_of_time, row_now}
+use Rattle.span_shard.specs.Reading.{versions_alone, row_of}
+use Rattle.span_shard.specs.Overlay.{Changes, changed_at, row_over, is_unchanged, is_same, AreUnder, AreChangedUnder, AddsChanged, without_if, AreRemoved}
+use Rattle.span_shard.proofs.Bytes.{bytes_total, same_bytes, bytes_same, begins_front, before_begins_not, between}
+use Rattle.span_shard.proofs.Finding.{own_rows}
+use Rattle.span_shard.proofs.Lists.{all_map, all_both, all_append, all_whole, all_filter_itself, found_all}
+use Rattle.span_shard.proofs.Databases.{find_kept}
+use Rattle.span_shard.specs.Versions.{row_at}
+use Rattle.span_shard.proofs.Unused.{filter-map}
+
+-- ---- equal keys
+
+pub turned : (k l : List ℕ) → is_same k l ≡ is_same l k
+turned k l = cases (is_same k l) (is_same l k) refl refl
+  where
+    cases : (a b : Bool) → is_same k l ≡ a → is_same l k ≡ b → is_same k l ≡ is_same l k
+    cases true b e f = e ∙ sym (bytes_same l k (sym (same_bytes k l e)))
+    cases false true e f = bytes_same k l (sym (same_bytes l k f)) ∙ sym f
+    cases false false e f = e ∙ sym f
+
+-- ---- rows that are removed
+
+-- of keys that are left, one is removed
+pub removed_step : (now next : Changes) (key : List ℕ) (ks : List (List ℕ)) → ((k : List ℕ) → changed_at next k ≡ cond (is_same key k) (Some None) (changed_at now k))
+    → (k : List ℕ) → without_if (list_any (is_same k) ks) (changed_at next k) ≡ without_if (list_any (is_same k) (key ∷ ks)) (changed_at now k)
+removed_step now next key ks set k = cases (is_same key k) (list_any (is_same k) ks) refl refl
+  where
+    cases : (a b : Bool) → is_same key k ≡ a → list_any (is_same k) ks ≡ b → without_if (list_any (is_same k) ks) (changed_at next k) ≡ without_if (list_any (is_same k) (key ∷ ks)) (changed_at now k)
+    cases true true e f =
+        ap (λ (b : Bool). without_if b (changed_at next k)) f
+        ∙ sym (ap (λ (b : Bool). without_if (b || list_any (is_same k) ks) (changed_at now k)) (turned k key ∙ e))
+    cases true false e f =
+        ap (λ (b : Bool). without_if b (changed_at next k)) f
+        ∙ set k ∙ ap (λ (b : Bool). cond b (Some None) (changed_at now k)) e
+        ∙ sym (ap (λ (b : Bool). without_if (b || list_any (is_same k) ks) (changed_at now k)) (turned k key ∙ e))
+    cases false b e f =
+        ap (without_if (list_any (is_same k) ks)) (set k ∙ ap (λ (c : Bool). cond c (Some None) (changed_at now k)) e)
+        ∙ sym (ap (λ (c : Bool). without_if (c || list_any (is_same k) ks) (changed_at now k)) (turned k key ∙ e))
+
+-- ---- keys that were changed, from one on
+
+-- the keys so far; each other one is left
+pub record IsPushing (es : Changes) (front : List ℕ) (old : List (List ℕ)) (rest : Changes) (new : List (List ℕ)) : Type 0 where
+  pub added : List (List ℕ)
+  pub whole : new ≡ old ++ added
+  pub sound : AllByRecursion (λ (k : List ℕ). (begins_with k front ≡ true) × ((row : List ℕ) × (changed_at es k ≡ Some (Some row)))) added
+  pub left : (k row : List ℕ) → begins_with k front ≡ true → changed_at es k ≡ Some (Some row) → (list_any (is_same k) added ≡ true) ⊎ (changed_at rest k ≡ Some (Some row))
+  pub own : (k : List ℕ) (o : Option (List ℕ)) → changed_at rest k ≡ Some o → changed_at es k ≡ Some o
+  pub sorted : IsStrictlySortedBy byte_order (keys_of rest)
+  pub from : AllByRecursion (λ (e : List ℕ × Option (List ℕ)). is_lt (byte_order e.0 front) ≡ false) rest
+
+lookup_kept : (p : List ℕ × Option (List ℕ) → Bool) (k : List ℕ) (es : Changes) → ((e : List ℕ × Option (List ℕ)) → is_same k e.0 ≡ true → p e ≡ true) → changed_at (filter p es) k ≡ changed_at es k
+lookup_kept p k [] h = refl
+lookup_kept p k (e ∷ es) h = cases (p e) (is_same k e.0) refl refl (lookup_kept p k es h)
+  where
+    cases : (a b : Bool) → p e ≡ a → is_same k e.0 ≡ b → changed_at (filter p es) k ≡ changed_at es k → changed_at (filter p (e ∷ es)) k ≡ changed_at (e ∷ es) k
+    cases true b f g again = ap (λ (l : Changes). changed_at l k) (filter_yes p e es f) ∙ ap (λ (o : Option (Option (List ℕ))). cond (is_same k e.0) (Some e.1) o) again
+    cases false true f g again = absurd (let i : false ≡ true = sym f ∙ h e g in cc)
+    cases false false f g again = ap (λ (l : Changes). changed_at l k) (filter_no p e es f) ∙ again ∙ sym (ap (λ (b : Bool). cond b (Some e.1) (changed_at es k)) g)
+
+lookup_within : (p : List ℕ × Option (List ℕ) → Bool) (k : List ℕ) (es : Changes) → ((a b : List ℕ × Option (List ℕ)) → is_same k a.0 ≡ true → is_same k b.0 ≡ true → p a ≡ p b) → (o : Option (List ℕ)) → changed_at (filter p es) k ≡ Some o → changed_at es k ≡ Some o
+lookup_within p k [] h o e = e
+lookup_within p k (x ∷ es) h o e = cases (p x) (is_same k x.0) refl refl (lookup_within p k es h o)
+  where
+    nothing : p x ≡ false → is_same k x.0 ≡ true → (ys : Changes) → changed_at (filter p ys) k ≡ None
+    nothing f g [] = refl
+    nothing f g (y ∷ ys) = one (p y) (is_same k y.0) refl refl (nothing f g ys)
+      where
+        one : (a b : Bool) → p y ≡ a → is_same k y.0 ≡ b → changed_at (filter p ys) k ≡ None → changed_at (filter p (y ∷ ys)) k ≡ None
+        one false b i j again = ap (λ (l : Changes). changed_at l k) (filter_no p y ys i) ∙ again
+        one true true i j again = absurd (let l : true ≡ false = sym i ∙ h y x j g ∙ f in cc)
+        one true false i j again = ap (λ (l : Changes). changed_at l k) (filter_yes p y ys i) ∙ ap (λ (b : Bool). cond b (Some y.1) (changed_at (filter p ys) k)) j ∙ again
+
+    cases : (a b : Bool) → p x ≡ a → is_same k x.0 ≡ b → (changed_at (filter p es) k ≡ Some o → changed_at es k ≡ Some o) → changed_at (x ∷ es) k ≡ Some o
+    cases true true f g again =
+        ap (λ (b : Bool). cond b (Some x.1) (changed_at es k)) g
+        ∙ sym (ap (λ (l : Changes). changed_at l k) (filter_yes p x es f) ∙ ap (λ (b : Bool). cond b (Some x.1) (changed_at (filter p es) k)) g)
+        ∙ e
+    cases true false f g again =
+        ap (λ (b : Bool). cond b (Some x.1) (changed_at es k)) g
+        ∙ again (sym (ap (λ (l : Changes). changed_at l k) (filter_yes p x es f) ∙ ap (λ (b : Bool). cond b (Some x.1) (changed_at (filter p es) k)) g) ∙ e)
+    cases false true f g again = absurd (let i : None ≡ Some o = sym (nothing f g es) ∙ sym (ap (λ (l : Changes). changed_at l k) (filter_no p x es f)) ∙ e in cc)
+    cases false false f g again =
+        ap (λ (b : Bool). cond b (Some x.1) (changed_at es k)) g
+        ∙ again (sym (ap (λ (l : Changes). changed_at l k) (filter_no p x es f)) ∙ e)
+
+-- from a key on
+abbrev pub is_from : List ℕ → List ℕ × Option (List ℕ) → Bool
+is_from front e = is_le (byte_order front e.0) && true
+
+le_not_lt : (o : Ordering) → (is_le o && true) ≡ not (is_lt (ordering_reverse o))
+le_not_lt Less = refl
+le_not_lt Equal = refl
+le_not_lt Greater = refl
+
+from_is : (front : List ℕ) (e : List ℕ × Option (List ℕ)) → is_from front e ≡ not (is_lt (byte_order e.0 front))
+from_is front e = le_not_lt (byte_order front e.0) ∙ ap (λ (o : Ordering). not (is_lt o)) (sym (bytes_total.antisymm e.0 front))
+
+not_true : (b : Bool) → not b ≡ true → b ≡ false
+not_true true e = absurd (let f : false ≡ true = e in cc)
+not_true false e = refl
+
+-- a key that begins with the front is from it on
+begun_from : (front k : List ℕ) → begins_with k front ≡ true → (e : List ℕ × Option (List ℕ)) → is_same k e.0 ≡ true → is_from front e ≡ true
+begun_from front k b e f = from_is front e ∙ ap not (cases (is_lt (byte_order e.0 front)) refl)
+  where
+    cases : (c : Bool) → is_lt (byte_order e.0 front) ≡ c → c ≡ false
+    cases false g = refl
+    cases true g = absurd (let h : true ≡ false = sym b ∙ ap (λ (l : List ℕ). begins_with l front) (same_bytes k e.0 f) ∙ before_begins_not e.0 front g in cc)
+
+keys_filter : (q : List ℕ → Bool) (es : Changes) → keys_of (filter (λ e. q e.0) es) ≡ filter q (keys_of es)
+keys_filter q es = sym (filter-map q (λ (e : List ℕ × Option (List ℕ)). e.0) es)
+
+pub pushing_first : (es : Changes) (front : List ℕ) (old : List (List ℕ)) (rest : Changes) → IsStrictlySortedBy byte_order (keys_of es) → rest ≡ filter (is_from front) es → IsPushing es front old rest old
+pushing_first es front old rest sorted is = subst (λ (l : Changes). IsPushing es front old l old) (sym is) (record {
+  added = [];
+  whole = sym (append-nil old);
+  sound = tt;
+  left = λ k row b e. inr (lookup_kept (is_from front) k es (λ x f. begun_from front k b x f) ∙ e);
+  own = λ k o e. lookup_within (is_from front) k es (λ a b f g. ap (λ (l : List ℕ). is_le (byte_order front l) && true) (sym (same_bytes k a.0 f) ∙ same_bytes k b.0 g)) o e;
+  sorted = subst (IsStrictlySortedBy byte_order) (sym (keys_filter (λ (l : List ℕ). is_le (byte_order front l) && true) es)) (IsStrictlySortedBy-filter byte_order (λ (l : List ℕ). is_le (byte_order front l) && true) (keys_of es) sorted);
+  from = all_map (λ (e : List ℕ × Option (List ℕ)). is_from front e ≡ true) (λ (e : List ℕ × Option (List ℕ)). is_lt (byte_order e.0 front) ≡ false) (λ e f. not_true (is_lt (byte_order e.0 front)) (sym (from_is front e) ∙ f)) (filter (is_from front) es) (all_filter_itself (is_from front) es);
+})
+
+one_value : (k : List ℕ) (a b : Option (List ℕ)) (x y : Option (Option (List ℕ))) → x ≡ y → x ≡ Some a → y ≡ Some b → a ≡ b
+one_value k a b x y e f g = let h : Some a ≡ Some b = sym f ∙ e ∙ g in cc
+
+here_at : (key : List ℕ) (o : Option (List ℕ)) (rest : Changes) → changed_at ((key, o) ∷ rest) key ≡ Some o
+here_at key o rest = ap (λ (b : Bool). cond b (Some o) (changed_at rest key)) (bytes_same key key refl)
+
+-- what is left has other keys than the first
+tail_own : (key : List ℕ) (o : Option (List ℕ)) (rest : Changes) → IsStrictlySortedBy byte_order (key ∷ keys_of rest) → (k : List ℕ) (p : Option (List ℕ)) → changed_at rest k ≡ Some p → changed_at ((key, o) ∷ rest) k ≡ Some p
+tail_own key o rest sorted k p e = cases (is_same k key) refl
+  where
+    absent : (ys : Changes) → AllByRecursion (λ (y : List ℕ). byte_order key y ≡ Less) (keys_of ys) → k ≡ key → changed_at ys k ≡ None
+    absent [] h same = refl
+    absent (y ∷ ys) h same = one (is_same k y.0) refl (absent ys h.1 same)
+      where
+        one : (b : Bool) → is_same k y.0 ≡ b → changed_at ys k ≡ None → changed_at (y ∷ ys) k ≡ None
+        one true f again = absurd (let i : Less ≡ Equal = sym h.0 ∙ ap (byte_order key) (sym (same_bytes k y.0 f) ∙ same) ∙ tied_itself bytes_total key in cc)
+        one false f again = ap (λ (b : Bool). cond b (Some y.1) (changed_at ys k)) f ∙ again
+
+    cases : (b : Bool) → is_same k key ≡ b → changed_at ((key, o) ∷ rest) k ≡ Some p
+    cases true f = absurd (let i : None ≡ Some p = sym (absent rest (sorted_head byte_order key (keys_of rest) sorted) (same_bytes k key f)) ∙ e in cc)
+    cases false f = ap (λ (b : Bool). cond b (Some o) (changed_at rest k)) f ∙ e
+
+-- a key with a row is added
+pub pushing_row : (es : Changes) (front : List ℕ) (old new next : List (List ℕ)) (key row : List ℕ) (before rest : Changes) → before ≡ (key, Some row) ∷ rest → next ≡ new ++ key ∷ [] → begins_with key front ≡ true → IsPushing es front old before new → IsPushing es front old rest next
+pushing_row es front old new next key row before rest is more begun h = moved (subst (λ (l : Changes). IsPushing es front old l new) is h)
+  where
+    moved : IsPushing es front old ((key, Some row) ∷ rest) new → IsPushing es front old rest next
+    moved g = record {
+      added = g.added ++ key ∷ [];
+      whole = more ∙ ap (λ (l : List (List ℕ)). l ++ key ∷ []) g.whole ∙ append_assoc old g.added (key ∷ []);
+      sound = all_append _ g.added (key ∷ []) g.sound ((begun, (row, g.own key (Some row) (here_at key (Some row) rest))), tt);
+      left = λ k r b e. elim (g.left k r b e) [
+        | inl f ↦ inl (list_any-append (is_same k) g.added (key ∷ []) ∙ or_first (list_any (is_same k) g.added) (list_any (is_same k) (key ∷ [])) f)
+        | inr f ↦ by_key k r f (is_same k key) refl
+      ];
+      own = λ k o e. g.own k o (tail_own key (Some row) rest g.sorted k o e);
+      sorted = sorted_tail byte_order key (keys_of rest) g.sorted;
+      from = g.from.1;
+    }
+      where
+        or_first : (a b : Bool) → a ≡ true → (a || b) ≡ true
+        or_first true b e = refl
+        or_first false b e = absurd (let f : false ≡ true = e in cc)
+
+        or_second : (a b : Bool) → b ≡ true → (a || b) ≡ true
+        or_second true b e = refl
+        or_second false b e = e
+
+        by_key : (k r : List ℕ) → changed_at ((key, Some row) ∷ rest) k ≡ Some (Some r) → (b : Bool) → is_same k key ≡ b → (list_any (is_same k) (g.added ++ key ∷ []) ≡ true) ⊎ (changed_at rest k ≡ Some (Some r))
+        by_key k r f true e = inl (list_any-append (is_same k) g.added (key ∷ []) ∙ or_second (list_any (is_same k) g.added) (list_any (is_same k) (key ∷ [])) (or_first (is_same k key) false e))
+        by_key k r f false e = inr (sym (ap (λ (b : Bool). cond b (Some (Some row)) (changed_at rest k)) e) ∙ f)
+
+-- a key without a row is passed
+pub pushing_none : (es : Changes) (front : List ℕ) (old new : List (List ℕ)) (key : List ℕ) (before rest : Changes) → before ≡ (key, None) ∷ rest → IsPushing es front old before new → IsPushing es front old rest new
+pushing_none es front old new key before rest is h = moved (subst (λ (l : Changes). IsPushing es front old l new) is h)
+  where
+    moved : IsPushing es front old ((key, None) ∷ rest) new → IsPushing es front old rest new
+    moved g = record {
+      added = g.added;
+      whole = g.whole;
+      sound = g.sound;
+      left = λ k r b e. elim (g.left k r b e) [
+        | inl f ↦ inl f
+        | inr f ↦ by_key k r f (is_same k key) refl
+      ];
+      own = λ k o e. g.own k o (tail_own key None rest g.sorted k o e);
+      sorted = sorted_tail byte_order key (keys_of rest) g.sorted;
+      from = g.from.1;
+    }
+      where
+        by_key : (k r : List ℕ) → changed_at ((key, None) ∷ rest) k ≡ Some (Some r) → (b : Bool) → is_same k key ≡ b → (list_any (is_same k) g.added ≡ true) ⊎ (changed_at rest k ≡ Some (Some r))
+        by_key k r f true e = absurd (let i : Some None ≡ Some (Some r) = sym (ap (λ (b : Bool). cond b (Some None) (changed_at rest k)) e) ∙ f in cc)
+        by_key k r f false e = inr (sym (ap (λ (b : Bool). cond b (Some None) (changed_at rest k)) e) ∙ f)
+
+-- the next key is added where it has a row
+pub pushing_some : (es : Changes) (front : List ℕ) (old new next : List (List ℕ)) (key : List ℕ) (o : Option (List ℕ)) (before rest : Changes) → before ≡ (key, o) ∷ rest → next ≡ new ++ key ∷ [] → begins_with key front ≡ true → is_some o ≡ true
+    → IsPushing es front old before new → IsPushing es front old rest next
+pushing_some es front old new next key None before rest is more begun some h = absurd (let f : false ≡ true = some in cc)
+pushing_some es front old new next key (Some row) before rest is more begun some h = pushing_row es front old new next key row before rest is more begun h
+
+-- and passed where it has none
+pub pushing_past : (es : Changes) (front : List ℕ) (old new : List (List ℕ)) (key : List ℕ) (o : Option (List ℕ)) (before rest : Changes) → before ≡ (key, o) ∷ rest → is_some o ≡ false → IsPushing es front old before new → IsPushing es front old rest new
+pushing_past es front old new key None before rest is none h = pushing_none es front old new key before rest is h
+pushing_past es front old new key (Some row) before rest is none h = absurd (let f : true ≡ false = none in cc)
+
+-- where nothing is left, all are added
+pub pushed_all : (es : Changes) (front : List ℕ) (old new : List (List ℕ)) (rest : Changes) → rest ≡ [] → IsPushing es front old rest new → AddsChanged es front old new
+pushed_all es front old new rest none g = record {
+  added = g.added;
+  whole = g.whole;
+  are = record {
+    sound = g.sound;
+    complete = λ k row b e. elim (g.left k row b e) [
+      | inl f ↦ f
+      | inr f ↦ absurd (let i : None ≡ Some (Some row) = sym (ap (λ (l : Changes). changed_at l k) none) ∙ f in cc)
+    ];
+  };
+}
+
+-- where the next key doesn't begin with the front, no later one does
+pub pushed_until : (es : Changes) (front : List ℕ) (old new : List (List ℕ)) (key : List ℕ) (o : Option (List ℕ)) (before rest : Changes) → before ≡ (key, o) ∷ rest → begins_with key front ≡ false → IsPushing es front old before new → AddsChanged es front old new
+pushed_until es front old new key o before rest is past h = done (subst (λ (l : Changes). IsPushing es front old l new) is h)
+  where
+    done : IsPushing es front old ((key, o) ∷ rest) new → AddsChanged es front old new
+    done g = record {
+      added = g.added;
+      whole = g.whole;
+      are = record {
+        sound = g.sound;
+        complete = λ k row b e. elim (g.left k row b e) [
+          | inl f ↦ f
+          | inr f ↦ absurd (never k row b f (is_same k key) refl)
+        ];
+      };
+    }
+      where
+        -- a key that is found is after the first
+        later : (ys : Changes) → AllByRecursion (λ (y : List ℕ). byte_order key y ≡ Less) (keys_of ys) → (k row : List ℕ) → changed_at ys k ≡ Some (Some row) → byte_order key k ≡ Less
+        later [] a k row e = absurd (let i : None ≡ Some (Some row) = e in cc)
+        later (y ∷ ys) a k row e = one (is_same k y.0) refl (later ys a.1 k row)
+          where
+            one : (b : Bool) → is_same k y.0 ≡ b → (changed_at ys k ≡ Some (Some row) → byte_order key k ≡ Less) → byte_order key k ≡ Less
+            one true f again = ap (byte_order key) (same_bytes k y.0 f) ∙ a.0
+            one false f again = again (sym (ap (λ (b : Bool). cond b (Some y.1) (changed_at ys k)) f) ∙ e)
+
+        never : (k row : List ℕ) → begins_with k front ≡ true → changed_at ((key, o) ∷ rest) k ≡ Some (Some row) → (b : Bool) → is_same k key ≡ b → ⊥
+        never k row b e true f = let i : true ≡ false = sym b ∙ ap (λ (l : List ℕ). begins_with l front) (same_bytes k key f) ∙ past in cc
+        never k row b e false f =
+            let less = later rest (sorted_head byte_order key (keys_of rest) g.sorted) k row (sym (ap (λ (c : Bool). cond c (Some o) (changed_at rest k)) f) ∙ e) in
+            let within = between front key (drop (length front) k) g.from.0 (λ i. let j : Less ≡ Greater = sym less ∙ ap (byte_order key) (sym (begins_front k front b)) ∙ i in cc) in
+            let i : true ≡ false = sym within ∙ past in cc
+
+-- ---- the keys below one
+
+and_both : (a b : Bool) → (a && b) ≡ true → (a ≡ true) × (b ≡ true)
+and_both true b e = (refl, e)
+and_both false b e = absurd (let f : false ≡ true = e in cc)
+
+none_is : {X : Type 0} (o : Option X) → is_none o ≡ true → o ≡ None
+none_is None e = refl
+none_is (Some x) e = absurd (let f : false ≡ true = e in cc)
+
+-- the keys of the store below one that no mutation changed
+abbrev pub unchanged_under : Changes → List ℕ → List KeyVersions → List (List ℕ)
+unchanged_under es front cs = map (λ c. c.key) (filter (is_unchanged es) (map versions_alone (filter (λ c. begins_with c.key front) cs)))
+
+all_mapped : {X Y : Type 0} (P : X → Type 0) (Q : Y → Type 0) (f : X → Y) → ((x : X) → P x → Q (f x)) → (xs : List X) → AllByRecursion P xs → AllByRecursion Q (map f xs)
+all_mapped P Q f g [] h = tt
+all_mapped P Q f g (x ∷ xs) h = (g x h.0, all_mapped P Q f g xs h.1)
+
+all_kept : {X : Type 0} (P : X → Type 0) (p : X → Bool) (xs : List X) → AllByRecursion P xs → AllByRecursion P (filter p xs)
+all_kept P p [] h = tt
+all_kept {X} P p (x ∷ xs) h = cases (p x) refl (all_kept P p xs h.1)
+  where
+    cases : (b : Bool) → p x ≡ b → AllByRecursion P (filter p xs) → AllByRecursion P (filter p (x ∷ xs))
+    cases true e again = subst (AllByRecursion P) (sym (filter_yes p x xs e)) (h.0, again)
+    cases false e again = subst (AllByRecursion P) (sym (filter_no p x xs e)) again
+
+-- what a key of the store below has
+abbrev IsStoredUnder : List KeyVersions → List ℕ → KeyVersions → Type 0
+IsStoredUnder cs front c = (begins_with c.key front ≡ true) × (row_now cs c.key ≡ row_of c)
+
+stored_under : (cs : List KeyVersions) → AreInOrder cs → (front : List ℕ) → AllByRecursion (IsStoredUnder cs front) (map versions_alone (filter (λ c. begins_with c.key front) cs))
+stored_under cs sorted front =
+    all_mapped (IsStoredUnder cs front) (IsStoredUnder cs front) versions_alone (λ c h. h) (filter (λ (c : KeyVersions). begins_with c.key front) cs)
+    (all_both (λ (c : KeyVersions). begins_with c.key front ≡ true) (λ (c : KeyVersions). row_now cs c.key ≡ row_of c) (filter (λ (c : KeyVersions). begins_with c.key front) cs)
+    (all_filter_itself (λ (c : KeyVersions). begins_with c.key front) cs) (all_kept (λ (c : KeyVersions). row_now cs c.key ≡ row_of c) (λ (c : KeyVersions). begins_with c.key front) cs (own_rows cs sorted)))
+
+unchanged_sound : (cs : List KeyVersions) → AreInOrder cs → (es : Changes) (front : List ℕ) → AllByRecursion (λ (k : List ℕ). (begins_with k front ≡ true) × (is_some (row_over cs es k) ≡ true)) (unchanged_under es front cs)
+unchanged_sound cs sorted es front =
+    all_mapped (λ (c : KeyVersions). (is_unchanged es c ≡ true) × IsStoredUnder cs front c) (λ (k : List ℕ). (begins_with k front ≡ true) × (is_some (row_over cs es k) ≡ true)) (λ c. c.key) good found
+    (all_both (λ (c : KeyVersions). is_unchanged es c ≡ true) (IsStoredUnder cs front) found (all_filter_itself (is_unchanged es) whole) (all_kept (IsStoredUnder cs front) (is_unchanged es) whole (stored_under cs sorted front)))
+  where
+    whole : List KeyVersions
+    whole = map versions_alone (filter (λ (c : KeyVersions). begins_with c.key front) cs)
+
+    found : List KeyVersions
+    found = filter (is_unchanged es) whole
+
+    good : (c : KeyVersions) → (is_unchanged es c ≡ true) × IsStoredUnder cs front c → (begins_with c.key front ≡ true) × (is_some (row_over cs es c.key) ≡ true)
+    good c h =
+        let both = and_both (is_none (changed_at es c.key)) (is_some (row_of c)) h.0 in
+        (h.1.0, ap (λ (o : Option (Option (List ℕ))). is_some (unwrap_or o (row_now cs c.key))) (none_is (changed_at es c.key) both.0) ∙ ap (λ (o : Option (List ℕ)). is_some o) h.1.1 ∙ both.1)
+
+-- a key of the store that passes is among those that are left
+kept_any : (p : KeyVersions → Bool) (k : List ℕ) (xs : List KeyVersions) → (x : KeyVersions) → find (is_key k) xs ≡ Some x → p x ≡ true → list_any (is_same k) (map (λ c. c.key) (filter p xs)) ≡ true
+kept_any p k [] x e f = absurd (let g : None ≡ Some x = e in cc)
+kept_any p k (y ∷ ys) x e f = cases (is_key k y) (p y) refl refl e (λ i. kept_any p k ys x i f)
+  where
+    or_first : (a b : Bool) → a ≡ true → (a || b) ≡ true
+    or_first true b g = refl
+    or_first false b g = absurd (let h : false ≡ true = g in cc)
+
+    or_second : (a b : Bool) → b ≡ true → (a || b) ≡ true
+    or_second true b g = refl
+    or_second false b g = g
+
+    here : p y ≡ true → is_key k y ≡ true → list_any (is_same k) (map (λ c. c.key) (filter p (y ∷ ys))) ≡ true
+    here g h = ap (λ (l : List KeyVersions). list_any (is_same k) (map (λ c. c.key) l)) (filter_yes p y ys g) ∙ or_first (is_same k y.key) (list_any (is_same k) (map (λ c. c.key) (filter p ys))) h
+
+    cases : (a b : Bool) → is_key k y ≡ a → p y ≡ b → cond (is_key k y) (Some y) (find (is_key k) ys) ≡ Some x → (find (is_key k) ys ≡ Some x → list_any (is_same k) (map (λ c. c.key) (filter p ys)) ≡ true)
+        → list_any (is_same k) (map (λ c. c.key) (filter p (y ∷ ys))) ≡ true
+    cases true b h g i more =
+        let same : y ≡ x = (let j : Some y ≡ Some x = sym (ap (λ (c : Bool). cond c (Some y) (find (is_key k) ys)) h) ∙ i in cc) in
+        here (ap p same ∙ f) h
+    cases false true h g i more =
+        let again = more (sym (ap (λ (c : Bool). cond c (Some y) (find (is_key k) ys)) h) ∙ i) in
+        ap (λ (l : List KeyVersions). list_any (is_same k) (map (λ c. c.key) l)) (filter_yes p y ys g) ∙ or_second (is_same k y.key) (list_any (is_same k) (map (λ c. c.key) (filter p ys))) again
+    cases false false h g i more =
+        ap (λ (l : List KeyVersions). list_any (is_same k) (map (λ c. c.key) l)) (filter_no p y ys g) ∙ more (sym (ap (λ (c : Bool). cond c (Some y) (find (is_key k) ys)) h) ∙ i)
+
+find_mapped : (k : List ℕ) (xs : List KeyVersions) (c : KeyVersions) → find (is_key k) xs ≡ Some c → find (is_key k) (map versions_alone xs) ≡ Some (versions_alone c)
+find_mapped k [] c e = absurd (let g : None ≡ Some c = e in cc)
+find_mapped k (x ∷ xs) c e = cases (is_key k x) refl (find_mapped k xs c)
+  where
+    cases : (b : Bool) → is_key k x ≡ b → (find (is_key k) xs ≡ Some c → find (is_key k) (map versions_alone xs) ≡ Some (versions_alone c)) → find (is_key k) (map versions_alone (x ∷ xs)) ≡ Some (versions_alone c)
+    cases true f again =
+        let same : x ≡ c = (let j : Some x ≡ Some c = sym (ap (λ (b : Bool). cond b (Some x) (find (is_key k) xs)) f) ∙ e in cc) in
+        ap (λ (b : Bool). cond b (Some (versions_alone x)) (find (is_key k) (map versions_alone xs))) f ∙ ap (λ (y : KeyVersions). Some (versions_alone y)) same
+    cases false f again =
+        ap (λ (b : Bool). cond b (Some (versions_alone x)) (find (is_key k) (map versions_alone xs))) f
+        ∙ again (sym (ap (λ (b : Bool). cond b (Some x) (find (is_key k) xs)) f) ∙ e)
+
+unchanged_complete : (cs : List KeyVersions) (es : Changes) (front k : List ℕ) → begins_with k front ≡ true → changed_at es k ≡ None → is_some (row_now cs k) ≡ true → list_any (is_same k) (unchanged_under es front cs) ≡ true
+unchanged_complete cs es front k b none some = of_found (find (is_key k) cs) refl
+  where
+    of_found : (o : Option KeyVersions) → find (is_key k) cs ≡ o → list_any (is_same k) (unchanged_under es front cs) ≡ true
+    of_found None e = absurd (let f : false ≡ true = sym (ap (λ (o : Option KeyVersions). is_some (row_at (versions_of o) end_of_time)) e) ∙ some in cc)
+    of_found (Some c) e =
+        let key : k ≡ c.key = same_bytes k c.key (found_all (λ (d : KeyVersions). Unit {0}) (is_key k) cs c (all_whole (λ (d : KeyVersions). Unit {0}) (λ d. tt) cs) e).1 in
+        let within : find (is_key k) (filter (λ (d : KeyVersions). begins_with d.key front) cs) ≡ Some c =
+        find_kept (is_key k) (λ (d : KeyVersions). begins_with d.key front) cs
+        (all_whole (λ (d : KeyVersions). is_key k d ≡ true → begins_with d.key front ≡ true) (λ d f. ap (λ (l : List ℕ). begins_with l front) (sym (same_bytes k d.key f)) ∙ b) cs) ∙ e in
+        let now : is_some (row_of c) ≡ true = sym (ap (λ (o : Option KeyVersions). is_some (row_at (versions_of o) end_of_time)) e) ∙ some in
+        kept_any (is_unchanged es) k (map versions_alone (filter (λ (d : KeyVersions). begins_with d.key front) cs)) (versions_alone c)
+        (find_mapped k (filter (λ (d : KeyVersions). begins_with d.key front) cs) c within)
+        (both (is_none (changed_at es c.key)) (is_some (row_of c)) (ap (λ (l : List ℕ). is_none (changed_at es l)) (sym key) ∙ ap (λ (o : Option (Option (List ℕ))). is_none o) none) now)
+      where
+        both : (x y : Bool) → x ≡ true → y ≡ true → (x && y) ≡ true
+        both true y f g = g
+        both false y f g = absurd (let h : false ≡ true = f in cc)
+
+pub all_under : (cs : List KeyVersions) → AreInOrder cs → (es : Changes) (front : List ℕ) (ks : List (List ℕ)) → AddsChanged es front (unchanged_under es front cs) ks → AreUnder cs es front ks
+all_under cs sorted es front ks h = subst (AreUnder cs es front) (sym h.whole) (record {
+  sound = all_append (λ (k : List ℕ). (begins_with k front ≡ true) × (is_some (row_over cs es k) ≡ true)) (unchanged_under es front cs) h.added (unchanged_sound cs sorted es front)
+      (all_map (λ (k : List ℕ). (begins_with k front ≡ true) × ((row : List ℕ) × (changed_at es k ≡ Some (Some row)))) (λ (k : List ℕ). (begins_with k front ≡ true) × (is_some (row_over cs es k) ≡ true))
+      (λ k g. (g.0, ap (λ (o : Option (Option (List ℕ))). is_some (unwrap_or o (row_now cs k))) g.1.1)) h.added h.are.sound);
+  complete = λ k b some. list_any-append (is_same k) (unchanged_under es front cs) h.added ∙ of_change k b some (changed_at es k) refl;
+})
+  where
+    or_first : (a b : Bool) → a ≡ true → (a || b) ≡ true
+    or_first true b g = refl
+    or_first false b g = absurd (let i : false ≡ true = g in cc)
+
+    or_second : (a b : Bool) → b ≡ true → (a || b) ≡ true
+    or_second true b g = refl
+    or_second false b g = g
+
+    of_change : (k : List ℕ) → begins_with k front ≡ true → is_some (row_over cs es k) ≡ true → (o : Option (Option (List ℕ))) → changed_at es k ≡ o → (list_any (is_same k) (unchanged_under es front cs) || list_any (is_same k) h.added) ≡ true
+    of_change k b some None e =
+        or_first (list_any (is_same k) (unchanged_under es front cs)) (list_any (is_same k) h.added)
+        (unchanged_complete cs es front k b e (sym (ap (λ (o : Option (Option (List ℕ))). is_some (unwrap_or o (row_now cs k))) e) ∙ some))
+    of_change k b some (Some None) e = absurd (let f : false ≡ true = sym (ap (λ (o : Option (Option (List ℕ))). is_some (unwrap_or o (row_now cs k))) e) ∙ some in cc)
+    of_change k b some (Some (Some row)) e = or_second (list_any (is_same k) (unchanged_under es front cs)) (list_any (is_same k) h.added) (h.are.complete k row b e)

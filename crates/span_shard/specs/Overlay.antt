@@ -1,0 +1,226 @@
+-- The rows at keys as mutations leave them, over those that are there now.
+use Rattle.std.specs.Prelude.{◌≡◌, ◌⊎◌, ℕ, ◌≤◌, Bool, true, false, ◌&&◌, ◌||◌, List, [], ◌∷◌, ◌++◌, map, length, filter, find, take, is_some, is_none, not, nat_lt, Option, Some, None, Ok, Err}
+use Rattle.std.specs.List.{list_any, AllByRecursion}
+use Rattle.std.specs.Option.{unwrap_or}
+use Rattle.std.specs.Ordering.{eq_by_cmp}
+use Rattle.std.specs.BTreeMap.{is_at}
+use Rattle.std.specs.Map.{lookup}
+use Rattle.span_value.specs.declared.value.Value.{Value}
+use Rattle.span_value.specs.declared.refusal.Refusal.{Refusal}
+use Rattle.span_value.specs.declared.refusal.Refusal.TheVariants.{OutOfMemory, Exists, Missing, ParentMissing, HasChildren, RowTooLong, BadKey, BadRow}
+use Rattle.span_value.specs.Results.{first_cause}
+use Rattle.span_schema.specs.declared.table.Table.{Table}
+use Rattle.span_schema.specs.Numbers.{key_columns, other_kinds, parent_of}
+use Rattle.span_keycode.specs.Order.{byte_order}
+use Rattle.span_keycode.specs.Keys.{key_code, IsCodedKey}
+use Rattle.span_keycode.specs.Reads.{IsNoKey}
+use Rattle.span_rowcode.specs.Rows.{IsRow, IsNoRow, row_code}
+use Rattle.span_rowcode.specs.Limits.{longest_row}
+use Rattle.span_mutate.specs.declared.mutation.CheckedMutation.{CheckedMutation}
+use Rattle.span_mutate.specs.declared.row.TableRow.{TableRow}
+use Rattle.span_mutate.specs.Database.{is_insert, is_update, merge_cells, blocks_delete, apply_one, apply}
+use Rattle.span_mutate.specs.Directories.{IsDatabase}
+use Rattle.span_mutate.specs.Faults.{is_mutation_fault}
+use Rattle.span_mutate.specs.Typed.{IsTyped, AreTyped}
+use Rattle.span_shard.specs.declared.write.Write.{Write}
+use Rattle.span_shard.specs.KeyVersions.{KeyVersions}
+use Rattle.span_shard.specs.Rows.{begins_with, code_of, row_coded, root_code, is_touched}
+use Rattle.span_shard.specs.Shard.{row_now, IsNow}
+use Rattle.span_shard.specs.Writes.{is_of}
+use Rattle.span_shard.specs.Reading.{row_of, is_same_row, is_prepare_refusal, AreUnreadable}
+
+-- by coded keys, the packed row that mutations leave where they change it; None where they leave none
+abbrev pub Changes : Type 0
+Changes = List (List ℕ × Option (List ℕ))
+
+-- what mutations leave at a key, where they change its row
+abbrev pub changed_at : Changes → List ℕ → Option (Option (List ℕ))
+changed_at es k = lookup (is_at (byte_order k)) es
+
+-- the row at a key: what mutations leave there, and else what is there now
+abbrev pub row_over : List KeyVersions → Changes → List ℕ → Option (List ℕ)
+row_over cs es k = unwrap_or (changed_at es k) (row_now cs k)
+
+-- ---- the keys below one
+
+-- a key with a row now, which no mutation changed
+abbrev pub is_unchanged : Changes → KeyVersions → Bool
+is_unchanged es c = is_none (changed_at es c.key) && is_some (row_of c)
+
+abbrev pub is_same : List ℕ → List ℕ → Bool
+is_same k l = eq_by_cmp byte_order k l
+
+-- the keys with a row that begin with these bytes
+pub record AreUnder (cs : List KeyVersions) (es : Changes) (front : List ℕ) (ks : List (List ℕ)) : Type 0 where
+  pub sound : AllByRecursion (λ (k : List ℕ). (begins_with k front ≡ true) × (is_some (row_over cs es k) ≡ true)) ks
+  pub complete : (k : List ℕ) → begins_with k front ≡ true → is_some (row_over cs es k) ≡ true → list_any (is_same k) ks ≡ true
+
+-- keys that begin with these bytes, at which mutations leave a row
+pub record AreChangedUnder (es : Changes) (front : List ℕ) (ks : List (List ℕ)) : Type 0 where
+  pub sound : AllByRecursion (λ (k : List ℕ). (begins_with k front ≡ true) × ((row : List ℕ) × (changed_at es k ≡ Some (Some row)))) ks
+  pub complete : (k row : List ℕ) → begins_with k front ≡ true → changed_at es k ≡ Some (Some row) → list_any (is_same k) ks ≡ true
+
+-- ... added to these keys
+pub record AddsChanged (es : Changes) (front : List ℕ) (old new : List (List ℕ)) : Type 0 where
+  pub added : List (List ℕ)
+  pub whole : new ≡ old ++ added
+  pub are : AreChangedUnder es front added
+
+-- it is a key of a table whose rows stay where a row of table n above them is to be deleted
+abbrev pub BlocksDelete : List Table → ℕ → Bool → List ℕ → Type 0
+BlocksDelete tables n b k = (m : ℕ) (ws : List Value) → IsCodedKey tables m ws → k ≡ key_code tables m ws → blocks_delete tables n m ≡ b
+
+-- whether one of the keys is of such a table
+abbrev pub IsBlocked : List Table → ℕ → List (List ℕ) → Bool → Type 0
+IsBlocked tables n ks true = (k : List ℕ) × (list_any (is_same k) ks ≡ true) × BlocksDelete tables n true k
+IsBlocked tables n ks false = AllByRecursion (BlocksDelete tables n false) ks
+
+-- what is left at a key, where its row is removed or not
+abbrev pub without_if : Bool → Option (Option (List ℕ)) → Option (Option (List ℕ))
+without_if true left = Some None
+without_if false left = left
+
+-- no row is left at these keys, and the others are as before
+abbrev pub AreRemoved : Changes → List (List ℕ) → Changes → Type 0
+AreRemoved es ks fs = (k : List ℕ) → changed_at fs k ≡ without_if (list_any (is_same k) ks) (changed_at es k)
+
+-- one of the keys is no key of a table
+pub record HasNoKey (tables : List Table) (ks : List (List ℕ)) : Type 0 where
+  pub key : List ℕ
+  pub among : list_any (is_same key) ks ≡ true
+  pub none : IsNoKey tables key
+
+-- ---- the row that a mutation makes
+
+-- the cells of a packed row, and none where there is no row
+abbrev pub AreCellsOf : List Table → ℕ → Option (List ℕ) → List Value → Type 0
+AreCellsOf tables n None vs = vs ≡ []
+AreCellsOf tables n (Some row) vs = IsRow (other_kinds tables n) vs × (row ≡ row_code vs)
+
+-- the bytes are no row of the table
+abbrev pub IsUnpacked : List Table → ℕ → Option (List ℕ) → Type 0
+IsUnpacked tables n None = ⊥
+IsUnpacked tables n (Some row) = IsNoRow (other_kinds tables n) row
+
+-- the coding of a mutation's key
+abbrev pub own_code : List Table → CheckedMutation → List ℕ
+own_code tables m = key_code tables m.table m.key
+
+-- the row at a mutation's key
+abbrev pub row_before : List Table → List KeyVersions → Changes → CheckedMutation → Option (List ℕ)
+row_before tables cs es m = row_over cs es (own_code tables m)
+
+-- the parent row of a row with this key is absent
+abbrev pub lacks_parent_over : List Table → List KeyVersions → Changes → Option ℕ → List Value → Bool
+lacks_parent_over tables cs es None key = false
+lacks_parent_over tables cs es (Some p) key = is_none (row_over cs es (key_code tables p (take (length (key_columns tables p)) key)))
+
+-- what refuses to make a row of these cells, in the order of the checks: whether its key has a row, whether its parent row is absent
+abbrev pub put_cause : CheckedMutation → Bool → Bool → List Value → Option Refusal
+put_cause m present lacking old = first_cause (
+  (is_insert m.kind && present, Exists)
+  ∷ (is_update m.kind && not present, Missing)
+  ∷ (lacking, ParentMissing)
+  ∷ (nat_lt longest_row (length (row_code (merge_cells m.cells old))), RowTooLong)
+  ∷ []
+)
+
+abbrev pub cause_over : List Table → List KeyVersions → Changes → CheckedMutation → List Value → Option Refusal
+cause_over tables cs es m old = put_cause m (is_some (row_before tables cs es m)) (lacks_parent_over tables cs es (parent_of tables m.table) m.key) old
+
+-- the row that a mutation makes of the cells that were there
+pub record IsPutRow (tables : List Table) (cs : List KeyVersions) (es : Changes) (m : CheckedMutation) (row : List ℕ) : Type 0 where
+  pub old : List Value
+  pub cells : AreCellsOf tables m.table (row_before tables cs es m) old
+  pub cause : cause_over tables cs es m old ≡ None
+  pub is : row ≡ row_code (merge_cells m.cells old)
+
+-- whichever cells were there, the mutation is refused so
+abbrev pub IsPutFault : List Table → List KeyVersions → Changes → CheckedMutation → Refusal → Type 0
+IsPutFault tables cs es m why = (old : List Value) → AreCellsOf tables m.table (row_before tables cs es m) old → cause_over tables cs es m old ≡ Some why
+
+-- out of memory, the fault, or bytes that are no row
+abbrev pub IsNoPut : List Table → List KeyVersions → Changes → CheckedMutation → Refusal → Type 0
+IsNoPut tables cs es m why = (why ≡ OutOfMemory) ⊎ (((is_mutation_fault why ≡ true) × IsPutFault tables cs es m why) ⊎ ((why ≡ BadRow) × IsUnpacked tables m.table (row_before tables cs es m)))
+
+-- ---- the rows that a mutation deletes
+
+-- none where its own row is absent; else all keys from its own on down, none of which holds it
+abbrev pub AreDeleted : List Table → List KeyVersions → Changes → CheckedMutation → List (List ℕ) → Type 0
+AreDeleted tables cs es m ks = ((row_before tables cs es m ≡ None) × (ks ≡ []))
+    ⊎ ((is_some (row_before tables cs es m) ≡ true) × AreUnder cs es (own_code tables m) ks × IsBlocked tables m.table ks false)
+
+-- a key below holds the row
+pub record IsHeld (tables : List Table) (cs : List KeyVersions) (es : Changes) (m : CheckedMutation) : Type 0 where
+  pub there : is_some (row_before tables cs es m) ≡ true
+  pub keys : List (List ℕ)
+  pub under : AreUnder cs es (own_code tables m) keys
+  pub blocked : IsBlocked tables m.table keys true
+
+-- what is below is no key of a table
+pub record IsStray (tables : List Table) (cs : List KeyVersions) (es : Changes) (m : CheckedMutation) : Type 0 where
+  pub keys : List (List ℕ)
+  pub under : AreUnder cs es (own_code tables m) keys
+  pub stray : HasNoKey tables keys
+
+-- out of memory, a row that holds it, or bytes that are no key
+abbrev pub IsNoDelete : List Table → List KeyVersions → Changes → CheckedMutation → Refusal → Type 0
+IsNoDelete tables cs es m why = (why ≡ OutOfMemory) ⊎ (((why ≡ HasChildren) × IsHeld tables cs es m) ⊎ ((why ≡ BadKey) × IsStray tables cs es m))
+
+-- ---- mutations one after another
+
+-- the rows at some keys are those of the database
+abbrev pub IsOver : List Table → (List ℕ → Bool) → List KeyVersions → Changes → List TableRow → Type 0
+IsOver tables dir cs es db = (k : List ℕ) → dir k ≡ true → row_over cs es k ≡ row_coded tables db k
+
+-- they are all keys of the mutation's directory, and maybe others
+abbrev pub HasDirectory : List Table → (List ℕ → Bool) → CheckedMutation → Type 0
+HasDirectory tables dir m = (k : List ℕ) → begins_with k (root_code tables m) ≡ true → dir k ≡ true
+
+-- bytes that are a row of a table, under its key
+pub record IsTableRow (tables : List Table) (key row : List ℕ) : Type 0 where
+  pub of : TableRow
+  pub typed : IsTyped tables of
+  pub key_is : key ≡ code_of tables of
+  pub row_is : row ≡ row_code of.cells
+
+-- what mutations leave are rows of tables
+abbrev pub AreTableRows : List Table → Changes → Type 0
+AreTableRows tables es = (k row : List ℕ) → changed_at es k ≡ Some (Some row) → IsTableRow tables k row
+
+-- what a mutation makes of what those before it left
+pub record IsRunOf (tables : List Table) (cs : List KeyVersions) (m : CheckedMutation) (es fs : Changes) : Type 0 where
+  pub rows : AreTableRows tables fs
+  pub here : (k : List ℕ) → is_some (changed_at fs k) ≡ true → (is_some (changed_at es k) || begins_with k (root_code tables m)) ≡ true
+  pub applied : (dir : List ℕ → Bool) → HasDirectory tables dir m → (db : List TableRow) → IsDatabase tables db → AreTyped tables db → IsOver tables dir cs es db → (next : List TableRow) × (apply_one tables db m ≡ Ok next) × IsOver tables dir cs fs next
+
+-- why a mutation is refused: its fault on each database with these rows, or out of memory; bytes that are no row where none has them
+pub record IsRunFault (tables : List Table) (cs : List KeyVersions) (m : CheckedMutation) (es : Changes) (why : Refusal) : Type 0 where
+  pub fault : (dir : List ℕ → Bool) → HasDirectory tables dir m → (db : List TableRow) → IsDatabase tables db → AreTyped tables db → IsOver tables dir cs es db → (why ≡ OutOfMemory) ⊎ (apply_one tables db m ≡ Err why)
+  pub number : (is_prepare_refusal why ≡ true) ⊎ AreUnreadable tables (m ∷ []) cs why
+
+-- what mutations make, one after another, of the rows that are there now
+pub record AreRunsOf (tables : List Table) (ms : List CheckedMutation) (cs : List KeyVersions) (es : Changes) : Type 0 where
+  pub touched : (k : List ℕ) → is_some (changed_at es k) ≡ true → is_touched tables ms k ≡ true
+  pub applied : (db : List TableRow) → IsDatabase tables db → AreTyped tables db → IsNow tables ms db cs
+      → (after : List TableRow) × (apply tables db ms ≡ Ok after) × IsOver tables (is_touched tables ms) cs es after
+
+-- ---- what is written
+
+-- a row that is to be written at a key, unless it is there now
+abbrev pub write_new : List ℕ → Option (List ℕ) → Bool → Option Write
+write_new k row true = None
+write_new k row false = Some (record { key = k; row = row })
+
+-- what is to be written at a key, where what mutations leave there is another row than the one that is there now
+abbrev pub write_if : List ℕ → Option (List ℕ) → Option (Option (List ℕ)) → Option Write
+write_if k before None = None
+write_if k before (Some row) = write_new k row (is_same_row before row)
+
+abbrev pub write_at : List KeyVersions → Changes → List ℕ → Option Write
+write_at cs es k = write_if k (row_now cs k) (changed_at es k)
+
+-- at each key the write of what mutations leave there, all of keys whose rows they change
+pub record AreWritesAt (cs : List KeyVersions) (es : Changes) (ws : List Write) : Type 0 where
+  pub changed : AllByRecursion (λ (w : Write). is_some (changed_at es w.key) ≡ true) ws
+  pub at : (k : List ℕ) → find (is_of k) ws ≡ write_at cs es k

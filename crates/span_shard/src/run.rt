@@ -1,0 +1,233 @@
+//! Mutations one after another, on the rows at the keys that they touch.
+ghost use Rattle.std.specs.Prelude.{◌≡◌, ◌⊎◌, ◌≤◌, ◌<◌, ◌&&◌, not, take, length, is_some, true, false, IfOk, IfErr, OnOk, MatchResult};
+ghost use Rattle.std.specs.Option.{option_copied};
+ghost use Rattle.span_schema.specs.Numbers.{IsTable, parent_of};
+ghost use Rattle.span_rowcode.specs.Rows.{row_code};
+ghost use Rattle.span_rowcode.specs.Limits.{longest_row};
+ghost use Rattle.span_mutate.specs.Columns.{is_delete};
+ghost use Rattle.span_mutate.specs.Database.{is_insert, is_update, merge_cells};
+ghost use Rattle.span_mutate.specs.Typed.{IsTypedMutation, AreTypedMutations};
+ghost use Rattle.span_shard.specs.Shard.{AreInOrder};
+ghost use Rattle.span_shard.specs.Overlay.{lacks_parent_over, own_code, AreCellsOf, IsUnpacked, IsBlocked, HasNoKey, IsPutRow, IsNoPut, AreDeleted, IsNoDelete, AreTableRows, IsRunOf, IsRunFault, AreRunsOf};
+ghost use Rattle.span_shard.specs.Reading.{IsFault, IsPrepareRefusal};
+
+use super::overlay::{Changes, has_row, keys_under, remove_rows, row_over};
+use super::store::Store;
+use span_keycode::decode::decode_key;
+use span_keycode::encode::encode_key;
+use span_keycode::key::Key;
+use span_mutate::mutation::{CheckedMutation, MutationKind, is_delete};
+use span_mutate::root::{blocks_delete, merge_cells};
+use span_rowcode::pack::pack;
+use span_rowcode::unpack::unpack;
+use span_schema::schema::Schema;
+use span_value::refusal::Refusal;
+use span_value::seq::Seq;
+use span_value::value::Value;
+use std::alloc::Global;
+use std::collections::BTreeMap;
+
+// The first `len` values, or all where there are fewer.
+fn first_values(values: &[Value], len: usize) -> &[Value]
+    ensures { result.now ≡ take len values.now }
+{
+    &values[..len.min(values.len())]
+}
+
+// Whether the parent row of a mutation's row is absent.
+fn lacks_parent(
+    alloc: Global,
+    schema: &Schema,
+    store: &Store,
+    changes: &Changes,
+    mutation: &CheckedMutation,
+) -> Result<bool, Refusal>
+    requires order { AreInOrder store.now }
+    requires typed { IsTypedMutation schema.now mutation.now }
+    ensures { MatchResult result
+        (λ b. b ≡ lacks_parent_over schema.now store.now changes.now.entries (parent_of schema.now mutation.now.table) mutation.now.key)
+        (λ why. why ≡ Refusal.OutOfMemory) }
+{
+    schema.meets_rules();
+    match schema.parent_of(mutation.table) {
+        None => Ok(false),
+        Some(parent) => {
+            let len = schema.key_columns(parent).len();
+            let values = first_values(mutation.key.as_slice(), len);
+            let key = encode_key(alloc, schema, parent, values)?;
+            Ok(!has_row(store, changes, &key))
+        }
+    }
+}
+
+// The cells of a packed row, and none where there is no row. `BadRow`: the bytes are no row of the table.
+fn cells_of(
+    alloc: Global,
+    schema: &Schema,
+    table: usize,
+    row: Option<&Seq<u8>>,
+) -> Result<Vec<Value>, Refusal>
+    requires { IsTable schema.now table }
+    ensures { MatchResult result
+        (λ cells. AreCellsOf schema.now table (option_copied row.entry) cells.items)
+        (λ why.
+        ((why ≡ Refusal.BadRow) × IsUnpacked schema.now table (option_copied row.entry)) ⊎ (why ≡ Refusal.OutOfMemory)) }
+{
+    match row {
+        None => Ok(Vec::new(alloc)),
+        Some(row) => unpack(alloc, schema, table, row.as_slice()),
+    }
+}
+
+// The packed row that a mutation makes of the cells that were there.
+fn new_row(alloc: Global, mutation: &CheckedMutation, old: &[Value]) -> Result<Seq<u8>, Refusal>
+    ensures { MatchResult result
+        (λ row.
+        (row ≡ row_code (merge_cells mutation.now.cells old.now))
+        × (length (row_code (merge_cells mutation.now.cells old.now)) ≤ longest_row))
+        (λ why.
+        ((why ≡ Refusal.RowTooLong) × (longest_row < length (row_code (merge_cells mutation.now.cells old.now))))
+        ⊎ (why ≡ Refusal.OutOfMemory)) }
+{
+    let cells = merge_cells(alloc, mutation.cells.as_slice(), old)?;
+    Ok(Seq::from_vec(pack(alloc, cells.as_slice())?))
+}
+
+// Why a row can't be put, by whether its key has a row: `Exists` or `Missing`.
+fn check_presence(kind: MutationKind, is_present: bool) -> Result<(), Refusal>
+    ensures { MatchResult result
+        (λ _. (is_insert kind && is_present ≡ false) × (is_update kind && not is_present ≡ false))
+        (λ why.
+        ((why ≡ Refusal.Exists) × (is_insert kind && is_present ≡ true))
+        ⊎ ((why ≡ Refusal.Missing)
+        × (is_insert kind && is_present ≡ false)
+        × (is_update kind && not is_present ≡ true))) }
+{
+    if kind == MutationKind::Insert && is_present {
+        return Err(Refusal::Exists);
+    }
+    if kind == MutationKind::Update && !is_present {
+        return Err(Refusal::Missing);
+    }
+    Ok(())
+}
+
+// The packed row that a mutation puts at its key.
+fn row_put(
+    alloc: Global,
+    schema: &Schema,
+    store: &Store,
+    changes: &Changes,
+    mutation: &CheckedMutation,
+    key: &Key,
+) -> Result<Seq<u8>, Refusal>
+    requires order { AreInOrder store.now }
+    requires typed { IsTypedMutation schema.now mutation.now }
+    requires key { key.now ≡ own_code schema.now mutation.now }
+    ensures { MatchResult result
+        (IsPutRow schema.now store.now changes.now.entries mutation.now)
+        (IsNoPut schema.now store.now changes.now.entries mutation.now) }
+{
+    let before = row_over(store, changes, key);
+    check_presence(mutation.kind, before.is_some())?;
+    if lacks_parent(alloc, schema, store, changes, mutation)? {
+        return Err(Refusal::ParentMissing);
+    }
+    let old = cells_of(alloc, schema, mutation.table, before)?;
+    new_row(alloc, mutation, old.as_slice())
+}
+
+// Whether one of the keys is of a table whose rows stay where a row of this table, above them, is to be deleted.
+fn is_blocked(
+    alloc: Global,
+    schema: &Schema,
+    table: usize,
+    keys: &[Key],
+) -> Result<bool, Refusal>
+    ensures { MatchResult result
+        (IsBlocked schema.now table keys.now)
+        (λ why. (why ≡ Refusal.OutOfMemory) ⊎ ((why ≡ Refusal.BadKey) × HasNoKey schema.now keys.now)) }
+{
+    schema.meets_rules();
+    for key in keys {
+        let found = decode_key(alloc, schema, key.as_slice())?;
+        if blocks_delete(schema, table, found.table) {
+            return Ok(true);
+        }
+    }
+    Ok(false)
+}
+
+// The keys at which a mutation deletes the rows: its own, and those below it; none where its own row is absent.
+fn keys_deleted(
+    alloc: Global,
+    schema: &Schema,
+    store: &Store,
+    changes: &Changes,
+    mutation: &CheckedMutation,
+    key: &Key,
+) -> Result<Vec<Key>, Refusal>
+    requires order { AreInOrder store.now }
+    requires key { key.now ≡ own_code schema.now mutation.now }
+    ensures { MatchResult result
+        (λ keys. AreDeleted schema.now store.now changes.now.entries mutation.now keys.items)
+        (IsNoDelete schema.now store.now changes.now.entries mutation.now) }
+{
+    if !has_row(store, changes, key) {
+        return Ok(Vec::new(alloc));
+    }
+    let keys = keys_under(alloc, store, changes, key)?;
+    if is_blocked(alloc, schema, mutation.table, keys.as_slice())? {
+        return Err(Refusal::HasChildren);
+    }
+    Ok(keys)
+}
+
+// Runs one mutation.
+fn run_one(
+    alloc: Global,
+    schema: &Schema,
+    store: &Store,
+    changes: &mut Changes,
+    mutation: &CheckedMutation,
+) -> Result<(), Refusal>
+    requires order { AreInOrder store.now }
+    requires typed { IsTypedMutation schema.now mutation.now }
+    requires rows { AreTableRows schema.now changes.old.entries }
+    ensures ok { OnOk result
+        (IsRunOf schema.now store.now mutation.now changes.old.entries changes.new.entries) }
+    ensures refused { IfErr result (IsRunFault schema.now store.now mutation.now changes.old.entries) }
+{
+    schema.meets_rules();
+    let key = encode_key(alloc, schema, mutation.table, mutation.key.as_slice())?;
+    if is_delete(mutation.kind) {
+        let keys = keys_deleted(alloc, schema, store, changes, mutation, &key)?;
+        return Ok(remove_rows(changes, keys)?);
+    }
+    let row = row_put(alloc, schema, store, changes, mutation, &key)?;
+    let _before = changes.insert(key, Some(row))?;
+    Ok(())
+}
+
+/// Runs mutations one after another, up to the first fault, and gives what they leave at the keys whose rows they change.
+///
+/// Only the rows at the mutations' keys and at those of their parents are looked at, and, where a row is deleted, those below it.
+pub(crate) fn run(
+    alloc: Global,
+    schema: &Schema,
+    store: &Store,
+    mutations: &[CheckedMutation],
+) -> Result<Changes, Refusal>
+    requires order { AreInOrder store.now }
+    requires typed { AreTypedMutations schema.now mutations.now }
+    ensures ok { IfOk result (λ changes. AreRunsOf schema.now mutations.now store.now changes.entries) }
+    ensures fault { IfErr result (λ why. IsFault schema.now mutations.now store.now why) }
+    ensures number { IfErr result (λ why. IsPrepareRefusal schema.now mutations.now store.now why) }
+{
+    schema.meets_rules();
+    let mut changes = BTreeMap::new(alloc);
+    for mutation in mutations {
+        run_one(alloc, schema, store, &mut changes, mutation)?;
+    }
+    Ok(changes)
+}
