@@ -1,16 +1,9 @@
 pub mod Bytes
-pub mod Changing
 pub mod Codes
 pub mod Databases
-pub mod Finding
 pub mod Idle
 pub mod InOrder
 pub mod Lists
-pub mod Loops
-pub mod Parts
-pub mod Searching
-pub mod Sorting
-pub mod Steps
 pub mod Touching
 pub mod Undo
 pub mod Owned

@@ -1,5 +1,5 @@
 -- What a mutation does to the rows of a database, by their coded keys.
-use Rattle.std.proofs.Common.{◌≡◌, ◌≢◌, ℕ, ◌+◌, ◌-◌, ◌≤◌, ◌<◌, Bool, true, false, ◌==◌, not, ◌||◌, ◌&&◌, cond, List, [], ◌∷◌, ◌++◌, Option, Some, None, is_some, is_none, length, take, drop, refl, sym, ap, subst, ◌∙◌, arith}
+use Rattle.std.proofs.Common.{◌≡◌, ℕ, ◌+◌, ◌-◌, ◌<◌, Bool, true, false, ◌==◌, not, ◌||◌, ◌&&◌, cond, List, [], ◌∷◌, ◌++◌, Option, Some, None, length, take, drop, refl, sym, ap, subst, ◌∙◌, arith}
 use Rattle.std.specs.List.{filter, find, list_any, AllByRecursion}
 use Rattle.std.specs.Option.{option_map}
 use Rattle.std.specs.Cmp.{tied_itself}
@@ -12,7 +12,7 @@ use Rattle.span_value.specs.declared.value.Value.{Value}
 use Rattle.span_schema.specs.declared.table.Table.{Table}
 use Rattle.span_schema.specs.Lineages.{parent_at, MeetsRules}
 use Rattle.span_schema.specs.declared.layout.KeyPart.{KeyPart}
-use Rattle.span_schema.specs.Numbers.{IsTable, key_at, own_key_at, key_columns, parent_of, table_at}
+use Rattle.span_schema.specs.Numbers.{key_at, own_key_at, key_columns, parent_of, table_at}
 use Rattle.span_keycode.specs.Coding.{AreFit, tuple_code}
 use Rattle.span_keycode.specs.Order.{byte_order}
 use Rattle.span_keycode.specs.Keys.{code_of as bytes_of, key_code, IsKey, IsCodedKey}
@@ -23,7 +23,7 @@ use Rattle.span_rowcode.specs.Rows.{row_code}
 use Rattle.span_mutate.specs.declared.row.TableRow.{TableRow}
 use Rattle.span_mutate.specs.Rows.{begins, is_same_key, is_at, row_at, with_row}
 use Rattle.span_mutate.specs.Database.{is_at_or_below, is_in, is_under, blocks_delete, cascades, tables_blocking_delete, is_delete_blocked}
-use Rattle.span_mutate.specs.Directories.{IsInOrder, IsDatabase, rows_cmp}
+use Rattle.span_mutate.specs.Directories.{IsInOrder, rows_cmp}
 use Rattle.span_mutate.specs.Typed.{IsTyped, AreTyped}
 use Rattle.span_mutate.proofs.Begins.{both_hold, both_make, same_number, number_itself, same_key}
 use Rattle.span_mutate.proofs.Families.{number_here, parent_family}
@@ -31,10 +31,10 @@ use Rattle.span_mutate.proofs.Filters.{filter_yes, filter_no}
 use Rattle.span_mutate.proofs.Orders.{rows_equal, rows_total}
 use Rattle.span_mutate.proofs.Placing.{put, put_kept, put_lost}
 use Rattle.span_shard.specs.Rows.{begins_with, code_of, is_coded, row_coded}
-use Rattle.span_shard.proofs.Lists.{all_map, all_both, any_all, any_none, found_all}
-use Rattle.span_shard.proofs.Bytes.{same_bytes, bytes_same, front_begins}
+use Rattle.span_shard.proofs.Lists.{all_map, all_both, any_none}
+use Rattle.span_shard.proofs.Bytes.{same_bytes, bytes_same}
 use Rattle.span_shard.proofs.Touching.{same_truth}
-use Rattle.span_shard.proofs.Databases.{one_code, keyed_equal, not_coded, own_row, row_there, find_kept, find_lost}
+use Rattle.span_shard.proofs.Databases.{one_code, keyed_equal, own_row, row_there, find_kept, find_lost}
 use Rattle.span_shard.proofs.Under.{begins_under, under_code, blocks_code}
 
 abbrev pub cells : Option TableRow → Option (List ℕ)

@@ -1,13 +1,12 @@
 -- The keys below one, of those that mutations changed and of the others; the removal of rows.
-use Rattle.std.proofs.Common.{◌≡◌, ◌≢◌, ◌⊎◌, inl, inr, ℕ, Bool, true, false, not, ◌||◌, ◌&&◌, cond, List, [], ◌∷◌, ◌++◌, Option, Some, None, is_some, is_none, map, drop, length, refl, sym, ap, subst, ◌∙◌, append_assoc}
-use Rattle.std.specs.Prelude.{slice_get}
+use Rattle.std.proofs.Common.{◌≡◌, ◌⊎◌, inl, inr, ℕ, Bool, true, false, not, ◌||◌, ◌&&◌, cond, List, [], ◌∷◌, ◌++◌, Option, Some, None, is_some, is_none, map, drop, length, refl, sym, ap, subst, ◌∙◌, append_assoc}
 use Rattle.std.specs.List.{filter, find, list_any, AllByRecursion}
 use Rattle.std.specs.List.Sorted.{IsStrictlySortedBy}
 use Rattle.std.specs.Option.{unwrap_or}
-use Rattle.std.specs.Ordering.{is_lt, is_le, ordering_reverse}
+use Rattle.std.specs.Ordering.{is_eq, is_lt, is_le, ordering_reverse}
 use Rattle.std.specs.declared.cmp.Ordering.{Ordering}
 use Rattle.std.specs.declared.cmp.Ordering.TheVariants.{Less, Equal, Greater}
-use Rattle.std.specs.Map.{keys_of, lookup}
+use Rattle.std.specs.Map.{keys_of}
 use Rattle.std.proofs.lemmas.List.Kept.{IsStrictlySortedBy-filter}
 use Rattle.std.proofs.lemmas.List.{append-nil}
 use Rattle.std.proofs.lemmas.List.Folds.{list_any-append}
@@ -17,11 +16,10 @@ use Rattle.span_keycode.specs.Order.{byte_order}
 use Rattle.span_mutate.proofs.Filters.{filter_yes, filter_no}
 use Rattle.span_shard.specs.KeyVersions.{KeyVersions}
 use Rattle.span_shard.specs.Rows.{begins_with}
-use Rattle.span_shard.specs.Shard.{AreInOrder, is_key, versions_of, end_of_time, row_now}
+use Rattle.span_shard.specs.Shard.{AreInOrder, keys_cmp, is_key, versions_of, end_of_time, row_now}
 use Rattle.span_shard.specs.Reading.{versions_alone, row_of}
-use Rattle.span_shard.specs.Overlay.{Changes, changed_at, row_over, is_unchanged, is_same, AreUnder, AreChangedUnder, AddsChanged, without_if, AreRemoved}
+use Rattle.span_shard.specs.Overlay.{Changes, changed_at, row_over, is_unchanged, is_same, AreUnder, AddsChanged, without_if}
 use Rattle.span_shard.proofs.Bytes.{bytes_total, same_bytes, bytes_same, begins_front, before_begins_not, between}
-use Rattle.span_shard.proofs.Finding.{own_rows}
 use Rattle.span_shard.proofs.Lists.{all_map, all_both, all_append, all_whole, all_filter_itself, found_all}
 use Rattle.span_shard.proofs.Databases.{find_kept}
 use Rattle.span_shard.specs.Versions.{row_at}
@@ -282,6 +280,19 @@ and_both false b e = absurd (let f : false ≡ true = e in cc)
 none_is : {X : Type 0} (o : Option X) → is_none o ≡ true → o ≡ None
 none_is None e = refl
 none_is (Some x) e = absurd (let f : false ≡ true = e in cc)
+
+-- each key is found where it is
+own_found : (cs : List KeyVersions) → AreInOrder cs → AllByRecursion (λ (c : KeyVersions). find (is_key c.key) cs ≡ Some c) cs
+own_found [] h = tt
+own_found (d ∷ ds) h = (
+  ap (λ (b : Bool). cond b (Some d) (find (is_key d.key) ds)) (ap is_eq (tied_itself bytes_total d.key)),
+  all_map (λ (c : KeyVersions). (keys_cmp d c ≡ Less) × (find (is_key c.key) ds ≡ Some c)) (λ (c : KeyVersions). find (is_key c.key) (d ∷ ds) ≡ Some c)
+      (λ c g. ap (λ (b : Bool). cond b (Some d) (find (is_key c.key) ds)) (ap is_eq (bytes_total.antisymm c.key d.key ∙ ap ordering_reverse g.0)) ∙ g.1) ds
+      (all_both (λ (c : KeyVersions). keys_cmp d c ≡ Less) (λ (c : KeyVersions). find (is_key c.key) ds ≡ Some c) ds h.0 (own_found ds h.1)),
+)
+
+own_rows : (cs : List KeyVersions) → AreInOrder cs → AllByRecursion (λ (c : KeyVersions). row_now cs c.key ≡ row_of c) cs
+own_rows cs h = all_map (λ (c : KeyVersions). find (is_key c.key) cs ≡ Some c) (λ (c : KeyVersions). row_now cs c.key ≡ row_of c) (λ c e. ap (λ (o : Option KeyVersions). row_at (versions_of o) end_of_time) e) cs (own_found cs h)
 
 -- the keys of the store below one that no mutation changed
 abbrev pub unchanged_under : Changes → List ℕ → List KeyVersions → List (List ℕ)

@@ -2,6 +2,8 @@
 use Rattle.std.proofs.Common.{◌≡◌, ◌≢◌, ◌⊎◌, inl, inr, ℕ, ◌+◌, ◌<◌, zero, suc, Bool, true, false, not, ◌||◌, cond, List, [], ◌∷◌, ◌++◌, Option, Some, None, is_some, Result, Ok, Err, length, take, drop, get_or, refl, sym, ap, subst, ◌∙◌, arith}
 use Rattle.std.specs.List.{find, list_any, AllByRecursion}
 use Rattle.std.specs.Option.{unwrap_or}
+use Rattle.std.specs.Str.{bytes_eq}
+use Rattle.std.proofs.lemmas.Slice.Eq.{bytes_eq-Decides}
 use Rattle.span_value.specs.declared.value.Value.{Value}
 use Rattle.span_value.specs.declared.refusal.Refusal.{Refusal}
 use Rattle.span_value.specs.declared.refusal.Refusal.TheVariants.{OutOfMemory, BadKey, BadRow}
@@ -14,10 +16,11 @@ use Rattle.span_rowcode.specs.Rows.{IsRow, IsNoRow}
 use Rattle.span_mutate.specs.declared.mutation.CheckedMutation.{CheckedMutation}
 use Rattle.span_mutate.specs.declared.row.TableRow.{TableRow}
 use Rattle.span_mutate.specs.Columns.{is_delete}
-use Rattle.span_mutate.specs.Database.{blocks_delete, apply_one, apply}
+use Rattle.span_mutate.specs.Database.{blocks_delete, apply}
 use Rattle.span_mutate.specs.Directories.{IsDatabase}
 use Rattle.span_mutate.specs.Touched as rows
-use Rattle.span_mutate.specs.Typed.{IsTyped, AreTyped, IsTypedMutation, AreTypedMutations}
+use Rattle.span_mutate.specs.Touched.{IsSameOutcome}
+use Rattle.span_mutate.specs.Typed.{AreTyped, IsTypedMutation, AreTypedMutations}
 use Rattle.span_mutate.proofs.Local.{step_database}
 use Rattle.span_mutate.proofs.Runs.{item_first, run_on, run_faults}
 use Rattle.span_mutate.proofs.TouchedRows.{touched_alone}
@@ -25,15 +28,14 @@ use Rattle.span_mutate.proofs.TypedRows.{step_typed, typed_stay}
 use Rattle.span_shard.specs.declared.write.Write.{Write}
 use Rattle.span_shard.specs.KeyVersions.{KeyVersions}
 use Rattle.span_shard.specs.Writes.{IsWrite, is_of}
-use Rattle.span_shard.specs.Rows.{begins_with, code_of, row_coded, root_code, is_touched, AreChanges}
+use Rattle.span_shard.specs.Rows.{begins_with, row_coded, root_code, is_touched}
 use Rattle.span_shard.specs.Shard.{row_now, IsNow}
 use Rattle.span_shard.specs.Reading.{is_same_row, is_prepare_refusal, AreUnreadable, IsPrepareRefusal, IsFault, AreWrites}
-use Rattle.span_shard.specs.Overlay.{Changes, changed_at, row_over, is_same, own_code, row_before, IsUnpacked, IsStray, IsOver, HasDirectory, IsTableRow, AreTableRows, IsNoPut, IsNoDelete, BlocksDelete, IsRunOf, IsRunFault, AreRunsOf, write_new, write_if, write_at, AreWritesAt}
+use Rattle.span_shard.specs.Overlay.{Changes, changed_at, is_same, own_code, row_before, IsUnpacked, IsStray, IsOver, HasDirectory, IsTableRow, AreTableRows, IsNoPut, IsNoDelete, BlocksDelete, IsRunOf, IsRunFault, AreRunsOf, write_new, write_if, write_at, AreWritesAt}
 use Rattle.span_shard.proofs.Lists.{all_map, all_at, all_append}
 use Rattle.span_shard.proofs.Bytes.{same_bytes, bytes_same}
 use Rattle.span_shard.proofs.Touching.{typed_keyed}
 use Rattle.span_shard.proofs.Databases.{untouched_there}
-use Rattle.span_shard.proofs.Changing.{differ, alike, same_rest}
 use Rattle.span_shard.proofs.Refused.{fault_number}
 use Rattle.span_shard.proofs.RunPuts.{own_begins, put_fault, unpacked_nowhere}
 use Rattle.span_shard.proofs.RunDeletes.{IsBelow, found_below, below_in, held_fault, stray_nowhere}
@@ -236,6 +238,28 @@ run_number tables ms cs i m es why h e f = elim f.number [
   })
 ]
 
+-- ---- rows that differ
+
+not_false : (b : Bool) → not b ≡ false → b ≡ true
+not_false true e = refl
+not_false false e = absurd cc
+
+differ : (a b : Option (List ℕ)) → not (is_same_row a b) ≡ true → b ≢ a
+differ None None e f = let g : false ≡ true = e in absurd (cc)
+differ None (Some b) e f = let g : Some b ≡ None = f in absurd (cc)
+differ (Some a) None e f = let g : None ≡ Some a = f in absurd (cc)
+differ (Some a) (Some b) e f =
+    let same : a ≡ b = (let g : Some b ≡ Some a = f in cc) in
+    let yes : bytes_eq a b ≡ true = (bytes_eq-Decides a b).1 same in
+    let g : false ≡ true = ap not (sym yes) ∙ e in
+    absurd (cc)
+
+alike : (a b : Option (List ℕ)) → not (is_same_row a b) ≡ false → a ≡ b
+alike None None e = refl
+alike None (Some b) e = absurd (let f : true ≡ false = e in cc)
+alike (Some a) None e = absurd (let f : true ≡ false = e in cc)
+alike (Some a) (Some b) e = ap Some ((bytes_eq-Decides a b).0 (not_false (bytes_eq a b) e))
+
 -- ---- what is written
 
 -- at a key: not looked at yet, or done
@@ -344,6 +368,13 @@ all_written cs es left ws none so_far = record { changed = so_far.changed; at = 
     ]
 
 -- ---- on each database
+
+-- the rows of the other directories are as they were
+same_rest : (tables : List Table) (ms : List CheckedMutation) (a b : List TableRow) (r s : Result (List TableRow) Refusal) → IsSameOutcome tables ms a b r s → (y : List TableRow) → s ≡ Ok y → rows.untouched tables ms y ≡ rows.untouched tables ms b
+same_rest tables ms a b (Ok x) (Ok z) h y e = ap (rows.untouched tables ms) (let f : y ≡ z = cc in f) ∙ h.2
+same_rest tables ms a b (Ok x) (Err w) h y e = absurd h
+same_rest tables ms a b (Err v) (Ok z) h y e = absurd h
+same_rest tables ms a b (Err v) (Err w) h y e = absurd (cc)
 
 pub writes_made : (tables : List Table) → MeetsRules tables → (ms : List CheckedMutation) → AreTypedMutations tables ms → (cs : List KeyVersions) (es : Changes) (ws : List Write) → AreRunsOf tables ms cs es → AreWritesAt cs es ws → AreWrites tables ms cs ws
 writes_made tables rules ms typed cs es ws run written = record {

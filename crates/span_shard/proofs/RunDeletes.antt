@@ -1,32 +1,29 @@
 -- A mutation that deletes rows, on the rows over those that are there now.
-use Rattle.std.proofs.Common.{◌≡◌, ◌⊎◌, inl, inr, ℕ, Bool, true, false, not, ◌||◌, ◌&&◌, cond, List, [], ◌∷◌, Option, Some, None, is_some, is_none, Result, Ok, Err, length, refl, sym, ap, subst, ◌∙◌}
+use Rattle.std.proofs.Common.{◌≡◌, inl, inr, ℕ, Bool, true, false, not, ◌||◌, ◌&&◌, cond, List, [], ◌∷◌, Option, Some, None, is_some, Ok, Err, refl, sym, ap, subst, ◌∙◌}
 use Rattle.std.specs.List.{filter, list_any, AllByRecursion}
 use Rattle.std.specs.Option.{unwrap_or}
-use Rattle.span_value.specs.declared.value.Value.{Value}
 use Rattle.span_value.specs.declared.refusal.Refusal.{Refusal}
-use Rattle.span_value.specs.declared.refusal.Refusal.TheVariants.{OutOfMemory, Exists, Missing, ParentMissing, HasChildren, RowTooLong, BadKey}
+use Rattle.span_value.specs.declared.refusal.Refusal.TheVariants.{Exists, Missing, ParentMissing, HasChildren, RowTooLong}
 use Rattle.span_value.specs.Results.{first_cause}
 use Rattle.span_schema.specs.declared.table.Table.{Table}
 use Rattle.span_schema.specs.Lineages.{MeetsRules}
 use Rattle.span_schema.specs.Numbers.{key_columns}
-use Rattle.span_keycode.specs.Keys.{key_code, IsCodedKey}
-use Rattle.span_rowcode.specs.Rows.{row_code}
 use Rattle.span_mutate.specs.declared.mutation.CheckedMutation.{CheckedMutation}
 use Rattle.span_mutate.specs.declared.mutation.MutationKind.{MutationKind}
 use Rattle.span_mutate.specs.declared.mutation.MutationKind.TheVariants.{Insert, Update, InsertOrUpdate, Delete}
 use Rattle.span_mutate.specs.declared.row.TableRow.{TableRow}
 use Rattle.span_mutate.specs.Columns.{is_delete}
 use Rattle.span_mutate.specs.Checking.{unless}
-use Rattle.span_mutate.specs.Rows.{row_at, with_row}
-use Rattle.span_mutate.specs.Database.{is_insert, is_update, is_under, blocks_delete, is_delete_blocked, row_after, without_rows, changed, apply_to, apply_one}
+use Rattle.span_mutate.specs.Rows.{with_row}
+use Rattle.span_mutate.specs.Database.{is_insert, is_update, is_under, is_delete_blocked, row_after, changed, apply_to, apply_one}
 use Rattle.span_mutate.specs.Directories.{IsDatabase}
 use Rattle.span_mutate.specs.Typed.{IsTyped, AreTyped, IsTypedMutation}
 use Rattle.span_mutate.proofs.Deletes.{deletes}
 use Rattle.span_shard.specs.KeyVersions.{KeyVersions}
 use Rattle.span_shard.specs.Rows.{begins_with, code_of, row_coded, root_code}
 use Rattle.span_shard.specs.Shard.{row_now}
-use Rattle.span_shard.specs.Overlay.{Changes, changed_at, row_over, is_same, without_if, own_code, row_before, AreUnder, BlocksDelete, IsBlocked, HasNoKey, AreRemoved, AreDeleted, IsHeld, IsStray, IsOver, HasDirectory, IsTableRow, AreTableRows, IsRunOf}
-use Rattle.span_shard.proofs.Lists.{all_both, any_all}
+use Rattle.span_shard.specs.Overlay.{Changes, changed_at, row_over, is_same, without_if, own_code, row_before, AreUnder, BlocksDelete, AreRemoved, AreDeleted, IsHeld, IsStray, IsOver, HasDirectory, IsTableRow, AreTableRows, IsRunOf}
+use Rattle.span_shard.proofs.Lists.{any_all}
 use Rattle.span_shard.proofs.Bytes.{same_bytes}
 use Rattle.span_shard.proofs.Databases.{row_there}
 use Rattle.span_shard.proofs.OverRows.{cells, deleted_there, deleted_elsewhere, held_by, held_not}

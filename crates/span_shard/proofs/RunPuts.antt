@@ -1,12 +1,11 @@
 -- A mutation that makes a row, on the rows over those that are there now.
 use Rattle.std.proofs.Common.{◌≡◌, ◌⊎◌, inl, inr, ℕ, ◌≤◌, ◌<◌, ◌^◌, Bool, true, false, not, ◌||◌, ◌&&◌, cond, List, [], ◌∷◌, ◌++◌, Option, Some, None, is_some, is_none, Result, Ok, Err, length, take, drop, refl, sym, ap, subst, ◌∙◌, arith, append_assoc, zero, suc, Bor}
 use Rattle.std.specs.Prelude.{nat_lt, IfSome, MatchResult}
-use Rattle.std.specs.List.{find, AllByRecursion}
-use Rattle.std.specs.Option.{option_map, option_copied, unwrap_or}
+use Rattle.std.specs.Option.{option_copied, unwrap_or}
 use Rattle.std.proofs.lemmas.Bool.Decides.{nat_tests}
 use Rattle.span_value.specs.declared.value.Value.{Value}
 use Rattle.span_value.specs.declared.refusal.Refusal.{Refusal}
-use Rattle.span_value.specs.declared.refusal.Refusal.TheVariants.{OutOfMemory, Exists, Missing, ParentMissing, HasChildren, RowTooLong, BadRow}
+use Rattle.span_value.specs.declared.refusal.Refusal.TheVariants.{OutOfMemory, Exists, Missing, ParentMissing, HasChildren, RowTooLong}
 use Rattle.span_value.specs.Results.{first_cause}
 use Rattle.span_schema.specs.declared.table.Table.{Table}
 use Rattle.span_schema.specs.Lineages.{MeetsRules}
@@ -22,15 +21,14 @@ use Rattle.span_mutate.specs.declared.row.TableRow.{TableRow}
 use Rattle.span_mutate.specs.Columns.{is_delete}
 use Rattle.span_mutate.specs.Checking.{unless}
 use Rattle.span_mutate.specs.Rows.{row_at, with_row}
-use Rattle.span_mutate.specs.Database.{is_insert, is_update, lacks_parent, is_delete_blocked, merge_cells, cells_of, cells_after, causes, row_after, changed, without_rows, apply_to, apply_one}
+use Rattle.span_mutate.specs.Database.{is_insert, is_update, lacks_parent, is_delete_blocked, merge_cells, cells_of, cells_after, row_after, changed, without_rows, apply_one}
 use Rattle.span_mutate.specs.Directories.{IsDatabase}
 use Rattle.span_mutate.specs.Faults.{is_mutation_fault}
 use Rattle.span_mutate.specs.Typed.{IsTyped, AreTyped, IsTypedMutation}
 use Rattle.span_mutate.proofs.TypedRows.{IsTypedOf, found_typed, over_none, over_typed}
 use Rattle.span_shard.specs.KeyVersions.{KeyVersions}
-use Rattle.span_shard.specs.Rows.{begins_with, code_of, is_coded, row_coded, root_code, is_touched}
+use Rattle.span_shard.specs.Rows.{begins_with, row_coded, root_code}
 use Rattle.span_shard.specs.Shard.{row_now}
-use Rattle.span_shard.specs.Reading.{AreUnreadable, IsNoTableRow}
 use Rattle.span_shard.specs.Overlay.{Changes, changed_at, row_over, is_same, own_code, row_before, lacks_parent_over, put_cause, cause_over, AreCellsOf, IsUnpacked, IsPutRow, IsPutFault, IsNoPut, IsOver, HasDirectory, IsTableRow, AreTableRows, IsRunOf}
 use Rattle.span_schema.specs.Numbers.{root_of}
 use Rattle.span_mutate.specs.Directories.{key_len}
@@ -39,7 +37,6 @@ use Rattle.span_mutate.proofs.ByRoots.{in_own}
 use Rattle.span_mutate.proofs.Families.{parent_family, root_short}
 use Rattle.span_shard.proofs.Bytes.{same_bytes, bytes_same, begins_front, front_begins}
 use Rattle.span_shard.proofs.Touching.{touched_by}
-use Rattle.span_shard.proofs.Databases.{one_code, row_there}
 use Rattle.span_shard.proofs.OverRows.{cells, row_at_code, put_there, put_elsewhere, parent_key}
 
 -- ---- keys of a directory

@@ -1,6 +1,6 @@
 -- A row is at or below another where its coded key begins with the other's.
-use Rattle.std.proofs.Common.{◌≡◌, ℕ, ◌+◌, ◌-◌, ◌≤◌, ◌<◌, Bool, true, false, ◌==◌, ◌||◌, ◌&&◌, cond, List, [], ◌∷◌, ◌++◌, Option, Some, None, length, take, drop, refl, sym, ap, subst, ◌∙◌, arith, append_assoc, zero, suc}
-use Rattle.std.specs.List.{filter, list_any, range_with_len}
+use Rattle.std.proofs.Common.{◌≡◌, ℕ, ◌+◌, ◌-◌, Bool, true, false, ◌==◌, ◌||◌, ◌&&◌, List, [], ◌∷◌, ◌++◌, Option, Some, None, length, take, drop, refl, sym, ap, ◌∙◌, arith, append_assoc, zero, suc}
+use Rattle.std.specs.List.{filter, list_any}
 use Rattle.std.proofs.lemmas.List.{append-nil}
 use Rattle.std.proofs.lemmas.List.Folds.{list_any-append}
 use Rattle.std.proofs.Math.Seq.{take-append_seam}
@@ -15,9 +15,9 @@ use Rattle.span_keycode.proofs.Levels.{by_parents, back}
 use Rattle.span_keycode.proofs.LevelLaws.{path_child, path_root}
 use Rattle.span_mutate.specs.declared.row.TableRow.{TableRow}
 use Rattle.span_mutate.specs.Rows.{begins}
-use Rattle.span_mutate.specs.Database.{is_at_or_below, all_tables, is_in, is_under, tables_under, blocks_delete, tables_blocking_delete}
+use Rattle.span_mutate.specs.Database.{is_at_or_below, all_tables, is_in, is_under, blocks_delete, tables_blocking_delete}
 use Rattle.span_mutate.specs.Typed.{IsTyped}
-use Rattle.span_mutate.proofs.Begins.{both_hold, both_make, same_number, number_itself, taken_begins, front_within}
+use Rattle.span_mutate.proofs.Begins.{both_hold, both_make, same_number, number_itself, taken_begins}
 use Rattle.span_mutate.proofs.Parents.{in_range}
 use Rattle.span_mutate.proofs.Filters.{filter_yes, filter_no}
 use Rattle.span_shard.specs.Rows.{begins_with, code_of}

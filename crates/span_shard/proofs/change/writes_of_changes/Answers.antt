@@ -1,5 +1,4 @@
-use Rattle.std.proofs.Common.{◌≡◌, ◌++◌, ◌∷◌, [], List, sym, subst, ◌∙◌}
-use Rattle.span_shard.specs.declared.write.Write.{Write}
+use Rattle.std.proofs.Common.{sym, subst, ◌∙◌}
 use Rattle.span_shard.proofs.RunAll.{AreWrittenFrom, written_more, written_same}
 use Rattle.span_shard.proofs.change.writes_of_changes.Goals as goal
 

@@ -1,4 +1,4 @@
-use Rattle.std.proofs.Common.{◌≡◌, ◌++◌, ◌∷◌, [], ℕ, List, sym, ap, ◌∙◌}
+use Rattle.std.proofs.Common.{◌++◌, ◌∷◌, [], ℕ, List, sym, ap, ◌∙◌}
 use Rattle.span_shard.proofs.Overlays.{pushing_first, pushing_some, pushing_past, pushed_until}
 use Rattle.span_shard.proofs.overlay.push_changed.Goals as goal
 

@@ -1,8 +1,8 @@
-use Rattle.std.proofs.Common.{◌≡◌, ◌∙◌, ◌++◌, ◌∷◌, [], ℕ, List, false, true, take, inl, inr, refl, sym, ap, subst}
+use Rattle.std.proofs.Common.{◌∙◌, ◌∷◌, [], ℕ, List, false, true, take, inl, inr, refl, sym, subst}
 use Rattle.std.specs.List.{AllByRecursion}
 use Rattle.std.proofs.lemmas.Result.{err_from_is_err_and}
 use Rattle.span_keycode.specs.Reads.{IsNoKey}
-use Rattle.span_shard.specs.Overlay.{is_same, BlocksDelete, HasNoKey}
+use Rattle.span_shard.specs.Overlay.{is_same, BlocksDelete}
 use Rattle.span_shard.proofs.Bytes.{bytes_same}
 use Rattle.span_shard.proofs.Lists.{all_append}
 use Rattle.span_shard.proofs.RunAll.{any_at, blocks_by, taken_next}

@@ -1,10 +1,7 @@
-use Rattle.std.proofs.Common.{◌≡◌, ◌∙◌, ◌⊎◌, ◌≤◌, ◌<◌, Bool, true, false, not, ◌&&◌, ℕ, List, Option, is_some, inl, inr, sym, ap, subst}
+use Rattle.std.proofs.Common.{◌≡◌, ◌∙◌, ℕ, List, Option, is_some, sym, ap, subst}
 use Rattle.std.specs.Option.{option_copied}
-use Rattle.std.specs.Prelude.{MatchResult}
 use Rattle.span_value.specs.declared.value.Value.{Value}
-use Rattle.span_schema.specs.Numbers.{parent_of}
-use Rattle.span_mutate.specs.Database.{is_insert, is_update}
-use Rattle.span_shard.specs.Overlay.{row_over, row_before, own_code, lacks_parent_over, AreCellsOf}
+use Rattle.span_shard.specs.Overlay.{row_over, row_before, AreCellsOf}
 use Rattle.span_shard.proofs.RunPuts.{some_copied, put_answer}
 use Rattle.span_shard.proofs.run.row_put.Goals as goal
 

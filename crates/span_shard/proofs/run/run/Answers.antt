@@ -1,5 +1,5 @@
 use Rattle.std.proofs.lemmas.Result.{err_from_is_err_and}
-use Rattle.span_shard.proofs.RunAll.{none_run, one_more, run_fault, run_number}
+use Rattle.span_shard.proofs.RunAll.{one_more, run_fault, run_number}
 use Rattle.span_shard.proofs.run.run.Goals as goal
 
 pub returns-in_err-run_one-clause-fault : goal.returns-in_err-run_one-clause-fault
