@@ -7,7 +7,6 @@ mod copy;
 pub mod directory;
 pub mod laws;
 pub mod mutation;
-pub mod order;
 pub mod root;
 pub mod row;
 pub mod transaction;
