@@ -28,4 +28,3 @@ is_true o = option_map_or (λ text. bytes_eq text (codes "true")) o false
 
 pub set_given : (f : Found) (id : Text) (lent : Lent) → lent_text lent ≡ first_value f id → is_true (lent_text lent) ≡ is_set id (rows_of f)
 set_given f id lent e = ap is_true (is_first f id lent e)
-
