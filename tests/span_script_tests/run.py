@@ -1,8 +1,8 @@
 #!/usr/bin/env python3
-"""Runs each script of this folder through the proved program span_script_tests, and compares what it writes, what it reports on standard error
+"""Runs each script of this folder through the proved program spansql, and compares what it writes, what it explains on standard error
 and its exit status.
 
-    run.py                  every script
+    run.py                  every script, with and without --explain-refusals
     run.py --allocations    and, for each script, each allocation refused in turn
     run.py --devices        and, for each script, each read and each write failing in turn, and standard error failing
     run.py NAME ..          these scripts alone
@@ -29,8 +29,8 @@ import tempfile
 
 ROWS = os.path.dirname(os.path.abspath(__file__))
 TOP = os.path.dirname(os.path.dirname(ROWS))
-CRATE = os.path.join(TOP, "crates", "span_script_tests")
-PROGRAM = os.path.join(CRATE, "out", "span_script_tests")
+CRATE = os.path.join(TOP, "crates", "spansql")
+PROGRAM = os.path.join(CRATE, "out", "spansql")
 # A device on which every write fails.
 FULL = "/dev/full"
 # How many seconds a run may take.
@@ -76,8 +76,8 @@ class Row:
             file.write(content)
         return path
 
-    def run(self, environment=None, errors=subprocess.PIPE):
-        done = subprocess.run([PROGRAM, self.schema, self.script], env=environment, timeout=LONGEST,
+    def run(self, environment=None, errors=subprocess.PIPE, options=("--explain-refusals",)):
+        done = subprocess.run([PROGRAM, "run", *options, self.schema, self.script], env=environment, timeout=LONGEST,
                               stdin=subprocess.DEVNULL, stdout=subprocess.PIPE, stderr=errors, check=False)
         return done.stdout, done.stderr, done.returncode
 
@@ -91,7 +91,7 @@ def build():
     if not os.path.exists(PROGRAM):
         subprocess.run(["rt", "run"], cwd=CRATE, stdout=subprocess.DEVNULL, stderr=subprocess.DEVNULL, check=False)
     if not os.path.exists(PROGRAM):
-        sys.exit("scripts: span_script_tests can't be built: run `rt check` in " + CRATE)
+        sys.exit("scripts: spansql can't be built: run `rt check` in " + CRATE)
 
 
 def check_row(row):
@@ -101,16 +101,24 @@ def check_row(row):
         return f"status {status}, wanted {row.status}"
     if written != row.expected:
         return first_difference(written, row.expected)
-    return wrong_errors(row, errors)
+    return wrong_errors(row, errors) or wrong_without_explanations(row)
+
+
+def wrong_without_explanations(row):
+    """What is wrong with a run in which no refusal is explained: the status and the answers are the same, and standard error is empty."""
+    written, errors, status = row.run(options=())
+    if (written, errors, status) != (row.expected, b"", row.status):
+        return f"without explanations: status {status}, {errors!r}, or other answers"
+    return None
 
 
 def wrong_errors(row, errors):
     """What is wrong with what a row writes on standard error; None where nothing is."""
     if row.error is not None:
-        wanted = b"span_script_tests: " + row.schema.encode() + row.error
+        wanted = b"spansql: " + row.schema.encode() + row.error
         return None if errors == wanted else f"standard error has {errors!r}, wanted {wanted!r}"
     if row.errors is not None:
-        wanted = b"".join(b"span_script_tests: " + row.script.encode() + line for line in row.errors.splitlines(keepends=True))
+        wanted = b"".join(b"spansql: " + row.script.encode() + line for line in row.errors.splitlines(keepends=True))
         if errors != wanted:
             return "standard error: " + first_difference(errors, wanted)
     reports = reports_of(row, errors)
@@ -123,7 +131,7 @@ def wrong_errors(row, errors):
 
 def reports_of(row, errors):
     """The line, the byte (empty where there is none), the number, the name and the message of each refused command that is reported."""
-    program = re.escape(b"span_script_tests: " + row.script.encode())
+    program = re.escape(b"spansql: " + row.script.encode())
     return re.findall(rb"^" + program + rb", line (\d+)(?:, byte (\d+))?: refused (\d+) (\w+): (.+)$", errors, re.M)
 
 

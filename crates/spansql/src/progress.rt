@@ -1,0 +1,132 @@
+//! Standard error: how far a script was read.
+ghost use Rattle.std.specs.Prelude.{◌≡◌, ◌==◌, count_by, length};
+ghost use Rattle.spansql.specs.Counts.{counted};
+
+use span_core::Refusal;
+use span_script::Input;
+use std::fmt;
+use std::rt::Clock;
+use std::time::{Duration, Instant};
+
+/// The least time between two reports, in seconds.
+const SECONDS_BETWEEN: u64 = 1;
+
+/// What was read of a script. All lines that were read whole are answered where the script is read on.
+#[derive(Clone, Copy, Debug, PartialEq, Eq)]
+struct Counts {
+    lines: u64,
+    bytes: u64,
+    /// How many bytes the script has, where that is known.
+    all_bytes: Option<u64>,
+}
+
+impl Counts {
+    /// Counts bytes that were read, and the lines that end in them.
+    fn add(&mut self, bytes: &[u8])
+        ensures lines { self.new.lines ≡ counted self.old.lines (count_by (λ byte. byte == 10) bytes.now) }
+        ensures bytes { self.new.bytes ≡ counted self.old.bytes (length bytes.now) }
+        ensures all_bytes { self.new.all_bytes ≡ self.old.all_bytes }
+    {
+        let lines = bytes.iter().filter(|byte| **byte == b'\n').count();
+        self.lines = self.lines.saturating_add(lines as u64);
+        self.bytes = self.bytes.saturating_add(bytes.len() as u64);
+    }
+}
+
+impl fmt::Display for Counts {
+    ghost use Rattle.std.specs.Prelude.{Some};
+    ghost use Rattle.spansql.specs.Counts.{counts_text};
+
+    ghost output = { λ counts. Some (counts_text counts) };
+
+    fn fmt<W: fmt::Write>(&self, f: &mut fmt::Formatter<W>) -> fmt::Result {
+        let Counts {
+            lines,
+            bytes,
+            all_bytes,
+        } = *self;
+        match all_bytes {
+            Some(all) => write!(f, "{lines} lines, {bytes} of {all} bytes"),
+            None => write!(f, "{lines} lines, {bytes} bytes"),
+        }
+    }
+}
+
+/// How far a script was read, on standard error.
+#[derive(Drop)]
+pub struct Progress<'a, R> {
+    rt: &'a R,
+    counts: Counts,
+    /// When it was reported last, or the run began. None where it is not reported at all.
+    since: Option<Instant>,
+}
+
+impl<'a, R: Eprint + Clock> Progress<'a, R> {
+    /// Nothing was read yet, of a script of so many bytes, where that is known.
+    pub fn new(rt: &'a R, is_wanted: bool, all_bytes: Option<u64>) -> Progress<'a, R>
+        ensures { result.counts ≡ record { lines = 0; bytes = 0; all_bytes = all_bytes } }
+    {
+        let since = if is_wanted {
+            Instant::now(rt).ok()
+        } else {
+            None
+        };
+        Progress {
+            rt,
+            counts: Counts {
+                lines: 0,
+                bytes: 0,
+                all_bytes,
+            },
+            since,
+        }
+    }
+
+    /// Reports, where it is wanted and was not reported within the last second. Where the clock or standard error fails nothing is.
+    fn report(&mut self)
+        ensures { self.new.counts ≡ self.old.counts }
+    {
+        let Some(since) = self.since else {
+            return;
+        };
+        let Ok(now) = Instant::now(self.rt) else {
+            return;
+        };
+        if now.duration_since(since) < Duration::from_secs(SECONDS_BETWEEN) {
+            return;
+        }
+        self.since = Some(now);
+        let (rt, counts) = (self.rt, self.counts);
+        let _ = eprintln!(rt; "spansql: {counts}");
+    }
+}
+
+/// An input that reports how far it was read.
+#[derive(Drop)]
+pub struct Watched<'a, I, R> {
+    input: I,
+    progress: Progress<'a, R>,
+}
+
+impl<'a, I, R> Watched<'a, I, R> {
+    /// An input of which nothing was read.
+    pub fn new(input: I, progress: Progress<'a, R>) -> Watched<'a, I, R>
+        ensures input { result.input ≡ input }
+        ensures progress { result.progress ≡ progress.entry }
+    {
+        Watched { input, progress }
+    }
+}
+
+impl<I: Input, R: Eprint + Clock> Input for Watched<'_, I, R> {
+    ghost failures = { λ w. I.failures w.input };
+
+    ghost remaining = { λ w. I.remaining w.input };
+
+    fn read(&mut self, buffer: &mut [u8]) -> Result<usize, Refusal> {
+        self.progress.report();
+        let count = self.input.read(buffer)?;
+        self.progress.counts.add(&buffer[..count]);
+        Ok(count)
+    }
+}
