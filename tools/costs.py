@@ -30,6 +30,22 @@ def part_of(words, folder):
     return "tests" if "--test" in words else "proofs"
 
 
+def parent_of(number):
+    """The process that started this one; 0 where it has ended."""
+    try:
+        with open(f"/proc/{number}/stat", encoding="utf-8") as file:
+            return int(file.read().rsplit(")", 1)[1].split()[1])
+    except (OSError, IndexError):
+        return 0
+
+
+def is_below(number, top):
+    """Whether the process was started by this one, or by one that it started."""
+    while number > 1 and number != top:
+        number = parent_of(number)
+    return number == top
+
+
 def read_process(number):
     """The crate, the part, and the processor seconds of a process of the prover; None where it is another process, or has ended."""
     try:
@@ -53,7 +69,8 @@ def watch(process):
     while process.poll() is None:
         for number in filter(str.isdigit, os.listdir("/proc")):
             found = read_process(number)
-            if found:
+            # Other checks may run on the machine, which are none of the command's.
+            if found and is_below(int(number), process.pid):
                 crate, part, seconds = found
                 seen[number, crate, part] = max(seconds, seen.get((number, crate, part), 0.0))
         time.sleep(0.25)
