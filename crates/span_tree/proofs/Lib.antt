@@ -1,0 +1,16 @@
+mod Counting
+mod Turned
+mod Joined
+mod Avl
+mod Counts
+mod Rising
+mod Searching
+mod Placing
+mod Linking
+mod Sizes
+mod Puts
+mod Costs
+mod Exits
+mod Spent
+mod Whole
+mod Walking
