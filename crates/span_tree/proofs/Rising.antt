@@ -2,7 +2,7 @@
 use Rattle.std.proofs.Common.{◌≡◌, ◌≢◌, ℕ, zero, suc, ◌+◌, ◌<◌, ◌≤◌, List, [], ◌∷◌, ◌++◌, refl, sym, ◌∙◌, ap, arith, length, true, false, cond, Option, Some, None, filter, subst, append-nil, append_assoc}
 use Rattle.std.specs.Prelude.{Bool, not, ◌&&◌, AllPairs}
 use Rattle.std.specs.List.{AllByRecursion}
-use Rattle.std.specs.Ordering.{ordering_reverse, is_lt, is_gt}
+use Rattle.std.specs.Ordering.{ordering_reverse, is_lt, is_gt, is_ge}
 use Rattle.std.specs.declared.cmp.Ordering.{Ordering}
 use Rattle.std.specs.declared.cmp.Ordering.TheVariants.{Less, Equal, Greater}
 use Rattle.std.proofs.lemmas.Cmp.{nat_list_cmp_total, tied_itself}
@@ -302,3 +302,13 @@ above_all key (e ∷ es) = above_all_by key e es (byte_order e.key key) refl (ab
 pub rising_front : (xs ys : List Entry) → IsRising (xs ++ ys) → IsRising xs
 rising_front [] ys h = tt
 rising_front (x ∷ xs) ys h = (all_front (λ (f : Entry). byte_order x.key f.key ≡ Less) xs ys h.0, rising_front xs ys h.1)
+
+pub less_not_ge : (o : Ordering) → is_ge o ≡ false → o ≡ Less
+less_not_ge Less is = refl
+less_not_ge Equal is = absurd (let e : true ≡ false = is in cc)
+less_not_ge Greater is = absurd (let e : true ≡ false = is in cc)
+
+pub not_less_ge : (o : Ordering) → is_ge o ≡ true → is_lt o ≡ false
+not_less_ge Less is = absurd (let e : false ≡ true = is in cc)
+not_less_ge Equal is = refl
+not_less_ge Greater is = refl

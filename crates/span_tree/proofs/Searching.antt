@@ -1,5 +1,5 @@
 -- A search in a tree, by the entries of the tree.
-use Rattle.std.proofs.Common.{◌≡◌, ◌≢◌, ℕ, zero, suc, ◌+◌, ◌<◌, ◌≤◌, List, [], ◌∷◌, ◌++◌, refl, sym, ◌∙◌, ap, arith, length, Option, Some, None, subst, append_assoc, length-append, All}
+use Rattle.std.proofs.Common.{◌≡◌, ◌≢◌, ℕ, zero, suc, ◌+◌, ◌<◌, ◌≤◌, List, [], ◌∷◌, ◌++◌, refl, sym, ◌∙◌, ap, arith, length, Option, Some, None, subst, append_assoc, length-append, All, MatchOption}
 use Rattle.std.specs.List.{AllByRecursion}
 use Rattle.std.specs.declared.cmp.Ordering.{Ordering}
 use Rattle.std.specs.declared.cmp.Ordering.TheVariants.{Less, Equal, Greater}
@@ -110,3 +110,8 @@ first_is key x Leaf rising = refl
 first_is key x (Fork l m k b r) rising =
     let a : IsAround (items l) (entry k m) (items r) = around (items l) (entry k m) (items r) rising in
     first_by (byte_order key k) key x l m k b r refl a (first_is key (Some m) l a.front) (first_is key x r a.back)
+
+-- what a search gives
+pub search_cases : (key : List ℕ) (t : Tree) (r : Option ℕ) → IsRising (items t) → r ≡ search_in key t → MatchOption r (IsAbsent (items t) key) (HasCell (items t) key)
+search_cases key t None rising is = search_absent key t rising (sym is)
+search_cases key t (Some n) rising is = search_found key t n (sym is)

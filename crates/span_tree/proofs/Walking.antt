@@ -1,5 +1,5 @@
 -- What a walk over a range of keys meets.
-use Rattle.std.proofs.Common.{◌≡◌, ◌≢◌, ℕ, zero, suc, ◌+◌, ◌-◌, ◌<◌, ◌≤◌, List, [], ◌∷◌, ◌++◌, refl, sym, ◌∙◌, ap, arith, length, true, false, cond, Option, Some, None, subst, length-append}
+use Rattle.std.proofs.Common.{◌≡◌, ◌≢◌, ℕ, zero, suc, ◌+◌, ◌-◌, ◌<◌, ◌≤◌, List, [], ◌∷◌, ◌++◌, refl, sym, ◌∙◌, ap, arith, length, true, false, cond, Option, Some, None, subst, length-append, append-nil}
 use Rattle.std.specs.Prelude.{Bool, not, ◌&&◌, nat_eq}
 use Rattle.std.specs.List.{AllByRecursion}
 use Rattle.std.specs.Ordering.{is_lt}
@@ -21,7 +21,7 @@ use Rattle.span_tree.specs.Walks.{is_stop, walked, walked_in, AreBelow}
 use Rattle.span_tree.proofs.Counting.{one_here, differ}
 use Rattle.span_tree.proofs.Rising.{AllBelow, turned, less_trans, all_front, all_back, all_both, all_weaker, below_more, rising_back, below_all, drops_from, cut_from, range_is, nothing_in}
 use Rattle.span_tree.proofs.Searching.{length_items}
-use Rattle.span_tree.proofs.Linking.{held, held_append, held_items, linked_back}
+use Rattle.span_tree.proofs.Linking.{held, held_append, held_items, linked_back, linked_first}
 use Rattle.span_tree.proofs.Sizes.{size_most}
 
 -- ---- one step
@@ -134,3 +134,12 @@ module _ (cs : List Cell) (ns : Nexts) (index : Index) (own : IsIndex cs ns inde
       let walk : IsWalked cs ns n at stop (below high (from low es)) =
       part_walked (below low es) (below high (from low es)) (from high (from low es)) at stop is (first ∙ ap (λ (xs : List Entry). head_cell None xs) again) (last ∙ ap (λ (xs : List Entry). head_cell None xs) rest) in
       subst (λ (xs : List Entry). IsWalked cs ns n at stop xs) {x = below high (from low es)} {y = entries_in low high es} (sym (range_is low high es)) walk
+
+module _ (cs : List Cell) (ns : Nexts) (index : Index) (own : IsIndex cs ns index) (n : ℕ) (enough : length cs ≤ n) where
+  -- all entries
+  pub all_walked : IsWalked cs ns n ns.first None (entries_of cs index)
+  all_walked =
+      let es = entries_of cs index in
+      let whole : es ≡ [] ++ (es ++ []) = sym (append-nil es) in
+      let start : ns.first ≡ head_cell None (es ++ []) = linked_first (next_of ns) ns.first es own.linked ∙ ap (λ (xs : List Entry). head_cell None xs) whole in
+      part_walked cs ns index own n enough [] es [] ns.first None whole start refl

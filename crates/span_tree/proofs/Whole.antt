@@ -16,8 +16,8 @@ use Rattle.span_tree.specs.Counts.{Count}
 use Rattle.span_tree.specs.Effects.{cell_at}
 use Rattle.span_tree.specs.Entries.{Entry, entry, items, IsRising, below, above, with_entry}
 use Rattle.span_tree.specs.Nexts.{Nexts, next_of, IsLinked, with_room, with_cell, before_in, last_cell}
-use Rattle.span_tree.specs.Puts.{tree_at, IsTree, IsPut, IsNext, IsAdded, IsPutCost, extra, extra_by}
-use Rattle.span_tree.specs.Indexes.{tree_of, entries_of, IsSearchTree, IsIndex, IsSame, IsMore, IsSlotCost}
+use Rattle.span_tree.specs.Puts.{tree_at, IsTree, IsPut, IsNext, IsAdded, IsPutCost, IsSearchOf, extra, extra_by}
+use Rattle.span_tree.specs.Indexes.{tree_of, entries_of, IsSearchTree, IsIndex, IsSame, IsMore, IsSlotCost, IsSearchCost}
 use Rattle.span_tree.proofs.Counts.{count_inserted}
 use Rattle.span_tree.proofs.Puts.{once_more, within_more, fresh}
 use Rattle.span_tree.proofs.Avl.{few_levels, inserted_grown}
@@ -196,3 +196,9 @@ grown_yes g h is = let e : h + 1 ≡ suc h = omega arith in e ∙ ap (λ (x : Bo
 
 pub grown_not : (g : Bool) (h : ℕ) → g ≡ false → h ≡ grown_height g h
 grown_not g h is = ap (λ (x : Bool). grown_height x h) (sym is)
+
+pub search_cost : (cs : List Cell) (index : Index) (old new : Count) → IsSearchTree cs index → IsSearchOf (tree_of cs index) old new → (d : ℕ) → length (entries_of cs index) < 2 ^ d → IsSearchCost d old new
+search_cost cs index old new own cost d few =
+    let low : height (tree_of cs index) ≤ 2 * d = few_levels (tree_of cs index) d own.avl (omega (arith, length_items (tree_of cs index))) in
+    let compared = cost.compared in
+    record { compared = omega arith; written = cost.written }

@@ -3,8 +3,10 @@
 
 pub mod cell;
 pub mod cells;
+pub mod find;
 pub mod index;
 pub mod join;
 pub mod next;
 pub mod put;
 pub mod steps;
+pub mod walk;
