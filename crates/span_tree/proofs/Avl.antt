@@ -1,5 +1,5 @@
 -- Heights after a key more, and how high a balanced tree can be.
-use Rattle.std.proofs.Common.{◌≡◌, ◌≢◌, ℕ, zero, suc, ◌+◌, ◌-◌, ◌*◌, ◌^◌, ◌<◌, ◌≤◌, List, refl, sym, ◌∙◌, ap, arith, inl, inr, true, false, Option, Some, None}
+use Rattle.std.proofs.Common.{◌≡◌, ℕ, zero, suc, ◌+◌, ◌*◌, ◌^◌, ◌<◌, ◌≤◌, List, refl, arith, inl, inr, true, false}
 use Rattle.std.specs.Prelude.{Bool}
 use Rattle.std.specs.declared.cmp.Ordering.{Ordering}
 use Rattle.std.specs.declared.cmp.Ordering.TheVariants.{Less, Equal, Greater}
@@ -8,8 +8,8 @@ use Rattle.std.proofs.lemmas.Bool.{cases_lt}
 use Rattle.span_keycode.specs.Order.{byte_order}
 use Rattle.span_tree.specs.declared.cell.Balance.{Balance}
 use Rattle.span_tree.specs.declared.cell.Balance.TheVariants.{LeftHigh, Even, RightHigh}
-use Rattle.span_tree.specs.Trees.{Tree, Leaf, Fork, Grown, height, size, IsAvl, IsBalance, turned_right, turned_left, joined_left, joined_right, higher_left, higher_right, placed, inserted, after_left, after_right}
-use Rattle.span_tree.specs.Avl.{grown_height, IsLeaned, IsLeanedBy, IsGrown}
+use Rattle.span_tree.specs.Trees.{Tree, Leaf, Fork, Grown, height, size, IsAvl, IsBalance, turned_right, turned_left, joined_left, joined_right, higher_left, higher_right, placed, inserted}
+use Rattle.span_tree.specs.Avl.{grown_height, IsLeaned, IsGrown}
 
 -- ---- how high a balanced tree can be
 
@@ -80,7 +80,7 @@ higher_right_grown l n k RightHigh r x al ax e tall leans =
 higher_right_grown l n k Even r x al ax e tall leans = record { avl = (omega arith, al, ax); tall = omega arith; leans = λ f. tt }
 higher_right_grown l n k LeftHigh r x al ax e tall leans = record { avl = (omega arith, al, ax); tall = omega arith; leans = λ f. absurd (let q : false ≡ true = f in cc) }
 
-same_balance : (b : Balance) (x y z w : ℕ) → x ≡ y → z ≡ w → IsBalance b y w → IsBalance b x z
+pub same_balance : (b : Balance) (x y z w : ℕ) → x ≡ y → z ≡ w → IsBalance b y w → IsBalance b x z
 same_balance LeftHigh x y z w e f h = omega arith
 same_balance Even x y z w e f h = omega arith
 same_balance RightHigh x y z w e f h = omega arith

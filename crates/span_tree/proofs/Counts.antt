@@ -1,12 +1,12 @@
 -- Which cells a tree has after a key more.
-use Rattle.std.proofs.Common.{◌≡◌, ◌≢◌, ℕ, zero, suc, ◌+◌, ◌<◌, ◌≤◌, List, refl, sym, ◌∙◌, ap, arith, inl, inr, true, false, Option, Some, None}
+use Rattle.std.proofs.Common.{◌≡◌, ℕ, ◌+◌, List, refl, arith, true, false, Option, Some, None}
 use Rattle.std.specs.Prelude.{Bool}
 use Rattle.std.specs.declared.cmp.Ordering.{Ordering}
 use Rattle.std.specs.declared.cmp.Ordering.TheVariants.{Less, Equal, Greater}
 use Rattle.span_keycode.specs.Order.{byte_order}
 use Rattle.span_tree.specs.declared.cell.Balance.{Balance}
 use Rattle.span_tree.specs.declared.cell.Balance.TheVariants.{LeftHigh, Even, RightHigh}
-use Rattle.span_tree.specs.Trees.{Tree, Leaf, Fork, Grown, count, one_at, turned_right, turned_left, joined_left, joined_right, higher_left, higher_right, placed, inserted, by_side, search_in}
+use Rattle.span_tree.specs.Trees.{Tree, Leaf, Fork, Grown, count, one_at, turned_right, turned_left, joined_left, joined_right, placed, inserted, by_side, search_in}
 
 count_turned_right : (i : ℕ) (l : Tree) (n : ℕ) (k : List ℕ) (r : Tree) → count i (turned_right l n k r) ≡ one_at i n + (count i l + count i r)
 count_turned_right i Leaf n k r = omega arith

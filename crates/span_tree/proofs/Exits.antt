@@ -1,5 +1,5 @@
 -- The facts of `add_key`, at a link that was found to lead to a cell, and links that were read.
-use Rattle.std.proofs.Common.{◌≡◌, ℕ, suc, ◌-◌, ◌<◌, ◌≤◌, List, refl, sym, ◌∙◌, ap, arith, length, Option, Some, None, subst}
+use Rattle.std.proofs.Common.{◌≡◌, ℕ, ◌-◌, ◌<◌, List, sym, ◌∙◌, ap, arith, length, Option, Some, subst}
 use Rattle.span_tree.specs.declared.cell.Cell.{Cell}
 use Rattle.span_tree.specs.declared.cell.Links.{Links}
 use Rattle.std.specs.declared.cmp.Ordering.{Ordering}

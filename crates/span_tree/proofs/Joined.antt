@@ -1,5 +1,5 @@
 -- Joining a part to its cell again is joining trees.
-use Rattle.std.proofs.Common.{◌≡◌, ◌≢◌, ℕ, zero, suc, ◌+◌, ◌<◌, ◌≤◌, List, [], ◌∷◌, ◌++◌, refl, sym, ◌∙◌, ap, arith, length, inl, inr, Option, Some, None, subst}
+use Rattle.std.proofs.Common.{◌≡◌, ℕ, ◌+◌, ◌<◌, ◌≤◌, List, refl, sym, ◌∙◌, ap, arith, length, Option, Some, None, subst}
 use Rattle.std.specs.Prelude.{Bool, true, false}
 use Rattle.span_tree.specs.declared.cell.Cell.{Cell}
 use Rattle.span_tree.specs.declared.cell.Links.{Links}
@@ -8,8 +8,8 @@ use Rattle.span_tree.specs.declared.cell.Balance.TheVariants.{LeftHigh, Even, Ri
 use Rattle.span_tree.specs.declared.join.Part.{Part}
 use Rattle.span_tree.specs.Trees.{Tree, Leaf, Fork, root_of, cell_of, Stands, one_at, count, turned_right, lifted_by, lifted_inner, turned_left, sunk_by, sunk_inner, after_left, after_right, joined_left, joined_right, higher_left, higher_right}
 use Rattle.span_tree.specs.Effects.{cell_at, with_links, links_with, links_of, turned_right_by, turned_right_cells, turned_right_root, turned_right_root_by, lifted_right_cells, lifted_root, turned_left_by, turned_left_cells, turned_left_root, turned_left_root_by, lifted_left_cells}
-use Rattle.span_tree.specs.Joins.{part_of, higher_left_cells, higher_left_root, joined_left_cells, joined_left_root, higher_right_cells, higher_right_root, joined_right_cells, joined_right_root}
-use Rattle.span_tree.proofs.Counting.{one_here, one_same, differ, stays, links_here, links_other, links_length}
+use Rattle.span_tree.specs.Joins.{higher_left_cells, higher_left_root, joined_left_cells, joined_left_root, higher_right_cells, higher_right_root, joined_right_cells, joined_right_root}
+use Rattle.span_tree.proofs.Counting.{one_here, differ}
 use Rattle.span_tree.proofs.Turned.{IsNow, relinked, relinked_thrice, single_right, single_left, double}
 
 now_is : (cs new other : List Cell) (t : Tree) (root place : ℕ) → other ≡ new → place ≡ root → IsNow cs new t root → IsNow cs other t place

@@ -14,3 +14,5 @@ mod Exits
 mod Spent
 mod Whole
 mod Walking
+mod Building
+mod Removing

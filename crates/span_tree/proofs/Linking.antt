@@ -1,18 +1,11 @@
 -- Links from each cell to the next, after a cell more.
-use Rattle.std.proofs.Common.{◌≡◌, ◌≢◌, ℕ, zero, suc, ◌+◌, ◌-◌, ◌<◌, ◌≤◌, List, [], ◌∷◌, ◌++◌, refl, sym, ◌∙◌, ap, arith, length, get_or, set, inl, inr, Option, Some, None, subst}
+use Rattle.std.proofs.Common.{◌≡◌, ◌≢◌, ℕ, zero, suc, ◌+◌, ◌-◌, ◌<◌, ◌≤◌, List, [], ◌∷◌, ◌++◌, refl, sym, ◌∙◌, ap, arith, length, set, inl, inr, Option, Some, None, subst}
 use Rattle.std.proofs.lemmas.Bool.{cases_lt}
 use Rattle.std.proofs.lemmas.List.{get_or-set_same, get_or-set_other, length-set, get_or_append_left, get_or-append_right, get_or_past}
-use Rattle.span_tree.specs.declared.cell.Balance.{Balance}
 use Rattle.span_tree.specs.Trees.{Tree, Leaf, Fork, one_at, count}
-use Rattle.span_tree.specs.Entries.{Entry, entry, items}
+use Rattle.span_tree.specs.Entries.{Entry, entry, items, held}
 use Rattle.span_tree.specs.Nexts.{Nexts, next_of, IsLinked, with_room, with_cell, last_cell, head_cell}
 use Rattle.span_tree.proofs.Counting.{one_here, one_same, differ}
-use Rattle.std.proofs.Common.{length-append}
-
--- how many entries have a cell
-abbrev pub held : ℕ → List Entry → ℕ
-held i [] = 0
-held i (e ∷ es) = one_at i e.cell + held i es
 
 pub held_append : (i : ℕ) (xs ys : List Entry) → held i (xs ++ ys) ≡ held i xs + held i ys
 held_append i [] ys = omega arith
@@ -23,7 +16,7 @@ held_items i Leaf = refl
 held_items i (Fork l n k b r) = omega (arith, held_items i l, held_items i r, held_append i (items l) (entry k n ∷ items r))
 
 -- a cell that is held and one that is not differ
-held_apart : (i c : ℕ) (es : List Entry) → 0 < held i es → held c es ≡ 0 → i ≢ c
+pub held_apart : (i c : ℕ) (es : List Entry) → 0 < held i es → held c es ≡ 0 → i ≢ c
 held_apart i c es some none same =
     let e : held i es ≡ held c es = ap (λ (x : ℕ). held x es) same in
     absurd (omega arith)
@@ -54,11 +47,11 @@ pub record IsPutAfter (f g : ℕ → Option ℕ) (b c : ℕ) : Type 0 where
   pub past : g c ≡ f b
   pub others : (i : ℕ) → i ≢ b → i ≢ c → g i ≡ f i
 
-last_some : (x : ℕ) (xs : List Entry) → (b : ℕ) × (last_cell (Some x) xs ≡ Some b)
+pub last_some : (x : ℕ) (xs : List Entry) → (b : ℕ) × (last_cell (Some x) xs ≡ Some b)
 last_some x [] = (x, refl)
 last_some x (y ∷ ys) = last_some y.cell ys
 
-last_held : (x : Entry) (xs : List Entry) (b : ℕ) → last_cell (Some x.cell) xs ≡ Some b → 0 < held b (x ∷ xs)
+pub last_held : (x : Entry) (xs : List Entry) (b : ℕ) → last_cell (Some x.cell) xs ≡ Some b → 0 < held b (x ∷ xs)
 last_held x [] b last =
     let same : b ≡ x.cell = (let q : Some b ≡ Some x.cell = sym last in cc) in
     omega (arith, one_same b x.cell same)

@@ -1,8 +1,8 @@
 -- A key put into a part of a tree of cells is put into the tree.
-use Rattle.std.proofs.Common.{◌≡◌, ◌≢◌, ℕ, zero, suc, ◌+◌, ◌-◌, ◌<◌, ◌≤◌, List, [], ◌∷◌, ◌++◌, refl, sym, ◌∙◌, ap, arith, length, inl, inr, true, false, Option, Some, None, subst, length-append}
+use Rattle.std.proofs.Common.{◌≡◌, ℕ, zero, suc, ◌+◌, ◌-◌, ◌<◌, ◌≤◌, List, [], ◌∷◌, ◌++◌, refl, sym, ◌∙◌, ap, arith, length, inl, inr, true, false, Option, Some, None, subst, length-append}
 use Rattle.std.specs.Prelude.{Bool}
 use Rattle.std.specs.declared.cmp.Ordering.{Ordering}
-use Rattle.std.specs.declared.cmp.Ordering.TheVariants.{Less, Equal, Greater}
+use Rattle.std.specs.declared.cmp.Ordering.TheVariants.{Less, Greater}
 use Rattle.std.proofs.lemmas.Bool.{cases_lt, cases_eq}
 use Rattle.std.proofs.lemmas.List.{get_or_append_left, get_or_push}
 use Rattle.span_keycode.specs.Order.{byte_order}
@@ -10,13 +10,12 @@ use Rattle.span_tree.specs.declared.cell.Cell.{Cell}
 use Rattle.span_tree.specs.declared.cell.Balance.{Balance}
 use Rattle.span_tree.specs.declared.cell.Balance.TheVariants.{LeftHigh, Even, RightHigh}
 use Rattle.span_tree.specs.declared.join.Part.{Part}
-use Rattle.span_tree.specs.Trees.{Tree, Leaf, Fork, Grown, root_of, cell_of, Stands, one_at, count, shape, height, joined_left, joined_right, placed, inserted, by_side, search_in}
+use Rattle.span_tree.specs.Trees.{Tree, Leaf, Fork, Grown, root_of, cell_of, Stands, one_at, count, joined_left, joined_right, placed, inserted, by_side, search_in}
 use Rattle.span_tree.specs.Effects.{cell_at, blank, new_cell, links_of}
 use Rattle.span_tree.specs.Joins.{joined_left_cells, joined_left_root, higher_left_root, joined_right_cells, joined_right_root, higher_right_root}
-use Rattle.span_tree.specs.Puts.{tree_at, IsTree, IsFound, IsAdded}
-use Rattle.span_tree.proofs.Counting.{one_here, one_same, one_other, differ, stays}
+use Rattle.span_tree.specs.Puts.{tree_at, IsTree, IsAdded}
+use Rattle.span_tree.proofs.Counting.{one_here, one_same, one_other, stays}
 use Rattle.span_tree.proofs.Counts.{count_inserted, count_joined_left, count_joined_right}
-use Rattle.span_tree.proofs.Turned.{IsNow}
 use Rattle.span_tree.proofs.Joined.{joined_left_is, joined_right_is}
 
 -- the tree below a link that leads to a cell

@@ -1,5 +1,5 @@
 -- Lists of entries whose keys rise.
-use Rattle.std.proofs.Common.{◌≡◌, ◌≢◌, ℕ, zero, suc, ◌+◌, ◌<◌, ◌≤◌, List, [], ◌∷◌, ◌++◌, refl, sym, ◌∙◌, ap, arith, length, true, false, cond, Option, Some, None, filter, subst, append-nil, append_assoc}
+use Rattle.std.proofs.Common.{◌≡◌, ◌≢◌, ℕ, List, [], ◌∷◌, ◌++◌, refl, sym, ◌∙◌, ap, arith, true, false, cond, filter, subst, append-nil, append_assoc}
 use Rattle.std.specs.Prelude.{Bool, not, ◌&&◌, AllPairs}
 use Rattle.std.specs.List.{AllByRecursion}
 use Rattle.std.specs.Ordering.{ordering_reverse, is_lt, is_gt, is_ge}
@@ -10,7 +10,7 @@ use Rattle.std.proofs.lemmas.Map.Lookups.{exact_bytes}
 use Rattle.std.proofs.lemmas.List.Elements.{filter-append, All-from_recursion}
 use Rattle.std.proofs.lemmas.List.Kept.{AllPairs-cons}
 use Rattle.span_keycode.specs.Order.{byte_order}
-use Rattle.span_tree.specs.Entries.{Entry, IsRising, IsAbsent, below, above, from, with_entry, is_within, entries_in}
+use Rattle.span_tree.specs.Entries.{Entry, IsRising, below, above, from, with_entry, is_within, entries_in}
 
 pub less_trans : (a b c : List ℕ) → byte_order a b ≡ Less → byte_order b c ≡ Less → byte_order a c ≡ Less
 less_trans a b c = nat_list_cmp_total.trans a b c

@@ -1,13 +1,13 @@
 -- A search in a tree, by the entries of the tree.
-use Rattle.std.proofs.Common.{◌≡◌, ◌≢◌, ℕ, zero, suc, ◌+◌, ◌<◌, ◌≤◌, List, [], ◌∷◌, ◌++◌, refl, sym, ◌∙◌, ap, arith, length, Option, Some, None, subst, append_assoc, length-append, All, MatchOption}
+use Rattle.std.proofs.Common.{◌≡◌, ◌≢◌, ℕ, zero, List, [], ◌∷◌, ◌++◌, refl, sym, ◌∙◌, ap, arith, length, Option, Some, None, length-append, MatchOption}
 use Rattle.std.specs.List.{AllByRecursion}
 use Rattle.std.specs.declared.cmp.Ordering.{Ordering}
 use Rattle.std.specs.declared.cmp.Ordering.TheVariants.{Less, Equal, Greater}
 use Rattle.std.proofs.lemmas.Map.Lookups.{exact_bytes}
-use Rattle.std.proofs.lemmas.List.Elements.{Contains-append_left, Contains-append_right, All-from_recursion, recursion_from_All}
+use Rattle.std.proofs.lemmas.List.Elements.{Contains-append_left, Contains-append_right, All-from_recursion}
 use Rattle.span_keycode.specs.Order.{byte_order}
 use Rattle.span_tree.specs.declared.cell.Balance.{Balance}
-use Rattle.span_tree.specs.Trees.{Tree, Leaf, Fork, count, one_at, size, by_side, search_in}
+use Rattle.span_tree.specs.Trees.{Tree, Leaf, Fork, size, by_side, search_in}
 use Rattle.span_tree.specs.Entries.{Entry, entry, items, IsRising, HasCell, IsAbsent, below, from}
 use Rattle.span_tree.specs.Nexts.{before_in, first_in, last_cell, head_cell}
 use Rattle.span_tree.proofs.Rising.{AllBelow, AllAbove, apart, turned, all_both, all_weaker, below_more, above_more, IsAround, around, below_left, below_right, from_left, from_right, from_here}

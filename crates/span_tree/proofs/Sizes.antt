@@ -1,9 +1,9 @@
 -- A tree has no more cells than there are.
-use Rattle.std.proofs.Common.{◌≡◌, ◌≢◌, ℕ, zero, suc, ◌+◌, ◌<◌, ◌≤◌, List, refl, sym, ◌∙◌, ap, arith, inl, inr}
+use Rattle.std.proofs.Common.{◌≡◌, ℕ, zero, suc, ◌+◌, ◌<◌, ◌≤◌, List, refl, arith, inl, inr}
 use Rattle.std.proofs.lemmas.Bool.{cases_eq}
 use Rattle.span_tree.specs.declared.cell.Balance.{Balance}
 use Rattle.span_tree.specs.Trees.{Tree, Leaf, Fork, one_at, count, size}
-use Rattle.span_tree.proofs.Counting.{one_same, one_other}
+use Rattle.span_tree.proofs.Counting.{one_same}
 
 -- how often the cells below n are in the tree
 abbrev counted : ℕ → Tree → ℕ

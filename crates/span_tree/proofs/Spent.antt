@@ -1,5 +1,5 @@
 -- What the part's call cost, at the link that was read.
-use Rattle.std.proofs.Common.{◌≡◌, ℕ, suc, ◌-◌, ◌<◌, ◌≤◌, List, refl, sym, ◌∙◌, ap, arith, Option, Some, None, subst}
+use Rattle.std.proofs.Common.{◌≡◌, ℕ, suc, ◌-◌, ◌<◌, ◌≤◌, List, sym, ◌∙◌, arith, Option, Some, subst}
 use Rattle.std.specs.Prelude.{Result, Ok, Err}
 use Rattle.span_value.specs.declared.refusal.Refusal.{Refusal}
 use Rattle.span_tree.specs.declared.cell.Cell.{Cell}
@@ -11,7 +11,7 @@ use Rattle.span_tree.specs.Counts.{Count}
 use Rattle.span_tree.specs.Trees.{height}
 use Rattle.span_tree.specs.Joins.{joined_left_root, joined_right_root, IsJoinCost}
 use Rattle.span_tree.specs.Effects.{links_of, IsCompared}
-use Rattle.span_tree.specs.Puts.{tree_at, IsTree, IsPutCost, IsSearchOf, extra}
+use Rattle.span_tree.specs.Puts.{tree_at, IsTree, IsPutCost, IsSearchOf}
 use Rattle.span_tree.proofs.Puts.{fork_at}
 use Rattle.span_tree.specs.Trees.{Tree}
 use Rattle.span_tree.proofs.Costs.{left_lower, cost_left, right_lower, cost_right, cost_deeper}

@@ -1,11 +1,11 @@
 -- A turn of cells is a turn of the tree.
-use Rattle.std.proofs.Common.{◌≡◌, ◌≢◌, ℕ, zero, suc, ◌+◌, ◌<◌, ◌≤◌, List, [], ◌∷◌, ◌++◌, refl, sym, ◌∙◌, ap, arith, length, inl, inr, Option, Some, None}
+use Rattle.std.proofs.Common.{◌≡◌, ◌≢◌, ℕ, ◌+◌, ◌<◌, ◌≤◌, List, refl, sym, ◌∙◌, ap, arith, length, Some}
 use Rattle.span_tree.specs.declared.cell.Cell.{Cell}
 use Rattle.span_tree.specs.declared.cell.Links.{Links}
 use Rattle.span_tree.specs.declared.cell.Balance.{Balance}
-use Rattle.span_tree.specs.declared.cell.Balance.TheVariants.{LeftHigh, Even, RightHigh}
-use Rattle.span_tree.specs.Trees.{Tree, Leaf, Fork, root_of, cell_of, Stands, one_at, count, turned_right, lifted_by, lifted_inner, turned_left, sunk_by, sunk_inner, after_left, after_right}
-use Rattle.span_tree.specs.Effects.{cell_at, with_links, links_with, links_of, turned_right_by, turned_right_root_by, lifted_right_cells, lifted_root, turned_left_by, turned_left_root_by, lifted_left_cells}
+use Rattle.span_tree.specs.declared.cell.Balance.TheVariants.{Even}
+use Rattle.span_tree.specs.Trees.{Tree, Fork, root_of, cell_of, Stands, one_at, count}
+use Rattle.span_tree.specs.Effects.{cell_at, with_links, links_with}
 use Rattle.span_tree.proofs.Counting.{one_here, one_same, differ, stays, links_here, links_other, links_length}
 
 -- the cells now hold this tree, and all others are as they were

@@ -1,27 +1,24 @@
 -- What a walk over a range of keys meets.
 use Rattle.std.proofs.Common.{◌≡◌, ◌≢◌, ℕ, zero, suc, ◌+◌, ◌-◌, ◌<◌, ◌≤◌, List, [], ◌∷◌, ◌++◌, refl, sym, ◌∙◌, ap, arith, length, true, false, cond, Option, Some, None, subst, length-append, append-nil}
-use Rattle.std.specs.Prelude.{Bool, not, ◌&&◌, nat_eq}
+use Rattle.std.specs.Prelude.{Bool, not, nat_eq}
 use Rattle.std.specs.List.{AllByRecursion}
 use Rattle.std.specs.Ordering.{is_lt}
-use Rattle.std.specs.declared.cmp.Ordering.{Ordering}
-use Rattle.std.specs.declared.cmp.Ordering.TheVariants.{Less, Equal, Greater}
+use Rattle.std.specs.declared.cmp.Ordering.TheVariants.{Less}
 use Rattle.std.proofs.lemmas.Bool.Decides.{nat_tests}
-use Rattle.std.proofs.lemmas.Map.Lookups.{exact_bytes}
 use Rattle.std.proofs.lemmas.List.Elements.{filter-append}
 use Rattle.span_keycode.specs.Order.{byte_order}
 use Rattle.span_tree.specs.declared.cell.Cell.{Cell}
-use Rattle.span_tree.specs.declared.cell.Balance.{Balance}
 use Rattle.span_tree.specs.declared.index.Index.{Index}
-use Rattle.span_tree.specs.Trees.{Tree, Leaf, Fork, Stands, one_at, count, size}
+use Rattle.span_tree.specs.Trees.{Tree, Leaf, Fork, Stands, one_at}
 use Rattle.span_tree.specs.Effects.{cell_at}
-use Rattle.span_tree.specs.Entries.{Entry, entry, items, IsRising, below, from, is_within, entries_in}
+use Rattle.span_tree.specs.Entries.{Entry, entry, items, held, IsRising, below, from, entries_in}
 use Rattle.span_tree.specs.Nexts.{Nexts, next_of, IsLinked, head_cell}
-use Rattle.span_tree.specs.Indexes.{tree_of, entries_of, IsSearchTree, IsIndex}
+use Rattle.span_tree.specs.Indexes.{tree_of, entries_of, IsIndex}
 use Rattle.span_tree.specs.Walks.{is_stop, walked, walked_in, AreBelow}
 use Rattle.span_tree.proofs.Counting.{one_here, differ}
-use Rattle.span_tree.proofs.Rising.{AllBelow, turned, less_trans, all_front, all_back, all_both, all_weaker, below_more, rising_back, below_all, drops_from, cut_from, range_is, nothing_in}
+use Rattle.span_tree.proofs.Rising.{all_front, all_back, all_both, below_more, rising_back, below_all, drops_from, cut_from, range_is}
 use Rattle.span_tree.proofs.Searching.{length_items}
-use Rattle.span_tree.proofs.Linking.{held, held_append, held_items, linked_back, linked_first}
+use Rattle.span_tree.proofs.Linking.{held_append, held_items, linked_back, linked_first}
 use Rattle.span_tree.proofs.Sizes.{size_most}
 
 -- ---- one step
@@ -62,7 +59,7 @@ none_met f g n at stop (e ∷ fs) h is =
     ap (λ (x : Option ℕ). walked f g n x stop) h.0 ∙ walked_stop f g n e.cell stop hit
 
 -- the entries from the first of some to the one after them
-walked_is : (f : ℕ → Cell) (g : ℕ → Option ℕ) (n : ℕ) (at stop : Option ℕ) (es fs : List Entry) → IsLinked g at (es ++ fs) → stop ≡ head_cell None fs → length es ≤ n
+pub walked_is : (f : ℕ → Cell) (g : ℕ → Option ℕ) (n : ℕ) (at stop : Option ℕ) (es fs : List Entry) → IsLinked g at (es ++ fs) → stop ≡ head_cell None fs → length es ≤ n
     → AllByRecursion (λ (e : Entry). (f e.cell).key ≡ e.key) es → ((i : ℕ) → held i (es ++ fs) ≤ 1) → walked f g n at stop ≡ es
 walked_is f g n at stop [] fs h is enough keys once = none_met f g n at stop fs h is
 walked_is f g zero at stop (e ∷ es) fs h is enough keys once = absurd (omega arith)

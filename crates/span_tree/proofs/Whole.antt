@@ -1,30 +1,29 @@
 -- The tree below the root after a key more.
-use Rattle.std.proofs.Common.{◌≡◌, ◌≢◌, ℕ, zero, suc, ◌+◌, ◌-◌, ◌*◌, ◌^◌, ◌<◌, ◌≤◌, List, [], ◌∷◌, ◌++◌, refl, sym, ◌∙◌, ap, arith, length, set, inl, inr, true, false, Option, Some, None, subst, length-append}
-use Rattle.std.specs.Prelude.{Bool, max, Result, Ok, Err, OnErr}
+use Rattle.std.proofs.Common.{◌≡◌, ℕ, zero, suc, ◌+◌, ◌*◌, ◌^◌, ◌<◌, ◌≤◌, List, [], ◌∷◌, ◌++◌, refl, sym, ◌∙◌, ap, arith, length, set, true, false, Option, Some, None, subst, length-append}
+use Rattle.std.specs.Prelude.{Bool, Result, Ok, Err, OnErr}
 use Rattle.std.proofs.Math.Nat.{le-max_left, le-max_right}
 use Rattle.std.proofs.lemmas.List.{length-set}
 use Rattle.span_value.specs.declared.refusal.Refusal.{Refusal}
 use Rattle.span_tree.specs.declared.cell.Cell.{Cell}
-use Rattle.span_tree.specs.declared.cell.Balance.{Balance}
 use Rattle.span_tree.specs.declared.join.Part.{Part}
 use Rattle.span_tree.specs.declared.put.Put.{Put}
 use Rattle.span_tree.specs.declared.put.Put.TheVariants.{Found, Added}
 use Rattle.span_tree.specs.declared.index.Index.{Index}
-use Rattle.span_tree.specs.Trees.{Tree, Leaf, Fork, Grown, root_of, cell_of, Stands, one_at, count, shape, height, size, IsAvl, inserted, search_in}
-use Rattle.span_tree.specs.Avl.{grown_height, IsGrown}
+use Rattle.span_tree.specs.Trees.{Tree, Leaf, Fork, Grown, root_of, Stands, one_at, count, shape, height, size, IsAvl, inserted, search_in}
+use Rattle.span_tree.specs.Avl.{grown_height}
 use Rattle.span_tree.specs.Counts.{Count}
 use Rattle.span_tree.specs.Effects.{cell_at}
-use Rattle.span_tree.specs.Entries.{Entry, entry, items, IsRising, below, above, with_entry}
-use Rattle.span_tree.specs.Nexts.{Nexts, next_of, IsLinked, with_room, with_cell, before_in, last_cell}
-use Rattle.span_tree.specs.Puts.{tree_at, IsTree, IsPut, IsNext, IsAdded, IsPutCost, IsSearchOf, extra, extra_by}
+use Rattle.span_tree.specs.Entries.{Entry, entry, items, held, IsRising, below, above, with_entry}
+use Rattle.span_tree.specs.Nexts.{Nexts, next_of, IsLinked, with_room, with_cell, before_in}
+use Rattle.span_tree.specs.Puts.{IsTree, IsPut, IsNext, IsAdded, IsPutCost, IsSearchOf, extra, extra_by}
 use Rattle.span_tree.specs.Indexes.{tree_of, entries_of, IsSearchTree, IsIndex, IsSame, IsMore, IsSlotCost, IsSearchCost}
 use Rattle.span_tree.proofs.Counts.{count_inserted}
 use Rattle.span_tree.proofs.Puts.{once_more, within_more, fresh}
 use Rattle.span_tree.proofs.Avl.{few_levels, inserted_grown}
-use Rattle.span_tree.proofs.Rising.{IsAround, rising_around, rising_front, rising_back, below_all, above_all, cut_at}
+use Rattle.span_tree.proofs.Rising.{rising_around, rising_front, rising_back, below_all, above_all, cut_at}
 use Rattle.span_tree.proofs.Searching.{length_items, search_found, search_absent, search_other, before_is}
 use Rattle.span_tree.proofs.Placing.{items_inserted}
-use Rattle.span_tree.proofs.Linking.{held, held_append, held_items, linked_same, room_same, linked_more}
+use Rattle.span_tree.proofs.Linking.{held_items, linked_same, room_same, linked_more}
 use Rattle.span_tree.proofs.Sizes.{size_most}
 use Rattle.span_tree.proofs.Exits.{found_is}
 
@@ -50,7 +49,7 @@ rising_more key c es rising = rising_around (below key es) (entry key c) (above 
   greater = above_all key es;
 })
 
-length_cell : (n : Nexts) (b : Option ℕ) (c : ℕ) → length (with_cell n b c).next ≡ length n.next
+pub length_cell : (n : Nexts) (b : Option ℕ) (c : ℕ) → length (with_cell n b c).next ≡ length n.next
 length_cell n None c = length-set n.next c n.first
 length_cell n (Some b) c = length-set (set n.next c (next_of n b)) b (Some c) ∙ length-set n.next c (next_of n b)
 

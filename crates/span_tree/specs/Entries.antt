@@ -1,11 +1,11 @@
 -- The keys of a tree in order, each with its cell.
-use Rattle.std.specs.Prelude.{◌≡◌, ◌≢◌, ℕ, List, [], ◌∷◌, ◌++◌, Bool, not, ◌&&◌, filter, All, Contains, AllPairs}
+use Rattle.std.specs.Prelude.{◌≡◌, ◌≢◌, ℕ, ◌+◌, List, [], ◌∷◌, ◌++◌, Bool, not, ◌&&◌, filter, All, Contains}
 use Rattle.std.specs.List.{AllByRecursion}
 use Rattle.std.specs.Borrow.{Bor}
 use Rattle.std.specs.Ordering.{is_lt, is_gt}
 use Rattle.std.specs.declared.cmp.Ordering.TheVariants.{Less}
 use Rattle.span_keycode.specs.Order.{byte_order}
-use Rattle.span_tree.specs.Trees.{Tree, Leaf, Fork}
+use Rattle.span_tree.specs.Trees.{Tree, Leaf, Fork, one_at}
 
 pub record Entry : Type 0 where
   pub key : List ℕ
@@ -18,6 +18,11 @@ entry k n = record { key = k; cell = n }
 abbrev pub items : Tree → List Entry
 items Leaf = []
 items (Fork l n k b r) = items l ++ entry k n ∷ items r
+
+-- how many entries have a cell
+abbrev pub held : ℕ → List Entry → ℕ
+held i [] = 0
+held i (e ∷ es) = one_at i e.cell + held i es
 
 -- each key is below all later ones
 abbrev pub IsRising : List Entry → Type 0

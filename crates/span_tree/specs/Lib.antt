@@ -8,3 +8,5 @@ pub mod Puts
 pub mod Avl
 pub mod Indexes
 pub mod Walks
+pub mod Builds
+pub mod Removals

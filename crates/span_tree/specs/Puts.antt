@@ -1,11 +1,11 @@
 -- A key put into a tree of cells.
-use Rattle.std.specs.Prelude.{◌≡◌, ℕ, ◌+◌, ◌<◌, ◌≤◌, List, [], length, Option, Some, None, Result, Ok, Err, Bool, true, false}
+use Rattle.std.specs.Prelude.{◌≡◌, ℕ, ◌+◌, ◌<◌, ◌≤◌, List, length, Option, Some, None, Result, Ok, Err, Bool, true, false}
 use Rattle.span_tree.specs.declared.cell.Cell.{Cell}
 use Rattle.span_tree.specs.declared.join.Part.{Part}
 use Rattle.span_tree.specs.declared.put.Put.{Put}
 use Rattle.span_tree.specs.declared.put.Put.TheVariants.{Found, Added}
 use Rattle.span_value.specs.declared.refusal.Refusal.{Refusal}
-use Rattle.span_tree.specs.Trees.{Tree, Grown, root_of, Stands, count, height, shape, inserted, search_in}
+use Rattle.span_tree.specs.Trees.{Tree, root_of, Stands, count, height, shape, inserted, search_in}
 use Rattle.span_tree.specs.Counts.{Count}
 use Rattle.span_tree.specs.Effects.{cell_at}
 use Rattle.span_tree.specs.Nexts.{Nexts, with_room, with_cell}

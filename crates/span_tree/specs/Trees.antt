@@ -1,10 +1,9 @@
 -- Trees as values, and how cells hold one.
-use Rattle.std.specs.Prelude.{◌≡◌, ℕ, zero, suc, ◌+◌, ◌<◌, ◌≤◌, List, [], ◌∷◌, ◌++◌, length, Option, Some, None, Bool, true, false, slice_index_or, nat_eq, max, if◌then◌else◌}
+use Rattle.std.specs.Prelude.{◌≡◌, ℕ, zero, suc, ◌+◌, List, Option, Some, None, Bool, true, false, nat_eq, max, if◌then◌else◌}
 use Rattle.std.specs.declared.cmp.Ordering.{Ordering}
 use Rattle.std.specs.declared.cmp.Ordering.TheVariants.{Less, Equal, Greater}
 use Rattle.span_keycode.specs.Order.{byte_order}
 use Rattle.span_tree.specs.declared.cell.Cell.{Cell}
-use Rattle.span_tree.specs.declared.cell.Links.{Links}
 use Rattle.span_tree.specs.declared.cell.Balance.{Balance}
 use Rattle.span_tree.specs.declared.cell.Balance.TheVariants.{LeftHigh, Even, RightHigh}
 

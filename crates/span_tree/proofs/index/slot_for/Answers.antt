@@ -1,9 +1,8 @@
-use Rattle.std.proofs.Common.{◌≡◌, ◌<◌, ◌^◌, ◌+◌, length, refl, arith, inl, inr, Some, None}
-use Rattle.span_tree.specs.declared.index.Index.{Index}
+use Rattle.std.proofs.Common.{◌+◌, refl, arith, inl, inr, Some, None}
 use Rattle.span_tree.specs.Indexes.{tree_of}
 use Rattle.span_tree.specs.Nexts.{before_in}
 use Rattle.span_tree.proofs.Searching.{search_absent}
-use Rattle.span_tree.proofs.Whole.{on_err, slot_cost, slot_found, slot_added, grown_yes, grown_not, levels_fit, IsAfter}
+use Rattle.span_tree.proofs.Whole.{on_err, slot_cost, slot_found, slot_added, grown_yes, grown_not, levels_fit}
 use Rattle.span_tree.proofs.index.slot_for.Goals as goal
 
 pub returns-in_err-cell-clause-absent : goal.returns-in_err-cell-clause-absent

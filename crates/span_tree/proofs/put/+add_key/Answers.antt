@@ -1,6 +1,6 @@
 use Rattle.std.proofs.Common.{arith, rules}
 use Rattle.std.proofs.lemmas.Result.{err_from_is_err_and}
-use Rattle.span_tree.proofs.Exits.{tree_some, range_some, left_some, right_some, left_ready, right_ready, left_added, right_added, left_found, right_found, left_next, right_next}
+use Rattle.span_tree.proofs.Exits.{range_some, left_some, right_some, left_ready, right_ready, left_added, right_added, left_found, right_found, left_next, right_next}
 use Rattle.span_tree.proofs.Spent.{some_levels, left_spent, right_spent, left_found_cost, right_found_cost, left_refused, right_refused}
 use Rattle.span_tree.proofs.put.+add_key.Goals as goal
 

@@ -1,4 +1,4 @@
-use Rattle.std.proofs.Common.{◌≡◌, ◌≤◌, ◌∙◌, length, arith, ap, Option, None, subst, sym, ℕ}
+use Rattle.std.proofs.Common.{arith, None, subst, sym}
 use Rattle.span_tree.specs.Indexes.{entries_of}
 use Rattle.span_tree.proofs.Walking.{IsWalked, all_walked}
 use Rattle.span_tree.proofs.walk.all.Goals as goal

@@ -1,4 +1,4 @@
-use Rattle.std.proofs.Common.{◌≡◌, ◌∙◌, arith, ap, sym}
+use Rattle.std.proofs.Common.{◌∙◌, arith, ap, sym}
 use Rattle.std.specs.Ordering.{is_lt}
 use Rattle.span_tree.specs.Indexes.{entries_of}
 use Rattle.span_tree.proofs.Rising.{nothing_in, less_not_ge, not_less_ge}
