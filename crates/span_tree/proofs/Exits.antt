@@ -11,7 +11,10 @@ use Rattle.span_tree.specs.declared.put.Put.TheVariants.{Found, Added}
 use Rattle.span_tree.specs.Joins.{joined_left_cells, joined_left_root, joined_right_cells, joined_right_root}
 use Rattle.span_tree.specs.Effects.{cell_at, links_of}
 use Rattle.span_tree.specs.Trees.{Tree, Fork, by_side, search_in}
-use Rattle.span_tree.specs.Nexts.{Nexts, with_room, with_cell, before_in, first_in}
+use Rattle.std.specs.Prelude.{Bool}
+use Rattle.std.proofs.Common.{cond}
+use Rattle.span_tree.specs.Entries.{is_past}
+use Rattle.span_tree.specs.Nexts.{Nexts, with_room, with_cell, before_in, first_in, first_past}
 use Rattle.span_tree.specs.Puts.{tree_at, IsTree, IsPut, IsFound, IsAdded, IsNext}
 use Rattle.span_tree.proofs.Puts.{fork_at, left_part, right_part, in_range, put_left, put_right, cell_left, cell_right}
 use Rattle.span_tree.proofs.Costs.{IsReady, ready_part}
@@ -88,6 +91,14 @@ module _ (cs : List Cell) (levels : ℕ) (at : Option ℕ) (i : ℕ) (ls : Links
   first_by a o is =
       ap (λ (t : Tree). first_in key a t) (fork_some cs levels at i ls e read tree)
       ∙ ap (λ (x : Ordering). by_side x (first_in key (Some i) (tree_at cs (levels - 1) ls.left)) i (first_in key a (tree_at cs (levels - 1) ls.right))) (sym is)
+
+-- ---- a search for the end of the keys that begin with some bytes
+
+pub past_by : (cs : List Cell) (levels : ℕ) (at : Option ℕ) (i : ℕ) (ls : Links) (front : List ℕ) (a : Option ℕ) (b : Bool) → at ≡ Some i → ls ≡ links_of cs i → IsTree cs at (tree_at cs levels at) → b ≡ is_past front (cell_at cs i).key
+    → first_past front a (tree_at cs levels at) ≡ cond b (first_past front (Some i) (tree_at cs (levels - 1) ls.left)) (first_past front a (tree_at cs (levels - 1) ls.right))
+past_by cs levels at i ls front a b e read tree is =
+    ap (λ (t : Tree). first_past front a t) (fork_some cs levels at i ls e read tree)
+    ∙ ap (λ (x : Bool). cond x (first_past front (Some i) (tree_at cs (levels - 1) ls.left)) (first_past front a (tree_at cs (levels - 1) ls.right))) (sym is)
 
 -- ---- a key that a part has
 

@@ -16,3 +16,4 @@ mod Whole
 mod Walking
 mod Building
 mod Removing
+mod Fronts

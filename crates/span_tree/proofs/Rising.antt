@@ -75,7 +75,6 @@ around (x ∷ xs) e ys h =
 pub rising_around : (xs : List Entry) (e : Entry) (ys : List Entry) → IsAround xs e ys → IsRising (xs ++ e ∷ ys)
 rising_around [] e ys h = (h.greater, h.back)
 rising_around (x ∷ xs) e ys h =
-    let P : Entry → Type 0 = λ (f : Entry). byte_order x.key f.key ≡ Less in
     let over : AllAbove x.key ys = above_more x.key e.key ys h.smaller.0 h.greater in
     (all_both (λ (f : Entry). byte_order x.key f.key ≡ Less) xs (e ∷ ys) h.front.0 (h.smaller.0, over), rising_around xs e ys (record { front = h.front.1; back = h.back; smaller = h.smaller.1; greater = h.greater }))
 

@@ -1,6 +1,6 @@
 -- The keys of a tree in order, each with its cell.
-use Rattle.std.specs.Prelude.{◌≡◌, ◌≢◌, ℕ, ◌+◌, List, [], ◌∷◌, ◌++◌, Bool, not, ◌&&◌, filter, All, Contains}
-use Rattle.std.specs.List.{AllByRecursion}
+use Rattle.std.specs.Prelude.{◌≡◌, ◌≢◌, ℕ, ◌+◌, List, [], ◌∷◌, ◌++◌, Bool, not, ◌&&◌, filter, All, Contains, nat_eq}
+use Rattle.std.specs.List.{AllByRecursion, starts_with}
 use Rattle.std.specs.Borrow.{Bor}
 use Rattle.std.specs.Ordering.{is_lt, is_gt}
 use Rattle.std.specs.declared.cmp.Ordering.TheVariants.{Less}
@@ -62,3 +62,14 @@ entries_in low high es = filter (λ e. is_within low high e.key) es
 -- what a walk hands out, as an entry
 abbrev pub entry_of : Bor (List ℕ) × ℕ → Entry
 entry_of r = record { key = r.0.now; cell = r.1 }
+
+-- the entries whose keys begin with these bytes
+abbrev pub entries_under : List ℕ → List Entry → List Entry
+entries_under front es = filter (λ e. starts_with nat_eq e.key front) es
+
+-- after all keys that begin with these bytes
+abbrev pub is_past : List ℕ → List ℕ → Bool
+is_past front key = not (is_lt (byte_order key front)) && not (starts_with nat_eq key front)
+
+abbrev pub past : List ℕ → List Entry → List Entry
+past front es = filter (λ e. is_past front e.key) es

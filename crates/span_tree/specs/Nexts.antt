@@ -1,8 +1,8 @@
 -- The cells in the order of their keys: the first, and after each the next.
-use Rattle.std.specs.Prelude.{◌≡◌, ℕ, ◌-◌, List, [], ◌∷◌, ◌++◌, length, take, Option, Some, None, slice_index_or, slice_set}
+use Rattle.std.specs.Prelude.{◌≡◌, ℕ, ◌-◌, List, [], ◌∷◌, ◌++◌, length, take, Option, Some, None, slice_index_or, slice_set, if◌then◌else◌}
 use Rattle.span_keycode.specs.Order.{byte_order}
 use Rattle.span_tree.specs.Trees.{Tree, Leaf, Fork, by_side}
-use Rattle.span_tree.specs.Entries.{Entry}
+use Rattle.span_tree.specs.Entries.{Entry, is_past}
 
 -- the first cell, and the cell after each
 pub record Nexts : Type 0 where
@@ -52,3 +52,8 @@ without_last n = record { first = n.first; next = take (length n.next - 1) n.nex
 
 abbrev pub without_first : Nexts → Nexts
 without_first n = record { first = None; next = n.next }
+
+-- the cell of the first key after all that begin with these bytes, or what is given where there is none
+abbrev pub first_past : List ℕ → Option ℕ → Tree → Option ℕ
+first_past front a Leaf = a
+first_past front a (Fork l n k bal r) = (if is_past front k then first_past front (Some n) l else first_past front a r)

@@ -1,5 +1,6 @@
 //! Cells, by their numbers. The arena's chain records are to stand here.
 ghost use Rattle.span_keycode.specs.Order.{byte_order};
+ghost use Rattle.span_tree.specs.Entries.{is_past};
 ghost use Rattle.span_tree.specs.Effects.{cell_at, new_cell, with_links, IsCompared, IsWritten};
 ghost use Rattle.std.specs.Prelude.{◌≡◌, ◌+◌, ◌<◌, ◌^◌, ◌++◌, [], ◌∷◌, length, IfOk, OnErr, IfErr};
 
@@ -82,6 +83,22 @@ impl Cells {
     {
         steps.compare();
         self.order(at, key)
+    }
+
+    /// Whether the key of a cell is after all keys that begin with these bytes, counted as a step.
+    pub fn is_past<C: Ledger, W: Ledger>(
+        &self,
+        at: usize,
+        front: &[u8],
+        steps: &mut Steps<C, W>,
+    ) -> bool
+        requires { at < length self.now }
+        ensures past { result ≡ is_past front.now (cell_at self.now at).key }
+        ensures steps { IsCompared steps.old steps.new }
+    {
+        steps.compare();
+        let key = self.key(at);
+        !key.cmp(&front).is_lt() && !key.starts_with(front)
     }
 
     /// Other links for a cell.

@@ -1,12 +1,12 @@
 //! A walk over keys in order.
 ghost use Rattle.std.specs.Iterator.{YieldsFirstBy, item_count};
 ghost use Rattle.std.specs.Prelude.{◌≡◌, ℕ, ◌*◌, ◌<◌, ◌^◌, [], length};
-ghost use Rattle.span_tree.specs.Entries.{entries_in, entry_of};
+ghost use Rattle.span_tree.specs.Entries.{entries_in, entries_under, entry_of};
 ghost use Rattle.span_tree.specs.Indexes.{entries_of, IsIndex, IsSearchCost};
 ghost use Rattle.span_tree.specs.Walks.{is_stop};
 
 use crate::cells::Cells;
-use crate::find::first_from;
+use crate::find::{first_from, first_past};
 use crate::index::Index;
 use crate::next::NextLinks;
 use crate::steps::Steps;
@@ -103,6 +103,31 @@ pub fn walk_range<'a, C: Ledger, W: Ledger>(
     }
     let at = first_from(cells, index, low, steps);
     let stop = first_from(cells, index, high, steps);
+    Walk {
+        cells,
+        nexts,
+        at,
+        stop,
+        left: cells.len(),
+    }
+}
+
+/// The keys that begin with these bytes, with their cells, in order of the keys, which are lent. The first is found as by
+/// `first_from`, the end as by `first_past`.
+pub fn walk_under<'a, C: Ledger, W: Ledger>(
+    cells: &'a Cells,
+    nexts: &'a NextLinks,
+    index: &Index,
+    front: &[u8],
+    steps: &mut Steps<C, W>,
+) -> Walk<'a>
+    requires { IsIndex cells.now nexts.now index.now }
+    ensures entries { result ≡ entries_under front.now (entries_of cells.now index.now) }
+    ensures cost { (d : ℕ) → length (entries_of cells.now index.now) < 2 ^ d
+        → IsSearchCost (2 * d) steps.old steps.new }
+{
+    let at = first_from(cells, index, front, steps);
+    let stop = first_past(cells, index, front, steps);
     Walk {
         cells,
         nexts,
