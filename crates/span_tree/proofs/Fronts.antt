@@ -1,5 +1,5 @@
 -- Keys that begin with some bytes are adjacent.
-use Rattle.std.proofs.Common.{◌≡◌, ◌≢◌, ℕ, ◌+◌, ◌<◌, ◌≤◌, Bool, true, false, not, ◌&&◌, cond, filter, List, [], ◌∷◌, ◌++◌, length, take, drop, refl, sym, ap, ◌∙◌, arith, subst, Option, Some, None}
+use Rattle.std.proofs.Common.{◌≡◌, ◌≢◌, ℕ, ◌≤◌, Bool, true, false, not, ◌&&◌, cond, filter, List, [], ◌∷◌, ◌++◌, length, take, drop, refl, sym, ap, ◌∙◌, arith, subst, Option, Some, None}
 use Rattle.std.specs.Prelude.{nat_eq}
 use Rattle.std.specs.List.{starts_with, AllByRecursion}
 use Rattle.std.specs.declared.cmp.Ordering.{Ordering}
@@ -18,7 +18,7 @@ use Rattle.span_tree.specs.Trees.{Tree, Leaf, Fork}
 use Rattle.span_tree.specs.Entries.{Entry, entry, items, IsRising, below, from, is_past, past, entries_under}
 use Rattle.span_tree.specs.Nexts.{Nexts, head_cell, first_past}
 use Rattle.span_tree.specs.Indexes.{entries_of, IsIndex}
-use Rattle.span_tree.proofs.Rising.{AllAbove, less_trans, turned, all_weaker, all_back, IsAround, around, rising_back, below_all, cut_from}
+use Rattle.span_tree.proofs.Rising.{AllAbove, less_trans, all_weaker, IsAround, around, rising_back, below_all, cut_from}
 use Rattle.span_tree.proofs.Walking.{IsWalked, part_walked}
 
 abbrev begins : List ℕ → List ℕ → Bool
