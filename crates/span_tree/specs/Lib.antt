@@ -1,0 +1,12 @@
+pub mod Trees
+pub mod Counts
+pub mod Effects
+pub mod Joins
+pub mod Entries
+pub mod Nexts
+pub mod Puts
+pub mod Avl
+pub mod Indexes
+pub mod Walks
+pub mod Builds
+pub mod Removals
