@@ -151,7 +151,11 @@ fn merge_cell(alloc: Global, named: &Option<Value>, old: Option<&Value>) -> Resu
 
 /// The cells of a row once those that are named have changed: what is not named is kept, or NULL where there is no row. `OutOfMemory`:
 /// memory ran out.
-pub fn merge_cells(alloc: Global, named: &[Option<Value>], old: &[Value]) -> Result<Vec<Value>, Refusal>
+pub fn merge_cells(
+    alloc: Global,
+    named: &[Option<Value>],
+    old: &[Value],
+) -> Result<Vec<Value>, Refusal>
     ensures { MatchResult result (λ cells. cells.items ≡ merge_cells named.now old.now) (λ why. why ≡ Refusal.OutOfMemory) }
 {
     let mut cells = Vec::with_capacity(alloc, named.len())?;

@@ -202,8 +202,7 @@ one_more tables ms typed cs i m es fs h e so_far run = record { rows = run.rows;
     applied db is tdb now =
         let at = so_far.applied db is tdb now in
         let next = run.applied (is_touched tables ms) (has_own tables ms i m h e) at.0 at.2.0 at.2.1 at.3 in
-        let keyed = (typed_keyed tables (m ∷ []) (typed_m, tt)).0 in
-        (
+        let keyed = (typed_keyed tables (m ∷ []) (typed_m, tt)).0 in (
           next.0,
           sym (run_on tables at.0 m (drop (i + 1) ms) next.0 next.1) ∙ ap (apply tables at.0) (sym (item_first ms i m h e)) ∙ at.1,
           (step_database tables m keyed at.0 at.2.0 next.0 next.1, step_typed tables at.0 m next.0 at.2.1 typed_m next.1),
@@ -318,8 +317,8 @@ written_more cs es left rest ws w so_far out new = record {
         inr (
           out.1 k ∙ ap (λ (b : Bool). cond b None (changed_at left k)) e,
           subst (λ (l : List ℕ). find (is_of l) (ws ++ w ∷ []) ≡ write_at cs es l) same
-          (found_last (is_of w.key) ws w here.1 (bytes_same w.key w.key refl)
-          ∙ sym (ap (write_if w.key (row_now cs w.key)) here.0 ∙ ap (write_new w.key w.row) differs)),
+              (found_last (is_of w.key) ws w here.1 (bytes_same w.key w.key refl)
+              ∙ sym (ap (write_if w.key (row_now cs w.key)) here.0 ∙ ap (write_new w.key w.row) differs)),
         )
     by_key k false e = elim (so_far.at k) [
       | inl g ↦ inl (out.1 k ∙ ap (λ (b : Bool). cond b None (changed_at left k)) e ∙ g.0, found_more (is_of k) ws w (other k e) ∙ g.1)

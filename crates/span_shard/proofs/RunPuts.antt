@@ -250,8 +250,8 @@ put_run tables rules cs es fs m row typed kind made p has_put = record { rows = 
     applied dir has db is tdb over = (
       with_row (key_columns tables m.table) (row_after m (before_in m db)) db,
       put_applied tables rules dir cs es m typed kind has db tdb over
-      ∙ ap (λ (vs : List Value). unless (cause_over tables cs es m vs) (with_row (key_columns tables m.table) (row_after m (before_in m db)) db)) (sym old)
-      ∙ ap (λ (w : Option Refusal). unless w (with_row (key_columns tables m.table) (row_after m (before_in m db)) db)) p.cause,
+          ∙ ap (λ (vs : List Value). unless (cause_over tables cs es m vs) (with_row (key_columns tables m.table) (row_after m (before_in m db)) db)) (sym old)
+          ∙ ap (λ (w : Option Refusal). unless w (with_row (key_columns tables m.table) (row_after m (before_in m db)) db)) p.cause,
       λ k g. by_code k g (is_same code k) refl,
     )
       where
@@ -341,10 +341,13 @@ put_answer tables cs es m old present lacking are some lacks insert update paren
       is = h.0;
     }
     answer (Err why) h = elim h [
-      | inl g ↦ inr (inl (ap is_mutation_fault g.0, λ vs other.
-          ap (cause_over tables cs es m) (one_cells tables m.table (row_before tables cs es m) vs old other are)
-          ∙ same old
-          ∙ causes_long (is_insert m.kind && present) (is_update m.kind && not present) lacking long insert update parent (longer longest_row (length (row_code (merge_cells m.cells old))) g.1)
-          ∙ ap Some (sym g.0)))
+      | inl g ↦ inr (inl (
+        ap is_mutation_fault g.0,
+        λ vs other.
+            ap (cause_over tables cs es m) (one_cells tables m.table (row_before tables cs es m) vs old other are)
+            ∙ same old
+            ∙ causes_long (is_insert m.kind && present) (is_update m.kind && not present) lacking long insert update parent (longer longest_row (length (row_code (merge_cells m.cells old))) g.1)
+            ∙ ap Some (sym g.0),
+      ))
       | inr g ↦ inl g
     ]

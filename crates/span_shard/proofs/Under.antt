@@ -66,8 +66,7 @@ path_front tables n = by_parents tables (λ i. list_any (λ (k : ℕ). k == n) (
         of_parent (Some p) e =
             or_cases (list_any (λ (k : ℕ). k == n) (path_at tables p)) (list_any (λ (k : ℕ). k == n) ((i + 1) ∷ []))
             (sym (ap (list_any (λ (k : ℕ). k == n)) (path_child tables i p e) ∙ list_any-append (λ (k : ℕ). k == n) (path_at tables p) ((i + 1) ∷ [])) ∙ h)
-            (λ f. let front = again p e f in
-            (
+            (λ f. let front = again p e f in (
               front.0 ++ (i + 1) ∷ [],
               path_child tables i p e ∙ ap (λ (l : List ℕ). l ++ (i + 1) ∷ []) front.1 ∙ append_assoc (path_at tables (n - 1)) front.0 ((i + 1) ∷ []),
             ))

@@ -118,12 +118,12 @@ lacks_parent_over tables cs es (Some p) key = is_none (row_over cs es (key_code 
 -- what refuses to make a row of these cells, in the order of the checks: whether its key has a row, whether its parent row is absent
 abbrev pub put_cause : CheckedMutation → Bool → Bool → List Value → Option Refusal
 put_cause m present lacking old = first_cause (
-  (is_insert m.kind && present, Exists)
-  ∷ (is_update m.kind && not present, Missing)
-  ∷ (lacking, ParentMissing)
-  ∷ (nat_lt longest_row (length (row_code (merge_cells m.cells old))), RowTooLong)
-  ∷ []
-)
+    (is_insert m.kind && present, Exists)
+    ∷ (is_update m.kind && not present, Missing)
+    ∷ (lacking, ParentMissing)
+    ∷ (nat_lt longest_row (length (row_code (merge_cells m.cells old))), RowTooLong)
+    ∷ []
+    )
 
 abbrev pub cause_over : List Table → List KeyVersions → Changes → CheckedMutation → List Value → Option Refusal
 cause_over tables cs es m old = put_cause m (is_some (row_before tables cs es m)) (lacks_parent_over tables cs es (parent_of tables m.table) m.key) old

@@ -16,11 +16,7 @@ use std::collections::BTreeMap;
 pub(crate) type Changes = BTreeMap<Key, Option<Seq<u8>>>;
 
 /// The row at a key: what the mutations left there, and else what is there now.
-pub(crate) fn row_over<'a>(
-    store: &'a Store,
-    changes: &'a Changes,
-    key: &Key,
-) -> Option<&'a Seq<u8>>
+pub(crate) fn row_over<'a>(store: &'a Store, changes: &'a Changes, key: &Key) -> Option<&'a Seq<u8>>
     requires { AreInOrder store.now }
     ensures { option_copied result ≡ row_over store.now changes.now.entries key.now }
 {

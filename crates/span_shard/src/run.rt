@@ -138,12 +138,7 @@ fn row_put(
 }
 
 // Whether one of the keys is of a table whose rows stay where a row of this table, above them, is to be deleted.
-fn is_blocked(
-    alloc: Global,
-    schema: &Schema,
-    table: usize,
-    keys: &[Key],
-) -> Result<bool, Refusal>
+fn is_blocked(alloc: Global, schema: &Schema, table: usize, keys: &[Key]) -> Result<bool, Refusal>
     ensures { MatchResult result
         (IsBlocked schema.now table keys.now)
         (λ why. (why ≡ Refusal.OutOfMemory) ⊎ ((why ≡ Refusal.BadKey) × HasNoKey schema.now keys.now)) }

@@ -13,19 +13,21 @@ returns-in_err-found c =
     let p = err_from_is_err_and c.from_residual.result c.from_residual.ensures.1 in
     let key = c.key-item.result in
     rw (p.1, p.2) (elim c.in_err-found.ensures [
-      | inl e ↦ inr (e.0, record {
-        key = key;
-        among = any_at (is_same key) c.args.keys.now c.loop-key.key-index key c.loop-key-test.true c.key-item.is (bytes_same key key refl);
-        none = subst (IsNoKey c.args.schema.now) c.as_slice.ensures e.1;
-      })
+      | inl e ↦ inr (
+        e.0,
+        record {
+          key = key;
+          among = any_at (is_same key) c.args.keys.now c.loop-key.key-index key c.loop-key-test.true c.key-item.is (bytes_same key key refl);
+          none = subst (IsNoKey c.args.schema.now) c.as_slice.ensures e.1;
+        },
+      )
       | inr e ↦ inl e
     ])
 
 pub returns-then-blocks_delete : goal.returns-then-blocks_delete
 returns-then-blocks_delete c =
     let key = c.key-item.result in
-    let found = c.in_ok-found.found in
-    (
+    let found = c.in_ok-found.found in (
       key,
       any_at (is_same key) c.args.keys.now c.loop-key.key-index key c.loop-key-test.true c.key-item.is (bytes_same key key refl),
       blocks_by c.args.schema.now c.meets_rules.ensures c.args.table true key found.table found.values c.in_ok-found.ensures.0 (sym c.as_slice.ensures ∙ c.in_ok-found.ensures.1) (sym c.blocks_delete.ensures ∙ c.if-blocks_delete.true),
