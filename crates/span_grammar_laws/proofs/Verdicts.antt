@@ -1,4 +1,4 @@
--- The laws: the grammar that is read and the written one judge alike.
+-- The laws: the grammar that is read and the written one give the same verdicts.
 use Rattle.std.proofs.Common.{◌≡◌, ℕ, List, [], map, refl, sym, ap, subst, ◌∙◌}
 use Rattle.span_value.specs.declared.refusal.Refusal.{Refusal}
 use Rattle.span_value.specs.declared.refusal.Refusal.TheVariants as refusal

@@ -27,7 +27,7 @@ written_rule goal.Schema = written_schema
 abbrev pub HasSomeTree : (Place → Rule) → Rule → List Lexeme → Type 0
 HasSomeTree inside a tokens = (x : Tree) × HasTree inside a tokens x
 
--- the two grammars judge the tokens of a text alike
+-- the two grammars give the same verdict on the tokens of a text
 pub record JudgesAlike (g : Goal) (text : List ℕ) (tokens : List Token) : Type 0 where
   pub trees : HasSomeTree inside (goal_rule g) (lexemes_of text tokens) ↔ HasSomeTree written_inside (written_rule g) (plain_lexemes text tokens)
   pub wrong : IsWrong inside (goal_rule g) (lexemes_of text tokens) ↔ IsWrong written_inside (written_rule g) (plain_lexemes text tokens)

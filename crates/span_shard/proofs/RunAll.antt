@@ -134,7 +134,7 @@ delete_refused tables rules cs es m why typed kind made h = elim h [
   ]
 ]
 
--- whether a key is of a blocking table is told by the key that it codes
+-- whether a key is of a blocking table follows from the key that it codes
 pub blocks_by : (tables : List Table) → MeetsRules tables → (n : ℕ) (b : Bool) (k : List ℕ) (t : ℕ) (vs : List Value) → IsCodedKey tables t vs → k ≡ key_code tables t vs → blocks_delete tables n t ≡ b → BlocksDelete tables n b k
 blocks_by tables rules n b k t vs coded is blocks m ws other at =
     let same = one_key tables rules t m vs ws coded.0 other.0 (sym is ∙ at) in
@@ -253,11 +253,11 @@ differ (Some a) (Some b) e f =
     let g : false ≡ true = ap not (sym yes) ∙ e in
     absurd (cc)
 
-alike : (a b : Option (List ℕ)) → not (is_same_row a b) ≡ false → a ≡ b
-alike None None e = refl
-alike None (Some b) e = absurd (let f : true ≡ false = e in cc)
-alike (Some a) None e = absurd (let f : true ≡ false = e in cc)
-alike (Some a) (Some b) e = ap Some ((bytes_eq-Decides a b).0 (not_false (bytes_eq a b) e))
+equal_rows : (a b : Option (List ℕ)) → not (is_same_row a b) ≡ false → a ≡ b
+equal_rows None None e = refl
+equal_rows None (Some b) e = absurd (let f : true ≡ false = e in cc)
+equal_rows (Some a) None e = absurd (let f : true ≡ false = e in cc)
+equal_rows (Some a) (Some b) e = ap Some ((bytes_eq-Decides a b).0 (not_false (bytes_eq a b) e))
 
 -- ---- what is written
 
@@ -394,7 +394,7 @@ writes_made tables rules ms typed cs es ws run written = record {
             left = sym (ap (λ (o : Option (Option (List ℕ))). unwrap_or o (row_now cs k)) f) ∙ over k g
 
             by_row : (b : Bool) → is_same_row (row_now cs k) row ≡ b → IsWrite k (row_coded tables db k) (row_coded tables after k) (write_new k row b)
-            by_row true h = sym left ∙ sym (alike (row_now cs k) row (ap not h)) ∙ now k g
+            by_row true h = sym left ∙ sym (equal_rows (row_now cs k) row (ap not h)) ∙ now k g
             by_row false h = (refl, left, λ j. differ (row_now cs k) row (ap not h) (left ∙ j ∙ sym (now k g)))
     by_touched db is tdb now after e over k false g =
         subst (IsWrite k (row_coded tables db k) (row_coded tables after k)) (sym (written.at k ∙ ap (write_if k (row_now cs k)) unchanged))

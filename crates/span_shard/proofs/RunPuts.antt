@@ -138,7 +138,7 @@ pub none_not : {X : Type 0} (o : Option X) → is_none o ≡ not (is_some o)
 none_not None = refl
 none_not (Some x) = refl
 
--- what the mutation does to a database is told by the rows over those that are there now
+-- what the mutation does to a database follows from the rows over those that are there now
 pub put_applied : (tables : List Table) → MeetsRules tables → (dir : List ℕ → Bool) (cs : List KeyVersions) (es : Changes) (m : CheckedMutation) → IsTypedMutation tables m → is_delete m.kind ≡ false → HasDirectory tables dir m
     → (db : List TableRow) → AreTyped tables db → IsOver tables dir cs es db
     → apply_one tables db m ≡ unless (cause_over tables cs es m (cells_of (before_in m db))) (with_row (key_columns tables m.table) (row_after m (before_in m db)) db)
@@ -152,7 +152,7 @@ put_applied tables rules dir cs es m typed kind has db tdb over =
     ∙ ap (λ (s : Bool). unless (put_cause m s lacking (cells_of b)) put_db) (sym (some_cells b) ∙ ap (λ (o : Option (List ℕ)). is_some o) (sym (before_code tables rules dir cs es m typed has db tdb over)))
     ∙ ap (λ (l : Bool). unless (put_cause m (is_some (row_before tables cs es m)) l (cells_of b)) put_db) (sym (same_lacking tables rules dir cs es m typed has db tdb over))
 
--- the cells that were there, told by a database
+-- the cells that were there are those of a database's row
 cells_there : (tables : List Table) → MeetsRules tables → (dir : List ℕ → Bool) (cs : List KeyVersions) (es : Changes) (m : CheckedMutation) → IsTypedMutation tables m → HasDirectory tables dir m → (db : List TableRow) → AreTyped tables db
     → IsOver tables dir cs es db → AreCellsOf tables m.table (row_before tables cs es m) (cells_of (before_in m db))
 cells_there tables rules dir cs es m typed has db tdb over =

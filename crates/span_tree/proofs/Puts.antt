@@ -101,7 +101,7 @@ fresh cs at t j tree same = elim (cases_lt 0 (count j t)) [
   | inr none ↦ omega arith
 ]
 
--- with one cell more each stands once still
+-- with one cell more each is there once
 pub once_more : (cs : List Cell) (at : Option ℕ) (t : Tree) (new j : ℕ) → IsTree cs at t → new ≡ length cs → one_at j new + count j t ≤ 1
 once_more cs at t new j tree is = elim (cases_eq j new) [
   | inl same ↦ omega (arith, one_same j new same, fresh cs at t j tree (same ∙ is))

@@ -52,7 +52,7 @@ abbrev pub IsAvl : Tree → Type 0
 IsAvl Leaf = Unit {0}
 IsAvl (Fork l n k b r) = IsBalance b (height l) (height r) × IsAvl l × IsAvl r
 
--- the tree below a link, of so many levels at most
+-- the tree below a link, of at most this number of levels
 abbrev pub shape : (ℕ → Cell) → ℕ → Option ℕ → Tree
 shape f zero at = Leaf
 shape f (suc n) None = Leaf

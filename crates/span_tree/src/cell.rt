@@ -17,7 +17,7 @@ pub struct Links {
     pub balance: Balance,
 }
 
-/// A key, and where it stands in the tree.
+/// A key, and its place in the tree.
 #[derive(Debug, Drop)]
 pub struct Cell {
     pub key: Key,

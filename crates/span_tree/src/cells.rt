@@ -1,4 +1,4 @@
-//! Cells, by their numbers. The arena's chain records are to stand here.
+//! Cells, by their numbers. The arena's chain records are to take their place.
 ghost use Rattle.span_keycode.specs.Order.{byte_order};
 ghost use Rattle.span_tree.specs.Entries.{is_past};
 ghost use Rattle.span_tree.specs.Effects.{cell_at, new_cell, with_links, IsCompared, IsWritten};

@@ -1,4 +1,4 @@
--- The command line: what clap is told of it, and the order that words are.
+-- The command line: what clap knows of it, and the order that words are.
 use Rattle.std.specs.Prelude.{◌≡◌, List, [], Bool, true, false, Some, IsSomeAnd, codes, unwrap_or}
 use Rattle.std.specs.Option.{option_map_or}
 use Rattle.std.specs.Str.{bytes_eq}

@@ -62,7 +62,7 @@ pub struct Progress<'a, R> {
 }
 
 impl<'a, R: Eprint + Clock> Progress<'a, R> {
-    /// Nothing was read yet, of a script of so many bytes, where that is known.
+    /// Nothing was read yet, of a script of this number of bytes, where that is known.
     pub fn new(rt: &'a R, is_wanted: bool, all_bytes: Option<u64>) -> Progress<'a, R>
         ensures { result.counts ≡ record { lines = 0; bytes = 0; all_bytes = all_bytes } }
     {
