@@ -1,5 +1,5 @@
--- The keys below one, of those that mutations changed and of the others; the removal of rows.
-use Rattle.std.proofs.Common.{◌≡◌, ◌⊎◌, inl, inr, ℕ, Bool, true, false, not, ◌||◌, ◌&&◌, cond, List, [], ◌∷◌, ◌++◌, Option, Some, None, is_some, is_none, map, drop, length, refl, sym, ap, subst, ◌∙◌, append_assoc}
+-- Rows that mutations make and remove; the keys below one, of those at which they made a row and of the others.
+use Rattle.std.proofs.Common.{◌≡◌, ◌⊎◌, inl, inr, ℕ, Bool, true, false, not, ◌||◌, ◌&&◌, cond, List, [], ◌∷◌, ◌++◌, Option, Some, None, is_some, is_none, map, drop, length, refl, sym, ap, subst, ◌∙◌, append_assoc, arith}
 use Rattle.std.specs.List.{filter, find, list_any, AllByRecursion}
 use Rattle.std.specs.List.Sorted.{IsStrictlySortedBy}
 use Rattle.std.specs.Option.{unwrap_or}
@@ -18,7 +18,7 @@ use Rattle.span_shard.specs.KeyVersions.{KeyVersions}
 use Rattle.span_shard.specs.Rows.{begins_with}
 use Rattle.span_shard.specs.Shard.{AreInOrder, keys_cmp, is_key, versions_of, end_of_time, row_now}
 use Rattle.span_shard.specs.Reading.{versions_alone, row_of}
-use Rattle.span_shard.specs.Overlay.{Changes, changed_at, row_over, is_unchanged, is_same, AreUnder, AddsChanged, without_if}
+use Rattle.span_shard.specs.Overlay.{Changes, changed_at, row_over, is_unchanged, is_same, made_at, change_of, AreUnchangedUnder, AreChangedUnder, AreCleared, AddsCleared, HasSameCleared, IsPutAt, AreUnder, AddsMade, AreRemoved, without_if}
 use Rattle.span_shard.proofs.Bytes.{bytes_total, same_bytes, bytes_same, begins_front, before_begins_not, between}
 use Rattle.span_shard.proofs.Lists.{all_map, all_both, all_append, all_whole, all_filter_itself, found_all}
 use Rattle.span_shard.proofs.Databases.{find_kept}
@@ -34,6 +34,32 @@ turned k l = cases (is_same k l) (is_same l k) refl refl
     cases true b e f = e ∙ sym (bytes_same l k (sym (same_bytes k l e)))
     cases false true e f = bytes_same k l (sym (same_bytes l k f)) ∙ sym f
     cases false false e f = e ∙ sym f
+
+-- ---- a row that is made
+
+pub put_at : (es fs : Changes) (key row : List ℕ) → fs.removed ≡ es.removed → ((k : List ℕ) → made_at fs.made k ≡ cond (is_same key k) (Some row) (made_at es.made k)) → IsPutAt key row es fs
+put_at es fs key row same put k =
+    ap (change_of (made_at fs.made k)) (ap (λ (l : List (List ℕ)). list_any (is_same k) l) same)
+    ∙ ap (λ (o : Option (List ℕ)). change_of o (list_any (is_same k) es.removed)) (put k)
+    ∙ cases (is_same key k)
+  where
+    cases : (b : Bool) → change_of (cond b (Some row) (made_at es.made k)) (list_any (is_same k) es.removed) ≡ cond b (Some (Some row)) (changed_at es k)
+    cases true = refl
+    cases false = refl
+
+-- ---- a row that is removed
+
+-- its key goes from the rows that were made to those that were removed
+pub removed_at : (now next : Changes) (key : List ℕ) → ((k : List ℕ) → made_at next.made k ≡ cond (is_same key k) None (made_at now.made k))
+    → ((k : List ℕ) → list_any (is_same k) next.removed ≡ cond (is_same key k) true (list_any (is_same k) now.removed)) → (k : List ℕ) → changed_at next k ≡ cond (is_same key k) (Some None) (changed_at now k)
+removed_at now next key out put k =
+    ap (λ (o : Option (List ℕ)). change_of o (list_any (is_same k) next.removed)) (out k)
+    ∙ ap (change_of (cond (is_same key k) None (made_at now.made k))) (put k)
+    ∙ cases (is_same key k)
+  where
+    cases : (b : Bool) → change_of (cond b None (made_at now.made k)) (cond b true (list_any (is_same k) now.removed)) ≡ cond b (Some None) (changed_at now k)
+    cases true = refl
+    cases false = refl
 
 -- ---- rows that are removed
 
@@ -54,55 +80,81 @@ removed_step now next key ks set k = cases (is_same key k) (list_any (is_same k)
         ap (without_if (list_any (is_same k) ks)) (set k ∙ ap (λ (c : Bool). cond c (Some None) (changed_at now k)) e)
         ∙ sym (ap (λ (c : Bool). without_if (c || list_any (is_same k) ks) (changed_at now k)) (turned k key ∙ e))
 
--- ---- keys that were changed, from one on
+-- with the rows of the keys that are left removed too, all are
+pub record AreRemoving (old now : Changes) (keys left : List (List ℕ)) : Type 0 where
+  pub removed : (k : List ℕ) → without_if (list_any (is_same k) left) (changed_at now k) ≡ without_if (list_any (is_same k) keys) (changed_at old k)
+  pub cleared : HasSameCleared old now
+
+pub removing_first : (old now : Changes) (keys left : List (List ℕ)) → old ≡ now → left ≡ keys → AreRemoving old now keys left
+removing_first old now keys left same is = record {
+  removed = λ k. ap (λ (l : List (List ℕ)). without_if (list_any (is_same k) l) (changed_at now k)) is ∙ ap (λ (es : Changes). without_if (list_any (is_same k) keys) (changed_at es k)) (sym same);
+  cleared = ap (λ (es : Changes). es.cleared) (sym same);
+}
+
+-- one more is removed
+pub removing_next : (old now next : Changes) (keys left rest : List (List ℕ)) (key : List ℕ) → left ≡ key ∷ rest → ((k : List ℕ) → made_at next.made k ≡ cond (is_same key k) None (made_at now.made k))
+    → ((k : List ℕ) → list_any (is_same k) next.removed ≡ cond (is_same key k) true (list_any (is_same k) now.removed)) → next.cleared ≡ now.cleared → AreRemoving old now keys left → AreRemoving old next keys rest
+removing_next old now next keys left rest key is out put same so_far = record {
+  removed = λ k. removed_step now next key rest (removed_at now next key out put) k ∙ ap (λ (l : List (List ℕ)). without_if (list_any (is_same k) l) (changed_at now k)) (sym is) ∙ so_far.removed k;
+  cleared = same ∙ so_far.cleared;
+}
+
+pub removed_all : (old now : Changes) (keys left : List (List ℕ)) → length left ≡ 0 → AreRemoving old now keys left → AreRemoved old keys now
+removed_all old now keys (x ∷ left) none so_far k = absurd (omega (arith, none))
+removed_all old now keys [] none so_far k = so_far.removed k
+
+-- ---- keys at which rows were made, from one on
+
+abbrev pub Made : Type 0
+Made = List (List ℕ × List ℕ)
 
 -- the keys so far; each other one is left
-pub record IsPushing (es : Changes) (front : List ℕ) (old : List (List ℕ)) (rest : Changes) (new : List (List ℕ)) : Type 0 where
+pub record IsPushing (es : Made) (front : List ℕ) (old : List (List ℕ)) (rest : Made) (new : List (List ℕ)) : Type 0 where
   pub added : List (List ℕ)
   pub whole : new ≡ old ++ added
-  pub sound : AllByRecursion (λ (k : List ℕ). (begins_with k front ≡ true) × ((row : List ℕ) × (changed_at es k ≡ Some (Some row)))) added
-  pub left : (k row : List ℕ) → begins_with k front ≡ true → changed_at es k ≡ Some (Some row) → (list_any (is_same k) added ≡ true) ⊎ (changed_at rest k ≡ Some (Some row))
-  pub own : (k : List ℕ) (o : Option (List ℕ)) → changed_at rest k ≡ Some o → changed_at es k ≡ Some o
+  pub sound : AllByRecursion (λ (k : List ℕ). (begins_with k front ≡ true) × ((row : List ℕ) × (made_at es k ≡ Some row))) added
+  pub left : (k row : List ℕ) → begins_with k front ≡ true → made_at es k ≡ Some row → (list_any (is_same k) added ≡ true) ⊎ (made_at rest k ≡ Some row)
+  pub own : (k : List ℕ) (o : List ℕ) → made_at rest k ≡ Some o → made_at es k ≡ Some o
   pub sorted : IsStrictlySortedBy byte_order (keys_of rest)
-  pub from : AllByRecursion (λ (e : List ℕ × Option (List ℕ)). is_lt (byte_order e.0 front) ≡ false) rest
+  pub from : AllByRecursion (λ (e : List ℕ × List ℕ). is_lt (byte_order e.0 front) ≡ false) rest
 
-lookup_kept : (p : List ℕ × Option (List ℕ) → Bool) (k : List ℕ) (es : Changes) → ((e : List ℕ × Option (List ℕ)) → is_same k e.0 ≡ true → p e ≡ true) → changed_at (filter p es) k ≡ changed_at es k
+lookup_kept : (p : List ℕ × List ℕ → Bool) (k : List ℕ) (es : Made) → ((e : List ℕ × List ℕ) → is_same k e.0 ≡ true → p e ≡ true) → made_at (filter p es) k ≡ made_at es k
 lookup_kept p k [] h = refl
 lookup_kept p k (e ∷ es) h = cases (p e) (is_same k e.0) refl refl (lookup_kept p k es h)
   where
-    cases : (a b : Bool) → p e ≡ a → is_same k e.0 ≡ b → changed_at (filter p es) k ≡ changed_at es k → changed_at (filter p (e ∷ es)) k ≡ changed_at (e ∷ es) k
-    cases true b f g again = ap (λ (l : Changes). changed_at l k) (filter_yes p e es f) ∙ ap (λ (o : Option (Option (List ℕ))). cond (is_same k e.0) (Some e.1) o) again
+    cases : (a b : Bool) → p e ≡ a → is_same k e.0 ≡ b → made_at (filter p es) k ≡ made_at es k → made_at (filter p (e ∷ es)) k ≡ made_at (e ∷ es) k
+    cases true b f g again = ap (λ (l : Made). made_at l k) (filter_yes p e es f) ∙ ap (λ (o : Option (List ℕ)). cond (is_same k e.0) (Some e.1) o) again
     cases false true f g again = absurd (let i : false ≡ true = sym f ∙ h e g in cc)
-    cases false false f g again = ap (λ (l : Changes). changed_at l k) (filter_no p e es f) ∙ again ∙ sym (ap (λ (b : Bool). cond b (Some e.1) (changed_at es k)) g)
+    cases false false f g again = ap (λ (l : Made). made_at l k) (filter_no p e es f) ∙ again ∙ sym (ap (λ (b : Bool). cond b (Some e.1) (made_at es k)) g)
 
-lookup_within : (p : List ℕ × Option (List ℕ) → Bool) (k : List ℕ) (es : Changes) → ((a b : List ℕ × Option (List ℕ)) → is_same k a.0 ≡ true → is_same k b.0 ≡ true → p a ≡ p b) → (o : Option (List ℕ)) → changed_at (filter p es) k ≡ Some o → changed_at es k ≡ Some o
+lookup_within : (p : List ℕ × List ℕ → Bool) (k : List ℕ) (es : Made) → ((a b : List ℕ × List ℕ) → is_same k a.0 ≡ true → is_same k b.0 ≡ true → p a ≡ p b) → (o : List ℕ) → made_at (filter p es) k ≡ Some o → made_at es k ≡ Some o
 lookup_within p k [] h o e = e
 lookup_within p k (x ∷ es) h o e = cases (p x) (is_same k x.0) refl refl (lookup_within p k es h o)
   where
-    nothing : p x ≡ false → is_same k x.0 ≡ true → (ys : Changes) → changed_at (filter p ys) k ≡ None
+    nothing : p x ≡ false → is_same k x.0 ≡ true → (ys : Made) → made_at (filter p ys) k ≡ None
     nothing f g [] = refl
     nothing f g (y ∷ ys) = one (p y) (is_same k y.0) refl refl (nothing f g ys)
       where
-        one : (a b : Bool) → p y ≡ a → is_same k y.0 ≡ b → changed_at (filter p ys) k ≡ None → changed_at (filter p (y ∷ ys)) k ≡ None
-        one false b i j again = ap (λ (l : Changes). changed_at l k) (filter_no p y ys i) ∙ again
+        one : (a b : Bool) → p y ≡ a → is_same k y.0 ≡ b → made_at (filter p ys) k ≡ None → made_at (filter p (y ∷ ys)) k ≡ None
+        one false b i j again = ap (λ (l : Made). made_at l k) (filter_no p y ys i) ∙ again
         one true true i j again = absurd (let l : true ≡ false = sym i ∙ h y x j g ∙ f in cc)
-        one true false i j again = ap (λ (l : Changes). changed_at l k) (filter_yes p y ys i) ∙ ap (λ (b : Bool). cond b (Some y.1) (changed_at (filter p ys) k)) j ∙ again
+        one true false i j again = ap (λ (l : Made). made_at l k) (filter_yes p y ys i) ∙ ap (λ (b : Bool). cond b (Some y.1) (made_at (filter p ys) k)) j ∙ again
 
-    cases : (a b : Bool) → p x ≡ a → is_same k x.0 ≡ b → (changed_at (filter p es) k ≡ Some o → changed_at es k ≡ Some o) → changed_at (x ∷ es) k ≡ Some o
+    cases : (a b : Bool) → p x ≡ a → is_same k x.0 ≡ b → (made_at (filter p es) k ≡ Some o → made_at es k ≡ Some o) → made_at (x ∷ es) k ≡ Some o
     cases true true f g again =
-        ap (λ (b : Bool). cond b (Some x.1) (changed_at es k)) g
-        ∙ sym (ap (λ (l : Changes). changed_at l k) (filter_yes p x es f) ∙ ap (λ (b : Bool). cond b (Some x.1) (changed_at (filter p es) k)) g)
+        ap (λ (b : Bool). cond b (Some x.1) (made_at es k)) g
+        ∙ sym (ap (λ (l : Made). made_at l k) (filter_yes p x es f) ∙ ap (λ (b : Bool). cond b (Some x.1) (made_at (filter p es) k)) g)
         ∙ e
     cases true false f g again =
-        ap (λ (b : Bool). cond b (Some x.1) (changed_at es k)) g
-        ∙ again (sym (ap (λ (l : Changes). changed_at l k) (filter_yes p x es f) ∙ ap (λ (b : Bool). cond b (Some x.1) (changed_at (filter p es) k)) g) ∙ e)
-    cases false true f g again = absurd (let i : None ≡ Some o = sym (nothing f g es) ∙ sym (ap (λ (l : Changes). changed_at l k) (filter_no p x es f)) ∙ e in cc)
+        ap (λ (b : Bool). cond b (Some x.1) (made_at es k)) g
+        ∙ again (sym (ap (λ (l : Made). made_at l k) (filter_yes p x es f) ∙ ap (λ (b : Bool). cond b (Some x.1) (made_at (filter p es) k)) g) ∙ e)
+    cases false true f g again = absurd (let i : None ≡ Some o = sym (nothing f g es) ∙ sym (ap (λ (l : Made). made_at l k) (filter_no p x es f)) ∙ e in cc)
     cases false false f g again =
-        ap (λ (b : Bool). cond b (Some x.1) (changed_at es k)) g
-        ∙ again (sym (ap (λ (l : Changes). changed_at l k) (filter_no p x es f)) ∙ e)
+        ap (λ (b : Bool). cond b (Some x.1) (made_at es k)) g
+        ∙ again (sym (ap (λ (l : Made). made_at l k) (filter_no p x es f)) ∙ e)
 
 -- from a key on
-abbrev pub is_from : List ℕ → List ℕ × Option (List ℕ) → Bool
+abbrev pub is_from : List ℕ → List ℕ × List ℕ → Bool
 is_from front e = is_le (byte_order front e.0) && true
 
 le_not_lt : (o : Ordering) → (is_le o && true) ≡ not (is_lt (ordering_reverse o))
@@ -110,7 +162,7 @@ le_not_lt Less = refl
 le_not_lt Equal = refl
 le_not_lt Greater = refl
 
-from_is : (front : List ℕ) (e : List ℕ × Option (List ℕ)) → is_from front e ≡ not (is_lt (byte_order e.0 front))
+from_is : (front : List ℕ) (e : List ℕ × List ℕ) → is_from front e ≡ not (is_lt (byte_order e.0 front))
 from_is front e = le_not_lt (byte_order front e.0) ∙ ap (λ (o : Ordering). not (is_lt o)) (sym (bytes_total.antisymm e.0 front))
 
 not_true : (b : Bool) → not b ≡ true → b ≡ false
@@ -118,63 +170,60 @@ not_true true e = absurd (let f : false ≡ true = e in cc)
 not_true false e = refl
 
 -- a key that begins with the front is from it on
-begun_from : (front k : List ℕ) → begins_with k front ≡ true → (e : List ℕ × Option (List ℕ)) → is_same k e.0 ≡ true → is_from front e ≡ true
+begun_from : (front k : List ℕ) → begins_with k front ≡ true → (e : List ℕ × List ℕ) → is_same k e.0 ≡ true → is_from front e ≡ true
 begun_from front k b e f = from_is front e ∙ ap not (cases (is_lt (byte_order e.0 front)) refl)
   where
     cases : (c : Bool) → is_lt (byte_order e.0 front) ≡ c → c ≡ false
     cases false g = refl
     cases true g = absurd (let h : true ≡ false = sym b ∙ ap (λ (l : List ℕ). begins_with l front) (same_bytes k e.0 f) ∙ before_begins_not e.0 front g in cc)
 
-keys_filter : (q : List ℕ → Bool) (es : Changes) → keys_of (filter (λ e. q e.0) es) ≡ filter q (keys_of es)
-keys_filter q es = sym (filter-map q (λ (e : List ℕ × Option (List ℕ)). e.0) es)
+keys_filter : (q : List ℕ → Bool) (es : Made) → keys_of (filter (λ e. q e.0) es) ≡ filter q (keys_of es)
+keys_filter q es = sym (filter-map q (λ (e : List ℕ × List ℕ). e.0) es)
 
-pub pushing_first : (es : Changes) (front : List ℕ) (old : List (List ℕ)) (rest : Changes) → IsStrictlySortedBy byte_order (keys_of es) → rest ≡ filter (is_from front) es → IsPushing es front old rest old
-pushing_first es front old rest sorted is = subst (λ (l : Changes). IsPushing es front old l old) (sym is) (record {
+pub pushing_first : (es : Made) (front : List ℕ) (old : List (List ℕ)) (rest : Made) → IsStrictlySortedBy byte_order (keys_of es) → rest ≡ filter (is_from front) es → IsPushing es front old rest old
+pushing_first es front old rest sorted is = subst (λ (l : Made). IsPushing es front old l old) (sym is) (record {
   added = [];
   whole = sym (append-nil old);
   sound = tt;
   left = λ k row b e. inr (lookup_kept (is_from front) k es (λ x f. begun_from front k b x f) ∙ e);
   own = λ k o e. lookup_within (is_from front) k es (λ a b f g. ap (λ (l : List ℕ). is_le (byte_order front l) && true) (sym (same_bytes k a.0 f) ∙ same_bytes k b.0 g)) o e;
   sorted = subst (IsStrictlySortedBy byte_order) (sym (keys_filter (λ (l : List ℕ). is_le (byte_order front l) && true) es)) (IsStrictlySortedBy-filter byte_order (λ (l : List ℕ). is_le (byte_order front l) && true) (keys_of es) sorted);
-  from = all_map (λ (e : List ℕ × Option (List ℕ)). is_from front e ≡ true) (λ (e : List ℕ × Option (List ℕ)). is_lt (byte_order e.0 front) ≡ false) (λ e f. not_true (is_lt (byte_order e.0 front)) (sym (from_is front e) ∙ f)) (filter (is_from front) es) (all_filter_itself (is_from front) es);
+  from = all_map (λ (e : List ℕ × List ℕ). is_from front e ≡ true) (λ (e : List ℕ × List ℕ). is_lt (byte_order e.0 front) ≡ false) (λ e f. not_true (is_lt (byte_order e.0 front)) (sym (from_is front e) ∙ f)) (filter (is_from front) es) (all_filter_itself (is_from front) es);
 })
 
-one_value : (k : List ℕ) (a b : Option (List ℕ)) (x y : Option (Option (List ℕ))) → x ≡ y → x ≡ Some a → y ≡ Some b → a ≡ b
-one_value k a b x y e f g = let h : Some a ≡ Some b = sym f ∙ e ∙ g in cc
-
-here_at : (key : List ℕ) (o : Option (List ℕ)) (rest : Changes) → changed_at ((key, o) ∷ rest) key ≡ Some o
-here_at key o rest = ap (λ (b : Bool). cond b (Some o) (changed_at rest key)) (bytes_same key key refl)
+here_at : (key : List ℕ) (o : List ℕ) (rest : Made) → made_at ((key, o) ∷ rest) key ≡ Some o
+here_at key o rest = ap (λ (b : Bool). cond b (Some o) (made_at rest key)) (bytes_same key key refl)
 
 -- what is left has other keys than the first
-tail_own : (key : List ℕ) (o : Option (List ℕ)) (rest : Changes) → IsStrictlySortedBy byte_order (key ∷ keys_of rest) → (k : List ℕ) (p : Option (List ℕ)) → changed_at rest k ≡ Some p → changed_at ((key, o) ∷ rest) k ≡ Some p
+tail_own : (key : List ℕ) (o : List ℕ) (rest : Made) → IsStrictlySortedBy byte_order (key ∷ keys_of rest) → (k : List ℕ) (p : List ℕ) → made_at rest k ≡ Some p → made_at ((key, o) ∷ rest) k ≡ Some p
 tail_own key o rest sorted k p e = cases (is_same k key) refl
   where
-    absent : (ys : Changes) → AllByRecursion (λ (y : List ℕ). byte_order key y ≡ Less) (keys_of ys) → k ≡ key → changed_at ys k ≡ None
+    absent : (ys : Made) → AllByRecursion (λ (y : List ℕ). byte_order key y ≡ Less) (keys_of ys) → k ≡ key → made_at ys k ≡ None
     absent [] h same = refl
     absent (y ∷ ys) h same = one (is_same k y.0) refl (absent ys h.1 same)
       where
-        one : (b : Bool) → is_same k y.0 ≡ b → changed_at ys k ≡ None → changed_at (y ∷ ys) k ≡ None
+        one : (b : Bool) → is_same k y.0 ≡ b → made_at ys k ≡ None → made_at (y ∷ ys) k ≡ None
         one true f again = absurd (let i : Less ≡ Equal = sym h.0 ∙ ap (byte_order key) (sym (same_bytes k y.0 f) ∙ same) ∙ tied_itself bytes_total key in cc)
-        one false f again = ap (λ (b : Bool). cond b (Some y.1) (changed_at ys k)) f ∙ again
+        one false f again = ap (λ (b : Bool). cond b (Some y.1) (made_at ys k)) f ∙ again
 
-    cases : (b : Bool) → is_same k key ≡ b → changed_at ((key, o) ∷ rest) k ≡ Some p
+    cases : (b : Bool) → is_same k key ≡ b → made_at ((key, o) ∷ rest) k ≡ Some p
     cases true f = absurd (let i : None ≡ Some p = sym (absent rest (sorted_head byte_order key (keys_of rest) sorted) (same_bytes k key f)) ∙ e in cc)
-    cases false f = ap (λ (b : Bool). cond b (Some o) (changed_at rest k)) f ∙ e
+    cases false f = ap (λ (b : Bool). cond b (Some o) (made_at rest k)) f ∙ e
 
--- a key with a row is added
-pub pushing_row : (es : Changes) (front : List ℕ) (old new next : List (List ℕ)) (key row : List ℕ) (before rest : Changes) → before ≡ (key, Some row) ∷ rest → next ≡ new ++ key ∷ [] → begins_with key front ≡ true → IsPushing es front old before new → IsPushing es front old rest next
-pushing_row es front old new next key row before rest is more begun h = moved (subst (λ (l : Changes). IsPushing es front old l new) is h)
+-- the next key is added
+pub pushing_next : (es : Made) (front : List ℕ) (old new next : List (List ℕ)) (key row : List ℕ) (before rest : Made) → before ≡ (key, row) ∷ rest → next ≡ new ++ key ∷ [] → begins_with key front ≡ true → IsPushing es front old before new → IsPushing es front old rest next
+pushing_next es front old new next key row before rest is more begun h = moved (subst (λ (l : Made). IsPushing es front old l new) is h)
   where
-    moved : IsPushing es front old ((key, Some row) ∷ rest) new → IsPushing es front old rest next
+    moved : IsPushing es front old ((key, row) ∷ rest) new → IsPushing es front old rest next
     moved g = record {
       added = g.added ++ key ∷ [];
       whole = more ∙ ap (λ (l : List (List ℕ)). l ++ key ∷ []) g.whole ∙ append_assoc old g.added (key ∷ []);
-      sound = all_append _ g.added (key ∷ []) g.sound ((begun, (row, g.own key (Some row) (here_at key (Some row) rest))), tt);
+      sound = all_append _ g.added (key ∷ []) g.sound ((begun, (row, g.own key row (here_at key row rest))), tt);
       left = λ k r b e. elim (g.left k r b e) [
         | inl f ↦ inl (list_any-append (is_same k) g.added (key ∷ []) ∙ or_first (list_any (is_same k) g.added) (list_any (is_same k) (key ∷ [])) f)
         | inr f ↦ by_key k r f (is_same k key) refl
       ];
-      own = λ k o e. g.own k o (tail_own key (Some row) rest g.sorted k o e);
+      own = λ k o e. g.own k o (tail_own key row rest g.sorted k o e);
       sorted = sorted_tail byte_order key (keys_of rest) g.sorted;
       from = g.from.1;
     }
@@ -187,45 +236,12 @@ pushing_row es front old new next key row before rest is more begun h = moved (s
         or_second true b e = refl
         or_second false b e = e
 
-        by_key : (k r : List ℕ) → changed_at ((key, Some row) ∷ rest) k ≡ Some (Some r) → (b : Bool) → is_same k key ≡ b → (list_any (is_same k) (g.added ++ key ∷ []) ≡ true) ⊎ (changed_at rest k ≡ Some (Some r))
+        by_key : (k r : List ℕ) → made_at ((key, row) ∷ rest) k ≡ Some r → (b : Bool) → is_same k key ≡ b → (list_any (is_same k) (g.added ++ key ∷ []) ≡ true) ⊎ (made_at rest k ≡ Some r)
         by_key k r f true e = inl (list_any-append (is_same k) g.added (key ∷ []) ∙ or_second (list_any (is_same k) g.added) (list_any (is_same k) (key ∷ [])) (or_first (is_same k key) false e))
-        by_key k r f false e = inr (sym (ap (λ (b : Bool). cond b (Some (Some row)) (changed_at rest k)) e) ∙ f)
-
--- a key without a row is passed
-pub pushing_none : (es : Changes) (front : List ℕ) (old new : List (List ℕ)) (key : List ℕ) (before rest : Changes) → before ≡ (key, None) ∷ rest → IsPushing es front old before new → IsPushing es front old rest new
-pushing_none es front old new key before rest is h = moved (subst (λ (l : Changes). IsPushing es front old l new) is h)
-  where
-    moved : IsPushing es front old ((key, None) ∷ rest) new → IsPushing es front old rest new
-    moved g = record {
-      added = g.added;
-      whole = g.whole;
-      sound = g.sound;
-      left = λ k r b e. elim (g.left k r b e) [
-        | inl f ↦ inl f
-        | inr f ↦ by_key k r f (is_same k key) refl
-      ];
-      own = λ k o e. g.own k o (tail_own key None rest g.sorted k o e);
-      sorted = sorted_tail byte_order key (keys_of rest) g.sorted;
-      from = g.from.1;
-    }
-      where
-        by_key : (k r : List ℕ) → changed_at ((key, None) ∷ rest) k ≡ Some (Some r) → (b : Bool) → is_same k key ≡ b → (list_any (is_same k) g.added ≡ true) ⊎ (changed_at rest k ≡ Some (Some r))
-        by_key k r f true e = absurd (let i : Some None ≡ Some (Some r) = sym (ap (λ (b : Bool). cond b (Some None) (changed_at rest k)) e) ∙ f in cc)
-        by_key k r f false e = inr (sym (ap (λ (b : Bool). cond b (Some None) (changed_at rest k)) e) ∙ f)
-
--- the next key is added where it has a row
-pub pushing_some : (es : Changes) (front : List ℕ) (old new next : List (List ℕ)) (key : List ℕ) (o : Option (List ℕ)) (before rest : Changes) → before ≡ (key, o) ∷ rest → next ≡ new ++ key ∷ [] → begins_with key front ≡ true → is_some o ≡ true
-    → IsPushing es front old before new → IsPushing es front old rest next
-pushing_some es front old new next key None before rest is more begun some h = absurd (let f : false ≡ true = some in cc)
-pushing_some es front old new next key (Some row) before rest is more begun some h = pushing_row es front old new next key row before rest is more begun h
-
--- and passed where it has none
-pub pushing_past : (es : Changes) (front : List ℕ) (old new : List (List ℕ)) (key : List ℕ) (o : Option (List ℕ)) (before rest : Changes) → before ≡ (key, o) ∷ rest → is_some o ≡ false → IsPushing es front old before new → IsPushing es front old rest new
-pushing_past es front old new key None before rest is none h = pushing_none es front old new key before rest is h
-pushing_past es front old new key (Some row) before rest is none h = absurd (let f : true ≡ false = none in cc)
+        by_key k r f false e = inr (sym (ap (λ (b : Bool). cond b (Some row) (made_at rest k)) e) ∙ f)
 
 -- where nothing is left, all are added
-pub pushed_all : (es : Changes) (front : List ℕ) (old new : List (List ℕ)) (rest : Changes) → rest ≡ [] → IsPushing es front old rest new → AddsChanged es front old new
+pub pushed_all : (es : Made) (front : List ℕ) (old new : List (List ℕ)) (rest : Made) → rest ≡ [] → IsPushing es front old rest new → AddsMade es front old new
 pushed_all es front old new rest none g = record {
   added = g.added;
   whole = g.whole;
@@ -233,16 +249,16 @@ pushed_all es front old new rest none g = record {
     sound = g.sound;
     complete = λ k row b e. elim (g.left k row b e) [
       | inl f ↦ f
-      | inr f ↦ absurd (let i : None ≡ Some (Some row) = sym (ap (λ (l : Changes). changed_at l k) none) ∙ f in cc)
+      | inr f ↦ absurd (let i : None ≡ Some row = sym (ap (λ (l : Made). made_at l k) none) ∙ f in cc)
     ];
   };
 }
 
 -- where the next key doesn't begin with the front, no later one does
-pub pushed_until : (es : Changes) (front : List ℕ) (old new : List (List ℕ)) (key : List ℕ) (o : Option (List ℕ)) (before rest : Changes) → before ≡ (key, o) ∷ rest → begins_with key front ≡ false → IsPushing es front old before new → AddsChanged es front old new
-pushed_until es front old new key o before rest is past h = done (subst (λ (l : Changes). IsPushing es front old l new) is h)
+pub pushed_until : (es : Made) (front : List ℕ) (old new : List (List ℕ)) (key : List ℕ) (o : List ℕ) (before rest : Made) → before ≡ (key, o) ∷ rest → begins_with key front ≡ false → IsPushing es front old before new → AddsMade es front old new
+pushed_until es front old new key o before rest is past h = done (subst (λ (l : Made). IsPushing es front old l new) is h)
   where
-    done : IsPushing es front old ((key, o) ∷ rest) new → AddsChanged es front old new
+    done : IsPushing es front old ((key, o) ∷ rest) new → AddsMade es front old new
     done g = record {
       added = g.added;
       whole = g.whole;
@@ -256,18 +272,18 @@ pushed_until es front old new key o before rest is past h = done (subst (λ (l :
     }
       where
         -- a key that is found is after the first
-        later : (ys : Changes) → AllByRecursion (λ (y : List ℕ). byte_order key y ≡ Less) (keys_of ys) → (k row : List ℕ) → changed_at ys k ≡ Some (Some row) → byte_order key k ≡ Less
-        later [] a k row e = absurd (let i : None ≡ Some (Some row) = e in cc)
+        later : (ys : Made) → AllByRecursion (λ (y : List ℕ). byte_order key y ≡ Less) (keys_of ys) → (k row : List ℕ) → made_at ys k ≡ Some row → byte_order key k ≡ Less
+        later [] a k row e = absurd (let i : None ≡ Some row = e in cc)
         later (y ∷ ys) a k row e = one (is_same k y.0) refl (later ys a.1 k row)
           where
-            one : (b : Bool) → is_same k y.0 ≡ b → (changed_at ys k ≡ Some (Some row) → byte_order key k ≡ Less) → byte_order key k ≡ Less
+            one : (b : Bool) → is_same k y.0 ≡ b → (made_at ys k ≡ Some row → byte_order key k ≡ Less) → byte_order key k ≡ Less
             one true f again = ap (byte_order key) (same_bytes k y.0 f) ∙ a.0
-            one false f again = again (sym (ap (λ (b : Bool). cond b (Some y.1) (changed_at ys k)) f) ∙ e)
+            one false f again = again (sym (ap (λ (b : Bool). cond b (Some y.1) (made_at ys k)) f) ∙ e)
 
-        never : (k row : List ℕ) → begins_with k front ≡ true → changed_at ((key, o) ∷ rest) k ≡ Some (Some row) → (b : Bool) → is_same k key ≡ b → ⊥
+        never : (k row : List ℕ) → begins_with k front ≡ true → made_at ((key, o) ∷ rest) k ≡ Some row → (b : Bool) → is_same k key ≡ b → ⊥
         never k row b e true f = let i : true ≡ false = sym b ∙ ap (λ (l : List ℕ). begins_with l front) (same_bytes k key f) ∙ past in cc
         never k row b e false f =
-            let less = later rest (sorted_head byte_order key (keys_of rest) g.sorted) k row (sym (ap (λ (c : Bool). cond c (Some o) (changed_at rest k)) f) ∙ e) in
+            let less = later rest (sorted_head byte_order key (keys_of rest) g.sorted) k row (sym (ap (λ (c : Bool). cond c (Some o) (made_at rest k)) f) ∙ e) in
             let within = between front key (drop (length front) k) g.from.0 (λ i. let j : Less ≡ Greater = sym less ∙ ap (byte_order key) (sym (begins_front k front b)) ∙ i in cc) in
             let i : true ≡ false = sym within ∙ past in cc
 
@@ -394,12 +410,23 @@ unchanged_complete cs es front k b none some = of_found (find (is_key k) cs) ref
         both true y f g = g
         both false y f g = absurd (let h : false ≡ true = f in cc)
 
-pub all_under : (cs : List KeyVersions) → AreInOrder cs → (es : Changes) (front : List ℕ) (ks : List (List ℕ)) → AddsChanged es front (unchanged_under es front cs) ks → AreUnder cs es front ks
-all_under cs sorted es front ks h = subst (AreUnder cs es front) (sym h.whole) (record {
-  sound = all_append (λ (k : List ℕ). (begins_with k front ≡ true) × (is_some (row_over cs es k) ≡ true)) (unchanged_under es front cs) h.added (unchanged_sound cs sorted es front)
-      (all_map (λ (k : List ℕ). (begins_with k front ≡ true) × ((row : List ℕ) × (changed_at es k ≡ Some (Some row)))) (λ (k : List ℕ). (begins_with k front ≡ true) × (is_some (row_over cs es k) ≡ true))
-      (λ k g. (g.0, ap (λ (o : Option (Option (List ℕ))). is_some (unwrap_or o (row_now cs k))) g.1.1)) h.added h.are.sound);
-  complete = λ k b some. list_any-append (is_same k) (unchanged_under es front cs) h.added ∙ of_change k b some (changed_at es k) refl;
+-- the store was looked at
+pub unchanged_found : (cs : List KeyVersions) → AreInOrder cs → (es : Changes) (front : List ℕ) → AreUnchangedUnder cs es front (unchanged_under es front cs)
+unchanged_found cs sorted es front = record { sound = unchanged_sound cs sorted es front; complete = unchanged_complete cs es front }
+
+-- it need not be looked at
+pub unchanged_none : (cs : List KeyVersions) (es : Changes) (front : List ℕ) → AreChangedUnder cs es front → AreUnchangedUnder cs es front []
+unchanged_none cs es front changed = record {
+  sound = tt;
+  complete = λ k b none some. absurd (let f : false ≡ true = sym (ap (λ (o : Option (Option (List ℕ))). is_some o) none) ∙ changed k b some in cc);
+}
+
+pub all_under : (cs : List KeyVersions) (es : Changes) (front : List ℕ) (old ks : List (List ℕ)) → AreUnchangedUnder cs es front old → AddsMade es.made front old ks → AreUnder cs es front ks
+all_under cs es front old ks unchanged h = subst (AreUnder cs es front) (sym h.whole) (record {
+  sound = all_append (λ (k : List ℕ). (begins_with k front ≡ true) × (is_some (row_over cs es k) ≡ true)) old h.added unchanged.sound
+      (all_map (λ (k : List ℕ). (begins_with k front ≡ true) × ((row : List ℕ) × (made_at es.made k ≡ Some row))) (λ (k : List ℕ). (begins_with k front ≡ true) × (is_some (row_over cs es k) ≡ true))
+      (λ k g. (g.0, ap (λ (o : Option (List ℕ)). is_some (unwrap_or (change_of o (list_any (is_same k) es.removed)) (row_now cs k))) g.1.1)) h.added h.are.sound);
+  complete = λ k b some. list_any-append (is_same k) old h.added ∙ of_change k b some (made_at es.made k) (list_any (is_same k) es.removed) refl refl;
 })
   where
     or_first : (a b : Bool) → a ≡ true → (a || b) ≡ true
@@ -410,9 +437,51 @@ all_under cs sorted es front ks h = subst (AreUnder cs es front) (sym h.whole) (
     or_second true b g = refl
     or_second false b g = g
 
-    of_change : (k : List ℕ) → begins_with k front ≡ true → is_some (row_over cs es k) ≡ true → (o : Option (Option (List ℕ))) → changed_at es k ≡ o → (list_any (is_same k) (unchanged_under es front cs) || list_any (is_same k) h.added) ≡ true
-    of_change k b some None e =
-        or_first (list_any (is_same k) (unchanged_under es front cs)) (list_any (is_same k) h.added)
-        (unchanged_complete cs es front k b e (sym (ap (λ (o : Option (Option (List ℕ))). is_some (unwrap_or o (row_now cs k))) e) ∙ some))
-    of_change k b some (Some None) e = absurd (let f : false ≡ true = sym (ap (λ (o : Option (Option (List ℕ))). is_some (unwrap_or o (row_now cs k))) e) ∙ some in cc)
-    of_change k b some (Some (Some row)) e = or_second (list_any (is_same k) (unchanged_under es front cs)) (list_any (is_same k) h.added) (h.are.complete k row b e)
+    -- what is left at the key
+    left : (k : List ℕ) (o : Option (List ℕ)) (c : Bool) → made_at es.made k ≡ o → list_any (is_same k) es.removed ≡ c → changed_at es k ≡ change_of o c
+    left k o c e f = ap (λ (p : Option (List ℕ)). change_of p (list_any (is_same k) es.removed)) e ∙ ap (change_of o) f
+
+    over : (k : List ℕ) (p : Option (Option (List ℕ))) → changed_at es k ≡ p → is_some (row_over cs es k) ≡ is_some (unwrap_or p (row_now cs k))
+    over k p e = ap (λ (o : Option (Option (List ℕ))). is_some (unwrap_or o (row_now cs k))) e
+
+    of_change : (k : List ℕ) → begins_with k front ≡ true → is_some (row_over cs es k) ≡ true → (o : Option (List ℕ)) (c : Bool) → made_at es.made k ≡ o → list_any (is_same k) es.removed ≡ c
+        → (list_any (is_same k) old || list_any (is_same k) h.added) ≡ true
+    of_change k b some (Some row) c e f = or_second (list_any (is_same k) old) (list_any (is_same k) h.added) (h.are.complete k row b e)
+    of_change k b some None true e f = absurd (let g : false ≡ true = sym (over k (Some None) (left k None true e f)) ∙ some in cc)
+    of_change k b some None false e f =
+        or_first (list_any (is_same k) old) (list_any (is_same k) h.added)
+        (unchanged.complete k b (left k None false e f) (sym (over k None (left k None false e f)) ∙ some))
+
+-- ---- keys from which on down all rows were removed
+
+-- a row that was changed stays changed
+pub still_cleared : (cs : List KeyVersions) (es fs : Changes) → AreCleared cs es → HasSameCleared es fs → ((k : List ℕ) → is_some (changed_at es k) ≡ true → is_some (changed_at fs k) ≡ true) → AreCleared cs fs
+still_cleared cs es fs cleared same stays front e k b some = stays k (cleared front (sym (ap (λ (l : List (List ℕ)). list_any (is_same front) l) same) ∙ e) k b some)
+
+pub put_stays : (es fs : Changes) (key row : List ℕ) → IsPutAt key row es fs → (k : List ℕ) → is_some (changed_at es k) ≡ true → is_some (changed_at fs k) ≡ true
+put_stays es fs key row put k e = ap (λ (o : Option (Option (List ℕ))). is_some o) (put k) ∙ cases (is_same key k)
+  where
+    cases : (b : Bool) → is_some (cond b (Some (Some row)) (changed_at es k)) ≡ true
+    cases true = refl
+    cases false = e
+
+removed_stays : (es fs : Changes) (ks : List (List ℕ)) → AreRemoved es ks fs → (k : List ℕ) → is_some (changed_at es k) ≡ true → is_some (changed_at fs k) ≡ true
+removed_stays es fs ks removed k e = ap (λ (o : Option (Option (List ℕ))). is_some o) (removed k) ∙ cases (list_any (is_same k) ks)
+  where
+    cases : (b : Bool) → is_some (without_if b (changed_at es k)) ≡ true
+    cases true = refl
+    cases false = e
+
+-- where all rows below a key are removed, it may be among the cleared ones
+pub clears : (cs : List KeyVersions) (es fs : Changes) (key : List ℕ) (ks : List (List ℕ)) → AreCleared cs es → AreUnder cs es key ks → AreRemoved es ks fs → AddsCleared key es fs → AreCleared cs fs
+clears cs es fs key ks cleared under removed adds front e k b some = by_key (is_same key front) refl
+  where
+    of_change : begins_with k key ≡ true → (o : Option (Option (List ℕ))) → changed_at es k ≡ o → is_some (changed_at fs k) ≡ true
+    of_change c (Some row) f = removed_stays es fs ks removed k (ap (λ (o : Option (Option (List ℕ))). is_some o) f)
+    of_change c None f =
+        let among = under.complete k c (ap (λ (o : Option (Option (List ℕ))). is_some (unwrap_or o (row_now cs k))) f ∙ some) in
+        ap (λ (o : Option (Option (List ℕ))). is_some o) (removed k ∙ ap (λ (a : Bool). without_if a (changed_at es k)) among)
+
+    by_key : (a : Bool) → is_same key front ≡ a → is_some (changed_at fs k) ≡ true
+    by_key true f = of_change (ap (begins_with k) (same_bytes key front f) ∙ b) (changed_at es k) refl
+    by_key false f = removed_stays es fs ks removed k (cleared front (sym (adds front ∙ ap (λ (a : Bool). cond a true (list_any (is_same front) es.cleared)) f) ∙ e) k b some)

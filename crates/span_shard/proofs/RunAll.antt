@@ -1,6 +1,6 @@
 -- Mutations one after another, and what is written after them.
-use Rattle.std.proofs.Common.{◌≡◌, ◌≢◌, ◌⊎◌, inl, inr, ℕ, ◌+◌, ◌<◌, zero, suc, Bool, true, false, not, ◌||◌, cond, List, [], ◌∷◌, ◌++◌, Option, Some, None, is_some, Result, Ok, Err, length, take, drop, get_or, refl, sym, ap, subst, ◌∙◌, arith}
-use Rattle.std.specs.List.{find, list_any, AllByRecursion}
+use Rattle.std.proofs.Common.{◌≡◌, ◌≢◌, inl, inr, ℕ, ◌+◌, ◌<◌, zero, suc, Bool, true, false, not, ◌||◌, ◌&&◌, cond, List, [], ◌∷◌, ◌++◌, Option, Some, None, is_some, Result, Ok, Err, length, take, drop, get_or, refl, sym, ap, subst, ◌∙◌, arith}
+use Rattle.std.specs.List.{find, list_any}
 use Rattle.std.specs.Option.{unwrap_or}
 use Rattle.std.specs.Str.{bytes_eq}
 use Rattle.std.proofs.lemmas.Slice.Eq.{bytes_eq-Decides}
@@ -31,7 +31,7 @@ use Rattle.span_shard.specs.Writes.{IsWrite, is_of}
 use Rattle.span_shard.specs.Rows.{begins_with, row_coded, root_code, is_touched}
 use Rattle.span_shard.specs.Shard.{row_now, IsNow}
 use Rattle.span_shard.specs.Reading.{is_same_row, is_prepare_refusal, AreUnreadable, IsPrepareRefusal, IsFault, AreWrites}
-use Rattle.span_shard.specs.Overlay.{Changes, changed_at, is_same, own_code, row_before, IsUnpacked, IsStray, IsOver, HasDirectory, IsTableRow, AreTableRows, IsNoPut, IsNoDelete, BlocksDelete, IsRunOf, IsRunFault, AreRunsOf, write_new, write_if, write_at, AreWritesAt}
+use Rattle.span_shard.specs.Overlay.{Changes, changed_at, is_same, own_code, row_before, IsUnpacked, IsStray, IsOver, HasDirectory, IsTableRow, AreTableRows, IsNoPut, IsNoDelete, BlocksDelete, IsRunOf, IsRunFault, AreRunsOf, AreCleared, no_change, made_at, change_of, changes_of, write_new, write_if, write_at, IsWrittenAt, AreWrittenFrom, AreWritesAt}
 use Rattle.span_shard.proofs.Lists.{all_map, all_at, all_append}
 use Rattle.span_shard.proofs.Bytes.{same_bytes, bytes_same}
 use Rattle.span_shard.proofs.Touching.{typed_keyed}
@@ -152,13 +152,15 @@ taken_next {X} (y ∷ ys) (suc i) x h e =
 -- the first mutations have run
 pub record HaveRun (tables : List Table) (ms : List CheckedMutation) (cs : List KeyVersions) (i : ℕ) (es : Changes) : Type 0 where
   pub rows : AreTableRows tables es
+  pub cleared : AreCleared cs es
   pub touched : (k : List ℕ) → is_some (changed_at es k) ≡ true → is_touched tables ms k ≡ true
   pub applied : (db : List TableRow) → IsDatabase tables db → AreTyped tables db → IsNow tables ms db cs
       → (now : List TableRow) × (apply tables now (drop i ms) ≡ apply tables db ms) × (IsDatabase tables now × AreTyped tables now) × IsOver tables (is_touched tables ms) cs es now
 
-pub none_run : (tables : List Table) (ms : List CheckedMutation) (cs : List KeyVersions) (es : Changes) → es ≡ [] → HaveRun tables ms cs 0 es
+pub none_run : (tables : List Table) (ms : List CheckedMutation) (cs : List KeyVersions) (es : Changes) → es ≡ no_change → HaveRun tables ms cs 0 es
 none_run tables ms cs es e = subst (HaveRun tables ms cs 0) (sym e) (record {
   rows = λ k row f. absurd (let g : None ≡ Some (Some row) = f in cc);
+  cleared = λ front f. absurd (let g : false ≡ true = f in cc);
   touched = λ k f. absurd (let g : false ≡ true = f in cc);
   applied = λ db is tdb now. (db, refl, (is, tdb), now);
 })
@@ -184,8 +186,8 @@ pub typed_at : (tables : List Table) (ms : List CheckedMutation) (i : ℕ) (m : 
 typed_at tables ms i m h e all = subst (IsTypedMutation tables) (sym e) (all_at (IsTypedMutation tables) ms i m h all)
 
 pub one_more : (tables : List Table) (ms : List CheckedMutation) → AreTypedMutations tables ms → (cs : List KeyVersions) (i : ℕ) (m : CheckedMutation) (es fs : Changes) → i < length ms → m ≡ get_or ms i m → HaveRun tables ms cs i es → IsRunOf tables cs m es fs
-    → HaveRun tables ms cs (i + 1) fs
-one_more tables ms typed cs i m es fs h e so_far run = record { rows = run.rows; touched = touched; applied = applied }
+    → AreCleared cs fs → HaveRun tables ms cs (i + 1) fs
+one_more tables ms typed cs i m es fs h e so_far run cleared = record { rows = run.rows; cleared = cleared; touched = touched; applied = applied }
   where
     typed_m : IsTypedMutation tables m
     typed_m = typed_at tables ms i m h e typed
@@ -260,14 +262,6 @@ equal_rows (Some a) None e = absurd (let f : true ≡ false = e in cc)
 equal_rows (Some a) (Some b) e = ap Some ((bytes_eq-Decides a b).0 (not_false (bytes_eq a b) e))
 
 -- ---- what is written
-
--- at a key: not looked at yet, or done
-abbrev pub IsWrittenAt : List KeyVersions → Changes → Changes → List Write → List ℕ → Type 0
-IsWrittenAt cs es left ws k = ((changed_at left k ≡ changed_at es k) × (find (is_of k) ws ≡ None)) ⊎ ((changed_at left k ≡ None) × (find (is_of k) ws ≡ write_at cs es k))
-
-pub record AreWrittenFrom (cs : List KeyVersions) (es left : Changes) (ws : List Write) : Type 0 where
-  pub changed : AllByRecursion (λ (w : Write). is_some (changed_at es w.key) ≡ true) ws
-  pub at : (k : List ℕ) → IsWrittenAt cs es left ws k
 
 pub none_written : (cs : List KeyVersions) (es : Changes) → AreWrittenFrom cs es es []
 none_written cs es = record { changed = tt; at = λ k. inl (refl, refl) }
@@ -357,14 +351,103 @@ written_same cs es left rest ws key row so_far out old = record { changed = so_f
       | inr g ↦ inr (out.1 k ∙ ap (λ (b : Bool). cond b None (changed_at left k)) e ∙ g.0, g.1)
     ]
 
-pub all_written : (cs : List KeyVersions) (es left : Changes) (ws : List Write) → left ≡ [] → AreWrittenFrom cs es left ws → AreWritesAt cs es ws
-all_written cs es left ws none so_far = record { changed = so_far.changed; at = λ k. at k }
+-- what is left is the same at every key
+written_alike : (cs : List KeyVersions) (es left rest : Changes) (ws : List Write) → AreWrittenFrom cs es left ws → ((k : List ℕ) → changed_at rest k ≡ changed_at left k) → AreWrittenFrom cs es rest ws
+written_alike cs es left rest ws so_far alike = record {
+  changed = so_far.changed;
+  at = λ k. elim (so_far.at k) [
+    | inl g ↦ inl (alike k ∙ g.0, g.1)
+    | inr g ↦ inr (alike k ∙ g.0, g.1)
+  ];
+}
+
+-- nothing is left at any key
+all_done : (cs : List KeyVersions) (es left : Changes) (ws : List Write) → ((k : List ℕ) → changed_at left k ≡ None) → AreWrittenFrom cs es left ws → AreWritesAt cs es ws
+all_done cs es left ws none so_far = record { changed = so_far.changed; at = λ k. at k }
   where
     at : (k : List ℕ) → find (is_of k) ws ≡ write_at cs es k
     at k = elim (so_far.at k) [
-      | inl g ↦ (let unchanged : changed_at es k ≡ None = sym g.0 ∙ ap (λ (l : Changes). changed_at l k) none in g.1 ∙ sym (ap (write_if k (row_now cs k)) unchanged))
+      | inl g ↦ (let unchanged : changed_at es k ≡ None = sym g.0 ∙ none k in g.1 ∙ sym (ap (write_if k (row_now cs k)) unchanged))
       | inr g ↦ g.1
     ]
+
+-- ---- the rows that were removed
+
+-- one is looked at, where none was made since
+removed_taken : (made : List (List ℕ × List ℕ)) (left rest : List (List ℕ)) (key : List ℕ) → list_any (is_same key) left ≡ true → ((k : List ℕ) → list_any (is_same k) rest ≡ cond (is_same key k) false (list_any (is_same k) left)) → made_at made key ≡ None
+    → TakesOut key None (changes_of made left) (changes_of made rest)
+removed_taken made left rest key among out none = (
+  ap (λ (o : Option (List ℕ)). change_of o (list_any (is_same key) left)) none ∙ ap (change_of None) among,
+  λ k. ap (change_of (made_at made k)) (out k) ∙ by_key k (is_same key k) refl,
+)
+  where
+    by_key : (k : List ℕ) (b : Bool) → is_same key k ≡ b → change_of (made_at made k) (cond b false (list_any (is_same k) left)) ≡ cond b None (changed_at (changes_of made left) k)
+    by_key k true e = ap (λ (o : Option (List ℕ)). change_of o false) (ap (made_at made) (sym (same_bytes key k e)) ∙ none)
+    by_key k false e = refl
+
+-- where one was made since, all is left as it was
+removed_passed : (made : List (List ℕ × List ℕ)) (left rest : List (List ℕ)) (key row : List ℕ) → ((k : List ℕ) → list_any (is_same k) rest ≡ cond (is_same key k) false (list_any (is_same k) left)) → made_at made key ≡ Some row
+    → (k : List ℕ) → changed_at (changes_of made rest) k ≡ changed_at (changes_of made left) k
+removed_passed made left rest key row out here k = ap (change_of (made_at made k)) (out k) ∙ by_key (is_same key k) refl
+  where
+    by_key : (b : Bool) → is_same key k ≡ b → change_of (made_at made k) (cond b false (list_any (is_same k) left)) ≡ change_of (made_at made k) (list_any (is_same k) left)
+    by_key true e =
+        let there : made_at made k ≡ Some row = ap (made_at made) (sym (same_bytes key k e)) ∙ here in
+        ap (λ (o : Option (List ℕ)). change_of o false) there ∙ sym (ap (λ (o : Option (List ℕ)). change_of o (list_any (is_same k) left)) there)
+    by_key false e = refl
+
+and_both : (a b : Bool) → (a && b) ≡ true → (a ≡ true) × (b ≡ true)
+and_both true b e = (refl, e)
+and_both false b e = absurd (let f : false ≡ true = e in cc)
+
+not_some : (o : Option (List ℕ)) → not (is_some o) ≡ true → o ≡ None
+not_some None e = refl
+not_some (Some x) e = absurd (let f : false ≡ true = e in cc)
+
+-- it is written
+pub removal_more : (cs : List KeyVersions) (es : Changes) (made : List (List ℕ × List ℕ)) (left rest : List (List ℕ)) (ws next : List Write) (w : Write) → w.row ≡ None → next ≡ ws ++ w ∷ [] → list_any (is_same w.key) left ≡ true
+    → ((k : List ℕ) → list_any (is_same k) rest ≡ cond (is_same w.key k) false (list_any (is_same k) left)) → (not (is_some (made_at made w.key)) && not (is_same_row (row_now cs w.key) w.row)) ≡ true → AreWrittenFrom cs es (changes_of made left) ws
+    → AreWrittenFrom cs es (changes_of made rest) next
+removal_more cs es made left rest ws next w gone is among out new so_far =
+    let both = and_both (not (is_some (made_at made w.key))) (not (is_same_row (row_now cs w.key) w.row)) new in
+    let taken = removed_taken made left rest w.key among out (not_some (made_at made w.key) both.0) in
+    subst (AreWrittenFrom cs es (changes_of made rest)) (sym is)
+    (written_more cs es (changes_of made left) (changes_of made rest) ws w so_far (subst (λ (o : Option (List ℕ)). TakesOut w.key o (changes_of made left) (changes_of made rest)) (sym gone) taken) both.1)
+
+-- it is not, since one was made or none is there now
+pub removal_none : (cs : List KeyVersions) (es : Changes) (made : List (List ℕ × List ℕ)) (left rest : List (List ℕ)) (ws : List Write) (key : List ℕ) → list_any (is_same key) left ≡ true
+    → ((k : List ℕ) → list_any (is_same k) rest ≡ cond (is_same key k) false (list_any (is_same k) left)) → (not (is_some (made_at made key)) && not (is_same_row (row_now cs key) None)) ≡ false → AreWrittenFrom cs es (changes_of made left) ws
+    → AreWrittenFrom cs es (changes_of made rest) ws
+removal_none cs es made left rest ws key among out old so_far = of_made (made_at made key) refl
+  where
+    of_made : (o : Option (List ℕ)) → made_at made key ≡ o → AreWrittenFrom cs es (changes_of made rest) ws
+    of_made (Some row) e = written_alike cs es (changes_of made left) (changes_of made rest) ws so_far (removed_passed made left rest key row out e)
+    of_made None e =
+        written_same cs es (changes_of made left) (changes_of made rest) ws key None so_far (removed_taken made left rest key among out e)
+        (sym (ap (λ (o : Option (List ℕ)). not (is_some o) && not (is_same_row (row_now cs key) None)) e) ∙ old)
+
+pub removals_written : (cs : List KeyVersions) (es : Changes) (made : List (List ℕ × List ℕ)) (left : List (List ℕ)) (ws : List Write) → left ≡ [] → AreWrittenFrom cs es (changes_of made left) ws → AreWrittenFrom cs es (changes_of made []) ws
+removals_written cs es made left ws none so_far = subst (λ (l : List (List ℕ)). AreWrittenFrom cs es (changes_of made l) ws) none so_far
+
+-- ---- the rows that were made
+
+-- the keys from which on down all was removed are no part of what is written
+pub written_of : (cs : List KeyVersions) (es left : Changes) (ws : List Write) → AreWrittenFrom cs (changes_of es.made es.removed) left ws → AreWrittenFrom cs es left ws
+written_of cs es left ws so_far = record { changed = so_far.changed; at = so_far.at }
+
+-- a row that was made is looked at
+pub made_taken : (made rest : List (List ℕ × List ℕ)) (key row : List ℕ) → made_at made key ≡ Some row → ((k : List ℕ) → made_at rest k ≡ cond (is_same key k) None (made_at made k)) → TakesOut key (Some row) (changes_of made []) (changes_of rest [])
+made_taken made rest key row here out = (
+  ap (λ (o : Option (List ℕ)). change_of o false) here,
+  λ k. ap (λ (o : Option (List ℕ)). change_of o false) (out k) ∙ cases k (is_same key k),
+)
+  where
+    cases : (k : List ℕ) (b : Bool) → change_of (cond b None (made_at made k)) false ≡ cond b None (change_of (made_at made k) false)
+    cases k true = refl
+    cases k false = refl
+
+pub all_written : (cs : List KeyVersions) (es : Changes) (left : List (List ℕ × List ℕ)) (ws : List Write) → left ≡ [] → AreWrittenFrom cs es (changes_of left []) ws → AreWritesAt cs es ws
+all_written cs es left ws none so_far = all_done cs es (changes_of left []) ws (λ k. ap (λ (made : List (List ℕ × List ℕ)). change_of (made_at made k) false) none) so_far
 
 -- ---- on each database
 

@@ -22,7 +22,7 @@ use Rattle.span_mutate.proofs.Deletes.{deletes}
 use Rattle.span_shard.specs.KeyVersions.{KeyVersions}
 use Rattle.span_shard.specs.Rows.{begins_with, code_of, row_coded, root_code}
 use Rattle.span_shard.specs.Shard.{row_now}
-use Rattle.span_shard.specs.Overlay.{Changes, changed_at, row_over, is_same, without_if, own_code, row_before, AreUnder, BlocksDelete, AreRemoved, AreDeleted, IsHeld, IsStray, IsOver, HasDirectory, IsTableRow, AreTableRows, IsRunOf}
+use Rattle.span_shard.specs.Overlay.{Changes, changed_at, row_over, is_same, without_if, own_code, row_before, AreUnder, BlocksDelete, AreRemoved, AreDeleted, HasDeleted, IsHeld, IsStray, IsOver, HasDirectory, IsTableRow, AreTableRows, IsRunOf}
 use Rattle.span_shard.proofs.Lists.{any_all}
 use Rattle.span_shard.proofs.Bytes.{same_bytes}
 use Rattle.span_shard.proofs.Databases.{row_there}
@@ -85,6 +85,14 @@ pub found_below : (cs : List KeyVersions) (es : Changes) (front : List ℕ) (ks 
 found_below cs es front ks under k e =
     let at = any_all (IsBelow cs es front) (is_same k) ks under.sound e in
     subst (IsBelow cs es front) (sym (same_bytes k at.0 at.2)) at.1
+
+-- where the row is absent nothing is deleted
+pub none_deleted : (tables : List Table) (cs : List KeyVersions) (es : Changes) (m : CheckedMutation) (key : List ℕ) → key ≡ own_code tables m → is_some (row_over cs es key) ≡ false → HasDeleted tables cs m es es
+none_deleted tables cs es m key is none = record {
+  keys = [];
+  are = inl (none_is (row_over cs es (own_code tables m)) (ap (λ (l : List ℕ). is_some (row_over cs es l)) (sym is) ∙ none), refl);
+  removed = λ k. refl;
+}
 
 -- a key below is one of the directory
 pub below_in : (tables : List Table) → MeetsRules tables → (m : CheckedMutation) → IsTypedMutation tables m → (k : List ℕ) → begins_with k (own_code tables m) ≡ true → begins_with k (root_code tables m) ≡ true

@@ -1,5 +1,5 @@
 -- The rows at keys as mutations leave them, over those that are there now.
-use Rattle.std.specs.Prelude.{◌≡◌, ◌⊎◌, ℕ, Bool, true, false, ◌&&◌, ◌||◌, List, [], ◌∷◌, ◌++◌, length, find, take, is_some, is_none, not, nat_lt, Option, Some, None, Ok, Err}
+use Rattle.std.specs.Prelude.{◌≡◌, ◌⊎◌, ℕ, Bool, true, false, if◌then◌else◌, ◌&&◌, ◌||◌, List, [], ◌∷◌, ◌++◌, length, find, take, is_some, is_none, not, nat_lt, Option, Some, None, Ok, Err}
 use Rattle.std.specs.List.{list_any, AllByRecursion}
 use Rattle.std.specs.Option.{unwrap_or}
 use Rattle.std.specs.Ordering.{eq_by_cmp}
@@ -29,13 +29,32 @@ use Rattle.span_shard.specs.Shard.{row_now, IsNow}
 use Rattle.span_shard.specs.Writes.{is_of}
 use Rattle.span_shard.specs.Reading.{row_of, is_same_row, is_prepare_refusal, AreUnreadable}
 
--- by coded keys, the packed row that mutations leave where they change it; None where they leave none
-abbrev pub Changes : Type 0
-Changes = List (List ℕ × Option (List ℕ))
+-- what mutations make of rows: by coded keys the packed rows that they made, the keys at which they removed one, maybe before they made
+-- one there, and the keys from which on down they removed all
+pub record Changes : Type 0 where
+  pub made : List (List ℕ × List ℕ)
+  pub removed : List (List ℕ)
+  pub cleared : List (List ℕ)
 
--- what mutations leave at a key, where they change its row
+abbrev pub no_change : Changes
+no_change = record { made = []; removed = []; cleared = [] }
+
+abbrev pub is_same : List ℕ → List ℕ → Bool
+is_same k l = eq_by_cmp byte_order k l
+
+-- the row that mutations made at a key
+abbrev pub made_at : List (List ℕ × List ℕ) → List ℕ → Option (List ℕ)
+made_at made k = lookup (is_at (byte_order k)) made
+
+-- what is left at a key by the row that was made there, and whether one was removed
+abbrev pub change_of : Option (List ℕ) → Bool → Option (Option (List ℕ))
+change_of (Some row) removed = Some (Some row)
+change_of None true = Some None
+change_of None false = None
+
+-- what mutations leave at a key, where they change its row; Some None where they leave none
 abbrev pub changed_at : Changes → List ℕ → Option (Option (List ℕ))
-changed_at es k = lookup (is_at (byte_order k)) es
+changed_at es k = change_of (made_at es.made k) (list_any (is_same k) es.removed)
 
 -- the row at a key: what mutations leave there, and else what is there now
 abbrev pub row_over : List KeyVersions → Changes → List ℕ → Option (List ℕ)
@@ -47,24 +66,42 @@ row_over cs es k = unwrap_or (changed_at es k) (row_now cs k)
 abbrev pub is_unchanged : Changes → KeyVersions → Bool
 is_unchanged es c = is_none (changed_at es c.key) && is_some (row_of c)
 
-abbrev pub is_same : List ℕ → List ℕ → Bool
-is_same k l = eq_by_cmp byte_order k l
+-- every row that the store has from a key on down was changed
+abbrev pub AreChangedUnder : List KeyVersions → Changes → List ℕ → Type 0
+AreChangedUnder cs es front = (k : List ℕ) → begins_with k front ≡ true → is_some (row_now cs k) ≡ true → is_some (changed_at es k) ≡ true
+
+-- so from each of the cleared keys on down
+abbrev pub AreCleared : List KeyVersions → Changes → Type 0
+AreCleared cs es = (front : List ℕ) → list_any (is_same front) es.cleared ≡ true → AreChangedUnder cs es front
+
+-- the cleared keys are as before
+abbrev pub HasSameCleared : Changes → Changes → Type 0
+HasSameCleared es fs = fs.cleared ≡ es.cleared
+
+-- a key is among the cleared ones too
+abbrev pub AddsCleared : List ℕ → Changes → Changes → Type 0
+AddsCleared key es fs = (k : List ℕ) → list_any (is_same k) fs.cleared ≡ (if is_same key k then true else list_any (is_same k) es.cleared)
 
 -- the keys with a row that begin with these bytes
 pub record AreUnder (cs : List KeyVersions) (es : Changes) (front : List ℕ) (ks : List (List ℕ)) : Type 0 where
   pub sound : AllByRecursion (λ (k : List ℕ). (begins_with k front ≡ true) × (is_some (row_over cs es k) ≡ true)) ks
   pub complete : (k : List ℕ) → begins_with k front ≡ true → is_some (row_over cs es k) ≡ true → list_any (is_same k) ks ≡ true
 
--- keys that begin with these bytes, at which mutations leave a row
-pub record AreChangedUnder (es : Changes) (front : List ℕ) (ks : List (List ℕ)) : Type 0 where
-  pub sound : AllByRecursion (λ (k : List ℕ). (begins_with k front ≡ true) × ((row : List ℕ) × (changed_at es k ≡ Some (Some row)))) ks
-  pub complete : (k row : List ℕ) → begins_with k front ≡ true → changed_at es k ≡ Some (Some row) → list_any (is_same k) ks ≡ true
+-- the keys of the store with a row that begin with these bytes, of which no mutation changed one
+pub record AreUnchangedUnder (cs : List KeyVersions) (es : Changes) (front : List ℕ) (ks : List (List ℕ)) : Type 0 where
+  pub sound : AllByRecursion (λ (k : List ℕ). (begins_with k front ≡ true) × (is_some (row_over cs es k) ≡ true)) ks
+  pub complete : (k : List ℕ) → begins_with k front ≡ true → changed_at es k ≡ None → is_some (row_now cs k) ≡ true → list_any (is_same k) ks ≡ true
+
+-- keys that begin with these bytes, at which mutations made a row
+pub record AreMadeUnder (made : List (List ℕ × List ℕ)) (front : List ℕ) (ks : List (List ℕ)) : Type 0 where
+  pub sound : AllByRecursion (λ (k : List ℕ). (begins_with k front ≡ true) × ((row : List ℕ) × (made_at made k ≡ Some row))) ks
+  pub complete : (k row : List ℕ) → begins_with k front ≡ true → made_at made k ≡ Some row → list_any (is_same k) ks ≡ true
 
 -- ... added to these keys
-pub record AddsChanged (es : Changes) (front : List ℕ) (old new : List (List ℕ)) : Type 0 where
+pub record AddsMade (made : List (List ℕ × List ℕ)) (front : List ℕ) (old new : List (List ℕ)) : Type 0 where
   pub added : List (List ℕ)
   pub whole : new ≡ old ++ added
-  pub are : AreChangedUnder es front added
+  pub are : AreMadeUnder made front added
 
 -- it is a key of a table whose rows stay where a row of table n above them is to be deleted
 abbrev pub BlocksDelete : List Table → ℕ → Bool → List ℕ → Type 0
@@ -79,6 +116,10 @@ IsBlocked tables n ks false = AllByRecursion (BlocksDelete tables n false) ks
 abbrev pub without_if : Bool → Option (Option (List ℕ)) → Option (Option (List ℕ))
 without_if true left = Some None
 without_if false left = left
+
+-- a row is left at this key, and the others are as before
+abbrev pub IsPutAt : List ℕ → List ℕ → Changes → Changes → Type 0
+IsPutAt key row es fs = (k : List ℕ) → changed_at fs k ≡ (if is_same key k then Some (Some row) else changed_at es k)
 
 -- no row is left at these keys, and the others are as before
 abbrev pub AreRemoved : Changes → List (List ℕ) → Changes → Type 0
@@ -150,6 +191,12 @@ abbrev pub AreDeleted : List Table → List KeyVersions → Changes → CheckedM
 AreDeleted tables cs es m ks = ((row_before tables cs es m ≡ None) × (ks ≡ []))
     ⊎ ((is_some (row_before tables cs es m) ≡ true) × AreUnder cs es (own_code tables m) ks × IsBlocked tables m.table ks false)
 
+-- at these keys, and no others, no row is left
+pub record HasDeleted (tables : List Table) (cs : List KeyVersions) (m : CheckedMutation) (es fs : Changes) : Type 0 where
+  pub keys : List (List ℕ)
+  pub are : AreDeleted tables cs es m keys
+  pub removed : AreRemoved es keys fs
+
 -- a key below holds the row
 pub record IsHeld (tables : List Table) (cs : List KeyVersions) (es : Changes) (m : CheckedMutation) : Type 0 where
   pub there : is_some (row_before tables cs es m) ≡ true
@@ -219,6 +266,19 @@ write_if k before (Some row) = write_new k row (is_same_row before row)
 
 abbrev pub write_at : List KeyVersions → Changes → List ℕ → Option Write
 write_at cs es k = write_if k (row_now cs k) (changed_at es k)
+
+-- at a key: not looked at yet, or done
+abbrev pub IsWrittenAt : List KeyVersions → Changes → Changes → List Write → List ℕ → Type 0
+IsWrittenAt cs es left ws k = ((changed_at left k ≡ changed_at es k) × (find (is_of k) ws ≡ None)) ⊎ ((changed_at left k ≡ None) × (find (is_of k) ws ≡ write_at cs es k))
+
+-- the changes that are not left are written
+pub record AreWrittenFrom (cs : List KeyVersions) (es left : Changes) (ws : List Write) : Type 0 where
+  pub changed : AllByRecursion (λ (w : Write). is_some (changed_at es w.key) ≡ true) ws
+  pub at : (k : List ℕ) → IsWrittenAt cs es left ws k
+
+-- rows that were made, and keys at which one was removed
+abbrev pub changes_of : List (List ℕ × List ℕ) → List (List ℕ) → Changes
+changes_of made removed = record { made = made; removed = removed; cleared = [] }
 
 -- at each key the write of what mutations leave there, all of keys whose rows they change
 pub record AreWritesAt (cs : List KeyVersions) (es : Changes) (ws : List Write) : Type 0 where

@@ -1,22 +1,24 @@
 //! What mutations change of the rows that are in a shard now.
-ghost use Rattle.std.specs.Prelude.{◌≡◌, not, IfOk, IfErr};
+ghost use Rattle.std.specs.Prelude.{◌≡◌, ◌&&◌, [], not, is_some, IfOk, IfErr};
 ghost use Rattle.std.specs.List.{find};
 ghost use Rattle.std.specs.Option.{option_copied};
 ghost use Rattle.span_mutate.specs.Typed.{AreTypedMutations};
 ghost use Rattle.span_shard.specs.Shard.{AreInOrder, row_now};
 ghost use Rattle.span_shard.specs.Reading.{is_same_row, AreWrites, IsFault, IsPrepareRefusal};
-ghost use Rattle.span_shard.specs.Overlay.{AreWritesAt};
+ghost use Rattle.span_shard.specs.Overlay.{made_at, changes_of, AreWrittenFrom, AreWritesAt};
 
 use super::overlay::Changes;
 use super::place::row_now;
 use super::run::run;
 use super::store::Store;
 use super::write::Write;
+use span_keycode::key::Key;
 use span_mutate::mutation::CheckedMutation;
 use span_schema::schema::Schema;
 use span_value::refusal::Refusal;
 use span_value::seq::Seq;
 use std::alloc::{AllocError, Global};
+use std::collections::{BTreeMap, BTreeSet};
 
 /// Whether both are no row, or equal rows.
 fn is_same_row(left: Option<&Seq<u8>>, right: Option<&Seq<u8>>) -> bool
@@ -37,20 +39,59 @@ fn is_change(store: &Store, write: &Write) -> bool
     !is_same_row(row_now(store, write.key.as_slice()), write.row.as_ref())
 }
 
-/// The writes of the rows that are other rows than those that are there now, from the last key to the first: they are prepared from
-/// the last write to the first.
+// Whether a row that was removed, and that the write is to remove, is there now with none made in its place.
+fn is_removal(store: &Store, made: &BTreeMap<Key, Seq<u8>>, write: &Write) -> bool
+    requires { AreInOrder store.now }
+    ensures { result
+        ≡ not (is_some (made_at made.now.entries write.now.key))
+        && not (is_same_row (row_now store.now write.now.key) write.now.row) }
+{
+    !made.contains_key(&write.key) && is_change(store, write)
+}
+
+// The writes of the rows that mutations removed and made no other for, of those that are there now.
+fn removals(
+    alloc: Global,
+    store: &Store,
+    made: &BTreeMap<Key, Seq<u8>>,
+    removed: BTreeSet<Key>,
+) -> Result<Vec<Write>, AllocError>
+    requires { AreInOrder store.now }
+    ensures { IfOk result
+        (λ ws. AreWrittenFrom store.now (changes_of made.now.entries removed.keys) (changes_of made.now.entries []) ws.items) }
+{
+    let mut left = removed;
+    let mut writes = Vec::new(alloc);
+    while let Some(key) = left.pop_last() {
+        let write = Write { key, row: None };
+        if is_removal(store, made, &write) {
+            writes.push(write)?;
+        }
+    }
+    Ok(writes)
+}
+
+/// The writes of the rows that are other rows than those that are there now. They are prepared from the last write to the first: the
+/// rows that were made from the first key to the last, so that new keys follow one another.
 fn writes_of_changes(
     alloc: Global,
     store: &Store,
     changes: Changes,
 ) -> Result<Vec<Write>, AllocError>
     requires { AreInOrder store.now }
-    ensures { IfOk result (λ ws. AreWritesAt store.now changes.entries ws.items) }
+    ensures { IfOk result (λ ws. AreWritesAt store.now changes ws.items) }
 {
-    let mut left = changes;
-    let mut writes = Vec::new(alloc);
+    let Changes {
+        made: mut left,
+        removed,
+        ..
+    } = changes;
+    let mut writes = removals(alloc, store, &left, removed)?;
     while let Some((key, row)) = left.pop_last() {
-        let write = Write { key, row };
+        let write = Write {
+            key,
+            row: Some(row),
+        };
         if is_change(store, &write) {
             writes.push(write)?;
         }

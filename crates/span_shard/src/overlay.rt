@@ -3,25 +3,95 @@ ghost use Rattle.std.specs.Prelude.{◌≡◌, ◌++◌, map, filter, is_some, I
 ghost use Rattle.std.specs.Option.{option_copied};
 ghost use Rattle.span_shard.specs.Rows.{begins_with};
 ghost use Rattle.span_shard.specs.Shard.{AreInOrder};
-ghost use Rattle.span_shard.specs.Overlay.{row_over, is_unchanged, AreUnder, AddsChanged, AreRemoved};
+ghost use Rattle.span_shard.specs.Overlay.{no_change, changed_at, row_over, is_unchanged, AreCleared, HasSameCleared, AddsCleared, AreUnder, AreUnchangedUnder, AddsMade, IsPutAt, AreRemoved};
 
 use super::place::{StoredKey, push_beginning, row_now};
 use super::store::Store;
 use span_keycode::key::Key;
 use span_value::seq::Seq;
 use std::alloc::{AllocError, Global};
-use std::collections::BTreeMap;
+use std::collections::{BTreeMap, BTreeSet};
+use std::marker::Model;
 
-/// By coded keys, the packed rows that mutations leave where they change them; None where they leave none.
-pub(crate) type Changes = BTreeMap<Key, Option<Seq<u8>>>;
+/// What mutations make of the rows of a store.
+#[derive(Drop)]
+pub(crate) struct Changes {
+    /// By coded keys, the packed rows that mutations made.
+    pub(crate) made: BTreeMap<Key, Seq<u8>>,
+    /// Keys at which mutations removed a row. Where the key is in `made` too, they made one since.
+    pub(crate) removed: BTreeSet<Key>,
+    /// Keys at which a row was deleted with all below it. No row of the store is left there as it was, so that the next deletion there
+    /// looks at `made` alone.
+    cleared: BTreeSet<Key>,
+}
+
+impl Model for Changes {
+    ghost use Rattle.span_shard.specs.Overlay as specs;
+
+    ghost Value = { specs.Changes };
+
+    ghost view = { λ c. record { made = c.made.entries; removed = c.removed.keys; cleared = c.cleared.keys } };
+}
+
+impl Changes {
+    /// No change. It takes no memory.
+    pub(crate) fn new(alloc: Global) -> Changes
+        ensures { result ≡ no_change }
+    {
+        Changes {
+            made: BTreeMap::new(alloc),
+            removed: BTreeSet::new(alloc),
+            cleared: BTreeSet::new(alloc),
+        }
+    }
+
+    // Whether mutations changed the row at a key.
+    fn has(&self, key: &Key) -> bool
+        ensures { result ≡ is_some (changed_at self.now key.now) }
+    {
+        self.made.contains_key(key) || self.removed.contains(key)
+    }
+
+    /// Leaves a row at a key.
+    pub(crate) fn put(&mut self, key: Key, row: Seq<u8>) -> Result<(), AllocError>
+        ensures put { OnOk result (IsPutAt key row self.old self.new) }
+        ensures cleared { OnOk result (HasSameCleared self.old self.new) }
+    {
+        let _before = self.made.insert(key, row)?;
+        Ok(())
+    }
+
+    // Leaves no row at these keys.
+    fn remove(&mut self, keys: Vec<Key>) -> Result<(), AllocError>
+        ensures removed { OnOk result (AreRemoved self.old keys.items self.new) }
+        ensures cleared { OnOk result (HasSameCleared self.old self.new) }
+    {
+        for key in keys {
+            let _row = self.made.remove(&key);
+            let _is_first = self.removed.insert(key)?;
+        }
+        Ok(())
+    }
+
+    /// Leaves no row at these keys, all those with a row that begin with `front`.
+    pub(crate) fn clear(&mut self, front: Key, keys: Vec<Key>) -> Result<(), AllocError>
+        ensures removed { OnOk result (AreRemoved self.old keys.items self.new) }
+        ensures cleared { OnOk result (AddsCleared front self.old self.new) }
+    {
+        self.remove(keys)?;
+        let _is_first = self.cleared.insert(front)?;
+        Ok(())
+    }
+}
 
 /// The row at a key: what the mutations left there, and else what is there now.
 pub(crate) fn row_over<'a>(store: &'a Store, changes: &'a Changes, key: &Key) -> Option<&'a Seq<u8>>
     requires { AreInOrder store.now }
-    ensures { option_copied result ≡ row_over store.now changes.now.entries key.now }
+    ensures { option_copied result ≡ row_over store.now changes.now key.now }
 {
-    match changes.get(key) {
-        Some(row) => row.as_ref(),
+    match changes.made.get(key) {
+        Some(row) => Some(row),
+        None if changes.removed.contains(key) => None,
         None => row_now(store, key.as_slice()),
     }
 }
@@ -29,7 +99,7 @@ pub(crate) fn row_over<'a>(store: &'a Store, changes: &'a Changes, key: &Key) ->
 /// Whether a key has a row.
 pub(crate) fn has_row(store: &Store, changes: &Changes, key: &Key) -> bool
     requires { AreInOrder store.now }
-    ensures { result ≡ is_some (row_over store.now changes.now.entries key.now) }
+    ensures { result ≡ is_some (row_over store.now changes.now key.now) }
 {
     row_over(store, changes, key).is_some()
 }
@@ -37,9 +107,9 @@ pub(crate) fn has_row(store: &Store, changes: &Changes, key: &Key) -> bool
 // Whether a key of the store has a row now, which no mutation changed.
 fn is_unchanged(changes: &Changes, found: &StoredKey<'_>, key: &Key) -> bool
     requires { key.now ≡ found.now.key }
-    ensures { result ≡ is_unchanged changes.now.entries found.now }
+    ensures { result ≡ is_unchanged changes.now found.now }
 {
-    changes.get(key).is_none() && found.row_at(u64::MAX).is_some()
+    !changes.has(key) && found.row_at(u64::MAX).is_some()
 }
 
 fn unchanged_keys(
@@ -48,7 +118,7 @@ fn unchanged_keys(
     found: &[StoredKey<'_>],
 ) -> Result<Vec<Key>, AllocError>
     ensures { IfOk result
-        (λ keys. keys.items ≡ map (λ c. c.key) (filter (is_unchanged changes.now.entries) found.now)) }
+        (λ keys. keys.items ≡ map (λ c. c.key) (filter (is_unchanged changes.now) found.now)) }
 {
     let mut keys = Vec::new(alloc);
     for stored in found {
@@ -60,29 +130,46 @@ fn unchanged_keys(
     Ok(keys)
 }
 
+// The keys of the store that begin with `front`, with a row that no mutation changed.
+fn unchanged_under(
+    alloc: Global,
+    store: &Store,
+    changes: &Changes,
+    front: &Key,
+) -> Result<Vec<Key>, AllocError>
+    requires order { AreInOrder store.now }
+    requires cleared { AreCleared store.now changes.now }
+    ensures { IfOk result (λ keys. AreUnchangedUnder store.now changes.now front.now keys.items) }
+{
+    if changes.cleared.contains(front) {
+        return Ok(Vec::new(alloc));
+    }
+    let mut found = Vec::new(alloc);
+    push_beginning(&mut found, store, front.as_slice())?;
+    unchanged_keys(alloc, changes, found.as_slice())
+}
+
 fn begins_with(key: &Key, front: &Key) -> bool
     ensures { result ≡ begins_with key.now front.now }
 {
     key.as_slice().starts_with(front.as_slice())
 }
 
-// Adds the keys that begin with `front`, at which the mutations left a row.
-fn push_changed(
+// Adds the keys that begin with `front`, at which the mutations made a row.
+fn push_made(
     alloc: Global,
     keys: &mut Vec<Key>,
     changes: &Changes,
     front: &Key,
 ) -> Result<(), AllocError>
-    ensures { OnOk result (AddsChanged changes.now.entries front.now keys.old.items keys.new.items) }
+    ensures { OnOk result (AddsMade changes.now.made front.now keys.old.items keys.new.items) }
 {
-    let mut rest = changes.range(front..);
-    while let Some((key, row)) = rest.next() {
+    let mut rest = changes.made.range(front..);
+    while let Some((key, _row)) = rest.next() {
         if !begins_with(key, front) {
             return Ok(());
         }
-        if row.is_some() {
-            keys.push(Key::from_slice(alloc, key.as_slice())?)?;
-        }
+        keys.push(Key::from_slice(alloc, key.as_slice())?)?;
     }
     Ok(())
 }
@@ -94,22 +181,11 @@ pub(crate) fn keys_under(
     changes: &Changes,
     front: &Key,
 ) -> Result<Vec<Key>, AllocError>
-    requires { AreInOrder store.now }
-    ensures { IfOk result (λ keys. AreUnder store.now changes.now.entries front.now keys.items) }
+    requires order { AreInOrder store.now }
+    requires cleared { AreCleared store.now changes.now }
+    ensures { IfOk result (λ keys. AreUnder store.now changes.now front.now keys.items) }
 {
-    let mut found = Vec::new(alloc);
-    push_beginning(&mut found, store, front.as_slice())?;
-    let mut keys = unchanged_keys(alloc, changes, found.as_slice())?;
-    push_changed(alloc, &mut keys, changes, front)?;
+    let mut keys = unchanged_under(alloc, store, changes, front)?;
+    push_made(alloc, &mut keys, changes, front)?;
     Ok(keys)
-}
-
-/// Leaves no row at these keys.
-pub(crate) fn remove_rows(changes: &mut Changes, keys: Vec<Key>) -> Result<(), AllocError>
-    ensures { OnOk result (AreRemoved changes.old.entries keys.items changes.new.entries) }
-{
-    for key in keys {
-        changes.insert(key, None)?;
-    }
-    Ok(())
 }

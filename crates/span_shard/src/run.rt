@@ -8,10 +8,10 @@ ghost use Rattle.span_mutate.specs.Columns.{is_delete};
 ghost use Rattle.span_mutate.specs.Database.{is_insert, is_update, merge_cells};
 ghost use Rattle.span_mutate.specs.Typed.{IsTypedMutation, AreTypedMutations};
 ghost use Rattle.span_shard.specs.Shard.{AreInOrder};
-ghost use Rattle.span_shard.specs.Overlay.{lacks_parent_over, own_code, AreCellsOf, IsUnpacked, IsBlocked, HasNoKey, IsPutRow, IsNoPut, AreDeleted, IsNoDelete, AreTableRows, IsRunOf, IsRunFault, AreRunsOf};
+ghost use Rattle.span_shard.specs.Overlay.{lacks_parent_over, own_code, AreCellsOf, IsUnpacked, IsBlocked, HasNoKey, IsPutRow, IsNoPut, row_over, AreCleared, AreUnder, HasDeleted, IsNoDelete, AreTableRows, IsRunOf, IsRunFault, AreRunsOf};
 ghost use Rattle.span_shard.specs.Reading.{IsFault, IsPrepareRefusal};
 
-use super::overlay::{Changes, has_row, keys_under, remove_rows, row_over};
+use super::overlay::{Changes, has_row, keys_under, row_over};
 use super::store::Store;
 use span_keycode::decode::decode_key;
 use span_keycode::encode::encode_key;
@@ -25,7 +25,6 @@ use span_value::refusal::Refusal;
 use span_value::seq::Seq;
 use span_value::value::Value;
 use std::alloc::Global;
-use std::collections::BTreeMap;
 
 // The first `len` values, or all where there are fewer.
 fn first_values(values: &[Value], len: usize) -> &[Value]
@@ -45,7 +44,7 @@ fn lacks_parent(
     requires order { AreInOrder store.now }
     requires typed { IsTypedMutation schema.now mutation.now }
     ensures { MatchResult result
-        (λ b. b ≡ lacks_parent_over schema.now store.now changes.now.entries (parent_of schema.now mutation.now.table) mutation.now.key)
+        (λ b. b ≡ lacks_parent_over schema.now store.now changes.now (parent_of schema.now mutation.now.table) mutation.now.key)
         (λ why. why ≡ Refusal.OutOfMemory) }
 {
     schema.meets_rules();
@@ -125,8 +124,8 @@ fn row_put(
     requires typed { IsTypedMutation schema.now mutation.now }
     requires key { key.now ≡ own_code schema.now mutation.now }
     ensures { MatchResult result
-        (IsPutRow schema.now store.now changes.now.entries mutation.now)
-        (IsNoPut schema.now store.now changes.now.entries mutation.now) }
+        (IsPutRow schema.now store.now changes.now mutation.now)
+        (IsNoPut schema.now store.now changes.now mutation.now) }
 {
     let before = row_over(store, changes, key);
     check_presence(mutation.kind, before.is_some())?;
@@ -153,7 +152,7 @@ fn is_blocked(alloc: Global, schema: &Schema, table: usize, keys: &[Key]) -> Res
     Ok(false)
 }
 
-// The keys at which a mutation deletes the rows: its own, and those below it; none where its own row is absent.
+// The keys at which a mutation deletes the rows: its own, which has one, and those below it.
 fn keys_deleted(
     alloc: Global,
     schema: &Schema,
@@ -163,19 +162,41 @@ fn keys_deleted(
     key: &Key,
 ) -> Result<Vec<Key>, Refusal>
     requires order { AreInOrder store.now }
+    requires cleared { AreCleared store.now changes.now }
     requires key { key.now ≡ own_code schema.now mutation.now }
+    requires there { is_some (row_over store.now changes.now key.now) ≡ true }
     ensures { MatchResult result
-        (λ keys. AreDeleted schema.now store.now changes.now.entries mutation.now keys.items)
-        (IsNoDelete schema.now store.now changes.now.entries mutation.now) }
+        (λ keys. AreUnder store.now changes.now key.now keys.items × IsBlocked schema.now mutation.now.table keys.items false)
+        (IsNoDelete schema.now store.now changes.now mutation.now) }
 {
-    if !has_row(store, changes, key) {
-        return Ok(Vec::new(alloc));
-    }
     let keys = keys_under(alloc, store, changes, key)?;
     if is_blocked(alloc, schema, mutation.table, keys.as_slice())? {
         return Err(Refusal::HasChildren);
     }
     Ok(keys)
+}
+
+// Runs a mutation that deletes the row at its key, if there is one, and those below it.
+fn run_delete(
+    alloc: Global,
+    schema: &Schema,
+    store: &Store,
+    changes: &mut Changes,
+    mutation: &CheckedMutation,
+    key: Key,
+) -> Result<(), Refusal>
+    requires order { AreInOrder store.now }
+    requires cleared { AreCleared store.now changes.old }
+    requires key { key ≡ own_code schema.now mutation.now }
+    ensures ok { OnOk result (HasDeleted schema.now store.now mutation.now changes.old changes.new) }
+    ensures cleared { OnOk result (AreCleared store.now changes.new) }
+    ensures refused { IfErr result (IsNoDelete schema.now store.now changes.old mutation.now) }
+{
+    if !has_row(store, changes, &key) {
+        return Ok(());
+    }
+    let keys = keys_deleted(alloc, schema, store, changes, mutation, &key)?;
+    Ok(changes.clear(key, keys)?)
 }
 
 // Runs one mutation.
@@ -188,20 +209,20 @@ fn run_one(
 ) -> Result<(), Refusal>
     requires order { AreInOrder store.now }
     requires typed { IsTypedMutation schema.now mutation.now }
-    requires rows { AreTableRows schema.now changes.old.entries }
+    requires rows { AreTableRows schema.now changes.old }
+    requires cleared { AreCleared store.now changes.old }
     ensures ok { OnOk result
-        (IsRunOf schema.now store.now mutation.now changes.old.entries changes.new.entries) }
-    ensures refused { IfErr result (IsRunFault schema.now store.now mutation.now changes.old.entries) }
+        (IsRunOf schema.now store.now mutation.now changes.old changes.new) }
+    ensures cleared { OnOk result (AreCleared store.now changes.new) }
+    ensures refused { IfErr result (IsRunFault schema.now store.now mutation.now changes.old) }
 {
     schema.meets_rules();
     let key = encode_key(alloc, schema, mutation.table, mutation.key.as_slice())?;
     if is_delete(mutation.kind) {
-        let keys = keys_deleted(alloc, schema, store, changes, mutation, &key)?;
-        return Ok(remove_rows(changes, keys)?);
+        return run_delete(alloc, schema, store, changes, mutation, key);
     }
     let row = row_put(alloc, schema, store, changes, mutation, &key)?;
-    let _before = changes.insert(key, Some(row))?;
-    Ok(())
+    Ok(changes.put(key, row)?)
 }
 
 /// Runs mutations one after another, up to the first fault, and gives what they leave at the keys whose rows they change.
@@ -215,12 +236,12 @@ pub(crate) fn run(
 ) -> Result<Changes, Refusal>
     requires order { AreInOrder store.now }
     requires typed { AreTypedMutations schema.now mutations.now }
-    ensures ok { IfOk result (λ changes. AreRunsOf schema.now mutations.now store.now changes.entries) }
+    ensures ok { IfOk result (λ changes. AreRunsOf schema.now mutations.now store.now changes) }
     ensures fault { IfErr result (λ why. IsFault schema.now mutations.now store.now why) }
     ensures number { IfErr result (λ why. IsPrepareRefusal schema.now mutations.now store.now why) }
 {
     schema.meets_rules();
-    let mut changes = BTreeMap::new(alloc);
+    let mut changes = Changes::new(alloc);
     for mutation in mutations {
         run_one(alloc, schema, store, &mut changes, mutation)?;
     }

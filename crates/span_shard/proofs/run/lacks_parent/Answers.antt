@@ -28,7 +28,7 @@ pub returns-in_ok-key-in-Some : goal.returns-in_ok-key-in-Some
 returns-in_ok-key-in-Some c =
     let tables = c.args.schema.now in
     let cs = c.args.store.now in
-    let es = c.args.changes.now.entries in
+    let es = c.args.changes.now in
     let m = c.args.mutation.now in
     let n = c.in-Some.parent in
     let values : c.first_values-values.result.now ≡ take (length (key_columns tables n)) m.key =

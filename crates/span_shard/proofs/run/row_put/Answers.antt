@@ -9,7 +9,7 @@ pub returns : goal.returns
 returns c =
     let tables = c.args.schema.now in
     let cs = c.args.store.now in
-    let es = c.args.changes.now.entries in
+    let es = c.args.changes.now in
     let m = c.args.mutation.now in
     let before : row_before tables cs es m ≡ option_copied c.row_over-before.result = ap (row_over cs es) (sym c.requires.key) ∙ sym c.row_over-before.ensures in
     let present : is_some (row_before tables cs es m) ≡ c.is_some.result = ap (λ (o : Option (List ℕ)). is_some o) before ∙ some_copied c.row_over-before.result ∙ sym c.is_some.ensures in
