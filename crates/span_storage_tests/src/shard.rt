@@ -277,6 +277,56 @@ fn cascade(rt: HostRuntime) -> Result<(), Fail> {
     Ok(())
 }
 
+/// A row is deleted with those below it, made again, and deleted again in one transaction: what is there last counts.
+#[test]
+fn deleted_again(rt: HostRuntime) -> Result<(), Fail> {
+    let alloc = rt.alloc();
+    let schema = family(alloc)?;
+    let mut shard = filled(alloc, &schema)?;
+    let second = transaction(
+        alloc,
+        &schema,
+        &[
+            (MutationKind::Delete, "A", &[1], None),
+            (MutationKind::Insert, "A", &[1], Some(9)),
+            (MutationKind::Insert, "B", &[1, 3], Some(7)),
+            (MutationKind::Delete, "A", &[1], None),
+            (MutationKind::Insert, "A", &[1], Some(9)),
+        ],
+    )?;
+    run(alloc, &schema, &mut shard, 2, &second, 222)?;
+    // A(1) has another row, and B(1, 3) a deletion.
+    assert_eq!(rt; shard.live(), 5);
+    assert_eq!(rt; count_at(alloc, &shard, 221)?, 3);
+    let entries = shard.snapshot(alloc, &whole(alloc)?, 222)?;
+    assert_eq!(rt; entries.len(), 2);
+    assert!(rt; is_entry(entries.as_slice(), 0, &A1, &NINE));
+    assert!(rt; is_entry(entries.as_slice(), 1, &A2, &NULL));
+    Ok(())
+}
+
+/// Rows that are deleted and made again as they were have no new versions.
+#[test]
+fn made_again(rt: HostRuntime) -> Result<(), Fail> {
+    let alloc = rt.alloc();
+    let schema = family(alloc)?;
+    let mut shard = filled(alloc, &schema)?;
+    let second = transaction(
+        alloc,
+        &schema,
+        &[
+            (MutationKind::Delete, "A", &[1], None),
+            (MutationKind::Delete, "A", &[1], None),
+            (MutationKind::Insert, "A", &[1], Some(7)),
+            (MutationKind::Insert, "B", &[1, 3], Some(9)),
+        ],
+    )?;
+    run(alloc, &schema, &mut shard, 2, &second, 222)?;
+    assert_eq!(rt; shard.live(), 3);
+    assert_eq!(rt; count_at(alloc, &shard, 222)?, 3);
+    Ok(())
+}
+
 /// A row that stays as it was has no new version.
 #[test]
 fn unchanged(rt: HostRuntime) -> Result<(), Fail> {
