@@ -7,7 +7,7 @@ use Rattle.std.proofs.Math.ListN.{get_or-eq_default}
 use Rattle.span_arena.specs.declared.record.NodeRecord.{NodeRecord}
 use Rattle.span_arena.specs.declared.record.ChainRecord.{ChainRecord}
 use Rattle.span_arena.specs.declared.record.ChainRecord.TheVariants as chain
-use Rattle.span_arena.specs.declared.record.Links.{Links}
+use Rattle.span_arena.specs.declared.record.VersionLinks.{VersionLinks}
 use Rattle.span_arena.specs.declared.record.Place.{Place}
 use Rattle.span_arena.specs.declared.record.Place.TheVariants.{Free, Reserved, Linked}
 use Rattle.span_arena.specs.Content.{Prepared, sum_for, one_if, one_for, prepared_for}
@@ -41,7 +41,7 @@ module _ (nodes : List NodeRecord) (rs : List ChainRecord) (free count most : �
   pub maps_stay : (g : ℕ → NodeRecord) (j : ℕ) → IsChanged (node_at nodes) g j → ((d : ℕ) → (node_at nodes j).place ≢ Linked d) → map (chain_of g) rs ≡ map (chain_of (node_at nodes)) rs
   maps_stay g j changed apart = chains_stay (node_at nodes) g rs (λ d. walk_stays (node_at nodes) g j changed sound.rank d sound.top (links_at rs d).count (links_at rs d).newest (apart d) (sound.runs d))
 
-  module _ (c : ℕ) (l : Links) (used : record_at rs c ≡ chain.Used l) where
+  module _ (c : ℕ) (l : VersionLinks) (used : record_at rs c ≡ chain.Used l) where
     total_same : (n : ℕ) → total (set rs c (chain.Used (with_prepared l n))) ≡ total rs
     total_same n =
         let t : total (set rs c (chain.Used (with_prepared l n))) + (links_at rs c).count ≡ total rs + l.count = total-set rs c (chain.Used (with_prepared l n)) (used_in_range rs c l used) in
@@ -61,7 +61,7 @@ module _ (nodes : List NodeRecord) (rs : List ChainRecord) (free count most : �
       at_j : node_at (set nodes j x) j ≡ x
       at_j = get_or-set_same nodes j x blank in_range
 
-      prepared_less : (m : Links) → m.prepared ≡ l.prepared - 1 → prepared_of x ≡ None → (d : ℕ) → prepared_for d (map prepared_of (set nodes j x)) ≡ (links_at (set rs c (chain.Used m)) d).prepared
+      prepared_less : (m : VersionLinks) → m.prepared ≡ l.prepared - 1 → prepared_of x ≡ None → (d : ℕ) → prepared_for d (map prepared_of (set nodes j x)) ≡ (links_at (set rs c (chain.Used m)) d).prepared
       prepared_less m is none = prepared_step rs c l m used (map prepared_of nodes) (map prepared_of (set nodes j x)) (prepared_of (node_at nodes j)) (prepared_of x)
           (λ d. sum-node (one_for d) nodes j x in_range) sound.prepared
           (let a : one_for c (prepared_of (node_at nodes j)) ≡ 1 = for_this (prepared_of (node_at nodes j)) c (node_at nodes j).version.image was_for in
@@ -113,7 +113,7 @@ module _ (nodes : List NodeRecord) (rs : List ChainRecord) (free count most : �
           → IsSound (set nodes j x) (set rs c (chain.Used (record { newest = j; count = l.count + 1; prepared = l.prepared - 1 }))) free count most
       sound-link is_linked next =
           let g = node_at (set nodes j x) in
-          let m : Links = record { newest = j; count = l.count + 1; prepared = l.prepared - 1 } in
+          let m : VersionLinks = record { newest = j; count = l.count + 1; prepared = l.prepared - 1 } in
           let none : prepared_of x ≡ None = is_none-linked x c is_linked in
           let rest : IsRun g ranked c sound.top l.count l.newest = rw (links_were rs c l m used) at (reranked c) in
           let lifted : IsRun g ranked c (sound.top + 1) (l.count + 1) j = rw (add-one l.count, at_j, ranked_here) (is_linked, omega arith, rw next rest) in
