@@ -1,9 +1,9 @@
 //! Steps, counted at no cost.
-ghost use Rattle.std.specs.Prelude.{◌≡◌, ◌+◌};
+ghost use Rattle.std.specs.Prelude.{◌≡◌, ◌+◌, ◌<◌};
 ghost use Rattle.span_arena.specs.Counts.{Count};
 
 use std::marker::Model;
-use std::sync::ledger::{Book, Ledger, Share};
+use std::sync::ledger::{Blank, Book, Ledger, Share};
 
 /// How many keys were compared and how many cells written. It takes no bytes.
 #[derive(Drop)]
@@ -26,6 +26,26 @@ impl<C: Ledger, W: Ledger> Model for Steps<C, W> {
 }
 
 impl<C: Ledger, W: Ledger> Steps<C, W> {
+    /// No step yet, on two new ledgers.
+    pub fn new(compared: Blank, written: Blank) -> Steps<C, W>
+        requires compared_name { compared.name ≡ C.name }
+        requires compared_parts { compared.parts ≡ C.parts }
+        requires compared_some { 0 < compared.parts }
+        requires written_name { written.name ≡ W.name }
+        requires written_parts { written.parts ≡ W.parts }
+        requires written_some { 0 < written.parts }
+        ensures { result ≡ record { compared = 0; written = 0 } }
+    {
+        let (compared, compared_share) = compared.open::<C>();
+        let (written, written_share) = written.open::<W>();
+        Steps {
+            compared,
+            compared_share,
+            written,
+            written_share,
+        }
+    }
+
     /// One key more was compared.
     pub fn compare(&mut self)
         ensures { self.new ≡ record { compared = self.old.compared + 1; written = self.old.written } }
