@@ -7,7 +7,7 @@ use Rattle.span_arena.specs.declared.version.Version.{Version}
 use Rattle.span_arena.specs.declared.record.NodeRecord.{NodeRecord}
 use Rattle.span_arena.specs.declared.record.ChainRecord.{ChainRecord}
 use Rattle.span_arena.specs.declared.record.ChainRecord.TheVariants as chain
-use Rattle.span_arena.specs.declared.record.Links.{Links}
+use Rattle.span_arena.specs.declared.record.VersionLinks.{VersionLinks}
 use Rattle.span_arena.specs.Content.{Prepared, versions_in, one_for, prepared_for}
 use Rattle.span_arena.specs.Runs.{walk, IsRun, chain_of, record_at, links_at, links_of, no_record}
 
@@ -21,43 +21,43 @@ versions_are f [] c = refl
 versions_are f (r ∷ rs) zero = of_record f r
 versions_are f (r ∷ rs) (suc c) = versions_are f rs c
 
-some_used : (f : ℕ → NodeRecord) (r : ChainRecord) (vs : List Version) → chain_of f r ≡ Some vs → (l : Links) × (r ≡ chain.Used l)
+some_used : (f : ℕ → NodeRecord) (r : ChainRecord) (vs : List Version) → chain_of f r ≡ Some vs → (l : VersionLinks) × (r ≡ chain.Used l)
 some_used f (chain.Free next k) vs h = absurd (let q : None ≡ Some vs = h in cc)
 some_used f (chain.Used l) vs h = (l, refl)
 
 -- what the content has as a chain is in use
-pub used_of : (f : ℕ → NodeRecord) (rs : List ChainRecord) (c : ℕ) (vs : List Version) → get_or (map (chain_of f) rs) c None ≡ Some vs → (l : Links) × (record_at rs c ≡ chain.Used l)
+pub used_of : (f : ℕ → NodeRecord) (rs : List ChainRecord) (c : ℕ) (vs : List Version) → get_or (map (chain_of f) rs) c None ≡ Some vs → (l : VersionLinks) × (record_at rs c ≡ chain.Used l)
 used_of f [] c vs h = absurd (let q : None ≡ Some vs = h in cc)
 used_of f (r ∷ rs) zero vs h = some_used f r vs h
 used_of f (r ∷ rs) (suc c) vs h = used_of f rs c vs h
 
 -- and the other way round
-pub chain_at : (f : ℕ → NodeRecord) (rs : List ChainRecord) (c : ℕ) (l : Links) → record_at rs c ≡ chain.Used l → get_or (map (chain_of f) rs) c None ≡ Some (walk f l.count l.newest)
+pub chain_at : (f : ℕ → NodeRecord) (rs : List ChainRecord) (c : ℕ) (l : VersionLinks) → record_at rs c ≡ chain.Used l → get_or (map (chain_of f) rs) c None ≡ Some (walk f l.count l.newest)
 chain_at f [] c l h = absurd (let q : chain.Free 0 0 ≡ chain.Used l = h in cc)
 chain_at f (r ∷ rs) zero l h = ap (chain_of f) h
 chain_at f (r ∷ rs) (suc c) l h = chain_at f rs c l h
 
-pub used_in_range : (rs : List ChainRecord) (c : ℕ) (l : Links) → record_at rs c ≡ chain.Used l → c < length rs
+pub used_in_range : (rs : List ChainRecord) (c : ℕ) (l : VersionLinks) → record_at rs c ≡ chain.Used l → c < length rs
 used_in_range [] c l h = absurd (let q : chain.Free 0 0 ≡ chain.Used l = h in cc)
 used_in_range (r ∷ rs) zero l h = omega arith
 used_in_range (r ∷ rs) (suc c) l h = omega (arith, used_in_range rs c l h)
 
-used_if : (r : ChainRecord) → 0 < (links_of r).prepared → (l : Links) × (r ≡ chain.Used l)
+used_if : (r : ChainRecord) → 0 < (links_of r).prepared → (l : VersionLinks) × (r ≡ chain.Used l)
 used_if (chain.Free next k) h = absurd (omega arith)
 used_if (chain.Used l) h = (l, refl)
 
 -- a chain for which something is prepared is in use
-pub used_prepared : (rs : List ChainRecord) (c : ℕ) → 0 < (links_at rs c).prepared → (l : Links) × (record_at rs c ≡ chain.Used l)
+pub used_prepared : (rs : List ChainRecord) (c : ℕ) → 0 < (links_at rs c).prepared → (l : VersionLinks) × (record_at rs c ≡ chain.Used l)
 used_prepared rs c h = used_if (record_at rs c) h
 
-pub not_free : (r : ChainRecord) (l : Links) (next k : ℕ) → r ≡ chain.Used l → r ≡ chain.Free next k → ⊥
+pub not_free : (r : ChainRecord) (l : VersionLinks) (next k : ℕ) → r ≡ chain.Used l → r ≡ chain.Free next k → ⊥
 not_free r l next k e f = (let q : chain.Used l ≡ chain.Free next k = sym e ∙ f in cc)
 
 -- what the code read of a chain that is in use
-pub read_used : (rs : List ChainRecord) (c : ℕ) (r : ChainRecord) (l m : Links) → record_at rs c ≡ chain.Used m → r ≡ get_or rs c r → r ≡ chain.Used l → record_at rs c ≡ chain.Used l
+pub read_used : (rs : List ChainRecord) (c : ℕ) (r : ChainRecord) (l m : VersionLinks) → record_at rs c ≡ chain.Used m → r ≡ get_or rs c r → r ≡ chain.Used l → record_at rs c ≡ chain.Used l
 read_used rs c r l m used read is = get_or_default rs c no_record r (used_in_range rs c m used) ∙ sym read ∙ is
 
-pub read_not_free : (rs : List ChainRecord) (c : ℕ) (r : ChainRecord) (m : Links) (next k : ℕ) → record_at rs c ≡ chain.Used m → r ≡ get_or rs c r → r ≡ chain.Free next k → ⊥
+pub read_not_free : (rs : List ChainRecord) (c : ℕ) (r : ChainRecord) (m : VersionLinks) (next k : ℕ) → record_at rs c ≡ chain.Used m → r ≡ get_or rs c r → r ≡ chain.Free next k → ⊥
 read_not_free rs c r m next k used read is = not_free (record_at rs c) m next k used (get_or_default rs c no_record r (used_in_range rs c m used) ∙ sym read ∙ is)
 
 -- chains whose walks stay
@@ -72,11 +72,11 @@ chains_stay f g (r ∷ rs) h =
     here (chain.Used l) e = ap Some e
 
 -- the links of a chain with another number of prepared nodes
-abbrev pub with_prepared : Links → ℕ → Links
+abbrev pub with_prepared : VersionLinks → ℕ → VersionLinks
 with_prepared l n = record { newest = l.newest; count = l.count; prepared = n }
 
 -- a chain's record is written
-module _ (rs : List ChainRecord) (c : ℕ) (l m : Links) (used : record_at rs c ≡ chain.Used l) where
+module _ (rs : List ChainRecord) (c : ℕ) (l m : VersionLinks) (used : record_at rs c ≡ chain.Used l) where
   lt : c < length rs
   lt = used_in_range rs c l used
 
@@ -96,7 +96,7 @@ module _ (rs : List ChainRecord) (c : ℕ) (l m : Links) (used : record_at rs c 
   prepared_step ps qs old new sums was balance others d = elim (cases_eq d c) [
     | inl same ↦ (let a : prepared_for c qs + one_for c old ≡ prepared_for c ps + one_for c new = sums c in
         let b : prepared_for c ps ≡ (links_at rs c).prepared = was c in
-        let b2 : (links_at rs c).prepared ≡ l.prepared = ap (λ (x : Links). x.prepared) links_were in
+        let b2 : (links_at rs c).prepared ≡ l.prepared = ap (λ (x : VersionLinks). x.prepared) links_were in
         rw (same, links_here) (omega arith))
     | inr differs ↦ (let a : prepared_for d qs + one_for d old ≡ prepared_for d ps + one_for d new = sums d in
         let b : prepared_for d ps ≡ (links_at rs d).prepared = was d in

@@ -5,24 +5,25 @@ use Rattle.std.proofs.Math.ListN.{get_or-eq_default}
 use Rattle.std.proofs.lemmas.List.{get_or-set_same, length-map, map-set, map-append, get_or-map, get_or_default}
 use Rattle.std.proofs.lemmas.Bool.{cases_lt}
 use Rattle.std.proofs.lemmas.Bool.Decides.{nat_tests}
+use Rattle.span_arena.specs.declared.cell.Cell.{Cell}
 use Rattle.span_arena.specs.declared.version.Version.{Version}
 use Rattle.span_arena.specs.declared.record.NodeRecord.{NodeRecord}
 use Rattle.span_arena.specs.declared.record.ChainRecord.{ChainRecord}
 use Rattle.span_arena.specs.declared.record.ChainRecord.TheVariants as chain
-use Rattle.span_arena.specs.declared.record.Links.{Links}
+use Rattle.span_arena.specs.declared.record.VersionLinks.{VersionLinks}
 use Rattle.span_arena.specs.declared.record.Place.TheVariants.{Free, Reserved, Linked}
 use Rattle.span_arena.specs.Content.{Content, Prepared, versions, versions_in, IsInOrder, is_unused, live, linked, linked_as, given_back, IsSomePrepared, IsReserved, with_at, one_for, prepared_for}
 use Rattle.span_arena.specs.Runs.{walk, IsFreeList, IsSound, node_at, blank, chain_of, record_at, links_at, links_of, prepared_of, content}
 use Rattle.span_arena.proofs.Frames.{changed-set, changed-push, reserved_apart, free_apart}
 use Rattle.span_arena.proofs.Counts.{length-walk, versions_counted, one_for-at, one_for-same}
 use Rattle.span_arena.proofs.Chains.{with_prepared, versions_are, chain_at, used_prepared, read_used, links_were, chains_step}
-use Rattle.span_arena.proofs.Steps.{maps_stay, is_for, is_none-free, is_none-linked}
+use Rattle.span_arena.proofs.Moves.{maps_stay, is_for, is_none-free, is_none-linked}
 
-abbrev pub of_parts : List (Option (List Version)) → List (Option Prepared) → ℕ → ℕ → Content
-of_parts cs ps free most = record { chains = cs; prepared = ps; free = free; most = most }
+abbrev pub of_parts : List (Option (List Version)) → List (Option Prepared) → ℕ → ℕ → List Cell → Content
+of_parts cs ps free most cells = record { chains = cs; cells = cells; prepared = ps; free = free; most = most }
 
-pub parts_equal : (cs ds : List (Option (List Version))) (ps qs : List (Option Prepared)) (free most : ℕ) → cs ≡ ds → ps ≡ qs → of_parts cs ps free most ≡ of_parts ds qs free most
-parts_equal cs ds ps qs free most e f = ap (λ (x : List (Option (List Version))). of_parts x ps free most) e ∙ ap (λ (y : List (Option Prepared)). of_parts ds y free most) f
+pub parts_equal : (cs ds : List (Option (List Version))) (ps qs : List (Option Prepared)) (free most : ℕ) (cells : List Cell) → cs ≡ ds → ps ≡ qs → of_parts cs ps free most cells ≡ of_parts ds qs free most cells
+parts_equal cs ds ps qs free most cells e f = ap (λ (x : List (Option (List Version))). of_parts x ps free most cells) e ∙ ap (λ (y : List (Option Prepared)). of_parts ds y free most cells) f
 
 -- ---- what the code reads
 
@@ -32,7 +33,7 @@ pub record IsHeld (nodes : List NodeRecord) (rs : List ChainRecord) (j : ℕ) (c
   pub at : node_at nodes j ≡ cell
   pub was : (node_at nodes j).place ≡ Reserved c
   pub prepared : get_or (map prepared_of nodes) j None ≡ Some (record { chain = c; image = cell.version.image })
-  pub links : Links
+  pub links : VersionLinks
   pub used : record_at rs c ≡ chain.Used links
   pub some : 0 < links.prepared
 
@@ -45,7 +46,7 @@ in_range-prepared nodes j P h = elim (cases_lt j (length nodes)) [
 ]
 
 -- and of its chain
-pub links_held : (nodes : List NodeRecord) (rs : List ChainRecord) (j : ℕ) (cell : NodeRecord) (c : ℕ) → IsHeld nodes rs j cell c → (r : ChainRecord) (l : Links) → r ≡ get_or rs c r → r ≡ chain.Used l
+pub links_held : (nodes : List NodeRecord) (rs : List ChainRecord) (j : ℕ) (cell : NodeRecord) (c : ℕ) → IsHeld nodes rs j cell c → (r : ChainRecord) (l : VersionLinks) → r ≡ get_or rs c r → r ≡ chain.Used l
     → (record_at rs c ≡ chain.Used l) × (0 < l.prepared)
 links_held nodes rs j cell c is_held r l read is =
     let used : record_at rs c ≡ chain.Used l = read_used rs c r l is_held.links is_held.used read is in
@@ -53,7 +54,7 @@ links_held nodes rs j cell c is_held r l read is =
     let e : is_held.links ≡ l = cc in
     (used, rw e at is_held.some)
 
-module _ (nodes : List NodeRecord) (rs : List ChainRecord) (free count most : ℕ) (sound : IsSound nodes rs free count most) where
+module _ (nodes : List NodeRecord) (rs : List ChainRecord) (free count most : ℕ) (cells : List Cell) (sound : IsSound nodes rs free count most) where
   some_prepared : (c j : ℕ) (image : Option (List ℕ)) → get_or (map prepared_of nodes) j None ≡ Some (record { chain = c; image = image }) → 0 < (links_at rs c).prepared
   some_prepared c j image e =
       let a : one_for c (get_or (map prepared_of nodes) j None) ≤ prepared_for c (map prepared_of nodes) = one_for-at c (map prepared_of nodes) j in
@@ -73,16 +74,16 @@ module _ (nodes : List NodeRecord) (rs : List ChainRecord) (free count most : �
 
   -- ---- how many
 
-  pub live_is : live (content nodes rs count most) + count ≡ length nodes
+  pub live_is : live (content nodes rs count most cells) + count ≡ length nodes
   live_is = omega (arith, sound.counted, versions_counted (node_at nodes) rs)
 
-  pub unused_is : (c : ℕ) (l : Links) → record_at rs c ≡ chain.Used l → is_unused (content nodes rs count most) c ≡ (nat_eq l.count 0 && nat_eq l.prepared 0)
+  pub unused_is : (c : ℕ) (l : VersionLinks) → record_at rs c ≡ chain.Used l → is_unused (content nodes rs count most cells) c ≡ (nat_eq l.count 0 && nat_eq l.prepared 0)
   unused_is c l used = rw (versions_are (node_at nodes) rs c, length-walk, sound.prepared c, links_were rs c l l used) refl
 
-  pub prepared_is : (c : ℕ) (l : Links) → record_at rs c ≡ chain.Used l → prepared_for c (map prepared_of nodes) ≡ l.prepared
+  pub prepared_is : (c : ℕ) (l : VersionLinks) → record_at rs c ≡ chain.Used l → prepared_for c (map prepared_of nodes) ≡ l.prepared
   prepared_is c l used = sound.prepared c ∙ ap (λ (r : ChainRecord). (links_of r).prepared) used
 
-  pub in_order : IsInOrder (content nodes rs count most)
+  pub in_order : IsInOrder (content nodes rs count most cells)
   in_order = record {
     placed = rw length-map (omega (arith, live_is));
     bounded = rw length-map sound.bounded;
@@ -92,38 +93,38 @@ module _ (nodes : List NodeRecord) (rs : List ChainRecord) (free count most : �
 
   -- ---- the calls
 
-  module _ (j : ℕ) (cell : NodeRecord) (c : ℕ) (is_held : IsHeld nodes rs j cell c) (l : Links) (used : record_at rs c ≡ chain.Used l) where
+  module _ (j : ℕ) (cell : NodeRecord) (c : ℕ) (is_held : IsHeld nodes rs j cell c) (l : VersionLinks) (used : record_at rs c ≡ chain.Used l) where
     apart : (d : ℕ) → (node_at nodes j).place ≢ Linked d
     apart d = reserved_apart (node_at nodes j).place c d is_held.was
 
-    pub chain_versions : versions (content nodes rs count most) c ≡ walk (node_at nodes) l.count l.newest
+    pub chain_versions : versions (content nodes rs count most cells) c ≡ walk (node_at nodes) l.count l.newest
     chain_versions = ap versions_in (chain_at (node_at nodes) rs c l used)
 
     pub content-give_back : (x : NodeRecord) → x.place ≡ Free (count + 1)
-        → content (set nodes j x) (set rs c (chain.Used (with_prepared l (l.prepared - 1)))) (count + 1) most ≡ given_back (content nodes rs count most) j
+        → content (set nodes j x) (set rs c (chain.Used (with_prepared l (l.prepared - 1)))) (count + 1) most cells ≡ given_back (content nodes rs count most cells) j
     content-give_back x is_free =
         let g = node_at (set nodes j x) in
-        parts_equal _ _ _ _ (count + 1) most
+        parts_equal _ _ _ _ (count + 1) most cells
         (chains_step rs c l (with_prepared l (l.prepared - 1)) used g refl refl ∙ maps_stay nodes rs free count most sound g j (changed-set nodes j x) apart)
         (map-set prepared_of nodes j x ∙ ap (set (map prepared_of nodes) j) (is_none-free x (count + 1) is_free))
 
     pub content-link : (x : NodeRecord) (s : ℕ) → x.place ≡ Linked c → x.version ≡ record { timestamp = s; image = cell.version.image } → x.next ≡ l.newest
-        → content (set nodes j x) (set rs c (chain.Used (record { newest = j; count = l.count + 1; prepared = l.prepared - 1 }))) count most ≡ linked (content nodes rs count most) j s
+        → content (set nodes j x) (set rs c (chain.Used (record { newest = j; count = l.count + 1; prepared = l.prepared - 1 }))) count most cells ≡ linked (content nodes rs count most cells) j s
     content-link x s is_linked version next =
         let f = node_at nodes in
         let g = node_at (set nodes j x) in
         let v : Version = record { timestamp = s; image = cell.version.image } in
-        let m : Links = record { newest = j; count = l.count + 1; prepared = l.prepared - 1 } in
+        let m : VersionLinks = record { newest = j; count = l.count + 1; prepared = l.prepared - 1 } in
         let stay : map (chain_of g) rs ≡ map (chain_of f) rs = maps_stay nodes rs free count most sound g j (changed-set nodes j x) apart in
         let walk_same : walk g l.count l.newest ≡ walk f l.count l.newest =
         (let a : Some (walk g l.count l.newest) ≡ Some (walk f l.count l.newest)
         = sym (chain_at g rs c l used) ∙ ap (λ (cs : List (Option (List Version))). get_or cs c None) stay ∙ chain_at f rs c l used in cc) in
         let at_j : g j ≡ x = get_or-set_same nodes j x blank is_held.in_range in
-        let walked : chain_of g (chain.Used m) ≡ Some (v ∷ versions (content nodes rs count most) c) = rw (chain_versions, add-one, at_j, version, next, walk_same) refl in
-        let chains : map (chain_of g) (set rs c (chain.Used m)) ≡ set (map (chain_of f) rs) c (Some (v ∷ versions (content nodes rs count most) c)) =
+        let walked : chain_of g (chain.Used m) ≡ Some (v ∷ versions (content nodes rs count most cells) c) = rw (chain_versions, add-one, at_j, version, next, walk_same) refl in
+        let chains : map (chain_of g) (set rs c (chain.Used m)) ≡ set (map (chain_of f) rs) c (Some (v ∷ versions (content nodes rs count most cells) c)) =
         map-set (chain_of g) rs c (chain.Used m) ∙ ap (λ (cs : List (Option (List Version))). set cs c (chain_of g (chain.Used m))) stay ∙ ap (set (map (chain_of f) rs) c) walked in
-        parts_equal _ _ _ _ count most chains (map-set prepared_of nodes j x ∙ ap (set (map prepared_of nodes) j) (is_none-linked x c is_linked))
-        ∙ sym (ap (linked_as (content nodes rs count most) j s) is_held.prepared)
+        parts_equal _ _ _ _ count most cells chains (map-set prepared_of nodes j x ∙ ap (set (map prepared_of nodes) j) (is_none-linked x c is_linked))
+        ∙ sym (ap (linked_as (content nodes rs count most cells) j s) is_held.prepared)
 
   -- the first of the free nodes, and what the code reads there
   pub first_free : 0 < count → (free < length nodes) × ((node_at nodes free).place ≡ Free count) × ((n : NodeRecord) → n ≡ get_or nodes free n → node_at nodes free ≡ n)
@@ -138,9 +139,9 @@ module _ (nodes : List NodeRecord) (rs : List ChainRecord) (free count most : �
       ] in
       (lt, list.0 ∙ ap Free (sym e), λ n read. get_or_default nodes free blank n lt ∙ sym read)
 
-  module _ (c : ℕ) (l : Links) (used : record_at rs c ≡ chain.Used l) where
+  module _ (c : ℕ) (l : VersionLinks) (used : record_at rs c ≡ chain.Used l) where
     pub content-reuse : (image : Option (List ℕ)) (x : NodeRecord) → 0 < count → free < length nodes → (node_at nodes free).place ≡ Free count → prepared_of x ≡ Some (record { chain = c; image = image })
-        → IsReserved (content nodes rs count most) (content (set nodes free x) (set rs c (chain.Used (with_prepared l (l.prepared + 1)))) (count - 1) most) c image free
+        → IsReserved (content nodes rs count most cells) (content (set nodes free x) (set rs c (chain.Used (with_prepared l (l.prepared + 1)))) (count - 1) most cells) c image free
     content-reuse image x some in_range is_free is_prepared =
         let g = node_at (set nodes free x) in
         let lt : free < length (map prepared_of nodes) = rw length-map in_range in
@@ -150,14 +151,14 @@ module _ (nodes : List NodeRecord) (rs : List ChainRecord) (free count most : �
           number = omega (arith, length-map nodes prepared_of);
           was_none = get_or-map prepared_of nodes free blank None in_range ∙ is_none-free (node_at nodes free) count is_free;
           from_free = λ _. lt;
-          now = parts_equal _ _ _ _ (count - 1) most
+          now = parts_equal _ _ _ _ (count - 1) most cells
               (chains_step rs c l (with_prepared l (l.prepared + 1)) used g refl refl
               ∙ maps_stay nodes rs free count most sound g free (changed-set nodes free x) (λ d. free_apart (node_at nodes free).place count d is_free))
               (rw t (map-set prepared_of nodes free x ∙ ap (set (map prepared_of nodes) free) is_prepared));
         }
 
     pub content-push : (image : Option (List ℕ)) (x : NodeRecord) → count ≡ 0 → length nodes < most → prepared_of x ≡ Some (record { chain = c; image = image })
-        → IsReserved (content nodes rs count most) (content (nodes ++ x ∷ []) (set rs c (chain.Used (with_prepared l (l.prepared + 1)))) count most) c image (length nodes)
+        → IsReserved (content nodes rs count most cells) (content (nodes ++ x ∷ []) (set rs c (chain.Used (with_prepared l (l.prepared + 1)))) count most cells) c image (length nodes)
     content-push image x none room is_prepared =
         let g = node_at (nodes ++ x ∷ []) in
         let ge : length (map prepared_of nodes) ≤ length nodes = omega (arith, length-map nodes prepared_of) in
@@ -171,9 +172,9 @@ module _ (nodes : List NodeRecord) (rs : List ChainRecord) (free count most : �
           number = omega (arith, length-map nodes prepared_of);
           was_none = get_or-eq_default (map prepared_of nodes) None ge;
           from_free = λ some. absurd (omega arith);
-          now = parts_equal _ (map (chain_of (node_at nodes)) rs) _ more count most
+          now = parts_equal _ (map (chain_of (node_at nodes)) rs) _ more count most cells
               (chains_step rs c l (with_prepared l (l.prepared + 1)) used g refl refl
               ∙ maps_stay nodes rs free count most sound g (length nodes) (changed-push nodes x) (λ d. free_apart (node_at nodes (length nodes)).place 0 d (ap (λ (n : NodeRecord). n.place) end_is)))
               (rw t (map-append prepared_of nodes (x ∷ []) ∙ ap (λ (p : Option Prepared). map prepared_of nodes ++ p ∷ []) is_prepared))
-              ∙ ap (λ (n : ℕ). of_parts (map (chain_of (node_at nodes)) rs) more n most) (sym less);
+              ∙ ap (λ (n : ℕ). of_parts (map (chain_of (node_at nodes)) rs) more n most cells) (sym less);
         }

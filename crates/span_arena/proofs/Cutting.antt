@@ -9,14 +9,15 @@ use Rattle.span_arena.specs.declared.version.Version.{Version}
 use Rattle.span_arena.specs.declared.record.NodeRecord.{NodeRecord}
 use Rattle.span_arena.specs.declared.record.ChainRecord.{ChainRecord}
 use Rattle.span_arena.specs.declared.record.ChainRecord.TheVariants as chain
-use Rattle.span_arena.specs.declared.record.Links.{Links}
+use Rattle.span_arena.specs.declared.cell.Cell.{Cell}
+use Rattle.span_arena.specs.declared.record.VersionLinks.{VersionLinks}
 use Rattle.span_arena.specs.declared.record.Place.TheVariants.{Free, Linked}
 use Rattle.span_arena.specs.Content.{versions, versions_in, kept_upto, kept_by, kept_at, with_kept, sum_for, one_if, one_for, prepared_for}
 use Rattle.span_arena.specs.Runs.{walk, follow, IsRun, IsSomeRun, IsAbove, IsSound, IsCut, IsTrimming, node_at, blank, chain_of, record_at, links_at, links_of, prepared_of, content, total}
 use Rattle.span_arena.proofs.Frames.{IsChanged, run_stays, walk_stays, free_stays, changed-set, linked_apart}
 use Rattle.span_arena.proofs.Counts.{length-walk, total-set}
 use Rattle.span_arena.proofs.Chains.{used_in_range, links_were, links_here, links_elsewhere, chain_at, chains_stay}
-use Rattle.span_arena.proofs.Steps.{is_none-free, is_none-linked}
+use Rattle.span_arena.proofs.Moves.{is_none-free, is_none-linked}
 use Rattle.span_arena.proofs.Contents.{of_parts, parts_equal}
 use Rattle.span_arena.proofs.Walking.{in_range-linked}
 
@@ -116,15 +117,15 @@ above_kept f g rank j changed low lower (suc k) h lt le above =
     rw e (omega arith, above_kept f g rank j changed low lower k (f h).next lt le above.1)
 
 -- the start: the front stays, and what is left is loose
-pub trimming_starts : (nodes : List NodeRecord) (rs : List ChainRecord) (free count most c : ℕ) (l : Links) (s : Option ℕ) (kept at : ℕ) → IsSound nodes rs free count most → record_at rs c ≡ chain.Used l
+pub trimming_starts : (nodes : List NodeRecord) (rs : List ChainRecord) (free count most : ℕ) (cells : List Cell) (c : ℕ) (l : VersionLinks) (s : Option ℕ) (kept at : ℕ) → IsSound nodes rs free count most → record_at rs c ≡ chain.Used l
     → IsCut (node_at nodes) l.newest l.count s kept at → record {
       sound : IsTrimming nodes (set rs c (chain.Used (record { newest = l.newest; count = kept; prepared = l.prepared }))) free count most c (l.count - kept) at;
-      same : content nodes (set rs c (chain.Used (record { newest = l.newest; count = kept; prepared = l.prepared }))) (count + (l.count - kept)) most
-          ≡ with_kept (content nodes rs count most) c (kept_by s (versions (content nodes rs count most) c));
+      same : content nodes (set rs c (chain.Used (record { newest = l.newest; count = kept; prepared = l.prepared }))) (count + (l.count - kept)) most cells
+          ≡ with_kept (content nodes rs count most cells) c (kept_by s (versions (content nodes rs count most cells) c));
     }
-trimming_starts nodes rs free count most c l s kept at sound used is_cut =
+trimming_starts nodes rs free count most cells c l s kept at sound used is_cut =
     let f = node_at nodes in
-    let m : Links = record { newest = l.newest; count = kept; prepared = l.prepared } in
+    let m : VersionLinks = record { newest = l.newest; count = kept; prepared = l.prepared } in
     let lt : c < length rs = used_in_range rs c l used in
     let run : IsRun f sound.rank c sound.top l.count l.newest = rw (links_were rs c l m used) at (sound.runs c) in
     let within : kept ≤ l.count = is_cut.within in
@@ -132,12 +133,12 @@ trimming_starts nodes rs free count most c l s kept at sound used is_cut =
     let parts : IsSplit f sound.rank c sound.top kept (l.count - kept) l.newest = split f sound.rank c sound.top kept (l.count - kept) l.newest (subst (λ n. IsRun f sound.rank c sound.top n l.newest) {x = l.count} {y = kept + (l.count - kept)} whole run) in
     let n : (links_at rs c).count ≡ l.count = ap (λ (r : ChainRecord). (links_of r).count) used in
     let t : total (set rs c (chain.Used m)) + (links_at rs c).count ≡ total rs + kept = total-set rs c (chain.Used m) lt in
-    let v : versions (content nodes rs count most) c ≡ walk f l.count l.newest = ap versions_in (chain_at f rs c l used) in
-    let vs : List Version = kept_by s (versions (content nodes rs count most) c) in
+    let v : versions (content nodes rs count most cells) c ≡ walk f l.count l.newest = ap versions_in (chain_at f rs c l used) in
+    let vs : List Version = kept_by s (versions (content nodes rs count most cells) c) in
     let w : walk f kept l.newest ≡ vs = is_cut.same ∙ ap (kept_by s) (sym v) in
-    let long : length (versions (content nodes rs count most) c) ≡ l.count = ap length v ∙ length-walk f l.count l.newest in
+    let long : length (versions (content nodes rs count most cells) c) ≡ l.count = ap length v ∙ length-walk f l.count l.newest in
     let short : length vs ≡ kept = sym (ap length w) ∙ length-walk f kept l.newest in
-    let freed : count + (l.count - kept) ≡ count + (length (versions (content nodes rs count most) c) - length vs) = rw (long, short) refl in
+    let freed : count + (l.count - kept) ≡ count + (length (versions (content nodes rs count most cells) c) - length vs) = rw (long, short) refl in
     let chains : map (chain_of f) (set rs c (chain.Used m)) ≡ set (map (chain_of f) rs) c (Some vs) = map-set (chain_of f) rs c (chain.Used m) ∙ ap (set (map (chain_of f) rs) c) (ap Some w) in
     record {
       sound = record {
@@ -159,8 +160,8 @@ trimming_starts nodes rs free count most c l s kept at sound used is_cut =
         counted = omega (arith, sound.counted);
         bounded = sound.bounded;
       };
-      same = parts_equal _ (set (map (chain_of f) rs) c (Some vs)) _ (map prepared_of nodes) (count + (l.count - kept)) most chains refl
-          ∙ ap (λ (n : ℕ). of_parts (set (map (chain_of f) rs) c (Some vs)) (map prepared_of nodes) n most) freed;
+      same = parts_equal _ (set (map (chain_of f) rs) c (Some vs)) _ (map prepared_of nodes) (count + (l.count - kept)) most cells chains refl
+          ∙ ap (λ (n : ℕ). of_parts (set (map (chain_of f) rs) c (Some vs)) (map prepared_of nodes) n most cells) freed;
     }
 
 -- the end: nothing is loose
@@ -212,8 +213,8 @@ module _ (nodes : List NodeRecord) (rs : List ChainRecord) (free count most c le
     prepared_same : prepared_of x ≡ None → map prepared_of (set nodes at x) ≡ map prepared_of nodes
     prepared_same none = map-set_same prepared_of nodes at x blank (none ∙ sym was_none)
 
-    pub trim_content : (n : ℕ) → x.place ≡ Free n → (k : ℕ) → content (set nodes at x) rs k most ≡ content nodes rs k most
-    trim_content n is_free k = parts_equal _ _ _ _ k most
+    pub trim_content : (cells : List Cell) (n : ℕ) → x.place ≡ Free n → (k : ℕ) → content (set nodes at x) rs k most cells ≡ content nodes rs k most cells
+    trim_content cells n is_free k = parts_equal _ _ _ _ k most cells
         (chains_stay (node_at nodes) (node_at (set nodes at x)) rs (λ d. (chain_stays d).1))
         (prepared_same (is_none-free x n is_free))
 

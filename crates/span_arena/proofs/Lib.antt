@@ -1,7 +1,7 @@
 pub mod Frames
 pub mod Counts
 pub mod Chains
-pub mod Steps
+pub mod Moves
 pub mod Contents
 pub mod Spares
 pub mod Walking

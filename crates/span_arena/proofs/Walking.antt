@@ -8,7 +8,8 @@ use Rattle.std.specs.Prelude.{nat_le, true, false}
 use Rattle.span_arena.specs.declared.record.NodeRecord.{NodeRecord}
 use Rattle.span_arena.specs.declared.record.ChainRecord.{ChainRecord}
 use Rattle.span_arena.specs.declared.record.ChainRecord.TheVariants as chain
-use Rattle.span_arena.specs.declared.record.Links.{Links}
+use Rattle.span_arena.specs.declared.cell.Cell.{Cell}
+use Rattle.span_arena.specs.declared.record.VersionLinks.{VersionLinks}
 use Rattle.span_arena.specs.declared.record.Place.TheVariants.{Linked}
 use Rattle.span_arena.specs.Content.{versions, versions_in, newest_upto}
 use Rattle.span_arena.specs.Runs.{walk, IsRun, IsSomeRun, IsSound, node_at, blank, record_at, content}
@@ -22,9 +23,9 @@ in_range-linked nodes i c h = elim (cases_lt i (length nodes)) [
 ]
 
 -- the start: the run of a chain has its versions
-pub init_run : (nodes : List NodeRecord) (rs : List ChainRecord) (free count most : ℕ) (sound : IsSound nodes rs free count most) (c : ℕ) (l : Links) → record_at rs c ≡ chain.Used l
-    → IsSomeRun (node_at nodes) l.count l.newest × (walk (node_at nodes) l.count l.newest ≡ versions (content nodes rs count most) c)
-init_run nodes rs free count most sound c l used =
+pub init_run : (nodes : List NodeRecord) (rs : List ChainRecord) (free count most : ℕ) (cells : List Cell) (sound : IsSound nodes rs free count most) (c : ℕ) (l : VersionLinks) → record_at rs c ≡ chain.Used l
+    → IsSomeRun (node_at nodes) l.count l.newest × (walk (node_at nodes) l.count l.newest ≡ versions (content nodes rs count most cells) c)
+init_run nodes rs free count most cells sound c l used =
     let run : IsRun (node_at nodes) sound.rank c sound.top l.count l.newest = rw (links_were rs c l l used) at (sound.runs c) in
     (record { rank = sound.rank; chain = c; bound = sound.top; run = run }, sym (ap versions_in (chain_at (node_at nodes) rs c l used)))
 

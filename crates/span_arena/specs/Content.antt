@@ -1,5 +1,7 @@
 -- What a caller sees of an arena: a map from chains to versions, what is prepared, and how many nodes are free.
 use Rattle.std.specs.Prelude.{◌≡◌, ◌⊎◌, ℕ, ◌+◌, ◌-◌, ◌<◌, ◌≤◌, List, [], ◌∷◌, ◌++◌, ◌&&◌, length, Option, Some, None, slice_index_or, slice_set, Bool, nat_le, nat_lt, nat_eq, find, if◌then◌else◌}
+use Rattle.span_arena.specs.Cells.{blank}
+use Rattle.span_arena.specs.declared.cell.Cell.{Cell}
 use Rattle.span_arena.specs.declared.version.Version.{Version}
 use Rattle.span_value.specs.declared.refusal.Refusal.{Refusal}
 use Rattle.span_value.specs.declared.refusal.Refusal.TheVariants.{ShardFull, OutOfMemory}
@@ -9,10 +11,12 @@ pub record Prepared : Type 0 where
   pub chain : ℕ
   pub image : Option (List ℕ)
 
--- Under a chain's number its versions, newest first, or None where it is no chain; under a node's number what is prepared in it, or
+-- Under a chain's number its versions, newest first, or None where it is no chain, and its key with its links, which are blank where it
+-- is none; under a node's number what is prepared in it, or
 -- None where it is in a chain or free; how many nodes are free; and how many may be in use.
 pub record Content : Type 0 where
   pub chains : List (Option (List Version))
+  pub cells : List Cell
   pub prepared : List (Option Prepared)
   pub free : ℕ
   pub most : ℕ
@@ -96,15 +100,20 @@ abbrev pub AreAllChains : Content → Type 0
 AreAllChains c = (d : ℕ) → d < length c.chains → IsChain c d
 
 -- A number that was no chain is one now, with no version, and nothing is prepared for it. The numbers grow only where all are chains.
+-- Of the keys and links nothing is said.
 pub record IsNewChain (old new : Content) (chain : ℕ) : Type 0 where
   pub number : chain ≤ length old.chains
   pub was_none : slice_index_or old.chains chain None ≡ None
   pub none_prepared : prepared_for chain old.prepared ≡ 0
   pub grows : length old.chains ≤ chain → AreAllChains old
-  pub now : new ≡ record old { chains = with_at old.chains chain (Some []) }
+  pub now : new ≡ record old { chains = with_at old.chains chain (Some []); cells = new.cells }
 
 abbrev pub without_chain : Content → ℕ → Content
-without_chain c chain = record c { chains = slice_set c.chains chain None }
+without_chain c chain = record c { chains = slice_set c.chains chain None; cells = slice_set c.cells chain blank }
+
+-- with other keys and links
+abbrev pub with_cells : Content → List Cell → Content
+with_cells c cells = record c { cells = cells }
 
 abbrev pub reserved : Content → ℕ → ℕ → Option (List ℕ) → Content
 reserved c node chain image = record c { prepared = with_at c.prepared node (Some (record { chain = chain; image = image })); free = c.free - 1 }

@@ -1,10 +1,11 @@
 -- How an arena lays out its nodes and chains. No public clause cites this module.
 use Rattle.std.specs.Prelude.{◌≡◌, ℕ, zero, suc, ◌+◌, ◌<◌, ◌≤◌, List, [], ◌∷◌, length, map, Option, Some, None, slice_index_or}
+use Rattle.span_arena.specs.declared.cell.Cell.{Cell}
 use Rattle.span_arena.specs.declared.version.Version.{Version}
 use Rattle.span_arena.specs.declared.record.NodeRecord.{NodeRecord}
 use Rattle.span_arena.specs.declared.record.ChainRecord.{ChainRecord}
 use Rattle.span_arena.specs.declared.record.ChainRecord.TheVariants as chain
-use Rattle.span_arena.specs.declared.record.Links.{Links}
+use Rattle.span_arena.specs.declared.record.VersionLinks.{VersionLinks}
 use Rattle.span_arena.specs.declared.record.Place.{Place}
 use Rattle.span_arena.specs.declared.record.Place.TheVariants.{Free, Reserved, Linked}
 use Rattle.span_arena.specs.Content.{Content, Prepared, sum_for, one_if, prepared_for, kept_by}
@@ -47,10 +48,10 @@ IsFreeList f zero h = Unit {0}
 IsFreeList f (suc k) h = ((f h).place ≡ Free (suc k)) × IsFreeList f k (f h).next
 
 -- the links of a chain; one that is free has no version and nothing prepared
-abbrev pub no_links : Links
+abbrev pub no_links : VersionLinks
 no_links = record { newest = 0; count = 0; prepared = 0 }
 
-abbrev pub links_of : ChainRecord → Links
+abbrev pub links_of : ChainRecord → VersionLinks
 links_of (chain.Free next k) = no_links
 links_of (chain.Used l) = l
 
@@ -64,16 +65,17 @@ no_record = chain.Free 0 0
 abbrev pub record_at : List ChainRecord → ℕ → ChainRecord
 record_at rs c = slice_index_or rs c no_record
 
-abbrev pub links_at : List ChainRecord → ℕ → Links
+abbrev pub links_at : List ChainRecord → ℕ → VersionLinks
 links_at rs c = links_of (record_at rs c)
 
 abbrev pub total : List ChainRecord → ℕ
 total [] = 0
 total (r ∷ rs) = (links_of r).count + total rs
 
-abbrev pub content : List NodeRecord → List ChainRecord → ℕ → ℕ → Content
-content nodes rs free_count most = record {
+abbrev pub content : List NodeRecord → List ChainRecord → ℕ → ℕ → List Cell → Content
+content nodes rs free_count most cells = record {
   chains = map (chain_of (node_at nodes)) rs;
+  cells = cells;
   prepared = map prepared_of nodes;
   free = free_count;
   most = most;
@@ -89,6 +91,10 @@ pub record IsSound (nodes : List NodeRecord) (rs : List ChainRecord) (free free_
   pub prepared : (c : ℕ) → prepared_for c (map prepared_of nodes) ≡ (links_at rs c).prepared
   pub counted : free_count + (total rs + sum_for one_if (map prepared_of nodes)) ≡ length nodes
   pub bounded : length nodes ≤ most
+
+-- each number of a chain, in use or free, has a cell
+abbrev pub AreCellsOf : List ChainRecord → List Cell → Type 0
+AreCellsOf rs cells = length cells ≡ length rs
 
 -- k chains from h on are free, and each keeps how many there are from it on
 abbrev pub IsSpare : List ChainRecord → ℕ → ℕ → Type 0

@@ -1,19 +1,26 @@
 //! The arena: its nodes, its chains and its free ones.
-ghost use Rattle.std.specs.Prelude.{◌≡◌, true, [], None, Some, IfOk, IfErr, OnErr, nat_lt};
+ghost use Rattle.std.specs.Prelude.{◌≡◌, ◌<◌, ◌^◌, true, [], None, Some, length, IfOk, IfErr, OnErr, nat_lt};
+ghost use Rattle.span_keycode.specs.Order.{byte_order};
+ghost use Rattle.span_arena.specs.Cells.{cell_at, is_past, new_cell, with_links, IsCompared, IsWritten};
 ghost use Rattle.span_arena.specs.Limits.{most_nodes};
 ghost use Rattle.span_arena.specs.declared.arena.TheConstants.{MOST_NODES};
 ghost use Rattle.std.specs.Option.{option_copied};
 ghost use Rattle.span_arena.specs.Order.{IsNewestUpto, IsLaterFor, AreInTimeOrder};
-ghost use Rattle.span_arena.specs.Content.{Content, versions, prepared_at, IsChain, AreAllChains, IsInOrder, is_unused, prepared_for, live, newest_upto, IsPrepared, linked, given_back, trimmed, cleared, kept_by, with_kept, without_chain, IsNewChain, IsReserved, IsRefusedNode};
+ghost use Rattle.span_arena.specs.Content.{Content, versions, prepared_at, IsChain, AreAllChains, IsInOrder, is_unused, prepared_for, live, newest_upto, IsPrepared, linked, given_back, trimmed, cleared, kept_by, with_at, with_cells, with_kept, without_chain, IsNewChain, IsReserved, IsRefusedNode};
 
+use crate::cell::{Cell, Links};
 use crate::cut::cut;
-use crate::record::{ChainRecord, Links, NodeRecord, Place};
+use crate::record::{ChainRecord, NodeRecord, Place, VersionLinks};
+use crate::steps::Steps;
 use crate::token::{Chain, Node};
 use crate::version::Version;
+use span_keycode::key::Key;
 use span_value::refusal::Refusal;
 use span_value::seq::Seq;
 use std::alloc::Global;
+use std::cmp::Ordering;
 use std::marker::Model;
+use std::sync::ledger::Ledger;
 
 /// The most nodes in use that `Arena::new` allows.
 pub const MOST_NODES: usize = 16_777_216;
@@ -23,11 +30,14 @@ pub fn limit_is_stated()
     ensures { MOST_NODES ≡ most_nodes }
 {}
 
-/// An arena. Contracts see the versions of each chain, what is prepared in each node, and how many nodes are free.
+/// An arena. Contracts see the versions of each chain, its key with its links, what is prepared in each node, and how many nodes are
+/// free.
 #[derive(Debug, Drop)]
 pub struct Arena {
     nodes: Vec<NodeRecord>,
     chains: Vec<ChainRecord>,
+    /// Under the number of each chain its key, and its place in the tree of keys.
+    cells: Vec<Cell>,
     /// The first node of the free list, and how many there are.
     free: usize,
     free_count: usize,
@@ -40,34 +50,36 @@ pub struct Arena {
 impl Model for Arena {
     ghost use Rattle.span_arena.specs.Content.{Content};
     ghost use Rattle.span_arena.specs.Order.{AreInTimeOrder};
-    ghost use Rattle.span_arena.specs.Runs.{content, IsSound, AreSpare};
+    ghost use Rattle.span_arena.specs.Runs.{content, AreCellsOf, IsSound, AreSpare};
 
     ghost Value = { Content };
 
-    ghost view = { λ a. content a.nodes.items a.chains.items a.free_count a.most };
+    ghost view = { λ a. content a.nodes.items a.chains.items a.free_count a.most a.cells.items };
 
     ghost invariant = { λ a. record {
       sound : IsSound a.nodes.items a.chains.items a.free a.free_count a.most;
       spare : AreSpare a.chains.items a.spare a.spare_count;
-      falling : AreInTimeOrder (content a.nodes.items a.chains.items a.free_count a.most);
+      cells : AreCellsOf a.chains.items a.cells.items;
+      falling : AreInTimeOrder (content a.nodes.items a.chains.items a.free_count a.most a.cells.items);
     } };
 }
 
 impl Arena {
     /// An empty arena of at most 2^24 nodes in use. It takes no memory.
     pub fn new(alloc: Global) -> Arena
-        ensures { result ≡ record { chains = []; prepared = []; free = 0; most = most_nodes } }
+        ensures { result ≡ record { chains = []; cells = []; prepared = []; free = 0; most = most_nodes } }
     {
         Arena::with_most(alloc, MOST_NODES)
     }
 
     /// An empty arena of at most `most` nodes in use. It takes no memory.
     pub fn with_most(alloc: Global, most: usize) -> Arena
-        ensures { result ≡ record { chains = []; prepared = []; free = 0; most = most } }
+        ensures { result ≡ record { chains = []; cells = []; prepared = []; free = 0; most = most } }
     {
         Arena {
             nodes: Vec::new(alloc),
             chains: Vec::new(alloc),
+            cells: Vec::new(alloc),
             free: 0,
             free_count: 0,
             spare: 0,
@@ -130,13 +142,31 @@ impl Arena {
         None
     }
 
-    /// A new chain with no version. `Refusal::OutOfMemory` leaves all as it was; it comes only where no chain was free.
-    pub fn new_chain(&mut self) -> Result<Chain, Refusal>
+    /// A new chain with no version, with this key and no links, counted as a step. `Refusal::OutOfMemory` leaves all as it was; it
+    /// comes only where no chain was free.
+    pub fn new_chain<C: Ledger, W: Ledger>(
+        &mut self,
+        key: Key,
+        steps: &mut Steps<C, W>,
+    ) -> Result<Chain, Refusal>
         ensures ok { IfOk result (λ chain. IsNewChain self.old self.new chain.number) }
+        ensures cell { IfOk result (λ chain. self.new.cells ≡ with_at self.old.cells chain.number (new_cell key)) }
+        ensures err { OnErr result (self.new ≡ self.old) }
+        ensures memory { IfErr result (λ why. (why ≡ Refusal.OutOfMemory) × AreAllChains self.old) }
+        ensures steps { IsWritten steps.old steps.new }
+    {
+        steps.write();
+        self.add_chain(key)
+    }
+
+    fn add_chain(&mut self, key: Key) -> Result<Chain, Refusal>
+        ensures ok { IfOk result (λ chain. IsNewChain self.old self.new chain.number) }
+        ensures cell { IfOk result (λ chain. self.new.cells ≡ with_at self.old.cells chain.number (new_cell key)) }
         ensures err { OnErr result (self.new ≡ self.old) }
         ensures memory { IfErr result (λ why. (why ≡ Refusal.OutOfMemory) × AreAllChains self.old) }
     {
-        let fresh = ChainRecord::Used(Links {
+        let cell = Cell::new(key);
+        let fresh = ChainRecord::Used(VersionLinks {
             newest: 0,
             count: 0,
             prepared: 0,
@@ -147,24 +177,117 @@ impl Arena {
                 unreachable!()
             };
             self.chains[number] = fresh;
+            self.cells[number] = cell;
             self.spare = next;
             self.spare_count -= 1;
             return Ok(Chain { number });
         }
         let number = self.chains.len();
+        let Ok(()) = self.cells.reserve(1) else {
+            return Err(Refusal::OutOfMemory);
+        };
         let Ok(()) = self.chains.push(fresh) else {
             return Err(Refusal::OutOfMemory);
         };
+        self.cells.push_reserved(cell);
         Ok(Chain { number })
     }
 
-    /// Frees a chain that has no version and for which nothing is prepared. It takes no memory.
+    /// How many numbers of chains there are, with those that are free.
+    pub fn numbers(&self) -> usize
+        ensures len { result ≡ length self.now.cells }
+        ensures same { length self.now.cells ≡ length self.now.chains }
+        ensures fits { length self.now.cells < 2 ^ 64 }
+    {
+        self.cells.len()
+    }
+
+    /// The key of a chain.
+    pub fn key(&self, number: usize) -> &[u8]
+        requires { number < length self.now.cells }
+        ensures { result.now ≡ (cell_at self.now.cells number).key }
+    {
+        self.cells[number].key.as_slice()
+    }
+
+    /// The links of a chain in the tree of keys.
+    pub fn links(&self, number: usize) -> Links
+        requires { number < length self.now.cells }
+        ensures { result ≡ (cell_at self.now.cells number).links }
+    {
+        self.cells[number].links
+    }
+
+    /// The order of a key to that of a chain.
+    pub fn order(&self, number: usize, key: &[u8]) -> Ordering
+        requires { number < length self.now.cells }
+        ensures { result ≡ byte_order key.now (cell_at self.now.cells number).key }
+    {
+        key.cmp(&self.key(number))
+    }
+
+    /// The order of a key to that of a chain, counted as a step.
+    pub fn compare<C: Ledger, W: Ledger>(
+        &self,
+        number: usize,
+        key: &[u8],
+        steps: &mut Steps<C, W>,
+    ) -> Ordering
+        requires { number < length self.now.cells }
+        ensures order { result ≡ byte_order key.now (cell_at self.now.cells number).key }
+        ensures steps { IsCompared steps.old steps.new }
+    {
+        steps.compare();
+        self.order(number, key)
+    }
+
+    /// Whether the key of a chain is after all keys that begin with these bytes, counted as a step.
+    pub fn is_past<C: Ledger, W: Ledger>(
+        &self,
+        number: usize,
+        front: &[u8],
+        steps: &mut Steps<C, W>,
+    ) -> bool
+        requires { number < length self.now.cells }
+        ensures past { result ≡ is_past front.now (cell_at self.now.cells number).key }
+        ensures steps { IsCompared steps.old steps.new }
+    {
+        steps.compare();
+        let key = self.key(number);
+        !key.cmp(&front).is_lt() && !key.starts_with(front)
+    }
+
+    /// Other links for a chain in the tree of keys. It takes no memory.
+    pub fn relink(&mut self, number: usize, links: Links)
+        requires { number < length self.old.cells }
+        ensures { self.new ≡ with_cells self.old (with_links self.old.cells number links) }
+    {
+        self.cells[number].links = links;
+    }
+
+    /// Other links for a chain in the tree of keys, counted as a step. It takes no memory.
+    pub fn set_links<C: Ledger, W: Ledger>(
+        &mut self,
+        number: usize,
+        links: Links,
+        steps: &mut Steps<C, W>,
+    )
+        requires { number < length self.old.cells }
+        ensures arena { self.new ≡ with_cells self.old (with_links self.old.cells number links) }
+        ensures steps { IsWritten steps.old steps.new }
+    {
+        steps.write();
+        self.relink(number, links);
+    }
+
+    /// Frees a chain that has no version and for which nothing is prepared, with its key. It takes no memory.
     pub fn free_chain(&mut self, chain: Chain)
         requires is_chain { IsChain self.old chain.number }
         requires unused { is_unused self.old chain.number ≡ true }
         ensures { self.new ≡ without_chain self.old chain.number }
     {
         self.chains[chain.number] = ChainRecord::Free(self.spare, self.spare_count + 1);
+        self.cells[chain.number] = Cell::blank(*self.cells.allocator());
         self.spare = chain.number;
         self.spare_count += 1;
     }
@@ -180,7 +303,7 @@ impl Arena {
         let ChainRecord::Used(links) = self.chains[chain.number] else {
             unreachable!()
         };
-        let with_one_more = ChainRecord::Used(Links {
+        let with_one_more = ChainRecord::Used(VersionLinks {
             newest: links.newest,
             count: links.count,
             prepared: links.prepared + 1,
@@ -230,7 +353,7 @@ impl Arena {
         cell.place = Place::Linked(chain);
         cell.version.timestamp = timestamp;
         cell.next = links.newest;
-        self.chains[chain] = ChainRecord::Used(Links {
+        self.chains[chain] = ChainRecord::Used(VersionLinks {
             newest: node.number,
             count: links.count + 1,
             prepared: links.prepared - 1,
@@ -254,7 +377,7 @@ impl Arena {
         cell.next = self.free;
         self.free = node.number;
         self.free_count += 1;
-        self.chains[chain] = ChainRecord::Used(Links {
+        self.chains[chain] = ChainRecord::Used(VersionLinks {
             newest: links.newest,
             count: links.count,
             prepared: links.prepared - 1,
@@ -287,7 +410,7 @@ impl Arena {
             unreachable!()
         };
         let (kept, mut at) = cut(&self.nodes, links.newest, links.count, horizon);
-        self.chains[chain.number] = ChainRecord::Used(Links {
+        self.chains[chain.number] = ChainRecord::Used(VersionLinks {
             newest: links.newest,
             count: kept,
             prepared: links.prepared,

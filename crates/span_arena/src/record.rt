@@ -26,12 +26,12 @@ pub(crate) struct NodeRecord {
 pub(crate) enum ChainRecord {
     /// It is in the list of free chains: the next one, and how many there are from it on.
     Free(usize, usize),
-    Used(Links),
+    Used(VersionLinks),
 }
 
-/// Where a chain begins.
+/// Where the versions of a chain begin.
 #[derive(Clone, Copy, Debug)]
-pub(crate) struct Links {
+pub(crate) struct VersionLinks {
     /// The node of the newest version, if there is one.
     pub newest: usize,
     /// How many versions it has.

@@ -1,9 +1,9 @@
 //! What an arena hands out for its chains and its nodes.
 
-/// A chain of an arena, from `Arena::new_chain`.
+/// A chain of an arena, from `Arena::new_chain`, by its number.
 #[derive(Clone, Copy, Debug, PartialEq, Eq)]
 pub struct Chain {
-    pub(crate) number: usize,
+    pub number: usize,
 }
 
 /// A node of an arena in which something is prepared, from `Arena::reserve_node`.

@@ -1,13 +1,9 @@
 -- The arena of an index: its chains are those of the keys.
-use Rattle.std.specs.Prelude.{◌≡◌, ℕ, ◌+◌, List, [], ◌∷◌, not, filter, length, Option, Some, None, slice_index_or, nat_eq, if◌then◌else◌}
+use Rattle.std.specs.Prelude.{◌≡◌, ℕ, List, not, filter, length, Option, Some, None, slice_index_or, if◌then◌else◌}
 use Rattle.span_arena.specs.Content.{Content, is_unused}
 use Rattle.span_arena.specs.declared.version.Version.{Version}
-use Rattle.span_keyindex.specs.declared.entry.Entry.{Entry}
-
--- how many keys have the chain of this number
-abbrev pub holders : ℕ → List Entry → ℕ
-holders c [] = 0
-holders c (e ∷ es) = (if nat_eq e.chain.number c then 1 else 0) + holders c es
+use Rattle.span_keyindex.specs.Entries.{Entry}
+use Rattle.span_keyindex.specs.Items.{holders}
 
 abbrev pub one_if_chain : Option (List Version) → ℕ
 one_if_chain None = 0
@@ -25,8 +21,9 @@ HasSameChains old new = (c : ℕ) → one_if_chain (slice_index_or new.chains c 
 abbrev pub in_use : Content → List Entry → List Entry
 in_use a es = filter (λ e. not (is_unused a e.chain.number)) es
 
--- a number whose chain has no version and nothing prepared is no chain any more, and nothing else is changed
+-- A number whose chain has no version and nothing prepared is no chain any more, and nothing else is changed. Of the keys and links
+-- nothing is said.
 pub record IsWithoutUnused (old new : Content) : Type 0 where
   pub chains : (c : ℕ) → slice_index_or new.chains c None ≡ (if is_unused old c then None else slice_index_or old.chains c None)
   pub numbers : length new.chains ≡ length old.chains
-  pub others : new ≡ record old { chains = new.chains }
+  pub others : new ≡ record old { chains = new.chains; cells = new.cells }

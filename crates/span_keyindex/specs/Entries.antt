@@ -8,7 +8,11 @@ use Rattle.span_keycode.specs.Order.{byte_order}
 use Rattle.span_keycode.specs.declared.range.KeyRange.{KeyRange}
 use Rattle.span_arena.specs.Content.{Content, IsNewChain}
 use Rattle.span_arena.specs.declared.token.Chain.{Chain}
-use Rattle.span_keyindex.specs.declared.entry.Entry.{Entry}
+
+-- a key and its chain
+pub record Entry : Type 0 where
+  pub key : List ℕ
+  pub chain : Chain
 
 -- each key is below all later ones
 abbrev pub IsRising : List Entry → Type 0

@@ -1,3 +1,13 @@
-pub mod Entries
 pub mod Arenas
-pub mod Places
+pub mod Avl
+pub mod Builds
+pub mod Effects
+pub mod Entries
+pub mod Indexes
+pub mod Items
+pub mod Joins
+pub mod Nexts
+pub mod Puts
+pub mod Removals
+pub mod Trees
+pub mod Walks

@@ -1,140 +1,155 @@
 //! The index of keys.
-ghost use Rattle.std.specs.Prelude.{◌≡◌, [], All, IfSome, IfOk, IfErr, OnErr, MatchOption};
+ghost use Rattle.std.specs.Prelude.{◌≡◌, ℕ, ◌*◌, ◌<◌, ◌^◌, All, IfErr, IfOk, IfSome, MatchOption, OnErr, length, map};
 ghost use Rattle.span_arena.specs.Content.{IsChain};
-ghost use Rattle.span_keyindex.specs.Entries.{IsRising, IsAbsent, HasChain, IsSlotFor, entries_in, entries_under};
-ghost use Rattle.span_keyindex.specs.Arenas.{IsArenaOf, in_use, IsWithoutUnused};
+ghost use Rattle.span_keyindex.specs.Arenas.{in_use, IsWithoutUnused};
+ghost use Rattle.span_keyindex.specs.Entries.{HasChain, IsAbsent, IsRising, IsSlotFor, entries_in, entries_under};
+ghost use Rattle.span_keyindex.specs.Indexes.{IsEmptyIndex, IsIndexOf, IsSearchCost, IsSlotCost, entries_of};
 
-use crate::entry::Entry;
-use crate::place::{entries_in, entries_under, place_of};
-use crate::walk::Walk;
+use crate::chains::{Chains, chains_of};
+use crate::find::find;
+use crate::next::NextLinks;
+use crate::remove::remove_unused;
+use crate::tree::{TreeRoot, slot_for};
+use crate::walk::{Walk, all, walk_range, walk_under};
 use span_arena::arena::Arena;
+use span_arena::steps::Steps;
 use span_arena::token::Chain;
 use span_keycode::key::Key;
 use span_keycode::range::KeyRange;
 use span_value::refusal::Refusal;
 use std::alloc::Global;
-use std::marker::Model;
+use std::sync::ledger::Ledger;
 
-/// A sorted list of keys with their chains. Each call is handed the index's own arena: its chains are those of the keys.
+/// A sorted list of keys with their chains. Each call is handed the index's own arena: its chains are those of the keys, and it has
+/// the keys with their links.
 #[derive(Debug, Drop)]
 pub struct KeyIndex {
-    entries: Vec<Entry>,
-}
-
-impl Model for KeyIndex {
-    ghost use Rattle.std.specs.Prelude.{List};
-    ghost use Rattle.span_keyindex.specs.declared.entry.Entry.{Entry};
-    ghost use Rattle.span_keyindex.specs.Entries.{IsRising};
-
-    ghost Value = { List Entry };
-
-    ghost view = { λ i. i.entries.items };
-
-    ghost invariant = { λ i. IsRising i.entries.items };
+    pub(crate) tree: TreeRoot,
+    pub(crate) nexts: NextLinks,
 }
 
 impl KeyIndex {
-    /// An index of no key. It takes no memory.
+    /// An index of no key, for an arena with no chain. It takes no memory.
     pub fn new(alloc: Global) -> KeyIndex
-        ensures { result ≡ [] }
+        ensures { IsEmptyIndex result }
     {
         KeyIndex {
-            entries: Vec::new(alloc),
+            tree: TreeRoot {
+                root: None,
+                levels: 0,
+            },
+            nexts: NextLinks::new(alloc),
         }
     }
 
     /// The chain of a key, if the key is there. It takes no memory.
     pub fn find(&self, arena: &Arena, key: &[u8]) -> Option<Chain>
-        requires { IsArenaOf self.now arena.now }
-        ensures cases { MatchOption result (IsAbsent self.now key.now) (HasChain self.now key.now) }
+        requires { IsIndexOf self.now arena.now }
+        ensures cases { MatchOption result
+            (IsAbsent (entries_of self.now arena.now) key.now)
+            (HasChain (entries_of self.now arena.now) key.now) }
         ensures chain { IfSome result (λ chain. IsChain arena.now chain.number) }
     {
-        match place_of(&self.entries, key) {
-            Ok(at) => Some(self.entries[at].chain),
-            Err(_gap) => None,
+        match find(arena, &self.tree, key) {
+            Some(number) => Some(Chain { number }),
+            None => None,
         }
     }
 
     /// Every key with its chain, in order of the keys, which are lent.
-    pub fn all<'a>(&'a self, arena: &Arena) -> Walk<'a>
-        requires { IsArenaOf self.now arena.now }
-        ensures entries { result ≡ self.now }
+    pub fn all<'a>(&'a self, arena: &'a Arena) -> Walk<'a>
+        requires { IsIndexOf self.now arena.now }
+        ensures entries { result ≡ entries_of self.now arena.now }
         ensures chains { All (λ e. IsChain arena.now e.chain.number) result }
-        ensures rising { IsRising self.now }
+        ensures rising { IsRising (entries_of self.now arena.now) }
     {
-        Walk {
-            left: self.entries.as_slice(),
-        }
+        all(arena, &self.nexts, &self.tree)
     }
 
-    /// The keys of a range with their chains, in order of the keys, which are lent. The first is found by halving.
-    pub fn walk<'a>(&'a self, arena: &Arena, range: &KeyRange) -> Walk<'a>
-        requires { IsArenaOf self.now arena.now }
-        ensures entries { result ≡ entries_in range.now self.now }
-        ensures chains { All (λ e. IsChain arena.now e.chain.number) result }
-        ensures rising { IsRising self.now }
+    /// The chains of all keys, in order of the keys. The arena is not lent: its calls that leave the keys and the chains may be made
+    /// while the chains are handed out.
+    pub fn chains<'a>(&'a self, arena: &Arena) -> Chains<'a>
+        requires { IsIndexOf self.now arena.now }
+        ensures { result ≡ map (λ e. e.chain) (entries_of self.now arena.now) }
     {
-        Walk {
-            left: entries_in(&self.entries, range),
-        }
+        chains_of(arena, &self.nexts, &self.tree)
     }
 
-    /// The keys that begin with these bytes, with their chains, in order of the keys, which are lent. The first is found by halving,
-    /// and so is the last.
-    pub fn walk_under<'a>(&'a self, arena: &Arena, front: &[u8]) -> Walk<'a>
-        requires { IsArenaOf self.now arena.now }
-        ensures entries { result ≡ entries_under front.now self.now }
+    /// The keys of a range with their chains, in order of the keys, which are lent. Among fewer than 2 ^ d keys at most 2 d are
+    /// compared to find the first, and at most 2 d to find the end.
+    pub fn walk<'a, C: Ledger, W: Ledger>(
+        &'a self,
+        arena: &'a Arena,
+        range: &KeyRange,
+        steps: &mut Steps<C, W>,
+    ) -> Walk<'a>
+        requires { IsIndexOf self.now arena.now }
+        ensures entries { result ≡ entries_in range.now (entries_of self.now arena.now) }
         ensures chains { All (λ e. IsChain arena.now e.chain.number) result }
-        ensures rising { IsRising self.now }
+        ensures rising { IsRising (entries_of self.now arena.now) }
+        ensures cost { (d : ℕ) → length (entries_of self.now arena.now) < 2 ^ d
+            → IsSearchCost (2 * d) steps.old steps.new }
     {
-        Walk {
-            left: entries_under(&self.entries, front),
-        }
+        walk_range(
+            arena,
+            &self.nexts,
+            &self.tree,
+            range.low.as_slice(),
+            range.high.as_slice(),
+            steps,
+        )
+    }
+
+    /// The keys that begin with these bytes, with their chains, in order of the keys, which are lent. Among fewer than 2 ^ d keys at
+    /// most 2 d are compared to find the first, and at most 2 d to find the end.
+    pub fn walk_under<'a, C: Ledger, W: Ledger>(
+        &'a self,
+        arena: &'a Arena,
+        front: &[u8],
+        steps: &mut Steps<C, W>,
+    ) -> Walk<'a>
+        requires { IsIndexOf self.now arena.now }
+        ensures entries { result ≡ entries_under front.now (entries_of self.now arena.now) }
+        ensures chains { All (λ e. IsChain arena.now e.chain.number) result }
+        ensures rising { IsRising (entries_of self.now arena.now) }
+        ensures cost { (d : ℕ) → length (entries_of self.now arena.now) < 2 ^ d
+            → IsSearchCost (2 * d) steps.old steps.new }
+    {
+        walk_under(arena, &self.nexts, &self.tree, front, steps)
     }
 
     /// The chain of a key: its own, or a new one where the key is not there. `Refusal::OutOfMemory` leaves the index and the arena as
-    /// they were; it comes only where the key is not there.
-    pub fn slot_for(&mut self, arena: &mut Arena, key: Key) -> Result<Chain, Refusal>
-        requires { IsArenaOf self.old arena.old }
-        ensures ok { IfOk result (IsSlotFor self.old self.new arena.old arena.new key) }
+    /// they were; it comes only where the key is not there. Among fewer than 2 ^ d keys at most 2 d are compared, and at most
+    /// 6 d + 8 steps are taken in all.
+    pub fn slot_for<C: Ledger, W: Ledger>(
+        &mut self,
+        arena: &mut Arena,
+        key: Key,
+        steps: &mut Steps<C, W>,
+    ) -> Result<Chain, Refusal>
+        requires { IsIndexOf self.old arena.old }
+        ensures ok { IfOk result
+            (IsSlotFor (entries_of self.old arena.old) (entries_of self.new arena.new) arena.old arena.new key) }
         ensures chain { IfOk result (λ chain. IsChain arena.new chain.number) }
         ensures index { OnErr result (self.new ≡ self.old) }
         ensures arena { OnErr result (arena.new ≡ arena.old) }
         ensures memory { IfErr result (λ why. why ≡ Refusal.OutOfMemory) }
-        ensures absent { OnErr result (IsAbsent self.old key) }
-        ensures own { IsArenaOf self.new arena.new }
+        ensures absent { OnErr result (IsAbsent (entries_of self.old arena.old) key) }
+        ensures own { IsIndexOf self.new arena.new }
+        ensures cost { (d : ℕ) → length (entries_of self.old arena.old) < 2 ^ d
+            → IsSlotCost d steps.old steps.new }
     {
-        match place_of(&self.entries, key.as_slice()) {
-            Ok(at) => Ok(self.entries[at].chain),
-            Err(at) => {
-                // The capacity comes first: after the chain is made nothing can be refused.
-                self.entries.reserve(1)?;
-                let chain = arena.new_chain()?;
-                let Ok(()) = self.entries.insert(at, Entry { key, chain }) else {
-                    unreachable!()
-                };
-                Ok(chain)
-            }
-        }
+        let number = slot_for(arena, &mut self.nexts, &mut self.tree, key, steps)?;
+        Ok(Chain { number })
     }
 
     /// Removes the keys whose chains have no version and for which nothing is prepared, and frees these chains. It takes no memory.
     pub fn remove_empty(&mut self, arena: &mut Arena)
-        requires { IsArenaOf self.old arena.old }
-        ensures index { self.new ≡ in_use arena.old self.old }
+        requires { IsIndexOf self.old arena.old }
+        ensures index { entries_of self.new arena.new ≡ in_use arena.old (entries_of self.old arena.old) }
         ensures arena { IsWithoutUnused arena.old arena.new }
-        ensures own { IsArenaOf self.new arena.new }
+        ensures own { IsIndexOf self.new arena.new }
     {
-        let mut kept = 0;
-        for place in 0..self.entries.len() {
-            let chain = self.entries[place].chain;
-            if arena.is_unused(chain) {
-                arena.free_chain(chain);
-            } else {
-                self.entries.swap(kept, place);
-                kept += 1;
-            }
-        }
-        self.entries.truncate(kept);
+        remove_unused(arena, &mut self.nexts, &mut self.tree);
     }
 }

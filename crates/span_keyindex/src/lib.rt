@@ -4,7 +4,13 @@
 //! (`slot_for`), a read goes over the keys of a range (`walk`), and after a trim the keys with nothing left go (`remove_empty`).
 #![tactic(auto)]
 
-pub mod entry;
+mod build;
+pub mod chains;
+mod find;
 pub mod index;
-mod place;
+mod join;
+mod next;
+mod put;
+mod remove;
+mod tree;
 pub mod walk;

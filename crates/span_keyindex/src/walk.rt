@@ -1,24 +1,42 @@
 //! A walk over keys in order.
 ghost use Rattle.std.specs.Iterator.{YieldsFirstBy, item_count};
-ghost use Rattle.span_keyindex.specs.Entries.{entry_of};
+ghost use Rattle.std.specs.Prelude.{◌≡◌, ℕ, ◌*◌, ◌<◌, ◌^◌, [], length};
+ghost use Rattle.span_keyindex.specs.Entries.{entries_under, entry_of};
+ghost use Rattle.span_keyindex.specs.Items.{entries_between};
+ghost use Rattle.span_keyindex.specs.Indexes.{entries_at, IsIndex, IsSearchCost};
+ghost use Rattle.span_keyindex.specs.Walks.{is_stop};
 
-use crate::entry::Entry;
+use crate::find::{first_from, first_past};
+use crate::next::NextLinks;
+use crate::tree::TreeRoot;
+use span_arena::arena::Arena;
+use span_arena::steps::Steps;
 use span_arena::token::Chain;
 use std::marker::Model;
+use std::sync::ledger::Ledger;
 
 /// Keys with their chains, the keys lent. Contracts see the entries that are left.
 #[derive(Drop)]
 pub struct Walk<'a> {
-    pub(crate) left: &'a [Entry],
+    arena: &'a Arena,
+    nexts: &'a NextLinks,
+    at: Option<usize>,
+    stop: Option<usize>,
+    left: usize,
 }
 
 impl<'a> Model for Walk<'a> {
-    ghost use Rattle.std.specs.Prelude.{List};
-    ghost use Rattle.span_keyindex.specs.declared.entry.Entry.{Entry};
+    ghost use Rattle.std.specs.Prelude.{◌≡◌, List, length};
+    ghost use Rattle.span_keyindex.specs.Entries.{Entry};
+    ghost use Rattle.span_keyindex.specs.Walks.{walked_in, AreBelow};
 
     ghost Value = { List Entry };
 
-    ghost view = { λ w. w.left.now };
+    ghost view = { λ w. walked_in w.arena.now.cells w.nexts.now w.left w.at w.stop };
+
+    ghost invariant = { λ w.
+        AreBelow (length w.arena.now.cells) (walked_in w.arena.now.cells w.nexts.now w.left w.at w.stop)
+        × (length w.nexts.now.next ≡ length w.arena.now.cells) };
 }
 
 impl<'a> Iterator for Walk<'a> {
@@ -29,8 +47,107 @@ impl<'a> Iterator for Walk<'a> {
     ghost remaining = { item_count (λ w. w) };
 
     fn next(&mut self) -> Option<(&'a [u8], Chain)> {
-        let (first, left) = self.left.split_first()?;
-        self.left = left;
-        Some((first.key.as_slice(), first.chain))
+        if self.left == 0 {
+            return None;
+        }
+        let Some(at) = self.at else {
+            return None;
+        };
+        if is_stop(at, self.stop) {
+            return None;
+        }
+        self.left -= 1;
+        self.at = self.nexts.after(at);
+        Some((self.arena.key(at), Chain { number: at }))
+    }
+}
+
+fn is_stop(at: usize, stop: Option<usize>) -> bool
+    ensures { result ≡ is_stop at stop }
+{
+    match stop {
+        None => false,
+        Some(stop) => at == stop,
+    }
+}
+
+/// Every key with its chain, in order of the keys, which are lent.
+pub(crate) fn all<'a>(arena: &'a Arena, nexts: &'a NextLinks, index: &TreeRoot) -> Walk<'a>
+    requires { IsIndex arena.now.cells nexts.now index.now }
+    ensures { result ≡ entries_at arena.now.cells index.now }
+{
+    Walk {
+        arena,
+        nexts,
+        at: nexts.first(),
+        stop: None,
+        left: arena.numbers(),
+    }
+}
+
+/// The keys from `low` on and before `high` with their chains, in order of the keys, which are lent. The first is found as by
+/// `first_from`, and so is the end.
+pub(crate) fn walk_range<'a, C: Ledger, W: Ledger>(
+    arena: &'a Arena,
+    nexts: &'a NextLinks,
+    index: &TreeRoot,
+    low: &[u8],
+    high: &[u8],
+    steps: &mut Steps<C, W>,
+) -> Walk<'a>
+    requires { IsIndex arena.now.cells nexts.now index.now }
+    ensures entries { result ≡ entries_between low.now high.now (entries_at arena.now.cells index.now) }
+    ensures cost { (d : ℕ) → length (entries_at arena.now.cells index.now) < 2 ^ d
+        → IsSearchCost (2 * d) steps.old steps.new }
+{
+    if low.cmp(&high).is_ge() {
+        return none(arena, nexts);
+    }
+    let at = first_from(arena, index, low, steps);
+    let stop = first_from(arena, index, high, steps);
+    Walk {
+        arena,
+        nexts,
+        at,
+        stop,
+        left: arena.numbers(),
+    }
+}
+
+/// The keys that begin with these bytes, with their chains, in order of the keys, which are lent. The first is found as by
+/// `first_from`, the end as by `first_past`.
+pub(crate) fn walk_under<'a, C: Ledger, W: Ledger>(
+    arena: &'a Arena,
+    nexts: &'a NextLinks,
+    index: &TreeRoot,
+    front: &[u8],
+    steps: &mut Steps<C, W>,
+) -> Walk<'a>
+    requires { IsIndex arena.now.cells nexts.now index.now }
+    ensures entries { result ≡ entries_under front.now (entries_at arena.now.cells index.now) }
+    ensures cost { (d : ℕ) → length (entries_at arena.now.cells index.now) < 2 ^ d
+        → IsSearchCost (2 * d) steps.old steps.new }
+{
+    let at = first_from(arena, index, front, steps);
+    let stop = first_past(arena, index, front, steps);
+    Walk {
+        arena,
+        nexts,
+        at,
+        stop,
+        left: arena.numbers(),
+    }
+}
+
+fn none<'a>(arena: &'a Arena, nexts: &'a NextLinks) -> Walk<'a>
+    requires { length nexts.now.next ≡ length arena.now.cells }
+    ensures { result ≡ [] }
+{
+    Walk {
+        arena,
+        nexts,
+        at: None,
+        stop: None,
+        left: 0,
     }
 }

@@ -4,11 +4,12 @@ use Rattle.std.specs.Prelude.{nat_le, All}
 use Rattle.std.specs.List.{AllByRecursion}
 use Rattle.std.proofs.lemmas.Bool.{cases_eq}
 use Rattle.std.proofs.lemmas.List.{get_or-set_same, get_or-set_other, append-nil}
+use Rattle.span_arena.specs.declared.token.Chain.{Chain}
 use Rattle.span_arena.specs.declared.version.Version as arena
 use Rattle.span_arena.specs.Content.{Content, Prepared, versions, versions_in, prepared_at, prepared_for, IsChain, kept_at, kept_upto, trimmed}
 use Rattle.span_arena.proofs.Keeping.{chain_in_range}
 use Rattle.span_keyindex.specs.Arenas.{HasSameChains}
-use Rattle.span_keyindex.specs.declared.entry.Entry.{Entry}
+use Rattle.span_keyindex.specs.Entries.{Entry}
 use Rattle.span_keyindex.proofs.Keeping.{own_stays, chain_same, same_after, same-kept}
 use Rattle.span_shard.specs.declared.chain.Version.{Version}
 use Rattle.span_shard.specs.declared.node.PreparedNode.{PreparedNode}
@@ -19,6 +20,7 @@ use Rattle.span_shard.specs.Shard.{trimmed_key}
 use Rattle.span_shard.specs.Stored.{version_of, chain_versions, write_for, kept_entry, all_kept, IsNodeOf, IsStored, HasTrimmed, IsTrimmed, AreTrimmed}
 use Rattle.span_shard.proofs.Lists.{all_map, all_append, all_whole}
 use Rattle.span_shard.proofs.Owned.{write-same, kept_equal}
+use Rattle.span_shard.proofs.Seeing.{chains_left, first_chain}
 
 -- what was kept is kept
 kept_again : (h : ℕ) (vs : List arena.Version) → kept_upto h (kept_upto h vs) ≡ kept_upto h vs
@@ -62,6 +64,7 @@ module _ (h : ℕ) (a b d : Content) (c : ℕ) (so_far : HasTrimmed h a b) (chai
   trimmed_now : HasTrimmed h a d
   trimmed_now = record {
     same = same_after a b d so_far.same same_now;
+    cells = ap (λ (x : Content). x.cells) is ∙ so_far.cells;
     most = ap (λ (x : Content). x.most) is ∙ so_far.most;
     prepared = ap (λ (x : Content). x.prepared) is ∙ so_far.prepared;
     chains = λ x. elim (cases_eq x c) [
@@ -80,7 +83,7 @@ module _ (h : ℕ) (a b d : Content) (c : ℕ) (so_far : HasTrimmed h a b) (chai
   now e equal = subst (λ y. versions d y ≡ kept_upto h (versions a y)) (sym equal) (here ∙ so_far.chains c)
 
 pub trim_start : (h : ℕ) (es : List Entry) (a : Content) → AreTrimmed h es es a a
-trim_start h es a = record { done = []; whole = refl; each = tt; so_far = record { same = λ c. refl; most = refl; prepared = refl; chains = λ c. refl } }
+trim_start h es a = record { done = []; whole = refl; each = tt; so_far = record { same = λ c. refl; cells = refl; most = refl; prepared = refl; chains = λ c. refl } }
 
 pub trim_step : (h : ℕ) (es left rest : List Entry) (e : Entry) (a b d : Content) → AreTrimmed h es left a b → left ≡ e ∷ rest → IsChain b e.chain.number → d ≡ trimmed b e.chain.number h → AreTrimmed h es rest a d
 trim_step h es left rest e a b d old is chain now_is = record {
@@ -93,6 +96,55 @@ trim_step h es left rest e a b d old is chain now_is = record {
 -- the chains that are left are chains still
 pub trim_chains : (h : ℕ) (rest : List Entry) (c : ℕ) (b d : Content) → IsChain b c → d ≡ trimmed b c h → All (λ (x : Entry). IsChain b x.chain.number) rest → All (λ (x : Entry). IsChain d x.chain.number) rest
 trim_chains h rest c b d chain is all k e lt = chain_same b d _ (same-kept b d c (kept_upto h (versions b c)) chain is) (all k e lt)
+
+-- the first of the chains that are left is that of the first key
+pub record IsNextKey (left : List Entry) (chain : Chain) (rest : List Chain) : Type 0 where
+  pub first : Entry
+  pub others : List Entry
+  pub is : left ≡ first ∷ others
+  pub chain_is : first.chain ≡ chain
+  pub rest_is : rest ≡ map (λ (e : Entry). e.chain) others
+
+pub next_key : (left : List Entry) (chain : Chain) (chains rest : List Chain) → chains ≡ map (λ (e : Entry). e.chain) left → chains ≡ chain ∷ rest → IsNextKey left chain rest
+next_key [] chain chains rest is first = absurd (let q : [] ≡ chain ∷ rest = sym is ∙ first in cc)
+next_key (e ∷ es) chain chains rest is first =
+    let q : e.chain ∷ map (λ (x : Entry). x.chain) es ≡ chain ∷ rest = sym is ∙ first in
+    record { first = e; others = es; is = refl; chain_is = (let c : e.chain ≡ chain = cc in c); rest_is = (let r : rest ≡ map (λ (x : Entry). x.chain) es = cc in r) }
+
+-- the keys whose chains are left
+pub record IsLeft (h : ℕ) (es : List Entry) (chains : List Chain) (a b : Content) : Type 0 where
+  pub left : List Entry
+  pub is : chains ≡ map (λ (e : Entry). e.chain) left
+  pub are_chains : All (λ (e : Entry). IsChain b e.chain.number) left
+  pub so_far : AreTrimmed h es left a b
+
+pub left_start : (h : ℕ) (es : List Entry) (chains : List Chain) (a : Content) → All (λ (e : Entry). IsChain a e.chain.number) es → chains ≡ map (λ (e : Entry). e.chain) es → IsLeft h es chains a a
+left_start h es chains a all is = record { left = es; is = is; are_chains = all; so_far = trim_start h es a }
+
+module _ (h : ℕ) (es : List Entry) (chains rest : List Chain) (chain : Chain) (a b : Content) (now_left : IsLeft h es chains a b) (first : chains ≡ chain ∷ rest) where
+  next : IsNextKey now_left.left chain rest
+  next = next_key now_left.left chain chains rest now_left.is first
+
+  pub left_chain : IsChain b chain.number
+  left_chain = subst (λ (c : Chain). IsChain b c.number) {x = next.first.chain} {y = chain} next.chain_is (first_chain b now_left.left next.others next.first next.is now_left.are_chains)
+
+  pub left_step : (d : Content) → d ≡ trimmed b chain.number h → IsLeft h es rest a d
+  left_step d is =
+      let there : IsChain b next.first.chain.number = first_chain b now_left.left next.others next.first next.is now_left.are_chains in
+      let now_is : d ≡ trimmed b next.first.chain.number h = subst (λ (c : Chain). d ≡ trimmed b c.number h) {x = chain} {y = next.first.chain} (sym next.chain_is) is in
+      record {
+        left = next.others;
+        is = next.rest_is;
+        are_chains = trim_chains h next.others chain.number b d left_chain is (chains_left b now_left.left next.others next.first next.is now_left.are_chains);
+        so_far = trim_step h es now_left.left next.others next.first a b d now_left.so_far next.is there now_is;
+      }
+
+pub left_none : (h : ℕ) (es : List Entry) (chains : List Chain) (a b : Content) → IsLeft h es chains a b → chains ≡ [] → AreTrimmed h es [] a b
+left_none h es chains a b now_left none = subst (λ (l : List Entry). AreTrimmed h es l a b) (nothing now_left.left (sym now_left.is ∙ none)) now_left.so_far
+  where
+    nothing : (l : List Entry) → map (λ (e : Entry). e.chain) l ≡ [] → l ≡ []
+    nothing [] h = refl
+    nothing (e ∷ l) h = absurd cc
 
 -- ---- all chains
 

@@ -12,7 +12,7 @@ use Rattle.span_arena.specs.Order.{IsLater}
 use Rattle.span_arena.specs.Order as order
 use Rattle.span_arena.proofs.Keeping.{chain_in_range}
 use Rattle.span_keyindex.specs.Arenas.{HasSameChains}
-use Rattle.span_keyindex.specs.declared.entry.Entry.{Entry}
+use Rattle.span_keyindex.specs.Entries.{Entry}
 use Rattle.span_keyindex.proofs.Keeping.{same-equal, same-linked, same_after}
 use Rattle.span_mutate.proofs.Runs.{item_first}
 use Rattle.span_shard.specs.declared.chain.Version.{Version}
@@ -37,6 +37,14 @@ ended-most a n None = refl
 ended-most a n (Some ts) = by (prepared_at a n)
   where
     by : (o : Option Prepared) → (linked_as a n ts o).most ≡ a.most
+    by None = refl
+    by (Some p) = refl
+
+ended-cells : (a : Content) (n : ℕ) (committed : Option ℕ) → (ended a n committed).cells ≡ a.cells
+ended-cells a n None = refl
+ended-cells a n (Some ts) = by (prepared_at a n)
+  where
+    by : (o : Option Prepared) → (linked_as a n ts o).cells ≡ a.cells
     by None = refl
     by (Some p) = refl
 
@@ -167,6 +175,7 @@ module _ (ps : List PreparedNode) (i : ℕ) (p : PreparedNode) (lt : i < length 
         subst (HasEnded txn committed a d ps) (sym (own_next e)) (record {
           owned = ended_owned b d xs ys p owned_here txn committed e is;
           most = ap (λ (x : Content). x.most) is ∙ ended-most b p.node.number committed ∙ so_far.most;
+          cells = ap (λ (x : Content). x.cells) is ∙ ended-cells b p.node.number committed ∙ so_far.cells;
           same = same_after a b d so_far.same (ended_same b d xs ys p owned_here txn committed e is);
           keys = λ key c. ended_key b d xs ys p owned_here txn committed e is key c ∙ ap (λ (l : List PreparedNode). applied_to_key txn committed (kept b l key c)) (sym before) ∙ so_far.keys key c;
         })
@@ -175,7 +184,7 @@ module _ (ps : List PreparedNode) (i : ℕ) (p : PreparedNode) (lt : i < length 
     ends_other e = subst (HasEnded txn committed a b ps) (sym (other_next e)) so_far
 
 pub ends_start : (txn : ℕ) (committed : Option ℕ) (a : Content) (ps : List PreparedNode) → AreOwned a ps → HasEnded txn committed a a ps (remaining_nodes txn 0 ps)
-ends_start txn committed a ps owned = record { owned = owned; most = refl; same = λ c. refl; keys = λ key c. refl }
+ends_start txn committed a ps owned = record { owned = owned; most = refl; cells = refl; same = λ c. refl; keys = λ key c. refl }
 
 pub ends_all : (txn : ℕ) (committed : Option ℕ) (a b : Content) (ps : List PreparedNode) (i : ℕ) → length ps ≤ i → HasEnded txn committed a b ps (remaining_nodes txn i ps) → HasEnded txn committed a b ps (filter (is_other txn) ps)
 ends_all txn committed a b ps i le h =

@@ -12,7 +12,7 @@ use Rattle.span_arena.specs.Limits.{most_nodes}
 use Rattle.span_arena.specs.declared.token.Chain.{Chain}
 use Rattle.span_arena.specs.Content.{Content}
 use Rattle.span_keyindex.specs.Arenas.{IsArenaOf}
-use Rattle.span_keyindex.specs.declared.entry.Entry.{Entry}
+use Rattle.span_keyindex.specs.Entries.{Entry}
 use Rattle.span_shard.specs.declared.chain.PreparedWrite.{PreparedWrite}
 use Rattle.span_shard.specs.declared.node.PreparedNode.{PreparedNode}
 use Rattle.span_shard.specs.declared.write.Write.{Write}

@@ -8,12 +8,14 @@ use Rattle.std.proofs.lemmas.List.{get_or-set_other}
 use Rattle.span_arena.specs.Content.{Content, Prepared, prepared_at, prepared_for, one_for}
 use Rattle.span_arena.proofs.Counts.{sum-set}
 use Rattle.span_keyindex.specs.Arenas.{HasSameChains}
+use Rattle.span_keyindex.specs.Indexes.{entries_of}
+use Rattle.span_keyindex.specs.declared.index.KeyIndex.{KeyIndex}
 use Rattle.span_keyindex.proofs.Keeping.{chain_same}
 use Rattle.span_shard.specs.declared.chain.Version.{Version}
 use Rattle.span_shard.specs.declared.chain.PreparedWrite.{PreparedWrite}
 use Rattle.span_shard.specs.declared.node.PreparedNode.{PreparedNode}
 use Rattle.span_shard.specs.KeyVersions.{KeyVersions}
-use Rattle.span_shard.specs.Stored.{is_for, image_of, write_of, write_for, count_for, IsNodeOf, AreOwned}
+use Rattle.span_shard.specs.Stored.{is_for, image_of, write_of, write_for, count_for, IsNodeOf, AreOwned, IsStored, IsKept}
 use Rattle.span_shard.proofs.Lists.{all_map, all_append}
 
 pub all_front_of : {X : Type 0} (P : X → Type 0) (xs ys : List X) → AllByRecursion P (xs ++ ys) → AllByRecursion P xs
@@ -156,3 +158,7 @@ module _ (a b : Content) (xs ys : List PreparedNode) (p : PreparedNode) (owned :
       let one : one_of p.chain.number p ≡ 1 = ap (λ b. cond b 1 0) t in
       write-here a p.chain.number xs ys p (omega (arith, count-middle p.chain.number xs ys p, count-append p.chain.number xs ys, owned.once p.chain.number)) t
       ∙ ap (λ (o : Option Prepared). Some (record { txn = p.txn; row = image_of o })) prepared
+
+-- a store's keys
+pub stored : (i : KeyIndex) (a : Content) (ps : List PreparedNode) → IsKept i a ps → IsStored (entries_of i a) a ps
+stored i a ps kept = record { own = kept.index.own; owned = kept.owned; most = kept.most }

@@ -75,7 +75,7 @@ module _ (a b : Content) (xs ys : List PreparedNode) (p : PreparedNode) (image :
   ]
 
   pub prepared_with : HasPrepared a b (xs ++ ys) (xs ++ p ∷ ys) p.chain.number (record { txn = p.txn; row = image })
-  prepared_with = record { owned = owned_with; most = ap (λ (x : Content). x.most) reserved.now; chains = ap (λ (x : Content). x.chains) reserved.now; writes = write_with }
+  prepared_with = record { owned = owned_with; most = ap (λ (x : Content). x.most) reserved.now; chains = ap (λ (x : Content). x.chains) reserved.now; cells = ap (λ (x : Content). x.cells) reserved.now; writes = write_with }
 
 -- a node after the others
 pub prepared_push : (a b : Content) (ps qs : List PreparedNode) (p : PreparedNode) (image : Option (List ℕ)) → AreOwned a ps → nat_lt 0 (prepared_for p.chain.number a.prepared) ≡ false → IsChain a p.chain.number
@@ -153,6 +153,7 @@ module _ (a b d : Content) (ps qs : List PreparedNode) (i : ℕ) (q p : Prepared
         owned = subst (AreOwned d) (sym whole) instead.owned;
         most = instead.most ∙ ap (λ (x : Content). x.most) back;
         chains = instead.chains ∙ chains_are;
+        cells = instead.cells ∙ ap (λ (x : Content). x.cells) back;
         writes = λ e. ap (λ (l : List PreparedNode). write_for d l e) whole ∙ instead.writes e ∙ elim (cases_eq p.chain.number e) [
           | inl same ↦ (let t : nat_eq p.chain.number e ≡ true = grind (arith, nat_tests) in
               ap (λ v. cond v (Some (record { txn = p.txn; row = image })) (write_for b (take i ps ++ drop (i + 1) ps) e)) t ∙ sym (ap (λ v. cond v (Some (record { txn = p.txn; row = image })) (write_for a ps e)) t))

@@ -9,7 +9,9 @@ use Rattle.span_arena.specs.Order.{IsLaterFor}
 use Rattle.span_arena.specs.Limits.{most_nodes}
 use Rattle.span_arena.specs.declared.version.Version as arena
 use Rattle.span_keyindex.specs.Arenas.{IsArenaOf, HasSameChains}
-use Rattle.span_keyindex.specs.declared.entry.Entry.{Entry}
+use Rattle.span_keyindex.specs.Indexes.{IsIndexOf}
+use Rattle.span_keyindex.specs.declared.index.KeyIndex.{KeyIndex}
+use Rattle.span_keyindex.specs.Entries.{Entry}
 use Rattle.span_shard.specs.declared.chain.Version.{Version}
 use Rattle.span_shard.specs.declared.chain.PreparedWrite.{PreparedWrite}
 use Rattle.span_shard.specs.declared.node.PreparedNode.{PreparedNode}
@@ -74,6 +76,12 @@ pub record IsStored (es : List Entry) (a : Content) (ps : List PreparedNode) : T
   pub owned : AreOwned a ps
   pub most : a.most ≡ most_nodes
 
+-- the index is the arena's, and the prepared nodes are these
+pub record IsKept (i : KeyIndex) (a : Content) (ps : List PreparedNode) : Type 0 where
+  pub index : IsIndexOf i a
+  pub owned : AreOwned a ps
+  pub most : a.most ≡ most_nodes
+
 -- ---- prepare
 
 -- the node there is for this chain
@@ -86,6 +94,7 @@ pub record HasPrepared (a b : Content) (ps qs : List PreparedNode) (c : ℕ) (wr
   pub owned : AreOwned b qs
   pub most : b.most ≡ a.most
   pub chains : b.chains ≡ a.chains
+  pub cells : b.cells ≡ a.cells
   pub writes : (d : ℕ) → write_for b qs d ≡ (if nat_eq c d then Some write else write_for a ps d)
 
 -- out of memory; or nothing is prepared for the chain, and as many nodes are in use as may be
@@ -125,6 +134,7 @@ pub record HasEnded (txn : ℕ) (committed : Option ℕ) (a b : Content) (ps qs 
   pub owned : AreOwned b qs
   pub most : b.most ≡ a.most
   pub same : HasSameChains a b
+  pub cells : b.cells ≡ a.cells
   pub keys : (key : List ℕ) (c : ℕ) → applied_to_key txn committed (kept b qs key c) ≡ applied_to_key txn committed (kept a ps key c)
 
 -- ---- trim
@@ -132,6 +142,7 @@ pub record HasEnded (txn : ℕ) (committed : Option ℕ) (a b : Content) (ps qs 
 -- Some of the chains were trimmed; those that were not are as they were. With the others trimmed too each chain is what it is to be.
 pub record HasTrimmed (h : ℕ) (a b : Content) : Type 0 where
   pub same : HasSameChains a b
+  pub cells : b.cells ≡ a.cells
   pub most : b.most ≡ a.most
   pub prepared : b.prepared ≡ a.prepared
   pub chains : (c : ℕ) → kept_upto h (versions b c) ≡ kept_upto h (versions a c)

@@ -10,6 +10,7 @@ mod overlay;
 mod place;
 pub mod read;
 mod run;
+mod search;
 pub mod shard;
 mod store;
 mod trim;

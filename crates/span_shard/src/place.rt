@@ -9,6 +9,7 @@ ghost use Rattle.span_shard.specs.Versions.{row_at};
 ghost use Rattle.span_shard.specs.Stored.{chain_versions};
 ghost use Rattle.span_shard.specs.Reading.{entry_row, versions_alone, versions_alone_at, seen_entry};
 
+use super::search::{walk, walk_under};
 use super::shard::Entry;
 use super::store::Store;
 use span_arena::arena::Arena;
@@ -105,7 +106,7 @@ pub(crate) fn push_beginning<'a>(
     push_keys(
         found,
         &store.arena,
-        store.index.walk_under(&store.arena, front),
+        walk_under(&store.index, &store.arena, front),
     )
 }
 
@@ -144,7 +145,7 @@ pub(crate) fn rows_in<'a>(
     entries_at(
         alloc,
         &store.arena,
-        store.index.walk(&store.arena, range),
+        walk(&store.index, &store.arena, range),
         s,
     )
 }

@@ -6,6 +6,7 @@ ghost use Rattle.span_shard.specs.Versions.{applied_to_key, is_used};
 ghost use Rattle.span_shard.specs.Shard.{AreInOrder, HaveFallingVersions, IsInUse, IsLaterCommit, IsPutRefused, with_write, trimmed_key, live};
 
 use super::node::{PreparedNode, end_nodes, prepare_node};
+use super::search::slot_for;
 use super::trim::trim_chains;
 use super::write::Write;
 use span_arena::arena::Arena;
@@ -29,11 +30,12 @@ impl Model for Store {
 
     ghost Value = { List KeyVersions };
 
-    ghost use Rattle.span_shard.specs.Stored.{all_kept, IsStored};
+    ghost use Rattle.span_keyindex.specs.Indexes.{entries_of};
+    ghost use Rattle.span_shard.specs.Stored.{all_kept, IsKept};
 
-    ghost view = { λ s. all_kept s.arena s.prepared.items s.index };
+    ghost view = { λ s. all_kept s.arena s.prepared.items (entries_of s.index s.arena) };
 
-    ghost invariant = { λ s. IsStored s.index s.arena s.prepared.items };
+    ghost invariant = { λ s. IsKept s.index s.arena s.prepared.items };
 }
 
 impl Store {
@@ -66,7 +68,7 @@ impl Store {
         ensures refused { IfErr result (IsPutRefused self.old write.key) }
     {
         let Write { key, row } = write;
-        let chain = self.index.slot_for(&mut self.arena, key)?;
+        let chain = slot_for(&mut self.index, &mut self.arena, key)?;
         match prepare_node(&mut self.arena, &mut self.prepared, chain, txn, row) {
             Ok(()) => Ok(()),
             Err(why) => {

@@ -2,7 +2,7 @@ use Rattle.std.proofs.Common.{◌≡◌, ◌++◌, map}
 use Rattle.std.specs.Prelude.{All}
 use Rattle.std.specs.List.{filter_map}
 use Rattle.span_arena.specs.Content.{IsChain}
-use Rattle.span_keyindex.specs.declared.entry.Entry.{Entry}
+use Rattle.span_keyindex.specs.Entries.{Entry}
 use Rattle.span_shard.specs.Reading.{entry_row, seen_entry}
 use Rattle.span_shard.proofs.place.entries_at.Given as goal
 

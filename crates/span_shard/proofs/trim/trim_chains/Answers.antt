@@ -1,25 +1,24 @@
-use Rattle.std.proofs.Common.{List, sym, subst}
-use Rattle.span_keyindex.specs.declared.entry.Entry.{Entry}
-use Rattle.span_shard.specs.Stored.{AreTrimmed}
-use Rattle.span_shard.proofs.Cutting.{trim_start, trim_step, trim_chains}
-use Rattle.span_shard.proofs.Seeing.{chains_left, first_chain}
+use Rattle.span_keyindex.specs.Indexes.{entries_of}
+use Rattle.span_keyindex.proofs.Owning.{all_chains}
+use Rattle.span_shard.proofs.Cutting.{left_start, left_chain, left_step, left_none}
 use Rattle.span_shard.proofs.trim.trim_chains.Goals as goal
 
-pub loop-key-init : goal.loop-key-init
-loop-key-init c = record { can_next = tt; is_finite = tt; chains = c.all-walk.ensures.chains; so_far = subst (λ (l : List Entry). AreTrimmed c.args.horizon c.args.index.now l c.args.arena.now c.args.arena.now) (sym c.all-walk.ensures.entries) (trim_start c.args.horizon c.args.index.now c.args.arena.now) }
+pub loop-chain-init : goal.loop-chain-init
+loop-chain-init c = record {
+  can_next = tt;
+  is_finite = tt;
+  so_far = left_start c.args.horizon (entries_of c.args.index.now c.args.arena.now) c.chains-chains.result c.args.arena.now (all_chains (entries_of c.args.index.now c.args.arena.now) c.args.arena.now c.requires.own) c.chains-chains.ensures;
+}
 
 pub trim-requires : goal.trim-requires
-trim-requires c = first_chain c.loop-key.arena c.loop-key.walk c.next.new.self _ c.in-Some.ensures.steps c.loop-key.invariant.chains
+trim-requires c = left_chain c.args.horizon (entries_of c.args.index.now c.args.arena.now) c.loop-chain.chains c.next.new.self _ c.args.arena.now c.loop-chain.arena c.loop-chain.invariant.so_far c.in-Some.ensures.steps
 
-pub loop-key-preserved : goal.loop-key-preserved
-loop-key-preserved c =
-    let chain = first_chain c.loop-key.arena c.loop-key.walk c.next.new.self _ c.in-Some.ensures.steps c.loop-key.invariant.chains in
-    record {
-      can_next = tt;
-      is_finite = tt;
-      chains = trim_chains c.args.horizon c.next.new.self c.in-Some.chain.number c.loop-key.arena c.trim.new.self chain c.trim.ensures (chains_left c.loop-key.arena c.loop-key.walk c.next.new.self _ c.in-Some.ensures.steps c.loop-key.invariant.chains);
-      so_far = trim_step c.args.horizon c.args.index.now c.loop-key.walk c.next.new.self _ c.args.arena.now c.loop-key.arena c.trim.new.self c.loop-key.invariant.so_far c.in-Some.ensures.steps chain c.trim.ensures;
-    }
+pub loop-chain-preserved : goal.loop-chain-preserved
+loop-chain-preserved c = record {
+  can_next = tt;
+  is_finite = tt;
+  so_far = left_step c.args.horizon (entries_of c.args.index.now c.args.arena.now) c.loop-chain.chains c.next.new.self _ c.args.arena.now c.loop-chain.arena c.loop-chain.invariant.so_far c.in-Some.ensures.steps c.trim.new.self c.trim.ensures;
+}
 
 pub returns : goal.returns
-returns c = subst (λ (l : List Entry). AreTrimmed c.args.horizon c.args.index.now l c.args.arena.now c.loop-key.arena) c.in_default.ensures.steps.0 c.loop-key.invariant.so_far
+returns c = left_none c.args.horizon (entries_of c.args.index.now c.args.arena.now) c.loop-chain.chains c.args.arena.now c.loop-chain.arena c.loop-chain.invariant.so_far c.in_default.ensures.steps.0

@@ -1,4 +1,6 @@
-use Rattle.std.proofs.Common.{ap, sym, ◌∙◌, arith, subst}
+use Rattle.std.proofs.Common.{◌+◌, ap, sym, ◌∙◌, arith, subst, set}
+use Rattle.std.proofs.Common.{length-set}
+use Rattle.span_arena.specs.declared.record.ChainRecord.TheVariants as chain
 use Rattle.span_arena.specs.Runs.{node_at, content}
 use Rattle.span_arena.specs.Content.{without_chain}
 use Rattle.span_arena.specs.Order.{AreInTimeOrder}
@@ -28,13 +30,15 @@ invariant_of-self c =
     let unused = rw (← c.self.view_is) at c.requires.unused in
     let u = used_of (node_at i.nodes.items) i.chains.items c.args.chain.number h.0 h.1 in
     record {
-      sound = sound-free_chain i.nodes.items i.chains.items i.free i.free_count i.most c.self.invariant.sound c.args.chain.number u.0 _ _ u.1 unused;
+      sound = sound-free_chain i.nodes.items i.chains.items i.free i.free_count i.most i.cells.items c.self.invariant.sound c.args.chain.number u.0 _ _ u.1 unused;
       spare = are_spare-free i.chains.items i.spare i.spare_count c.args.chain.number u.0 u.1 c.self.invariant.spare;
-      falling = subst AreInTimeOrder (sym (content-free_chain i.nodes.items i.chains.items i.free i.free_count i.most c.self.invariant.sound c.args.chain.number _ _)) (falling-free_chain (content i.nodes.items i.chains.items i.free_count i.most) c.args.chain.number c.self.invariant.falling);
+      cells = length-set i.cells.items c.args.chain.number _ ∙ c.self.invariant.cells ∙ sym (length-set i.chains.items c.args.chain.number _);
+      falling = subst AreInTimeOrder (sym (content-free_chain i.nodes.items i.chains.items i.free i.free_count i.most i.cells.items c.self.invariant.sound c.args.chain.number _ _)) (falling-free_chain (content i.nodes.items i.chains.items i.free_count i.most i.cells.items) c.args.chain.number c.self.invariant.falling);
     }
 
 pub returns : goal.returns
 returns c =
     let i = c.self.inside in
-    content-free_chain i.nodes.items i.chains.items i.free i.free_count i.most c.self.invariant.sound c.args.chain.number _ _
+    ap (content i.nodes.items (set i.chains.items c.args.chain.number (chain.Free i.spare (i.spare_count + 1))) i.free_count i.most) (ap (set i.cells.items c.args.chain.number) c.blank.ensures)
+    ∙ content-free_chain i.nodes.items i.chains.items i.free i.free_count i.most i.cells.items c.self.invariant.sound c.args.chain.number _ _
     ∙ ap (λ w. without_chain w c.args.chain.number) c.self.view_is

@@ -1,5 +1,5 @@
 use Rattle.std.proofs.Common.{◌≡◌, ◌∙◌, ap, sym, refl, arith, ◌<◌, ◌+◌, ◌-◌, length, subst}
-use Rattle.std.proofs.lemmas.List.{get_or_default}
+use Rattle.std.proofs.lemmas.List.{get_or_default, length-set}
 use Rattle.span_arena.specs.Content.{Content, versions, with_kept, kept_by}
 use Rattle.span_arena.specs.Runs.{node_at, blank}
 use Rattle.span_arena.specs.Order.{AreInTimeOrder}
@@ -16,7 +16,7 @@ cut-kept-requires c =
     let h = rw (← c.self.view_is) at c.requires in
     let u = used_of (node_at i.nodes.items) i.chains.items c.args.chain.number h.0 h.1 in
     let used = read_used i.chains.items c.args.chain.number c.index.result.now c.in-Used.links u.0 u.1 c.index.ensures c.in-Used.is in
-    let r = init_run i.nodes.items i.chains.items i.free i.free_count i.most c.self.invariant.sound c.args.chain.number c.in-Used.links used in
+    let r = init_run i.nodes.items i.chains.items i.free i.free_count i.most i.cells.items c.self.invariant.sound c.args.chain.number c.in-Used.links used in
     r.0
 
 pub loop-left-init : goal.loop-left-init
@@ -25,10 +25,11 @@ loop-left-init c =
     let h = rw (← c.self.view_is) at c.requires in
     let u = used_of (node_at i.nodes.items) i.chains.items c.args.chain.number h.0 h.1 in
     let used = read_used i.chains.items c.args.chain.number c.index.result.now c.in-Used.links u.0 u.1 c.index.ensures c.in-Used.is in
-    let r = trimming_starts i.nodes.items i.chains.items i.free i.free_count i.most c.args.chain.number c.in-Used.links c.args.horizon c.cut-kept.result.0 c.cut-kept.result.1 c.self.invariant.sound used c.cut-kept.ensures in
+    let r = trimming_starts i.nodes.items i.chains.items i.free i.free_count i.most i.cells.items c.args.chain.number c.in-Used.links c.args.horizon c.cut-kept.result.0 c.cut-kept.result.1 c.self.invariant.sound used c.cut-kept.ensures in
     record {
       trimming = r.sound;
       spare = are_spare-used i.chains.items i.spare i.spare_count c.args.chain.number c.in-Used.links _ used c.self.invariant.spare;
+      cells = c.self.invariant.cells ∙ sym (length-set i.chains.items c.args.chain.number _);
       same = r.same ∙ ap (λ (w : Content). with_kept w c.args.chain.number (kept_by c.args.horizon (versions w c.args.chain.number))) c.self.view_is;
     }
 
@@ -47,7 +48,8 @@ loop-left-preserved c =
     record {
       trimming = rw e (trim_sound i.nodes.items i.chains.items i.free i.free_count i.most c.args.chain.number c.loop-left.left c.loop-left.at c.loop-left.invariant.trimming c.loop-left-test.true _ refl refl);
       spare = c.loop-left.invariant.spare;
-      same = rw n (trim_content i.nodes.items i.chains.items i.free i.free_count i.most c.args.chain.number c.loop-left.left c.loop-left.at c.loop-left.invariant.trimming c.loop-left-test.true _ (i.free_count + 1) refl (i.free_count + c.loop-left.left) ∙ c.loop-left.invariant.same);
+      cells = c.loop-left.invariant.cells;
+      same = rw n (trim_content i.nodes.items i.chains.items i.free i.free_count i.most c.args.chain.number c.loop-left.left c.loop-left.at c.loop-left.invariant.trimming c.loop-left-test.true _ i.cells.items (i.free_count + 1) refl (i.free_count + c.loop-left.left) ∙ c.loop-left.invariant.same);
     }
 
 pub invariant_of-self : goal.invariant_of-self
@@ -56,5 +58,6 @@ invariant_of-self c =
     record {
       sound = trimming_ends i.nodes.items i.chains.items i.free i.free_count i.most c.args.chain.number c.loop-left.left c.loop-left.at c.loop-left.invariant.trimming (omega (arith, c.loop-left-test.false));
       spare = c.loop-left.invariant.spare;
+      cells = c.loop-left.invariant.cells;
       falling = subst AreInTimeOrder (sym c.loop-left.invariant.same) (falling-keep c.args.self.now c.args.chain.number c.args.horizon (subst AreInTimeOrder c.self.view_is c.self.invariant.falling));
     }

@@ -1,5 +1,16 @@
-use Rattle.span_keyindex.proofs.Holders.{chains_of_range}
+use Rattle.std.proofs.Common.{List, sym, subst}
+use Rattle.std.specs.Prelude.{All}
+use Rattle.std.proofs.lemmas.List.Elements.{All-filter}
+use Rattle.span_arena.specs.Content.{IsChain}
+use Rattle.span_keyindex.specs.Entries.{Entry}
+use Rattle.span_keyindex.specs.Items.{is_between}
+use Rattle.span_keyindex.specs.Indexes.{entries_of}
+use Rattle.span_keyindex.proofs.Owning.{all_chains}
+use Rattle.span_keyindex.proofs.Rising.{pairs_rising}
 use Rattle.span_keyindex.proofs.index.KeyIndex.walk.Goals as goal
 
 pub returns-clause-chains : goal.returns-clause-chains
-returns-clause-chains c = chains_of_range c.args.range.now c.self.inside.entries.items c.entries_in.result.now c.args.arena.now (rw (← c.self.view_is) at c.requires) c.entries_in.ensures
+returns-clause-chains g c = subst (λ (es : List Entry). All (λ (e : Entry). IsChain c.args.arena.now e.chain.number) es) (sym c.walk_range.ensures.entries) (All-filter (λ (e : Entry). is_between c.as_slice.result.now c.as_slice-2.result.now e.key) (λ (e : Entry). IsChain c.args.arena.now e.chain.number) (entries_of c.args.self.now c.args.arena.now) (all_chains (entries_of c.args.self.now c.args.arena.now) c.args.arena.now c.requires.own))
+
+pub returns-clause-rising : goal.returns-clause-rising
+returns-clause-rising g c = pairs_rising (entries_of c.args.self.now c.args.arena.now) c.requires.index.search.rising

@@ -1,6 +1,8 @@
 use Rattle.std.proofs.Common.{◌∙◌, List, map, ap, sym, subst, rules}
 use Rattle.std.proofs.lemmas.Fn.{filter_same}
-use Rattle.span_keyindex.proofs.Keeping.{own_stays}
+use Rattle.std.specs.Prelude.{filter}
+use Rattle.span_keyindex.specs.Indexes.{entries_of}
+use Rattle.span_keyindex.proofs.Owning.{entries_stay, index_stays}
 use Rattle.span_shard.specs.declared.node.PreparedNode.{PreparedNode}
 use Rattle.span_shard.specs.Versions.{applied_to_key}
 use Rattle.span_shard.specs.Stored.{AreOwned, all_kept, is_other}
@@ -12,14 +14,14 @@ use Rattle.span_shard.proofs.store.Store.end.Goals as goal
 pub end_nodes-requires-clause-later : goal.end_nodes-requires-clause-later
 end_nodes-requires-clause-later c =
     let i = c.self.inside in
-    later_ends c.args.txn c.args.committed i.index i.arena i.prepared.items c.self.invariant.own (subst (IsLaterCommit c.args.txn c.args.committed) (sym c.self.view_is) c.requires)
+    later_ends c.args.txn c.args.committed (entries_of i.index i.arena) i.arena i.prepared.items c.self.invariant.index.own (subst (IsLaterCommit c.args.txn c.args.committed) (sym c.self.view_is) c.requires)
 
 pub invariant_of-self : goal.invariant_of-self
 invariant_of-self c =
     let i = c.self.inside in
     let left = filter_same _ (is_other c.args.txn) _ (λ x b f' k. search rules) _ _ c.retain.ensures.filtered in
     record {
-      own = own_stays i.index i.arena c.end_nodes.new.arena c.self.invariant.own c.end_nodes.ensures.same;
+      index = index_stays i.index i.arena c.end_nodes.new.arena c.self.invariant.index c.end_nodes.ensures.cells c.end_nodes.ensures.same;
       most = c.end_nodes.ensures.most ∙ c.self.invariant.most;
       owned = subst (AreOwned c.end_nodes.new.arena) (sym left) c.end_nodes.ensures.owned;
     }
@@ -28,6 +30,7 @@ pub returns : goal.returns
 returns c =
     let i = c.self.inside in
     let left = filter_same _ (is_other c.args.txn) _ (λ x b f' k. search rules) _ _ c.retain.ensures.filtered in
-    ap (λ (ps : List PreparedNode). all_kept c.end_nodes.new.arena ps i.index) left
-    ∙ ended_list c.args.txn c.args.committed i.arena c.end_nodes.new.arena i.prepared.items i.index c.end_nodes.ensures
+    ap (λ (ps : List PreparedNode). all_kept c.end_nodes.new.arena ps (entries_of i.index c.end_nodes.new.arena)) left
+    ∙ ap (all_kept c.end_nodes.new.arena (filter (is_other c.args.txn) i.prepared.items)) (entries_stay i.index i.arena c.end_nodes.new.arena c.end_nodes.ensures.cells)
+    ∙ ended_list c.args.txn c.args.committed i.arena c.end_nodes.new.arena i.prepared.items (entries_of i.index i.arena) c.end_nodes.ensures
     ∙ ap (map (applied_to_key c.args.txn c.args.committed)) c.self.view_is

@@ -1,0 +1,74 @@
+-- An index: a balanced tree of cells, whose keys rise, with links from each cell to the next.
+use Rattle.std.specs.Prelude.{◌≡◌, ◌⊎◌, ℕ, ◌+◌, ◌*◌, ◌≤◌, List, [], length}
+use Rattle.span_arena.specs.declared.cell.Cell.{Cell}
+use Rattle.span_arena.specs.Content.{Content, IsNewChain}
+use Rattle.span_keyindex.specs.declared.index.KeyIndex.{KeyIndex}
+use Rattle.span_keyindex.specs.declared.tree.TreeRoot.{TreeRoot}
+use Rattle.span_keyindex.specs.Arenas.{IsArenaOf}
+use Rattle.span_keyindex.specs.Trees.{Tree, IsAvl, height}
+use Rattle.span_arena.specs.Counts.{Count}
+use Rattle.span_keyindex.specs.Puts.{tree_at, IsTree}
+use Rattle.span_keyindex.specs.Entries.{IsAbsent, with_entry, Entry}
+use Rattle.span_keyindex.specs.Items.{entry, items, AreRising, HasCell}
+use Rattle.span_keyindex.specs.Nexts.{Nexts, next_of, IsLinked}
+
+abbrev pub tree_of : List Cell → TreeRoot → Tree
+tree_of cs index = tree_at cs index.levels index.root
+
+-- the keys in order, each with its cell
+abbrev pub entries_at : List Cell → TreeRoot → List Entry
+entries_at cs index = items (tree_of cs index)
+
+-- the index is a balanced tree of these cells, whose keys rise
+pub record IsSearchTree (cs : List Cell) (index : TreeRoot) : Type 0 where
+  pub tree : IsTree cs index.root (tree_of cs index)
+  pub avl : IsAvl (tree_of cs index)
+  pub tall : height (tree_of cs index) ≡ index.levels
+  pub rising : AreRising (entries_at cs index)
+
+-- and these are the links from each cell to the next
+pub record IsIndex (cs : List Cell) (ns : Nexts) (index : TreeRoot) : Type 0 where
+  pub search : IsSearchTree cs index
+  pub linked : IsLinked (next_of ns) ns.first (entries_at cs index)
+  pub places : length ns.next ≡ length cs
+
+-- the key has the chain of this number, and nothing changed
+pub record IsSame (old new : Content) (ns ms : Nexts) (before after : TreeRoot) (key : List ℕ) (cell : ℕ) : Type 0 where
+  pub here : HasCell (entries_at old.cells before) key cell
+  pub arena : new ≡ old
+  pub nexts : ms ≡ ns
+  pub index : after ≡ before
+
+-- it was not there, and is now, with a new chain
+pub record IsMore (old new : Content) (before after : TreeRoot) (key : List ℕ) (cell : ℕ) : Type 0 where
+  pub absent : IsAbsent (entries_at old.cells before) key
+  pub fresh : IsNewChain old new cell
+  pub now : entries_at new.cells after ≡ with_entry (entries_at old.cells before) (entry key cell)
+
+abbrev pub IsSlot : Content → Content → Nexts → Nexts → TreeRoot → TreeRoot → List ℕ → ℕ → Type 0
+IsSlot old new ns ms before after key cell = IsSame old new ns ms before after key cell ⊎ IsMore old new before after key cell
+
+-- where there are fewer than 2 ^ d keys
+pub record IsSlotCost (d : ℕ) (old new : Count) : Type 0 where
+  pub compared : new.compared ≤ old.compared + 2 * d
+  pub all : new.compared + new.written ≤ old.compared + old.written + (6 * d + 8)
+
+-- the same of a search
+pub record IsSearchCost (d : ℕ) (old new : Count) : Type 0 where
+  pub compared : new.compared ≤ old.compared + 2 * d
+  pub written : new.written ≡ old.written
+
+-- ---- an index with its arena
+
+-- the keys in order, each with its chain
+abbrev pub entries_of : KeyIndex → Content → List Entry
+entries_of i a = entries_at a.cells i.tree
+
+-- the index is a balanced tree of the arena's keys with links from each to the next, and its chains are those of the arena
+pub record IsIndexOf (i : KeyIndex) (a : Content) : Type 0 where
+  pub index : IsIndex a.cells i.nexts i.tree
+  pub own : IsArenaOf (entries_of i a) a
+
+-- the index of an arena with no chain
+abbrev pub IsEmptyIndex : KeyIndex → Type 0
+IsEmptyIndex i = (a : Content) → a.chains ≡ [] → a.cells ≡ [] → IsIndexOf i a × (entries_of i a ≡ [])

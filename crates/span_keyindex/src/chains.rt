@@ -1,0 +1,63 @@
+//! The chains of all keys in order.
+ghost use Rattle.std.specs.Prelude.{◌≡◌, map};
+ghost use Rattle.std.specs.Iterator.{YieldsFirstBy, item_count};
+ghost use Rattle.span_keyindex.specs.Indexes.{entries_at, IsIndex};
+
+use crate::next::NextLinks;
+use crate::tree::TreeRoot;
+use span_arena::arena::Arena;
+use span_arena::token::Chain;
+use std::marker::Model;
+
+/// Chains of keys that follow each other. Contracts see the chains that are left.
+#[derive(Drop)]
+pub struct Chains<'a> {
+    nexts: &'a NextLinks,
+    at: Option<usize>,
+    left: usize,
+}
+
+impl<'a> Model for Chains<'a> {
+    ghost use Rattle.std.specs.Prelude.{List, length};
+    ghost use Rattle.span_arena.specs.declared.token.Chain.{Chain};
+    ghost use Rattle.span_keyindex.specs.Walks.{chains_in, AreNumbersBelow};
+
+    ghost Value = { List Chain };
+
+    ghost view = { λ c. chains_in c.nexts.now c.left c.at };
+
+    ghost invariant = { λ c. AreNumbersBelow (length c.nexts.now.next) (chains_in c.nexts.now c.left c.at) };
+}
+
+impl<'a> Iterator for Chains<'a> {
+    type Item = Chain;
+
+    ghost next_gives = { YieldsFirstBy (λ c. c) (λ c. c) };
+
+    ghost remaining = { item_count (λ c. c) };
+
+    fn next(&mut self) -> Option<Chain> {
+        if self.left == 0 {
+            return None;
+        }
+        let Some(number) = self.at else {
+            return None;
+        };
+        self.left -= 1;
+        self.at = self.nexts.after(number);
+        Some(Chain { number })
+    }
+}
+
+/// The chains of all keys, in order of the keys.
+pub(crate) fn chains_of<'a>(arena: &Arena, nexts: &'a NextLinks, index: &TreeRoot) -> Chains<'a>
+    requires { IsIndex arena.now.cells nexts.now index.now }
+    ensures { result ≡ map (λ e. e.chain) (entries_at arena.now.cells index.now) }
+{
+    let _ = index;
+    Chains {
+        nexts,
+        at: nexts.first(),
+        left: arena.numbers(),
+    }
+}

@@ -1,0 +1,428 @@
+//! A part that may have grown, joined to its cell again.
+ghost use Rattle.std.specs.Prelude.{◌≡◌, ◌<◌, ◌≤◌, ◌+◌, length, IfSome, Some};
+ghost use Rattle.span_keyindex.specs.Trees as trees;
+ghost use Rattle.span_arena.specs.Content.{with_cells};
+ghost use Rattle.span_arena.specs.Cells.{cell_at, with_links, IsWritten};
+ghost use Rattle.span_keyindex.specs.Effects.{turned_right_cells, turned_right_root, turned_left_cells, turned_left_root, lifted_right_cells, lifted_left_cells, lifted_root, IsInside, IsWithin};
+ghost use Rattle.span_keyindex.specs.Joins.{joined_left_cells, joined_right_cells, joined_left_root, joined_right_root, IsJoinCost};
+
+use span_arena::arena::Arena;
+use span_arena::cell::{Balance, Links};
+use span_arena::steps::Steps;
+use std::sync::ledger::Ledger;
+
+/// A part after a key more: the new cell, the part's first cell, and whether it has one level more.
+#[derive(Clone, Copy, Debug)]
+pub struct Part {
+    pub cell: usize,
+    pub root: usize,
+    pub grew: bool,
+}
+
+// The left part is two levels higher than the right one.
+fn turn_right<C: Ledger, W: Ledger>(
+    arena: &mut Arena,
+    at: usize,
+    left: usize,
+    right: Option<usize>,
+    steps: &mut Steps<C, W>,
+) -> usize
+    requires at { at < length arena.old.cells }
+    requires left { left < length arena.old.cells }
+    requires inner { IsInside arena.old.cells (cell_at arena.old.cells left).links.right }
+    ensures arena { arena.new ≡ with_cells arena.old (turned_right_cells arena.old.cells at left right) }
+    ensures root { result ≡ turned_right_root arena.old.cells at left }
+    ensures steps { IsWithin 3 steps.old steps.new }
+{
+    let below = arena.links(left);
+    match below.balance {
+        Balance::LeftHigh => {
+            arena.set_links(
+                at,
+                Links {
+                    left: below.right,
+                    right,
+                    balance: Balance::Even,
+                },
+                steps,
+            );
+            arena.set_links(
+                left,
+                Links {
+                    left: below.left,
+                    right: Some(at),
+                    balance: Balance::Even,
+                },
+                steps,
+            );
+            left
+        }
+        Balance::Even => {
+            arena.set_links(
+                at,
+                Links {
+                    left: Some(left),
+                    right,
+                    balance: Balance::LeftHigh,
+                },
+                steps,
+            );
+            at
+        }
+        Balance::RightHigh => lift_inner(arena, at, left, right, steps),
+    }
+}
+
+fn lift_inner<C: Ledger, W: Ledger>(
+    arena: &mut Arena,
+    at: usize,
+    left: usize,
+    right: Option<usize>,
+    steps: &mut Steps<C, W>,
+) -> usize
+    requires at { at < length arena.old.cells }
+    requires left { left < length arena.old.cells }
+    requires inner { IsInside arena.old.cells (cell_at arena.old.cells left).links.right }
+    ensures arena { arena.new ≡ with_cells arena.old (lifted_right_cells arena.old.cells at left right (cell_at arena.old.cells left).links.right) }
+    ensures root { result ≡ lifted_root (cell_at arena.old.cells left).links.right at }
+    ensures steps { IsWithin 3 steps.old steps.new }
+{
+    let below = arena.links(left);
+    let Some(inner) = below.right else {
+        arena.set_links(
+            at,
+            Links {
+                left: Some(left),
+                right,
+                balance: Balance::LeftHigh,
+            },
+            steps,
+        );
+        return at;
+    };
+    let links = arena.links(inner);
+    arena.set_links(
+        left,
+        Links {
+            left: below.left,
+            right: links.left,
+            balance: after_left(links.balance),
+        },
+        steps,
+    );
+    arena.set_links(
+        at,
+        Links {
+            left: links.right,
+            right,
+            balance: after_right(links.balance),
+        },
+        steps,
+    );
+    arena.set_links(
+        inner,
+        Links {
+            left: Some(left),
+            right: Some(at),
+            balance: Balance::Even,
+        },
+        steps,
+    );
+    inner
+}
+
+// The right part is two levels higher than the left one.
+fn turn_left<C: Ledger, W: Ledger>(
+    arena: &mut Arena,
+    at: usize,
+    left: Option<usize>,
+    right: usize,
+    steps: &mut Steps<C, W>,
+) -> usize
+    requires at { at < length arena.old.cells }
+    requires right { right < length arena.old.cells }
+    requires inner { IsInside arena.old.cells (cell_at arena.old.cells right).links.left }
+    ensures arena { arena.new ≡ with_cells arena.old (turned_left_cells arena.old.cells at left right) }
+    ensures root { result ≡ turned_left_root arena.old.cells at right }
+    ensures steps { IsWithin 3 steps.old steps.new }
+{
+    let below = arena.links(right);
+    match below.balance {
+        Balance::RightHigh => {
+            arena.set_links(
+                at,
+                Links {
+                    left,
+                    right: below.left,
+                    balance: Balance::Even,
+                },
+                steps,
+            );
+            arena.set_links(
+                right,
+                Links {
+                    left: Some(at),
+                    right: below.right,
+                    balance: Balance::Even,
+                },
+                steps,
+            );
+            right
+        }
+        Balance::Even => {
+            arena.set_links(
+                at,
+                Links {
+                    left,
+                    right: Some(right),
+                    balance: Balance::RightHigh,
+                },
+                steps,
+            );
+            at
+        }
+        Balance::LeftHigh => sink_inner(arena, at, left, right, steps),
+    }
+}
+
+fn sink_inner<C: Ledger, W: Ledger>(
+    arena: &mut Arena,
+    at: usize,
+    left: Option<usize>,
+    right: usize,
+    steps: &mut Steps<C, W>,
+) -> usize
+    requires at { at < length arena.old.cells }
+    requires right { right < length arena.old.cells }
+    requires inner { IsInside arena.old.cells (cell_at arena.old.cells right).links.left }
+    ensures arena { arena.new ≡ with_cells arena.old (lifted_left_cells arena.old.cells at left right (cell_at arena.old.cells right).links.left) }
+    ensures root { result ≡ lifted_root (cell_at arena.old.cells right).links.left at }
+    ensures steps { IsWithin 3 steps.old steps.new }
+{
+    let below = arena.links(right);
+    let Some(inner) = below.left else {
+        arena.set_links(
+            at,
+            Links {
+                left,
+                right: Some(right),
+                balance: Balance::RightHigh,
+            },
+            steps,
+        );
+        return at;
+    };
+    let links = arena.links(inner);
+    arena.set_links(
+        right,
+        Links {
+            left: links.right,
+            right: below.right,
+            balance: after_right(links.balance),
+        },
+        steps,
+    );
+    arena.set_links(
+        at,
+        Links {
+            left,
+            right: links.left,
+            balance: after_left(links.balance),
+        },
+        steps,
+    );
+    arena.set_links(
+        inner,
+        Links {
+            left: Some(at),
+            right: Some(right),
+            balance: Balance::Even,
+        },
+        steps,
+    );
+    inner
+}
+
+// The side of a cell that takes the inner cell's left part.
+fn after_left(balance: Balance) -> Balance
+    ensures { result ≡ trees.after_left balance }
+{
+    match balance {
+        Balance::RightHigh => Balance::LeftHigh,
+        Balance::LeftHigh | Balance::Even => Balance::Even,
+    }
+}
+
+// The side of a cell that takes the inner cell's right part.
+fn after_right(balance: Balance) -> Balance
+    ensures { result ≡ trees.after_right balance }
+{
+    match balance {
+        Balance::LeftHigh => Balance::RightHigh,
+        Balance::Even | Balance::RightHigh => Balance::Even,
+    }
+}
+
+// Links a cell to its parts anew. The result is the part that begins with it, which is one level higher or not.
+fn link_part<C: Ledger, W: Ledger>(
+    arena: &mut Arena,
+    at: usize,
+    cell: usize,
+    links: Links,
+    grew: bool,
+    steps: &mut Steps<C, W>,
+) -> Part
+    requires { at < length arena.old.cells }
+    ensures arena { arena.new ≡ with_cells arena.old (with_links arena.old.cells at links) }
+    ensures part { result ≡ record { cell = cell; root = at; grew = grew } }
+    ensures steps { IsWritten steps.old steps.new }
+{
+    arena.set_links(at, links, steps);
+    Part {
+        cell,
+        root: at,
+        grew,
+    }
+}
+
+/// Joins the left part of a cell to it again, after a key more in it.
+pub(crate) fn join_left<C: Ledger, W: Ledger>(
+    arena: &mut Arena,
+    at: usize,
+    part: Part,
+    steps: &mut Steps<C, W>,
+) -> Part
+    requires at { at < length arena.old.cells }
+    requires root { part.root < length arena.old.cells }
+    requires inner { IsInside arena.old.cells (cell_at arena.old.cells part.root).links.right }
+    ensures arena { arena.new ≡ with_cells arena.old (joined_left_cells part.grew arena.old.cells at part.root) }
+    ensures part { result ≡ joined_left_root part.grew arena.old.cells at part }
+    ensures steps { IsJoinCost part.grew result.grew steps.old steps.new }
+{
+    let links = arena.links(at);
+    let left = Some(part.root);
+    let right = links.right;
+    let balance = links.balance;
+    if !part.grew {
+        return link_part(
+            arena,
+            at,
+            part.cell,
+            Links {
+                left,
+                right,
+                balance,
+            },
+            false,
+            steps,
+        );
+    }
+    match balance {
+        Balance::RightHigh => {
+            let balance = Balance::Even;
+            link_part(
+                arena,
+                at,
+                part.cell,
+                Links {
+                    left,
+                    right,
+                    balance,
+                },
+                false,
+                steps,
+            )
+        }
+        Balance::Even => {
+            let balance = Balance::LeftHigh;
+            link_part(
+                arena,
+                at,
+                part.cell,
+                Links {
+                    left,
+                    right,
+                    balance,
+                },
+                true,
+                steps,
+            )
+        }
+        Balance::LeftHigh => Part {
+            cell: part.cell,
+            root: turn_right(arena, at, part.root, right, steps),
+            grew: false,
+        },
+    }
+}
+
+/// Joins the right part of a cell to it again, after a key more in it.
+pub(crate) fn join_right<C: Ledger, W: Ledger>(
+    arena: &mut Arena,
+    at: usize,
+    part: Part,
+    steps: &mut Steps<C, W>,
+) -> Part
+    requires at { at < length arena.old.cells }
+    requires root { part.root < length arena.old.cells }
+    requires inner { IsInside arena.old.cells (cell_at arena.old.cells part.root).links.left }
+    ensures arena { arena.new ≡ with_cells arena.old (joined_right_cells part.grew arena.old.cells at part.root) }
+    ensures part { result ≡ joined_right_root part.grew arena.old.cells at part }
+    ensures steps { IsJoinCost part.grew result.grew steps.old steps.new }
+{
+    let links = arena.links(at);
+    let left = links.left;
+    let right = Some(part.root);
+    let balance = links.balance;
+    if !part.grew {
+        return link_part(
+            arena,
+            at,
+            part.cell,
+            Links {
+                left,
+                right,
+                balance,
+            },
+            false,
+            steps,
+        );
+    }
+    match balance {
+        Balance::LeftHigh => {
+            let balance = Balance::Even;
+            link_part(
+                arena,
+                at,
+                part.cell,
+                Links {
+                    left,
+                    right,
+                    balance,
+                },
+                false,
+                steps,
+            )
+        }
+        Balance::Even => {
+            let balance = Balance::RightHigh;
+            link_part(
+                arena,
+                at,
+                part.cell,
+                Links {
+                    left,
+                    right,
+                    balance,
+                },
+                true,
+                steps,
+            )
+        }
+        Balance::RightHigh => Part {
+            cell: part.cell,
+            root: turn_left(arena, at, left, part.root, steps),
+            grew: false,
+        },
+    }
+}

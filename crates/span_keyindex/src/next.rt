@@ -1,0 +1,94 @@
+//! The chains in the order of their keys, as links from each to the next.
+ghost use Rattle.std.specs.Prelude.{◌≡◌, ◌<◌, [], length, None, IfErr, IfSome, OnErr, OnOk};
+ghost use Rattle.span_keyindex.specs.Nexts.{next_of, with_cell, with_room, without_first, without_last};
+
+use span_value::refusal::Refusal;
+use std::alloc::Global;
+use std::marker::Model;
+
+/// The first chain, and after each chain the next, by their numbers.
+#[derive(Debug, Drop)]
+pub struct NextLinks {
+    first: Option<usize>,
+    next: Vec<Option<usize>>,
+}
+
+impl Model for NextLinks {
+    ghost use Rattle.span_keyindex.specs.Nexts.{Nexts};
+
+    ghost Value = { Nexts };
+
+    ghost view = { λ n. record { first = n.first; next = n.next.items } };
+}
+
+impl NextLinks {
+    /// Links of no chain. They take no memory.
+    pub fn new(alloc: Global) -> NextLinks
+        ensures { result ≡ record { first = None; next = [] } }
+    {
+        NextLinks {
+            first: None,
+            next: Vec::new(alloc),
+        }
+    }
+
+    /// The first chain.
+    pub fn first(&self) -> Option<usize>
+        ensures { result ≡ self.now.first }
+    {
+        self.first
+    }
+
+    /// The chain after a chain.
+    pub fn after(&self, cell: usize) -> Option<usize>
+        requires { cell < length self.now.next }
+        ensures { result ≡ next_of self.now cell }
+    {
+        self.next[cell]
+    }
+
+    /// A place for one chain more, to which no link leads. `Refusal::OutOfMemory` leaves all as it was.
+    pub(crate) fn add_room(&mut self) -> Result<(), Refusal>
+        ensures ok { OnOk result (self.new ≡ with_room self.old) }
+        ensures err { OnErr result (self.new ≡ self.old) }
+        ensures memory { IfErr result (λ why. why ≡ Refusal.OutOfMemory) }
+    {
+        let Ok(()) = self.next.push(None) else {
+            return Err(Refusal::OutOfMemory);
+        };
+        Ok(())
+    }
+
+    /// Removes the last place.
+    pub(crate) fn drop_room(&mut self)
+        requires { 0 < length self.old.next }
+        ensures { self.new ≡ without_last self.old }
+    {
+        self.next.truncate(self.next.len() - 1);
+    }
+
+    /// Puts a chain after another, or first.
+    pub(crate) fn put_after(&mut self, before: Option<usize>, cell: usize)
+        requires cell { cell < length self.old.next }
+        requires before { IfSome before (λ b. b < length self.old.next) }
+        ensures { self.new ≡ with_cell self.old before cell }
+    {
+        match before {
+            None => {
+                self.next[cell] = self.first;
+                self.first = Some(cell);
+            }
+            Some(before) => {
+                self.next[cell] = self.next[before];
+                self.next[before] = Some(cell);
+            }
+        }
+    }
+
+    /// No link leads to the first chain any more.
+    pub(crate) fn forget_first(&mut self)
+        ensures { self.new ≡ without_first self.old }
+    {
+        self.first = None;
+    }
+}

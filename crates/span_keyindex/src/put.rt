@@ -1,0 +1,114 @@
+//! A key put into a tree.
+ghost use Rattle.std.specs.Prelude.{◌≡◌, length, IfOk, IfErr, OnErr};
+ghost use Rattle.span_arena.specs.Cells.{new_cell};
+ghost use Rattle.span_arena.specs.Content.{IsNewChain, with_at};
+ghost use Rattle.span_keyindex.specs.Effects.{IsInside, IsWithin};
+ghost use Rattle.span_keyindex.specs.Nexts.{before_in, with_cell, with_place};
+ghost use Rattle.span_keyindex.specs.Puts.{AreChains, IsTree, tree_at, IsPut, IsPutIn, IsNext, IsPutCost, IsNotFound};
+
+use crate::join::{Part, join_left, join_right};
+use crate::next::NextLinks;
+use span_arena::arena::Arena;
+use span_arena::steps::Steps;
+use span_keycode::key::Key;
+use span_value::refusal::Refusal;
+use std::cmp::Ordering;
+use std::sync::ledger::Ledger;
+
+/// What came of a key that was put into a tree.
+#[derive(Clone, Copy, Debug)]
+pub enum Put {
+    /// It is that of this chain.
+    Found(usize),
+    /// It has a new chain.
+    Added(Part),
+}
+
+// A new chain, after another in the order of the keys, or first.
+fn add_cell<C: Ledger, W: Ledger>(
+    arena: &mut Arena,
+    nexts: &mut NextLinks,
+    before: Option<usize>,
+    key: Key,
+    steps: &mut Steps<C, W>,
+) -> Result<usize, Refusal>
+    requires links { length nexts.old.next ≡ length arena.old.cells }
+    requires before { IsInside arena.old.cells before }
+    ensures chain { IfOk result (IsNewChain arena.old arena.new) }
+    ensures cells { IfOk result (λ at. arena.new.cells ≡ with_at arena.old.cells at (new_cell key)) }
+    ensures nexts { IfOk result (λ at. nexts.new ≡ with_cell (with_place nexts.old at) before at) }
+    ensures same { length arena.old.cells ≡ length arena.old.chains }
+    ensures err { OnErr result (arena.new ≡ arena.old) }
+    ensures err_nexts { OnErr result (nexts.new ≡ nexts.old) }
+    ensures memory { IfErr result (λ why. why ≡ Refusal.OutOfMemory) }
+    ensures steps { IsWithin 2 steps.old steps.new }
+{
+    let numbers = arena.numbers();
+    nexts.add_room()?;
+    match arena.new_chain(key, steps) {
+        Ok(chain) => {
+            if chain.number < numbers {
+                // The number was that of another chain, and has a place.
+                nexts.drop_room();
+            }
+            steps.write();
+            nexts.put_after(before, chain.number);
+            Ok(chain.number)
+        }
+        Err(why) => {
+            nexts.drop_room();
+            Err(why)
+        }
+    }
+}
+
+/// Puts a key into a tree of at most `levels` levels below a link, unless it is there. `before` is the chain of the last key below
+/// all those of the tree. `Refusal::OutOfMemory` leaves all as it was; it comes only where the key is not there.
+pub(crate) fn add_key<C: Ledger, W: Ledger>(
+    arena: &mut Arena,
+    nexts: &mut NextLinks,
+    at: Option<usize>,
+    before: Option<usize>,
+    levels: usize,
+    key: Key,
+    steps: &mut Steps<C, W>,
+) -> Result<Put, Refusal>
+    requires tree { IsTree arena.old.cells at (tree_at arena.old.cells levels at) }
+    requires chains { AreChains arena.old (tree_at arena.old.cells levels at) }
+    requires links { length nexts.old.next ≡ length arena.old.cells }
+    requires before { IsInside arena.old.cells before }
+    ensures ok { IfOk result (IsPut arena.old.cells arena.new.cells (tree_at arena.old.cells levels at) key) }
+    ensures arena { IfOk result (IsPutIn arena.old arena.new) }
+    ensures nexts { IfOk result (IsNext nexts.old nexts.new (before_in key before (tree_at arena.old.cells levels at))) }
+    ensures err { OnErr result (arena.new ≡ arena.old) }
+    ensures err_nexts { OnErr result (nexts.new ≡ nexts.old) }
+    ensures absent { OnErr result (IsNotFound key (tree_at arena.old.cells levels at)) }
+    ensures memory { IfErr result (λ why. why ≡ Refusal.OutOfMemory) }
+    ensures steps { IsPutCost (tree_at arena.old.cells levels at) result steps.old steps.new }
+{
+    let Some(at) = at else {
+        let cell = add_cell(arena, nexts, before, key, steps)?;
+        return Ok(Put::Added(Part {
+            cell,
+            root: cell,
+            grew: true,
+        }));
+    };
+    match arena.compare(at, key.as_slice(), steps) {
+        Ordering::Less => {
+            let left = arena.links(at).left;
+            match add_key(arena, nexts, left, before, levels - 1, key, steps)? {
+                Put::Found(found) => Ok(Put::Found(found)),
+                Put::Added(part) => Ok(Put::Added(join_left(arena, at, part, steps))),
+            }
+        }
+        Ordering::Equal => Ok(Put::Found(at)),
+        Ordering::Greater => {
+            let right = arena.links(at).right;
+            match add_key(arena, nexts, right, Some(at), levels - 1, key, steps)? {
+                Put::Found(found) => Ok(Put::Found(found)),
+                Put::Added(part) => Ok(Put::Added(join_right(arena, at, part, steps))),
+            }
+        }
+    }
+}

@@ -1,0 +1,114 @@
+//! Searches in the index, whose steps nobody reads here: each is handed a new count.
+ghost use Rattle.std.specs.Prelude.{◌≡◌, ◌<◌, All, IfErr, IfOk, OnErr};
+ghost use Rattle.span_arena.specs.Content.{IsChain};
+ghost use Rattle.span_keyindex.specs.Entries.{IsSlotFor, entries_in, entries_under};
+ghost use Rattle.span_keyindex.specs.Indexes.{IsIndexOf, entries_of};
+
+use span_arena::arena::Arena;
+use span_arena::steps::Steps;
+use span_arena::token::Chain;
+use span_keycode::key::Key;
+use span_keycode::range::KeyRange;
+use span_keyindex::index::KeyIndex;
+use span_keyindex::walk::Walk;
+use span_value::refusal::Refusal;
+use std::marker::Brand;
+use std::sync::ledger::{Blank, Ledger};
+
+/// The chain of a key: its own, or a new one. `Refusal::OutOfMemory` leaves all as it was.
+pub(crate) fn slot_for(index: &mut KeyIndex, arena: &mut Arena, key: Key) -> Result<Chain, Refusal>
+    requires { IsIndexOf index.old arena.old }
+    ensures ok { IfOk result (IsSlotFor (entries_of index.old arena.old) (entries_of index.new arena.new) arena.old arena.new key) }
+    ensures chain { IfOk result (λ chain. IsChain arena.new chain.number) }
+    ensures index { OnErr result (index.new ≡ index.old) }
+    ensures arena { OnErr result (arena.new ≡ arena.old) }
+    ensures memory { IfErr result (λ why. why ≡ Refusal.OutOfMemory) }
+    ensures own { IsIndexOf index.new arena.new }
+{
+    counted_slot_for::<Brand, Brand>(index, arena, key, Blank::new(1), Blank::new(1))
+}
+
+fn counted_slot_for<C: Ledger, W: Ledger>(
+    index: &mut KeyIndex,
+    arena: &mut Arena,
+    key: Key,
+    compared: Blank,
+    written: Blank,
+) -> Result<Chain, Refusal>
+    requires own { IsIndexOf index.old arena.old }
+    requires compared_name { compared.name ≡ C.name }
+    requires compared_parts { compared.parts ≡ C.parts }
+    requires compared_some { 0 < compared.parts }
+    requires written_name { written.name ≡ W.name }
+    requires written_parts { written.parts ≡ W.parts }
+    requires written_some { 0 < written.parts }
+    ensures ok { IfOk result (IsSlotFor (entries_of index.old arena.old) (entries_of index.new arena.new) arena.old arena.new key) }
+    ensures chain { IfOk result (λ chain. IsChain arena.new chain.number) }
+    ensures index { OnErr result (index.new ≡ index.old) }
+    ensures arena { OnErr result (arena.new ≡ arena.old) }
+    ensures memory { IfErr result (λ why. why ≡ Refusal.OutOfMemory) }
+    ensures own { IsIndexOf index.new arena.new }
+{
+    let mut steps: Steps<C, W> = Steps::new(compared, written);
+    index.slot_for(arena, key, &mut steps)
+}
+
+/// The keys of a range with their chains, in order of the keys.
+pub(crate) fn walk<'a>(index: &'a KeyIndex, arena: &'a Arena, range: &KeyRange) -> Walk<'a>
+    requires { IsIndexOf index.now arena.now }
+    ensures entries { result ≡ entries_in range.now (entries_of index.now arena.now) }
+    ensures chains { All (λ e. IsChain arena.now e.chain.number) result }
+{
+    counted_walk::<Brand, Brand>(index, arena, range, Blank::new(1), Blank::new(1))
+}
+
+fn counted_walk<'a, C: Ledger, W: Ledger>(
+    index: &'a KeyIndex,
+    arena: &'a Arena,
+    range: &KeyRange,
+    compared: Blank,
+    written: Blank,
+) -> Walk<'a>
+    requires own { IsIndexOf index.now arena.now }
+    requires compared_name { compared.name ≡ C.name }
+    requires compared_parts { compared.parts ≡ C.parts }
+    requires compared_some { 0 < compared.parts }
+    requires written_name { written.name ≡ W.name }
+    requires written_parts { written.parts ≡ W.parts }
+    requires written_some { 0 < written.parts }
+    ensures entries { result ≡ entries_in range.now (entries_of index.now arena.now) }
+    ensures chains { All (λ e. IsChain arena.now e.chain.number) result }
+{
+    let mut steps: Steps<C, W> = Steps::new(compared, written);
+    index.walk(arena, range, &mut steps)
+}
+
+/// The keys that begin with these bytes, with their chains, in order of the keys.
+pub(crate) fn walk_under<'a>(index: &'a KeyIndex, arena: &'a Arena, front: &[u8]) -> Walk<'a>
+    requires { IsIndexOf index.now arena.now }
+    ensures entries { result ≡ entries_under front.now (entries_of index.now arena.now) }
+    ensures chains { All (λ e. IsChain arena.now e.chain.number) result }
+{
+    counted_walk_under::<Brand, Brand>(index, arena, front, Blank::new(1), Blank::new(1))
+}
+
+fn counted_walk_under<'a, C: Ledger, W: Ledger>(
+    index: &'a KeyIndex,
+    arena: &'a Arena,
+    front: &[u8],
+    compared: Blank,
+    written: Blank,
+) -> Walk<'a>
+    requires own { IsIndexOf index.now arena.now }
+    requires compared_name { compared.name ≡ C.name }
+    requires compared_parts { compared.parts ≡ C.parts }
+    requires compared_some { 0 < compared.parts }
+    requires written_name { written.name ≡ W.name }
+    requires written_parts { written.parts ≡ W.parts }
+    requires written_some { 0 < written.parts }
+    ensures entries { result ≡ entries_under front.now (entries_of index.now arena.now) }
+    ensures chains { All (λ e. IsChain arena.now e.chain.number) result }
+{
+    let mut steps: Steps<C, W> = Steps::new(compared, written);
+    index.walk_under(arena, front, &mut steps)
+}
