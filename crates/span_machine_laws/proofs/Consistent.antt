@@ -30,13 +30,14 @@ use Rattle.span_machine.specs.declared.transaction.Decision.TheVariants as decis
 use Rattle.span_machine.specs.declared.transaction.Decision.TheVariants.{Committed}
 use Rattle.span_machine.specs.Commits.{commits_of}
 use Rattle.span_machine.specs.Consistency.{IsWithin, MayBeTakenAt, AreTrueTimes, HonestClock, IsAt, IsAppliedAt, IsDecidedAt, IsOpenedStrongAt, IsExternallyConsistent}
-use Rattle.span_machine.specs.Machine.{Machine, Answer, Understanding, Steps, answer, start, changed_first, without_first, undecided, is_undecided, is_early, is_transaction, is_prepared_at, is_all_prepared, with_decision, add_prepared, greatest, coordinator_slot, if_some, prepare_timestamp, commit_timestamp, commit_of, commit_refusal, committed, without_prepared, applied_at, apply_refusal, answer_on, opened}
+use Rattle.span_machine.specs.Machine.{Machine, Answer, Understanding, Steps, answer, start, changed_first, without_first, undecided, is_undecided, is_early, is_transaction, is_prepared_at, is_all_prepared, with_decision, add_prepared, greatest, coordinator_slot, if_some, prepare_timestamp, commit_timestamp, commit_of, commit_refusal, committed, without_prepared, applied_at, apply_refusal, answer_on, meaning, opened}
 use Rattle.span_machine.specs.Run.{Run, IsOfSchema, AreOfSchema}
 use Rattle.span_machine.specs.Sorting.{placed, in_order}
 use Rattle.span_machine.specs.Tables.{is_before, upto}
 use Rattle.span_machine_laws.proofs.Causes.{may_commit, may_apply}
-use Rattle.span_machine_laws.proofs.Tests.{not_both, not_late}
-use Rattle.span_machine_laws.proofs.Lists.{IsIn, all_push, all_changed, all_without, all_found, all_weaker, all_at}
+use Rattle.span_machine_laws.proofs.Tests.{not_both, not_late, second_true, number_same}
+use Rattle.span_machine_laws.proofs.Numbers.{IsNumbered, same_number}
+use Rattle.span_machine_laws.proofs.Lists.{IsIn, found_in, found_passes, kept_after, all_push, all_changed, all_without, all_found, all_weaker, all_places}
 use Rattle.span_machine_laws.proofs.Decisions.{IsDecidedBy, HasDecisions}
 use Rattle.span_machine_laws.proofs.Walks.{Ends, MayRefuse, answer_by}
 use Rattle.span_machine_laws.proofs.Reached.{IsReached, step_reached, start_reached}
@@ -145,3 +146,220 @@ refusal_timely (Close query) why n = tt
 -- the commit of a transaction that is not early has passed
 decided_past : (o : Decision) (interval : Interval) (c : Commit) → is_early interval o ≡ false → o ≡ Committed c.timestamp → c.timestamp < interval.earliest
 decided_past o interval c early is = not_late interval.earliest c.timestamp (sym (ap (is_early interval) is) ∙ early)
+
+-- a commit timestamp is above the latest time that it may be now
+after_latest : (latest prepared last : ℕ) → latest < max prepared (max (latest + 1) last)
+after_latest latest prepared last = omega arith
+
+upto_is : (ts s : ℕ) → ts < s → nat_le ts s ≡ true
+upto_is ts s low = grind (arith, nat_tests)
+
+module _ (schema : List Table) (m : Machine) (has : HasDecisions m) where
+  -- the transaction that is applied: its commit, if it has one, has passed
+  found_past : (owner txn : ℕ) (interval : Interval) (t : OpenTransaction) (n : Machine) → find (is_transaction owner txn) m.transactions ≡ Some t → is_undecided t ≡ false → is_early interval t.decision ≡ false → IsNumbered m
+      → IsPast txn interval.earliest m
+  found_past owner txn interval t n found done early numbered =
+      let is : is_transaction owner txn t ≡ true = found_passes (is_transaction owner txn) m.transactions t found in
+      let number : t.number ≡ txn = number_same t.number txn (second_true (t.owner == owner) (t.number == txn) is) in
+      let by : IsDecidedBy m.log t = all_found (IsDecidedBy m.log) (is_transaction owner txn) m.transactions t found has.decided in
+      record {
+        commits = all_weaker (λ (c : Commit). c.number ≡ t.number → t.decision ≡ Committed c.timestamp) (λ (c : Commit). c.number ≡ txn → c.timestamp < interval.earliest)
+            (λ c decides e. decided_past t.decision interval c early (decides (e ∙ sym number))) m.log by;
+        decided = all_places (λ (u : OpenTransaction). u.number ≡ txn → is_undecided u ≡ false) m.transactions
+            (λ u at e. subst (λ (v : OpenTransaction). is_undecided v ≡ false) (same_number m numbered t u (found_in (is_transaction owner txn) m.transactions t found) at (number ∙ sym e)) done);
+        below = subst (λ k. k < m.next_transaction) number (all_found (λ (u : OpenTransaction). u.number < m.next_transaction) (is_transaction owner txn) m.transactions t found numbered.below);
+      }
+
+  module _ (numbered : IsNumbered m) where
+    timely_applied : (o : Decision) (owner txn slot : ℕ) (interval : Interval) (t : OpenTransaction) → find (is_transaction owner txn) m.transactions ≡ Some t → IsPast txn interval.earliest m
+        → IsTimely (Apply owner txn slot interval) (applied_at o m owner txn slot t).0 (applied_at o m owner txn slot t).1
+    timely_applied decision.Undecided owner txn slot interval t found past = tt
+    timely_applied decision.Aborted owner txn slot interval t found past = past_applied schema txn interval.earliest m past decision.Aborted owner txn slot t
+    timely_applied (Committed ts) owner txn slot interval t found past = past_applied schema txn interval.earliest m past (Committed ts) owner txn slot t
+
+    timely_opened : (text : List ℕ) (params : List Parameter) (bound : Bound) (interval : Interval) (asked : Statement)
+        → IsTimely (Open text params bound interval) (opened m asked (timestamp_of bound interval)).0 (opened m asked (timestamp_of bound interval)).1
+    timely_opened text params bound_of.Strong interval asked = refl
+    timely_opened text params (bound_of.At s) interval asked = tt
+    timely_opened text params (bound_of.Staleness d) interval asked = tt
+
+    timely_answer : (query s : ℕ) (r : Result (List rows.Row) Refusal) → IsTimely (Finish query) (answer_on s r) m
+    timely_answer query s r = tt
+
+    timely_ends : (u : Result Statement Refusal) → Ends schema m u (λ step a. IsTimely step a.0 a.1)
+    timely_ends u = record {
+      refuses = λ step why may. refusal_timely step why m;
+      begins = λ owner ms accepted. tt;
+      prepares = λ owner txn slot t slot_state found here accepted well room low. tt;
+      commits = λ owner txn interval t found accepted. after_latest interval.latest (greatest t.prepared) (if_some (slice_get m.slots (coordinator_slot t.prepared)) 0 (λ slot_state. slot_state.last) + 1);
+      aborts = λ owner txn interval t found still. tt;
+      applies = λ owner txn slot interval t slot_state found here accepted.
+          let may = may_apply (is_undecided t) (is_prepared_at slot t) (is_early interval t.decision) accepted in
+          timely_applied t.decision owner txn slot interval t found (found_past owner txn interval t m found may.0 may.2 numbered);
+      advances = λ slot interval slot_state here. tt;
+      trims = λ slot h slot_state here accepted. tt;
+      opens = λ text params bound interval asked is accepted. timely_opened text params bound interval asked;
+      finds_nothing = λ query leaf slot interval. tt;
+      scans = λ query leaf slot interval q slot_state found here above safe. tt;
+      waits = λ query leaf slot interval q slot_state found here. tt;
+      finishes = λ query q found covered. timely_answer query q.s (meaning schema m q);
+      closes = λ query q found. tt;
+    }
+
+-- one step, out of memory included
+step_timely : (understands : Understanding) (schema : List Table) (m : Machine) (step : Step) (r : Reply) (next : Machine) → Steps understands schema m step r next → IsReached schema m → IsTimely step r next
+step_timely understands schema m step r next (inl e) reached =
+    subst (λ x. IsTimely step x next) (sym e.2.0) (subst (λ n. IsTimely step (answer schema m e.0 step).0 n) (sym e.2.1)
+    (answer_by schema m e.0 (λ s a. IsTimely s a.0 a.1) (timely_ends schema m reached.decisions reached.numbered e.0) step))
+step_timely understands schema m step r next (inr e) reached = subst (λ x. IsTimely step x next) (sym e.1.0) (refusal_timely step refusal.OutOfMemory next)
+
+-- ---- places of a run
+
+-- the step at a place, and the run after it
+pub record Taken (understands : Understanding) (schema : List Table) (last : Machine) (step : Step) (r : Reply) : Type 0 where
+  pub next : Machine
+  pub timely : IsTimely step r next
+  pub steps : List Step
+  pub replies : List Reply
+  pub rest : Run understands schema next steps replies last
+
+module _ (understands : Understanding) (schema : List Table) (rules : MeetsRules schema) where
+  taken_at : (m : Machine) (steps : List Step) (replies : List Reply) (last : Machine) → Run understands schema m steps replies last → AreOfSchema schema steps → IsReached schema m
+      → (place : ℕ) (step : Step) (r : Reply) → IsAt steps replies place step r → Taken understands schema last step r
+  taken_at m [] replies last run of reached place step r at = absurd (cc (at.0))
+  taken_at m (s ∷ ss) [] last run of reached place step r at = absurd run
+  taken_at m (s ∷ ss) (x ∷ xs) last run of reached zero step r at =
+      let same : s ≡ step = (let e = at.0 in cc) in
+      let alike : x ≡ r = (let e = at.1 in cc) in
+      record {
+        next = run.0;
+        timely = subst (λ y. IsTimely step y run.0) alike (subst (λ y. IsTimely y x run.0) same (step_timely understands schema m s x run.0 run.1 reached));
+        steps = ss;
+        replies = xs;
+        rest = run.2;
+      }
+  taken_at m (s ∷ ss) (x ∷ xs) last run of reached (suc place) step r at =
+      taken_at run.0 ss xs last run.2 of.1 (step_reached schema rules understands m s x run.0 run.1 of.0 reached) place step r at
+
+-- ---- true times
+
+-- a true time of a step, from another one on
+abbrev pub HasTimeFrom : ℕ → Step → Type 0
+HasTimeFrom from step = (time : ℕ) × (from ≤ time) × MayBeTakenAt step time
+
+time_at : (from : ℕ) (steps : List Step) (times : List ℕ) → AreTrueTimes from steps times → (j : ℕ) (step : Step) → slice_get steps j ≡ Some step → HasTimeFrom from step
+time_at from [] times all j step at = absurd (cc (at))
+time_at from (s ∷ ss) [] all j step at = absurd all
+time_at from (s ∷ ss) (t ∷ ts) all zero step at = let same : s ≡ step = cc in (t, all.0, subst (λ y. MayBeTakenAt y t) same all.1)
+time_at from (s ∷ ss) (t ∷ ts) all (suc j) step at =
+    let rest = time_at t ss ts all.2 j step at in
+    (rest.0, let first = all.0 in let then_on = rest.1 in omega arith, rest.2)
+
+-- the true time of a step, and that of a later one
+times_at : (from : ℕ) (steps : List Step) (times : List ℕ) → AreTrueTimes from steps times → (i j : ℕ) (a b : Step) → i < j → slice_get steps i ≡ Some a → slice_get steps j ≡ Some b
+    → (time : ℕ) × MayBeTakenAt a time × HasTimeFrom time b
+times_at from [] times all i j a b low at there = absurd (cc (at))
+times_at from (s ∷ ss) [] all i j a b low at there = absurd all
+times_at from (s ∷ ss) (t ∷ ts) all i zero a b low at there = absurd (omega arith)
+times_at from (s ∷ ss) (t ∷ ts) all zero (suc j) a b low at there = let same : s ≡ a = cc in (t, subst (λ y. MayBeTakenAt y t) same all.1, time_at t ss ts all.2 j b there)
+times_at from (s ∷ ss) (t ∷ ts) all (suc i) (suc j) a b low at there = times_at t ss ts all.2 i j a b (omega arith) at there
+
+-- ---- the commits that a query sees
+
+in_from_contains : {A : Type 0} (xs : List A) (x : A) → Contains xs x → (P : A → Type 0) → AllByRecursion P xs → P x
+in_from_contains xs x is P all = All-contains P xs x (All-from_recursion P xs all) is
+
+contains_from_in : {A : Type 0} (xs : List A) (x : A) → IsIn x xs → Contains xs x
+contains_from_in xs x is = (is.0, slice_get_within xs is.0 x is.1, get_or_from_slice_get xs is.0 x x is.1)
+
+in_after : {A : Type 0} (xs : List A) (x y : A) → IsIn x xs → IsIn x (y ∷ xs)
+in_after xs x y is = (suc is.0, is.1)
+
+-- what was placed, and what was there
+in_placed : {A : Type 0} (before : A → A → Bool) (y : A) (xs : List A) → IsIn y (placed before y xs)
+in_placed before y [] = (0, refl)
+in_placed before y (x ∷ xs) = elim (before y x) as (λ b. IsIn y (cond b (y ∷ x ∷ xs) (x ∷ placed before y xs))) [
+  | true ↦ (0, refl)
+  | false ↦ in_after (placed before y xs) y x (in_placed before y xs)
+]
+
+still_placed : {A : Type 0} (before : A → A → Bool) (y : A) (xs : List A) (x : A) → IsIn x xs → IsIn x (placed before y xs)
+still_placed before y [] x is = absurd (cc (is.1))
+still_placed before y (z ∷ zs) x is = elim (before y z) as (λ b. IsIn x (cond b (y ∷ z ∷ zs) (z ∷ placed before y zs))) [
+  | true ↦ in_after (z ∷ zs) x y is
+  | false ↦ kept_after zs (placed before y zs) x z (still_placed before y zs x) is.0 is.1
+]
+
+in_sorted : {A : Type 0} (before : A → A → Bool) (xs : List A) (x : A) → IsIn x xs → IsIn x (in_order before xs)
+in_sorted before [] x is = is
+in_sorted before (y ∷ ys) x (zero, e) = let same : y ≡ x = cc in subst (λ z. IsIn z (placed before y (in_order before ys))) same (in_placed before y (in_order before ys))
+in_sorted before (y ∷ ys) x (suc i, e) = still_placed before y (in_order before ys) x (in_sorted before ys x (i, e))
+
+in_filtered : {A : Type 0} (test : A → Bool) (xs : List A) (x : A) → test x ≡ true → IsIn x xs → IsIn x (filter test xs)
+in_filtered test [] x passes is = is
+in_filtered test (y ∷ ys) x passes (zero, e) = let same : x ≡ y = cc in let first : test y ≡ true = ap test (sym same) ∙ passes in rw first (0, ap (λ z. Some z) (sym same))
+in_filtered test (y ∷ ys) x passes (suc i, e) = elim (test y) as (λ b. IsIn x (cond b (y ∷ filter test ys) (filter test ys))) [
+  | true ↦ in_after (filter test ys) x y (in_filtered test ys x passes (i, e))
+  | false ↦ in_filtered test ys x passes (i, e)
+]
+
+-- a commit at s or earlier is among those that make the tables at s
+seen_at : (log : List Commit) (c : Commit) (s : ℕ) → Contains log c → c.timestamp < s → Contains (upto log s) c
+seen_at log c s is low =
+    in_from_contains log c is (λ d. nat_le d.timestamp s ≡ true → Contains (upto log s) d)
+    (all_places (λ d. nat_le d.timestamp s ≡ true → Contains (upto log s) d) log
+    (λ d at upto_s. contains_from_in (upto log s) d (in_sorted is_before (filter (λ e. nat_le e.timestamp s) log) d (in_filtered (λ e. nat_le e.timestamp s) log d upto_s at))))
+    (upto_is c.timestamp s low)
+
+-- ---- the law
+
+module _ (understands : Understanding) (schema : List Table) (rules : MeetsRules schema) (steps : List Step) (replies : List Reply) (last : Machine) (of : AreOfSchema schema steps) (run : Run understands schema start steps replies last) (honest : HonestClock steps) where
+  here : (place : ℕ) (step : Step) (r : Reply) → IsAt steps replies place step r → Taken understands schema last step r
+  here place step r at = taken_at understands schema rules start steps replies last run of (start_reached schema) place step r at
+
+  -- what is applied has passed by the clock's answer
+  has_passed : (i : ℕ) (c : Commit) → Contains (commits_of steps replies) c → (at : IsAppliedAt steps replies i c) → c.timestamp < at.1.earliest
+  has_passed i c is at =
+      let taken = here i (Apply c.owner c.number at.0 at.1) Applied at.2 in
+      let past : IsPast c.number at.1.earliest last = run_past understands schema c.number at.1.earliest taken.next taken.steps taken.replies last taken.rest taken.timely in
+      let log : last.log ≡ commits_of steps replies = run_log understands schema rules [] [] start steps replies last run of (start_reached schema) (start_known understands) in
+      in_from_contains (commits_of steps replies) c is (λ (d : Commit). d.number ≡ c.number → d.timestamp < at.1.earliest) (subst (λ l. AllByRecursion (λ (d : Commit). d.number ≡ c.number → d.timestamp < at.1.earliest) l) log past.commits) refl
+
+  -- the clock's answer at a later step ends after the earlier one's began
+  in_turn : (i j : ℕ) (a b : Step) → i < j → slice_get steps i ≡ Some a → slice_get steps j ≡ Some b → (time : ℕ) × MayBeTakenAt a time × HasTimeFrom time b
+  in_turn i j a b low at there = times_at 0 steps honest.0 honest.1 i j a b low at there
+
+  before_decided : (i j : ℕ) (a b : Commit) → i < j → Contains (commits_of steps replies) a → IsAppliedAt steps replies i a → IsDecidedAt steps replies j b → a.timestamp < b.timestamp
+  before_decided i j a b low is at there =
+      let passed = has_passed i a is at in
+      let taken = here j (Decide b.owner b.number there.0 there.1) (Decided b.timestamp) there.2 in
+      let timely : there.1.latest < b.timestamp = taken.timely in
+      let times = in_turn i j (Apply a.owner a.number at.0 at.1) (Decide b.owner b.number there.0 there.1) low at.2.0 there.2.0 in
+      let first : at.1.earliest ≤ times.0 = times.1.0 in
+      let later = times.2 in
+      let rises : times.0 ≤ later.0 = later.1 in
+      let ends : later.0 ≤ there.1.latest = later.2.1 in
+      omega arith
+
+  before_opened : (i j : ℕ) (c : Commit) (s : ℕ) → i < j → Contains (commits_of steps replies) c → IsAppliedAt steps replies i c → IsOpenedStrongAt steps replies j s → c.timestamp < s
+  before_opened i j c s low is at there =
+      let passed = has_passed i c is at in
+      let taken = here j (Open there.0 there.1 bound_of.Strong there.2) (Opened there.3 s there.4) there.5 in
+      let timely : s ≡ there.2.latest = taken.timely in
+      let times = in_turn i j (Apply c.owner c.number at.0 at.1) (Open there.0 there.1 bound_of.Strong there.2) low at.2.0 there.5.0 in
+      let first : at.1.earliest ≤ times.0 = times.1.0 in
+      let later = times.2 in
+      let rises : times.0 ≤ later.0 = later.1 in
+      let ends : later.0 ≤ there.2.latest = later.2.1 in
+      omega arith
+
+  consistent : IsExternallyConsistent steps replies
+  consistent = record {
+    decided = before_decided;
+    opened = before_opened;
+    seen = λ i j c s low is at there. seen_at (commits_of steps replies) c s is (before_opened i j c s low is at there);
+  }
+
+-- every run is externally consistent under an honest clock
+pub run_consistent : (understands : Understanding) (schema : List Table) → MeetsRules schema → (steps : List Step) (replies : List Reply) (last : Machine) → AreOfSchema schema steps → Run understands schema start steps replies last → HonestClock steps → IsExternallyConsistent steps replies
+run_consistent understands schema rules steps replies last of run honest = consistent understands schema rules steps replies last of run honest

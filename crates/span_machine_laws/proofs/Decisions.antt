@@ -1,6 +1,6 @@
 -- A transaction is decided once: the log has no commit of its number but the one that its decision says.
 use Rattle.std.proofs.Common.{◌≡◌, ◌≢◌, ℕ, ◌<◌, ◌+◌, zero, suc, Bool, true, false, cond, ◌==◌, List, [], ◌∷◌, ◌++◌, length, Some, refl, ap, sym, ◌∙◌, subst, arith}
-use Rattle.std.specs.Prelude.{slice_get, find, Result}
+use Rattle.std.specs.Prelude.{slice_get, find, nat_le, Result}
 use Rattle.std.specs.List.{AllByRecursion}
 use Rattle.span_schema.specs.declared.table.Table.{Table}
 use Rattle.span_value.specs.declared.refusal.Refusal.{Refusal}
@@ -14,10 +14,9 @@ use Rattle.span_machine.specs.declared.transaction.Decision.{Decision}
 use Rattle.span_machine.specs.declared.transaction.Decision.TheVariants as decision
 use Rattle.span_machine.specs.declared.transaction.Decision.TheVariants.{Committed}
 use Rattle.span_machine.specs.Machine.{Machine, answer, start, changed_first, without_first, undecided, is_undecided, is_transaction, is_all_prepared, with_decision, add_prepared, prepare_timestamp, commit_timestamp, commit_of, commit_refusal, committed, without_prepared, applied_at}
-use Rattle.std.specs.Prelude.{nat_le, None}
 use Rattle.span_machine_laws.proofs.Causes.{may_commit}
 use Rattle.span_machine_laws.proofs.Tests.{not_both}
-use Rattle.span_machine_laws.proofs.Lists.{IsIn, all_push, all_changed, all_changed_found, all_without, all_found, all_weaker}
+use Rattle.span_machine_laws.proofs.Lists.{IsIn, all_push, all_changed, all_changed_found, all_without, all_found, all_weaker, all_places, all_both, changed_in}
 use Rattle.span_machine_laws.proofs.Numbers.{IsNumbered, HaveRisingNumbers, AreBelow, rising_numbers_changed, same_place}
 use Rattle.span_machine_laws.proofs.Walks.{Ends, answer_by}
 
@@ -43,24 +42,6 @@ none_decided log t still all = all_weaker (λ (c : Commit). c.number ≡ t.numbe
 -- with no commit of its number, any decision is as the log says
 undecided_by : (log : List Commit) (t : OpenTransaction) (o : Decision) → AllByRecursion (λ c. c.number ≢ t.number) log → IsDecidedBy log (with_decision o t)
 undecided_by log t o none = all_weaker (λ (c : Commit). c.number ≢ t.number) (λ c. c.number ≡ t.number → o ≡ Committed c.timestamp) (λ c other e. absurd (other e)) log none
-
--- what is changed is in the list
-changed_in : (test : OpenTransaction → Bool) (change : OpenTransaction → OpenTransaction) (ts : List OpenTransaction) (t : OpenTransaction) → find test ts ≡ Some t → IsIn (change t) (changed_first test change ts)
-changed_in test change [] t = λ e. absurd (cc)
-changed_in test change (u ∷ us) t = elim (test u) as (λ b. cond b (Some u) (find test us) ≡ Some t → IsIn (change t) (cond b (change u ∷ us) (u ∷ changed_first test change us))) [
-  | true ↦ λ e. let same : u ≡ t = cc in (0, ap (λ v. Some (change v)) same)
-  | false ↦ λ e. let rest = changed_in test change us t e in (suc rest.0, rest.1)
-]
-
--- every element, by its place
-all_places : {A : Type 0} (P : A → Type 0) (xs : List A) → ((x : A) → IsIn x xs → P x) → AllByRecursion P xs
-all_places P [] each = tt
-all_places P (x ∷ xs) each = (each x (0, refl), all_places P xs (λ y is. each y (suc is.0, is.1)))
-
--- both facts of each element
-all_both : {A : Type 0} (P Q R : A → Type 0) → ((x : A) → P x → Q x → R x) → (xs : List A) → AllByRecursion P xs → AllByRecursion Q xs → AllByRecursion R xs
-all_both P Q R make [] ps qs = tt
-all_both P Q R make (x ∷ xs) ps qs = (make x ps.0 qs.0, all_both P Q R make xs ps.1 qs.1)
 
 -- ---- the steps
 
