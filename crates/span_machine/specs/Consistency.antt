@@ -51,23 +51,41 @@ IsAt steps replies place step reply = (slice_get steps place ≡ Some step) × (
 
 -- the commit is decided here
 abbrev pub IsDecidedAt : List Step → List Reply → ℕ → Commit → Type 0
-IsDecidedAt steps replies place c = (v : Verdict) × (interval : Interval) × IsAt steps replies place (Decide c.owner c.number v interval) (Decided c.timestamp)
+IsDecidedAt steps replies place c =
+    (v : Verdict) × (interval : Interval)
+    × IsAt steps replies place (Decide c.owner c.number v interval) (Decided c.timestamp)
 
 -- the transaction of the commit is applied here, in some slot
 abbrev pub IsAppliedAt : List Step → List Reply → ℕ → Commit → Type 0
-IsAppliedAt steps replies place c = (slot : ℕ) × (interval : Interval) × IsAt steps replies place (Apply c.owner c.number slot interval) Applied
+IsAppliedAt steps replies place c =
+    (slot : ℕ) × (interval : Interval) × IsAt steps replies place (Apply c.owner c.number slot interval) Applied
+
+-- the transaction of the commit is applied, in some slot, before this place
+abbrev pub IsAppliedBefore : List Step → List Reply → ℕ → Commit → Type 0
+IsAppliedBefore steps replies place c = (earlier : ℕ) × (earlier < place) × IsAppliedAt steps replies earlier c
 
 -- a strong query is opened here, at timestamp s
-abbrev pub IsOpenedStrongAt : List Step → List Reply → ℕ → ℕ → Type 0
-IsOpenedStrongAt steps replies place s =
+abbrev pub IsOpenedAt : List Step → List Reply → ℕ → ℕ → Type 0
+IsOpenedAt steps replies place s =
     (text : List ℕ) × (params : List Parameter) × (interval : Interval) × (query : ℕ) × (leaves : ℕ)
     × IsAt steps replies place (Open text params Strong interval) (Opened query s leaves)
 
 -- ---- external consistency
 
--- What is applied, in whatever slot, before another transaction is decided has the smaller timestamp. What is applied before a strong
--- query is opened has a timestamp below the query's, and so is among the commits that make the tables which the query reads.
+-- A commit of the run that is applied before another one is decided has the smaller timestamp.
+abbrev pub AreDecidedInOrder : List Step → List Reply → Type 0
+AreDecidedInOrder steps replies =
+    (place : ℕ) (a b : Commit) → Contains (commits_of steps replies) a → IsAppliedBefore steps replies place a
+    → IsDecidedAt steps replies place b → a.timestamp < b.timestamp
+
+-- A commit of the run that is applied before a strong query is opened has a timestamp below the query's, and so is among the commits
+-- that make the tables which the query reads.
+abbrev pub AreSeen : List Step → List Reply → Type 0
+AreSeen steps replies =
+    (place : ℕ) (c : Commit) (s : ℕ) → Contains (commits_of steps replies) c → IsAppliedBefore steps replies place c
+    → IsOpenedAt steps replies place s → (c.timestamp < s) × Contains (upto (commits_of steps replies) s) c
+
+-- what holds of every run under an honest clock
 pub record IsExternallyConsistent (steps : List Step) (replies : List Reply) : Type 0 where
-  pub decided : (i j : ℕ) (a b : Commit) → i < j → Contains (commits_of steps replies) a → IsAppliedAt steps replies i a → IsDecidedAt steps replies j b → a.timestamp < b.timestamp
-  pub opened : (i j : ℕ) (c : Commit) (s : ℕ) → i < j → Contains (commits_of steps replies) c → IsAppliedAt steps replies i c → IsOpenedStrongAt steps replies j s → c.timestamp < s
-  pub seen : (i j : ℕ) (c : Commit) (s : ℕ) → i < j → Contains (commits_of steps replies) c → IsAppliedAt steps replies i c → IsOpenedStrongAt steps replies j s → Contains (upto (commits_of steps replies) s) c
+  pub ordered : AreDecidedInOrder steps replies
+  pub seen : AreSeen steps replies

@@ -1,15 +1,13 @@
--- Every run is externally consistent under an honest clock.
-use Rattle.std.proofs.Common.{◌≡◌, ◌≢◌, ℕ, ◌<◌, ◌+◌, ◌≤◌, zero, suc, max, Bool, true, false, cond, nat_le, List, [], ◌∷◌, ◌++◌, length, Option, Some, None, Result, refl, ap, sym, ◌∙◌, subst, inl, inr, ◌⊎◌, ◌==◌, arith}
+-- Every history is externally consistent under an honest clock.
+use Rattle.std.proofs.Common.{◌≡◌, ℕ, ◌<◌, ◌+◌, ◌≤◌, zero, suc, max, Bool, true, false, cond, nat_le, List, [], ◌∷◌, length, Some, Result, refl, ap, sym, ◌∙◌, subst, inl, inr, ◌==◌, arith}
 use Rattle.std.specs.Prelude.{slice_get, find, filter}
 use Rattle.std.specs.List.{AllByRecursion, Contains}
 use Rattle.std.proofs.lemmas.Bool.Decides.{nat_tests}
 use Rattle.std.proofs.lemmas.Option.{slice_get_within, get_or_from_slice_get}
 use Rattle.std.proofs.lemmas.List.Elements.{All-from_recursion, All-contains}
 use Rattle.span_schema.specs.declared.table.Table.{Table}
-use Rattle.span_schema.specs.Lineages.{MeetsRules}
 use Rattle.span_value.specs.declared.refusal.Refusal.{Refusal}
 use Rattle.span_value.specs.declared.refusal.Refusal.TheVariants as refusal
-use Rattle.span_mutate.specs.declared.mutation.CheckedMutation.{CheckedMutation}
 use Rattle.span_query.specs.declared.query.Statement.{Statement}
 use Rattle.span_query.specs.Rows as rows
 use Rattle.span_params.specs.declared.params.Parameter.{Parameter}
@@ -21,7 +19,6 @@ use Rattle.span_truetime.specs.Time.{timestamp_of}
 use Rattle.span_machine.specs.declared.step.Step.{Step}
 use Rattle.span_machine.specs.declared.step.Step.TheVariants.{Begin, Prepare, Decide, Apply, Advance, Trim, Open, Scan, Finish, Close}
 use Rattle.span_machine.specs.declared.step.Reply.{Reply}
-use Rattle.span_machine.specs.declared.step.Reply.TheVariants as reply
 use Rattle.span_machine.specs.declared.step.Reply.TheVariants.{Refused, Decided, Applied, Opened}
 use Rattle.span_machine.specs.declared.transaction.Commit.{Commit}
 use Rattle.span_machine.specs.declared.transaction.OpenTransaction.{OpenTransaction}
@@ -29,20 +26,17 @@ use Rattle.span_machine.specs.declared.transaction.Decision.{Decision}
 use Rattle.span_machine.specs.declared.transaction.Decision.TheVariants as decision
 use Rattle.span_machine.specs.declared.transaction.Decision.TheVariants.{Committed}
 use Rattle.span_machine.specs.Commits.{commits_of}
-use Rattle.span_machine.specs.Consistency.{IsWithin, MayBeTakenAt, AreTrueTimes, HonestClock, IsAt, IsAppliedAt, IsDecidedAt, IsOpenedStrongAt, IsExternallyConsistent}
-use Rattle.span_machine.specs.Machine.{Machine, Answer, Understanding, Steps, answer, start, changed_first, without_first, undecided, is_undecided, is_early, is_transaction, is_prepared_at, is_all_prepared, with_decision, add_prepared, greatest, coordinator_slot, if_some, prepare_timestamp, commit_timestamp, commit_of, commit_refusal, committed, without_prepared, applied_at, apply_refusal, answer_on, meaning, opened}
-use Rattle.span_machine.specs.Run.{Run, IsOfSchema, AreOfSchema}
+use Rattle.span_machine.specs.Consistency.{MayBeTakenAt, AreTrueTimes, HonestClock, IsAt, IsAppliedAt, AreDecidedInOrder, AreSeen, IsExternallyConsistent}
+use Rattle.span_machine.specs.Machine.{Machine, Understanding, Steps, answer, start, changed_first, without_first, is_undecided, is_early, is_transaction, is_prepared_at, is_all_prepared, with_decision, add_prepared, greatest, coordinator_slot, if_some, prepare_timestamp, commit_timestamp, commit_of, committed, without_prepared, applied_at, answer_on, meaning, opened}
+use Rattle.span_machine.specs.Run.{Run, IsHistory}
 use Rattle.span_machine.specs.Sorting.{placed, in_order}
 use Rattle.span_machine.specs.Tables.{is_before, upto}
 use Rattle.span_machine_laws.proofs.Causes.{may_commit, may_apply}
 use Rattle.span_machine_laws.proofs.Tests.{not_both, not_late, second_true, number_same}
 use Rattle.span_machine_laws.proofs.Numbers.{IsNumbered, same_number}
 use Rattle.span_machine_laws.proofs.Lists.{IsIn, found_in, found_passes, kept_after, all_push, all_changed, all_without, all_found, all_weaker, all_places}
-use Rattle.span_machine_laws.proofs.Decisions.{IsDecidedBy, HasDecisions}
-use Rattle.span_machine_laws.proofs.Walks.{Ends, MayRefuse, answer_by}
-use Rattle.span_machine_laws.proofs.Reached.{IsReached, step_reached, start_reached}
-use Rattle.span_machine_laws.proofs.History.{run_log}
-use Rattle.span_machine_laws.proofs.Known.{start_known}
+use Rattle.span_machine_laws.proofs.Decisions.{IsDecidedBy, HasDecisions, IsOrderly, step_orderly, start_orderly}
+use Rattle.span_machine_laws.proofs.Walks.{Ends, answer_by}
 
 -- ---- what has surely passed
 
@@ -207,11 +201,11 @@ module _ (schema : List Table) (m : Machine) (has : HasDecisions m) where
     }
 
 -- one step, out of memory included
-step_timely : (understands : Understanding) (schema : List Table) (m : Machine) (step : Step) (r : Reply) (next : Machine) → Steps understands schema m step r next → IsReached schema m → IsTimely step r next
-step_timely understands schema m step r next (inl e) reached =
+step_timely : (understands : Understanding) (schema : List Table) (m : Machine) (step : Step) (r : Reply) (next : Machine) → Steps understands schema m step r next → IsOrderly m → IsTimely step r next
+step_timely understands schema m step r next (inl e) orderly =
     subst (λ x. IsTimely step x next) (sym e.2.0) (subst (λ n. IsTimely step (answer schema m e.0 step).0 n) (sym e.2.1)
-    (answer_by schema m e.0 (λ s a. IsTimely s a.0 a.1) (timely_ends schema m reached.decisions reached.numbered e.0) step))
-step_timely understands schema m step r next (inr e) reached = subst (λ x. IsTimely step x next) (sym e.1.0) (refusal_timely step refusal.OutOfMemory next)
+    (answer_by schema m e.0 (λ s a. IsTimely s a.0 a.1) (timely_ends schema m orderly.decisions orderly.numbered e.0) step))
+step_timely understands schema m step r next (inr e) orderly = subst (λ x. IsTimely step x next) (sym e.1.0) (refusal_timely step refusal.OutOfMemory next)
 
 -- ---- places of a run
 
@@ -223,23 +217,22 @@ pub record Taken (understands : Understanding) (schema : List Table) (last : Mac
   pub replies : List Reply
   pub rest : Run understands schema next steps replies last
 
-module _ (understands : Understanding) (schema : List Table) (rules : MeetsRules schema) where
-  taken_at : (m : Machine) (steps : List Step) (replies : List Reply) (last : Machine) → Run understands schema m steps replies last → AreOfSchema schema steps → IsReached schema m
-      → (place : ℕ) (step : Step) (r : Reply) → IsAt steps replies place step r → Taken understands schema last step r
-  taken_at m [] replies last run of reached place step r at = absurd (cc (at.0))
-  taken_at m (s ∷ ss) [] last run of reached place step r at = absurd run
-  taken_at m (s ∷ ss) (x ∷ xs) last run of reached zero step r at =
+module _ (understands : Understanding) (schema : List Table) where
+  taken_at : (m : Machine) (steps : List Step) (replies : List Reply) (last : Machine) → Run understands schema m steps replies last → IsOrderly m → (place : ℕ) (step : Step) (r : Reply) → IsAt steps replies place step r
+      → Taken understands schema last step r
+  taken_at m [] replies last run orderly place step r at = absurd (cc (at.0))
+  taken_at m (s ∷ ss) [] last run orderly place step r at = absurd run
+  taken_at m (s ∷ ss) (x ∷ xs) last run orderly zero step r at =
       let same : s ≡ step = (let e = at.0 in cc) in
       let alike : x ≡ r = (let e = at.1 in cc) in
       record {
         next = run.0;
-        timely = subst (λ y. IsTimely step y run.0) alike (subst (λ y. IsTimely y x run.0) same (step_timely understands schema m s x run.0 run.1 reached));
+        timely = subst (λ y. IsTimely step y run.0) alike (subst (λ y. IsTimely y x run.0) same (step_timely understands schema m s x run.0 run.1 orderly));
         steps = ss;
         replies = xs;
         rest = run.2;
       }
-  taken_at m (s ∷ ss) (x ∷ xs) last run of reached (suc place) step r at =
-      taken_at run.0 ss xs last run.2 of.1 (step_reached schema rules understands m s x run.0 run.1 of.0 reached) place step r at
+  taken_at m (s ∷ ss) (x ∷ xs) last run orderly (suc place) step r at = taken_at run.0 ss xs last run.2 (step_orderly understands schema m s x run.0 run.1 orderly) place step r at
 
 -- ---- true times
 
@@ -313,53 +306,54 @@ seen_at log c s is low =
 
 -- ---- the law
 
-module _ (understands : Understanding) (schema : List Table) (rules : MeetsRules schema) (steps : List Step) (replies : List Reply) (last : Machine) (of : AreOfSchema schema steps) (run : Run understands schema start steps replies last) (honest : HonestClock steps) where
-  here : (place : ℕ) (step : Step) (r : Reply) → IsAt steps replies place step r → Taken understands schema last step r
-  here place step r at = taken_at understands schema rules start steps replies last run of (start_reached schema) place step r at
+module _ (understands : Understanding) (schema : List Table) (steps : List Step) (replies : List Reply) (history : IsHistory understands schema steps replies) (honest : HonestClock steps) where
+  here : (place : ℕ) (step : Step) (r : Reply) → IsAt steps replies place step r → Taken understands schema history.last step r
+  here place step r at = taken_at understands schema start steps replies history.last history.run start_orderly place step r at
 
   -- what is applied has passed by the clock's answer
   has_passed : (i : ℕ) (c : Commit) → Contains (commits_of steps replies) c → (at : IsAppliedAt steps replies i c) → c.timestamp < at.1.earliest
   has_passed i c is at =
       let taken = here i (Apply c.owner c.number at.0 at.1) Applied at.2 in
-      let past : IsPast c.number at.1.earliest last = run_past understands schema c.number at.1.earliest taken.next taken.steps taken.replies last taken.rest taken.timely in
-      let log : last.log ≡ commits_of steps replies = run_log understands schema rules [] [] start steps replies last run of (start_reached schema) (start_known understands) in
-      in_from_contains (commits_of steps replies) c is (λ (d : Commit). d.number ≡ c.number → d.timestamp < at.1.earliest) (subst (λ l. AllByRecursion (λ (d : Commit). d.number ≡ c.number → d.timestamp < at.1.earliest) l) log past.commits) refl
+      let past : IsPast c.number at.1.earliest history.last = run_past understands schema c.number at.1.earliest taken.next taken.steps taken.replies history.last taken.rest taken.timely in
+      in_from_contains (commits_of steps replies) c is (λ (d : Commit). d.number ≡ c.number → d.timestamp < at.1.earliest)
+      (subst (λ l. AllByRecursion (λ (d : Commit). d.number ≡ c.number → d.timestamp < at.1.earliest) l) history.log past.commits) refl
 
   -- the clock's answer at a later step ends after the earlier one's began
   in_turn : (i j : ℕ) (a b : Step) → i < j → slice_get steps i ≡ Some a → slice_get steps j ≡ Some b → (time : ℕ) × MayBeTakenAt a time × HasTimeFrom time b
   in_turn i j a b low at there = times_at 0 steps honest.0 honest.1 i j a b low at there
 
-  before_decided : (i j : ℕ) (a b : Commit) → i < j → Contains (commits_of steps replies) a → IsAppliedAt steps replies i a → IsDecidedAt steps replies j b → a.timestamp < b.timestamp
-  before_decided i j a b low is at there =
-      let passed = has_passed i a is at in
+  in_order_of_time : AreDecidedInOrder steps replies
+  in_order_of_time j a b is before there =
+      let i = before.0 in
+      let at : IsAppliedAt steps replies i a = before.2 in
+      let passed : a.timestamp < at.1.earliest = has_passed i a is at in
       let taken = here j (Decide b.owner b.number there.0 there.1) (Decided b.timestamp) there.2 in
       let timely : there.1.latest < b.timestamp = taken.timely in
-      let times = in_turn i j (Apply a.owner a.number at.0 at.1) (Decide b.owner b.number there.0 there.1) low at.2.0 there.2.0 in
+      let times = in_turn i j (Apply a.owner a.number at.0 at.1) (Decide b.owner b.number there.0 there.1) before.1 at.2.0 there.2.0 in
       let first : at.1.earliest ≤ times.0 = times.1.0 in
       let later = times.2 in
       let rises : times.0 ≤ later.0 = later.1 in
       let ends : later.0 ≤ there.1.latest = later.2.1 in
       omega arith
 
-  before_opened : (i j : ℕ) (c : Commit) (s : ℕ) → i < j → Contains (commits_of steps replies) c → IsAppliedAt steps replies i c → IsOpenedStrongAt steps replies j s → c.timestamp < s
-  before_opened i j c s low is at there =
-      let passed = has_passed i c is at in
+  all_seen : AreSeen steps replies
+  all_seen j c s is before there =
+      let i = before.0 in
+      let at : IsAppliedAt steps replies i c = before.2 in
+      let passed : c.timestamp < at.1.earliest = has_passed i c is at in
       let taken = here j (Open there.0 there.1 bound_of.Strong there.2) (Opened there.3 s there.4) there.5 in
       let timely : s ≡ there.2.latest = taken.timely in
-      let times = in_turn i j (Apply c.owner c.number at.0 at.1) (Open there.0 there.1 bound_of.Strong there.2) low at.2.0 there.5.0 in
+      let times = in_turn i j (Apply c.owner c.number at.0 at.1) (Open there.0 there.1 bound_of.Strong there.2) before.1 at.2.0 there.5.0 in
       let first : at.1.earliest ≤ times.0 = times.1.0 in
       let later = times.2 in
       let rises : times.0 ≤ later.0 = later.1 in
       let ends : later.0 ≤ there.2.latest = later.2.1 in
-      omega arith
+      let low : c.timestamp < s = omega arith in
+      (low, seen_at (commits_of steps replies) c s is low)
 
-  consistent : IsExternallyConsistent steps replies
-  consistent = record {
-    decided = before_decided;
-    opened = before_opened;
-    seen = λ i j c s low is at there. seen_at (commits_of steps replies) c s is (before_opened i j c s low is at there);
-  }
-
--- every run is externally consistent under an honest clock
-pub run_consistent : (understands : Understanding) (schema : List Table) → MeetsRules schema → (steps : List Step) (replies : List Reply) (last : Machine) → AreOfSchema schema steps → Run understands schema start steps replies last → HonestClock steps → IsExternallyConsistent steps replies
-run_consistent understands schema rules steps replies last of run honest = consistent understands schema rules steps replies last of run honest
+-- every history is externally consistent under an honest clock
+pub history_consistent : (understands : Understanding) (schema : List Table) (steps : List Step) (replies : List Reply) → IsHistory understands schema steps replies → HonestClock steps → IsExternallyConsistent steps replies
+history_consistent understands schema steps replies history honest = record {
+  ordered = in_order_of_time understands schema steps replies history honest;
+  seen = all_seen understands schema steps replies history honest;
+}

@@ -1,23 +1,23 @@
 -- A transaction is decided once: the log has no commit of its number but the one that its decision says.
-use Rattle.std.proofs.Common.{◌≡◌, ◌≢◌, ℕ, ◌<◌, ◌+◌, zero, suc, Bool, true, false, cond, ◌==◌, List, [], ◌∷◌, ◌++◌, length, Some, refl, ap, sym, ◌∙◌, subst, arith}
+use Rattle.std.proofs.Common.{◌≡◌, ◌≢◌, ℕ, ◌<◌, ◌+◌, Bool, true, false, cond, ◌==◌, List, [], ◌∷◌, ◌++◌, length, Some, refl, ap, sym, subst, inl, inr, arith}
 use Rattle.std.specs.Prelude.{slice_get, find, nat_le, Result}
 use Rattle.std.specs.List.{AllByRecursion}
 use Rattle.span_schema.specs.declared.table.Table.{Table}
 use Rattle.span_value.specs.declared.refusal.Refusal.{Refusal}
 use Rattle.span_query.specs.declared.query.Statement.{Statement}
-use Rattle.span_truetime.specs.declared.interval.Interval.{Interval}
 use Rattle.span_truetime.specs.Limits.{timestamp_end}
 use Rattle.span_machine.specs.declared.step.Step.{Step}
+use Rattle.span_machine.specs.declared.step.Reply.{Reply}
 use Rattle.span_machine.specs.declared.transaction.Commit.{Commit}
 use Rattle.span_machine.specs.declared.transaction.OpenTransaction.{OpenTransaction}
 use Rattle.span_machine.specs.declared.transaction.Decision.{Decision}
 use Rattle.span_machine.specs.declared.transaction.Decision.TheVariants as decision
 use Rattle.span_machine.specs.declared.transaction.Decision.TheVariants.{Committed}
-use Rattle.span_machine.specs.Machine.{Machine, answer, start, changed_first, without_first, undecided, is_undecided, is_transaction, is_all_prepared, with_decision, add_prepared, prepare_timestamp, commit_timestamp, commit_of, commit_refusal, committed, without_prepared, applied_at}
+use Rattle.span_machine.specs.Machine.{Machine, Understanding, Steps, answer, start, changed_first, without_first, undecided, is_undecided, is_transaction, is_all_prepared, with_decision, add_prepared, prepare_timestamp, commit_timestamp, commit_of, committed, without_prepared, applied_at}
 use Rattle.span_machine_laws.proofs.Causes.{may_commit}
 use Rattle.span_machine_laws.proofs.Tests.{not_both}
 use Rattle.span_machine_laws.proofs.Lists.{IsIn, all_push, all_changed, all_changed_found, all_without, all_found, all_weaker, all_places, all_both, changed_in}
-use Rattle.span_machine_laws.proofs.Numbers.{IsNumbered, HaveRisingNumbers, AreBelow, rising_numbers_changed, same_place}
+use Rattle.span_machine_laws.proofs.Numbers.{IsNumbered, HaveRisingNumbers, rising_numbers_changed, same_place, answer_numbered, start_numbered}
 use Rattle.span_machine_laws.proofs.Walks.{Ends, answer_by}
 
 -- the log's commits of the transaction's number are what its decision says
@@ -28,6 +28,11 @@ IsDecidedBy log t = AllByRecursion (λ c. c.number ≡ t.number → t.decision �
 pub record HasDecisions (m : Machine) : Type 0 where
   pub decided : AllByRecursion (IsDecidedBy m.log) m.transactions
   pub below : AllByRecursion (λ c. c.number < m.next_transaction) m.log
+
+-- the numbers of transactions are each given once, and each is decided once
+pub record IsOrderly (m : Machine) : Type 0 where
+  pub numbered : IsNumbered m
+  pub decisions : HasDecisions m
 
 -- ---- small facts
 
@@ -130,8 +135,16 @@ module _ (schema : List Table) (m : Machine) (numbered : IsNumbered m) (has : Ha
   }
 
 -- every step keeps the decisions
-pub answer_decisions : (schema : List Table) (m : Machine) (u : Result Statement Refusal) → IsNumbered m → HasDecisions m → (step : Step) → HasDecisions (answer schema m u step).1
-answer_decisions schema m u numbered has step = answer_by schema m u (λ s a. HasDecisions a.1) (decisions_ends schema m numbered has u) step
+answer_orderly : (schema : List Table) (m : Machine) (u : Result Statement Refusal) → IsOrderly m → (step : Step) → IsOrderly (answer schema m u step).1
+answer_orderly schema m u orderly step = record {
+  numbered = answer_numbered schema m u orderly.numbered step;
+  decisions = answer_by schema m u (λ s a. HasDecisions a.1) (decisions_ends schema m orderly.numbered orderly.decisions u) step;
+}
 
-pub start_decisions : HasDecisions start
-start_decisions = record { decided = tt; below = tt }
+-- one step, out of memory included
+pub step_orderly : (understands : Understanding) (schema : List Table) (m : Machine) (step : Step) (r : Reply) (next : Machine) → Steps understands schema m step r next → IsOrderly m → IsOrderly next
+step_orderly understands schema m step r next (inl e) orderly = subst IsOrderly (sym e.2.1) (answer_orderly schema m e.0 orderly step)
+step_orderly understands schema m step r next (inr e) orderly = subst IsOrderly (sym e.1.1) orderly
+
+pub start_orderly : IsOrderly start
+start_orderly = record { numbered = start_numbered; decisions = record { decided = tt; below = tt } }

@@ -23,7 +23,6 @@ use Rattle.span_machine_laws.proofs.Schemas.{IsBySchema, answer_by_schema, start
 use Rattle.span_machine_laws.proofs.Placed.{answer_placed, start_placed}
 use Rattle.span_machine_laws.proofs.Numbers.{IsNumbered, answer_numbered, start_numbered}
 use Rattle.span_machine_laws.proofs.Holdings.{AreHolding, answer_holding, start_holding}
-use Rattle.span_machine_laws.proofs.Decisions.{HasDecisions, answer_decisions, start_decisions}
 use Rattle.span_machine_laws.proofs.Sound.{IsSound, answer_sound, start_sound}
 use Rattle.span_machine_laws.proofs.Horizons.{HasHorizons, answer_horizons, start_horizons}
 
@@ -32,7 +31,6 @@ pub record IsReached (schema : List Table) (m : Machine) : Type 0 where
   pub by_schema : IsBySchema schema m
   pub numbered : IsNumbered m
   pub holding : AreHolding m
-  pub decisions : HasDecisions m
   pub placed : (root : Root) → IsRoot schema root → IsInPlace schema root 0 m
   pub sound : IsSound schema m
   pub horizons : HasHorizons schema m
@@ -42,7 +40,6 @@ start_reached schema = record {
   by_schema = start_by_schema schema;
   numbered = start_numbered;
   holding = start_holding;
-  decisions = start_decisions;
   placed = λ root is. start_placed schema root;
   sound = start_sound schema;
   horizons = start_horizons schema;
@@ -54,7 +51,6 @@ module _ (schema : List Table) (rules : MeetsRules schema) where
     by_schema = answer_by_schema schema m u reached.by_schema step of;
     numbered = answer_numbered schema m u reached.numbered step;
     holding = answer_holding schema m u reached.holding step;
-    decisions = answer_decisions schema m u reached.numbered reached.decisions step;
     placed = λ root is. answer_placed schema rules root is 0 m u reached.by_schema (reached.placed root is) step;
     sound = answer_sound schema m u reached.sound step;
     horizons = answer_horizons schema m u reached.sound reached.horizons step;

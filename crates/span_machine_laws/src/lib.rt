@@ -2,9 +2,8 @@
 //!
 //! `proofs/` shows, step by step, that a commit touches only the directories of its mutations (Locality), that what is at or below a
 //! slot's safe time is final (Sealed), that the commits of a directory rise along the log (InPlace, Claims, Placed), that the log is
-//! just what the replies commit (Known), and so that every run of the machine is a history; and that what is applied stays decided
-//! (Decisions), and so that every run is externally consistent under an honest clock (Consistent). The crates with code cite these
-//! laws.
+//! just what the replies commit (Known), and so that every run of the machine is a history; that each transaction is decided once
+//! (Decisions), and so that a history is externally consistent under an honest clock (Consistent). The crates with code cite these laws.
 #![tactic(auto)]
 
 ghost use Rattle.std.specs.Prelude.{List};
@@ -39,14 +38,12 @@ pub fn runs_are_histories<U: Understanding>()
         → IsHistory U.understands schema steps replies }
 {}
 
-/// External consistency, for any language: if the clock's answers in a run's steps are honest, then what is applied before another
-/// transaction is decided has the smaller timestamp, and what is applied before a strong query is opened is among what it sees.
-pub fn runs_are_externally_consistent<U: Understanding>()
-    ensures { (schema : List Table)
-        → MeetsRules schema
-        → (steps : List Step) (replies : List Reply) (last : Machine)
-        → AreOfSchema schema steps
-        → Run U.understands schema start steps replies last
+/// External consistency, for any language: where the clock's answers in the steps of a history are honest, a commit that is applied
+/// before another one is decided has the smaller timestamp, and one that is applied before a strong query is opened is among those that
+/// the query sees.
+pub fn histories_are_consistent<U: Understanding>()
+    ensures { (schema : List Table) (steps : List Step) (replies : List Reply)
+        → IsHistory U.understands schema steps replies
         → HonestClock steps
         → IsExternallyConsistent steps replies }
 {}
