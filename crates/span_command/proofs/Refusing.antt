@@ -94,6 +94,7 @@ joined (b ∷ v) w h k (suc i) l e = joined v w (λ n m. h (suc n) (omega arith)
 bound_word : (b : Bound) → BoundFits b → IsWord (bound_text b)
 bound_word bound.Strong fits = word_of (codes "strong") (omega arith) refl
 bound_word (bound.At s) fits = ((λ none. cc none), joined (codes "at:") (decimal s) (spaceless (codes "at:") refl) (decimal_word s fits).1)
+bound_word (bound.Staleness d) fits = ((λ none. cc none), joined (codes "stale:") (decimal d) (spaceless (codes "stale:") refl) (decimal_word d fits).1)
 
 -- a name is a word
 word_byte : (b : ℕ) → is_word b ≡ true → b ≢ 32

@@ -6,7 +6,7 @@ use Rattle.span_lexer.specs.Characters.{begins, is_letter, is_word}
 use Rattle.span_lexer.specs.Lexing.{longest_word}
 use Rattle.std.specs.List.{list_all}
 use Rattle.span_truetime.specs.declared.bound.Bound.{Bound}
-use Rattle.span_truetime.specs.declared.bound.Bound.TheVariants.{Strong, At}
+use Rattle.span_truetime.specs.declared.bound.Bound.TheVariants.{Strong, At, Staleness}
 use Rattle.span_value.specs.declared.value.Kind.{Kind}
 use Rattle.span_value.specs.declared.value.Kind.TheVariants as kind
 
@@ -38,11 +38,13 @@ AreThree words a b c = (a < 2 ^ 64) × (b < 2 ^ 64) × (c < 2 ^ 64) × (words �
 abbrev pub bound_text : Bound → List ℕ
 bound_text Strong = codes "strong"
 bound_text (At s) = codes "at:" ++ decimal s
+bound_text (Staleness d) = codes "stale:" ++ decimal d
 
--- the timestamp of a bound fits in 64 bits
+-- the number of a bound fits in 64 bits
 abbrev pub BoundFits : Bound → Type 0
 BoundFits Strong = Unit {0}
 BoundFits (At s) = s < 2 ^ 64
+BoundFits (Staleness d) = d < 2 ^ 64
 
 -- the word is that of the bound
 abbrev pub IsBound : List ℕ → Bound → Type 0

@@ -47,15 +47,18 @@ pub fn three_numbers(words: &str) -> Option<(u64, u64, u64)>
     Some((first, second, third))
 }
 
-/// The bound that a word writes: `strong`, or `at:` and a number.
+/// The bound that a word writes: `strong`, or `at:` or `stale:` and a number.
 pub fn bound_of(word: &str) -> Option<Bound>
     ensures { MatchOption result ((bound : Bound) → ¬ IsBound word.now bound) (λ bound. IsBound word.now bound) }
 {
     if word == "strong" {
         return Some(Bound::Strong);
     }
-    let number = word.strip_prefix("at:")?;
-    Some(Bound::At(number_of(number)?))
+    if let Some(number) = word.strip_prefix("at:") {
+        return Some(Bound::At(number_of(number)?));
+    }
+    let number = word.strip_prefix("stale:")?;
+    Some(Bound::Staleness(number_of(number)?))
 }
 
 /// The type that a word names.

@@ -447,8 +447,8 @@ impl Journal {
 
     /// The timestamp that a query is to read at, or why it is not opened.
     fn check_open(&self, bound: Bound, interval: Interval) -> Result<u64, Refusal>
-        ensures accepted { IfOk result (λ s. (open_refusal (machine_of self.now) s ≡ None) × (s ≡ timestamp_of bound interval)) }
-        ensures refused { IfErr result (λ why. open_refusal (machine_of self.now) (timestamp_of bound interval) ≡ Some why) }
+        ensures accepted { IfOk result (λ s. (open_refusal (machine_of self.now) bound interval ≡ None) × (s ≡ timestamp_of bound interval)) }
+        ensures refused { IfErr result (λ why. open_refusal (machine_of self.now) bound interval ≡ Some why) }
         ensures few { OnOk result (self.now.next_query < number_end) }
     {
         match choose(bound, interval) {

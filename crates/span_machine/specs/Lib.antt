@@ -7,4 +7,5 @@ pub mod Machine
 pub mod Place
 pub mod Commits
 pub mod Run
+pub mod Consistency
 pub mod Pieces

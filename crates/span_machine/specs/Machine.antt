@@ -1,4 +1,4 @@
-use Rattle.std.specs.Prelude.{◌≡◌, ℕ, ◌+◌, ◌^◌, ◌-◌, max, Bool, true, false, ◌==◌, ◌&&◌, ◌||◌, not, nat_lt, nat_le, List, [], ◌∷◌, ◌++◌, length, map, filter, find, count_by, slice_get, slice_set, Option, Some, None, Result, Ok, Err, if◌then◌else◌, ◌⊎◌}
+use Rattle.std.specs.Prelude.{◌≡◌, ℕ, ◌+◌, ◌-◌, max, Bool, true, false, ◌==◌, ◌&&◌, ◌||◌, not, nat_lt, nat_le, List, [], ◌∷◌, ◌++◌, length, map, filter, find, count_by, slice_get, slice_set, Option, Some, None, Result, Ok, Err, if◌then◌else◌, ◌⊎◌}
 use Rattle.std.specs.List.{list_any, list_all}
 use Rattle.span_schema.specs.declared.table.Table.{Table}
 use Rattle.span_mutate.specs.declared.mutation.CheckedMutation.{CheckedMutation}
@@ -19,7 +19,7 @@ use Rattle.span_query.specs.declared.query.Statement.{Statement}
 use Rattle.span_query.specs.Rows.{Row, Rows}
 use Rattle.span_machine.specs.Limits.{most_transactions, most_commits, most_queries, number_end}
 use Rattle.span_truetime.specs.Limits.{timestamp_end}
-use Rattle.span_truetime.specs.Time.{timestamp_of}
+use Rattle.span_truetime.specs.Time.{timestamp_of, is_out_of_range}
 use Rattle.span_truetime.specs.declared.interval.Interval.{Interval}
 use Rattle.span_machine.specs.declared.transaction.Prepared.{Prepared}
 use Rattle.span_machine.specs.declared.transaction.Decision.{Decision}
@@ -332,9 +332,9 @@ trim_slot schema m slot h slot_state = unless_refused m (trim_refusal m slot h s
 abbrev pub trim : List Table → Machine → ℕ → ℕ → Answer
 trim schema m slot h = for_slot m slot (trim_slot schema m slot h)
 
-abbrev pub open_refusal : Machine → ℕ → Option Refusal
-open_refusal m s = first_cause (
-    (nat_le timestamp_end s, refusal.TimestampRange)
+abbrev pub open_refusal : Machine → Bound → Interval → Option Refusal
+open_refusal m bound interval = first_cause (
+    (is_out_of_range bound interval, refusal.TimestampRange)
     ∷ (nat_le most_queries (length m.queries) || nat_le number_end m.next_query, refusal.QueryTableFull) ∷ [])
 
 -- a leaf that no piece covers
@@ -357,7 +357,7 @@ opened m q s = (
 -- where the query text is understood as this; the refusal of a query text comes first
 abbrev pub open_query : Machine → Result Statement Refusal → Bound → Interval → Answer
 open_query m (Err why) bound interval = refused m why
-open_query m (Ok q) bound interval = unless_refused m (open_refusal m (timestamp_of bound interval)) (opened m q (timestamp_of bound interval))
+open_query m (Ok q) bound interval = unless_refused m (open_refusal m bound interval) (opened m q (timestamp_of bound interval))
 
 -- the floor rises to s where the clock has passed it
 abbrev pub with_risen_floor : SlotState → ℕ → Interval → SlotState

@@ -12,8 +12,10 @@ pub mod Schemas
 pub mod Placed
 pub mod Numbers
 pub mod Holdings
+pub mod Decisions
 pub mod Sound
 pub mod Horizons
 pub mod Known
 pub mod Reached
 pub mod History
+pub mod Consistent

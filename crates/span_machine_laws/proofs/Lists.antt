@@ -38,7 +38,7 @@ found_passes test (y ∷ ys) x = elim (test y) as (λ b. test y ≡ b → cond b
   | false ↦ λ is e. found_passes test ys x e
 ] refl
 
-kept_after : {A : Type 0} (xs ys : List A) (x y : A) → (IsIn x xs → IsIn x ys) → (i : ℕ) → slice_get (y ∷ xs) i ≡ Some x → IsIn x (y ∷ ys)
+pub kept_after : {A : Type 0} (xs ys : List A) (x y : A) → (IsIn x xs → IsIn x ys) → (i : ℕ) → slice_get (y ∷ xs) i ≡ Some x → IsIn x (y ∷ ys)
 kept_after xs ys x y back zero e = (0, e)
 kept_after xs ys x y back (suc i) e = let rest = back (i, e) in (suc rest.0, rest.1)
 
@@ -50,7 +50,24 @@ kept_in test (y ∷ ys) x = elim (test y) as (λ b. IsIn x (cond b (y ∷ filter
   | false ↦ λ is. let rest = kept_in test ys x is in (suc rest.0, rest.1)
 ]
 
+-- what is changed is in the list
+pub changed_in : {A : Type 0} (test : A → Bool) (change : A → A) (xs : List A) (x : A) → find test xs ≡ Some x → IsIn (change x) (changed_first test change xs)
+changed_in test change [] x = λ e. absurd (cc)
+changed_in test change (y ∷ ys) x = elim (test y) as (λ b. cond b (Some y) (find test ys) ≡ Some x → IsIn (change x) (cond b (change y ∷ ys) (y ∷ changed_first test change ys))) [
+  | true ↦ λ e. let same : y ≡ x = cc in (0, ap (λ z. Some (change z)) same)
+  | false ↦ λ e. let rest = changed_in test change ys x e in (suc rest.0, rest.1)
+]
+
 -- ---- what holds of each
+
+-- what holds at each place holds of each
+pub all_places : {A : Type 0} (P : A → Type 0) (xs : List A) → ((x : A) → IsIn x xs → P x) → AllByRecursion P xs
+all_places P [] each = tt
+all_places P (x ∷ xs) each = (each x (0, refl), all_places P xs (λ y is. each y (suc is.0, is.1)))
+
+pub all_both : {A : Type 0} (P Q R : A → Type 0) → ((x : A) → P x → Q x → R x) → (xs : List A) → AllByRecursion P xs → AllByRecursion Q xs → AllByRecursion R xs
+all_both P Q R make [] ps qs = tt
+all_both P Q R make (x ∷ xs) ps qs = (make x ps.0 qs.0, all_both P Q R make xs ps.1 qs.1)
 
 module _ {A : Type 0} (P : A → Type 0) where
   pub all_push : (xs : List A) (x : A) → AllByRecursion P xs → P x → AllByRecursion P (xs ++ x ∷ [])

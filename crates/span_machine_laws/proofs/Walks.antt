@@ -45,7 +45,7 @@ pub record Ends (schema : List Table) (m : Machine) (u : Result Statement Refusa
       → apply_refusal slot t interval ≡ None → P (Apply owner txn slot interval) (applied_at t.decision m owner txn slot t)
   pub advances : (slot : ℕ) (interval : Interval) (slot_state : SlotState) → slice_get m.slots slot ≡ Some slot_state → P (Advance slot interval) (advanced m slot interval slot_state)
   pub trims : (slot h : ℕ) (slot_state : SlotState) → slice_get m.slots slot ≡ Some slot_state → trim_refusal m slot h slot_state ≡ None → P (Trim slot h) (trimmed schema m slot h slot_state)
-  pub opens : (text : List ℕ) (params : List Parameter) (bound : Bound) (interval : Interval) (asked : Statement) → u ≡ Ok asked → open_refusal m (timestamp_of bound interval) ≡ None
+  pub opens : (text : List ℕ) (params : List Parameter) (bound : Bound) (interval : Interval) (asked : Statement) → u ≡ Ok asked → open_refusal m bound interval ≡ None
       → P (Open text params bound interval) (opened m asked (timestamp_of bound interval))
   pub finds_nothing : (query leaf slot : ℕ) (interval : Interval) → P (Scan query leaf slot interval) (reply.Nothing, m)
   pub scans : (query leaf slot : ℕ) (interval : Interval) (q : OpenQuery) (slot_state : SlotState) → find (is_query query) m.queries ≡ Some q → slice_get m.slots slot ≡ Some slot_state → nat_lt q.s slot_state.horizon ≡ false → is_safe m slot (with_risen_floor slot_state q.s interval) q.s ≡ true
@@ -126,7 +126,7 @@ module _ (schema : List Table) (m : Machine) (u : Result Statement Refusal) (P :
   open_by : (text : List ℕ) (params : List Parameter) (bound : Bound) (interval : Interval) → P (Open text params bound interval) (open_query m u bound interval)
   open_by text params bound interval = elim u as (λ v. u ≡ v → P (Open text params bound interval) (open_query m v bound interval)) [
     | Err why ↦ λ e. ends.refuses (Open text params bound interval) why tt
-    | Ok asked ↦ λ e. by_refusal (Open text params bound interval) (λ why. tt) (open_refusal m (timestamp_of bound interval)) (opened m asked (timestamp_of bound interval)) (λ accepted. ends.opens text params bound interval asked e accepted)
+    | Ok asked ↦ λ e. by_refusal (Open text params bound interval) (λ why. tt) (open_refusal m bound interval) (opened m asked (timestamp_of bound interval)) (λ accepted. ends.opens text params bound interval asked e accepted)
   ] refl
 
   -- what holds at each end of a step holds of the step

@@ -2,10 +2,12 @@
 //!
 //! `proofs/` shows, step by step, that a commit touches only the directories of its mutations (Locality), that what is at or below a
 //! slot's safe time is final (Sealed), that the commits of a directory rise along the log (InPlace, Claims, Placed), that the log is
-//! just what the replies commit (Known), and so that every run of the machine is a history. The crates with code cite these laws.
+//! just what the replies commit (Known), and so that every run of the machine is a history; that each transaction is decided once
+//! (Decisions), and so that a history is externally consistent under an honest clock (Consistent). The crates with code cite these laws.
 #![tactic(auto)]
 
 ghost use Rattle.std.specs.Prelude.{List};
+ghost use Rattle.span_machine.specs.Consistency.{HonestClock, IsExternallyConsistent};
 ghost use Rattle.span_machine.specs.declared.step.Reply.{Reply};
 ghost use Rattle.span_machine.specs.declared.step.Step.{Step};
 ghost use Rattle.span_machine.specs.Machine.{Machine, start};
@@ -34,4 +36,14 @@ pub fn runs_are_histories<U: Understanding>()
         → AreOfSchema schema steps
         → Run U.understands schema start steps replies last
         → IsHistory U.understands schema steps replies }
+{}
+
+/// External consistency, for any language: where the clock's answers in the steps of a history are honest, a commit that is applied
+/// before another one is decided has the smaller timestamp, and one that is applied before a strong query is opened is among those that
+/// the query sees.
+pub fn histories_are_consistent<U: Understanding>()
+    ensures { (schema : List Table) (steps : List Step) (replies : List Reply)
+        → IsHistory U.understands schema steps replies
+        → HonestClock steps
+        → IsExternallyConsistent steps replies }
 {}

@@ -21,5 +21,11 @@ fn judges_intervals_and_bounds(rt: HostRuntime) -> Result<(), Fail> {
         choose(Bound::At(last + 1), interval),
         Err(Refusal::TimestampRange)
     );
+    assert_eq!(rt; choose(Bound::Staleness(0), interval), Ok(110));
+    assert_eq!(rt; choose(Bound::Staleness(110), interval), Ok(0));
+    assert_eq!(rt;
+        choose(Bound::Staleness(111), interval),
+        Err(Refusal::TimestampRange)
+    );
     Ok(())
 }
