@@ -85,6 +85,10 @@ query_of b order limit = record {
   columns = b.first.columns;
 }
 
+-- ORDER BY, where the blocks give the same columns
+abbrev pub union_keys : BoundBlocks → List SortKey → Result (List BoundKey) Refusal
+union_keys b order = if are_union_compatible b then sort_keys b.first.columns order else Err ColumnsDiffer
+
 unfoldable pub bind_query : BoundBlocks → List SortKey → Option Limit → Result TypedQuery Refusal
 bind_query b order limit = if are_union_compatible b then and_then (sort_keys b.first.columns order) (λ keys. Ok (query_of b keys limit)) else Err ColumnsDiffer
 

@@ -7,6 +7,7 @@ use super::aggregating::{is_grouped, mode_of};
 use super::bound::{BoundBlock, FromItems, Parts, SelectItem};
 use super::grouping::{filter_of, group_places, grouping_of, groups_named, having_of, with_keys};
 use super::output::select_list;
+use super::step::keep_with;
 use span_expr::expr::Expr;
 use span_params::params::Params;
 use span_parser::tree;
@@ -78,13 +79,22 @@ fn block_of(
 ) -> Result<BoundBlock, AllocError>
     ensures { IfOk result (λ block. block ≡ spec.block_of first joins is_distinct is_grouped keys parts) }
 {
-    let (outputs, columns) = split_projection(alloc, parts.projection)?;
+    let Parts {
+        projection,
+        filter,
+        having,
+        aggregates,
+    } = parts;
+    let grouping = grouping_of(is_grouped, keys, having, aggregates);
+    let clauses = (first, joins, filter, grouping);
+    let (clauses, (outputs, columns)) = keep_with(clauses, split_projection(alloc, projection))?;
+    let (from, joins, filter, grouping) = clauses;
     Ok(BoundBlock {
         block: Block {
-            from: first,
+            from,
             joins,
-            filter: parts.filter,
-            grouping: grouping_of(is_grouped, keys, parts.having, parts.aggregates),
+            filter,
+            grouping,
             outputs,
             is_distinct,
         },

@@ -10,4 +10,5 @@ mod join;
 mod order;
 mod output;
 mod source;
+mod step;
 pub mod understand;

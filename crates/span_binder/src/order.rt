@@ -7,10 +7,12 @@ ghost use Rattle.span_typing.specs.Steps.{Gives};
 ghost use Rattle.span_binder.specs.Queries as spec;
 
 use super::bound::{BoundBlock, BoundBlocks, TypedQuery};
+use super::step::{keep_with, with_item};
 use span_parser::tree;
 use span_parser::tree::SortColumn;
 use span_query::query::{Block, BoundQuery, Limit, OutputColumn, SortKey};
 use span_schema::table::are_same;
+use span_typing::step::pair_with;
 use span_value::refusal::Refusal;
 use span_value::seq::Seq;
 use span_value::text::Text;
@@ -168,16 +170,32 @@ fn query_of(
     ensures { IfOk result (λ bound. bound ≡ spec.query_of blocks order limit.now) }
 {
     let BoundBlocks { first, others } = blocks;
+    let (first, others) = keep_with(first, blocks_of(alloc, others))?;
     let BoundBlock { block, columns } = first;
     Ok(TypedQuery {
         query: BoundQuery {
             first: block,
-            others: blocks_of(alloc, others)?,
+            others,
             order: Items::from_vec(order.into_vec()),
             limit: limit_of(limit),
         },
         columns,
     })
+}
+
+/// ORDER BY of the blocks of a query, which give the same columns.
+#[tactic(auto, unfolding(crate::specs::Queries::are_union_compatible))]
+fn union_keys(
+    alloc: Global,
+    blocks: &BoundBlocks,
+    order: &[tree::SortKey],
+) -> Result<Seq<SortKey>, Refusal>
+    ensures { Gives result (spec.union_keys blocks.now order.now) }
+{
+    if !are_union_compatible(blocks) {
+        return Err(Refusal::ColumnsDiffer);
+    }
+    sort_keys(alloc, blocks.first.columns.as_slice(), order)
 }
 
 /// A query from its blocks. The error is `ColumnsDiffer` where a block gives other columns than the first, or else the first of the
@@ -191,10 +209,8 @@ pub(crate) fn bind_query(
 ) -> Result<TypedQuery, Refusal>
     ensures { Gives result (spec.bind_query blocks order.now limit.now) }
 {
-    if !are_union_compatible(&blocks) {
-        return Err(Refusal::ColumnsDiffer);
-    }
-    let keys = sort_keys(alloc, blocks.first.columns.as_slice(), order)?;
+    let keys = union_keys(alloc, &blocks, order);
+    let (blocks, keys) = pair_with(blocks, keys)?;
     Ok(query_of(alloc, blocks, keys, limit)?)
 }
 
@@ -212,7 +228,7 @@ pub(crate) fn only_block(alloc: Global, first: BoundBlock) -> BoundBlocks
 pub(crate) fn with_block(blocks: BoundBlocks, block: BoundBlock) -> Result<BoundBlocks, AllocError>
     ensures { IfOk result (λ all. all ≡ spec.with_block blocks block) }
 {
-    let BoundBlocks { first, mut others } = blocks;
-    others.push(block)?;
+    let BoundBlocks { first, others } = blocks;
+    let (first, others) = keep_with(first, with_item(others, block))?;
     Ok(BoundBlocks { first, others })
 }

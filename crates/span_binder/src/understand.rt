@@ -39,7 +39,11 @@ pub fn understand(
     ensures leaves { IfOk result (λ q. AllByRecursion (IsTable schema.now) q.leaves) }
 {
     match parse_select(alloc, text) {
-        Ok(tree) => bind(alloc, schema, &tree, params),
+        Ok(tree) => {
+            let statement = bind(alloc, schema, &tree, params);
+            drop(tree);
+            statement
+        }
         Err(fault) => Err(fault.refusal),
     }
 }

@@ -9,6 +9,7 @@ ghost use Rattle.span_machine.specs.Pieces.{machine_of, unread};
 ghost use Rattle.span_machine.specs.declared.step.Reply.TheVariants as reply_of;
 ghost use Rattle.span_journal.specs.Judged.{as_reply, decision_reply, MayPrepare, IsNoted, IsUnnoted, IsApplied, IsGap, IsRaised, IsRegistered, IsUnregistered, IsCovered};
 
+use super::owned::{append, drop_at, pair_with};
 use super::queries::{cover_at, find_query};
 use super::query::KeptQuery;
 use super::slots::{
@@ -478,10 +479,10 @@ impl Journal {
         ensures pieces { IfOk result (λ r. self.new.queries ≡ self.old.queries ++ unread r.0 r.1 statement ∷ []) }
         ensures err { OnErr result (self.new.queries ≡ self.old.queries) }
     {
-        let s = self.check_open(bound, interval)?;
+        let (statement, s) = pair_with(statement, self.check_open(bound, interval))?;
         let number = self.next_query;
         let query = KeptQuery::new(alloc, number, s, statement)?;
-        self.queries.push(query)?;
+        append(&mut self.queries, query)?;
         self.next_query += 1;
         Ok((number, s))
     }
@@ -590,7 +591,7 @@ impl Journal {
         let Some((at, _)) = find_query(self.queries.as_slice(), query) else {
             return Err(Refusal::UnknownQuery);
         };
-        let _ = self.queries.remove(at);
+        drop_at(&mut self.queries, at);
         Ok(())
     }
 }

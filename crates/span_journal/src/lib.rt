@@ -4,6 +4,7 @@
 #![tactic(auto)]
 
 pub mod journal;
+mod owned;
 mod queries;
 mod query;
 mod slots;

@@ -4,6 +4,7 @@ ghost use Rattle.std.specs.List.{list_all};
 ghost use Rattle.span_machine.specs.Machine.{is_covered, uncovered};
 ghost use Rattle.span_machine.specs.Pieces.{covered_by, no_rows, unread};
 
+use super::owned::pair_with;
 use span_machine::query::{Leaf, OpenQuery};
 use span_query::query::{BoundQuery, Statement};
 use span_value::seq::Seq;
@@ -58,6 +59,22 @@ fn empty_pieces(alloc: Global, tables: &[usize]) -> Result<Seq<Seq<Row>>, AllocE
     Ok(pieces)
 }
 
+/// What an open query has for its leaves.
+#[derive(Drop)]
+struct Unread {
+    leaves: Seq<Leaf>,
+    pieces: Seq<Seq<Row>>,
+}
+
+/// The leaves of a query that is just opened, and no rows for each.
+fn unread_leaves(alloc: Global, tables: &[usize]) -> Result<Unread, AllocError>
+    ensures { IfOk result (λ u. (u.leaves ≡ map uncovered tables.now) × (u.pieces ≡ map no_rows tables.now)) }
+{
+    let leaves = uncovered_leaves(alloc, tables)?;
+    let pieces = empty_pieces(alloc, tables)?;
+    Ok(Unread { leaves, pieces })
+}
+
 impl KeptQuery {
     /// A query whose leaves no piece covers.
     pub(crate) fn new(
@@ -68,13 +85,9 @@ impl KeptQuery {
     ) -> Result<KeptQuery, AllocError>
         ensures { IfOk result (λ kept. kept ≡ unread number s statement) }
     {
-        let Statement {
-            query,
-            leaves: tables,
-            ..
-        } = statement;
-        let leaves = uncovered_leaves(alloc, tables.as_slice())?;
-        let pieces = empty_pieces(alloc, tables.as_slice())?;
+        let unread = unread_leaves(alloc, statement.leaves.as_slice());
+        let (statement, Unread { leaves, pieces }) = pair_with(statement, unread)?;
+        let Statement { query, .. } = statement;
         let open = OpenQuery {
             number,
             query,

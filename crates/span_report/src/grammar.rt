@@ -26,8 +26,8 @@ pub fn query_place(alloc: Global, query: &str, why: Refusal) -> Place
     if !has_place(why) {
         return Place::Unknown;
     }
-    match parse_select(alloc, query) {
-        Err(error) if error.refusal == why => Place::in_text(query, error.place),
+    match parse_select(alloc, query).err() {
+        Some(error) if error.refusal == why => Place::in_text(query, error.place),
         _ => Place::Unknown,
     }
 }
@@ -47,8 +47,8 @@ pub fn schema_place(alloc: Global, text: &str, why: Refusal) -> Place
     if !has_place(why) {
         return Place::Unknown;
     }
-    match parse_tables(alloc, text) {
-        Err(error) if error.refusal == why => Place::in_lines(text.as_bytes(), error.place),
+    match parse_tables(alloc, text).err() {
+        Some(error) if error.refusal == why => Place::in_lines(text.as_bytes(), error.place),
         _ => Place::Unknown,
     }
 }

@@ -7,13 +7,13 @@ returns-in-Ok c =
     let schema = c.args.schema.now in
     let text = c.args.text.now in
     let params = c.args.params.now in
-    let answers = bound_answers schema text params c.in-Ok.tree c.bind.result c.in-Ok.ensures.read c.bind.ensures.statement in
+    let answers = bound_answers schema text params c.in-Ok.tree c.bind-statement.result c.in-Ok.ensures.read c.bind-statement.ensures.statement in
     record {
-      understood = ok_part schema text params c.bind.result answers;
-      refused = err_part schema text params c.bind.result answers;
-      all = bound_only schema text params c.in-Ok.tree c.bind.result c.in-Ok.ensures.read_all c.in-Ok.ensures.refused_all c.bind.ensures.statement;
-      faults = tree_part c.bind.result c.bind.ensures.faults;
-      leaves = leaves_part schema c.bind.result c.bind.ensures.leaves;
+      understood = ok_part schema text params c.bind-statement.result answers;
+      refused = err_part schema text params c.bind-statement.result answers;
+      all = bound_only schema text params c.in-Ok.tree c.bind-statement.result c.in-Ok.ensures.read_all c.in-Ok.ensures.refused_all c.bind-statement.ensures.statement;
+      faults = tree_part c.bind-statement.result c.bind-statement.ensures.faults;
+      leaves = leaves_part schema c.bind-statement.result c.bind-statement.ensures.leaves;
     }
 
 pub returns-in-Err : goal.returns-in-Err

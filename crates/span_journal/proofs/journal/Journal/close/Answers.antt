@@ -20,7 +20,7 @@ returns-clause-step c =
     let p = c.in-Some.field-0-1.now in
     let place : IsPlace (λ (p : Pieced). is_query c.args.query p.query) j.queries c.in-Some.at p =
     subst (λ (l : List Pieced). IsPlace (λ (p : Pieced). is_query c.args.query p.query) l c.in-Some.at p) c.as_slice.ensures.value c.in-Some.ensures.some in
-    let left : without_first (λ (p : Pieced). is_query c.args.query p.query) j.queries ≡ c.remove.new.self.items = place.without ∙ sym c.remove.ensures.items in
+    let left : without_first (λ (p : Pieced). is_query c.args.query p.query) j.queries ≡ c.drop_at.new.items.items = place.without ∙ sym c.drop_at.ensures in
     let e = close_some j c.args.query p place.found in
-    subst (λ (k : Journaled). IsAnswer (close (machine_of k) c.args.query) reply.Closed (machine_of (record j { queries = c.remove.new.self.items }))) c.self.view_is
+    subst (λ (k : Journaled). IsAnswer (close (machine_of k) c.args.query) reply.Closed (machine_of (record j { queries = c.drop_at.new.items.items }))) c.self.view_is
     (ap (λ a. a.0) (sym e), ap (λ (l : List Pieced). machine_of (record j { queries = l })) (sym left) ∙ ap (λ a. a.1) (sym e))
