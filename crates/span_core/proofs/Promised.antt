@@ -1,5 +1,5 @@
 -- Every step from a machine that a run reaches is as promised.
-use Rattle.std.proofs.Common.{◌≡◌, ℕ, Bool, List, [], ◌∷◌, ◌++◌, Option, Some, None, Result, Ok, refl, ap, sym, ◌∙◌, subst, inl, inr}
+use Rattle.std.proofs.Common.{◌≡◌, ℕ, List, [], ◌∷◌, ◌++◌, Option, Some, None, refl, ap, sym, ◌∙◌, inl, inr}
 use Rattle.std.specs.Prelude.{slice_get}
 use Rattle.span_value.specs.declared.refusal.Refusal.{Refusal}
 use Rattle.span_value.specs.declared.refusal.Refusal.TheVariants as refusal
@@ -20,8 +20,8 @@ use Rattle.span_machine_laws.proofs.History.{run_right}
 use Rattle.span_machine_laws.proofs.Known.{start_known}
 use Rattle.span_binder.specs.Understands.{Understands}
 use Rattle.span_core.specs.Histories.{Steps, Run}
-use Rattle.span_core.specs.Promises.{IsRunTo, IsPromised, IsCounted, Promises, asked_after}
-use Rattle.span_core.proofs.Runs.{run_more}
+use Rattle.span_core.specs.Promises.{IsRunTo, IsCounted, Promises, IsConsistent, asked_after}
+use Rattle.span_core.proofs.Runs.{run_more, whole_consistent}
 
 -- ---- the run goes on
 
@@ -79,3 +79,7 @@ promised schema rules m past step reply next of one =
       applies = λ s. reached_tables schema rules next s (run_reached schema rules (Understands schema) start more.steps more.replies next more.run more.of_schema (start_reached schema));
       counted = counts schema m step reply next one;
     }
+
+-- every run is externally consistent under an honest clock
+pub runs_consistent : (schema : List Table) → MeetsRules schema → (m : Machine) → IsConsistent schema m
+runs_consistent schema rules m past honest = whole_consistent schema rules past.steps past.replies m past.of_schema past.run honest

@@ -1,4 +1,4 @@
--- What a database promises of its next step, whatever the step is.
+-- What a database promises of its next step, whatever the step is, and of the steps that led to it.
 use Rattle.std.specs.Prelude.{◌≡◌, ℕ, List, [], ◌∷◌, ◌++◌, Ok}
 use Rattle.span_schema.specs.declared.table.Table.{Table}
 use Rattle.span_mutate.specs.declared.row.TableRow.{TableRow}
@@ -7,6 +7,7 @@ use Rattle.span_machine.specs.declared.step.Step.TheVariants.{Trim}
 use Rattle.span_machine.specs.declared.step.Reply.{Reply}
 use Rattle.span_machine.specs.declared.step.Reply.TheVariants.{Trimmed}
 use Rattle.span_machine.specs.Commits.{OpenedQuery, opened_by}
+use Rattle.span_machine.specs.Consistency.{HonestClock, IsExternallyConsistent}
 use Rattle.span_machine.specs.Kept.{live}
 use Rattle.span_machine.specs.Machine.{Machine, start}
 use Rattle.span_machine.specs.Run.{IsOfSchema, AreOfSchema, IsRight}
@@ -45,3 +46,7 @@ abbrev pub Promises : List Table → Machine → Type 0
 Promises schema m =
     (past : IsRunTo schema m) (step : Step) (reply : Reply) (next : Machine) → IsOfSchema schema step → Steps schema m step reply next
     → IsPromised schema (asked_after [] past.steps past.replies) step reply next
+
+-- by whatever run the machine was reached, it is externally consistent where the clock was honest
+abbrev pub IsConsistent : List Table → Machine → Type 0
+IsConsistent schema m = (past : IsRunTo schema m) → HonestClock past.steps → IsExternallyConsistent past.steps past.replies

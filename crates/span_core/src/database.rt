@@ -1,7 +1,7 @@
 //! The core and its steps.
 ghost use Rattle.std.specs.Prelude.{◌≡◌, IfOk, IfErr, Some, None, MatchOption, IfSome, length, slice_get, count_by};
 ghost use Rattle.span_core.specs.Histories.{Steps};
-ghost use Rattle.span_core.specs.Promises.{IsRunTo, Promises};
+ghost use Rattle.span_core.specs.Promises.{IsRunTo, Promises, IsConsistent};
 ghost use Rattle.span_machine.specs.Kept.{live};
 ghost use Rattle.span_schema.specs.Lineages.{MeetsRules};
 ghost use Rattle.span_machine.specs.Machine.{start, is_prepared_at};
@@ -70,12 +70,14 @@ impl Core {
     }
 
     /// A law, for proofs: the schema meets its rules, a run of steps from an empty database leads to the machine, and the next step,
-    /// whatever it is, is answered as promised (`Promises`). The contract of `step` speaks of any machine; a function that is lent a
-    /// database has these from here. It does nothing.
+    /// whatever it is, is answered as promised (`Promises`); every run that leads to the machine is externally consistent where the
+    /// clock was honest. The contract of `step` speaks of any machine; a function that is lent a database has these from here. It
+    /// does nothing.
     pub fn is_reached(&self)
         ensures rules { MeetsRules self.now.schema }
         ensures reached { IsRunTo self.now.schema self.now.machine }
         ensures promises { Promises self.now.schema self.now.machine }
+        ensures consistent { IsConsistent self.now.schema self.now.machine }
     {
         let _ = &self.journal;
     }

@@ -4,9 +4,7 @@ use Rattle.std.proofs.lemmas.List.{append-nil, nil_from_length}
 use Rattle.span_machine.specs.Machine.{start}
 use Rattle.span_core.specs.Histories.{Steps, Run}
 use Rattle.span_machine.specs.Run.{AreOfSchema, IsOfSchema}
-use Rattle.span_machine_laws.proofs.History.{run_history}
-use Rattle.span_binder.specs.Understands.{Understands}
-use Rattle.span_core.proofs.Runs.{run_more}
+use Rattle.span_core.proofs.Runs.{run_more, whole_history, whole_consistent}
 use Rattle.span_core.proofs.run.run.Goals as goal
 
 pub step-reply-requires : goal.step-reply-requires
@@ -33,4 +31,10 @@ pub returns-clause-history : goal.returns-clause-history
 returns-clause-history c =
     let done : into_iter_items c.loop-step.step-iterator ≡ [] = nil_from_length _ (sym c.loop-step.invariant.count ∙ c.in-None.ensures.steps.0) in
     let all : c.loop-step.yielded ≡ c.args.steps.items = sym (append-nil c.loop-step.yielded) ∙ ap (λ l. c.loop-step.yielded ++ l) (sym done) ∙ c.loop-step.invariant.rest in
-    run_history (Understands c.args.schema) c.args.schema c.meets_rules.ensures c.args.steps.items c.loop-step.replies.items _ c.requires (subst (λ l. Run c.args.schema start l c.loop-step.replies.items c.loop-step.core.machine) all c.loop-step.invariant.ran)
+    whole_history c.args.schema c.meets_rules.ensures c.args.steps.items c.loop-step.replies.items _ c.requires (subst (λ l. Run c.args.schema start l c.loop-step.replies.items c.loop-step.core.machine) all c.loop-step.invariant.ran)
+
+pub returns-clause-consistent : goal.returns-clause-consistent
+returns-clause-consistent c =
+    let done : into_iter_items c.loop-step.step-iterator ≡ [] = nil_from_length _ (sym c.loop-step.invariant.count ∙ c.in-None.ensures.steps.0) in
+    let all : c.loop-step.yielded ≡ c.args.steps.items = sym (append-nil c.loop-step.yielded) ∙ ap (λ l. c.loop-step.yielded ++ l) (sym done) ∙ c.loop-step.invariant.rest in
+    whole_consistent c.args.schema c.meets_rules.ensures c.args.steps.items c.loop-step.replies.items _ c.requires (subst (λ l. Run c.args.schema start l c.loop-step.replies.items c.loop-step.core.machine) all c.loop-step.invariant.ran)
