@@ -106,7 +106,7 @@ impl Shard {
     /// all directories, out of memory, or that the writes would bring the number of kept versions over 2^24; it leaves all as
     /// it was.
     ///
-    /// Each key is found by binary search. Only the rows at the mutations' keys and at those of their parents are looked at, and below the
+    /// Each key is found in the tree. Only the rows at the mutations' keys and at those of their parents are looked at, and below the
     /// rows that are deleted all others. The fault is Apply's on any database whose rows in those
     /// directories are the ones that are here now: it may be the whole one. Where there is none, since the bytes there are no such
     /// rows, it is still one of `Exists`, `Missing`, `ParentMissing`, `HasChildren` and `RowTooLong`; `BadKey` or `BadRow` comes only

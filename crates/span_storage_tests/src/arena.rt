@@ -3,18 +3,21 @@ ghost use Rattle.std.specs.Prelude.{◌+◌, IfOk, OnOk};
 ghost use Rattle.span_arena.specs.Content.{IsChain};
 ghost use Rattle.span_arena.specs.Tested.{IsBefore, IsReady};
 
+use crate::search::new_chain;
+use smallvec::SmallVec;
 use span_arena::arena::Arena;
 use span_arena::token::{Chain, Node};
+use span_keycode::key::Key;
 use span_value::refusal::Refusal;
 use span_value::seq::Seq;
 use std::alloc::Global;
 use std::test::Fail;
 
 // A chain with a node in which something is prepared.
-fn ready(arena: &mut Arena) -> Result<(Chain, Node), Refusal>
+fn ready(alloc: Global, arena: &mut Arena) -> Result<(Chain, Node), Refusal>
     ensures { IfOk result (λ r. IsReady arena.new r.0.number r.1.number) }
 {
-    let chain = arena.new_chain()?;
+    let chain = new_chain(arena, Key::from_small_vec(SmallVec::new(alloc)))?;
     let first = arena.reserve_node(chain, None)?;
     Ok((chain, first))
 }
@@ -38,8 +41,9 @@ fn exchange(arena: &mut Arena, chain: Chain, first: Node) -> Result<Node, Refusa
 /// Of three nodes the fourth is refused, and succeeds once one is given back.
 #[test]
 fn fourth_node(rt: HostRuntime) -> Result<(), Fail> {
-    let mut arena = Arena::with_most(rt.alloc(), 3);
-    let (chain, first) = ready(&mut arena)?;
+    let alloc = rt.alloc();
+    let mut arena = Arena::with_most(alloc, 3);
+    let (chain, first) = ready(alloc, &mut arena)?;
     reserve(&mut arena, chain, first)?;
     reserve(&mut arena, chain, first)?;
     assert_eq!(rt; arena.live(), 3);
@@ -51,10 +55,10 @@ fn fourth_node(rt: HostRuntime) -> Result<(), Fail> {
 }
 
 // A chain with no version.
-fn empty(arena: &mut Arena) -> Result<Chain, Refusal>
+fn empty(alloc: Global, arena: &mut Arena) -> Result<Chain, Refusal>
     ensures { IfOk result (λ chain. IsBefore arena.new chain.number 0) }
 {
-    let chain = arena.new_chain()?;
+    let chain = new_chain(arena, Key::from_small_vec(SmallVec::new(alloc)))?;
     Ok(chain)
 }
 
@@ -98,7 +102,7 @@ fn image(alloc: Global, byte: u8) -> Result<Option<Seq<u8>>, Fail> {
 fn trimmed(rt: HostRuntime) -> Result<(), Fail> {
     let alloc = rt.alloc();
     let mut arena = Arena::new(alloc);
-    let chain = empty(&mut arena)?;
+    let chain = empty(alloc, &mut arena)?;
     commit(&mut arena, chain, 10, image(alloc, 1)?)?;
     commit(&mut arena, chain, 20, None)?;
     commit(&mut arena, chain, 30, image(alloc, 2)?)?;
@@ -220,7 +224,7 @@ fn trim_by_tenths(
 fn long_chain(rt: HostRuntime) -> Result<(), Fail> {
     let alloc = rt.alloc();
     let mut arena = Arena::new(alloc);
-    let chain = empty(&mut arena)?;
+    let chain = empty(alloc, &mut arena)?;
     let plain = add_versions(alloc, &mut arena, chain)?;
     assert!(rt; has_these(&arena, chain, plain.as_slice()));
     let left = trim_by_tenths(alloc, &mut arena, chain, plain)?;

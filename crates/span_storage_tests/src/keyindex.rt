@@ -1,8 +1,9 @@
 //! Keys added in any order, walked in order, and removed when their chains are empty.
 ghost use Rattle.std.specs.Prelude.{IfOk};
 ghost use Rattle.span_arena.specs.Content.{IsPrepared};
-ghost use Rattle.span_keyindex.specs.Arenas.{IsArenaOf};
+ghost use Rattle.span_keyindex.specs.Indexes.{IsIndexOf};
 
+use crate::search::{slot_for, walk};
 use span_arena::arena::Arena;
 use span_arena::token::{Chain, Node};
 use span_keycode::key::Key;
@@ -19,10 +20,10 @@ fn slot(
     arena: &mut Arena,
     key: &[u8],
 ) -> Result<Chain, Refusal>
-    requires { IsArenaOf index.old arena.old }
-    ensures { IsArenaOf index.new arena.new }
+    requires { IsIndexOf index.old arena.old }
+    ensures { IsIndexOf index.new arena.new }
 {
-    index.slot_for(arena, Key::from_slice(alloc, key)?)
+    slot_for(index, arena, Key::from_slice(alloc, key)?)
 }
 
 // A deletion prepared at a key.
@@ -32,19 +33,19 @@ fn prepare(
     arena: &mut Arena,
     key: &[u8],
 ) -> Result<Node, Refusal>
-    requires { IsArenaOf index.old arena.old }
-    ensures own { IsArenaOf index.new arena.new }
+    requires { IsIndexOf index.old arena.old }
+    ensures own { IsIndexOf index.new arena.new }
     ensures prepared { IfOk result (λ node. IsPrepared arena.new node.number) }
 {
-    let chain = index.slot_for(arena, Key::from_slice(alloc, key)?)?;
+    let chain = slot_for(index, arena, Key::from_slice(alloc, key)?)?;
     arena.reserve_node(chain, None)
 }
 
 // The keys removed that have nothing, except the one for which the node is prepared.
 fn remove_others(index: &mut KeyIndex, arena: &mut Arena, node: Node)
-    requires own { IsArenaOf index.old arena.old }
+    requires own { IsIndexOf index.old arena.old }
     requires prepared { IsPrepared arena.old node.number }
-    ensures own { IsArenaOf index.new arena.new }
+    ensures own { IsIndexOf index.new arena.new }
     ensures prepared { IsPrepared arena.new node.number }
 {
     index.remove_empty(arena);
@@ -52,9 +53,9 @@ fn remove_others(index: &mut KeyIndex, arena: &mut Arena, node: Node)
 
 // What is prepared given back, and the keys removed that have nothing then.
 fn give_back(index: &mut KeyIndex, arena: &mut Arena, node: Node)
-    requires own { IsArenaOf index.old arena.old }
+    requires own { IsIndexOf index.old arena.old }
     requires prepared { IsPrepared arena.old node.number }
-    ensures { IsArenaOf index.new arena.new }
+    ensures { IsIndexOf index.new arena.new }
 {
     arena.give_back(node);
     index.remove_empty(arena);
@@ -77,13 +78,13 @@ fn keys_between(
     low: &[u8],
     high: &[u8],
 ) -> Result<Vec<u8>, AllocError>
-    requires { IsArenaOf index.now arena.now }
+    requires { IsIndexOf index.now arena.now }
 {
     let range = KeyRange {
         low: Key::from_slice(alloc, low)?,
         high: Key::from_slice(alloc, high)?,
     };
-    keys(alloc, index.walk(arena, &range))
+    keys(alloc, walk(index, arena, &range))
 }
 
 /// Keys are in order whatever order they came in, each with a chain of its own, and a range ends before its high key.

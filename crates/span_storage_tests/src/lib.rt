@@ -6,6 +6,8 @@
 #[cfg(test)]
 mod arena;
 #[cfg(test)]
+mod balanced;
+#[cfg(test)]
 mod keycode;
 #[cfg(test)]
 mod keyindex;
@@ -15,6 +17,8 @@ mod mutate;
 mod rowcode;
 #[cfg(test)]
 mod schema;
+#[cfg(test)]
+mod search;
 #[cfg(test)]
 mod shard;
 #[cfg(test)]
