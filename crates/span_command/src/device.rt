@@ -1,6 +1,6 @@
 //! Where scripts come from and answers go: devices that count their failures.
 ghost use Rattle.std.specs.Prelude.{◌≡◌, ◌≤◌, ◌<◌, ℕ, List, Option, None, length, take, IfOk, IfErr, IfSome, IfNone, OnOk};
-ghost use Rattle.std.specs.Io.KnownBytes.{Consumes, IsAtEnd, Keeps, ReadConsumes};
+ghost use Rattle.std.specs.Io.KnownBytes.{Appends, Consumes, IsAtEnd, Keeps, ReadConsumes, WriteAppends};
 ghost use Rattle.span_command.specs.Limits.{longest_input};
 ghost use Rattle.span_command.specs.declared.device.TheConstants.{MOST_BYTES};
 ghost use Rattle.span_command.specs.Device.{risen, failures_of, remaining_input};
@@ -39,11 +39,15 @@ pub trait Output {
     // How often a write failed.
     ghost failures: { Self → ℕ };
 
+    // The bytes that were written so far, where they are known.
+    ghost written: { Self → Option (List ℕ) } = { λ _. None };
+
     /// Writes bytes from the front, and answers how many: at least one of those that are there. `OutputFault` where the device
     /// failed: one more failure is counted.
     fn write(&mut self, bytes: &[u8]) -> Result<usize, Refusal>
         ensures bound { IfOk result (λ n. n ≤ length bytes.now) }
         ensures some { IfOk result (λ n. 0 < length bytes.now → 0 < n) }
+        ensures bytes { WriteAppends (written self.old) (written self.new) result bytes.now }
         ensures ok { OnOk result (failures self.new ≡ failures self.old) }
         ensures err { IfErr result (λ why. (why ≡ Refusal.OutputFault) × (failures self.new ≡ risen (failures self.old))) };
 }
@@ -98,6 +102,8 @@ impl<R: Read> Input for Counted<R> {
 impl<W: Write> Output for Counted<W> {
     ghost failures = { λ c. c.failures };
 
+    ghost written = { λ c. W.contents c.device };
+
     fn write(&mut self, bytes: &[u8]) -> Result<usize, Refusal> {
         if let Some(count) = write_some(&mut self.device, bytes) {
             if count > 0 || bytes.is_empty() {
@@ -128,7 +134,9 @@ fn read_some<R: Read>(device: &mut R, buffer: &mut [u8]) -> Option<usize>
 
 /// One write, taken again where a signal interrupts it; None where the device failed.
 fn write_some<W: Write>(device: &mut W, bytes: &[u8]) -> Option<usize>
-    ensures { IfSome result (λ n. n ≤ length bytes.now) }
+    ensures bound { IfSome result (λ n. n ≤ length bytes.now) }
+    ensures some { IfSome result (λ n. Appends (W.contents device.old) (W.contents device.new) (take n bytes.now)) }
+    ensures none { IfNone result (Keeps (W.contents device.old) (W.contents device.new)) }
 {
     for _ in 0..u64::MAX {
         match device.write(bytes) {

@@ -1,3 +1,8 @@
 pub mod Begun
+pub mod Doing
 pub mod Ends
+pub mod Runs
+pub mod Scans
 pub mod Shards
+pub mod Taking
+pub mod Written

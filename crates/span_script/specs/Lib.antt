@@ -1,3 +1,5 @@
 pub mod Lines
 pub mod Reports
+pub mod Scripts
 pub mod Sessions
+pub mod Steps

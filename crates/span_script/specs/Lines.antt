@@ -1,6 +1,8 @@
 -- The lines of answers.
 use Rattle.std.specs.Prelude.{◌≡◌, ◌+◌, Some, slice_get, count_by, ⊤, ℕ, List, [], ◌∷◌, ◌++◌, codes, length}
 use Rattle.std.specs.Fmt.{decimal}
+use Rattle.span_schema.specs.declared.table.Table.{Table}
+use Rattle.span_machine.specs.Kept.{live}
 use Rattle.span_machine.specs.Machine.{Machine, is_prepared_at}
 use Rattle.span_value.specs.declared.refusal.Refusal.{Refusal}
 use Rattle.span_value.specs.Refusals.{number_of}
@@ -64,16 +66,17 @@ reply_text (reply.Rows s rows) = rows_lines s rows
 reply_text reply.Closed = word_line (codes "closed")
 reply_text (reply.Refused why) = refused_line why
 
--- the report of a slot has its state's timestamps, and how many transactions are prepared there
-abbrev pub IsState : Machine → ℕ → SlotReport → Type 0
-IsState m slot state =
+-- the report of a slot has its state's timestamps, how many versions it keeps, and how many transactions are prepared there
+abbrev pub IsState : List Table → Machine → ℕ → SlotReport → Type 0
+IsState schema m slot state =
     (slice_get m.slots slot ≡ Some (record { last = state.last; floor = state.floor; horizon = state.horizon }))
+    × (state.live ≡ live schema m.log m.transactions slot state.horizon)
     × (state.prepared ≡ count_by (is_prepared_at slot) m.transactions)
 
 -- the states are those of the slots from this one on, in order
-abbrev pub AreStates : Machine → ℕ → List SlotReport → Type 0
-AreStates m slot [] = ⊤
-AreStates m slot (state ∷ states) = IsState m slot state × AreStates m (slot + 1) states
+abbrev pub AreStates : List Table → Machine → ℕ → List SlotReport → Type 0
+AreStates schema m slot [] = ⊤
+AreStates schema m slot (state ∷ states) = IsState schema m slot state × AreStates schema m (slot + 1) states
 
 -- the lines of the slots from this one on
 abbrev pub slot_lines : ℕ → List SlotReport → List ℕ
@@ -81,9 +84,9 @@ slot_lines slot [] = []
 slot_lines slot (state ∷ states) = slot_line slot state ++ slot_lines (slot + 1) states
 
 -- how many slots are in use, and the line of each
-abbrev pub AreShards : Machine → List ℕ → Type 0
-AreShards m lines =
-    (states : List SlotReport) × (length states ≡ length m.slots) × AreStates m 0 states
+abbrev pub AreShards : List Table → Machine → List ℕ → Type 0
+AreShards schema m lines =
+    (states : List SlotReport) × (length states ≡ length m.slots) × AreStates schema m 0 states
     × (lines ≡ number_line (codes "shards") (length m.slots) ++ slot_lines 0 states)
 
 -- the first answers are these

@@ -1,6 +1,7 @@
 //! Answers, as they are written in a script's output.
 ghost use Rattle.std.specs.Prelude.{◌≡◌, ◌++◌, ℕ, List, [], codes, length, nat_le, take, IfErr, OnOk, IfOk, IsOkUnless};
 ghost use Rattle.std.specs.Fmt.{decimal};
+ghost use Rattle.std.specs.Io.KnownBytes.{Appends};
 ghost use Rattle.span_script.specs.Lines.{word_number, number_line, word_line, opened_line, slot_range, slot_times, slot_counts, slot_line, rows_lines, refused_line, reply_text, AreShards, Begins};
 ghost use Rattle.span_command.specs.Device.{risen};
 ghost use Rattle.span_script.specs.declared.answer.TheConstants.{MOST_KEPT};
@@ -68,14 +69,11 @@ impl Answers {
 
     /// Writes the answers out. `OutputFault` where the device failed: then a beginning of them was written.
     pub fn write_to<O: Output>(&mut self, output: &mut O) -> Result<(), Refusal>
+        ensures written { OnOk result ((self.new ≡ []) × Appends (O.written output.old) (O.written output.new) self.old) }
         ensures ok { OnOk result (O.failures output.new ≡ O.failures output.old) }
         ensures err { IfErr result (λ why. (why ≡ Refusal.OutputFault) × (O.failures output.new ≡ risen (O.failures output.old))) }
     {
-        let mut rest = self.bytes.as_slice();
-        while !rest.is_empty() {
-            let count = output.write(rest)?;
-            rest = &rest[count..];
-        }
+        write_all(self.bytes.as_slice(), output)?;
         self.bytes.clear();
         Ok(())
     }
@@ -195,7 +193,7 @@ impl Answers {
     /// How many slots are in use, and a line for each.
     #[tactic(auto, using(crate::proofs::Begun::begins_on, crate::proofs::Shards::reported_after))]
     pub fn slots(&mut self, core: &Core) -> Result<(), Refusal>
-        ensures added { OnOk result ((lines : List ℕ) × AreShards core.now.machine lines × (self.new ≡ self.old ++ lines)) }
+        ensures added { OnOk result ((lines : List ℕ) × AreShards core.now.schema core.now.machine lines × (self.new ≡ self.old ++ lines)) }
         ensures grows { Begins self.old self.new }
         ensures memory { IsOkUnless result Refusal.OutOfMemory }
     {
@@ -251,4 +249,19 @@ impl Answers {
         self.word_number(" live", state.live as u64)?;
         self.number_line(" prepared", state.prepared as u64)
     }
+}
+
+/// Writes all the bytes. `OutputFault` where the device failed: then a front of them was written.
+#[tactic(auto, using(crate::proofs::Written::wrote_none, crate::proofs::Written::wrote_rest, crate::proofs::Written::wrote_to_end))]
+fn write_all<O: Output>(bytes: &[u8], output: &mut O) -> Result<(), Refusal>
+    ensures written { OnOk result (Appends (O.written output.old) (O.written output.new) bytes.now) }
+    ensures ok { OnOk result (O.failures output.new ≡ O.failures output.old) }
+    ensures err { IfErr result (λ why. (why ≡ Refusal.OutputFault) × (O.failures output.new ≡ risen (O.failures output.old))) }
+{
+    let mut rest = bytes;
+    while !rest.is_empty() {
+        let count = output.write(rest)?;
+        rest = &rest[count..];
+    }
+    Ok(())
 }

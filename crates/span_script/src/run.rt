@@ -1,6 +1,8 @@
 //! Whole scripts.
-ghost use Rattle.std.specs.Prelude.{◌≡◌, ◌⊎◌, IfErr, OnOk};
+ghost use Rattle.std.specs.Prelude.{◌≡◌, ◌⊎◌, ℕ, List, [], IfErr, IfOk, OnOk, MatchBool};
+ghost use Rattle.std.specs.Io.KnownBytes.{Keeps, append_known};
 ghost use Rattle.span_command.specs.Device.{risen};
+ghost use Rattle.span_command.specs.Unread.{Stands, TakesNext};
 
 use super::answer::Answers;
 use super::report::{Reports, query_of};
@@ -23,6 +25,7 @@ pub fn run<I: Input, O: Output, R: Reports>(
     reports: &mut R,
     core: &mut Core,
 ) -> Result<(), Refusal>
+    ensures schema { core.new.schema ≡ core.old.schema }
     ensures ok { OnOk result ((I.failures input.new ≡ I.failures input.old) × (O.failures output.new ≡ O.failures output.old)) }
     ensures err { IfErr result (λ why. (why ≡ Refusal.OutOfMemory)
         ⊎ ((why ≡ Refusal.InputFault) × (I.failures input.new ≡ risen (I.failures input.old)))
@@ -33,25 +36,48 @@ pub fn run<I: Input, O: Output, R: Reports>(
     let mut answers = Answers::new(alloc)?;
     let mut number: u64 = 0;
     for _ in 0..u64::MAX {
-        if lines.is_ready() {
-            if !lines.take() {
-                break;
+        if !take_next(&mut lines, input, &mut answers, output)? {
+            if let Some(refused) = session.finish(number, &mut answers)? {
+                reports.report(refused, None);
             }
-            number = number.saturating_add(1);
-            let line = lines.line();
-            if let Some(refused) = session.take_line(alloc, core, number, line, &mut answers)? {
-                reports.report(refused, query_of(line));
-            }
-            if answers.are_many() {
-                answers.write_to(output)?;
-            }
-        } else {
+            return answers.write_to(output);
+        }
+        number = number.saturating_add(1);
+        let line = lines.line();
+        if let Some(refused) = session.take_line(alloc, core, number, line, &mut answers)? {
+            reports.report(refused, query_of(line));
+        }
+        if answers.are_many() {
             answers.write_to(output)?;
-            lines.read(input)?;
         }
     }
-    if let Some(refused) = session.finish(number, &mut answers)? {
-        reports.report(refused, None);
+    // No input gives as many lines: it has at most 2^63 bytes.
+    Err(Refusal::OutOfMemory)
+}
+
+/// Takes the next line, for which more of the script is read where none is ready; what was answered is written before. False where the script has
+/// ended.
+fn take_next<I: Input, O: Output>(
+    lines: &mut Lines,
+    input: &mut I,
+    answers: &mut Answers,
+    output: &mut O,
+) -> Result<bool, Refusal>
+    ensures next { IfOk result (λ more. (text : List ℕ) → Stands lines.old (I.remaining input.old) text
+        → MatchBool more (TakesNext lines.new (I.remaining input.new) text) (text ≡ [])) }
+    ensures written { OnOk result (Keeps (append_known (O.written output.old) answers.old) (append_known (O.written output.new) answers.new)) }
+    ensures ok { OnOk result ((I.failures input.new ≡ I.failures input.old) × (O.failures output.new ≡ O.failures output.old)) }
+    ensures err { IfErr result (λ why. (why ≡ Refusal.OutOfMemory)
+        ⊎ ((why ≡ Refusal.InputFault) × (I.failures input.new ≡ risen (I.failures input.old)))
+        ⊎ ((why ≡ Refusal.OutputFault) × (O.failures output.new ≡ risen (O.failures output.old)))) }
+{
+    for _ in 0..u64::MAX {
+        if lines.is_ready() {
+            return Ok(lines.take());
+        }
+        answers.write_to(output)?;
+        lines.read(input)?;
     }
-    answers.write_to(output)
+    // No input gives bytes as often.
+    Err(Refusal::OutOfMemory)
 }

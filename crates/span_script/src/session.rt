@@ -1,10 +1,13 @@
 //! What a script has set and gathered, and its commands done one after another.
-ghost use Rattle.std.specs.Prelude.{◌≡◌, ◌⊎◌, ◌++◌, List, None, is_some, IfErr, IfOk, IfSome, IsOkUnless, OnOk};
+ghost use Rattle.std.specs.Prelude.{◌≡◌, ◌++◌, List, None, Some, is_some, IfErr, IfOk, IfSome, IsOkUnless, MatchResult, [], Err, length, take};
 ghost use Rattle.span_schema.specs.declared.table.Table.{Table};
 ghost use Rattle.span_machine.specs.Run.{IsOfSchema};
-ghost use Rattle.span_script.specs.Lines.{reply_text, Begins};
+ghost use Rattle.span_machine.specs.declared.step.Step.TheVariants as step_of_kind;
+ghost use Rattle.span_script.specs.Lines.{Begins};
 ghost use Rattle.span_script.specs.Reports.{AreAnswered};
-ghost use Rattle.span_script.specs.Sessions.{IsFresh};
+ghost use Rattle.span_script.specs.Steps.{Takes, AreTaken, AreRefused, IsRead, IsQueried, IsBegun, scans, scans_of_leaf};
+ghost use Rattle.span_script.specs.Scripts.{BeginsLoad, Deletes, EndsLoad, Gathers, IsAnswered, IsCommandLine, IsDone, IsDoneIfRead, IsFirst, IsLoadLine, IsReplied, LoadsRecord, RefusesClock, RefusesDelete, RefusesParam, RefusesRecord, RefusesWrite, SetsClock, SetsParam, Writes, end_answer, is_passed_over, numbered_step, refused_load};
+ghost use Rattle.span_script.specs.Sessions.{Adds, AddsAt, AddsLine, Changes, load_of, state_of, text_of};
 
 use super::answer::Answers;
 use super::report::Refused;
@@ -15,8 +18,8 @@ use span_command::line::Line;
 use span_command::record_reader::read_fields;
 use span_core::database::Core;
 use span_core::{
-    Bound, Interval, Kind, Mutation, MutationKind, Params, Refusal, Reply, Step, Text, Transaction,
-    Verdict,
+    Bound, Interval, Kind, Mutation, MutationKind, Params, Refusal, Reply, Schema, Step, Text,
+    Transaction, Verdict,
 };
 use span_value::cell::read_cell;
 use std::alloc::Global;
@@ -50,7 +53,7 @@ struct Load {
 impl Session {
     /// The beginning of a script: the clock is at 0, nothing is set and nothing gathered. It takes no memory.
     pub fn new(alloc: Global) -> Session
-        ensures { IsFresh result }
+        ensures { IsFirst (state_of result) }
     {
         Session {
             clock: Interval {
@@ -75,6 +78,9 @@ impl Session {
         line: Line<'_>,
         answers: &mut Answers,
     ) -> Result<Option<Refused>, Refusal>
+        ensures exact { IfOk result (λ _. AddsLine core.old.schema (text_of line.entry)
+            (state_of self.old) core.old.machine (state_of self.new) core.new.machine answers.old answers.new) }
+        ensures schema { core.new.schema ≡ core.old.schema }
         ensures answered { IfOk result (AreAnswered answers.old answers.new) }
         ensures here { self.old.load ≡ None → IfOk result (λ refused. IfSome refused (λ refused. refused.line ≡ number)) }
         ensures memory { IsOkUnless result Refusal.OutOfMemory }
@@ -93,6 +99,7 @@ impl Session {
     /// The end of the script, after the line of this number: a load without its `end` is refused.
     #[tactic(auto, using(crate::proofs::Begun::begins_itself))]
     pub fn finish(&mut self, number: u64, answers: &mut Answers) -> Result<Option<Refused>, Refusal>
+        ensures exact { IfOk result (λ _. answers.new ≡ answers.old ++ end_answer (state_of self.old)) }
         ensures answered { IfOk result (AreAnswered answers.old answers.new) }
         ensures last { IfOk result (λ refused. IfSome refused (λ refused. (refused.why ≡ Refusal.BadCommand) × (refused.line ≡ number))) }
         ensures unread { IfOk result (λ refused. is_some refused ≡ is_some self.old.load) }
@@ -121,6 +128,11 @@ impl Session {
         line: Line<'_>,
         answers: &mut Answers,
     ) -> Result<(), Refused>
+        ensures exact { AddsAt
+            (λ answer. IsAnswered core.old.schema (text_of line.entry)
+            (state_of self.old) core.old.machine answer (state_of self.new) core.new.machine)
+            answers.old answers.new result }
+        ensures schema { core.new.schema ≡ core.old.schema }
         ensures grows { Begins answers.old answers.new }
         ensures here { self.old.load ≡ None → IfErr result (λ refused. refused.line ≡ number) }
     {
@@ -143,7 +155,12 @@ impl Session {
         line: Line<'_>,
         answers: &mut Answers,
     ) -> Result<(), Refusal>
-        ensures { Begins answers.old answers.new }
+        ensures exact { Adds
+            (λ answer. IsCommandLine core.old.schema (text_of line.entry)
+            (state_of self.old) core.old.machine answer (state_of self.new) core.new.machine)
+            answers.old answers.new result }
+        ensures schema { core.new.schema ≡ core.old.schema }
+        ensures grows { Begins answers.old answers.new }
     {
         match line {
             Line::Text(text) => self.answer_text(alloc, core, number, text, answers),
@@ -161,9 +178,14 @@ impl Session {
         text: &str,
         answers: &mut Answers,
     ) -> Result<(), Refusal>
-        ensures { Begins answers.old answers.new }
+        ensures exact { Adds
+            (λ answer. IsCommandLine core.old.schema (Some text.now)
+            (state_of self.old) core.old.machine answer (state_of self.new) core.new.machine)
+            answers.old answers.new result }
+        ensures schema { core.new.schema ≡ core.old.schema }
+        ensures grows { Begins answers.old answers.new }
     {
-        if text.is_empty() || text.starts_with('#') {
+        if is_passed_over(text) {
             return Ok(());
         }
         match read_command(text) {
@@ -173,6 +195,9 @@ impl Session {
     }
 
     /// Does a command, and adds its answer.
+    ///
+    /// Where a command changes what a script has set, its answer goes first: nothing has changed then where memory runs out for it, and
+    /// `take_line` takes it back where the change is refused.
     #[tactic(auto, using(crate::proofs::Begun::begins_itself, crate::proofs::Begun::begins_on))]
     fn answer(
         &mut self,
@@ -182,16 +207,21 @@ impl Session {
         command: Command<'_>,
         answers: &mut Answers,
     ) -> Result<(), Refusal>
-        ensures { Begins answers.old answers.new }
+        ensures exact { Adds
+            (λ answer. IsDone core.old.schema command.entry
+            (state_of self.old) core.old.machine answer (state_of self.new) core.new.machine)
+            answers.old answers.new result }
+        ensures schema { core.new.schema ≡ core.old.schema }
+        ensures grows { Begins answers.old answers.new }
     {
         match command {
             Command::Clock { earliest, latest } => {
-                self.clock = Interval::new(earliest, latest)?;
-                answers.word_line("ok")
+                answers.word_line("ok")?;
+                self.set_clock(earliest, latest)
             }
             Command::Param { name, kind, cell } => {
-                self.set_param(alloc, name, kind, cell)?;
-                answers.word_line("ok")
+                answers.word_line("ok")?;
+                self.set_param(alloc, name, kind, cell)
             }
             Command::Write {
                 kind,
@@ -199,52 +229,46 @@ impl Session {
                 columns,
                 record,
             } => {
-                let layout = Layout::of_columns(alloc, core.schema(), table, columns)?;
-                self.gather(alloc, &layout, kind, record)?;
-                answers.word_line("ok")
+                answers.word_line("ok")?;
+                self.write(alloc, core.schema(), kind, table, columns, record)
             }
             Command::Delete { table, record } => {
-                let layout = Layout::of_key(alloc, core.schema(), table)?;
-                self.gather(alloc, &layout, MutationKind::Delete, record)?;
-                answers.word_line("ok")
+                answers.word_line("ok")?;
+                self.delete(alloc, core.schema(), table, record)
             }
             Command::Load { table, columns } => {
-                let layout = Layout::of_columns(alloc, core.schema(), table, columns);
-                self.begin_load(number, layout);
+                self.begin_load(alloc, core.schema(), number, table, columns);
                 Ok(())
             }
-            Command::Begin => self.begin(alloc, core, answers),
+            Command::Begin => {
+                let reply = self.begin(alloc, core);
+                add_reply(alloc, &reply, answers)
+            }
             Command::Open { bound, text } => {
-                let reply = self.open(alloc, core, bound, text)?;
+                let reply = self.open(alloc, core, bound, text);
                 add_reply(alloc, &reply, answers)
             }
             Command::Query { bound, text } => {
-                let reply = self.query(alloc, core, bound, text)?;
+                let reply = self.query(alloc, core, bound, text);
                 add_reply(alloc, &reply, answers)
             }
             Command::Shards => answers.slots(core),
-            command => self.answer_numbered(alloc, core, command, answers),
+            command => match step_of(command, self.clock) {
+                Some(step) => {
+                    let reply = take_step(alloc, core, step);
+                    add_reply(alloc, &reply, answers)
+                }
+                None => Err(Refusal::BadCommand),
+            },
         }
     }
 
-    /// Does a command that is one step of numbers alone.
-    #[tactic(auto, using(crate::proofs::Begun::begins_itself, crate::proofs::Begun::begins_on))]
-    fn answer_numbered(
-        &mut self,
-        alloc: Global,
-        core: &mut Core,
-        command: Command<'_>,
-        answers: &mut Answers,
-    ) -> Result<(), Refusal>
-        ensures { Begins answers.old answers.new }
+    /// Sets the clock. `BadInterval` and `TimestampRange` as `Interval::new`.
+    fn set_clock(&mut self, earliest: u64, latest: u64) -> Result<(), Refusal>
+        ensures { Changes (SetsClock earliest latest (state_of self.old)) (RefusesClock earliest latest) self.old self.new result }
     {
-        match step_of(command, self.clock) {
-            Some(step) => {
-                let reply = core.step(alloc, step);
-                add_reply(alloc, &reply, answers)
-            }
-            None => Err(Refusal::BadCommand),
-        }
+        self.clock = Interval::new(earliest, latest)?;
+        Ok(())
     }
 
     /// Gives a parameter its value. `WrongType`: the cell is none of the type.
@@ -254,9 +278,47 @@ impl Session {
         name: &str,
         kind: Kind,
         cell: &str,
-    ) -> Result<(), Refusal> {
+    ) -> Result<(), Refusal>
+        ensures { Changes
+            (SetsParam name.now kind cell.now (state_of self.old))
+            (RefusesParam kind cell.now) self.old self.new result }
+    {
         let value = read_cell(alloc, kind, cell)?;
         self.params.add(Text::from_str(alloc, name)?, kind, value)
+    }
+
+    /// Gathers the write of a record. `NoTable`, `NoColumn` and `WrongType` as `Layout::of_columns` and `gather`.
+    fn write(
+        &mut self,
+        alloc: Global,
+        schema: &Schema,
+        kind: MutationKind,
+        table: &str,
+        columns: &str,
+        text: &str,
+    ) -> Result<(), Refusal>
+        ensures { Changes
+            (Writes schema.now kind table.now columns.now text.now (state_of self.old))
+            (RefusesWrite schema.now kind table.now columns.now text.now) self.old self.new result }
+    {
+        let layout = Layout::of_columns(alloc, schema, table, columns)?;
+        self.gather(alloc, &layout, kind, text)
+    }
+
+    /// Gathers a deletion. `NoTable` and `WrongType` as `Layout::of_key` and `gather`.
+    fn delete(
+        &mut self,
+        alloc: Global,
+        schema: &Schema,
+        table: &str,
+        text: &str,
+    ) -> Result<(), Refusal>
+        ensures { Changes
+            (Deletes schema.now table.now text.now (state_of self.old))
+            (RefusesDelete schema.now table.now text.now) self.old self.new result }
+    {
+        let layout = Layout::of_key(alloc, schema, table)?;
+        self.gather(alloc, &layout, MutationKind::Delete, text)
     }
 
     /// Gathers the mutation of a record. `WrongType`: a wrong number of fields, or a field that is no cell of its column's type.
@@ -265,17 +327,30 @@ impl Session {
         alloc: Global,
         layout: &Layout,
         kind: MutationKind,
-        record: &str,
-    ) -> Result<(), Refusal> {
-        read_fields(alloc, record, &mut self.fields)?;
+        text: &str,
+    ) -> Result<(), Refusal>
+        ensures { Changes
+            (Gathers layout.now kind text.now (state_of self.old))
+            (RefusesRecord layout.now kind text.now) self.old self.new result }
+    {
+        read_fields(alloc, text, &mut self.fields)?;
         let mutation = layout.mutation(alloc, kind, &self.fields)?;
         self.gathered.push(mutation)?;
         Ok(())
     }
 
     /// Begins the load of this line.
-    fn begin_load(&mut self, number: u64, layout: Result<Layout, Refusal>) {
-        let layout = match layout {
+    fn begin_load(
+        &mut self,
+        alloc: Global,
+        schema: &Schema,
+        number: u64,
+        table: &str,
+        columns: &str,
+    )
+        ensures { BeginsLoad schema.now table.now columns.now (state_of self.old) (state_of self.new) }
+    {
+        let layout = match Layout::of_columns(alloc, schema, table, columns) {
             Ok(layout) => Ok(layout),
             Err(why) => Err(Refused { line: number, why }),
         };
@@ -295,12 +370,15 @@ impl Session {
         line: Line<'_>,
         answers: &mut Answers,
     ) -> Result<(), Refused>
-        ensures { Begins answers.old answers.new }
+        ensures exact { self.old.load ≡ None → AddsAt
+            (λ answer. IsLoadLine (load_of load) (text_of line.entry) (state_of self.old) answer (state_of self.new))
+            answers.old answers.new result }
+        ensures grows { Begins answers.old answers.new }
     {
         match line {
             Line::Text("end") => self.end_load(load, number, answers),
-            Line::Text(record) => {
-                self.load_record(alloc, load, number, record);
+            Line::Text(text) => {
+                self.load_record(alloc, load, number, text);
                 Ok(())
             }
             Line::Unreadable => {
@@ -311,10 +389,12 @@ impl Session {
     }
 
     /// Gathers the insert of a record of a load that is not refused yet.
-    fn load_record(&mut self, alloc: Global, load: Load, number: u64, record: &str) {
+    fn load_record(&mut self, alloc: Global, load: Load, number: u64, text: &str)
+        ensures { LoadsRecord (load_of load) text.now (state_of self.old) (state_of self.new) }
+    {
         let Load { layout, before } = load;
         match layout {
-            Ok(layout) => match self.gather(alloc, &layout, MutationKind::Insert, record) {
+            Ok(layout) => match self.gather(alloc, &layout, MutationKind::Insert, text) {
                 Ok(()) => {
                     self.load = Some(Load {
                         layout: Ok(layout),
@@ -323,12 +403,19 @@ impl Session {
                 }
                 Err(why) => self.refuse_load(before, Refused { line: number, why }),
             },
-            Err(refused) => self.refuse_load(before, refused),
+            Err(refused) => {
+                self.load = Some(Load {
+                    layout: Err(refused),
+                    before,
+                });
+            }
         }
     }
 
     /// Refuses a load for an unreadable line, which goes before other causes. The first one counts.
-    fn load_unreadable(&mut self, load: Load, number: u64) {
+    fn load_unreadable(&mut self, load: Load, number: u64)
+        ensures { state_of self.new ≡ refused_load (load_of load) Refusal.BadCommand (state_of self.old) }
+    {
         let why = Refusal::BadCommand;
         match load.layout {
             Err(refused) if refused.why == why => self.refuse_load(load.before, refused),
@@ -337,7 +424,12 @@ impl Session {
     }
 
     /// Lets go what a load has gathered. The load will be refused.
-    fn refuse_load(&mut self, before: usize, refused: Refused) {
+    fn refuse_load(&mut self, before: usize, refused: Refused)
+        ensures { state_of self.new ≡ record (state_of self.old) {
+          gathered = take before (state_of self.old).gathered;
+          load = Some (record { layout = Err refused.why; before = before });
+        } }
+    {
         self.gathered.truncate(before);
         self.load = Some(Load {
             layout: Err(refused),
@@ -345,104 +437,183 @@ impl Session {
         });
     }
 
-    /// Answers a load at its `end`, the line of this number.
+    /// Answers a load at its `end`, the line of this number. Where memory runs out for the answer the load has gathered nothing.
     #[tactic(auto, using(crate::proofs::Begun::begins_itself, crate::proofs::Begun::begins_on))]
     fn end_load(&mut self, load: Load, number: u64, answers: &mut Answers) -> Result<(), Refused>
-        ensures { Begins answers.old answers.new }
+        ensures exact { self.old.load ≡ None → AddsAt
+            (λ answer. EndsLoad (load_of load) (state_of self.old) answer (state_of self.new))
+            answers.old answers.new result }
+        ensures grows { Begins answers.old answers.new }
     {
         match load.layout {
             Ok(_) => {
                 let loaded = self.gathered.len().saturating_sub(load.before);
                 match answers.number_line("loaded", loaded as u64) {
                     Ok(()) => Ok(()),
-                    Err(why) => Err(Refused { line: number, why }),
+                    Err(why) => {
+                        self.gathered.truncate(load.before);
+                        Err(Refused { line: number, why })
+                    }
                 }
             }
             Err(refused) => Err(refused),
         }
     }
 
-    /// Begins a transaction of what was gathered, which is gathered no more whatever the answer is.
-    #[tactic(auto, using(crate::proofs::Begun::begins_itself, crate::proofs::Begun::begins_on))]
-    fn begin(
-        &mut self,
-        alloc: Global,
-        core: &mut Core,
-        answers: &mut Answers,
-    ) -> Result<(), Refusal>
-        ensures { Begins answers.old answers.new }
+    /// Begins a transaction of what was gathered, which is gathered no more whatever the reply is.
+    #[tactic(auto, using(crate::proofs::Doing::begun, crate::proofs::Doing::begun_refused))]
+    fn begin(&mut self, alloc: Global, core: &mut Core) -> Reply
+        ensures begun { IsBegun core.old.schema core.old.machine (state_of self.old).gathered result core.new.machine }
+        ensures emptied { state_of self.new ≡ record (state_of self.old) { gathered = [] } }
+        ensures schema { core.new.schema ≡ core.old.schema }
     {
         let gathered = mem::replace(&mut self.gathered, Vec::new(alloc));
-        let transaction = Transaction::new(alloc, core.schema(), gathered)?;
-        let step = Step::Begin {
-            owner: OWNER,
-            transaction,
-        };
-        let reply = core.step(alloc, step);
-        add_reply(alloc, &reply, answers)
+        match Transaction::new(alloc, core.schema(), gathered) {
+            Ok(transaction) => take_step(
+                alloc,
+                core,
+                Step::Begin {
+                    owner: OWNER,
+                    transaction,
+                },
+            ),
+            Err(why) => Reply::Refused(why),
+        }
     }
 
-    /// Opens a query with the parameters that are set. `OutOfMemory` is the refusal; others are replies.
-    fn open(
-        &self,
-        alloc: Global,
-        core: &mut Core,
-        bound: Bound,
-        text: &str,
-    ) -> Result<Reply, Refusal> {
-        let step = Step::Open {
+    /// Opens a query with the parameters that are set.
+    fn open(&self, alloc: Global, core: &mut Core, bound: Bound, text: &str) -> Reply
+        ensures taken { Takes core.old.schema core.old.machine
+            (step_of_kind.Open text.now (state_of self.now).params bound (state_of self.now).clock) result core.new.machine }
+        ensures schema { core.new.schema ≡ core.old.schema }
+    {
+        match self.opening(alloc, bound, text) {
+            Ok(step) => take_step(alloc, core, step),
+            Err(why) => {
+                core.is_reached();
+                Reply::Refused(why)
+            }
+        }
+    }
+
+    /// The step that opens a query. `OutOfMemory` is the only refusal.
+    fn opening(&self, alloc: Global, bound: Bound, text: &str) -> Result<Step, Refusal>
+        ensures step { IfOk result (λ step. step ≡ step_of_kind.Open text.now (state_of self.now).params bound (state_of self.now).clock) }
+        ensures memory { IsOkUnless result Refusal.OutOfMemory }
+    {
+        Ok(Step::Open {
             text: Text::from_str(alloc, text)?,
             params: self.params.copy(alloc)?,
             bound,
             interval: self.clock,
-        };
-        Ok(core.step(alloc, step))
+        })
     }
 
     /// Opens a query, scans its leaves, finishes and closes it: the reply of the first step that is refused, else the rows.
-    fn query(
-        &self,
-        alloc: Global,
-        core: &mut Core,
-        bound: Bound,
-        text: &str,
-    ) -> Result<Reply, Refusal> {
-        match self.open(alloc, core, bound, text)? {
+    fn query(&self, alloc: Global, core: &mut Core, bound: Bound, text: &str) -> Reply
+        ensures queried { IsQueried core.old.schema core.old.machine (state_of self.now).clock
+            (step_of_kind.Open text.now (state_of self.now).params bound (state_of self.now).clock) result core.new.machine }
+        ensures schema { core.new.schema ≡ core.old.schema }
+    {
+        match self.open(alloc, core, bound, text) {
             Reply::Opened { query, leaves, .. } => {
-                let reply = self.read(alloc, core, query, leaves);
-                let _closed = core.step(alloc, Step::Close { query });
-                Ok(reply)
+                let reply = read(alloc, core, self.clock, query, leaves);
+                let _closed = take_step(alloc, core, Step::Close { query });
+                reply
             }
-            reply => Ok(reply),
+            reply => reply,
         }
     }
+}
 
-    /// Scans the leaves of an open query in every slot, and finishes it.
-    fn read(&self, alloc: Global, core: &mut Core, query: u64, leaves: usize) -> Reply {
-        for leaf in 0..leaves {
-            for slot in 0..core.slots() {
-                let step = Step::Scan {
-                    query,
-                    leaf,
-                    slot,
-                    interval: self.clock,
-                };
-                match core.step(alloc, step) {
-                    Reply::Refused(why) => return Reply::Refused(why),
-                    _ => {}
-                }
-            }
+/// Scans the leaves of an open query in every slot, and finishes it.
+fn read(alloc: Global, core: &mut Core, clock: Interval, query: u64, leaves: usize) -> Reply
+    ensures read { IsRead core.old.schema core.old.machine clock query leaves result core.new.machine }
+    ensures schema { core.new.schema ≡ core.old.schema }
+{
+    match scan(alloc, core, clock, query, leaves) {
+        Ok(()) => take_step(alloc, core, Step::Finish { query }),
+        Err(why) => Reply::Refused(why),
+    }
+}
+
+/// Scans the leaves of an open query in every slot. The refusal is that of the first step that is refused.
+fn scan(
+    alloc: Global,
+    core: &mut Core,
+    clock: Interval,
+    query: u64,
+    leaves: usize,
+) -> Result<(), Refusal>
+    ensures scanned { MatchResult result
+        (λ _. AreTaken core.old.schema core.old.machine (scans clock query (length core.old.machine.slots) leaves) core.new.machine)
+        (λ why. AreRefused core.old.schema core.old.machine (scans clock query (length core.old.machine.slots) leaves) why core.new.machine) }
+    ensures schema { core.new.schema ≡ core.old.schema }
+{
+    let slots = core.slots();
+    for leaf in 0..leaves {
+        match scan_leaf(alloc, core, clock, query, leaf, slots) {
+            Ok(()) => {}
+            Err(why) => return Err(why),
         }
-        core.step(alloc, Step::Finish { query })
+    }
+    Ok(())
+}
+
+/// Scans a leaf of an open query in each of the slots.
+fn scan_leaf(
+    alloc: Global,
+    core: &mut Core,
+    clock: Interval,
+    query: u64,
+    leaf: usize,
+    slots: usize,
+) -> Result<(), Refusal>
+    ensures scanned { MatchResult result
+        (λ _. AreTaken core.old.schema core.old.machine (scans_of_leaf clock query slots leaf) core.new.machine)
+        (λ why. AreRefused core.old.schema core.old.machine (scans_of_leaf clock query slots leaf) why core.new.machine) }
+    ensures schema { core.new.schema ≡ core.old.schema }
+{
+    for slot in 0..slots {
+        let step = Step::Scan {
+            query,
+            leaf,
+            slot,
+            interval: clock,
+        };
+        match take_step(alloc, core, step) {
+            Reply::Refused(why) => return Err(why),
+            _ => {}
+        }
+    }
+    Ok(())
+}
+
+/// Takes a step. A transaction that is begun was checked against the database's schema.
+fn take_step(alloc: Global, core: &mut Core, step: Step) -> Reply
+    requires { IsOfSchema core.old.schema step }
+    ensures taken { Takes core.old.schema core.old.machine step result core.new.machine }
+    ensures schema { core.new.schema ≡ core.old.schema }
+{
+    core.is_reached();
+    core.step(alloc, step)
+}
+
+/// Whether a line has no answer: it is empty, or a remark.
+fn is_passed_over(text: &str) -> bool
+    ensures { result ≡ is_passed_over text.now }
+{
+    match text.as_bytes().first() {
+        Some(first) => *first == b'#',
+        None => true,
     }
 }
 
 /// Adds the answer that a reply is. A refused step is a refused command.
 #[tactic(auto, using(crate::proofs::Begun::begins_itself))]
 fn add_reply(alloc: Global, reply: &Reply, answers: &mut Answers) -> Result<(), Refusal>
-    ensures added { OnOk result (answers.new ≡ answers.old ++ reply_text reply.now) }
+    ensures added { Adds (IsReplied reply.now) answers.old answers.new result }
     ensures grows { Begins answers.old answers.new }
-    ensures refused { IfErr result (λ why. (why ≡ Refusal.OutOfMemory) ⊎ (reply.now ≡ Reply.Refused why)) }
 {
     match reply {
         Reply::Refused(why) => Err(*why),
@@ -452,7 +623,8 @@ fn add_reply(alloc: Global, reply: &Reply, answers: &mut Answers) -> Result<(), 
 
 /// The step of a command that is one step of numbers alone.
 fn step_of(command: Command<'_>, clock: Interval) -> Option<Step>
-    ensures { IfSome result (λ step. (schema : List Table) → IsOfSchema schema step) }
+    ensures step { result ≡ numbered_step command.entry clock }
+    ensures of_schema { IfSome result (λ step. (schema : List Table) → IsOfSchema schema step) }
 {
     match command {
         Command::Prepare { txn, slot } => Some(Step::Prepare {
@@ -490,7 +662,8 @@ fn step_of(command: Command<'_>, clock: Interval) -> Option<Step>
 
 /// The step that decides a transaction.
 fn decision(txn: u64, verdict: Verdict, clock: Interval) -> Step
-    ensures { (schema : List Table) → IsOfSchema schema result }
+    ensures step { result ≡ step_of_kind.Decide 0 txn verdict clock }
+    ensures of_schema { (schema : List Table) → IsOfSchema schema result }
 {
     Step::Decide {
         owner: OWNER,

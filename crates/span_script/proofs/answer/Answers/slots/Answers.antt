@@ -11,11 +11,12 @@ missing (x ∷ xs) (suc i) l e = missing xs i (omega arith) e
 
 pub loop-slot-preserved : goal.loop-slot-preserved
 loop-slot-preserved c =
+    let schema = c.args.core.now.schema in
     let m = c.args.core.now.machine in
     let before = c.args.self.now ++ number_line (codes "shards") (length m.slots) in
     elim c.match-slot_report.branch [
       | in-Some+in_ok-slot w ↦
-          let known : AreReported m before (c.loop-slot.slot + 1) (c.loop-slot.self ++ slot_line c.loop-slot.slot w.in-Some.state) = one_more m before c.loop-slot.slot c.loop-slot.self w.in-Some.state c.loop-slot.invariant (w.in-Some.ensures.slot_state, w.in-Some.ensures.prepared) in
+          let known : AreReported schema m before (c.loop-slot.slot + 1) (c.loop-slot.self ++ slot_line c.loop-slot.slot w.in-Some.state) = one_more schema m before c.loop-slot.slot c.loop-slot.self w.in-Some.state c.loop-slot.invariant (w.in-Some.ensures.slot_state, w.in-Some.ensures.live, w.in-Some.ensures.prepared) in
           rw (w.self-is, w.in_ok-slot.ensures.added) known
       | in_default w ↦ absurd (missing m.slots c.loop-slot.slot (omega (arith, c.loop-slot-test.true, c.slots-slot-end.ensures)) w.in_default.ensures.slot_state)
     ]

@@ -5,4 +5,4 @@ use Rattle.span_script.proofs.answer.Answers.slots.Given as goal
 
 -- the slots before the next one are reported
 abbrev pub invariant-loop-slot : goal.invariant-loop-slot
-invariant-loop-slot l = AreReported l.core.machine (l.fn.self ++ number_line (codes "shards") (length l.core.machine.slots)) l.slot l.self
+invariant-loop-slot l = AreReported l.core.schema l.core.machine (l.fn.self ++ number_line (codes "shards") (length l.core.machine.slots)) l.slot l.self

@@ -1,0 +1,97 @@
+-- A whole script, one line after another.
+use Rattle.std.proofs.Common.{◌≡◌, ℕ, List, [], ◌∷◌, ◌++◌, Option, refl, sym, subst, append_assoc}
+use Rattle.std.specs.Io.KnownBytes.{Appends, Keeps, append_known}
+use Rattle.span_schema.specs.declared.table.Table.{Table}
+use Rattle.span_machine.specs.Machine.{Machine}
+use Rattle.span_command.specs.declared.line.Line.{Line}
+use Rattle.span_command.specs.declared.line.Line.TheVariants.{Text, Unreadable}
+use Rattle.span_command.specs.declared.line.Lines.{Lines}
+use Rattle.span_command.specs.Unread.{IsTaken, ReadsAs, Stands, TakesNext}
+use Rattle.span_script.specs.Scripts.{ScriptState, IsAnswered, HasText, AreLines, AreAnswers, IsAnswerText, IsFirst, end_answer}
+use Rattle.span_script.specs.Sessions.{AddsLine, text_of}
+use Rattle.span_script.proofs.Written.{wrote_all, wrote_none, wrote_pending, keeps_on, more_pending}
+
+-- ---- lines
+
+pub has_text : (bytes : List ℕ) (line : Line) → ReadsAs bytes line → HasText bytes (text_of line)
+has_text bytes (Text text) reads = reads
+has_text bytes Unreadable reads = reads
+
+-- ---- scripts
+
+-- The lines of a script so far are answered: what answers the lines after them makes the answer text whole.
+pub record IsAnsweredSoFar (schema : List Table) (m : Machine) (script : List ℕ) (old : Option (List ℕ)) (lines : Lines) (known : Option (List ℕ))
+    (state : ScriptState) (mid : Machine) (now : Option (List ℕ)) (pending : List ℕ) : Type 0 where
+  pub rest : List ℕ
+  pub stands : Stands lines known rest
+  pub first : ScriptState
+  pub is_first : IsFirst first
+  pub answers : List ℕ
+  pub written : Keeps (append_known old answers) (append_known now pending)
+  pub whole : (following : List (List ℕ)) (others : List ℕ) (last : Machine) → AreLines rest following → AreAnswers schema following state mid others last
+      → (all : List (List ℕ)) × AreLines script all × AreAnswers schema all first m (answers ++ others) last
+
+module _ (schema : List Table) (m : Machine) (script : List ℕ) (old : Option (List ℕ)) where
+  pub none_so_far : (lines : Lines) (known : Option (List ℕ)) (state : ScriptState) → Stands lines known script → IsFirst state
+      → IsAnsweredSoFar schema m script old lines known state m old []
+  none_so_far lines known state stands is = record {
+    rest = script;
+    stands = stands;
+    first = state;
+    is_first = is;
+    answers = [];
+    written = wrote_none old [];
+    whole = λ following others last are answered. (following, are, answered);
+  }
+
+  -- a line more is answered
+  pub one_so_far : (lines lines' : Lines) (known known' : Option (List ℕ)) (state next : ScriptState) (mid mid' : Machine) (now now' : Option (List ℕ))
+      (pending pending' pending'' : List ℕ) (line : Line)
+      → (so_far : IsAnsweredSoFar schema m script old lines known state mid now pending)
+      → TakesNext lines' known' so_far.rest → ((bytes : List ℕ) → IsTaken lines' bytes → ReadsAs bytes line)
+      → Keeps (append_known now pending) (append_known now' pending')
+      → AddsLine schema (text_of line) state mid next mid' pending' pending''
+      → IsAnsweredSoFar schema m script old lines' known' next mid' now' pending''
+  one_so_far lines lines' known known' state next mid mid' now now' pending pending' pending'' line so_far takes reads keeps adds =
+      record {
+        rest = takes.following;
+        stands = takes.stands;
+        first = so_far.first;
+        is_first = so_far.is_first;
+        answers = so_far.answers ++ adds.answer;
+        written = subst (λ (w : List ℕ). Keeps (append_known old (so_far.answers ++ adds.answer)) (append_known now' w)) (sym adds.added)
+            (more_pending old now' so_far.answers pending' adds.answer (keeps_on _ _ _ so_far.written keeps));
+        whole = λ following others last are answered.
+            let w = so_far.whole (takes.line ∷ following) (adds.answer ++ others) last (takes.following, takes.is_next, are)
+            (text_of line, has_text takes.line line (reads takes.line takes.is_taken), adds.answer, next, mid', adds.is, others, refl, answered) in
+            (w.0, w.1, subst (λ (a : List ℕ). AreAnswers schema w.0 so_far.first m a last) (sym (append_assoc so_far.answers adds.answer others)) w.2);
+      }
+
+  -- answers that were pending are written
+  pub written_so_far : (lines : Lines) (known : Option (List ℕ)) (state : ScriptState) (mid : Machine) (now now' : Option (List ℕ)) (pending : List ℕ)
+      → IsAnsweredSoFar schema m script old lines known state mid now pending → Appends now now' pending
+      → IsAnsweredSoFar schema m script old lines known state mid now' []
+  written_so_far lines known state mid now now' pending so_far appends = record {
+    rest = so_far.rest;
+    stands = so_far.stands;
+    first = so_far.first;
+    is_first = so_far.is_first;
+    answers = so_far.answers;
+    written = wrote_pending old now now' so_far.answers pending so_far.written appends;
+    whole = so_far.whole;
+  }
+
+  -- the script has ended
+  pub all_answered : (lines : Lines) (known : Option (List ℕ)) (state : ScriptState) (mid : Machine) (now now' last : Option (List ℕ)) (pending pending' pending'' : List ℕ)
+      → (so_far : IsAnsweredSoFar schema m script old lines known state mid now pending) → so_far.rest ≡ []
+      → Keeps (append_known now pending) (append_known now' pending') → pending'' ≡ pending' ++ end_answer state → Appends now' last pending''
+      → (answers : List ℕ) × IsAnswerText schema m script answers mid × Appends old last answers
+  all_answered lines known state mid now now' last pending pending' pending'' so_far ended keeps added appends =
+      let w = so_far.whole [] (end_answer state) mid ended (refl, refl) in
+      let written : Keeps (append_known old (so_far.answers ++ end_answer state)) (append_known now' pending'')
+      = subst (λ (w : List ℕ). Keeps (append_known old (so_far.answers ++ end_answer state)) (append_known now' w)) (sym added)
+      (more_pending old now' so_far.answers pending' (end_answer state) (keeps_on _ _ _ so_far.written keeps)) in (
+        so_far.answers ++ end_answer state,
+        record { lines = w.0; are_lines = w.1; first = so_far.first; is_first = so_far.is_first; answered = w.2 },
+        wrote_all old last (so_far.answers ++ end_answer state) (wrote_pending old now' last (so_far.answers ++ end_answer state) pending'' written appends),
+      )
