@@ -1,5 +1,5 @@
 -- A whole script, one line after another.
-use Rattle.std.proofs.Common.{◌≡◌, ℕ, List, [], ◌∷◌, ◌++◌, Option, refl, sym, subst, append_assoc}
+use Rattle.std.proofs.Common.{◌≡◌, ℕ, Bool, true, false, List, [], ◌∷◌, ◌++◌, Option, Some, MatchBool, refl, sym, subst, append_assoc}
 use Rattle.std.specs.Io.KnownBytes.{Appends, Keeps, append_known}
 use Rattle.span_schema.specs.declared.table.Table.{Table}
 use Rattle.span_machine.specs.Machine.{Machine}
@@ -17,6 +17,15 @@ pub has_text : (bytes : List ℕ) (line : Line) → ReadsAs bytes line → HasTe
 has_text bytes (Text text) reads = reads
 has_text bytes Unreadable reads = reads
 
+module _ (lines : Lines) (known : Option (List ℕ)) (text : List ℕ) (more : Bool) where
+  -- a line was taken
+  pub if_more : more ≡ true → MatchBool more (TakesNext lines known text) (text ≡ []) → TakesNext lines known text
+  if_more is either = subst (λ (b : Bool). MatchBool b (TakesNext lines known text) (text ≡ [])) is either
+
+  -- no line was left
+  pub if_no_more : more ≡ false → MatchBool more (TakesNext lines known text) (text ≡ []) → text ≡ []
+  if_no_more is either = subst (λ (b : Bool). MatchBool b (TakesNext lines known text) (text ≡ [])) is either
+
 -- ---- scripts
 
 -- The lines of a script so far are answered: what answers the lines after them makes the answer text whole.
@@ -32,54 +41,47 @@ pub record IsAnsweredSoFar (schema : List Table) (m : Machine) (script : List �
       → (all : List (List ℕ)) × AreLines script all × AreAnswers schema all first m (answers ++ others) last
 
 module _ (schema : List Table) (m : Machine) (script : List ℕ) (old : Option (List ℕ)) where
-  pub none_so_far : (lines : Lines) (known : Option (List ℕ)) (state : ScriptState) → Stands lines known script → IsFirst state
-      → IsAnsweredSoFar schema m script old lines known state m old []
-  none_so_far lines known state stands is = record {
+  -- nothing is read and nothing pending
+  pub none_so_far : (lines : Lines) (known : Option (List ℕ)) (state : ScriptState) (pending : List ℕ) → known ≡ Some script
+      → ((rest : List ℕ) → Stands lines (Some rest) rest) → IsFirst state → pending ≡ []
+      → IsAnsweredSoFar schema m script old lines known state m old pending
+  none_so_far lines known state pending is_known stands is none = record {
     rest = script;
-    stands = stands;
+    stands = subst (λ (k : Option (List ℕ)). Stands lines k script) (sym is_known) (stands script);
     first = state;
     is_first = is;
     answers = [];
-    written = wrote_none old [];
+    written = subst (λ (w : List ℕ). Keeps (append_known old []) (append_known old w)) (sym none) (wrote_none old []);
     whole = λ following others last are answered. (following, are, answered);
   }
 
-  -- a line more is answered
-  pub one_so_far : (lines lines' : Lines) (known known' : Option (List ℕ)) (state next : ScriptState) (mid mid' : Machine) (now now' : Option (List ℕ))
-      (pending pending' pending'' : List ℕ) (line : Line)
+  -- a line more is answered, and what was pending with it is written or left
+  pub one_so_far : (lines lines' : Lines) (known known' : Option (List ℕ)) (state next : ScriptState) (mid mid' : Machine) (now now' now'' : Option (List ℕ))
+      (pending pending' pending'' left : List ℕ) (line : Line) (schema' : List Table)
       → (so_far : IsAnsweredSoFar schema m script old lines known state mid now pending)
       → TakesNext lines' known' so_far.rest → ((bytes : List ℕ) → IsTaken lines' bytes → ReadsAs bytes line)
       → Keeps (append_known now pending) (append_known now' pending')
-      → AddsLine schema (text_of line) state mid next mid' pending' pending''
-      → IsAnsweredSoFar schema m script old lines' known' next mid' now' pending''
-  one_so_far lines lines' known known' state next mid mid' now now' pending pending' pending'' line so_far takes reads keeps adds =
+      → schema' ≡ schema → AddsLine schema' (text_of line) state mid next mid' pending' pending''
+      → Keeps (append_known now' pending'') (append_known now'' left)
+      → IsAnsweredSoFar schema m script old lines' known' next mid' now'' left
+  one_so_far lines lines' known known' state next mid mid' now now' now'' pending pending' pending'' left line schema' so_far takes reads keeps same added wrote =
+      let adds : AddsLine schema (text_of line) state mid next mid' pending' pending''
+      = subst (λ (s : List Table). AddsLine s (text_of line) state mid next mid' pending' pending'') same added in
+      let written : Keeps (append_known old (so_far.answers ++ adds.answer)) (append_known now' pending'')
+      = subst (λ (w : List ℕ). Keeps (append_known old (so_far.answers ++ adds.answer)) (append_known now' w)) (sym adds.added)
+      (more_pending old now' so_far.answers pending' adds.answer (keeps_on _ _ _ so_far.written keeps)) in
       record {
         rest = takes.following;
         stands = takes.stands;
         first = so_far.first;
         is_first = so_far.is_first;
         answers = so_far.answers ++ adds.answer;
-        written = subst (λ (w : List ℕ). Keeps (append_known old (so_far.answers ++ adds.answer)) (append_known now' w)) (sym adds.added)
-            (more_pending old now' so_far.answers pending' adds.answer (keeps_on _ _ _ so_far.written keeps));
+        written = keeps_on _ _ _ written wrote;
         whole = λ following others last are answered.
             let w = so_far.whole (takes.line ∷ following) (adds.answer ++ others) last (takes.following, takes.is_next, are)
             (text_of line, has_text takes.line line (reads takes.line takes.is_taken), adds.answer, next, mid', adds.is, others, refl, answered) in
             (w.0, w.1, subst (λ (a : List ℕ). AreAnswers schema w.0 so_far.first m a last) (sym (append_assoc so_far.answers adds.answer others)) w.2);
       }
-
-  -- answers that were pending are written
-  pub written_so_far : (lines : Lines) (known : Option (List ℕ)) (state : ScriptState) (mid : Machine) (now now' : Option (List ℕ)) (pending : List ℕ)
-      → IsAnsweredSoFar schema m script old lines known state mid now pending → Appends now now' pending
-      → IsAnsweredSoFar schema m script old lines known state mid now' []
-  written_so_far lines known state mid now now' pending so_far appends = record {
-    rest = so_far.rest;
-    stands = so_far.stands;
-    first = so_far.first;
-    is_first = so_far.is_first;
-    answers = so_far.answers;
-    written = wrote_pending old now now' so_far.answers pending so_far.written appends;
-    whole = so_far.whole;
-  }
 
   -- the script has ended
   pub all_answered : (lines : Lines) (known : Option (List ℕ)) (state : ScriptState) (mid : Machine) (now now' last : Option (List ℕ)) (pending pending' pending'' : List ℕ)

@@ -1,14 +1,15 @@
 //! Whole scripts.
-ghost use Rattle.std.specs.Prelude.{◌≡◌, ◌⊎◌, ℕ, List, [], IfErr, IfOk, OnOk, MatchBool};
-ghost use Rattle.std.specs.Io.KnownBytes.{Keeps, append_known};
+ghost use Rattle.std.specs.Prelude.{◌≡◌, ◌⊎◌, ℕ, List, [], Some, IfErr, IfOk, OnOk, MatchBool};
+ghost use Rattle.std.specs.Io.KnownBytes.{Appends, Keeps, append_known};
 ghost use Rattle.span_command.specs.Device.{risen};
 ghost use Rattle.span_command.specs.Unread.{Stands, TakesNext};
+ghost use Rattle.span_script.specs.Scripts.{IsAnswerText};
 
 use super::answer::Answers;
-use super::report::{Reports, query_of};
+use super::report::{Refused, Reports, query_of};
 use super::session::Session;
 use span_command::device::{Input, Output};
-use span_command::line::Lines;
+use span_command::line::{Line, Lines};
 use span_core::database::Core;
 use span_value::refusal::Refusal;
 use std::alloc::Global;
@@ -25,6 +26,10 @@ pub fn run<I: Input, O: Output, R: Reports>(
     reports: &mut R,
     core: &mut Core,
 ) -> Result<(), Refusal>
+    // What is written is the answer text of what is read.
+    ensures answered { OnOk result ((script : List ℕ) → I.remaining input.old ≡ Some script
+        → (answers : List ℕ) × IsAnswerText core.old.schema core.old.machine script answers core.new.machine
+        × Appends (O.written output.old) (O.written output.new) answers) }
     ensures schema { core.new.schema ≡ core.old.schema }
     ensures ok { OnOk result ((I.failures input.new ≡ I.failures input.old) × (O.failures output.new ≡ O.failures output.old)) }
     ensures err { IfErr result (λ why. (why ≡ Refusal.OutOfMemory)
@@ -37,19 +42,15 @@ pub fn run<I: Input, O: Output, R: Reports>(
     let mut number: u64 = 0;
     for _ in 0..u64::MAX {
         if !take_next(&mut lines, input, &mut answers, output)? {
-            if let Some(refused) = session.finish(number, &mut answers)? {
-                reports.report(refused, None);
-            }
+            let refused = session.finish(number, &mut answers)?;
+            report_refused(reports, refused, None);
             return answers.write_to(output);
         }
         number = number.saturating_add(1);
         let line = lines.line();
-        if let Some(refused) = session.take_line(alloc, core, number, line, &mut answers)? {
-            reports.report(refused, query_of(line));
-        }
-        if answers.are_many() {
-            answers.write_to(output)?;
-        }
+        let refused = session.take_line(alloc, core, number, line, &mut answers)?;
+        report_refused(reports, refused, Some(line));
+        write_many(&mut answers, output)?;
     }
     // No input gives as many lines: it has at most 2^63 bytes.
     Err(Refusal::OutOfMemory)
@@ -80,4 +81,27 @@ fn take_next<I: Input, O: Output>(
     }
     // No input gives bytes as often.
     Err(Refusal::OutOfMemory)
+}
+
+/// Reports a refused command, if one was: that of a line, or of the end of the script.
+fn report_refused<R: Reports>(reports: &mut R, refused: Option<Refused>, line: Option<Line<'_>>) {
+    if let Some(refused) = refused {
+        let query = match line {
+            Some(line) => query_of(line),
+            None => None,
+        };
+        reports.report(refused, query);
+    }
+}
+
+/// Writes what was answered, where it is time to.
+fn write_many<O: Output>(answers: &mut Answers, output: &mut O) -> Result<(), Refusal>
+    ensures written { OnOk result (Keeps (append_known (O.written output.old) answers.old) (append_known (O.written output.new) answers.new)) }
+    ensures ok { OnOk result (O.failures output.new ≡ O.failures output.old) }
+    ensures err { IfErr result (λ why. (why ≡ Refusal.OutputFault) × (O.failures output.new ≡ risen (O.failures output.old))) }
+{
+    if answers.are_many() {
+        answers.write_to(output)?;
+    }
+    Ok(())
 }
