@@ -9,6 +9,9 @@ processors, where no number is given), each over what `rt check` kept of its cra
 edits of a crate take as long as its proof. Run it for a crate whose contracts or code changed. Where all edits of a crate are refused, its
 line in tests/edits/README.md gets the date and the commit.
 
+An edit is tried on the functions that it changes first, by themselves: where one is not proved, the edit is refused, and the rest of the
+crate need not be checked. Only where that shows nothing is the whole crate checked with it.
+
 An edit that is refused only because a proof file names what the edit took away says little of the contract: such edits are counted apart.
 """
 import argparse
@@ -27,6 +30,11 @@ TOP = os.path.dirname(os.path.dirname(os.path.abspath(__file__)))
 EDITS = os.path.join(TOP, "tests", "edits")
 README = os.path.join(EDITS, "README.md")
 BY_NAMES = "only because a proof file names"
+FLAGS = ["--jobs", "1"]
+FUNCTION = re.compile(r"^\s*(?:pub(?:\([a-z]+\))? )?fn (\w+)", re.M)
+# A goal that has no proof, and a proof that no longer fits since it names what is gone.
+GOAL = re.compile(r"note: \S+:\d+:\d+:|\S+:\d+:\d+: error")
+NAMES_GONE = re.compile(r"(\./)?proofs/.*(has no field|is not in scope|has no `|was not admitted)")
 # Edits that are tried one after another over one copy of what is kept of their crate.
 TOGETHER = 8
 
@@ -80,18 +88,51 @@ def build_libraries(crates):
         subprocess.run(["rt", "lib"], cwd=low.folder, check=True, stdout=subprocess.DEVNULL)
 
 
+def functions_of(crate, edit):
+    """The names of the functions that an edit changes."""
+    names, file = [], ""
+    with open(edit, encoding="utf-8") as lines:
+        for line in lines.read().split("\n"):
+            if line.startswith("file: "):
+                file = line.removeprefix("file: ").strip()
+            elif line.startswith("old: ") and file.startswith("src/"):
+                old = line.removeprefix("old: ")
+                with open(os.path.join(crate.folder, file), encoding="utf-8") as source:
+                    text = source.read()
+                names += FUNCTION.findall(text[: text.find(old) + len(old)])[-1:]
+    return names
+
+
+def refusal_alone(rt, crate, edit, kept):
+    """What is said where a function that the edit changes is not proved by itself, for a goal of its own; None where that shows nothing."""
+    texts, why = rt.read_edit(edit, crate.folder)
+    for name in [] if why else functions_of(crate, edit):
+        ran = rt.checked(crate, texts, [*FLAGS, "--only", name], kept)
+        lines = ran.stdout.split("\n")
+        goals = [line for line in lines if GOAL.match(line) and not NAMES_GONE.match(line)]
+        if ran.returncode == 1 and goals and not any(rt.unread(line, texts) for line in lines):
+            return f"must-fail {crate.name}/{os.path.basename(edit)}: refused, as it must be: {name}: {goals[0][:160]}"
+    return None
+
+
+def try_edit(rt, crate, edit, kept):
+    """Whether an edit is refused, and what is said of it."""
+    alone = refusal_alone(rt, crate, edit, kept)
+    return (True, alone) if alone else rt.must_fail(crate, edit, FLAGS, kept)
+
+
 def try_edits(rt, crate, edits):
     """Tries edits of a crate, writes what is said of each, and returns it with whether it was refused."""
-    flags, tried = ["--jobs", "1"], []
+    tried = []
     with tempfile.TemporaryDirectory(prefix="edits-") as kept:
         of_crate = os.path.join(crate.folder, "out", "incremental")
         if os.path.isdir(of_crate):
             shutil.copytree(of_crate, kept, dirs_exist_ok=True)
         for edit in edits:
-            tried.append(rt.must_fail(crate, edit, flags, kept))
+            tried.append(try_edit(rt, crate, edit, kept))
             print(tried[-1][1], flush=True)
         # What is refused over kept work counts where the crate itself is proved over it.
-        if rt.checked(crate, {}, flags, kept).returncode:
+        if rt.checked(crate, {}, FLAGS, kept).returncode:
             print(f"edits: {crate.name} is not proved itself", flush=True)
             return [(False, text) for _, text in tried]
     return tried

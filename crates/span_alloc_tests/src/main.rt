@@ -1,9 +1,11 @@
-//! For tests alone: two transactions and two queries by steps on a core. A step that answers `OutOfMemory` is taken again, so that an
-//! allocation that fails inside a step changes nothing of what is written.
+//! For tests alone: two transactions and two queries by steps on a core, and then a whole run of a list of steps. A step that answers
+//! `OutOfMemory` is taken again, and so is the run where one of its steps does, so that an allocation that fails inside a step changes
+//! nothing of what is written.
 #![tactic(auto)]
 
 mod schema;
 mod steps;
+mod whole_run;
 
 use schema::users_and_albums;
 use span_core::database::Core;
@@ -12,6 +14,7 @@ use span_report::error::ProgramError;
 use std::alloc::Global;
 use std::process::ExitCode;
 use steps::reply_at;
+use whole_run::replies_of_run;
 
 fn main(rt: HostRuntime) -> ExitCode {
     match run(&rt) {
@@ -30,7 +33,24 @@ fn run(rt: &(impl AllocGlobal + Print + Eprint)) -> Result<(), ProgramError> {
         let reply = take(rt, alloc, &mut core, number)?;
         write_reply(rt, &reply)?;
     }
+    for reply in take_run(rt, alloc)?.as_slice() {
+        write_reply(rt, reply)?;
+    }
     Ok(())
+}
+
+/// Takes the whole run, and once more where one of its steps answers `OutOfMemory`.
+fn take_run(rt: &impl Eprint, alloc: Global) -> Result<Vec<Reply>, ProgramError> {
+    let replies = replies_of_run(alloc)?;
+    if replies.as_slice().iter().any(is_out_of_memory) {
+        eprintln!(rt; "again the run")?;
+        return replies_of_run(alloc);
+    }
+    Ok(replies)
+}
+
+fn is_out_of_memory(reply: &Reply) -> bool {
+    matches!(reply, Reply::Refused(Refusal::OutOfMemory))
 }
 
 /// Takes a step, and once more where it answers `OutOfMemory`.

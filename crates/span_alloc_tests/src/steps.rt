@@ -86,12 +86,21 @@ pub fn reply_at(alloc: Global, core: &mut Core, number: usize) -> Result<Reply, 
     }
 }
 
-fn begin(alloc: Global, core: &mut Core, rows: &[Asked<'_>]) -> Result<Reply, ProgramError> {
+/// The mutations of the first transaction.
+pub fn first_mutations(alloc: Global) -> Result<Vec<Mutation>, ProgramError> {
+    mutations_of(alloc, &ROWS)
+}
+
+fn mutations_of(alloc: Global, rows: &[Asked<'_>]) -> Result<Vec<Mutation>, ProgramError> {
     let mut mutations = Vec::new(alloc);
     for row in rows {
         mutations.push(mutation(alloc, row)?)?;
     }
-    let transaction = Transaction::new(alloc, core.schema(), mutations)?;
+    Ok(mutations)
+}
+
+fn begin(alloc: Global, core: &mut Core, rows: &[Asked<'_>]) -> Result<Reply, ProgramError> {
+    let transaction = Transaction::new(alloc, core.schema(), mutations_of(alloc, rows)?)?;
     Ok(core.step(
         alloc,
         Step::Begin {

@@ -36,11 +36,11 @@ split f rank c bound (suc k) r h run =
     let again : IsSplit f rank c (rank h) k r (f h).next = split f rank c (rank h) k r (f h).next run2.2 in
     record { front = (run2.0, run2.1, again.front); low = again.low; lower = omega (arith, again.lower, run2.1); above = (again.lower, again.above); rest = again.rest }
 
-walk-snoc : (f : ℕ → NodeRecord) (k h : ℕ) → walk f (suc k) h ≡ walk f k h ++ (f (follow f k h)).version ∷ []
+pub walk-snoc : (f : ℕ → NodeRecord) (k h : ℕ) → walk f (suc k) h ≡ walk f k h ++ (f (follow f k h)).version ∷ []
 walk-snoc f zero h = refl
 walk-snoc f (suc k) h = ap (λ vs. (f h).version ∷ vs) (walk-snoc f k (f h).next)
 
-follow-snoc : (f : ℕ → NodeRecord) (k h : ℕ) → follow f (suc k) h ≡ (f (follow f k h)).next
+pub follow-snoc : (f : ℕ → NodeRecord) (k h : ℕ) → follow f (suc k) h ≡ (f (follow f k h)).next
 follow-snoc f zero h = refl
 follow-snoc f (suc k) h = follow-snoc f k (f h).next
 

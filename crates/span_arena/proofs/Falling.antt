@@ -4,7 +4,7 @@ use Rattle.std.specs.Prelude.{map, find, nat_lt}
 use Rattle.std.specs.List.{AllByRecursion}
 use Rattle.std.proofs.lemmas.Bool.Decides.{nat_tests}
 use Rattle.span_arena.specs.declared.version.Version.{Version}
-use Rattle.span_arena.specs.Content.{Content, Prepared, versions, versions_in, prepared_at, newest_upto, kept_at, kept_upto, kept_by, with_kept, IsNewChain, IsReserved, linked, linked_as, without_chain, IsSomePrepared}
+use Rattle.span_arena.specs.Content.{Content, Prepared, versions, versions_in, prepared_at, newest_upto, kept_at, kept_upto, kept_by, with_kept, with_versions, IsNewChain, IsReserved, linked, linked_as, without_chain, IsSomePrepared}
 use Rattle.span_arena.specs.Order.{IsLater, AreFalling, timestamps, IsLast, IsLastUpto, IsNewestUpto, AreInTimeOrder, IsLaterFor}
 
 -- ---- the newest version at or below a timestamp
@@ -116,3 +116,13 @@ falling_by (Some h) vs falling = falling_kept h vs falling
 -- a chain is trimmed or cleared
 pub falling-keep : (a : Content) (c : ℕ) (horizon : Option ℕ) → AreInTimeOrder a → AreInTimeOrder (with_kept a c (kept_by horizon (versions a c)))
 falling-keep a c horizon all = falling_set a.chains c (Some (kept_by horizon (versions a c))) all (falling_by horizon (versions a c) (all c))
+
+-- the newest version is taken out
+pub falling-rest : (a : Content) (c : ℕ) (v : Version) (rest : List Version) → AreInTimeOrder a → versions a c ≡ v ∷ rest → AreInTimeOrder (with_kept a c rest)
+falling-rest a c v rest all is =
+    let falling : AreFalling (timestamps (v ∷ rest)) = subst (λ (vs : List Version). AreFalling (timestamps vs)) is (all c) in
+    falling_set a.chains c (Some rest) all falling.1
+
+-- a chain has these versions now
+pub falling-versions : (a : Content) (c : ℕ) (vs : List Version) → AreInTimeOrder a → AreFalling (timestamps vs) → AreInTimeOrder (with_versions a c vs)
+falling-versions a c vs all falling = falling_set a.chains c (Some vs) all falling

@@ -6,5 +6,8 @@ pub mod Contents
 pub mod Spares
 pub mod Walking
 pub mod Cutting
+pub mod Taking
+pub mod Filling
+pub mod Emptying
 pub mod Keeping
 pub mod Falling

@@ -168,3 +168,21 @@ trimmed c chain horizon = with_kept c chain (kept_upto horizon (versions c chain
 
 abbrev pub cleared : Content → ℕ → Content
 cleared c chain = with_kept c chain []
+
+-- with a free node more
+abbrev pub with_free_node : Content → Content
+with_free_node c = record c { prepared = c.prepared ++ None ∷ []; free = c.free + 1 }
+
+-- there are as many nodes as may be in use; or there may be more, and memory ran out
+abbrev pub IsRefusedRoom : Content → Refusal → Type 0
+IsRefusedRoom c why = ((why ≡ ShardFull) × (length c.prepared ≡ c.most)) ⊎ ((why ≡ OutOfMemory) × (length c.prepared < c.most))
+
+-- the version was the newest of its chain, which has the others now; its node is free
+pub record IsTakenFrom (old new : Content) (chain : ℕ) (v : Version) : Type 0 where
+  pub rest : List Version
+  pub was : versions old chain ≡ v ∷ rest
+  pub now : new ≡ with_kept old chain rest
+
+-- a chain that had no version has these, in nodes that were free
+abbrev pub with_versions : Content → ℕ → List Version → Content
+with_versions c chain vs = record c { chains = slice_set c.chains chain (Some vs); free = c.free - length vs }

@@ -1,12 +1,12 @@
 //! The arena: its nodes, its chains and its free ones.
-ghost use Rattle.std.specs.Prelude.{◌≡◌, ◌<◌, ◌^◌, true, [], None, Some, length, IfOk, IfErr, OnErr, nat_lt};
+ghost use Rattle.std.specs.Prelude.{◌≡◌, ◌<◌, ◌≤◌, ◌^◌, true, [], None, Some, length, IfOk, IfErr, OnErr, OnOk, MatchOption, nat_lt};
 ghost use Rattle.span_keycode.specs.Order.{byte_order};
 ghost use Rattle.span_arena.specs.Cells.{cell_at, is_past, new_cell, with_links, IsCompared, IsWritten};
 ghost use Rattle.span_arena.specs.Limits.{most_nodes};
 ghost use Rattle.span_arena.specs.declared.arena.TheConstants.{MOST_NODES};
 ghost use Rattle.std.specs.Option.{option_copied};
 ghost use Rattle.span_arena.specs.Order.{IsNewestUpto, IsLaterFor, AreInTimeOrder};
-ghost use Rattle.span_arena.specs.Content.{Content, versions, prepared_at, IsChain, AreAllChains, IsInOrder, is_unused, prepared_for, live, newest_upto, IsPrepared, linked, given_back, trimmed, cleared, kept_by, with_at, with_cells, with_kept, without_chain, IsNewChain, IsReserved, IsRefusedNode};
+ghost use Rattle.span_arena.specs.Content.{Content, versions, prepared_at, IsChain, AreAllChains, IsInOrder, is_unused, prepared_for, live, newest_upto, IsPrepared, linked, given_back, trimmed, cleared, kept_by, with_at, with_cells, with_kept, without_chain, IsNewChain, IsReserved, IsRefusedNode, IsRefusedRoom, IsTakenFrom, with_free_node, with_versions};
 
 use crate::cell::{Cell, Links};
 use crate::cut::cut;
@@ -14,6 +14,7 @@ use crate::record::{ChainRecord, NodeRecord, Place, VersionLinks};
 use crate::steps::Steps;
 use crate::token::{Chain, Node};
 use crate::version::Version;
+use span_keycode::compare::order_of_bytes;
 use span_keycode::key::Key;
 use span_value::refusal::Refusal;
 use span_value::seq::Seq;
@@ -193,6 +194,13 @@ impl Arena {
         Ok(Chain { number })
     }
 
+    /// The most nodes that may be in use.
+    pub fn most(&self) -> usize
+        ensures { result ≡ self.now.most }
+    {
+        self.most
+    }
+
     /// How many numbers of chains there are, with those that are free.
     pub fn numbers(&self) -> usize
         ensures len { result ≡ length self.now.cells }
@@ -223,7 +231,7 @@ impl Arena {
         requires { number < length self.now.cells }
         ensures { result ≡ byte_order key.now (cell_at self.now.cells number).key }
     {
-        key.cmp(&self.key(number))
+        order_of_bytes(key, self.key(number))
     }
 
     /// The order of a key to that of a chain, counted as a step.
@@ -254,7 +262,7 @@ impl Arena {
     {
         steps.compare();
         let key = self.key(number);
-        !key.cmp(&front).is_lt() && !key.starts_with(front)
+        !order_of_bytes(key, front).is_lt() && !key.starts_with(front)
     }
 
     /// Other links for a chain in the tree of keys. It takes no memory.
@@ -399,6 +407,109 @@ impl Arena {
         ensures { self.new ≡ cleared self.old chain.number }
     {
         self.keep(chain, None);
+    }
+
+    /// How many versions a chain has.
+    pub fn count(&self, chain: Chain) -> usize
+        requires { IsChain self.now chain.number }
+        ensures { result ≡ length (versions self.now chain.number) }
+    {
+        let ChainRecord::Used(links) = self.chains[chain.number] else {
+            unreachable!()
+        };
+        links.count
+    }
+
+    /// Adds a free node. `Refusal::ShardFull` where there are as many nodes as may be in use, else `Refusal::OutOfMemory`; both leave all
+    /// as it was.
+    pub fn add_free_node(&mut self) -> Result<(), Refusal>
+        ensures ok { OnOk result (self.new ≡ with_free_node self.old) }
+        ensures err { OnErr result (self.new ≡ self.old) }
+        ensures refused { IfErr result (λ why. IsRefusedRoom self.old why) }
+    {
+        let number = self.nodes.len();
+        if self.most <= number {
+            return Err(Refusal::ShardFull);
+        }
+        let node = NodeRecord {
+            place: Place::Free(self.free_count + 1),
+            next: self.free,
+            version: Version {
+                timestamp: 0,
+                image: None,
+            },
+        };
+        let Ok(()) = self.nodes.push(node) else {
+            return Err(Refusal::OutOfMemory);
+        };
+        self.free = number;
+        self.free_count += 1;
+        Ok(())
+    }
+
+    /// Takes the newest version out of its chain and frees its node. Its image is moved. None where the chain has no version. It takes
+    /// no memory.
+    pub fn take_newest(&mut self, chain: Chain) -> Option<Version>
+        requires { IsChain self.old chain.number }
+        ensures { MatchOption result
+            ((versions self.old chain.number ≡ []) × (self.new ≡ self.old))
+            (IsTakenFrom self.old self.new chain.number) }
+    {
+        let ChainRecord::Used(links) = self.chains[chain.number] else {
+            unreachable!()
+        };
+        if links.count == 0 {
+            return None;
+        }
+        let cell = &mut self.nodes[links.newest];
+        let version = Version {
+            timestamp: cell.version.timestamp,
+            image: cell.version.image.take(),
+        };
+        let next = cell.next;
+        cell.place = Place::Free(self.free_count + 1);
+        cell.next = self.free;
+        self.free = links.newest;
+        self.free_count += 1;
+        self.chains[chain.number] = ChainRecord::Used(VersionLinks {
+            newest: next,
+            count: links.count - 1,
+            prepared: links.prepared,
+        });
+        Some(version)
+    }
+
+    /// Moves all versions of a chain of another arena to a chain with none, into free nodes. Their nodes there are free then. Images are
+    /// moved, and it takes no memory.
+    pub fn take_versions(&mut self, chain: Chain, from: &mut Arena, source: Chain)
+        requires chain { IsChain self.old chain.number }
+        requires none { versions self.old chain.number ≡ [] }
+        requires source { IsChain from.old source.number }
+        requires free { length (versions from.old source.number) ≤ self.old.free }
+        ensures here { self.new ≡ with_versions self.old chain.number (versions from.old source.number) }
+        ensures there { from.new ≡ cleared from.old source.number }
+    {
+        let ChainRecord::Used(links) = self.chains[chain.number] else {
+            unreachable!()
+        };
+        // What holds of every arena is known of one whose fields are used.
+        let _ = &from.nodes;
+        let newest = self.free;
+        let mut count = 0;
+        // The free nodes are linked already: the first of them become the chain.
+        while let Some(version) = from.take_newest(source) {
+            let cell = &mut self.nodes[self.free];
+            cell.place = Place::Linked(chain.number);
+            cell.version = version;
+            self.free = cell.next;
+            self.free_count -= 1;
+            count += 1;
+        }
+        self.chains[chain.number] = ChainRecord::Used(VersionLinks {
+            newest,
+            count,
+            prepared: links.prepared,
+        });
     }
 
     // Frees the versions of a chain but those that are kept at the horizon; with no horizon all of them.

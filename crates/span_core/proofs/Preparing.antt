@@ -16,15 +16,16 @@ use Rattle.span_core.specs.Histories.{Steps}
 use Rattle.span_value.specs.Results.{first_cause}
 use Rattle.span_machine.specs.Machine.{Machine, Answer, refused, unless_refused, if_some, for_slot, mutations_in, mutations_refusal, prepare, prepare_transaction, prepare_refusal, prepare_timestamp, capacity_refusal, prepared, is_undecided, is_prepared_at, has_conflict}
 use Rattle.span_machine.specs.Kept.{most_versions, live_with}
-use Rattle.span_version_laws.proofs.Trims.{horizon_here}
+use Rattle.span_machine.specs.Slots.{range_of, whole_range}
+use Rattle.span_machine.proofs.WholeRanges.{whole_mutations}
 use Rattle.span_machine.specs.Pieces.{Journaled, machine_of}
 use Rattle.span_machine_laws.proofs.Reached.{IsReached, answer_reached}
 use Rattle.span_version_laws.specs.Kept.{AreKept, ArePieced}
-use Rattle.span_version_laws.proofs.Claimers.{only_slot}
+use Rattle.span_version_laws.proofs.FirstSlot.{only_slot, first_range}
 use Rattle.span_version_laws.proofs.Covers.{pieced_by_step}
 use Rattle.span_version_laws.proofs.Preparing.{its_typed, prepare_free, prepare_new, prepare_fault, prepare_well, kept_prepared, live_prepared}
 use Rattle.span_journal.specs.Judged.{MayPrepare, IsNoted, IsUnnoted, has_wrong_state, note_cause}
-use Rattle.span_journal.proofs.Preparing.{timestamp_refusal, all_in, note_stamp}
+use Rattle.span_journal.proofs.Preparing.{timestamp_refusal, note_stamp}
 use Rattle.span_core.specs.Whole.{IsWhole}
 use Rattle.span_core.proofs.Wholes.{no_text, past_answered}
 use Rattle.span_schema.specs.declared.table.Table.{Table}
@@ -54,6 +55,9 @@ module _ (schema : List Table) (j : Journaled) (cs : List KeyVersions) (w : IsWh
   here_zero : slice_get (machine_of j).slots 0 ≡ Some may.slot_state
   here_zero = subst (λ i. slice_get (machine_of j).slots i ≡ Some may.slot_state) zero_slot may.here
 
+  whole : range_of may.slot_state ≡ whole_range
+  whole = first_range schema (machine_of j) w.reached may.slot_state here_zero
+
   accepted_zero : prepare_refusal schema (machine_of j) 0 may.transaction may.slot_state ≡ None
   accepted_zero = subst (λ i. prepare_refusal schema (machine_of j) i may.transaction may.slot_state ≡ None) zero_slot may.accepted
 
@@ -67,7 +71,7 @@ module _ (schema : List Table) (j : Journaled) (cs : List KeyVersions) (w : IsWh
   -- nor is its state wrong
   right : has_wrong_state slot may.transaction ≡ false
   right =
-      ap (λ (ms : List CheckedMutation). not (is_undecided may.transaction) || is_prepared_at slot may.transaction || (length ms == 0)) (sym (all_in schema may.slot_state may.transaction.mutations))
+      ap (λ (ms : List CheckedMutation). not (is_undecided may.transaction) || is_prepared_at slot may.transaction || (length ms == 0)) (sym (whole_mutations schema may.slot_state whole may.transaction.mutations))
       ∙ first_passes (not (is_undecided may.transaction) || is_prepared_at slot may.transaction || (length (mutations_in schema may.slot_state may.transaction.mutations) == 0)) (has_conflict schema (machine_of j) slot (mutations_in schema may.slot_state may.transaction.mutations)) may.accepted
 
   -- what is left to check: the capacity, and then the timestamp
@@ -114,11 +118,10 @@ module _ (schema : List Table) (j : Journaled) (cs : List KeyVersions) (w : IsWh
     to_room = prepare_is ∙ ap (λ (o : Option Refusal). unless_refused (machine_of j) o tail) well
 
     -- with the writes there are as many versions as the machine counts
-    number : live (with_writes txn ws cs) ≡ live_with schema (machine_of j).log (machine_of j).transactions slot may.slot_state.horizon (mutations_in schema may.slot_state may.transaction.mutations)
+    number : live (with_writes txn ws cs) ≡ live_with schema (machine_of j).log (machine_of j).transactions slot may.slot_state (mutations_in schema may.slot_state may.transaction.mutations)
     number =
         live_prepared schema w.rules (machine_of j) w.reached cs w.kept owner txn may.transaction may.slot_state may.found here_zero accepted_zero ws are_in
-        ∙ ap (λ (h : ℕ). live_with schema (machine_of j).log (machine_of j).transactions 0 h (mutations_in schema may.slot_state may.transaction.mutations)) (horizon_here (machine_of j).slots may.slot_state here_zero)
-        ∙ ap (λ (i : ℕ). live_with schema (machine_of j).log (machine_of j).transactions i may.slot_state.horizon (mutations_in schema may.slot_state may.transaction.mutations)) (sym zero_slot)
+        ∙ ap (λ (i : ℕ). live_with schema (machine_of j).log (machine_of j).transactions i may.slot_state (mutations_in schema may.slot_state may.transaction.mutations)) (sym zero_slot)
 
     -- where they are too many, that is the reply
     pub full_steps : most_versions < live (with_writes txn ws cs) → Steps schema (machine_of j) (step.Prepare owner txn slot) (reply.Refused refusal.ShardFull) (machine_of j)

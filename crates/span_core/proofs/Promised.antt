@@ -1,6 +1,6 @@
 -- Every step from a machine that a run reaches is as promised.
-use Rattle.std.proofs.Common.{◌≡◌, ℕ, List, [], ◌∷◌, ◌++◌, Option, Some, None, refl, ap, sym, ◌∙◌, inl, inr}
-use Rattle.std.specs.Prelude.{slice_get}
+use Rattle.std.proofs.Common.{◌≡◌, ℕ, zero, suc, List, [], ◌∷◌, ◌++◌, Option, Some, None, refl, ap, sym, ◌∙◌, inl, inr}
+use Rattle.std.specs.Prelude.{slice_get, slice_set}
 use Rattle.span_value.specs.declared.refusal.Refusal.{Refusal}
 use Rattle.span_value.specs.declared.refusal.Refusal.TheVariants as refusal
 use Rattle.span_schema.specs.declared.table.Table.{Table}
@@ -13,7 +13,7 @@ use Rattle.span_machine.specs.declared.step.Reply.TheVariants.{Trimmed}
 use Rattle.span_machine.specs.declared.transaction.Commit.{Commit}
 use Rattle.span_machine.specs.Commits.{OpenedQuery, opened_by}
 use Rattle.span_machine.specs.Kept.{live}
-use Rattle.span_machine.specs.Machine.{Machine, start, refused, unless_refused, if_some, trim_slot, trimmed, trim_refusal}
+use Rattle.span_machine.specs.Machine.{Machine, start, refused, unless_refused, if_some, trim_slot, trimmed, trim_refusal, with_horizon}
 use Rattle.span_machine.specs.Run.{IsOfSchema, AreOfSchema, IsRight, AreRight}
 use Rattle.span_machine_laws.proofs.Reached.{reached_tables, run_reached, start_reached}
 use Rattle.span_machine_laws.proofs.History.{run_right}
@@ -50,21 +50,34 @@ last_right schema commits asked m [] (r ∷ rs) last step reply run right = absu
 last_right schema commits asked m (s ∷ ss) [] last step reply run right = absurd run
 last_right schema commits asked m (s ∷ ss) (r ∷ rs) last step reply run right = last_right schema commits (opened_by s r ++ asked) run.0 ss rs last step reply run.2 right.1
 
+-- what is set at a place in use is there
+pub set_there : (slots : List SlotState) (slot : ℕ) (old new : SlotState) → slice_get slots slot ≡ Some old → slice_get (slice_set slots slot new) slot ≡ Some new
+set_there [] slot old new here = absurd (cc)
+set_there (b ∷ slots) zero old new here = refl
+set_there (b ∷ slots) (suc slot) old new here = set_there slots slot old new here
+
 -- a Trim that is not refused is answered how many versions are kept
 module _ (schema : List Table) (m : Machine) (slot h kept : ℕ) (next : Machine) where
   number : (x y : ℕ) → Trimmed x ≡ Trimmed y → x ≡ y
   number x y e = cc e
 
-  counts_by : (b : SlotState) (why : Option Refusal) → Trimmed kept ≡ (unless_refused m why (trimmed schema m slot h b)).0 → next ≡ (unless_refused m why (trimmed schema m slot h b)).1 → kept ≡ live schema next.log next.transactions slot h
-  counts_by b None r n = number kept (live schema m.log m.transactions slot h) r ∙ sym (ap (λ (k : Machine). live schema k.log k.transactions slot h) n)
-  counts_by b (Some why) r n = absurd (cc r)
+  counts_by : (b : SlotState) → slice_get m.slots slot ≡ Some b → (why : Option Refusal) → Trimmed kept ≡ (unless_refused m why (trimmed schema m slot h b)).0 → next ≡ (unless_refused m why (trimmed schema m slot h b)).1
+      → IsCounted schema next (Trim slot h) (Trimmed kept)
+  counts_by b here None r n = (
+    with_horizon h b,
+    ap (λ (k : Machine). slice_get k.slots slot) n ∙ set_there m.slots slot b (with_horizon h b) here,
+    refl,
+    number kept (live schema m.log m.transactions slot (with_horizon h b)) r ∙ sym (ap (λ (k : Machine). live schema k.log k.transactions slot (with_horizon h b)) n),
+  )
+  counts_by b here (Some why) r n = absurd (cc r)
 
-  counts_at : (o : Option SlotState) → Trimmed kept ≡ (if_some o (refused m refusal.NoSlot) (trim_slot schema m slot h)).0 → next ≡ (if_some o (refused m refusal.NoSlot) (trim_slot schema m slot h)).1 → kept ≡ live schema next.log next.transactions slot h
-  counts_at None r n = absurd (cc r)
-  counts_at (Some b) r n = counts_by b (trim_refusal m slot h b) r n
+  counts_at : (o : Option SlotState) → slice_get m.slots slot ≡ o → Trimmed kept ≡ (if_some o (refused m refusal.NoSlot) (trim_slot schema m slot h)).0 → next ≡ (if_some o (refused m refusal.NoSlot) (trim_slot schema m slot h)).1
+      → IsCounted schema next (Trim slot h) (Trimmed kept)
+  counts_at None here r n = absurd (cc r)
+  counts_at (Some b) here r n = counts_by b here (trim_refusal m slot h b) r n
 
 counts : (schema : List Table) (m : Machine) (step : Step) (reply : Reply) (next : Machine) → Steps schema m step reply next → IsCounted schema next step reply
-counts schema m (Trim slot h) (Trimmed kept) next (inl e) = counts_at schema m slot h kept next (slice_get m.slots slot) e.2.0 e.2.1
+counts schema m (Trim slot h) (Trimmed kept) next (inl e) = counts_at schema m slot h kept next (slice_get m.slots slot) refl e.2.0 e.2.1
 counts schema m (Trim slot h) (Trimmed kept) next (inr e) = absurd (cc e.0)
 counts schema m _ _ next one = tt
 

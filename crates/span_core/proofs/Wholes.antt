@@ -24,11 +24,11 @@ use Rattle.span_machine.specs.declared.query.OpenQuery.{OpenQuery}
 use Rattle.span_machine.specs.declared.transaction.Decision.{Decision}
 use Rattle.span_machine.specs.declared.transaction.Decision.TheVariants as decision
 use Rattle.span_machine.specs.declared.transaction.OpenTransaction.{OpenTransaction}
-use Rattle.span_machine.specs.Machine.{Machine, IsUnderstood, Answer, Answers, answer, start, refused, unless_refused, if_some, for_slot, is_query, is_transaction, is_safe, with_risen_floor, with_slot_state, cover, changed_first, without_first, scan, scan_query, scan_leaf, scan_gap, scanned, trim, trim_slot, trimmed, applied_at, apply_step, apply_transaction, begin, open_query, answer_on, rows_or_refusal}
+use Rattle.span_machine.specs.Machine.{Machine, IsUnderstood, Answer, Answers, answer, start, refused, unless_refused, if_some, for_slot, is_query, is_transaction, is_safe, with_risen_floor, with_slot_state, cover, changed_first, without_first, scan, scan_query, scan_leaf, scan_gap, scanned, trim, trim_slot, trimmed, with_horizon, applied_at, apply_step, apply_transaction, begin, open_query, answer_on, rows_or_refusal}
 use Rattle.span_machine.specs.Pieces.{Pieced, Journaled, unread, covered_by, machine_of, queries_of}
 use Rattle.span_machine_laws.proofs.Reached.{IsReached, start_reached, answer_reached, reached_tables}
-use Rattle.span_version_laws.specs.Kept.{AreKept, ArePieced, IsReading, family, horizon_in, horizon_of}
-use Rattle.span_version_laws.proofs.Trims.{kept_trimmed, horizon_here, horizon_put}
+use Rattle.span_version_laws.specs.Kept.{AreKept, ArePieced, IsReading, family, horizon_of}
+use Rattle.span_version_laws.proofs.Trims.{kept_trimmed, horizon_here}
 use Rattle.span_version_laws.proofs.Live.{live_is_kept}
 use Rattle.span_machine.specs.Kept as kept
 use Rattle.span_machine.specs.declared.transaction.Commit.{Commit}
@@ -36,13 +36,13 @@ use Rattle.span_machine_laws.proofs.Causes.{may_trim}
 use Rattle.span_version_laws.proofs.Steps.{start_kept, kept_scan}
 use Rattle.span_version_laws.proofs.Applying.{kept_committed, kept_aborted}
 use Rattle.span_version_laws.proofs.Later.{later_committed}
-use Rattle.span_version_laws.proofs.Claimers.{only_slot}
+use Rattle.span_version_laws.proofs.FirstSlot.{only_slot}
 use Rattle.span_version_laws.proofs.Covers.{no_pieces, pieced_push, pieced_without, pieced_by_step, pieced_table, pieced_scanned, pieced_finish, covered-queries, find-queries, found_query}
 use Rattle.span_journal.specs.Judged.{IsApplied, IsRaised, MayScan, IsRegistered, IsUnregistered, IsCovered, decision_of}
 use Rattle.span_core.specs.Whole.{IsWhole, IsRead, IsUnread}
 use Rattle.span_core.specs.Histories.{Steps}
 use Rattle.span_core.specs.Promises.{IsRunTo}
-use Rattle.span_core.proofs.Promised.{no_steps, one_more}
+use Rattle.span_core.proofs.Promised.{no_steps, one_more, set_there}
 use Rattle.span_binder.specs.Understands.{Understands}
 use Rattle.span_version_laws.proofs.Snapshots.{snapshot_when_safe}
 use Rattle.span_mutate.specs.declared.mutation.CheckedMutation.{CheckedMutation}
@@ -221,26 +221,24 @@ trimmed_steps schema j k cs slot h w d queries =
     let e = trim_is schema m slot h (machine_of k) d in
     let log : (machine_of k).log ≡ m.log = ap (λ (n : Machine). n.log) d.after in
     let open_still : (machine_of k).transactions ≡ m.transactions = ap (λ (n : Machine). n.transactions) d.after in
-    let horizon : horizon_of (machine_of k) ≡ h =
-    ap horizon_of d.after ∙ ap (λ (i : ℕ). horizon_in (slice_set m.slots i (record d.slot_state { horizon = h }))) zero ∙ horizon_put m.slots d.slot_state (record d.slot_state { horizon = h }) here in
-    let number : shard.live (shard.trimmed h cs) ≡ kept.live schema m.log m.transactions slot h =
-    live_is_kept schema w.rules (machine_of k) (shard.trimmed h cs) after.reached after.kept
-    ∙ ap (λ (l : List Commit). kept.live schema l (machine_of k).transactions 0 (horizon_of (machine_of k))) log
-    ∙ ap (λ (ts : List OpenTransaction). kept.live schema m.log ts 0 (horizon_of (machine_of k))) open_still
-    ∙ ap (kept.live schema m.log m.transactions 0) horizon
-    ∙ ap (λ (i : ℕ). kept.live schema m.log m.transactions i h) (sym zero) in
+    let there : slice_get (machine_of k).slots 0 ≡ Some (with_horizon h d.slot_state) =
+    ap (λ (n : Machine). slice_get n.slots 0) d.after ∙ ap (λ (i : ℕ). slice_get (slice_set m.slots i (with_horizon h d.slot_state)) 0) zero ∙ set_there m.slots 0 d.slot_state (with_horizon h d.slot_state) here in
+    let number : shard.live (shard.trimmed h cs) ≡ kept.live schema m.log m.transactions slot (with_horizon h d.slot_state) =
+    live_is_kept schema w.rules (machine_of k) (shard.trimmed h cs) (with_horizon h d.slot_state) after.reached after.kept there
+    ∙ ap (λ (l : List Commit). kept.live schema l (machine_of k).transactions 0 (with_horizon h d.slot_state)) log
+    ∙ ap (λ (ts : List OpenTransaction). kept.live schema m.log ts 0 (with_horizon h d.slot_state)) open_still
+    ∙ ap (λ (i : ℕ). kept.live schema m.log m.transactions i (with_horizon h d.slot_state)) (sym zero) in
     inl (no_text, tt, (ap reply.Trimmed number ∙ sym (ap (λ (a : Answer). a.0) e), d.after ∙ sym (ap (λ (a : Answer). a.1) e)))
 
 -- as many versions are kept as the machine counts at the slot's horizon
 pub live_here : (schema : List Table) (j : Journaled) (cs : List KeyVersions) (slot : ℕ) (slot_state : SlotState) → IsWhole schema j cs → slice_get (machine_of j).slots slot ≡ Some slot_state
-    → shard.live cs ≡ kept.live schema (machine_of j).log (machine_of j).transactions slot slot_state.horizon
+    → shard.live cs ≡ kept.live schema (machine_of j).log (machine_of j).transactions slot slot_state
 live_here schema j cs slot slot_state w here =
     let m = machine_of j in
     let zero = only_slot schema m w.reached slot slot_state here in
     let here_zero : slice_get m.slots 0 ≡ Some slot_state = subst (λ (i : ℕ). slice_get m.slots i ≡ Some slot_state) zero here in
-    live_is_kept schema w.rules m cs w.reached w.kept
-    ∙ ap (kept.live schema m.log m.transactions 0) (horizon_here m.slots slot_state here_zero)
-    ∙ ap (λ (i : ℕ). kept.live schema m.log m.transactions i slot_state.horizon) (sym zero)
+    live_is_kept schema w.rules m cs slot_state w.reached w.kept here_zero
+    ∙ ap (λ (i : ℕ). kept.live schema m.log m.transactions i slot_state) (sym zero)
 
 -- ---- scan
 

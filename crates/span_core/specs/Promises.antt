@@ -1,7 +1,8 @@
 -- What a database promises of its next step, whatever the step is, and of the steps that led to it.
-use Rattle.std.specs.Prelude.{◌≡◌, ℕ, List, [], ◌∷◌, ◌++◌, Ok}
+use Rattle.std.specs.Prelude.{◌≡◌, ℕ, List, [], ◌∷◌, ◌++◌, Some, Ok, slice_get}
 use Rattle.span_schema.specs.declared.table.Table.{Table}
 use Rattle.span_mutate.specs.declared.row.TableRow.{TableRow}
+use Rattle.span_machine.specs.declared.slot.SlotState.{SlotState}
 use Rattle.span_machine.specs.declared.step.Step.{Step}
 use Rattle.span_machine.specs.declared.step.Step.TheVariants.{Trim}
 use Rattle.span_machine.specs.declared.step.Reply.{Reply}
@@ -28,9 +29,10 @@ asked_after asked [] replies = asked
 asked_after asked (s ∷ ss) [] = asked
 asked_after asked (s ∷ ss) (r ∷ rs) = asked_after (opened_by s r ++ asked) ss rs
 
--- the number that a Trim is answered is that of the versions kept after it
+-- the number that a Trim is answered is that of the versions that the slot keeps after it, with the new horizon
 abbrev pub IsCounted : List Table → Machine → Step → Reply → Type 0
-IsCounted schema next (Trim slot h) (Trimmed kept) = kept ≡ live schema next.log next.transactions slot h
+IsCounted schema next (Trim slot h) (Trimmed kept) =
+    (slot_state : SlotState) × (slice_get next.slots slot ≡ Some slot_state) × (slot_state.horizon ≡ h) × (kept ≡ live schema next.log next.transactions slot slot_state)
 IsCounted schema next _ _ = Unit {0}
 
 -- What is promised of a step. A query that is answered has exactly the rows, in order, that its text means on the tables of the commits

@@ -1,10 +1,10 @@
 //! The core and its steps.
-ghost use Rattle.std.specs.Prelude.{◌≡◌, IfOk, IfErr, Some, None, MatchOption, IfSome, length, slice_get, count_by};
+ghost use Rattle.std.specs.Prelude.{◌≡◌, IfOk, IfErr, None, MatchOption, length, slice_get};
 ghost use Rattle.span_core.specs.Histories.{Steps};
 ghost use Rattle.span_core.specs.Promises.{IsRunTo, Promises, IsConsistent};
-ghost use Rattle.span_machine.specs.Kept.{live};
+ghost use Rattle.span_core.specs.Reports.{IsReport};
 ghost use Rattle.span_schema.specs.Lineages.{MeetsRules};
-ghost use Rattle.span_machine.specs.Machine.{start, is_prepared_at};
+ghost use Rattle.span_machine.specs.Machine.{start};
 ghost use Rattle.span_machine.specs.Run.{IsOfSchema};
 ghost use Rattle.span_mutate.specs.Typed.{AreTypedMutations};
 ghost use Rattle.span_machine.specs.declared.step.Step.TheVariants as step_of;
@@ -98,13 +98,9 @@ impl Core {
 
     /// The report of a slot; None where it is not in use.
     pub fn slot_report(&self, slot: usize) -> Option<SlotReport>
-        ensures slot_state { MatchOption result
+        ensures { MatchOption result
             (slice_get self.now.machine.slots slot ≡ None)
-            (λ s.
-            slice_get self.now.machine.slots slot ≡ Some (record { last = s.last; floor = s.floor; horizon = s.horizon })) }
-        ensures live { IfSome result
-            (λ s. s.live ≡ live self.now.schema self.now.machine.log self.now.machine.transactions slot s.horizon) }
-        ensures prepared { IfSome result (λ s. s.prepared ≡ count_by (is_prepared_at slot) self.now.machine.transactions) }
+            (IsReport self.now.schema self.now.machine slot) }
     {
         let slot_state = self.journal.slots().get(slot)?;
         Some(SlotReport {

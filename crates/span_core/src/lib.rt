@@ -8,8 +8,6 @@ pub mod database;
 mod reading;
 pub mod run;
 pub mod slot;
-#[cfg(test)]
-mod tests;
 
 pub use span_machine::step::{Reply, Step, Verdict};
 pub use span_mutate::mutation::{CheckedMutation, Mutation, MutationKind, NamedValue};

@@ -1,2 +1,4 @@
 pub mod Preparing
 pub mod Stepping
+pub mod Ready
+pub mod Committing

@@ -12,12 +12,9 @@ use Rattle.span_machine.specs.declared.transaction.Prepared.{Prepared}
 use Rattle.span_machine.specs.declared.transaction.OpenTransaction.{OpenTransaction}
 use Rattle.span_value.specs.Results.{first_cause}
 use Rattle.span_machine.specs.Machine.{Machine, refused, unless_refused, if_some, is_transaction, is_undecided, is_prepared_at, has_conflict, mutations_in, mutations_refusal, prepare, prepare_transaction, prepare_refusal, prepare_timestamp, prepared, for_slot, capacity_refusal}
+use Rattle.span_machine.specs.Slots.{range_of, whole_range}
+use Rattle.span_machine.proofs.WholeRanges.{whole_mutations}
 use Rattle.span_journal.specs.Judged.{MayPrepare, has_wrong_state, note_cause, note_refusal}
-
--- every mutation lies in the one slot
-pub all_in : (schema : List Table) (slot_state : SlotState) (ms : List CheckedMutation) → mutations_in schema slot_state ms ≡ ms
-all_in schema slot_state [] = refl
-all_in schema slot_state (m ∷ ms) = ap (λ l. m ∷ l) (all_in schema slot_state ms)
 
 -- a list has an element that passes, or none is left of it
 pub any_left : (slot : ℕ) (ps : List Prepared) → list_any (λ p. not (p.slot == slot)) ps ≡ not (length (filter (λ p. not (p.slot == slot)) ps) == 0)
@@ -34,8 +31,8 @@ any_left slot (p ∷ ps) = elim (not (p.slot == slot)) as (λ b. (b || list_any 
 abbrev pub timestamp_refusal : SlotState → Option Refusal
 timestamp_refusal slot_state = first_cause ((nat_le timestamp_end (prepare_timestamp slot_state), refusal.TimestampRange) ∷ [])
 
-refusal_is : (schema : List Table) (m : Machine) (slot : ℕ) (t : OpenTransaction) (slot_state : SlotState) → prepare_refusal schema m slot t slot_state ≡ first_cause ((has_wrong_state slot t, refusal.WrongState) ∷ (has_conflict schema m slot t.mutations, refusal.Conflict) ∷ [])
-refusal_is schema m slot t slot_state = ap (λ (ms : List CheckedMutation). first_cause ((not (is_undecided t) || is_prepared_at slot t || (length ms == 0), refusal.WrongState) ∷ (has_conflict schema m slot ms, refusal.Conflict) ∷ [])) (all_in schema slot_state t.mutations)
+refusal_is : (schema : List Table) (m : Machine) (slot : ℕ) (t : OpenTransaction) (slot_state : SlotState) → range_of slot_state ≡ whole_range → prepare_refusal schema m slot t slot_state ≡ first_cause ((has_wrong_state slot t, refusal.WrongState) ∷ (has_conflict schema m slot t.mutations, refusal.Conflict) ∷ [])
+refusal_is schema m slot t slot_state whole = ap (λ (ms : List CheckedMutation). first_cause ((not (is_undecided t) || is_prepared_at slot t || (length ms == 0), refusal.WrongState) ∷ (has_conflict schema m slot ms, refusal.Conflict) ∷ [])) (whole_mutations schema slot_state whole t.mutations)
 
 pub not_true : (b : Bool) → not b ≡ true → b ≡ false
 not_true true e = cc
@@ -45,7 +42,7 @@ pub not_false : (b : Bool) → not b ≡ false → b ≡ true
 not_false true e = refl
 not_false false e = cc
 
-module _ (schema : List Table) (m : Machine) (owner txn slot : ℕ) (t : OpenTransaction) (slot_state : SlotState) (found : find (is_transaction owner txn) m.transactions ≡ Some t) (here : slice_get m.slots slot ≡ Some slot_state) where
+module _ (schema : List Table) (m : Machine) (owner txn slot : ℕ) (t : OpenTransaction) (slot_state : SlotState) (found : find (is_transaction owner txn) m.transactions ≡ Some t) (here : slice_get m.slots slot ≡ Some slot_state) (whole : range_of slot_state ≡ whole_range) where
   prepare_is : prepare schema m owner txn slot ≡ prepare_transaction schema m owner txn slot t slot_state
   prepare_is = ap (λ (o : Option OpenTransaction). if_some o (refused m refusal.UnknownTransaction) (λ t. for_slot m slot (prepare_transaction schema m owner txn slot t))) found
       ∙ ap (λ (o : Option SlotState). if_some o (refused m refusal.NoSlot) (prepare_transaction schema m owner txn slot t)) here
@@ -55,10 +52,10 @@ module _ (schema : List Table) (m : Machine) (owner txn slot : ℕ) (t : OpenTra
       (unless_refused m (mutations_refusal schema m (mutations_in schema slot_state t.mutations)) (unless_refused m (capacity_refusal schema m slot slot_state (mutations_in schema slot_state t.mutations)) (unless_refused m (timestamp_refusal slot_state) (prepared m owner txn slot slot_state))))) e
 
   pub refused_wrong : not (has_wrong_state slot t) ≡ false → prepare schema m owner txn slot ≡ refused m refusal.WrongState
-  refused_wrong e = refused_by refusal.WrongState (refusal_is schema m slot t slot_state ∙ ap (λ b. first_cause ((b, refusal.WrongState) ∷ (has_conflict schema m slot t.mutations, refusal.Conflict) ∷ [])) (not_false (has_wrong_state slot t) e))
+  refused_wrong e = refused_by refusal.WrongState (refusal_is schema m slot t slot_state whole ∙ ap (λ b. first_cause ((b, refusal.WrongState) ∷ (has_conflict schema m slot t.mutations, refusal.Conflict) ∷ [])) (not_false (has_wrong_state slot t) e))
 
   pub refused_conflict : not (has_wrong_state slot t) ≡ true → has_conflict schema m slot t.mutations ≡ true → prepare schema m owner txn slot ≡ refused m refusal.Conflict
-  refused_conflict e f = refused_by refusal.Conflict (refusal_is schema m slot t slot_state
+  refused_conflict e f = refused_by refusal.Conflict (refusal_is schema m slot t slot_state whole
       ∙ ap (λ b. first_cause ((b, refusal.WrongState) ∷ (has_conflict schema m slot t.mutations, refusal.Conflict) ∷ [])) (not_true (has_wrong_state slot t) e)
       ∙ ap (λ b. first_cause ((b, refusal.Conflict) ∷ [])) f)
 
@@ -68,10 +65,10 @@ module _ (schema : List Table) (m : Machine) (owner txn slot : ℕ) (t : OpenTra
     slot_state = slot_state;
     found = found;
     here = here;
-    accepted = refusal_is schema m slot t slot_state
+    accepted = refusal_is schema m slot t slot_state whole
         ∙ ap (λ b. first_cause ((b, refusal.WrongState) ∷ (has_conflict schema m slot t.mutations, refusal.Conflict) ∷ [])) (not_true (has_wrong_state slot t) e)
         ∙ ap (λ b. first_cause ((b, refusal.Conflict) ∷ [])) f;
-    mutations = sym (all_in schema slot_state t.mutations);
+    mutations = sym (whole_mutations schema slot_state whole t.mutations);
   }
 
 late_test : (n : ℕ) → 2 ^ 62 ≤ n → nat_le timestamp_end n ≡ true

@@ -68,6 +68,7 @@ pub struct Gap {
 /// The state of slots, transactions and queries.
 #[derive(Debug, Drop)]
 pub struct Journal {
+    /// There is one, with every key.
     slots: Vec<SlotState>,
     transactions: Vec<KeptTransaction>,
     /// It has reserved capacity for each undecided transaction.
@@ -78,9 +79,10 @@ pub struct Journal {
 }
 
 impl Model for Journal {
-    ghost use Rattle.std.specs.Prelude.{◌+◌, ◌≤◌, count_by, vec_len, vec_capacity};
+    ghost use Rattle.std.specs.Prelude.{◌≡◌, ◌+◌, ◌≤◌, [], ◌∷◌, count_by, vec_len, vec_capacity};
     ghost use Rattle.span_machine.specs.Limits.{most_commits};
     ghost use Rattle.span_machine.specs.Machine.{is_undecided};
+    ghost use Rattle.span_machine.specs.Slots.{ranges_of, whole_range};
     ghost use Rattle.span_machine.specs.Pieces.{Journaled};
     ghost use Rattle.span_query.specs.contracts.query.BoundQuery as bound_query;
     ghost use Rattle.std.specs.Coded.{codes};
@@ -101,17 +103,20 @@ impl Model for Journal {
     ghost invariant = { λ a. record {
       few : vec_len a.log + count_by is_undecided a.transactions.items ≤ most_commits;
       room : vec_len a.log + count_by is_undecided a.transactions.items ≤ vec_capacity a.log;
+      whole : ranges_of a.slots.items ≡ whole_range ∷ [];
     } };
 }
 
 impl Journal {
-    /// A journal with one slot, and nothing in it.
+    /// A journal with one slot, which has every key, and nothing in it.
     pub fn new(alloc: Global) -> Result<Journal, AllocError>
         ensures start { IfOk result (λ journal. machine_of journal ≡ start) }
         ensures pieces { IfOk result (λ journal. journal.queries ≡ []) }
     {
         let mut slots = Vec::new(alloc);
         slots.push(SlotState {
+            lo: None,
+            hi: None,
             last: 0,
             floor: 0,
             horizon: 0,
@@ -251,6 +256,7 @@ impl Journal {
         }
     }
 
+    #[tactic(auto, using(crate::proofs::Ready::whole_raised))]
     fn commit(
         &mut self,
         alloc: Global,
@@ -367,6 +373,7 @@ impl Journal {
 
     /// Notes that a decided transaction is applied at the slot, and returns its commit timestamp, or None for an aborted one. It
     /// takes no memory. `UnknownTransaction`, then `NoSlot`, then `WrongState`, then `TooEarly`; a refusal leaves all as it was.
+    #[tactic(auto, using(crate::proofs::Ready::whole_raised))]
     pub fn note_applied(
         &mut self,
         alloc: Global,

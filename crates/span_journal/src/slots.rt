@@ -1,15 +1,15 @@
 //! The states of the slots, and the timestamps that they allow.
-ghost use Rattle.std.specs.Prelude.{◌≡◌, ◌<◌, ◌≤◌, ◌+◌, ◌^◌, ◌==◌, ◌&&◌, ◌||◌, not, false, max, length, nat_le, nat_lt, slice_get, slice_set, IfSome, IfNone};
+ghost use Rattle.std.specs.Prelude.{◌≡◌, ◌<◌, ◌≤◌, ◌+◌, ◌^◌, ◌==◌, ◌&&◌, ◌||◌, [], ◌∷◌, not, false, max, length, nat_le, nat_lt, slice_get, slice_set, IfSome, IfNone};
 ghost use Rattle.std.specs.List.{list_any, list_all};
 ghost use Rattle.std.specs.Option.{option_copied};
-ghost use Rattle.span_journal.specs.Places.{slot_has};
-ghost use Rattle.span_machine.specs.Machine.{greatest, holds, root_at, if_some, lowest_slot, coordinator_slot, with_last, prepare_timestamp, with_risen_floor};
+ghost use Rattle.span_journal.specs.Places.{has_all, slot_has, slot_has_all};
+ghost use Rattle.span_machine.specs.Machine.{greatest, if_some, lowest_slot, coordinator_slot, with_last, prepare_timestamp, with_risen_floor};
+ghost use Rattle.span_machine.specs.Slots.{ranges_of, whole_range};
 ghost use Rattle.span_truetime.specs.Limits.{timestamp_end};
 
 use super::transaction::KeptTransaction;
 use span_machine::slot::SlotState;
 use span_machine::transaction::Prepared;
-use span_mutate::mutation::CheckedMutation;
 use span_schema::schema::Schema;
 use span_truetime::interval::{Interval, TIMESTAMP_END};
 
@@ -24,52 +24,33 @@ pub(crate) fn greatest_timestamp(prepared: &[Prepared]) -> u64
     most
 }
 
-/// Whether the slot's range has the directory of a mutation.
-fn holds_directory(_slot_state: &SlotState, _schema: &Schema, _mutation: &CheckedMutation) -> bool
-    ensures { result ≡ holds _slot_state.now (root_at _schema.now _mutation.now) }
+/// Whether the slot's range has every key.
+fn has_all(slot_state: &SlotState) -> bool
+    ensures { result ≡ has_all slot_state.now }
 {
-    true
+    slot_state.lo.is_none() && slot_state.hi.is_none()
 }
 
-/// Whether the slot is used and its range has the directory of a mutation.
-fn slot_holds(slots: &[SlotState], schema: &Schema, slot: usize, mutation: &CheckedMutation) -> bool
-    ensures { result ≡ slot_has schema.now slots.now mutation.now slot }
+/// Whether the slot is used and its range has every key.
+fn slot_has_all(slots: &[SlotState], slot: usize) -> bool
+    ensures { result ≡ slot_has_all slots.now slot }
 {
     match slots.get(slot) {
-        Some(slot_state) => holds_directory(slot_state, schema, mutation),
+        Some(slot_state) => has_all(slot_state),
         None => false,
     }
 }
 
-/// Whether the transaction is prepared where the directory of this mutation is.
-fn is_ready_for(
-    slots: &[SlotState],
-    schema: &Schema,
-    prepared: &[Prepared],
-    mutation: &CheckedMutation,
-) -> bool
-    ensures { result ≡ list_any (λ p. slot_has schema.now slots.now mutation.now p.slot) prepared.now }
+/// Whether the transaction is prepared where every directory is.
+fn is_ready_for_all(slots: &[SlotState], prepared: &[Prepared]) -> bool
+    ensures { result ≡ list_any (λ p. slot_has_all slots.now p.slot) prepared.now }
 {
-    prepared
-        .iter()
-        .any(|p| slot_holds(slots, schema, p.slot, mutation))
+    prepared.iter().any(|p| slot_has_all(slots, p.slot))
 }
 
-fn are_all_ready(
-    slots: &[SlotState],
-    schema: &Schema,
-    prepared: &[Prepared],
-    mutations: &[CheckedMutation],
-) -> bool
-    ensures { result ≡ list_all (λ m. list_any (λ p. slot_has schema.now slots.now m p.slot) prepared.now) mutations.now }
-{
-    mutations
-        .iter()
-        .all(|m| is_ready_for(slots, schema, prepared, m))
-}
-
-/// Whether every mutation is of a slot where the transaction is prepared.
+/// Whether every mutation is of a slot where the transaction is prepared. There is one slot, with every key.
 pub(crate) fn is_ready(slots: &[SlotState], schema: &Schema, transaction: &KeptTransaction) -> bool
+    requires { ranges_of slots.now ≡ whole_range ∷ [] }
     ensures { result
         ≡ (not (length transaction.now.prepared == 0)
         && list_all
@@ -79,12 +60,7 @@ pub(crate) fn is_ready(slots: &[SlotState], schema: &Schema, transaction: &KeptT
     if transaction.prepared().len() == 0 {
         return false;
     }
-    are_all_ready(
-        slots,
-        schema,
-        transaction.prepared(),
-        transaction.mutations(),
-    )
+    transaction.mutations().is_empty() || is_ready_for_all(slots, transaction.prepared())
 }
 
 /// The lowest of the slots.

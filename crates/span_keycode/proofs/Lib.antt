@@ -19,3 +19,4 @@ pub mod Nexts
 pub mod Bounds
 pub mod RangeLaws
 pub mod FamilyRanges
+pub mod Words

@@ -78,6 +78,9 @@ fn push_all(out: &mut Bytes, bytes: &[u8], desc: bool) -> Result<(), AllocError>
     ensures capacity { out.old.capacity ≤ out.new.capacity }
     ensures memory { OnErr result (IsTooLong out.old (in_direction desc bytes.now)) }
 {
+    if !desc {
+        return out.extend_from_slice(bytes);
+    }
     for byte in bytes {
         push_directed(out, *byte, desc)?;
     }

@@ -2,6 +2,7 @@
 #![tactic(auto)]
 
 pub mod column;
+pub mod compare;
 pub mod decode;
 pub mod encode;
 pub mod key;

@@ -17,6 +17,7 @@ pub mod Rising
 pub mod Searching
 pub mod Sizes
 pub mod Spent
+pub mod Splitting
 pub mod Turned
 pub mod Unlinking
 pub mod Walking

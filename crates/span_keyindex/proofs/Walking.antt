@@ -159,6 +159,16 @@ pub record AreWalked (ns : Nexts) (n : ℕ) (at : Option ℕ) (es : List Entry) 
   pub now : chains_in ns n at ≡ map (λ (e : Entry). e.chain) es
   pub within : AreNumbersBelow (length ns.next) (chains_in ns n at)
 
+pub part_handed : (cs : List Cell) (ns : Nexts) (n : ℕ) (at : Option ℕ) (es : List Entry) → length ns.next ≡ length cs → IsWalked cs ns n at None es → AreWalked ns n at es
+part_handed cs ns n at es places walk =
+    let chains : chains_in ns n at ≡ map (λ (e : Entry). e.chain) (walked_in cs ns n at None) = chains_walked (cell_at cs) (next_of ns) n at in
+    let inside : AreNumbersBelow (length cs) (chains_in ns n at) =
+    subst (λ (xs : List Chain). AreNumbersBelow (length cs) xs) {x = map (λ (e : Entry). e.chain) (walked_in cs ns n at None)} {y = chains_in ns n at} (sym chains) (numbers_below (length cs) (walked_in cs ns n at None) walk.within) in
+    record {
+      now = chains ∙ ap (map (λ (e : Entry). e.chain)) walk.now;
+      within = subst (λ (m : ℕ). AreNumbersBelow m (chains_in ns n at)) {x = length cs} {y = length ns.next} (sym places) inside;
+    }
+
 pub all_handed : (cs : List Cell) (ns : Nexts) (index : TreeRoot) → IsIndex cs ns index → (n : ℕ) → length cs ≤ n → (at : Option ℕ) → at ≡ ns.first → AreWalked ns n at (entries_at cs index)
 all_handed cs ns index own n enough at first =
     let walk : IsWalked cs ns n ns.first None (entries_at cs index) = all_walked cs ns index own n enough in

@@ -1,5 +1,5 @@
 -- A sorted list of keys with their chains.
-use Rattle.std.specs.Prelude.{◌≡◌, ◌≢◌, ◌⊎◌, ℕ, List, ◌∷◌, ◌++◌, Bool, not, ◌&&◌, nat_eq, filter, All, AllPairs, Contains}
+use Rattle.std.specs.Prelude.{◌≡◌, ◌≢◌, ◌⊎◌, ℕ, List, ◌∷◌, ◌++◌, Bool, not, ◌&&◌, nat_eq, filter, All, AllPairs, Contains, map}
 use Rattle.std.specs.List.{starts_with}
 use Rattle.std.specs.Borrow.{Bor}
 use Rattle.std.specs.Ordering.{is_lt, is_gt}
@@ -51,3 +51,13 @@ entries_under front es = filter (λ e. starts_with nat_eq e.key front) es
 -- what a walk hands out, as an entry
 abbrev pub entry_of : Bor (List ℕ) × Chain → Entry
 entry_of r = record { key = r.0.now; chain = r.1 }
+
+-- the entries with smaller keys, and those from a key on
+abbrev pub entries_before : List ℕ → List Entry → List Entry
+entries_before key es = filter (λ e. is_lt (byte_order e.key key)) es
+
+abbrev pub entries_from : List ℕ → List Entry → List Entry
+entries_from key es = filter (λ e. not (is_lt (byte_order e.key key))) es
+
+abbrev pub keys_of : List Entry → List (List ℕ)
+keys_of es = map (λ e. e.key) es

@@ -9,5 +9,6 @@ pub mod Joins
 pub mod Nexts
 pub mod Puts
 pub mod Removals
+pub mod Splits
 pub mod Trees
 pub mod Walks

@@ -1,13 +1,17 @@
 //! The chains of all keys in order.
-ghost use Rattle.std.specs.Prelude.{◌≡◌, map};
+ghost use Rattle.std.specs.Prelude.{◌≡◌, ℕ, ◌<◌, ◌^◌, length, map};
 ghost use Rattle.std.specs.Iterator.{YieldsFirstBy, item_count};
-ghost use Rattle.span_keyindex.specs.Indexes.{entries_at, IsIndex};
+ghost use Rattle.span_keyindex.specs.Entries.{entries_from};
+ghost use Rattle.span_keyindex.specs.Indexes.{entries_at, IsIndex, IsSearchCost};
 
+use crate::find::first_from;
 use crate::next::NextLinks;
 use crate::tree::TreeRoot;
 use span_arena::arena::Arena;
+use span_arena::steps::Steps;
 use span_arena::token::Chain;
 use std::marker::Model;
+use std::sync::ledger::Ledger;
 
 /// Chains of keys that follow each other. Contracts see the chains that are left.
 #[derive(Drop)]
@@ -58,6 +62,27 @@ pub(crate) fn chains_of<'a>(arena: &Arena, nexts: &'a NextLinks, index: &TreeRoo
     Chains {
         nexts,
         at: nexts.first(),
+        left: arena.numbers(),
+    }
+}
+
+/// The chains of the keys from `low` on, in order of the keys. The first is found as by `first_from`.
+pub(crate) fn chains_from<'a, C: Ledger, W: Ledger>(
+    arena: &Arena,
+    nexts: &'a NextLinks,
+    index: &TreeRoot,
+    low: &[u8],
+    steps: &mut Steps<C, W>,
+) -> Chains<'a>
+    requires { IsIndex arena.now.cells nexts.now index.now }
+    ensures chains { result ≡ map (λ e. e.chain) (entries_from low.now (entries_at arena.now.cells index.now)) }
+    ensures cost { (d : ℕ) → length (entries_at arena.now.cells index.now) < 2 ^ d
+        → IsSearchCost d steps.old steps.new }
+{
+    let at = first_from(arena, index, low, steps);
+    Chains {
+        nexts,
+        at,
         left: arena.numbers(),
     }
 }

@@ -2,15 +2,17 @@
 ghost use Rattle.std.specs.Prelude.{◌≡◌, ℕ, ◌*◌, ◌<◌, ◌^◌, All, IfErr, IfOk, IfSome, MatchOption, OnErr, length, map};
 ghost use Rattle.span_arena.specs.Content.{IsChain};
 ghost use Rattle.span_keyindex.specs.Arenas.{in_use, IsWithoutUnused};
-ghost use Rattle.span_keyindex.specs.Entries.{HasChain, IsAbsent, IsRising, IsSlotFor, entries_in, entries_under};
+ghost use Rattle.span_keyindex.specs.Entries.{HasChain, IsAbsent, IsRising, IsSlotFor, entries_from, entries_in, entries_under};
 ghost use Rattle.span_keyindex.specs.Indexes.{IsEmptyIndex, IsIndexOf, IsSearchCost, IsSlotCost, entries_of};
+ghost use Rattle.span_keyindex.specs.Splits.{IsPartFrom};
 
-use crate::chains::{Chains, chains_of};
+use crate::chains::{Chains, chains_from, chains_of};
 use crate::find::find;
 use crate::next::NextLinks;
 use crate::remove::remove_unused;
+use crate::split::copy_keys;
 use crate::tree::{TreeRoot, slot_for};
-use crate::walk::{Walk, all, walk_range, walk_under};
+use crate::walk::{Walk, all, walk_from, walk_range, walk_under};
 use span_arena::arena::Arena;
 use span_arena::steps::Steps;
 use span_arena::token::Chain;
@@ -116,6 +118,57 @@ impl KeyIndex {
             → IsSearchCost (2 * d) steps.old steps.new }
     {
         walk_under(arena, &self.nexts, &self.tree, front, steps)
+    }
+
+    /// The keys from `key` on with their chains, in order of the keys, which are lent. Among fewer than 2 ^ d keys at most 2 d are
+    /// compared to find the first.
+    pub fn walk_from<'a, C: Ledger, W: Ledger>(
+        &'a self,
+        arena: &'a Arena,
+        key: &[u8],
+        steps: &mut Steps<C, W>,
+    ) -> Walk<'a>
+        requires { IsIndexOf self.now arena.now }
+        ensures entries { result ≡ entries_from key.now (entries_of self.now arena.now) }
+        ensures rising { IsRising (entries_of self.now arena.now) }
+        ensures cost { (d : ℕ) → length (entries_of self.now arena.now) < 2 ^ d
+            → IsSearchCost d steps.old steps.new }
+    {
+        walk_from(arena, &self.nexts, &self.tree, key, steps)
+    }
+
+    /// The chains of the keys from `key` on, in order of the keys. The arena is not lent: its calls that leave the keys and the chains
+    /// may be made while the chains are handed out. Among fewer than 2 ^ d keys at most 2 d are compared to find the first.
+    pub fn chains_from<'a, C: Ledger, W: Ledger>(
+        &'a self,
+        arena: &Arena,
+        key: &[u8],
+        steps: &mut Steps<C, W>,
+    ) -> Chains<'a>
+        requires { IsIndexOf self.now arena.now }
+        ensures chains { result ≡ map (λ e. e.chain) (entries_from key.now (entries_of self.now arena.now)) }
+        ensures cost { (d : ℕ) → length (entries_of self.now arena.now) < 2 ^ d
+            → IsSearchCost d steps.old steps.new }
+    {
+        chains_from(arena, &self.nexts, &self.tree, key, steps)
+    }
+
+    /// The keys from `key` on in an index with an arena of its own, which allows as many nodes: a copy of each key, with a chain that has
+    /// no version. Here nothing changes; once their versions are moved or cleared, `remove_empty` removes the keys here. The refusal is
+    /// `Refusal::OutOfMemory`.
+    pub fn split_at<C: Ledger, W: Ledger>(
+        &self,
+        alloc: Global,
+        arena: &Arena,
+        key: &[u8],
+        steps: &mut Steps<C, W>,
+    ) -> Result<(KeyIndex, Arena), Refusal>
+        requires { IsIndexOf self.now arena.now }
+        ensures ok { IfOk result
+            (λ part. IsPartFrom key.now (entries_of self.now arena.now) arena.now.most part.0 part.1) }
+        ensures memory { IfErr result (λ why. why ≡ Refusal.OutOfMemory) }
+    {
+        copy_keys(alloc, self, arena, key, steps)
     }
 
     /// The chain of a key: its own, or a new one where the key is not there. `Refusal::OutOfMemory` leaves the index and the arena as

@@ -12,5 +12,6 @@ mod join;
 mod next;
 mod put;
 mod remove;
+mod split;
 mod tree;
 pub mod walk;

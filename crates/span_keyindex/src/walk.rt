@@ -1,7 +1,7 @@
 //! A walk over keys in order.
 ghost use Rattle.std.specs.Iterator.{YieldsFirstBy, item_count};
 ghost use Rattle.std.specs.Prelude.{◌≡◌, ℕ, ◌*◌, ◌<◌, ◌^◌, [], length};
-ghost use Rattle.span_keyindex.specs.Entries.{entries_under, entry_of};
+ghost use Rattle.span_keyindex.specs.Entries.{entries_from, entries_under, entry_of};
 ghost use Rattle.span_keyindex.specs.Items.{entries_between};
 ghost use Rattle.span_keyindex.specs.Indexes.{entries_at, IsIndex, IsSearchCost};
 ghost use Rattle.span_keyindex.specs.Walks.{is_stop};
@@ -135,6 +135,29 @@ pub(crate) fn walk_under<'a, C: Ledger, W: Ledger>(
         nexts,
         at,
         stop,
+        left: arena.numbers(),
+    }
+}
+
+/// The keys from `low` on with their chains, in order of the keys, which are lent. The first is found as by `first_from`.
+pub(crate) fn walk_from<'a, C: Ledger, W: Ledger>(
+    arena: &'a Arena,
+    nexts: &'a NextLinks,
+    index: &TreeRoot,
+    low: &[u8],
+    steps: &mut Steps<C, W>,
+) -> Walk<'a>
+    requires { IsIndex arena.now.cells nexts.now index.now }
+    ensures entries { result ≡ entries_from low.now (entries_at arena.now.cells index.now) }
+    ensures cost { (d : ℕ) → length (entries_at arena.now.cells index.now) < 2 ^ d
+        → IsSearchCost d steps.old steps.new }
+{
+    let at = first_from(arena, index, low, steps);
+    Walk {
+        arena,
+        nexts,
+        at,
+        stop: None,
         left: arena.numbers(),
     }
 }

@@ -84,22 +84,24 @@ fn count(alloc: Global, text: &str) -> Result<usize, (Refusal, usize)> {
     }
 }
 
+/// A text, and how many tokens it has, or where it has none.
+const COMMENTS: [(&str, Result<usize, (Refusal, usize)>); 11] = [
+    ("'--' b'--' \"--\" -- '", Ok(3)),
+    ("1 -- 2\r3\n4", Ok(2)),
+    ("1 - -2", Ok(4)),
+    ("1---2\n<--\n>", Ok(3)),
+    ("a -- @ / ä 1a 'b", Ok(1)),
+    ("b--'x'\n'y'", Ok(2)),
+    ("--", Ok(0)),
+    ("'a -- \n'", Err((Refusal::BadToken, 0))),
+    ("1 '--", Err((Refusal::BadToken, 2))),
+    ("-- a\n!", Err((Refusal::BadToken, 5))),
+    ("@--a\nb", Err((Refusal::BadToken, 0))),
+];
+
 #[test]
 fn comments(rt: HostRuntime) {
-    let texts = [
-        ("'--' b'--' \"--\" -- '", Ok(3)),
-        ("1 -- 2\r3\n4", Ok(2)),
-        ("1 - -2", Ok(4)),
-        ("1---2\n<--\n>", Ok(3)),
-        ("a -- @ / ä 1a 'b", Ok(1)),
-        ("b--'x'\n'y'", Ok(2)),
-        ("--", Ok(0)),
-        ("'a -- \n'", Err((Refusal::BadToken, 0))),
-        ("1 '--", Err((Refusal::BadToken, 2))),
-        ("-- a\n!", Err((Refusal::BadToken, 5))),
-        ("@--a\nb", Err((Refusal::BadToken, 0))),
-    ];
-    for (text, wanted) in texts {
+    for (text, wanted) in COMMENTS {
         assert_eq!(rt; count(rt.alloc(), text), wanted, "at {text}");
     }
 }

@@ -1,6 +1,6 @@
 //! The values of literals, worked out by hand.
 use span_lexer::literal_value::{bytes_of, text_of};
-use std::alloc::AllocError;
+use std::alloc::{AllocError, Global};
 
 /// A spelling, with the string that it represents.
 const TEXTS: [(&str, &str); 27] = [
@@ -70,33 +70,39 @@ fn bytes(rt: HostRuntime) -> Result<(), AllocError> {
     Ok(())
 }
 
+const DIGITS: [char; 16] = [
+    '0', '1', '2', '3', '4', '5', '6', '7', '8', '9', 'a', 'b', 'c', 'd', 'e', 'f',
+];
+
+// Whether the two digits of a byte are read as this byte.
+fn is_read(alloc: Global, byte: u8) -> Result<bool, AllocError> {
+    let (high, low) = (DIGITS[byte as usize / 16], DIGITS[byte as usize % 16]);
+    let spelled = format!(in alloc; "b'\\x{high}{low}'")?;
+    Ok(bytes_of(alloc, spelled.as_str())?.as_slice() == [byte].as_slice())
+}
+
 #[test]
 fn each_byte_by_its_digits(rt: HostRuntime) -> Result<(), AllocError> {
-    let digits = "0123456789abcdef";
-    for (high, h) in digits.chars().enumerate() {
-        for (low, l) in digits.chars().enumerate() {
-            let spelled = format!(in rt.alloc(); "b'\\x{h}{l}'")?;
-            let bytes = bytes_of(rt.alloc(), spelled.as_str())?;
-            assert_eq!(rt; bytes.len(), 1);
-            assert_eq!(rt; bytes.as_slice()[0] as usize, high * 16 + low, "at {h}{l}");
-        }
+    for byte in 0..=u8::MAX {
+        assert!(rt; is_read(rt.alloc(), byte)?, "at {byte}");
     }
     Ok(())
 }
 
+/// No literal is spelt so. The definition gives these a value too, so that every spelling has one.
+const NO_LITERALS: [(&str, &str); 7] = [
+    ("", ""),
+    ("'", ""),
+    ("'\\'", "\\"),
+    ("'\\q'", "q"),
+    ("'\\x4'", "x4"),
+    ("'\\u004'", "u004"),
+    ("'\\ud800'", "\u{fffd}"),
+];
+
 #[test]
 fn spellings_of_no_literal(rt: HostRuntime) -> Result<(), AllocError> {
-    // No literal is spelt so. The definition gives these a value too, so that every spelling has one.
-    let cases = [
-        ("", ""),
-        ("'", ""),
-        ("'\\'", "\\"),
-        ("'\\q'", "q"),
-        ("'\\x4'", "x4"),
-        ("'\\u004'", "u004"),
-        ("'\\ud800'", "\u{fffd}"),
-    ];
-    for (spelled, wanted) in cases {
+    for (spelled, wanted) in NO_LITERALS {
         let text = text_of(rt.alloc(), spelled)?;
         assert_eq!(rt; text.as_str(), wanted, "at {spelled}");
     }

@@ -71,23 +71,32 @@ fn is_ordered_by_place(query: &Query, at: usize, place: u64, descends: bool) -> 
     }
 }
 
+/// Whether a query has as many of each clause as the one below.
+fn are_clauses(query: &Query) -> bool {
+    let first = &query.first;
+    first.is_distinct
+        && first.outputs.len() == 3
+        && first.joins.len() == 1
+        && first.groups.len() == 1
+        && first.filter.is_none()
+        && query.others.len() == 1
+        && query.order.len() == 2
+        && query.limit == Some(Limit { rows: 3, skip: 4 })
+}
+
 #[test]
 fn clauses(rt: HostRuntime) -> Result<(), ReadError> {
     let query = parse_select(
         rt.alloc(),
         "SELECT DISTINCT u.uid x, *, a.* FROM Users AS u LEFT JOIN (SELECT 1 FROM t) a ON TRUE GROUP BY b UNION ALL SELECT 2 FROM v ORDER BY y DESC, 2 LIMIT 3 OFFSET 4;",
     )?;
-    assert!(rt; query.first.is_distinct);
-    assert_eq!(rt; query.first.outputs.len(), 3);
-    assert_eq!(rt; query.first.joins.len(), 1);
-    assert_eq!(rt; query.first.groups.len(), 1);
-    assert!(rt; query.first.filter.is_none());
-    assert_eq!(rt; query.others.len(), 1);
-    assert_eq!(rt; query.order.len(), 2);
-    assert!(rt; is_from(&query, "Users", "u", (37, 42)));
-    assert!(rt; is_ordered_by_place(&query, 1, 2, false));
-    assert_eq!(rt; query.limit, Some(Limit { rows: 3, skip: 4 }));
+    let found = (
+        are_clauses(&query),
+        is_from(&query, "Users", "u", (37, 42)),
+        is_ordered_by_place(&query, 1, 2, false),
+    );
     discard(query);
+    assert_eq!(rt; found, (true, true, true));
     Ok(())
 }
 

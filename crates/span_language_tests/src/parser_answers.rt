@@ -90,6 +90,17 @@ const AROUND: [(&str, &str, u8); 8] = [
     ("SELECT a = @", " FROM t", 2),
 ];
 
+/// The answer to a query text with this word in it.
+fn answer_with(
+    alloc: Global,
+    before: &str,
+    word: &str,
+    rest: &str,
+) -> Result<(u8, usize), AllocError> {
+    let text = format!(in alloc; "{before}{word}{rest}")?;
+    Ok(answer(alloc, text.as_str()))
+}
+
 #[test]
 fn reserved_words(rt: HostRuntime) -> Result<(), AllocError> {
     let a = rt.alloc();
@@ -101,11 +112,17 @@ fn reserved_words(rt: HostRuntime) -> Result<(), AllocError> {
             before.len()
         };
         for word in RESERVED {
-            let text = format!(in a; "{before}{word}{rest}")?;
-            assert_eq!(rt; answer(a, text.as_str()), (number, place), "at {text}");
+            assert_eq!(rt;
+                answer_with(a, before, word, rest)?,
+                (number, place),
+                "at {word}"
+            );
         }
-        let text = format!(in a; "{before}name{rest}")?;
-        assert_eq!(rt; answer(a, text.as_str()), (0, 0), "at {text}");
+        assert_eq!(rt;
+            answer_with(a, before, "name", rest)?,
+            (0, 0),
+            "at {before}"
+        );
     }
     Ok(())
 }
@@ -163,13 +180,25 @@ fn within(
     Ok(text)
 }
 
-/// Whether a text is read as a query whose one output is the integer 7, with no trace of parentheses.
+/// Whether the one output is the integer 7, with no trace of parentheses.
+fn are_seven(outputs: &[Output]) -> bool {
+    match outputs {
+        [Output::Value(Expr::Integer(number), None)] => number.value == 7,
+        _ => false,
+    }
+}
+
+/// Drops a value, out of the callers' own sight: to drop a tree takes many steps.
+fn discard<T: Drop>(_value: T) {}
+
+/// Whether a text is read as a query whose one output is the integer 7.
 fn shows_seven(alloc: Global, text: &str) -> bool {
     match parse_select(alloc, text) {
-        Ok(query) => match query.first.outputs.as_slice() {
-            [Output::Value(Expr::Integer(number), None)] => number.value == 7,
-            _ => false,
-        },
+        Ok(query) => {
+            let found = are_seven(query.first.outputs.as_slice());
+            discard(query);
+            found
+        }
         Err(_) => false,
     }
 }

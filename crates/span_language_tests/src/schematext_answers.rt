@@ -142,20 +142,22 @@ fn reserved_words(rt: HostRuntime) -> Result<(), AllocError> {
     Ok(())
 }
 
+/// A length, the refusal of a column of it and its place; 0 and 0 where it is taken.
+const LENGTHS: [(&str, u8, usize); 8] = [
+    ("0", 35, 0),
+    ("1", 0, 0),
+    ("0001048576", 0, 0),
+    ("1048577", 35, 0),
+    ("9223372036854775807", 35, 0),
+    ("9223372036854775808", 2, 25),
+    ("-1", 3, 25),
+    ("1 MAX", 3, 27),
+];
+
 #[test]
 fn lengths_of_columns(rt: HostRuntime) -> Result<(), AllocError> {
     let a = rt.alloc();
-    let lengths = [
-        ("0", 35, 0),
-        ("1", 0, 0),
-        ("0001048576", 0, 0),
-        ("1048577", 35, 0),
-        ("9223372036854775807", 35, 0),
-        ("9223372036854775808", 2, 25),
-        ("-1", 3, 25),
-        ("1 MAX", 3, 27),
-    ];
-    for (length, number, place) in lengths {
+    for (length, number, place) in LENGTHS {
         let text = format!(in a; "CREATE TABLE t (a STRING({length})) PRIMARY KEY (a)")?;
         assert_eq!(rt; answer(a, text.as_str()), (number, place), "at {length}");
     }

@@ -9,10 +9,12 @@ use Rattle.span_rowcode.specs.Rows.{row_code}
 use Rattle.span_mutate.specs.declared.mutation.CheckedMutation.{CheckedMutation}
 use Rattle.span_mutate.specs.declared.row.TableRow.{TableRow}
 use Rattle.span_mutate.specs.Database.{apply}
+use Rattle.span_machine.specs.declared.slot.SlotState.{SlotState}
 use Rattle.span_machine.specs.declared.transaction.Commit.{Commit}
 use Rattle.span_machine.specs.declared.transaction.OpenTransaction.{OpenTransaction}
 use Rattle.span_machine.specs.declared.transaction.Decision.{Decision}
 use Rattle.span_machine.specs.declared.transaction.Decision.TheVariants.{Committed}
+use Rattle.span_machine.specs.Slots.{has_key, mutations_in}
 use Rattle.span_machine.specs.Sorting.{in_order}
 use Rattle.span_machine.specs.Tables.{is_before}
 
@@ -94,20 +96,26 @@ is_committed o = false
 abbrev pub count_changes : List Table → List TableRow → List CheckedMutation → ℕ
 count_changes schema db ms = length (changes_between schema 0 db (after_mutations schema db ms))
 
--- how many changes the transaction has prepared in the slot, where it is not committed: its commit's are among those of the log
-abbrev pub count_prepared_changes : List Table → List TableRow → ℕ → OpenTransaction → ℕ
-count_prepared_changes schema db slot t =
-    if list_any (λ p. p.slot == slot) t.prepared && not (is_committed t.decision) then count_changes schema db t.mutations else 0
+-- the changes of keys in the slot's range
+abbrev pub changes_in : SlotState → List Change → List Change
+changes_in slot_state cs = filter (λ (c : Change). has_key slot_state c.key) cs
 
--- how many versions a slot with this horizon keeps: one for each kept change, also one that is prepared and not applied yet
-abbrev pub live : List Table → List Commit → List OpenTransaction → ℕ → ℕ → ℕ
-live schema log transactions slot horizon =
-    length (kept horizon (changes_of schema log)) + sum_by (count_prepared_changes schema (database_of schema log) slot) transactions
+-- how many changes the transaction has prepared in the slot, where it is not committed: its commit's are among those of the log
+abbrev pub count_prepared_changes : List Table → List TableRow → ℕ → SlotState → OpenTransaction → ℕ
+count_prepared_changes schema db slot slot_state t =
+    if list_any (λ p. p.slot == slot) t.prepared && not (is_committed t.decision) then count_changes schema db (mutations_in schema slot_state t.mutations) else 0
+
+-- how many versions a slot with this state keeps: one for each kept change of a key in its range, also one that is prepared and not
+-- applied yet
+abbrev pub live : List Table → List Commit → List OpenTransaction → ℕ → SlotState → ℕ
+live schema log transactions slot slot_state =
+    length (kept slot_state.horizon (changes_in slot_state (changes_of schema log)))
+    + sum_by (count_prepared_changes schema (database_of schema log) slot slot_state) transactions
 
 -- the most versions that a slot may keep
 abbrev pub most_versions : ℕ
 most_versions = 2 ^ 24
 
--- how many versions the slot would keep once the mutations are prepared there too
-abbrev pub live_with : List Table → List Commit → List OpenTransaction → ℕ → ℕ → List CheckedMutation → ℕ
-live_with schema log transactions slot horizon ms = live schema log transactions slot horizon + count_changes schema (database_of schema log) ms
+-- how many versions the slot would keep once the mutations, all of its range, are prepared there too
+abbrev pub live_with : List Table → List Commit → List OpenTransaction → ℕ → SlotState → List CheckedMutation → ℕ
+live_with schema log transactions slot slot_state ms = live schema log transactions slot slot_state + count_changes schema (database_of schema log) ms

@@ -2,6 +2,7 @@ pub mod Limits
 pub mod Sorting
 pub mod Tables
 pub mod Meaning
+pub mod Slots
 pub mod Kept
 pub mod Machine
 pub mod Place

@@ -30,7 +30,7 @@ use Rattle.span_machine.specs.declared.slot.SlotState.{SlotState}
 use Rattle.span_machine.specs.declared.query.Leaf.{Leaf}
 use Rattle.span_machine.specs.declared.query.OpenQuery.{OpenQuery}
 use Rattle.span_mutate.specs.Database.{apply}
-use Rattle.span_mutate.specs.Directories.{Root, is_in_directory, root_row}
+pub use Rattle.span_machine.specs.Slots.{root_at, is_at, has_key, holds, mutations_in}
 use Rattle.span_machine.specs.Tables.{tables}
 use Rattle.span_machine.specs.Meaning.{means}
 use Rattle.span_machine.specs.Kept as kept
@@ -96,21 +96,6 @@ without_first test (x ∷ xs) = if test x then xs else x ∷ without_first test 
 
 -- ---- slots
 
--- the root row of a mutation's directory
-abbrev pub root_at : List Table → CheckedMutation → Root
-root_at schema m = root_row schema m.table m.key
-
--- the mutation is in the directory of this root row
-abbrev pub is_at : List Table → Root → CheckedMutation → Bool
-is_at schema root m = is_in_directory schema root m.table m.key
-
--- the slot's range has the root row
-abbrev pub holds : SlotState → Root → Bool
-holds slot_state root = true
-
-abbrev pub mutations_in : List Table → SlotState → List CheckedMutation → List CheckedMutation
-mutations_in schema slot_state ms = filter (λ m. holds slot_state (root_at schema m)) ms
-
 abbrev pub is_prepared_at : ℕ → OpenTransaction → Bool
 is_prepared_at slot t = list_any (λ p. p.slot == slot) t.prepared
 
@@ -170,7 +155,7 @@ prepare_refusal schema m slot t slot_state = first_cause (
 
 -- the slot would keep more versions than it may
 abbrev pub capacity_refusal : List Table → Machine → ℕ → SlotState → List CheckedMutation → Option Refusal
-capacity_refusal schema m slot slot_state ms = first_cause ((nat_lt kept.most_versions (kept.live_with schema m.log m.transactions slot slot_state.horizon ms), refusal.ShardFull) ∷ [])
+capacity_refusal schema m slot slot_state ms = first_cause ((nat_lt kept.most_versions (kept.live_with schema m.log m.transactions slot slot_state ms), refusal.ShardFull) ∷ [])
 
 abbrev pub prepared : Machine → ℕ → ℕ → ℕ → SlotState → Answer
 prepared m owner txn slot slot_state = (
@@ -194,7 +179,7 @@ prepare schema m owner txn slot = for_transaction m owner txn (λ t. for_slot m 
 
 -- every mutation is of a slot where the transaction is prepared
 abbrev pub is_prepared_for : List Table → Machine → OpenTransaction → CheckedMutation → Bool
-is_prepared_for schema m t mutation = list_any (λ p. if_some (slice_get m.slots p.slot) false (λ slot_state. holds slot_state (root_at schema mutation))) t.prepared
+is_prepared_for schema m t mutation = list_any (λ p. if_some (slice_get m.slots p.slot) false (λ slot_state. holds schema slot_state (root_at schema mutation))) t.prepared
 
 abbrev pub is_all_prepared : List Table → Machine → OpenTransaction → Bool
 is_all_prepared schema m t = not (length t.prepared == 0) && list_all (is_prepared_for schema m t) t.mutations
@@ -314,15 +299,15 @@ trim_refusal m slot h slot_state = first_cause (
     (nat_lt h slot_state.horizon, refusal.TrimBackward)
     ∷ (not (is_safe m slot slot_state h), refusal.TrimTooNew) ∷ [])
 
--- how many versions are kept from the horizon h on
-abbrev pub live_after : List Table → Machine → ℕ → ℕ → ℕ
-live_after schema m slot h = kept.live schema m.log m.transactions slot h
+-- the slot with the horizon h
+abbrev pub with_horizon : ℕ → SlotState → SlotState
+with_horizon h slot_state = record slot_state { horizon = h }
 
 abbrev pub trimmed : List Table → Machine → ℕ → ℕ → SlotState → Answer
 trimmed schema m slot h slot_state = (
-  reply.Trimmed (live_after schema m slot h),
+  reply.Trimmed (kept.live schema m.log m.transactions slot (with_horizon h slot_state)),
   record m {
-    slots = slice_set m.slots slot (record slot_state { horizon = h });
+    slots = slice_set m.slots slot (with_horizon h slot_state);
   },
 )
 
@@ -484,5 +469,9 @@ Steps understands schema m s r next =
     ((u : Result Statement Refusal) × IsUnderstood understands s u × IsAnswer (answer schema m u s) r next)
     ⊎ ((may_take_memory s ≡ true) × MayRunOutOfMemory m r next)
 
+-- a slot that has every key, with no timestamp yet
+abbrev pub first_slot : SlotState
+first_slot = record { lo = None; hi = None; last = 0; floor = 0; horizon = 0 }
+
 abbrev pub start : Machine
-start = record { slots = (record { last = 0; floor = 0; horizon = 0 }) ∷ []; transactions = []; log = []; queries = []; next_transaction = 1; next_query = 1 }
+start = record { slots = first_slot ∷ []; transactions = []; log = []; queries = []; next_transaction = 1; next_query = 1 }

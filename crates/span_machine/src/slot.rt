@@ -1,8 +1,13 @@
-//! The state of a slot in the journal: its timestamps.
+//! The state of a slot in the journal: its range of keys, and its timestamps.
+use span_keycode::key::Key;
 
-/// The timestamps of a slot in use.
-#[derive(Clone, Copy, Debug, PartialEq, Eq)]
+/// A slot in use: the range of the coded root keys whose directories it has, and its timestamps.
+#[derive(Debug, Drop, PartialEq, Eq)]
 pub struct SlotState {
+    /// The first coded root key of the range. None: there is no key before the range.
+    pub lo: Option<Key>,
+    /// The first coded root key after the range. None: there is no key after it.
+    pub hi: Option<Key>,
     /// The greatest timestamp given to a transaction here.
     pub last: u64,
     /// No later prepare here gets a timestamp at or below this.

@@ -16,7 +16,7 @@ use Rattle.span_mutate.specs.Database.{apply}
 use Rattle.span_mutate.specs.Directories.{Root, AreKeyed, directory}
 use Rattle.span_machine.specs.Machine.{is_at, root_at}
 use Rattle.span_machine.specs.Tables.{upto, mutations_of, tables}
-use Rattle.span_machine.specs.Machine.{Machine, holds, changed_first, without_first, is_prepared_at, greatest, with_last, if_some, have_common_root, mutations_in, mutations_refusal, refusal_of, is_prepared_for, prepare_timestamp}
+use Rattle.span_machine.specs.Machine.{Machine, has_key, holds, changed_first, without_first, is_prepared_at, greatest, with_last, if_some, have_common_root, mutations_in, mutations_refusal, refusal_of, is_prepared_for, prepare_timestamp}
 use Rattle.span_truetime.specs.Limits.{timestamp_end}
 use Rattle.span_machine_laws.proofs.Tests.{first_true, second_true, first_or, second_or, first_none, second_none, both_true, equal_number, no_length}
 use Rattle.span_machine_laws.proofs.Lists.{slice_get-set, set_here, split_found, not_nil, both_nil, all_filtered}
@@ -29,23 +29,23 @@ use Rattle.span_schema.specs.Lineages.{MeetsRules}
 
 -- a slot state in the place of another, with no lower last
 pub record Lifts (old new : List SlotState) : Type 0 where
-  pub from : (i : ℕ) (b : SlotState) → slice_get new i ≡ Some b → (a : SlotState) × (slice_get old i ≡ Some a) × (a.last ≤ b.last) × ((root : Root) → holds b root ≡ holds a root)
+  pub from : (i : ℕ) (b : SlotState) → slice_get new i ≡ Some b → (a : SlotState) × (slice_get old i ≡ Some a) × (a.last ≤ b.last) × ((key : List ℕ) → has_key b key ≡ has_key a key)
 
 pub lifts_same : (slots : List SlotState) → Lifts slots slots
-lifts_same slots = record { from = λ i b h. (b, h, omega arith, λ root. refl) }
+lifts_same slots = record { from = λ i b h. (b, h, omega arith, λ key. refl) }
 
-pub lifts_set : (slots : List SlotState) (slot : ℕ) (a b : SlotState) → slice_get slots slot ≡ Some a → a.last ≤ b.last → ((root : Root) → holds b root ≡ holds a root) → Lifts slots (slice_set slots slot b)
+pub lifts_set : (slots : List SlotState) (slot : ℕ) (a b : SlotState) → slice_get slots slot ≡ Some a → a.last ≤ b.last → ((key : List ℕ) → has_key b key ≡ has_key a key) → Lifts slots (slice_set slots slot b)
 lifts_set slots slot a b here low range = record {
   from = λ i c h. elim (slice_get-set slots slot i b c h) [
-    | inl e ↦ (a, ap (slice_get slots) e.0 ∙ here, subst (λ (d : SlotState). a.last ≤ d.last) (sym e.1) low, λ root. ap (λ (d : SlotState). holds d root) e.1 ∙ range root)
-    | inr g ↦ (c, g, omega arith, λ root. refl)
+    | inl e ↦ (a, ap (slice_get slots) e.0 ∙ here, subst (λ (d : SlotState). a.last ≤ d.last) (sym e.1) low, λ key. ap (λ (d : SlotState). has_key d key) e.1 ∙ range key)
+    | inr g ↦ (c, g, omega arith, λ key. refl)
   ];
 }
 
 pub lifts_last : (slots : List SlotState) (slot ts : ℕ) → Lifts slots (with_last slots slot ts)
 lifts_last slots slot ts = elim (slice_get slots slot) as (λ o. slice_get slots slot ≡ o → Lifts slots (if_some o slots (λ slot_state. slice_set slots slot (record slot_state { last = max slot_state.last ts })))) [
   | None ↦ λ e. lifts_same slots
-  | Some slot_state ↦ λ e. lifts_set slots slot slot_state (record slot_state { last = max slot_state.last ts }) e (omega arith) (λ root. refl)
+  | Some slot_state ↦ λ e. lifts_set slots slot slot_state (record slot_state { last = max slot_state.last ts }) e (omega arith) (λ key. refl)
 ] refl
 
 -- the state of the slot itself rises to ts
@@ -159,13 +159,13 @@ unclaimed schema root is slot ms (t ∷ ts) some e =
     ] refl
 
 -- the mutations in the range of a slot that holds the root have all of the directory's
-pub all_held : (schema : List Table) (root : Root) (is : IsRoot schema root) (slot_state : SlotState) (ms : List CheckedMutation) → holds slot_state root ≡ true → filter (is_at schema root) (mutations_in schema slot_state ms) ≡ filter (is_at schema root) ms
+pub all_held : (schema : List Table) (root : Root) (is : IsRoot schema root) (slot_state : SlotState) (ms : List CheckedMutation) → holds schema slot_state root ≡ true → filter (is_at schema root) (mutations_in schema slot_state ms) ≡ filter (is_at schema root) ms
 all_held schema root is slot_state [] held = refl
-all_held schema root is slot_state (m ∷ ms) held = elim (is_at schema root m) as (λ v. is_at schema root m ≡ v → filter (is_at schema root) (cond (holds slot_state (root_at schema m)) (m ∷ mutations_in schema slot_state ms) (mutations_in schema slot_state ms)) ≡ cond v (m ∷ filter (is_at schema root) ms) (filter (is_at schema root) ms)) [
+all_held schema root is slot_state (m ∷ ms) held = elim (is_at schema root m) as (λ v. is_at schema root m ≡ v → filter (is_at schema root) (cond (holds schema slot_state (root_at schema m)) (m ∷ mutations_in schema slot_state ms) (mutations_in schema slot_state ms)) ≡ cond v (m ∷ filter (is_at schema root) ms) (filter (is_at schema root) ms)) [
   | true ↦ λ at.
-      let here : holds slot_state (root_at schema m) ≡ true = subst (λ (q : Root). holds slot_state q ≡ true) (own_root schema root m is at) held in
+      let here : holds schema slot_state (root_at schema m) ≡ true = subst (λ (q : Root). holds schema slot_state q ≡ true) (own_root schema root m is at) held in
       ap (λ b. filter (is_at schema root) (cond b (m ∷ mutations_in schema slot_state ms) (mutations_in schema slot_state ms))) here ∙ ap (λ b. cond b (m ∷ filter (is_at schema root) (mutations_in schema slot_state ms)) (filter (is_at schema root) (mutations_in schema slot_state ms))) at ∙ ap (λ l. m ∷ l) (all_held schema root is slot_state ms held)
-  | false ↦ λ at. elim (holds slot_state (root_at schema m)) as (λ b. filter (is_at schema root) (cond b (m ∷ mutations_in schema slot_state ms) (mutations_in schema slot_state ms)) ≡ filter (is_at schema root) ms) [
+  | false ↦ λ at. elim (holds schema slot_state (root_at schema m)) as (λ b. filter (is_at schema root) (cond b (m ∷ mutations_in schema slot_state ms) (mutations_in schema slot_state ms)) ≡ filter (is_at schema root) ms) [
     | true ↦ ap (λ b. cond b (m ∷ filter (is_at schema root) (mutations_in schema slot_state ms)) (filter (is_at schema root) (mutations_in schema slot_state ms))) at ∙ all_held schema root is slot_state ms held
     | false ↦ all_held schema root is slot_state ms held
   ]
@@ -215,26 +215,26 @@ pub other_slot : (p i slot : ℕ) → (p == i) ≡ true → (i == slot) ≡ fals
 other_slot p i slot at e = grind (arith, nat_tests)
 
 -- a transaction that is prepared for a mutation of the directory is prepared at the directory's slot, which has a state
-pub prepared_slot : (m : Machine) (slot : ℕ) (k : Root) → ((i : ℕ) (b : SlotState) → slice_get m.slots i ≡ Some b → holds b k ≡ true → i ≡ slot) → (ps : List Prepared)
-    → list_any (λ p. if_some (slice_get m.slots p.slot) false (λ slot_state. holds slot_state k)) ps ≡ true → (list_any (λ p. p.slot == slot) ps ≡ true) × ((b : SlotState) × (slice_get m.slots slot ≡ Some b))
-prepared_slot m slot k only [] = λ e. absurd (cc)
-prepared_slot m slot k only (p ∷ ps) = elim (slice_get m.slots p.slot) as (λ o. slice_get m.slots p.slot ≡ o → (if_some o false (λ slot_state. holds slot_state k) || list_any (λ p. if_some (slice_get m.slots p.slot) false (λ slot_state. holds slot_state k)) ps) ≡ true
+pub prepared_slot : (schema : List Table) (m : Machine) (slot : ℕ) (k : Root) → ((i : ℕ) (b : SlotState) → slice_get m.slots i ≡ Some b → holds schema b k ≡ true → i ≡ slot) → (ps : List Prepared)
+    → list_any (λ p. if_some (slice_get m.slots p.slot) false (λ slot_state. holds schema slot_state k)) ps ≡ true → (list_any (λ p. p.slot == slot) ps ≡ true) × ((b : SlotState) × (slice_get m.slots slot ≡ Some b))
+prepared_slot schema m slot k only [] = λ e. absurd (cc)
+prepared_slot schema m slot k only (p ∷ ps) = elim (slice_get m.slots p.slot) as (λ o. slice_get m.slots p.slot ≡ o → (if_some o false (λ slot_state. holds schema slot_state k) || list_any (λ p. if_some (slice_get m.slots p.slot) false (λ slot_state. holds schema slot_state k)) ps) ≡ true
     → (((p.slot == slot) || list_any (λ p. p.slot == slot) ps) ≡ true) × ((b : SlotState) × (slice_get m.slots slot ≡ Some b))) [
-      | None ↦ λ is e. let rest = prepared_slot m slot k only ps e in (second_or (p.slot == slot) (list_any (λ p. p.slot == slot) ps) rest.0, rest.1)
-      | Some b ↦ λ is. elim (holds b k) as (λ v. holds b k ≡ v → (v || list_any (λ p. if_some (slice_get m.slots p.slot) false (λ slot_state. holds slot_state k)) ps) ≡ true
+      | None ↦ λ is e. let rest = prepared_slot schema m slot k only ps e in (second_or (p.slot == slot) (list_any (λ p. p.slot == slot) ps) rest.0, rest.1)
+      | Some b ↦ λ is. elim (holds schema b k) as (λ v. holds schema b k ≡ v → (v || list_any (λ p. if_some (slice_get m.slots p.slot) false (λ slot_state. holds schema slot_state k)) ps) ≡ true
           → (((p.slot == slot) || list_any (λ p. p.slot == slot) ps) ≡ true) × ((b : SlotState) × (slice_get m.slots slot ≡ Some b))) [
             | true ↦ λ held e. let h : p.slot ≡ slot = only p.slot b is held in
                 (first_or (p.slot == slot) (list_any (λ p. p.slot == slot) ps) (equal_number p.slot slot h), (b, subst (λ i. slice_get m.slots i ≡ Some b) h is))
-            | false ↦ λ held e. let rest = prepared_slot m slot k only ps e in (second_or (p.slot == slot) (list_any (λ p. p.slot == slot) ps) rest.0, rest.1)
+            | false ↦ λ held e. let rest = prepared_slot schema m slot k only ps e in (second_or (p.slot == slot) (list_any (λ p. p.slot == slot) ps) rest.0, rest.1)
           ] refl
     ] refl
 
-pub prepared_root : (schema : List Table) (root : Root) (is : IsRoot schema root) (m : Machine) (slot : ℕ) (t : OpenTransaction) → ((i : ℕ) (b : SlotState) → slice_get m.slots i ≡ Some b → holds b root ≡ true → i ≡ slot) → (ms : List CheckedMutation)
+pub prepared_root : (schema : List Table) (root : Root) (is : IsRoot schema root) (m : Machine) (slot : ℕ) (t : OpenTransaction) → ((i : ℕ) (b : SlotState) → slice_get m.slots i ≡ Some b → holds schema b root ≡ true → i ≡ slot) → (ms : List CheckedMutation)
     → is_some_of (filter (is_at schema root) ms) ≡ true → list_all (is_prepared_for schema m t) ms ≡ true → (is_prepared_at slot t ≡ true) × ((b : SlotState) × (slice_get m.slots slot ≡ Some b))
 prepared_root schema root is m slot t only [] = λ e all. absurd (cc)
 prepared_root schema root is m slot t only (mu ∷ ms) = elim (is_at schema root mu) as (λ v. is_at schema root mu ≡ v → is_some_of (cond v (mu ∷ filter (is_at schema root) ms) (filter (is_at schema root) ms)) ≡ true → (is_prepared_for schema m t mu && list_all (is_prepared_for schema m t) ms) ≡ true
     → (is_prepared_at slot t ≡ true) × ((b : SlotState) × (slice_get m.slots slot ≡ Some b))) [
-      | true ↦ λ at e all. prepared_slot m slot (root_at schema mu) (λ i b h k. only i b h (subst (λ (q : Root). holds b q ≡ true) (sym (own_root schema root mu is at)) k)) t.prepared (first_true _ _ all)
+      | true ↦ λ at e all. prepared_slot schema m slot (root_at schema mu) (λ i b h k. only i b h (subst (λ (q : Root). holds schema b q ≡ true) (sym (own_root schema root mu is at)) k)) t.prepared (first_true _ _ all)
       | false ↦ λ at e all. prepared_root schema root is m slot t only ms e (second_true _ _ all)
     ] refl
 

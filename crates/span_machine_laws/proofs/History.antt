@@ -37,7 +37,7 @@ module _ (understands : Understanding) (schema : List Table) (rules : MeetsRules
 
   -- what is meant by the log so far, and is sealed, is meant by all that the run commits
   meant_sealed : (asked : List OpenedQuery) (m : Machine) (steps : List Step) (replies : List Reply) (last : Machine) (query s : ℕ) (meant : rows.Rows) → Run understands schema m steps replies last
-      → IsReached schema m → IsReached schema last → IsMeant understands schema m.log asked query s meant → ((root : Root) → IsRoot schema root → IsSealed root s m) → IsMeant understands schema last.log asked query s meant
+      → IsReached schema m → IsReached schema last → IsMeant understands schema m.log asked query s meant → ((root : Root) → IsRoot schema root → IsSealed schema root s m) → IsMeant understands schema last.log asked query s meant
   meant_sealed asked m steps replies last query s meant run reached reached_last now sealed = record {
     question = now.question;
     opened = now.opened;

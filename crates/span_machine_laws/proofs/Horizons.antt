@@ -1,5 +1,5 @@
 -- What is at or below a slot's horizon is sealed.
-use Rattle.std.proofs.Common.{◌≡◌, ℕ, max, true, false, cond, ◌&&◌, nat_lt, nat_le, List, Option, Some, None, zero, suc, refl, ap, sym, ◌∙◌, subst, inl, inr, ◌⊎◌, arith}
+use Rattle.std.proofs.Common.{◌≡◌, ℕ, max, true, false, cond, ◌&&◌, nat_lt, nat_le, List, Option, Some, None, zero, suc, refl, ap, sym, subst, inl, inr, ◌⊎◌, arith}
 use Rattle.std.specs.Prelude.{slice_get, slice_set}
 use Rattle.span_machine.specs.declared.slot.SlotState.{SlotState}
 use Rattle.span_machine.specs.declared.transaction.OpenTransaction.{OpenTransaction}
@@ -9,9 +9,11 @@ use Rattle.span_machine.specs.declared.step.Step.{Step}
 use Rattle.span_truetime.specs.declared.interval.Interval.{Interval}
 use Rattle.span_schema.specs.declared.table.Table.{Table}
 use Rattle.span_mutate.specs.Directories.{Root}
-use Rattle.span_machine.specs.Machine.{Machine, answer, start, is_safe, commit_timestamp, applied_at, with_risen_floor, with_last, coordinator_slot, if_some}
+use Rattle.span_machine.specs.Slots.{root_code}
+use Rattle.span_machine.specs.Machine.{Machine, answer, start, has_key, holds, with_horizon, is_safe, commit_timestamp, applied_at, with_risen_floor, with_last, coordinator_slot, if_some}
 use Rattle.span_machine_laws.proofs.Causes.{may_trim}
 use Rattle.span_machine_laws.proofs.Lists.{slice_get-set}
+use Rattle.span_machine_laws.proofs.Ranges.{HasRanges, home_only}
 use Rattle.span_machine_laws.proofs.Sealed.{IsSealed, answer_keeps}
 use Rattle.span_machine_laws.proofs.Sound.{IsSound, sealed_when_safe}
 use Rattle.span_machine_laws.proofs.Locality.{IsRoot}
@@ -24,28 +26,36 @@ use Rattle.std.specs.Prelude.{Result}
 abbrev pub IsLeft : Machine → ℕ → SlotState → SlotState → Type 0
 IsLeft m slot old new = (new.horizon ≡ old.horizon) ⊎ (is_safe m slot old new.horizon ≡ true)
 
+-- each slot state comes from an old one, of any slot, in whose range its own is
+pub record IsLeftFrom (m : Machine) (new : SlotState) : Type 0 where
+  pub slot : ℕ
+  pub old : SlotState
+  pub here : slice_get m.slots slot ≡ Some old
+  pub inside : (key : List ℕ) → has_key new key ≡ true → has_key old key ≡ true
+  pub left : IsLeft m slot old new
+
 abbrev pub KeepsHorizons : Machine → List SlotState → Type 0
-KeepsHorizons m slots = (i : ℕ) (new : SlotState) → slice_get slots i ≡ Some new → (old : SlotState) × (slice_get m.slots i ≡ Some old) × IsLeft m i old new
+KeepsHorizons m slots = (i : ℕ) (new : SlotState) → slice_get slots i ≡ Some new → IsLeftFrom m new
 
 horizons_same : (m : Machine) → KeepsHorizons m m.slots
-horizons_same m i new h = (new, h, inl refl)
+horizons_same m i new h = record { slot = i; old = new; here = h; inside = λ key k. k; left = inl refl }
 
-horizons_set : (m : Machine) (slot : ℕ) (old new : SlotState) → slice_get m.slots slot ≡ Some old → IsLeft m slot old new → KeepsHorizons m (slice_set m.slots slot new)
-horizons_set m slot old new here left i c h = elim (slice_get-set m.slots slot i new c h) [
-  | inl e ↦ (old, ap (slice_get m.slots) e.0 ∙ here, subst (λ (j : ℕ). IsLeft m j old c) (sym e.0) (subst (IsLeft m slot old) (sym e.1) left))
-  | inr g ↦ (c, g, inl refl)
+horizons_set : (m : Machine) (slot : ℕ) (old new : SlotState) → slice_get m.slots slot ≡ Some old → ((key : List ℕ) → has_key new key ≡ true → has_key old key ≡ true) → IsLeft m slot old new → KeepsHorizons m (slice_set m.slots slot new)
+horizons_set m slot old new here inside left i c h = elim (slice_get-set m.slots slot i new c h) [
+  | inl e ↦ subst (IsLeftFrom m) (sym e.1) (record { slot = slot; old = old; here = here; inside = inside; left = left })
+  | inr g ↦ record { slot = i; old = c; here = g; inside = λ key k. k; left = inl refl }
 ]
 
 horizons_last : (m : Machine) (slot ts : ℕ) → KeepsHorizons m (with_last m.slots slot ts)
 horizons_last m slot ts = elim (slice_get m.slots slot) as (λ o. slice_get m.slots slot ≡ o → KeepsHorizons m (if_some o m.slots (λ slot_state. slice_set m.slots slot (record slot_state { last = max slot_state.last ts })))) [
   | None ↦ λ e. horizons_same m
-  | Some slot_state ↦ λ e. horizons_set m slot slot_state (record slot_state { last = max slot_state.last ts }) e (inl refl)
+  | Some slot_state ↦ λ e. horizons_set m slot slot_state (record slot_state { last = max slot_state.last ts }) e (λ key k. k) (inl refl)
 ] refl
 
 horizons_risen : (m : Machine) (slot q : ℕ) (interval : Interval) (slot_state : SlotState) → slice_get m.slots slot ≡ Some slot_state → KeepsHorizons m (slice_set m.slots slot (with_risen_floor slot_state q interval))
 horizons_risen m slot q interval slot_state here = elim (nat_lt slot_state.floor q && nat_le q interval.latest) as (λ v. KeepsHorizons m (slice_set m.slots slot (cond v (record slot_state { floor = q }) slot_state))) [
-  | true ↦ horizons_set m slot slot_state (record slot_state { floor = q }) here (inl refl)
-  | false ↦ horizons_set m slot slot_state slot_state here (inl refl)
+  | true ↦ horizons_set m slot slot_state (record slot_state { floor = q }) here (λ key k. k) (inl refl)
+  | false ↦ horizons_set m slot slot_state slot_state here (λ key k. k) (inl refl)
 ]
 
 horizons_applied : (m : Machine) (o : Decision) (owner txn slot : ℕ) (t : OpenTransaction) → KeepsHorizons m (applied_at o m owner txn slot t).1.slots
@@ -57,12 +67,12 @@ horizon_ends : (schema : List Table) (m : Machine) (u : Result Statement Refusal
 horizon_ends schema m u = record {
   refuses = λ step why may. horizons_same m;
   begins = λ owner ms accepted. horizons_same m;
-  prepares = λ owner txn slot t slot_state found here accepted well room low. horizons_set m slot slot_state _ here (inl refl);
+  prepares = λ owner txn slot t slot_state found here accepted well room low. horizons_set m slot slot_state _ here (λ key k. k) (inl refl);
   commits = λ owner txn interval t found accepted. horizons_last m (coordinator_slot t.prepared) (commit_timestamp m t interval);
   aborts = λ owner txn interval t found open_still. horizons_same m;
   applies = λ owner txn slot interval t slot_state found here accepted. horizons_applied m t.decision owner txn slot t;
-  advances = λ slot interval slot_state here. horizons_set m slot slot_state _ here (inl refl);
-  trims = λ slot h slot_state here accepted. horizons_set m slot slot_state (record slot_state { horizon = h }) here (inr (may_trim (nat_lt h slot_state.horizon) (is_safe m slot slot_state h) accepted).1);
+  advances = λ slot interval slot_state here. horizons_set m slot slot_state _ here (λ key k. k) (inl refl);
+  trims = λ slot h slot_state here accepted. horizons_set m slot slot_state (with_horizon h slot_state) here (λ key k. k) (inr (may_trim (nat_lt h slot_state.horizon) (is_safe m slot slot_state h) accepted).1);
   opens = λ text params bound interval asked is accepted. horizons_same m;
   finds_nothing = λ query leaf slot interval. horizons_same m;
   scans = λ query leaf slot interval q slot_state found here above safe. horizons_risen m slot q.s interval slot_state here;
@@ -71,16 +81,18 @@ horizon_ends schema m u = record {
   closes = λ query q found. horizons_same m;
 }
 
+-- the directories that a slot has are sealed at its horizon
 pub record HasHorizons (schema : List Table) (m : Machine) : Type 0 where
-  pub sealed : (i : ℕ) (b : SlotState) → slice_get m.slots i ≡ Some b → (root : Root) → IsRoot schema root → IsSealed root b.horizon m
+  pub sealed : (i : ℕ) (b : SlotState) → slice_get m.slots i ≡ Some b → (root : Root) → IsRoot schema root → holds schema b root ≡ true → IsSealed schema root b.horizon m
 
-pub answer_horizons : (schema : List Table) (m : Machine) (u : Result Statement Refusal) → IsSound schema m → HasHorizons schema m → (step : Step) → HasHorizons schema (answer schema m u step).1
-answer_horizons schema m u sound has step = record {
-  sealed = λ i b h root is.
-      let old = answer_by schema m u (λ x a. KeepsHorizons m a.1.slots) (horizon_ends schema m u) step i b h in
-      let sealed : IsSealed root b.horizon m = elim old.2 [
-        | inl e ↦ subst (λ (s : ℕ). IsSealed root s m) (sym e) (has.sealed i old.0 old.1 root is)
-        | inr e ↦ sealed_when_safe schema m sound i b.horizon old.0 root old.1 e
+pub answer_horizons : (schema : List Table) (m : Machine) (u : Result Statement Refusal) → IsSound schema m → HasRanges schema m → HasHorizons schema m → (step : Step) → HasHorizons schema (answer schema m u step).1
+answer_horizons schema m u sound ranges has step = record {
+  sealed = λ i b h root is held.
+      let from : IsLeftFrom m b = answer_by schema m u (λ x a. KeepsHorizons m a.1.slots) (horizon_ends schema m u) step i b h in
+      let held_before : holds schema from.old root ≡ true = from.inside (root_code schema root) held in
+      let sealed : IsSealed schema root b.horizon m = elim from.left [
+        | inl e ↦ subst (λ (s : ℕ). IsSealed schema root s m) (sym e) (has.sealed from.slot from.old from.here root is held_before)
+        | inr e ↦ sealed_when_safe schema m sound from.slot b.horizon from.old root from.here (home_only schema m ranges root from.slot from.old from.here held_before) e
       ] in
       (answer_keeps schema root is b.horizon m sealed u step).seal;
 }
@@ -90,11 +102,11 @@ horizon_or None = 0
 horizon_or (Some b) = b.horizon
 
 pub start_horizons : (schema : List Table) → HasHorizons schema start
-start_horizons schema = record { sealed = λ i b h root is. start_sealed i b h root }
+start_horizons schema = record { sealed = λ i b h root is held. start_sealed i b h root }
   where
     none_below : (i : ℕ) (b : SlotState) → slice_get start.slots i ≡ Some b → b.horizon ≡ 0
     none_below zero b h = sym (ap (λ (o : Option SlotState). horizon_or o) h)
     none_below (suc i) b h = cc
 
-    start_sealed : (i : ℕ) (b : SlotState) → slice_get start.slots i ≡ Some b → (root : Root) → IsSealed root b.horizon start
-    start_sealed i b h root = subst (λ (s : ℕ). IsSealed root s start) (sym (none_below i b h)) (record { floors = λ j c g k. omega arith; prepared = λ j c g k. tt })
+    start_sealed : (i : ℕ) (b : SlotState) → slice_get start.slots i ≡ Some b → (root : Root) → IsSealed schema root b.horizon start
+    start_sealed i b h root = subst (λ (s : ℕ). IsSealed schema root s start) (sym (none_below i b h)) (record { floors = λ j c g k. omega arith; prepared = λ j c g k. tt })

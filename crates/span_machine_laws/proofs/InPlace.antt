@@ -74,8 +74,8 @@ IsClaim schema root last cs (t ∷ ts) = (ts ≡ []) × IsClaimed schema root la
 
 -- the directory's commits are in the log in the order of their timestamps, and succeed
 pub record IsInPlace (schema : List Table) (root : Root) (slot : ℕ) (m : Machine) : Type 0 where
-  pub only : (i : ℕ) (b : SlotState) → slice_get m.slots i ≡ Some b → holds b root ≡ true → i ≡ slot
-  pub held : (b : SlotState) → slice_get m.slots slot ≡ Some b → holds b root ≡ true
+  pub only : (i : ℕ) (b : SlotState) → slice_get m.slots i ≡ Some b → holds schema b root ≡ true → i ≡ slot
+  pub held : (b : SlotState) → slice_get m.slots slot ≡ Some b → holds schema b root ≡ true
   pub in_range : IsUnder timestamp_end m.log
   pub rising : IsRising (commits_at schema root m.log)
   pub through : Succeeds schema (changes_at schema root (commits_at schema root m.log))
@@ -190,9 +190,9 @@ changes_at-upto schema root log s up =
 -- ---- the tables
 
 -- where each directory is in place, the tables at any s are made
-pub tables_made : (schema : List Table) → MeetsRules schema → (m : Machine) (slot : Root → ℕ) (s : ℕ) → AreKeyed schema (mutations_of (upto m.log s)) → ((root : Root) → IsRoot schema root → IsInPlace schema root (slot root) m)
+pub tables_made : (schema : List Table) → MeetsRules schema → (m : Machine) (s : ℕ) → AreKeyed schema (mutations_of (upto m.log s)) → ((root : Root) → IsRoot schema root → (slot : ℕ) × IsInPlace schema root slot m)
     → (db : List TableRow) × (tables schema m.log s ≡ Ok db)
-tables_made schema rules m slot s keyed place = apply-succeeds schema rules (mutations_of (upto m.log s)) [] (empty_database schema) keyed (λ root is.
-    let o = place root is in
+tables_made schema rules m s keyed place = apply-succeeds schema rules (mutations_of (upto m.log s)) [] (empty_database schema) keyed (λ root is.
+    let o = (place root is).1 in
     let made = upto_through schema root s (commits_at schema root m.log) [] o.through.rows o.rising o.through.made in
     (made.0, ap (apply schema []) (changes_at-upto schema root m.log s o.rising) ∙ made.1))

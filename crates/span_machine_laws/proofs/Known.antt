@@ -68,7 +68,7 @@ pub record IsKnown (understands : Understanding) (begun : List BegunTransaction)
 -- has no leaf.
 pub record IsMeantNow (understands : Understanding) (schema : List Table) (m : Machine) (asked : List OpenedQuery) (query s : ℕ) (meant : rows.Rows) : Type 0 where
   pub now : IsMeant understands schema m.log asked query s meant
-  pub stays : ((root : Root) → IsRoot schema root → IsSealed root s m) ⊎ (now.statement.leaves ≡ [])
+  pub stays : ((root : Root) → IsRoot schema root → IsSealed schema root s m) ⊎ (now.statement.leaves ≡ [])
 
 abbrev pub IsRightNow : Understanding → List Table → Machine → List OpenedQuery → Step → Reply → Type 0
 IsRightNow understands schema m asked (Finish query) (Rows s found) = IsMeantNow understands schema m asked query s (Some found)

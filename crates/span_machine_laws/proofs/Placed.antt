@@ -11,8 +11,9 @@ use Rattle.span_machine.specs.declared.transaction.OpenTransaction.{OpenTransact
 use Rattle.span_machine.specs.declared.transaction.Decision.{Decision}
 use Rattle.span_machine.specs.declared.transaction.Decision.TheVariants as decision
 use Rattle.span_mutate.specs.Directories.{Root}
+use Rattle.span_machine.specs.Slots.{is_between, has_key, root_code}
 use Rattle.span_machine.specs.Machine.{is_at}
-use Rattle.span_machine.specs.Machine.{Machine, changed_first, without_first, is_prepared_at, greatest, with_last, mutations_in, mutations_refusal, is_undecided, is_prepared_for, answer, begun, prepare_timestamp, prepare_refusal, prepared, has_conflict, add_prepared, is_transaction, is_query, is_all_prepared, coordinator_slot, commit_timestamp, commit_of, committed, aborted, with_decision, without_prepared, applied, applied_at, advanced, opened, with_risen_floor, with_slot_state, cover, closed, start, trimmed}
+use Rattle.span_machine.specs.Machine.{Machine, changed_first, without_first, is_prepared_at, greatest, with_last, mutations_in, mutations_refusal, is_undecided, is_prepared_for, answer, begun, prepare_timestamp, prepare_refusal, prepared, has_conflict, add_prepared, is_transaction, is_query, is_all_prepared, coordinator_slot, commit_timestamp, commit_of, committed, aborted, with_decision, without_prepared, applied, applied_at, advanced, opened, with_risen_floor, with_slot_state, cover, closed, start, first_slot, trimmed, with_horizon}
 use Rattle.span_truetime.specs.Limits.{timestamp_end}
 use Rattle.span_truetime.specs.Time.{timestamp_of}
 use Rattle.span_machine.specs.declared.step.Step.{Step}
@@ -40,8 +41,8 @@ module _ (schema : List Table) (rules : MeetsRules schema) (root : Root) (is : I
       → ((a b : SlotState) → slice_get m.slots slot ≡ Some a → slice_get n.slots slot ≡ Some b → a.last ≤ b.last → IsClaim schema root a.last (commits_at schema root m.log) (filter (claims schema root slot) m.transactions) → IsClaim schema root b.last (commits_at schema root m.log) (filter (claims schema root slot) n.transactions))
       → IsInPlace schema root slot n
   in_place_by n lifts same claim = record {
-    only = λ i b h k. let old = lifts.from i b h in o.only i old.0 old.1 (sym (old.3 root) ∙ k);
-    held = λ b h. let old = lifts.from slot b h in old.3 root ∙ o.held old.0 old.1;
+    only = λ i b h k. let old = lifts.from i b h in o.only i old.0 old.1 (sym (old.3 (root_code schema root)) ∙ k);
+    held = λ b h. let old = lifts.from slot b h in old.3 (root_code schema root) ∙ o.held old.0 old.1;
     in_range = subst (IsUnder timestamp_end) (sym same) o.in_range;
     rising = subst (λ l. IsRising (commits_at schema root l)) (sym same) o.rising;
     through = subst (λ l. Succeeds schema (changes_at schema root (commits_at schema root l))) (sym same) o.through;
@@ -124,8 +125,8 @@ module _ (schema : List Table) (rules : MeetsRules schema) (root : Root) (is : I
             let same : commits_at schema root (m.log ++ commit_of ts t ∷ []) ≡ commits_at schema root m.log =
             commits_at-push schema root m.log (commit_of ts t) ∙ ap (λ b. commits_at schema root m.log ++ cond b (commit_of ts t ∷ []) []) e ∙ append-nil _ in
             record {
-              only = λ i b h k. let old = lifts.from i b h in o.only i old.0 old.1 (sym (old.3 root) ∙ k);
-              held = λ b h. let old = lifts.from slot b h in old.3 root ∙ o.held old.0 old.1;
+              only = λ i b h k. let old = lifts.from i b h in o.only i old.0 old.1 (sym (old.3 (root_code schema root)) ∙ k);
+              held = λ b h. let old = lifts.from slot b h in old.3 (root_code schema root) ∙ o.held old.0 old.1;
               in_range = ranged;
               rising = subst IsRising (sym same) o.rising;
               through = subst (λ l. Succeeds schema (changes_at schema root l)) (sym same) o.through;
@@ -148,8 +149,8 @@ module _ (schema : List Table) (rules : MeetsRules schema) (root : Root) (is : I
             subst (IsClaimed schema root slot_state.0.last (commits_at schema root m.log) t) (undecided_is t.decision open_still)
             (claim_of schema root slot slot_state.0.last (commits_at schema root m.log) (is_transaction owner txn) m.transactions t found is (o.claim slot_state.0 slot_state.1)) in
             record {
-              only = λ i b h k. let old = lifts.from i b h in o.only i old.0 old.1 (sym (old.3 root) ∙ k);
-              held = λ b h. let old = lifts.from slot b h in old.3 root ∙ o.held old.0 old.1;
+              only = λ i b h k. let old = lifts.from i b h in o.only i old.0 old.1 (sym (old.3 (root_code schema root)) ∙ k);
+              held = λ b h. let old = lifts.from slot b h in old.3 (root_code schema root) ∙ o.held old.0 old.1;
               in_range = ranged;
               rising = subst IsRising (sym same) (rising_push (commits_at schema root m.log) (commit_of ts t) o.rising (under_up (greatest t.prepared) ts (commits_at schema root m.log) high promised.under));
               through = subst (λ l. Succeeds schema (changes_at schema root l)) (sym same) (subst (Succeeds schema) (sym (changes_at-push schema root (commits_at schema root m.log) (commit_of ts t))) promised.through);
@@ -256,7 +257,7 @@ module _ (schema : List Table) (rules : MeetsRules schema) (root : Root) (is : I
     aborts = λ owner txn interval t found open_still. in_place_by (aborted m owner txn t).1 (lifts_same m.slots) refl (λ a b p q low h. abort_claim owner txn t a.last b.last found open_still low h);
     applies = λ owner txn i interval t slot_state found here accepted. apply_there owner txn i t found;
     advances = λ i interval slot_state here. slots_placed (advanced m i interval slot_state).1 (lifts_set m.slots i slot_state (record slot_state { floor = max slot_state.floor interval.latest }) here (omega arith) (λ _. refl)) refl refl;
-    trims = λ i h slot_state here accepted. slots_placed (trimmed schema m i h slot_state).1 (lifts_set m.slots i slot_state (record slot_state { horizon = h }) here (omega arith) (λ _. refl)) refl refl;
+    trims = λ i h slot_state here accepted. slots_placed (trimmed schema m i h slot_state).1 (lifts_set m.slots i slot_state (with_horizon h slot_state) here (omega arith) (λ _. refl)) refl refl;
     opens = λ text params bound interval asked is accepted. slots_placed (opened m asked (timestamp_of bound interval)).1 (lifts_same m.slots) refl refl;
     finds_nothing = λ query leaf i interval. o;
     scans = λ query leaf i interval q slot_state found here above safe.
@@ -275,10 +276,15 @@ pub only_one : (slot_state b : SlotState) (i : ℕ) → slice_get (slot_state �
 only_one slot_state b zero e = refl
 only_one slot_state b (suc i) e = cc
 
+-- the first slot has every key
+pub first_has : (key : List ℕ) (b : SlotState) → slice_get start.slots 0 ≡ Some b → has_key b key ≡ true
+unfolding is_between
+first_has key b e = let same : first_slot ≡ b = cc in subst (λ (c : SlotState). has_key c key ≡ true) same refl
+
 pub start_placed : (schema : List Table) (root : Root) → IsInPlace schema root 0 start
 start_placed schema root = record {
-  only = λ i b h k. only_one (record { last = 0; floor = 0; horizon = 0 }) b i h;
-  held = λ b h. refl;
+  only = λ i b h k. only_one first_slot b i h;
+  held = λ b h. first_has (root_code schema root) b h;
   in_range = tt;
   rising = tt;
   through = record { rows = []; made = refl };

@@ -1,5 +1,5 @@
 use Rattle.std.proofs.Common.{◌≡◌, ℕ, Bool, true, cond, List, [], ◌∷◌, Some, Result, Ok, ap, sym, ◌∙◌, subst, inl, inr}
-use Rattle.std.specs.Prelude.{find}
+use Rattle.std.specs.Prelude.{find, slice_get}
 use Rattle.std.specs.List.{list_all}
 use Rattle.span_value.specs.declared.refusal.Refusal.{Refusal}
 use Rattle.span_query.specs.declared.query.Statement.{Statement}
@@ -10,15 +10,17 @@ use Rattle.span_mutate.specs.declared.row.TableRow.{TableRow}
 use Rattle.span_value.specs.Results.{and_then}
 use Rattle.span_mutate.specs.Directories.{Root}
 use Rattle.span_machine.specs.declared.query.OpenQuery.{OpenQuery}
+use Rattle.span_machine.specs.declared.slot.SlotState.{SlotState}
 use Rattle.span_machine.specs.declared.step.Step.{Step}
 use Rattle.span_machine.specs.declared.step.Step.TheVariants.{Finish}
 use Rattle.span_machine.specs.declared.step.Reply.{Reply}
 use Rattle.span_machine.specs.Meaning.{means}
 use Rattle.span_machine.specs.Tables.{tables}
-use Rattle.span_machine.specs.Machine.{Machine, Understanding, Answer, Steps, answer, start, is_query, is_covered, tables_of, rows_or_refusal, if_some, refused, meaning, answer_on, finish_query}
+use Rattle.span_machine.specs.Machine.{Machine, Understanding, Answer, Steps, answer, start, holds, is_query, is_covered, tables_of, rows_or_refusal, if_some, refused, meaning, answer_on, finish_query}
 use Rattle.span_machine.specs.Run.{Run, IsOfSchema, AreOfSchema}
 use Rattle.span_machine_laws.proofs.Locality.{IsRoot}
 use Rattle.span_machine_laws.proofs.InPlace.{IsInPlace, tables_made}
+use Rattle.span_machine_laws.proofs.Ranges.{HasRanges, answer_has_ranges, start_ranges}
 use Rattle.span_machine_laws.proofs.Schemas.{IsBySchema, answer_by_schema, start_by_schema, keyed_upto}
 use Rattle.span_machine_laws.proofs.Placed.{answer_placed, start_placed}
 use Rattle.span_machine_laws.proofs.Numbers.{IsNumbered, answer_numbered, start_numbered}
@@ -26,21 +28,27 @@ use Rattle.span_machine_laws.proofs.Holdings.{AreHolding, answer_holding, start_
 use Rattle.span_machine_laws.proofs.Sound.{IsSound, answer_sound, start_sound}
 use Rattle.span_machine_laws.proofs.Horizons.{HasHorizons, answer_horizons, start_horizons}
 
+-- a directory is in place in the slot that has it
+abbrev pub IsPlaced : List Table → Root → Machine → Type 0
+IsPlaced schema root m = (slot : ℕ) × IsInPlace schema root slot m
+
 -- what holds of every machine that a run from the start reaches
 pub record IsReached (schema : List Table) (m : Machine) : Type 0 where
+  pub ranges : HasRanges schema m
   pub by_schema : IsBySchema schema m
   pub numbered : IsNumbered m
   pub holding : AreHolding m
-  pub placed : (root : Root) → IsRoot schema root → IsInPlace schema root 0 m
+  pub placed : (root : Root) → IsRoot schema root → IsPlaced schema root m
   pub sound : IsSound schema m
   pub horizons : HasHorizons schema m
 
 pub start_reached : (schema : List Table) → IsReached schema start
 start_reached schema = record {
+  ranges = start_ranges schema;
   by_schema = start_by_schema schema;
   numbered = start_numbered;
   holding = start_holding;
-  placed = λ root is. start_placed schema root;
+  placed = λ root is. (0, start_placed schema root);
   sound = start_sound schema;
   horizons = start_horizons schema;
 }
@@ -48,12 +56,13 @@ start_reached schema = record {
 module _ (schema : List Table) (rules : MeetsRules schema) where
   pub answer_reached : (m : Machine) → IsReached schema m → (u : Result Statement Refusal) (step : Step) → IsOfSchema schema step → IsReached schema (answer schema m u step).1
   answer_reached m reached u step of = record {
+    ranges = answer_has_ranges schema m u reached.ranges step;
     by_schema = answer_by_schema schema m u reached.by_schema step of;
     numbered = answer_numbered schema m u reached.numbered step;
     holding = answer_holding schema m u reached.holding step;
-    placed = λ root is. answer_placed schema rules root is 0 m u reached.by_schema (reached.placed root is) step;
+    placed = λ root is. let o = reached.placed root is in (o.0, answer_placed schema rules root is o.0 m u reached.by_schema o.1 step);
     sound = answer_sound schema m u reached.sound step;
-    horizons = answer_horizons schema m u reached.sound reached.horizons step;
+    horizons = answer_horizons schema m u reached.sound reached.ranges reached.horizons step;
   }
 
   -- one step, out of memory included
@@ -69,7 +78,13 @@ module _ (schema : List Table) (rules : MeetsRules schema) where
 
   -- the tables at any timestamp are made
   pub reached_tables : (m : Machine) (s : ℕ) → IsReached schema m → (db : List TableRow) × (tables schema m.log s ≡ Ok db)
-  reached_tables m s reached = tables_made schema rules m (λ root. 0) s (keyed_upto schema m.log s reached.by_schema.log) reached.placed
+  reached_tables m s reached = tables_made schema rules m s (keyed_upto schema m.log s reached.by_schema.log) reached.placed
+
+-- the directory is in place in a slot that has it
+pub placed_at : (schema : List Table) (m : Machine) → IsReached schema m → (root : Root) → IsRoot schema root → (i : ℕ) (b : SlotState) → slice_get m.slots i ≡ Some b → holds schema b root ≡ true → IsInPlace schema root i m
+placed_at schema m reached root is i b h held =
+    let o = reached.placed root is in
+    subst (λ j. IsInPlace schema root j m) (sym (o.1.only i b h held)) o.1
 
 -- the Finish of a query whose leaves are all covered answers what the query means on the tables
 pub finish_meant : (schema : List Table) (m : Machine) (u : Result Statement Refusal) (number : ℕ) (q : OpenQuery) (db : List TableRow) → find (is_query number) m.queries ≡ Some q → list_all is_covered q.leaves ≡ true → tables schema m.log q.s ≡ Ok db

@@ -64,7 +64,7 @@ typed_upto schema log s all = typed_mutations schema (upto log s) (all_in_order 
 
 -- so are those in a slot
 pub typed_in : (schema : List Table) (slot_state : SlotState) (ms : List CheckedMutation) → AreTypedMutations schema ms → AreTypedMutations schema (mutations_in schema slot_state ms)
-typed_in schema slot_state ms all = all_filtered (IsTypedMutation schema) (λ m. holds slot_state (root_at schema m)) ms all
+typed_in schema slot_state ms all = all_filtered (IsTypedMutation schema) (λ m. holds schema slot_state (root_at schema m)) ms all
 
 -- what is typed has a value for each key column
 pub keyed_of : (schema : List Table) (n : ℕ) (key : List Value) → IsCodedKey schema n key → IsKeyed schema n key

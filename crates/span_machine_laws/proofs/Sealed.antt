@@ -12,10 +12,11 @@ use Rattle.span_machine.specs.declared.transaction.Prepared.{Prepared}
 use Rattle.span_machine.specs.declared.step.Step.{Step}
 use Rattle.span_truetime.specs.declared.interval.Interval.{Interval}
 use Rattle.span_mutate.specs.Directories.{Root}
+use Rattle.span_machine.specs.Slots.{root_code}
 use Rattle.span_machine.specs.Machine.{is_at, root_at}
 use Rattle.span_machine.specs.Tables.{upto}
 use Rattle.span_value.specs.declared.refusal.Refusal.TheVariants as refusal
-use Rattle.span_machine.specs.Machine.{begun, prepare_timestamp, prepared, is_query, Machine, Answer, answer, refused, holds, if_some, changed_first, is_transaction, is_all_prepared, is_prepared_for, greatest, commit_timestamp, commit_refusal, commit_of, committed, aborted, is_undecided, coordinator_slot, applied, applied_at, advanced, opened, with_risen_floor, with_slot_state, cover, answer_on, meaning, closed, with_last, add_prepared, with_decision, without_prepared, trimmed}
+use Rattle.span_machine.specs.Machine.{begun, prepare_timestamp, prepared, is_query, Machine, Answer, answer, refused, has_key, holds, with_horizon, if_some, changed_first, is_transaction, is_all_prepared, is_prepared_for, greatest, commit_timestamp, commit_refusal, commit_of, committed, aborted, is_undecided, coordinator_slot, applied, applied_at, advanced, opened, with_risen_floor, with_slot_state, cover, answer_on, meaning, closed, with_last, add_prepared, with_decision, without_prepared, trimmed}
 use Rattle.span_truetime.specs.Limits.{timestamp_end}
 use Rattle.span_truetime.specs.Time.{timestamp_of}
 use Rattle.span_machine.specs.declared.step.Reply.TheVariants as reply
@@ -42,90 +43,98 @@ abbrev pub IsAbove : ℕ → ℕ → OpenTransaction → Type 0
 IsAbove s slot t = AllByRecursion (λ p. p.slot ≡ slot → s < p.timestamp) t.prepared
 
 -- no later commit changes the directory at s or earlier
-pub record IsSealed (root : Root) (s : ℕ) (m : Machine) : Type 0 where
-  pub floors : (i : ℕ) (b : SlotState) → slice_get m.slots i ≡ Some b → holds b root ≡ true → s ≤ b.floor
-  pub prepared : (i : ℕ) (b : SlotState) → slice_get m.slots i ≡ Some b → holds b root ≡ true → AllByRecursion (IsAbove s i) m.transactions
+pub record IsSealed (schema : List Table) (root : Root) (s : ℕ) (m : Machine) : Type 0 where
+  pub floors : (i : ℕ) (b : SlotState) → slice_get m.slots i ≡ Some b → holds schema b root ≡ true → s ≤ b.floor
+  pub prepared : (i : ℕ) (b : SlotState) → slice_get m.slots i ≡ Some b → holds schema b root ≡ true → AllByRecursion (IsAbove s i) m.transactions
 
--- a slot state in the place of another, of the same range and with no lower floor
-pub record Rises (old new : List SlotState) : Type 0 where
-  pub from : (i : ℕ) (b : SlotState) → slice_get new i ≡ Some b → (a : SlotState) × (slice_get old i ≡ Some a) × (a.floor ≤ b.floor) × ((root : Root) → holds b root ≡ true → holds a root ≡ true)
+-- each slot comes from itself
+abbrev pub itself : ℕ → ℕ
+itself i = i
 
-pub rises_same : (slots : List SlotState) → Rises slots slots
-rises_same slots = record { from = λ i b h. (b, h, omega arith, λ root k. k) }
+-- The state of each slot in the place of that of the slot which it comes from: no key is new in its range, and its floor is no lower.
+pub record Rises (source : ℕ → ℕ) (old new : List SlotState) : Type 0 where
+  pub from : (i : ℕ) (b : SlotState) → slice_get new i ≡ Some b → (a : SlotState) × (slice_get old (source i) ≡ Some a) × (a.floor ≤ b.floor) × ((key : List ℕ) → has_key b key ≡ true → has_key a key ≡ true)
 
-pub rises_set : (slots : List SlotState) (slot : ℕ) (a b : SlotState) → slice_get slots slot ≡ Some a → a.floor ≤ b.floor → ((root : Root) → holds b root ≡ true → holds a root ≡ true) → Rises slots (slice_set slots slot b)
+pub rises_same : (slots : List SlotState) → Rises itself slots slots
+rises_same slots = record { from = λ i b h. (b, h, omega arith, λ key k. k) }
+
+pub rises_set : (slots : List SlotState) (slot : ℕ) (a b : SlotState) → slice_get slots slot ≡ Some a → a.floor ≤ b.floor → ((key : List ℕ) → has_key b key ≡ true → has_key a key ≡ true) → Rises itself slots (slice_set slots slot b)
 rises_set slots slot a b here low range = record {
   from = λ i c h. elim (slice_get-set slots slot i b c h) [
-    | inl e ↦ (a, ap (slice_get slots) e.0 ∙ here, subst (λ (d : SlotState). a.floor ≤ d.floor) (sym e.1) low, λ root k. range root (subst (λ (d : SlotState). holds d root ≡ true) e.1 k))
-    | inr g ↦ (c, g, omega arith, λ root k. k)
+    | inl e ↦ (a, ap (slice_get slots) e.0 ∙ here, subst (λ (d : SlotState). a.floor ≤ d.floor) (sym e.1) low, λ key k. range key (subst (λ (d : SlotState). has_key d key ≡ true) e.1 k))
+    | inr g ↦ (c, g, omega arith, λ key k. k)
   ];
 }
 
 -- a step keeps what is sealed, and the log's changes of the directory at s
 pub record Keeps (schema : List Table) (root : Root) (s : ℕ) (m : Machine) (a : Answer) : Type 0 where
-  pub seal : IsSealed root s a.1
-  pub rises : Rises m.slots a.1.slots
+  pub seal : IsSealed schema root s a.1
   pub same : changes_at schema root (upto a.1.log s) ≡ changes_at schema root (upto m.log s)
 
-module _ (schema : List Table) (root : Root) (is : IsRoot schema root) (s : ℕ) (m : Machine) (sealed : IsSealed root s m) where
+module _ (schema : List Table) (root : Root) (is : IsRoot schema root) (s : ℕ) (m : Machine) (sealed : IsSealed schema root s m) where
   pub kept_as_is : (a : Answer) → a.1 ≡ m → Keeps schema root s m a
   kept_as_is a e = record {
-    seal = subst (IsSealed root s) (sym e) sealed;
-    rises = subst (λ (n : Machine). Rises m.slots n.slots) (sym e) (rises_same m.slots);
+    seal = subst (IsSealed schema root s) (sym e) sealed;
     same = ap (λ (n : Machine). changes_at schema root (upto n.log s)) e;
   }
 
-  -- slot states rise, transactions stay above, and the log is the same for the directory
-  pub kept_by : (a : Answer) → Rises m.slots a.1.slots
-      → ((i : ℕ) (b : SlotState) → slice_get m.slots i ≡ Some b → holds b root ≡ true → AllByRecursion (IsAbove s i) m.transactions → AllByRecursion (IsAbove s i) a.1.transactions)
+  -- slot states rise, transactions stay above, and the log is the same for the directory, where each slot comes from any old one
+  pub kept_from : (source : ℕ → ℕ) (a : Answer) → Rises source m.slots a.1.slots
+      → ((i : ℕ) (b : SlotState) → slice_get m.slots (source i) ≡ Some b → holds schema b root ≡ true → AllByRecursion (IsAbove s (source i)) m.transactions → AllByRecursion (IsAbove s i) a.1.transactions)
       → changes_at schema root (upto a.1.log s) ≡ changes_at schema root (upto m.log s) → Keeps schema root s m a
-  kept_by a rises above same = record {
+  kept_from source a rises above same = record {
     seal = record {
-      floors = λ i b h k. let old = rises.from i b h in let low = sealed.floors i old.0 old.1 (old.3 root k) in omega arith;
-      prepared = λ i b h k. let old = rises.from i b h in above i old.0 old.1 (old.3 root k) (sealed.prepared i old.0 old.1 (old.3 root k));
+      floors = λ i b h k. let old = rises.from i b h in let low = sealed.floors (source i) old.0 old.1 (old.3 (root_code schema root) k) in omega arith;
+      prepared = λ i b h k. let old = rises.from i b h in
+          above i old.0 old.1 (old.3 (root_code schema root) k) (sealed.prepared (source i) old.0 old.1 (old.3 (root_code schema root) k));
     };
-    rises = rises;
     same = same;
   }
 
-  pub new_above : (slot i : ℕ) (slot_state b : SlotState) → slice_get m.slots slot ≡ Some slot_state → slice_get m.slots i ≡ Some b → holds b root ≡ true → slot ≡ i → s < prepare_timestamp slot_state
+  -- the same where each slot comes from itself
+  pub kept_by : (a : Answer) → Rises itself m.slots a.1.slots
+      → ((i : ℕ) (b : SlotState) → slice_get m.slots i ≡ Some b → holds schema b root ≡ true → AllByRecursion (IsAbove s i) m.transactions → AllByRecursion (IsAbove s i) a.1.transactions)
+      → changes_at schema root (upto a.1.log s) ≡ changes_at schema root (upto m.log s) → Keeps schema root s m a
+  kept_by a rises above same = kept_from itself a rises above same
+
+  pub new_above : (slot i : ℕ) (slot_state b : SlotState) → slice_get m.slots slot ≡ Some slot_state → slice_get m.slots i ≡ Some b → holds schema b root ≡ true → slot ≡ i → s < prepare_timestamp slot_state
   new_above slot i slot_state b here h k e =
       let same : slot_state ≡ b = cc in
       let low = sealed.floors i b h k in
       let lower : s ≤ slot_state.floor = subst (λ (c : SlotState). s ≤ c.floor) (sym same) low in
       omega arith
 
-  pub rises_last : (slot ts : ℕ) → Rises m.slots (with_last m.slots slot ts)
-  rises_last slot ts = elim (slice_get m.slots slot) as (λ o. slice_get m.slots slot ≡ o → Rises m.slots (if_some o m.slots (λ slot_state. slice_set m.slots slot (record slot_state { last = max slot_state.last ts })))) [
+  pub rises_last : (slot ts : ℕ) → Rises itself m.slots (with_last m.slots slot ts)
+  rises_last slot ts = elim (slice_get m.slots slot) as (λ o. slice_get m.slots slot ≡ o → Rises itself m.slots (if_some o m.slots (λ slot_state. slice_set m.slots slot (record slot_state { last = max slot_state.last ts })))) [
     | None ↦ λ e. rises_same m.slots
     | Some slot_state ↦ λ e. rises_set m.slots slot slot_state (record slot_state { last = max slot_state.last ts }) e (omega arith) (λ _ k. k)
   ] refl
 
-  pub above_here : (p : Prepared) (ps : List Prepared) (k : Root) → if_some (slice_get m.slots p.slot) false (λ slot_state. holds slot_state k) ≡ true
-      → ((i : ℕ) (b : SlotState) → slice_get m.slots i ≡ Some b → holds b k ≡ true → AllByRecursion (λ p. p.slot ≡ i → s < p.timestamp) (p ∷ ps)) → s < p.timestamp
-  above_here p ps k = elim (slice_get m.slots p.slot) as (λ o. slice_get m.slots p.slot ≡ o → if_some o false (λ slot_state. holds slot_state k) ≡ true
-      → ((i : ℕ) (b : SlotState) → slice_get m.slots i ≡ Some b → holds b k ≡ true → AllByRecursion (λ p. p.slot ≡ i → s < p.timestamp) (p ∷ ps)) → s < p.timestamp) [
+  pub above_here : (p : Prepared) (ps : List Prepared) (k : Root) → if_some (slice_get m.slots p.slot) false (λ slot_state. holds schema slot_state k) ≡ true
+      → ((i : ℕ) (b : SlotState) → slice_get m.slots i ≡ Some b → holds schema b k ≡ true → AllByRecursion (λ p. p.slot ≡ i → s < p.timestamp) (p ∷ ps)) → s < p.timestamp
+  above_here p ps k = elim (slice_get m.slots p.slot) as (λ o. slice_get m.slots p.slot ≡ o → if_some o false (λ slot_state. holds schema slot_state k) ≡ true
+      → ((i : ℕ) (b : SlotState) → slice_get m.slots i ≡ Some b → holds schema b k ≡ true → AllByRecursion (λ p. p.slot ≡ i → s < p.timestamp) (p ∷ ps)) → s < p.timestamp) [
         | None ↦ λ e bad above. cc
         | Some b ↦ λ e holds_it above. (above p.slot b e holds_it).0 refl
       ] refl
 
   -- a transaction that is prepared for each of its mutations has, if one is of the directory, a prepare timestamp above s
-  pub prepared_above : (k : Root) → (ps : List Prepared) → list_any (λ p. if_some (slice_get m.slots p.slot) false (λ slot_state. holds slot_state k)) ps ≡ true
-      → ((i : ℕ) (b : SlotState) → slice_get m.slots i ≡ Some b → holds b k ≡ true → AllByRecursion (λ p. p.slot ≡ i → s < p.timestamp) ps) → s < greatest ps
+  pub prepared_above : (k : Root) → (ps : List Prepared) → list_any (λ p. if_some (slice_get m.slots p.slot) false (λ slot_state. holds schema slot_state k)) ps ≡ true
+      → ((i : ℕ) (b : SlotState) → slice_get m.slots i ≡ Some b → holds schema b k ≡ true → AllByRecursion (λ p. p.slot ≡ i → s < p.timestamp) ps) → s < greatest ps
   prepared_above k [] = λ e above. cc
-  prepared_above k (p ∷ ps) = elim (if_some (slice_get m.slots p.slot) false (λ slot_state. holds slot_state k)) as (λ v. if_some (slice_get m.slots p.slot) false (λ slot_state. holds slot_state k) ≡ v → (v || list_any (λ p. if_some (slice_get m.slots p.slot) false (λ slot_state. holds slot_state k)) ps) ≡ true
-      → ((i : ℕ) (b : SlotState) → slice_get m.slots i ≡ Some b → holds b k ≡ true → AllByRecursion (λ p. p.slot ≡ i → s < p.timestamp) (p ∷ ps)) → s < greatest (p ∷ ps)) [
+  prepared_above k (p ∷ ps) = elim (if_some (slice_get m.slots p.slot) false (λ slot_state. holds schema slot_state k)) as (λ v. if_some (slice_get m.slots p.slot) false (λ slot_state. holds schema slot_state k) ≡ v → (v || list_any (λ p. if_some (slice_get m.slots p.slot) false (λ slot_state. holds schema slot_state k)) ps) ≡ true
+      → ((i : ℕ) (b : SlotState) → slice_get m.slots i ≡ Some b → holds schema b k ≡ true → AllByRecursion (λ p. p.slot ≡ i → s < p.timestamp) (p ∷ ps)) → s < greatest (p ∷ ps)) [
         | true ↦ λ is e above. let low = above_here p ps k is above in omega arith
         | false ↦ λ is e above. let low = prepared_above k ps e (λ i b h g. (above i b h g).1) in omega arith
       ] refl
 
   -- the directory of a mutation at the directory is the directory
   pub some_prepared : (t : OpenTransaction) (ms : List CheckedMutation) → touches_any schema root ms ≡ true → list_all (is_prepared_for schema m t) ms ≡ true
-      → ((i : ℕ) (b : SlotState) → slice_get m.slots i ≡ Some b → holds b root ≡ true → IsAbove s i t) → s < greatest t.prepared
+      → ((i : ℕ) (b : SlotState) → slice_get m.slots i ≡ Some b → holds schema b root ≡ true → IsAbove s i t) → s < greatest t.prepared
   some_prepared t [] = λ e all above. cc
   some_prepared t (mu ∷ ms) = elim (is_at schema root mu) as (λ v. is_at schema root mu ≡ v → is_some_of (cond v (mu ∷ filter (is_at schema root) ms) (filter (is_at schema root) ms)) ≡ true → (is_prepared_for schema m t mu && list_all (is_prepared_for schema m t) ms) ≡ true
-      → ((i : ℕ) (b : SlotState) → slice_get m.slots i ≡ Some b → holds b root ≡ true → IsAbove s i t) → s < greatest t.prepared) [
-        | true ↦ λ at e all above. prepared_above (root_at schema mu) t.prepared (first_true _ _ all) (λ i b h k. above i b h (subst (λ (q : Root). holds b q ≡ true) (sym (own_root schema root mu is at)) k))
+      → ((i : ℕ) (b : SlotState) → slice_get m.slots i ≡ Some b → holds schema b root ≡ true → IsAbove s i t) → s < greatest t.prepared) [
+        | true ↦ λ at e all above. prepared_above (root_at schema mu) t.prepared (first_true _ _ all) (λ i b h k. above i b h (subst (λ (q : Root). holds schema b q ≡ true) (sym (own_root schema root mu is at)) k))
         | false ↦ λ at e all above. some_prepared t ms e (second_true _ _ all) above
       ] refl
 
@@ -149,8 +158,8 @@ module _ (schema : List Table) (root : Root) (is : IsRoot schema root) (s : ℕ)
   applied_keeps decision.Aborted owner txn slot t = kept_by (applied_at decision.Aborted m owner txn slot t) (rises_same m.slots) (λ i b h k all. applied_above owner txn slot t i all) refl
   applied_keeps (decision.Committed ts) owner txn slot t = kept_by (applied_at (decision.Committed ts) m owner txn slot t) (rises_last slot ts) (λ i b h k all. applied_above owner txn slot t i all) refl
 
-  pub rises_risen : (slot q : ℕ) (interval : Interval) (slot_state : SlotState) → slice_get m.slots slot ≡ Some slot_state → Rises m.slots (slice_set m.slots slot (with_risen_floor slot_state q interval))
-  rises_risen slot q interval slot_state here = elim (nat_lt slot_state.floor q && nat_le q interval.latest) as (λ v. (nat_lt slot_state.floor q && nat_le q interval.latest) ≡ v → Rises m.slots (slice_set m.slots slot (cond v (record slot_state { floor = q }) slot_state))) [
+  pub rises_risen : (slot q : ℕ) (interval : Interval) (slot_state : SlotState) → slice_get m.slots slot ≡ Some slot_state → Rises itself m.slots (slice_set m.slots slot (with_risen_floor slot_state q interval))
+  rises_risen slot q interval slot_state here = elim (nat_lt slot_state.floor q && nat_le q interval.latest) as (λ v. (nat_lt slot_state.floor q && nat_le q interval.latest) ≡ v → Rises itself m.slots (slice_set m.slots slot (cond v (record slot_state { floor = q }) slot_state))) [
     | true ↦ λ e. rises_set m.slots slot slot_state (record slot_state { floor = q }) here (let low : nat_lt slot_state.floor q ≡ true = first_true (nat_lt slot_state.floor q) (nat_le q interval.latest) e in grind (arith, nat_tests)) (λ _ k. k)
     | false ↦ λ e. rises_set m.slots slot slot_state slot_state here (omega arith) (λ _ k. k)
   ] refl
@@ -173,7 +182,7 @@ module _ (schema : List Table) (root : Root) (is : IsRoot schema root) (s : ℕ)
         refl;
     applies = λ owner txn slot interval t slot_state found here accepted. applied_keeps t.decision owner txn slot t;
     advances = λ slot interval slot_state here. kept_by (advanced m slot interval slot_state) (rises_set m.slots slot slot_state (record slot_state { floor = max slot_state.floor interval.latest }) here (omega arith) (λ _ k. k)) (λ i b h k all. all) refl;
-    trims = λ slot horizon slot_state here accepted. kept_by (trimmed schema m slot horizon slot_state) (rises_set m.slots slot slot_state (record slot_state { horizon = horizon }) here (omega arith) (λ _ k. k)) (λ i b h k all. all) refl;
+    trims = λ slot horizon slot_state here accepted. kept_by (trimmed schema m slot horizon slot_state) (rises_set m.slots slot slot_state (with_horizon horizon slot_state) here (omega arith) (λ _ k. k)) (λ i b h k all. all) refl;
     opens = λ text params bound interval asked is accepted. kept_by (opened m asked (timestamp_of bound interval)) (rises_same m.slots) (λ i b h k all. all) refl;
     finds_nothing = λ query leaf slot interval. kept_as_is (reply.Nothing, m) refl;
     scans = λ query leaf slot interval q slot_state found here above safe.

@@ -13,7 +13,7 @@ use Rattle.span_machine.specs.declared.transaction.Decision.TheVariants as decis
 use Rattle.span_machine.specs.declared.step.Step.{Step}
 use Rattle.span_machine.specs.declared.step.Reply.{Reply}
 use Rattle.span_machine.specs.Tables.{upto}
-use Rattle.span_machine.specs.Machine.{Machine, Understanding, Steps, answer, start, with_risen_floor, with_slot_state, is_covered, as_opened, cover, changed_first, is_query, is_safe, applied_at}
+use Rattle.span_machine.specs.Machine.{Machine, Understanding, Steps, answer, start, holds, with_risen_floor, with_slot_state, is_covered, as_opened, cover, changed_first, is_query, is_safe, applied_at}
 use Rattle.span_machine.specs.Run.{Run}
 use Rattle.span_machine.proofs.Leaves.{none_covered}
 use Rattle.span_machine_laws.proofs.Tests.{first_true, second_true}
@@ -33,7 +33,7 @@ use Rattle.std.specs.Prelude.{Result}
 
 -- what a query with a covered leaf is to see is sealed
 abbrev pub IsCoveredSealed : List Table → Machine → OpenQuery → Type 0
-IsCoveredSealed schema m q = list_any is_covered q.leaves ≡ true → (root : Root) → IsRoot schema root → IsSealed root q.s m
+IsCoveredSealed schema m q = list_any is_covered q.leaves ≡ true → (root : Root) → IsRoot schema root → IsSealed schema root q.s m
 
 pub record IsSound (schema : List Table) (m : Machine) : Type 0 where
   pub one_slot : length m.slots ≡ 1
@@ -69,7 +69,7 @@ module _ (schema : List Table) (m : Machine) (sound : IsSound schema m) where
   only_slot slot i before b slots len here h = let within = slice_get_within slots i b h in let slot_within = slice_get_within m.slots slot before here in let one = sound.one_slot in omega arith
 
   -- a slot that is safe is sealed
-  pub sealed_by_scan : (slot s : ℕ) (before slot_state : SlotState) (queries : List OpenQuery) (root : Root) → slice_get m.slots slot ≡ Some before → is_safe m slot slot_state s ≡ true → IsSealed root s (record (with_slot_state m slot slot_state) { queries = queries })
+  pub sealed_by_scan : (slot s : ℕ) (before slot_state : SlotState) (queries : List OpenQuery) (root : Root) → slice_get m.slots slot ≡ Some before → is_safe m slot slot_state s ≡ true → IsSealed schema root s (record (with_slot_state m slot slot_state) { queries = queries })
   sealed_by_scan slot s before slot_state queries root here safe =
       let same_slot : (i : ℕ) (b : SlotState) → slice_get (slice_set m.slots slot slot_state) i ≡ Some b → i ≡ slot = λ i b h. only_slot slot i before b (slice_set m.slots slot slot_state) (length-set m.slots slot slot_state) here h in
       let above = above_of_safe slot s slot_state safe in
@@ -79,15 +79,15 @@ module _ (schema : List Table) (m : Machine) (sound : IsSound schema m) where
         prepared = λ i b h k. subst (λ j. AllByRecursion (IsAbove s j) m.transactions) (sym (same_slot i b h)) above.1;
       }
 
-  -- what is safe now is sealed now
-  pub sealed_when_safe : (slot s : ℕ) (slot_state : SlotState) (root : Root) → slice_get m.slots slot ≡ Some slot_state → is_safe m slot slot_state s ≡ true → IsSealed root s m
-  sealed_when_safe slot s slot_state root here safe =
-      let same_slot : (i : ℕ) (b : SlotState) → slice_get m.slots i ≡ Some b → i ≡ slot = λ i b h. only_slot slot i slot_state b m.slots refl here h in
+  -- what is safe now in the one slot that has the directory is sealed now
+  pub sealed_when_safe : (slot s : ℕ) (slot_state : SlotState) (root : Root) → slice_get m.slots slot ≡ Some slot_state
+      → ((i : ℕ) (b : SlotState) → slice_get m.slots i ≡ Some b → holds schema b root ≡ true → i ≡ slot) → is_safe m slot slot_state s ≡ true → IsSealed schema root s m
+  sealed_when_safe slot s slot_state root here only safe =
       let above = above_of_safe slot s slot_state safe in
       record {
-        floors = λ i b h k. let is : Some slot_state ≡ Some b = sym here ∙ subst (λ j. slice_get m.slots j ≡ Some b) (same_slot i b h) h in
+        floors = λ i b h k. let is : Some slot_state ≡ Some b = sym here ∙ subst (λ j. slice_get m.slots j ≡ Some b) (only i b h k) h in
             subst (λ (c : SlotState). s ≤ c.floor) (some_same slot_state b is) above.0;
-        prepared = λ i b h k. subst (λ j. AllByRecursion (IsAbove s j) m.transactions) (sym (same_slot i b h)) above.1;
+        prepared = λ i b h k. subst (λ j. AllByRecursion (IsAbove s j) m.transactions) (sym (only i b h k)) above.1;
       }
 
   goes_applied : (o : Decision) (owner txn slot : ℕ) (t : OpenTransaction) → GoesSound schema m (applied_at o m owner txn slot t).1
@@ -134,15 +134,15 @@ pub step_sound : (understands : Understanding) (schema : List Table) (m : Machin
 step_sound understands schema m step r next (inl e) sound = subst (IsSound schema) (sym e.2.1) (answer_sound schema m e.0 sound step)
 step_sound understands schema m step r next (inr e) sound = subst (IsSound schema) (sym e.1.1) sound
 
-pub step_keeps : (understands : Understanding) (schema : List Table) (root : Root) → IsRoot schema root → (s : ℕ) (m : Machine) (step : Step) (r : Reply) (next : Machine) → Steps understands schema m step r next → IsSealed root s m
-    → IsSealed root s next × (changes_at schema root (upto next.log s) ≡ changes_at schema root (upto m.log s))
+pub step_keeps : (understands : Understanding) (schema : List Table) (root : Root) → IsRoot schema root → (s : ℕ) (m : Machine) (step : Step) (r : Reply) (next : Machine) → Steps understands schema m step r next → IsSealed schema root s m
+    → IsSealed schema root s next × (changes_at schema root (upto next.log s) ≡ changes_at schema root (upto m.log s))
 step_keeps understands schema root is s m step r next (inl e) sealed =
     let k = answer_keeps schema root is s m sealed e.0 step in
-    (subst (IsSealed root s) (sym e.2.1) k.seal, ap (λ (n : Machine). changes_at schema root (upto n.log s)) e.2.1 ∙ k.same)
-step_keeps understands schema root is s m step r next (inr e) sealed = (subst (IsSealed root s) (sym e.1.1) sealed, ap (λ (n : Machine). changes_at schema root (upto n.log s)) e.1.1)
+    (subst (IsSealed schema root s) (sym e.2.1) k.seal, ap (λ (n : Machine). changes_at schema root (upto n.log s)) e.2.1 ∙ k.same)
+step_keeps understands schema root is s m step r next (inr e) sealed = (subst (IsSealed schema root s) (sym e.1.1) sealed, ap (λ (n : Machine). changes_at schema root (upto n.log s)) e.1.1)
 
 -- a run leaves the changes of a sealed directory
-pub run_keeps : (understands : Understanding) (schema : List Table) (root : Root) → IsRoot schema root → (s : ℕ) (m : Machine) (steps : List Step) (replies : List Reply) (last : Machine) → Run understands schema m steps replies last → IsSealed root s m
+pub run_keeps : (understands : Understanding) (schema : List Table) (root : Root) → IsRoot schema root → (s : ℕ) (m : Machine) (steps : List Step) (replies : List Reply) (last : Machine) → Run understands schema m steps replies last → IsSealed schema root s m
     → changes_at schema root (upto last.log s) ≡ changes_at schema root (upto m.log s)
 run_keeps understands schema root is s m [] [] last run sealed = ap (λ (n : Machine). changes_at schema root (upto n.log s)) run
 run_keeps understands schema root is s m [] (r ∷ rs) last run sealed = absurd run

@@ -1,9 +1,10 @@
 //! The laws of the machine, on lists alone: no code runs here.
 //!
-//! `proofs/` shows, step by step, that a commit touches only the directories of its mutations (Locality), that what is at or below a
-//! slot's safe time is final (Sealed), that the commits of a directory rise along the log (InPlace, Claims, Placed), that the log is
-//! just what the replies commit (Known), and so that every run of the machine is a history; that each transaction is decided once
-//! (Decisions), and so that a history is externally consistent under an honest clock (Consistent). The crates with code cite these laws.
+//! `proofs/` shows, step by step, that a commit touches only the directories of its mutations (Locality), that the ranges of slots tile
+//! the keys (Ranges), that what is at or below a slot's safe time is final (Sealed), that the commits of a directory rise along the log
+//! (InPlace, Claims, Placed), that the log is just what the replies commit (Known), and so that every run of the machine is a history;
+//! that each transaction is decided once (Decisions), and so that a history is externally consistent under an honest clock (Consistent).
+//! The crates with code cite these laws.
 #![tactic(auto)]
 
 ghost use Rattle.std.specs.Prelude.{List};
@@ -12,6 +13,7 @@ ghost use Rattle.span_machine.specs.declared.step.Reply.{Reply};
 ghost use Rattle.span_machine.specs.declared.step.Step.{Step};
 ghost use Rattle.span_machine.specs.Machine.{Machine, start};
 ghost use Rattle.span_machine.specs.Run.{AreOfSchema, IsHistory, Run};
+ghost use Rattle.span_machine.specs.Slots.{AreTiles, ranges_of};
 ghost use Rattle.span_schema.specs.Lineages.{MeetsRules};
 ghost use Rattle.span_schema.specs.declared.table.Table.{Table};
 
@@ -36,6 +38,13 @@ pub fn runs_are_histories<U: Understanding>()
         → AreOfSchema schema steps
         → Run U.understands schema start steps replies last
         → IsHistory U.understands schema steps replies }
+{}
+
+/// In every machine that a run reaches, for any language, each coded key is in the range of one slot in use, and of no other.
+pub fn slots_tile_the_keys<U: Understanding>()
+    ensures { (schema : List Table) (steps : List Step) (replies : List Reply) (last : Machine)
+        → Run U.understands schema start steps replies last
+        → AreTiles (ranges_of last.slots) }
 {}
 
 /// External consistency, for any language: where the clock's answers in the steps of a history are honest, a commit that is applied

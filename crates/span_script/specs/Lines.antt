@@ -1,15 +1,15 @@
 -- The lines of answers.
-use Rattle.std.specs.Prelude.{◌≡◌, ◌+◌, Some, slice_get, count_by, ⊤, ℕ, List, [], ◌∷◌, ◌++◌, codes, length}
+use Rattle.std.specs.Prelude.{◌≡◌, ◌+◌, ⊤, ℕ, List, [], ◌∷◌, ◌++◌, codes, length}
 use Rattle.std.specs.Fmt.{decimal}
 use Rattle.span_schema.specs.declared.table.Table.{Table}
-use Rattle.span_machine.specs.Kept.{live}
-use Rattle.span_machine.specs.Machine.{Machine, is_prepared_at}
+use Rattle.span_machine.specs.Machine.{Machine}
 use Rattle.span_value.specs.declared.refusal.Refusal.{Refusal}
 use Rattle.span_value.specs.Refusals.{number_of}
 use Rattle.span_machine.specs.declared.step.Reply.{Reply}
 use Rattle.span_machine.specs.declared.step.Reply.TheVariants as reply
 use Rattle.span_value.specs.declared.value.Value.{Value}
 use Rattle.span_command.specs.Record.{row_records}
+use Rattle.span_core.specs.Reports.{IsReport}
 use Rattle.span_core.specs.declared.slot.SlotReport.{SlotReport}
 
 -- a word and a number
@@ -66,17 +66,10 @@ reply_text (reply.Rows s rows) = rows_lines s rows
 reply_text reply.Closed = word_line (codes "closed")
 reply_text (reply.Refused why) = refused_line why
 
--- the report of a slot has its state's timestamps, how many versions it keeps, and how many transactions are prepared there
-abbrev pub IsState : List Table → Machine → ℕ → SlotReport → Type 0
-IsState schema m slot state =
-    (slice_get m.slots slot ≡ Some (record { last = state.last; floor = state.floor; horizon = state.horizon }))
-    × (state.live ≡ live schema m.log m.transactions slot state.horizon)
-    × (state.prepared ≡ count_by (is_prepared_at slot) m.transactions)
-
 -- the states are those of the slots from this one on, in order
 abbrev pub AreStates : List Table → Machine → ℕ → List SlotReport → Type 0
 AreStates schema m slot [] = ⊤
-AreStates schema m slot (state ∷ states) = IsState schema m slot state × AreStates schema m (slot + 1) states
+AreStates schema m slot (state ∷ states) = IsReport schema m slot state × AreStates schema m (slot + 1) states
 
 -- the lines of the slots from this one on
 abbrev pub slot_lines : ℕ → List SlotReport → List ℕ

@@ -15,8 +15,8 @@ use Rattle.span_shard.specs.declared.write.Write.{Write}
 use Rattle.span_shard.specs.KeyVersions.{KeyVersions}
 use Rattle.span_shard.specs.Versions.{is_used, with_prepared, with_version, applied_write, applied_to_key, kept_version, kept_upto, timestamps, IsLaterWrite}
 use Rattle.span_shard.specs.Rows.{is_touched}
-use Rattle.span_shard.specs.Shard.{by_order, new_key, prepared_write, with_write, with_writes, applied, trimmed, trimmed_key, IsNotOf, HasNoneOf, IsFree, IsLaterCommit}
-use Rattle.span_shard.specs.Tested.{IsIdle, AreBefore, IsIdleBefore}
+use Rattle.span_shard.specs.Shard.{by_order, new_key, prepared_write, with_write, with_writes, applied, trimmed, trimmed_key, IsNotOf, HasNoneOf, IsFree, IsIdle, IsLaterCommit}
+use Rattle.span_shard.specs.Tested.{AreBefore, IsIdleBefore}
 use Rattle.span_shard.proofs.Lists.{all_map}
 use Rattle.span_shard.proofs.Undo.{IsOpenFor}
 

@@ -24,3 +24,5 @@ pub mod OverRows
 pub mod RunPuts
 pub mod RunDeletes
 pub mod RunAll
+pub mod Moving
+pub mod Parting

@@ -106,6 +106,10 @@ IsFree tables ms cs = AllByRecursion (λ c. is_touched tables ms c.key ≡ true 
 abbrev pub IsNow : List Table → List CheckedMutation → List TableRow → List KeyVersions → Type 0
 IsNow tables ms db cs = (k : List ℕ) → is_touched tables ms k ≡ true → row_now cs k ≡ row_coded tables db k
 
+-- nothing is prepared
+abbrev pub IsIdle : List KeyVersions → Type 0
+IsIdle cs = AllByRecursion (λ (c : KeyVersions). c.prepared ≡ None) cs
+
 abbrev pub IsInUse : KeyVersions → Type 0
 IsInUse c = is_used c ≡ true
 
@@ -137,6 +141,15 @@ trimmed_key h c = record c { versions = kept_upto h c.versions }
 -- trimmed at the horizon h, without the keys that have nothing any more
 abbrev pub trimmed : ℕ → List KeyVersions → List KeyVersions
 trimmed h cs = filter is_used (map (trimmed_key h) cs)
+
+-- ---- split
+
+-- the keys with their versions that are below a key, and those from it on
+abbrev pub keys_before : List ℕ → List KeyVersions → List KeyVersions
+keys_before key cs = filter (λ c. is_lt (byte_order c.key key)) cs
+
+abbrev pub keys_from : List ℕ → List KeyVersions → List KeyVersions
+keys_from key cs = filter (λ c. not (is_lt (byte_order c.key key))) cs
 
 -- ---- what is read
 

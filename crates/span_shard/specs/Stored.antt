@@ -12,6 +12,7 @@ use Rattle.span_keyindex.specs.Arenas.{IsArenaOf, HasSameChains}
 use Rattle.span_keyindex.specs.Indexes.{IsIndexOf}
 use Rattle.span_keyindex.specs.declared.index.KeyIndex.{KeyIndex}
 use Rattle.span_keyindex.specs.Entries.{Entry}
+use Rattle.span_keyindex.specs.Items.{holders}
 use Rattle.span_shard.specs.declared.chain.Version.{Version}
 use Rattle.span_shard.specs.declared.chain.PreparedWrite.{PreparedWrite}
 use Rattle.span_shard.specs.declared.node.PreparedNode.{PreparedNode}
@@ -157,3 +158,40 @@ pub record AreTrimmed (h : ℕ) (es left : List Entry) (a b : Content) : Type 0 
   pub whole : done ++ left ≡ es
   pub each : AllByRecursion (IsTrimmed h a b) done
   pub so_far : HasTrimmed h a b
+
+-- ---- split
+
+-- how many versions the keys have
+abbrev pub versions_count : Content → List Entry → ℕ
+versions_count a [] = 0
+versions_count a (e ∷ es) = length (versions a e.chain.number) + versions_count a es
+
+-- there are free nodes more, and all else is as it was
+pub record HasRoom (n : ℕ) (a b : Content) : Type 0 where
+  pub chains : b.chains ≡ a.chains
+  pub cells : b.cells ≡ a.cells
+  pub most : b.most ≡ a.most
+  pub free : b.free ≡ a.free + n
+  pub prepared : (c : ℕ) → prepared_for c b.prepared ≡ prepared_for c a.prepared
+
+-- the keys of the one have the versions of those of the other, each of its own
+abbrev pub HaveVersions : Content → Content → List Entry → List Entry → Type 0
+HaveVersions a d [] [] = Unit {0}
+HaveVersions a d [] (f ∷ fs) = ⊥
+HaveVersions a d (e ∷ es) [] = ⊥
+HaveVersions a d (e ∷ es) (f ∷ fs) = (versions d f.chain.number ≡ versions a e.chain.number) × HaveVersions a d es fs
+
+-- other versions, and all else is as it was
+pub record HasSameKeys (a b : Content) : Type 0 where
+  pub same : HasSameChains a b
+  pub cells : b.cells ≡ a.cells
+  pub most : b.most ≡ a.most
+  pub prepared : b.prepared ≡ a.prepared
+
+-- all versions of the keys es of a are those of the keys fs of d now: b is a without them, and d is c with them
+pub record AreMoved (es fs : List Entry) (a b c d : Content) : Type 0 where
+  pub from : HasSameKeys a b
+  pub gone : AllByRecursion (λ (e : Entry). versions b e.chain.number ≡ []) es
+  pub stay : (x : ℕ) → holders x es ≡ 0 → versions b x ≡ versions a x
+  pub to : HasSameKeys c d
+  pub there : HaveVersions a d es fs

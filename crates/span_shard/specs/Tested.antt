@@ -1,13 +1,10 @@
 -- What the tests say of a shard.
-use Rattle.std.specs.Prelude.{◌≡◌, ℕ, ◌≤◌, List, None}
+use Rattle.std.specs.Prelude.{ℕ, ◌≤◌, List}
 use Rattle.std.specs.List.{AllByRecursion}
 use Rattle.span_arena.specs.Order.{IsLater}
 use Rattle.span_shard.specs.KeyVersions.{KeyVersions}
+use Rattle.span_shard.specs.Shard.{IsIdle}
 use Rattle.span_shard.specs.Versions.{timestamps}
-
--- nothing is prepared
-abbrev pub IsIdle : List KeyVersions → Type 0
-IsIdle cs = AllByRecursion (λ (c : KeyVersions). c.prepared ≡ None) cs
 
 -- every version is before the timestamp
 abbrev pub AreBefore : ℕ → List KeyVersions → Type 0

@@ -12,6 +12,7 @@ pub mod read;
 mod run;
 mod search;
 pub mod shard;
+mod split;
 mod store;
 mod trim;
 mod write;

@@ -1,9 +1,9 @@
 //! The rows at keys as mutations leave them, over those that are there now.
-ghost use Rattle.std.specs.Prelude.{◌≡◌, ◌++◌, map, filter, is_some, IfOk, OnOk};
+ghost use Rattle.std.specs.Prelude.{◌≡◌, ◌++◌, None, map, filter, is_some, IfOk, IsTrue, OnOk};
 ghost use Rattle.std.specs.Option.{option_copied};
 ghost use Rattle.span_shard.specs.Rows.{begins_with};
 ghost use Rattle.span_shard.specs.Shard.{AreInOrder};
-ghost use Rattle.span_shard.specs.Overlay.{no_change, changed_at, row_over, is_unchanged, AreCleared, HasSameCleared, AddsCleared, AreUnder, AreUnchangedUnder, AddsMade, IsPutAt, AreRemoved};
+ghost use Rattle.span_shard.specs.Overlay.{no_change, changed_at, made_at, row_over, is_unchanged, AreCleared, HasSameCleared, AddsCleared, AreUnder, AreUnchangedUnder, AddsMade, IsPutAt, AreRemoved};
 
 use super::place::{StoredKey, push_beginning, row_now};
 use super::store::Store;
@@ -84,12 +84,33 @@ impl Changes {
     }
 }
 
+// Whether a key is after all keys of the rows that were made. Mutations often come in the order of their keys: it is then known by one
+// comparison, where a look-up takes one for each key of a node on each level.
+fn is_after_all(made: &BTreeMap<Key, Seq<u8>>, key: &Key) -> bool
+    ensures { IsTrue result → made_at made.now.entries key.now ≡ None }
+{
+    match made.last_key_value() {
+        Some((last, _)) => last.cmp(key).is_lt(),
+        None => false,
+    }
+}
+
+// The row that the mutations made at a key.
+fn made_at<'a>(made: &'a BTreeMap<Key, Seq<u8>>, key: &Key) -> Option<&'a Seq<u8>>
+    ensures { option_copied result ≡ made_at made.now.entries key.now }
+{
+    if is_after_all(made, key) {
+        return None;
+    }
+    made.get(key)
+}
+
 /// The row at a key: what the mutations left there, and else what is there now.
 pub(crate) fn row_over<'a>(store: &'a Store, changes: &'a Changes, key: &Key) -> Option<&'a Seq<u8>>
     requires { AreInOrder store.now }
     ensures { option_copied result ≡ row_over store.now changes.now key.now }
 {
-    match changes.made.get(key) {
+    match made_at(&changes.made, key) {
         Some(row) => Some(row),
         None if changes.removed.contains(key) => None,
         None => row_now(store, key.as_slice()),

@@ -1,17 +1,20 @@
 //! Searches in the index, whose steps nobody reads here: each is handed a new count.
-ghost use Rattle.std.specs.Prelude.{◌≡◌, ◌<◌, All, IfErr, IfOk, OnErr};
+ghost use Rattle.std.specs.Prelude.{◌≡◌, ◌<◌, All, IfErr, IfOk, OnErr, map};
 ghost use Rattle.span_arena.specs.Content.{IsChain};
-ghost use Rattle.span_keyindex.specs.Entries.{IsSlotFor, entries_in, entries_under};
+ghost use Rattle.span_keyindex.specs.Entries.{IsSlotFor, entries_from, entries_in, entries_under};
 ghost use Rattle.span_keyindex.specs.Indexes.{IsIndexOf, entries_of};
+ghost use Rattle.span_keyindex.specs.Splits.{IsPartFrom};
 
 use span_arena::arena::Arena;
 use span_arena::steps::Steps;
 use span_arena::token::Chain;
 use span_keycode::key::Key;
 use span_keycode::range::KeyRange;
+use span_keyindex::chains::Chains;
 use span_keyindex::index::KeyIndex;
 use span_keyindex::walk::Walk;
 use span_value::refusal::Refusal;
+use std::alloc::Global;
 use std::marker::Brand;
 use std::sync::ledger::{Blank, Ledger};
 
@@ -111,4 +114,70 @@ fn counted_walk_under<'a, C: Ledger, W: Ledger>(
 {
     let mut steps: Steps<C, W> = Steps::new(compared, written);
     index.walk_under(arena, front, &mut steps)
+}
+
+/// The chains of the keys from `key` on, in order of the keys.
+pub(crate) fn chains_from<'a>(index: &'a KeyIndex, arena: &Arena, key: &[u8]) -> Chains<'a>
+    requires { IsIndexOf index.now arena.now }
+    ensures { result ≡ map (λ e. e.chain) (entries_from key.now (entries_of index.now arena.now)) }
+{
+    counted_chains_from::<Brand, Brand>(index, arena, key, Blank::new(1), Blank::new(1))
+}
+
+fn counted_chains_from<'a, C: Ledger, W: Ledger>(
+    index: &'a KeyIndex,
+    arena: &Arena,
+    key: &[u8],
+    compared: Blank,
+    written: Blank,
+) -> Chains<'a>
+    requires own { IsIndexOf index.now arena.now }
+    requires compared_name { compared.name ≡ C.name }
+    requires compared_parts { compared.parts ≡ C.parts }
+    requires compared_some { 0 < compared.parts }
+    requires written_name { written.name ≡ W.name }
+    requires written_parts { written.parts ≡ W.parts }
+    requires written_some { 0 < written.parts }
+    ensures { result ≡ map (λ e. e.chain) (entries_from key.now (entries_of index.now arena.now)) }
+{
+    let mut steps: Steps<C, W> = Steps::new(compared, written);
+    index.chains_from(arena, key, &mut steps)
+}
+
+/// The keys from `key` on in an index with an arena of its own, with new chains. The refusal is `OutOfMemory`.
+pub(crate) fn split_at(
+    alloc: Global,
+    index: &KeyIndex,
+    arena: &Arena,
+    key: &[u8],
+) -> Result<(KeyIndex, Arena), Refusal>
+    requires { IsIndexOf index.now arena.now }
+    ensures ok { IfOk result
+        (λ part. IsPartFrom key.now (entries_of index.now arena.now) arena.now.most part.0 part.1) }
+    ensures memory { IfErr result (λ why. why ≡ Refusal.OutOfMemory) }
+{
+    counted_split_at::<Brand, Brand>(alloc, index, arena, key, Blank::new(1), Blank::new(1))
+}
+
+fn counted_split_at<C: Ledger, W: Ledger>(
+    alloc: Global,
+    index: &KeyIndex,
+    arena: &Arena,
+    key: &[u8],
+    compared: Blank,
+    written: Blank,
+) -> Result<(KeyIndex, Arena), Refusal>
+    requires own { IsIndexOf index.now arena.now }
+    requires compared_name { compared.name ≡ C.name }
+    requires compared_parts { compared.parts ≡ C.parts }
+    requires compared_some { 0 < compared.parts }
+    requires written_name { written.name ≡ W.name }
+    requires written_parts { written.parts ≡ W.parts }
+    requires written_some { 0 < written.parts }
+    ensures ok { IfOk result
+        (λ part. IsPartFrom key.now (entries_of index.now arena.now) arena.now.most part.0 part.1) }
+    ensures memory { IfErr result (λ why. why ≡ Refusal.OutOfMemory) }
+{
+    let mut steps: Steps<C, W> = Steps::new(compared, written);
+    index.split_at(alloc, arena, key, &mut steps)
 }

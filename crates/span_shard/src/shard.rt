@@ -5,7 +5,7 @@ ghost use Rattle.span_keycode.specs.declared.range.KeyRange.{KeyRange};
 ghost use Rattle.span_mutate.specs.Typed.{AreTypedMutations};
 ghost use Rattle.span_shard.specs.Reading.{entry_row, AreWrites, IsFault, IsFull, IsPrepareRefusal};
 ghost use Rattle.std.specs.List.{AllByRecursion};
-ghost use Rattle.span_shard.specs.Shard.{with_writes, applied, trimmed, trimmed_key, snapshot, live, IsFree, HasNoneOf, HasSomeOf, HaveFallingVersions, ReadLastVersions, ArePutsRefused, AreInOrder, IsInUse, IsLaterCommit};
+ghost use Rattle.span_shard.specs.Shard.{with_writes, applied, trimmed, trimmed_key, snapshot, live, IsFree, IsIdle, HasNoneOf, HasSomeOf, HaveFallingVersions, ReadLastVersions, ArePutsRefused, AreInOrder, IsInUse, IsLaterCommit, keys_before, keys_from};
 ghost use Rattle.span_shard.specs.declared.write.Write.{Write};
 
 use super::change::writes_of;
@@ -161,6 +161,20 @@ impl Shard {
     {
         self.store.trim(h);
         self.store.remove_unused();
+    }
+
+    /// Moves the keys from `key` on, with their versions, to a shard of their own. Nothing is prepared. The rows are moved and not
+    /// copied, and all memory is taken before: `OutOfMemory`, the only refusal, leaves all as it was.
+    pub fn split(&mut self, alloc: Global, key: &[u8]) -> Result<Shard, Refusal>
+        requires idle { IsIdle self.old }
+        ensures before { OnOk result (self.new ≡ keys_before key.now self.old) }
+        ensures part { IfOk result (λ part. part ≡ keys_from key.now self.old) }
+        ensures err { OnErr result (self.new ≡ self.old) }
+        ensures memory { IfErr result (λ why. why ≡ Refusal.OutOfMemory) }
+    {
+        Ok(Shard {
+            store: self.store.split(alloc, key)?,
+        })
     }
 
     /// A law, which takes no time: what a trim at h leaves reads as before at and above h, and the keys that go had nothing.

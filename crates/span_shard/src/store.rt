@@ -1,12 +1,13 @@
 //! The keys of a shard, in an index with their chains; their versions and prepared writes, in an arena.
-ghost use Rattle.std.specs.Prelude.{◌≡◌, ◌≤◌, [], map, filter, IfErr, OnOk, OnErr};
+ghost use Rattle.std.specs.Prelude.{◌≡◌, ◌≤◌, [], map, filter, IfErr, IfOk, OnOk, OnErr};
 ghost use Rattle.span_arena.specs.Limits.{most_nodes};
 ghost use Rattle.std.specs.List.{AllByRecursion};
 ghost use Rattle.span_shard.specs.Versions.{applied_to_key, is_used};
-ghost use Rattle.span_shard.specs.Shard.{AreInOrder, HaveFallingVersions, IsInUse, IsLaterCommit, IsPutRefused, with_write, trimmed_key, live};
+ghost use Rattle.span_shard.specs.Shard.{AreInOrder, HaveFallingVersions, IsIdle, IsInUse, IsLaterCommit, IsPutRefused, keys_before, keys_from, with_write, trimmed_key, live};
 
 use super::node::{PreparedNode, end_nodes, prepare_node};
-use super::search::slot_for;
+use super::search::{slot_for, split_at};
+use super::split::{add_room, move_versions};
 use super::trim::trim_chains;
 use super::write::Write;
 use span_arena::arena::Arena;
@@ -93,6 +94,29 @@ impl Store {
         ensures { self.new ≡ map (trimmed_key h) self.old }
     {
         trim_chains(&self.index, &mut self.arena, h);
+    }
+
+    /// Moves the keys from `key` on with their versions to a store of their own. Nothing is prepared. `Refusal::OutOfMemory` leaves all as
+    /// it was.
+    pub(crate) fn split(&mut self, alloc: Global, key: &[u8]) -> Result<Store, Refusal>
+        requires idle { IsIdle self.old }
+        requires used { AllByRecursion IsInUse self.old }
+        ensures before { OnOk result (self.new ≡ keys_before key.now self.old) }
+        ensures part { IfOk result (λ part. part ≡ keys_from key.now self.old) }
+        ensures err { OnErr result (self.new ≡ self.old) }
+        ensures memory { IfErr result (λ why. why ≡ Refusal.OutOfMemory) }
+    {
+        let part = split_at(alloc, &self.index, &self.arena, key)?;
+        let (index, mut arena) = part;
+        add_room(&self.index, &self.arena, key, &mut arena)?;
+        // Nothing takes memory from here on.
+        move_versions(&self.index, &mut self.arena, key, &index, &mut arena);
+        self.index.remove_empty(&mut self.arena);
+        Ok(Store {
+            arena,
+            index,
+            prepared: Vec::new(alloc),
+        })
     }
 
     /// Leaves out the keys that have nothing any more. It takes no memory.

@@ -1,240 +1,172 @@
 //! The worked keys, in a table: codings, byte for byte, read again, with their roots and their order.
+use span_keycode::compare::order_of_bytes;
 use span_keycode::decode::decode_key;
 use span_keycode::encode::encode_key;
 use span_keycode::range::{KeyRange, RangeComparison, range_of};
 use span_keycode::root::root_prefix;
 use span_schema::layout::KeyPart;
 use span_schema::schema::Schema;
-use span_schema::table::{Column, KeyColumn, Parent, Table};
+use span_schematext::text::parse_schema;
 use span_value::refusal::Refusal;
-use span_value::seq::Seq;
 use span_value::text::Text;
-use span_value::value::{ColumnType, Kind, Value};
+use span_value::value::{Kind, Value};
 use std::alloc::{AllocError, Global};
 use std::test::Fail;
 
-fn column(alloc: Global, name: &str, kind: ColumnType) -> Result<Column, AllocError> {
-    Ok(Column {
-        name: Text::from_str(alloc, name)?,
-        kind,
-        not_null: false,
-    })
-}
+const USERS_AND_ALBUMS: &str = "
+    CREATE TABLE Users (uid INT64, email STRING(MAX)) PRIMARY KEY (uid);
+    CREATE TABLE Albums (uid INT64, aid INT64, name STRING(MAX)) PRIMARY KEY (uid, aid),
+      INTERLEAVE IN PARENT Users ON DELETE CASCADE";
 
-fn key_column(alloc: Global, name: &str, desc: bool) -> Result<KeyColumn, AllocError> {
-    Ok(KeyColumn {
-        name: Text::from_str(alloc, name)?,
-        desc,
-    })
-}
+const WORDS: &str = "CREATE TABLE Words (w STRING(MAX)) PRIMARY KEY (w)";
 
-// Users (uid, email) and Albums (uid, aid, name) in it.
-fn users_and_albums(alloc: Global) -> Result<Vec<Table>, AllocError> {
-    let mut tables = Vec::new(alloc);
-    tables.push(Table {
-        name: Text::from_str(alloc, "Users")?,
-        columns: Seq::from_vec(vec![in alloc;
-            column(alloc, "uid", ColumnType::Int)?,
-            column(alloc, "email", ColumnType::Str(None))?,
-        ]?),
-        key: Seq::from_vec(vec![in alloc; key_column(alloc, "uid", false)?]?),
-        parent: None,
-    })?;
-    tables.push(Table {
-        name: Text::from_str(alloc, "Albums")?,
-        columns: Seq::from_vec(vec![in alloc;
-            column(alloc, "uid", ColumnType::Int)?,
-            column(alloc, "aid", ColumnType::Int)?,
-            column(alloc, "name", ColumnType::Str(None))?,
-        ]?),
-        key: Seq::from_vec(vec![in alloc;
-            key_column(alloc, "uid", false)?,
-            key_column(alloc, "aid", false)?,
-        ]?),
-        parent: Some(Parent {
-            name: Text::from_str(alloc, "Users")?,
-            cascade: true,
-        }),
-    })?;
-    Ok(tables)
-}
+const WORDS_DOWN: &str = "CREATE TABLE Words (w STRING(MAX)) PRIMARY KEY (w DESC)";
 
-// Words (w).
-fn words(alloc: Global, desc: bool) -> Result<Vec<Table>, AllocError> {
-    Ok(vec![in alloc;
-        Table {
-            name: Text::from_str(alloc, "Words")?,
-            columns: Seq::from_vec(vec![in alloc; column(alloc, "w", ColumnType::Str(None))?]?),
-            key: Seq::from_vec(vec![in alloc; key_column(alloc, "w", desc)?]?),
-            parent: None,
-        },
-    ]?)
-}
+// A user's key, or an album's: its table, its values, its coding and that of its root row's key. Both in the order of keys.
+const USERS: [(usize, &[i64], &[u8], &[u8]); 3] = [
+    (
+        1,
+        &[-1],
+        b"\x01\x01\x7f\xff\xff\xff\xff\xff\xff\xff",
+        b"\x01\x01\x7f\xff\xff\xff\xff\xff\xff\xff",
+    ),
+    (
+        1,
+        &[1],
+        b"\x01\x01\x80\x00\x00\x00\x00\x00\x00\x01",
+        b"\x01\x01\x80\x00\x00\x00\x00\x00\x00\x01",
+    ),
+    (
+        2,
+        &[1, 10],
+        b"\x01\x01\x80\x00\x00\x00\x00\x00\x00\x01\x02\x01\x80\x00\x00\x00\x00\x00\x00\x0a",
+        b"\x01\x01\x80\x00\x00\x00\x00\x00\x00\x01",
+    ),
+];
 
-// Which schema a worked key is of: `Users` and `Albums`, or `Words` with its key ascending or descending.
-#[derive(Clone, Copy, PartialEq, Eq)]
-enum Family {
-    Users,
-    Words,
-    WordsDown,
-}
+// A word and its coding, in the order of keys; None is NULL.
+const UP: [(Option<&str>, &[u8]); 5] = [
+    (None, b"\x01\x00"),
+    (Some(""), b"\x01\x01\x00\x01"),
+    (Some("a"), b"\x01\x01\x61\x00\x01"),
+    (Some("a\0"), b"\x01\x01\x61\x00\xff\x00\x01"),
+    (Some("a\x01"), b"\x01\x01\x61\x01\x00\x01"),
+];
 
-// A schema for each.
-#[derive(Drop)]
-struct Families {
-    users: Schema,
-    up: Schema,
-    down: Schema,
-}
+// The same where the key descends.
+const DOWN: [(Option<&str>, &[u8]); 5] = [
+    (Some("a\x01"), b"\x01\xfe\x9e\xfe\xff\xfe"),
+    (Some("a\0"), b"\x01\xfe\x9e\xff\x00\xff\xfe"),
+    (Some("a"), b"\x01\xfe\x9e\xff\xfe"),
+    (Some(""), b"\x01\xfe\xff\xfe"),
+    (None, b"\x01\xff"),
+];
 
-fn the_schemas(alloc: Global) -> Result<Families, Fail> {
-    let users = Schema::new(alloc, users_and_albums(alloc)?);
-    let up = Schema::new(alloc, words(alloc, false)?);
-    let down = Schema::new(alloc, words(alloc, true)?);
-    Ok(Families {
-        users: users.ok().ok_or("a schema")?,
-        up: up.ok().ok_or("a schema")?,
-        down: down.ok().ok_or("a schema")?,
-    })
-}
-
-fn schema_of(schemas: &Families, family: Family) -> &Schema {
-    match family {
-        Family::Users => &schemas.users,
-        Family::Words => &schemas.up,
-        Family::WordsDown => &schemas.down,
-    }
-}
-
-// A key, its coding and the coding of its root row's key.
-#[derive(Drop)]
-struct Worked {
-    family: Family,
-    table: usize,
-    values: Vec<Value>,
-    code: &'static [u8],
-    root: &'static [u8],
-}
-
-fn user(
-    alloc: Global,
-    table: usize,
-    numbers: &[i64],
-    code: &'static [u8],
-    root: &'static [u8],
-) -> Result<Worked, AllocError> {
+fn numbers(alloc: Global, numbers: &[i64]) -> Result<Vec<Value>, AllocError> {
     let mut values = Vec::new(alloc);
     for number in numbers {
         values.push(Value::Int(*number))?;
     }
-    Ok(Worked {
-        family: Family::Users,
-        table,
-        values,
-        code,
-        root,
-    })
+    Ok(values)
 }
 
-fn word(alloc: Global, text: &str) -> Result<Vec<Value>, AllocError> {
-    Ok(vec![in alloc; Value::Str(Text::from_str(alloc, text)?)]?)
-}
-
-fn worded(
-    alloc: Global,
-    family: Family,
-    text: Option<&str>,
-    code: &'static [u8],
-) -> Result<Worked, AllocError> {
-    let values = match text {
-        Some(letters) => word(alloc, letters)?,
-        None => vec![in alloc; Value::Null]?,
-    };
-    Ok(Worked {
-        family,
-        table: 1,
-        values,
-        code,
-        root: code,
-    })
-}
-
-// The worked keys, each family's in the order of its keys.
-fn keys_in_order(alloc: Global) -> Result<Vec<Worked>, AllocError> {
-    let first = b"\x01\x01\x80\x00\x00\x00\x00\x00\x00\x01";
-    let album = b"\x01\x01\x80\x00\x00\x00\x00\x00\x00\x01\x02\x01\x80\x00\x00\x00\x00\x00\x00\x0a";
-    let negative = b"\x01\x01\x7f\xff\xff\xff\xff\xff\xff\xff";
-    let up = Family::Words;
-    let down = Family::WordsDown;
-    Ok(vec![in alloc;
-        user(alloc, 1, &[-1], negative, negative)?,
-        user(alloc, 1, &[1], first, first)?,
-        user(alloc, 2, &[1, 10], album, first)?,
-        worded(alloc, up, None, b"\x01\x00")?,
-        worded(alloc, up, Some(""), b"\x01\x01\x00\x01")?,
-        worded(alloc, up, Some("a"), b"\x01\x01\x61\x00\x01")?,
-        worded(alloc, up, Some("a\0"), b"\x01\x01\x61\x00\xff\x00\x01")?,
-        worded(alloc, up, Some("a\x01"), b"\x01\x01\x61\x01\x00\x01")?,
-        worded(alloc, down, Some("a\x01"), b"\x01\xfe\x9e\xfe\xff\xfe")?,
-        worded(alloc, down, Some("a\0"), b"\x01\xfe\x9e\xff\x00\xff\xfe")?,
-        worded(alloc, down, Some("a"), b"\x01\xfe\x9e\xff\xfe")?,
-        worded(alloc, down, Some(""), b"\x01\xfe\xff\xfe")?,
-        worded(alloc, down, None, b"\x01\xff")?,
-    ]?)
+fn word(alloc: Global, text: Option<&str>) -> Result<Vec<Value>, AllocError> {
+    let mut values = Vec::new(alloc);
+    values.push(match text {
+        Some(letters) => Value::Str(Text::from_str(alloc, letters)?),
+        None => Value::Null,
+    })?;
+    Ok(values)
 }
 
 // Whether the key is coded so, is read again from its coding, and has this root.
-fn is_so(alloc: Global, schema: &Schema, key: &Worked) -> bool {
-    if key.table == 0 || key.table > schema.len() {
+fn is_so(
+    alloc: Global,
+    schema: &Schema,
+    table: usize,
+    values: &[Value],
+    code: &[u8],
+    root: &[u8],
+) -> bool {
+    if table == 0 || table > schema.len() {
         return false;
     }
-    let coded = match encode_key(alloc, schema, key.table, key.values.as_slice()) {
-        Ok(bytes) => bytes.as_slice() == key.code && root_prefix(schema, &bytes) == key.root,
+    let coded = match encode_key(alloc, schema, table, values) {
+        Ok(bytes) => bytes.as_slice() == code && root_prefix(schema, &bytes) == root,
         Err(_why) => false,
     };
-    let read = match decode_key(alloc, schema, key.code) {
-        Ok(row) => row.table == key.table && row.values.as_slice() == key.values.as_slice(),
+    let read = match decode_key(alloc, schema, code) {
+        Ok(row) => row.table == table && row.values.as_slice() == values,
         Err(_why) => false,
     };
     coded && read
 }
 
 #[test]
-fn worked_keys(rt: HostRuntime) -> Result<(), Fail> {
+fn keys_of_users(rt: HostRuntime) -> Result<(), Refusal> {
     let alloc = rt.alloc();
-    let schemas = the_schemas(alloc)?;
-    let keys = keys_in_order(alloc)?;
-    for key in keys.as_slice() {
-        assert!(rt; is_so(alloc, schema_of(&schemas, key.family), key));
+    let schema = parse_schema(alloc, USERS_AND_ALBUMS)?;
+    for (table, key, code, root) in USERS {
+        let values = numbers(alloc, key)?;
+        assert!(rt; is_so(alloc, &schema, table, values.as_slice(), code, root));
     }
-    for pair in keys.windows(2) {
-        let [before, after] = pair else {
-            return Err(Fail::from("a pair"));
-        };
-        assert!(rt; before.family != after.family || before.code.cmp(after.code).is_lt());
+    for pair in USERS.windows(2) {
+        assert!(rt; pair[0].2.cmp(pair[1].2).is_lt());
     }
     Ok(())
 }
 
 #[test]
-fn lengths(rt: HostRuntime) -> Result<(), Fail> {
+fn keys_of_words(rt: HostRuntime) -> Result<(), Refusal> {
     let alloc = rt.alloc();
-    let schema = Schema::new(alloc, words(alloc, false)?)
-        .ok()
-        .ok_or("a schema")?;
-    assert_eq!(rt; schema.len(), 1);
+    for (text, words) in [(WORDS, UP), (WORDS_DOWN, DOWN)] {
+        let schema = parse_schema(alloc, text)?;
+        for (letters, code) in words {
+            let values = word(alloc, letters)?;
+            assert!(rt; is_so(alloc, &schema, 1, values.as_slice(), code, code));
+        }
+        for pair in words.windows(2) {
+            assert!(rt; pair[0].1.cmp(pair[1].1).is_lt());
+        }
+    }
+    Ok(())
+}
+
+// How many bytes the coding of a word of this many letters has.
+fn coded_length(alloc: Global, schema: &Schema, len: usize) -> Result<usize, Refusal> {
+    if schema.len() == 0 {
+        return Ok(0);
+    }
     let mut text = String::new(alloc);
-    for _ in 0..1020u64 {
+    for _ in 0..len {
         text.push('x')?;
     }
-    let key = encode_key(alloc, &schema, 1, word(alloc, text.as_str())?.as_slice())
-        .ok()
-        .ok_or("a key")?;
-    assert_eq!(rt; key.as_slice().len(), 1024);
-    text.push('x')?;
-    let long = encode_key(alloc, &schema, 1, word(alloc, text.as_str())?.as_slice());
-    assert_eq!(rt; long.err(), Some(Refusal::KeyTooLong));
-    let wrong = encode_key(alloc, &schema, 1, vec![in alloc; Value::Int(1)]?.as_slice());
+    let values = word(alloc, Some(text.as_str()))?;
+    Ok(
+        encode_key(alloc, schema, 1, values.as_slice())?
+            .as_slice()
+            .len(),
+    )
+}
+
+#[test]
+fn lengths(rt: HostRuntime) -> Result<(), Refusal> {
+    let alloc = rt.alloc();
+    let schema = parse_schema(alloc, WORDS)?;
+    assert_eq!(rt; coded_length(alloc, &schema, 1020), Ok(1024));
+    assert_eq!(rt;
+        coded_length(alloc, &schema, 1021),
+        Err(Refusal::KeyTooLong)
+    );
+    Ok(())
+}
+
+#[test]
+fn another_type(rt: HostRuntime) -> Result<(), Refusal> {
+    let alloc = rt.alloc();
+    let schema = parse_schema(alloc, WORDS)?;
+    assert_eq!(rt; schema.len(), 1);
+    let wrong = encode_key(alloc, &schema, 1, numbers(alloc, &[1])?.as_slice());
     assert_eq!(rt; wrong.err(), Some(Refusal::WrongType));
     Ok(())
 }
@@ -249,9 +181,7 @@ fn is_bad(alloc: Global, schema: &Schema, bytes: &[u8]) -> bool {
 #[test]
 fn no_keys(rt: HostRuntime) -> Result<(), Fail> {
     let alloc = rt.alloc();
-    let schema = Schema::new(alloc, words(alloc, false)?)
-        .ok()
-        .ok_or("a schema")?;
+    let schema = parse_schema(alloc, WORDS)?;
     assert!(rt; is_bad(alloc, &schema, b""));
     assert!(rt; is_bad(alloc, &schema, b"\x02\x00"));
     assert!(rt; is_bad(alloc, &schema, b"\x01\x02"));
@@ -290,5 +220,36 @@ fn ranges(rt: HostRuntime) -> Result<(), Fail> {
     assert!(rt; is_range(&range, b"\x01\xfe\x9e\xff\xff", b"\x01\xff"));
     let none = range_of(alloc, 1, uid, RangeComparison::Greater, &Value::Null)?;
     assert!(rt; is_range(&none, b"", b""));
+    Ok(())
+}
+
+// Bytes in the order in which Python's `sorted` puts them: of lengths around eight, and of one beginning.
+#[test]
+fn bytes_in_order(rt: HostRuntime) -> Result<(), Fail> {
+    let alloc = rt.alloc();
+    let mut sorted: Vec<&[u8]> = Vec::new(alloc);
+    sorted.push(b"")?;
+    sorted.push(b"\x00")?;
+    sorted.push(b"a")?;
+    sorted.push(b"aaaaaaa")?;
+    sorted.push(b"aaaaaaaa")?;
+    sorted.push(b"aaaaaaaa\x00")?;
+    sorted.push(b"aaaaaaaaa")?;
+    sorted.push(b"aaaaaaaaaaaaaaaa")?;
+    sorted.push(b"aaaaaaaaaaaaaaab")?;
+    sorted.push(b"aaaaaaab")?;
+    sorted.push(b"aaaaaaabaaaaaaaa")?;
+    sorted.push(b"aaaaaabaaaaaaaaaaaaaaaaa")?;
+    sorted.push(b"b")?;
+    sorted.push(b"baaaaaaaa")?;
+    sorted.push(b"\x7f\xff\xff\xff\xff\xff\xff\xff\xff")?;
+    sorted.push(b"\x80\x00\x00\x00\x00\x00\x00\x00")?;
+    sorted.push(b"\xff\xff\xff\xff\xff\xff\xff\xff")?;
+    sorted.push(b"\xff\xff\xff\xff\xff\xff\xff\xff\xff")?;
+    for i in 0..sorted.len() {
+        for j in 0..sorted.len() {
+            assert_eq!(rt; order_of_bytes(sorted[i], sorted[j]), i.cmp(&j));
+        }
+    }
     Ok(())
 }

@@ -4,11 +4,11 @@ use span_mutate::root::check_root;
 use span_mutate::row::TableRow;
 use span_mutate::transaction::Transaction;
 use span_schema::schema::Schema;
-use span_schema::table::{Column, KeyColumn, Parent, Table};
+use span_schematext::text::parse_schema;
 use span_value::refusal::Refusal;
 use span_value::seq::Seq;
 use span_value::text::Text;
-use span_value::value::{ColumnType, Value};
+use span_value::value::Value;
 use std::alloc::{AllocError, Global};
 use std::test::Fail;
 
@@ -23,75 +23,27 @@ type Asked<'a> = (
     &'a [(&'a str, Option<i64>)],
 );
 
-// A table with INT64 columns of these names, the key being the first `key_len` of them; the last is NOT NULL if so.
-fn table_of(
-    alloc: Global,
-    name: &str,
-    columns: &[&str],
-    key_len: usize,
-    not_null: bool,
-    parent: Option<Parent>,
-) -> Result<Table, AllocError> {
-    let mut all = Vec::new(alloc);
-    let mut key = Vec::new(alloc);
-    for (i, column) in columns.iter().enumerate() {
-        all.push(Column {
-            name: Text::from_str(alloc, *column)?,
-            kind: ColumnType::Int,
-            not_null: not_null && i + 1 == columns.len(),
-        })?;
-        if i < key_len {
-            key.push(KeyColumn {
-                name: Text::from_str(alloc, *column)?,
-                desc: false,
-            })?;
-        }
-    }
-    Ok(Table {
-        name: Text::from_str(alloc, name)?,
-        columns: Seq::from_vec(all),
-        key: Seq::from_vec(key),
-        parent,
-    })
-}
-
-fn parent_of(alloc: Global, name: &str, cascade: bool) -> Result<Option<Parent>, AllocError> {
-    Ok(Some(Parent {
-        name: Text::from_str(alloc, name)?,
-        cascade,
-    }))
-}
-
 // A (a, u, v) PRIMARY KEY (a); B (a, b, n NOT NULL) PRIMARY KEY (a, b) in A; C (a, b, c) PRIMARY KEY (a, b, c) in B.
-fn family(alloc: Global, b_cascades: bool, c_cascades: bool) -> Result<Schema, Refusal> {
-    let mut tables = Vec::new(alloc);
-    tables.push(table_of(alloc, "A", &["a", "u", "v"], 1, false, None)?)?;
-    let above = parent_of(alloc, "A", b_cascades)?;
-    tables.push(table_of(alloc, "B", &["a", "b", "n"], 2, true, above)?)?;
-    let above = parent_of(alloc, "B", c_cascades)?;
-    tables.push(table_of(alloc, "C", &["a", "b", "c"], 3, false, above)?)?;
-    Schema::new(alloc, tables)
-}
+// Deletions cascade to B and C, to C alone, or to B alone.
+const BOTH_CASCADE: &str = "
+    CREATE TABLE A (a INT64, u INT64, v INT64) PRIMARY KEY (a);
+    CREATE TABLE B (a INT64, b INT64, n INT64 NOT NULL) PRIMARY KEY (a, b), INTERLEAVE IN PARENT A ON DELETE CASCADE;
+    CREATE TABLE C (a INT64, b INT64, c INT64) PRIMARY KEY (a, b, c), INTERLEAVE IN PARENT B ON DELETE CASCADE";
 
-// Users (uid INT64, email), the email being of this type.
-fn users(alloc: Global, kind: ColumnType) -> Result<Schema, Refusal> {
-    let mut columns = Vec::new(alloc);
-    columns.push(Column {
-        name: Text::from_str(alloc, "uid")?,
-        kind: ColumnType::Int,
-        not_null: true,
-    })?;
-    columns.push(Column {
-        name: Text::from_str(alloc, "email")?,
-        kind,
-        not_null: false,
-    })?;
-    let mut table = table_of(alloc, "Users", &["uid"], 1, true, None)?;
-    table.columns = Seq::from_vec(columns);
-    let mut tables = Vec::new(alloc);
-    tables.push(table)?;
-    Schema::new(alloc, tables)
-}
+const C_CASCADES: &str = "
+    CREATE TABLE A (a INT64, u INT64, v INT64) PRIMARY KEY (a);
+    CREATE TABLE B (a INT64, b INT64, n INT64 NOT NULL) PRIMARY KEY (a, b), INTERLEAVE IN PARENT A;
+    CREATE TABLE C (a INT64, b INT64, c INT64) PRIMARY KEY (a, b, c), INTERLEAVE IN PARENT B ON DELETE CASCADE";
+
+const B_CASCADES: &str = "
+    CREATE TABLE A (a INT64, u INT64, v INT64) PRIMARY KEY (a);
+    CREATE TABLE B (a INT64, b INT64, n INT64 NOT NULL) PRIMARY KEY (a, b), INTERLEAVE IN PARENT A ON DELETE CASCADE;
+    CREATE TABLE C (a INT64, b INT64, c INT64) PRIMARY KEY (a, b, c), INTERLEAVE IN PARENT B";
+
+const USERS: &str = "CREATE TABLE Users (uid INT64 NOT NULL, email STRING(MAX)) PRIMARY KEY (uid)";
+
+const SHORT_EMAILS: &str =
+    "CREATE TABLE Users (uid INT64 NOT NULL, email STRING(3)) PRIMARY KEY (uid)";
 
 fn value_of(number: Option<i64>) -> Value {
     match number {
@@ -213,7 +165,7 @@ const DELETE_B: Asked<'static> = (MutationKind::Delete, "B", &[1, 1], &[]);
 #[test]
 fn no_action(rt: HostRuntime) -> Result<(), Fail> {
     let alloc = rt.alloc();
-    let schema = family(alloc, false, true)?;
+    let schema = parse_schema(alloc, C_CASCADES)?;
     assert_eq!(rt;
         refusal_of(alloc, &schema, &THREE, &[DELETE_A]),
         Some(Refusal::HasChildren)
@@ -225,12 +177,12 @@ fn no_action(rt: HostRuntime) -> Result<(), Fail> {
 #[test]
 fn cascade(rt: HostRuntime) -> Result<(), Fail> {
     let alloc = rt.alloc();
-    let schema = family(alloc, true, false)?;
+    let schema = parse_schema(alloc, B_CASCADES)?;
     assert_eq!(rt;
         refusal_of(alloc, &schema, &THREE, &[DELETE_A]),
         Some(Refusal::HasChildren)
     );
-    let schema = family(alloc, true, true)?;
+    let schema = parse_schema(alloc, BOTH_CASCADE)?;
     assert!(rt; gives(alloc, &schema, &THREE, &[DELETE_A], &[])?);
     Ok(())
 }
@@ -257,7 +209,7 @@ const WANTED: [Wanted<'static>; 3] = [
 #[test]
 fn all_kinds(rt: HostRuntime) -> Result<(), Fail> {
     let alloc = rt.alloc();
-    let schema = family(alloc, true, true)?;
+    let schema = parse_schema(alloc, BOTH_CASCADE)?;
     assert!(rt; gives(alloc, &schema, &THREE, &ASKED, &WANTED)?);
     Ok(())
 }
@@ -265,7 +217,7 @@ fn all_kinds(rt: HostRuntime) -> Result<(), Fail> {
 #[test]
 fn refused_by_rows(rt: HostRuntime) -> Result<(), Fail> {
     let alloc = rt.alloc();
-    let schema = family(alloc, true, true)?;
+    let schema = parse_schema(alloc, BOTH_CASCADE)?;
     assert_eq!(rt;
         refusal_of(
             alloc,
@@ -299,7 +251,7 @@ fn refused_by_rows(rt: HostRuntime) -> Result<(), Fail> {
 #[test]
 fn refused_by_schema(rt: HostRuntime) -> Result<(), Fail> {
     let alloc = rt.alloc();
-    let schema = family(alloc, true, true)?;
+    let schema = parse_schema(alloc, BOTH_CASCADE)?;
     assert_eq!(rt;
         refusal_of(alloc, &schema, &THREE, &[]),
         Some(Refusal::EmptyTransaction)
@@ -332,7 +284,7 @@ const DELETE_CELL: Asked<'static> = (MutationKind::Delete, "A", &[1], &[("u", No
 #[test]
 fn refused_by_name(rt: HostRuntime) -> Result<(), Fail> {
     let alloc = rt.alloc();
-    let schema = family(alloc, true, true)?;
+    let schema = parse_schema(alloc, BOTH_CASCADE)?;
     assert_eq!(rt;
         refusal_of(alloc, &schema, &THREE, &[DELETE_D]),
         Some(Refusal::NoTable)
@@ -371,13 +323,13 @@ fn refusal_of_email(alloc: Global, schema: &Schema, len: usize) -> Result<Option
 #[test]
 fn emails(rt: HostRuntime) -> Result<(), Fail> {
     let alloc = rt.alloc();
-    let schema = users(alloc, ColumnType::Str(None))?;
+    let schema = parse_schema(alloc, USERS)?;
     assert_eq!(rt; refusal_of_email(alloc, &schema, 1_048_571)?, None);
     assert_eq!(rt;
         refusal_of_email(alloc, &schema, 1_048_572)?,
         Some(Refusal::RowTooLong)
     );
-    let schema = users(alloc, ColumnType::Str(Some(3)))?;
+    let schema = parse_schema(alloc, SHORT_EMAILS)?;
     assert_eq!(rt; refusal_of_email(alloc, &schema, 3)?, None);
     assert_eq!(rt;
         refusal_of_email(alloc, &schema, 4)?,

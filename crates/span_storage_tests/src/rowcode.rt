@@ -2,41 +2,15 @@
 use span_rowcode::pack::pack;
 use span_rowcode::unpack::unpack;
 use span_schema::schema::Schema;
-use span_schema::table::{Column, KeyColumn, Table};
+use span_schematext::text::parse_schema;
 use span_value::refusal::Refusal;
 use span_value::seq::Seq;
 use span_value::text::Text;
-use span_value::value::{ColumnType, Value};
-use std::alloc::{AllocError, Global};
+use span_value::value::Value;
+use std::alloc::Global;
 use std::test::Fail;
 
-fn column(alloc: Global, name: &str, kind: ColumnType) -> Result<Column, AllocError> {
-    Ok(Column {
-        name: Text::from_str(alloc, name)?,
-        kind,
-        not_null: false,
-    })
-}
-
-// Users (uid, email).
-fn users(alloc: Global) -> Result<Vec<Table>, AllocError> {
-    Ok(vec![in alloc;
-        Table {
-            name: Text::from_str(alloc, "Users")?,
-            columns: Seq::from_vec(vec![in alloc;
-                column(alloc, "uid", ColumnType::Int)?,
-                column(alloc, "email", ColumnType::Str(None))?
-            ]?),
-            key: Seq::from_vec(vec![in alloc;
-                KeyColumn {
-                    name: Text::from_str(alloc, "uid")?,
-                    desc: false
-                }
-            ]?),
-            parent: None,
-        },
-    ]?)
-}
+const USERS: &str = "CREATE TABLE Users (uid INT64, email STRING(MAX)) PRIMARY KEY (uid)";
 
 // Whether the row of these cells is packed so, and read again from these bytes.
 fn is_so(alloc: Global, schema: &Schema, cells: &[Value], code: &[u8]) -> bool {
@@ -67,7 +41,7 @@ fn is_bad(alloc: Global, schema: &Schema, bytes: &[u8]) -> bool {
 #[test]
 fn worked_rows(rt: HostRuntime) -> Result<(), Fail> {
     let alloc = rt.alloc();
-    let schema = Schema::new(alloc, users(alloc)?).ok().ok_or("a schema")?;
+    let schema = parse_schema(alloc, USERS)?;
     let rows = [
         (Some("a"), b"\x01\x00\x00\x00\x01\x61".as_slice()),
         (None, b"\x00".as_slice()),
@@ -86,7 +60,7 @@ fn worked_rows(rt: HostRuntime) -> Result<(), Fail> {
 #[test]
 fn no_rows(rt: HostRuntime) -> Result<(), Fail> {
     let alloc = rt.alloc();
-    let schema = Schema::new(alloc, users(alloc)?).ok().ok_or("a schema")?;
+    let schema = parse_schema(alloc, USERS)?;
     for bytes in [
         b"".as_slice(),
         b"\x02".as_slice(),
@@ -115,26 +89,19 @@ fn numbers(rt: HostRuntime) -> Result<(), Fail> {
     Ok(())
 }
 
+// How many bytes the row of a text of this many letters has.
+fn packed_length(alloc: Global, len: usize) -> Result<usize, Refusal> {
+    let mut text = String::new(alloc);
+    for _ in 0..len {
+        text.push('a')?;
+    }
+    let cells = vec![in alloc; Value::Str(Text::from_string(text))]?;
+    Ok(pack(alloc, cells.as_slice())?.len())
+}
+
 #[test]
-fn lengths(rt: HostRuntime) -> Result<(), Fail> {
+fn lengths(rt: HostRuntime) {
     let alloc = rt.alloc();
-    let text = String::from_utf8(vec![in alloc; 97; 1_048_571]?)
-        .ok()
-        .ok_or("a text")?;
-    let bytes = pack(
-        alloc,
-        vec![in alloc; Value::Str(Text::from_string(text))]?.as_slice(),
-    )
-    .ok()
-    .ok_or("a row")?;
-    assert_eq!(rt; bytes.len(), 1_048_576);
-    let text = String::from_utf8(vec![in alloc; 97; 1_048_572]?)
-        .ok()
-        .ok_or("a text")?;
-    let long = pack(
-        alloc,
-        vec![in alloc; Value::Str(Text::from_string(text))]?.as_slice(),
-    );
-    assert_eq!(rt; long.err(), Some(Refusal::RowTooLong));
-    Ok(())
+    assert_eq!(rt; packed_length(alloc, 1_048_571), Ok(1_048_576));
+    assert_eq!(rt; packed_length(alloc, 1_048_572), Err(Refusal::RowTooLong));
 }

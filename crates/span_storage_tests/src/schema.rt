@@ -1,147 +1,78 @@
-//! Schemas of the table of cases, and the schema of the worked rows.
-use span_schema::schema::Schema;
-use span_schema::table::{Column, KeyColumn, Parent, Table};
+//! Schemas, each judged as its text declares it, and the schema of the worked rows.
+use span_schematext::text::parse_schema;
 use span_value::refusal::Refusal;
-use span_value::seq::Seq;
-use span_value::text::Text;
-use span_value::value::ColumnType;
-use std::alloc::{AllocError, Global};
+use std::alloc::Global;
 use std::test::Fail;
 
-// A table with INT64 columns of these names, the key being the first `key_len` of them.
-fn table_of(
-    alloc: Global,
-    name: &str,
-    columns: &[&str],
-    key_len: usize,
-    parent: Option<&str>,
-) -> Result<Table, AllocError> {
-    let mut all = Vec::new(alloc);
-    let mut key = Vec::new(alloc);
-    for (i, column) in columns.iter().enumerate() {
-        all.push(Column {
-            name: Text::from_str(alloc, *column)?,
-            kind: ColumnType::Int,
-            not_null: false,
-        })?;
-        if i < key_len {
-            key.push(KeyColumn {
-                name: Text::from_str(alloc, *column)?,
-                desc: false,
-            })?;
-        }
-    }
-    let parent = match parent {
-        None => None,
-        Some(above) => Some(Parent {
-            name: Text::from_str(alloc, above)?,
-            cascade: true,
-        }),
-    };
-    Ok(Table {
-        name: Text::from_str(alloc, name)?,
-        columns: Seq::from_vec(all),
-        key: Seq::from_vec(key),
-        parent,
-    })
+fn refusal_of(alloc: Global, text: &str) -> Option<Refusal> {
+    parse_schema(alloc, text).err()
 }
 
-fn refusal_of(alloc: Global, tables: Vec<Table>) -> Option<Refusal> {
-    match Schema::new(alloc, tables) {
-        Ok(_schema) => None,
-        Err(why) => Some(why),
-    }
-}
+const SEVEN_LEVELS: &str = "
+    CREATE TABLE a (a INT64) PRIMARY KEY (a);
+    CREATE TABLE b (a INT64, b INT64) PRIMARY KEY (a, b), INTERLEAVE IN PARENT a;
+    CREATE TABLE c (a INT64, b INT64, c INT64) PRIMARY KEY (a, b, c), INTERLEAVE IN PARENT b;
+    CREATE TABLE d (a INT64, b INT64, c INT64, d INT64) PRIMARY KEY (a, b, c, d), INTERLEAVE IN PARENT c;
+    CREATE TABLE e (a INT64, b INT64, c INT64, d INT64, e INT64) PRIMARY KEY (a, b, c, d, e), INTERLEAVE IN PARENT d;
+    CREATE TABLE f (a INT64, b INT64, c INT64, d INT64, e INT64, f INT64) PRIMARY KEY (a, b, c, d, e, f), INTERLEAVE IN PARENT e;
+    CREATE TABLE g (a INT64, b INT64, c INT64, d INT64, e INT64, f INT64, g INT64) PRIMARY KEY (a, b, c, d, e, f, g), INTERLEAVE IN PARENT f";
 
-const LETTERS: [&str; 9] = ["a", "b", "c", "d", "e", "f", "g", "h", "i"];
-
-fn chain(alloc: Global, most: usize) -> Result<Vec<Table>, AllocError> {
-    let mut tables = Vec::new(alloc);
-    for i in 0..8 {
-        if i < most {
-            let parent = if i == 0 { None } else { Some(LETTERS[i - 1]) };
-            let table = table_of(alloc, LETTERS[i], &LETTERS[..i + 1], i + 1, parent)?;
-            tables.push(table)?;
-        }
-    }
-    Ok(tables)
-}
+const EIGHT_LEVELS: &str = "
+    CREATE TABLE a (a INT64) PRIMARY KEY (a);
+    CREATE TABLE b (a INT64, b INT64) PRIMARY KEY (a, b), INTERLEAVE IN PARENT a;
+    CREATE TABLE c (a INT64, b INT64, c INT64) PRIMARY KEY (a, b, c), INTERLEAVE IN PARENT b;
+    CREATE TABLE d (a INT64, b INT64, c INT64, d INT64) PRIMARY KEY (a, b, c, d), INTERLEAVE IN PARENT c;
+    CREATE TABLE e (a INT64, b INT64, c INT64, d INT64, e INT64) PRIMARY KEY (a, b, c, d, e), INTERLEAVE IN PARENT d;
+    CREATE TABLE f (a INT64, b INT64, c INT64, d INT64, e INT64, f INT64) PRIMARY KEY (a, b, c, d, e, f), INTERLEAVE IN PARENT e;
+    CREATE TABLE g (a INT64, b INT64, c INT64, d INT64, e INT64, f INT64, g INT64) PRIMARY KEY (a, b, c, d, e, f, g), INTERLEAVE IN PARENT f;
+    CREATE TABLE h (a INT64, b INT64, c INT64, d INT64, e INT64, f INT64, g INT64, h INT64) PRIMARY KEY (a, b, c, d, e, f, g, h), INTERLEAVE IN PARENT g";
 
 #[test]
-fn levels(rt: HostRuntime) -> Result<(), Fail> {
+fn levels(rt: HostRuntime) {
     let alloc = rt.alloc();
-    assert_eq!(rt; refusal_of(alloc, chain(alloc, 7)?), None);
+    assert_eq!(rt; refusal_of(alloc, SEVEN_LEVELS), None);
     assert_eq!(rt;
-        refusal_of(alloc, chain(alloc, 8)?),
+        refusal_of(alloc, EIGHT_LEVELS),
         Some(Refusal::HierarchyTooDeep)
     );
-    Ok(())
 }
+
+const WRONG: [(&str, Refusal); 4] = [
+    (
+        "CREATE TABLE Users (uid INT64, email INT64) PRIMARY KEY (uid);
+         CREATE TABLE Albums (UID INT64, name INT64) PRIMARY KEY (UID), INTERLEAVE IN PARENT users",
+        Refusal::KeyNotPrefixed,
+    ),
+    (
+        "CREATE TABLE Albums (uid INT64) PRIMARY KEY (uid), INTERLEAVE IN PARENT Albums",
+        Refusal::NoParent,
+    ),
+    (
+        "CREATE TABLE A (a INT64) PRIMARY KEY (a); CREATE TABLE a (a INT64) PRIMARY KEY (a)",
+        Refusal::DuplicateTable,
+    ),
+    (
+        "CREATE TABLE Words (w STRING(0)) PRIMARY KEY (w)",
+        Refusal::BadColumn,
+    ),
+];
 
 #[test]
-fn counts(rt: HostRuntime) -> Result<(), Fail> {
-    let alloc = rt.alloc();
-    let mut tables = Vec::new(alloc);
-    for i in 0..65u64 {
-        let name = format!(in alloc; "t{i}")?;
-        tables.push(table_of(alloc, name.as_str(), &["k"], 1, None)?)?;
+fn keys_and_columns(rt: HostRuntime) {
+    for (text, wanted) in WRONG {
+        assert_eq!(rt; refusal_of(rt.alloc(), text), Some(wanted), "of {text}");
     }
-    assert_eq!(rt; refusal_of(alloc, tables), Some(Refusal::TooMany));
-
-    let mut columns = Vec::new(alloc);
-    for i in 0..65u64 {
-        columns.push(Column {
-            name: Text::from_string(format!(in alloc; "c{i}")?),
-            kind: ColumnType::Int,
-            not_null: true,
-        })?;
-    }
-    let mut wide = table_of(alloc, "wide", &["c0"], 1, None)?;
-    wide.columns = Seq::from_vec(columns);
-    let mut tables = Vec::new(alloc);
-    tables.push(wide)?;
-    assert_eq!(rt; refusal_of(alloc, tables), Some(Refusal::TooMany));
-    Ok(())
 }
 
-#[test]
-fn keys_and_columns(rt: HostRuntime) -> Result<(), Fail> {
-    let alloc = rt.alloc();
-    let mut tables = Vec::new(alloc);
-    tables.push(table_of(alloc, "Users", &["uid", "email"], 1, None)?)?;
-    tables.push(table_of(alloc, "Albums", &["UID", "name"], 1, Some("users"))?)?;
-    assert_eq!(rt; refusal_of(alloc, tables), Some(Refusal::KeyNotPrefixed));
-
-    let mut tables = Vec::new(alloc);
-    tables.push(table_of(alloc, "Albums", &["uid"], 1, Some("Albums"))?)?;
-    assert_eq!(rt; refusal_of(alloc, tables), Some(Refusal::NoParent));
-
-    let mut tables = Vec::new(alloc);
-    tables.push(table_of(alloc, "A", &["a"], 1, None)?)?;
-    tables.push(table_of(alloc, "a", &["a"], 1, None)?)?;
-    assert_eq!(rt; refusal_of(alloc, tables), Some(Refusal::DuplicateTable));
-
-    let mut columns = Vec::new(alloc);
-    columns.push(Column {
-        name: Text::from_str(alloc, "w")?,
-        kind: ColumnType::Str(Some(0)),
-        not_null: false,
-    })?;
-    let mut words = table_of(alloc, "Words", &["w"], 1, None)?;
-    words.columns = Seq::from_vec(columns);
-    let mut tables = Vec::new(alloc);
-    tables.push(words)?;
-    assert_eq!(rt; refusal_of(alloc, tables), Some(Refusal::BadColumn));
-    Ok(())
-}
+const USERS_AND_ALBUMS: &str = "
+    CREATE TABLE Users (uid INT64, email INT64) PRIMARY KEY (uid);
+    CREATE TABLE Albums (uid INT64, aid INT64, name INT64) PRIMARY KEY (uid, aid),
+      INTERLEAVE IN PARENT Users";
 
 #[test]
 fn worked_schema(rt: HostRuntime) -> Result<(), Fail> {
     let alloc = rt.alloc();
-    let mut tables = Vec::new(alloc);
-    tables.push(table_of(alloc, "Users", &["uid", "email"], 1, None)?)?;
-    tables.push(table_of(alloc, "Albums", &["uid", "aid", "name"], 2, Some("Users"))?)?;
-    let schema = Schema::new(alloc, tables).ok().ok_or("a schema")?;
+    let schema = parse_schema(alloc, USERS_AND_ALBUMS)?;
     assert_eq!(rt; schema.len(), 2);
     assert_eq!(rt; schema.tables().len(), 2);
     let users = schema.find("USERS").ok_or("Users")?;

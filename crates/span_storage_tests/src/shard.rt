@@ -8,14 +8,13 @@ use span_keycode::range::KeyRange;
 use span_mutate::mutation::{Mutation, MutationKind, NamedValue};
 use span_mutate::transaction::Transaction;
 use span_schema::schema::Schema;
-use span_schema::table::{Column, KeyColumn, Parent, Table};
+use span_schematext::text::parse_schema;
 use span_shard::shard::{Entry, Shard};
 use span_value::refusal::Refusal;
 use span_value::seq::Seq;
 use span_value::text::Text;
-use span_value::value::{ColumnType, Value};
+use span_value::value::Value;
 use std::alloc::{AllocError, Global};
-use std::test::Fail;
 
 // A(1): the table's number, then 1 and the number moved up by 2^63.
 const A1: [u8; 10] = [1, 1, 128, 0, 0, 0, 0, 0, 0, 1];
@@ -36,49 +35,9 @@ const NULL: [u8; 1] = [0];
 // A mutation of a table: the values of the key, and the cell of the column v, if it is named.
 type Asked<'a> = (MutationKind, &'a str, &'a [i64], Option<i64>);
 
-fn columns(alloc: Global, names: &[&str]) -> Result<Vec<Column>, AllocError> {
-    let mut all = Vec::new(alloc);
-    for name in names {
-        all.push(Column {
-            name: Text::from_str(alloc, *name)?,
-            kind: ColumnType::Int,
-            not_null: false,
-        })?;
-    }
-    Ok(all)
-}
-
-fn key(alloc: Global, names: &[&str]) -> Result<Vec<KeyColumn>, AllocError> {
-    let mut all = Vec::new(alloc);
-    for name in names {
-        all.push(KeyColumn {
-            name: Text::from_str(alloc, *name)?,
-            desc: false,
-        })?;
-    }
-    Ok(all)
-}
-
-// A (a, v) PRIMARY KEY (a); B (a, b, v) PRIMARY KEY (a, b) in A, ON DELETE CASCADE.
-fn family(alloc: Global) -> Result<Schema, Refusal> {
-    let mut tables = Vec::new(alloc);
-    tables.push(Table {
-        name: Text::from_str(alloc, "A")?,
-        columns: Seq::from_vec(columns(alloc, &["a", "v"])?),
-        key: Seq::from_vec(key(alloc, &["a"])?),
-        parent: None,
-    })?;
-    tables.push(Table {
-        name: Text::from_str(alloc, "B")?,
-        columns: Seq::from_vec(columns(alloc, &["a", "b", "v"])?),
-        key: Seq::from_vec(key(alloc, &["a", "b"])?),
-        parent: Some(Parent {
-            name: Text::from_str(alloc, "A")?,
-            cascade: true,
-        }),
-    })?;
-    Schema::new(alloc, tables)
-}
+const FAMILY: &str = "
+    CREATE TABLE A (a INT64, v INT64) PRIMARY KEY (a);
+    CREATE TABLE B (a INT64, b INT64, v INT64) PRIMARY KEY (a, b), INTERLEAVE IN PARENT A ON DELETE CASCADE";
 
 fn numbers(alloc: Global, key: &[i64]) -> Result<Seq<Value>, AllocError> {
     let mut values = Vec::new(alloc);
@@ -139,11 +98,17 @@ fn whole(alloc: Global) -> Result<KeyRange, AllocError> {
     })
 }
 
-fn is_entry(entries: &[Entry<'_>], at: usize, key: &[u8], row: &[u8]) -> bool {
-    match entries.get(at) {
-        None => false,
-        Some(entry) => entry.key == key && entry.row == row,
+// Whether these are the keys and rows, in this order.
+fn are_entries(entries: &[Entry<'_>], wanted: &[(&[u8], &[u8])]) -> bool {
+    if entries.len() != wanted.len() {
+        return false;
     }
+    for (i, (key, row)) in wanted.iter().enumerate() {
+        if entries[i].key != *key || entries[i].row != *row {
+            return false;
+        }
+    }
+    true
 }
 
 // A(2), A(1) with 7, B(1, 3) with 9.
@@ -204,227 +169,198 @@ fn refusal_of(
     }
 }
 
-// How many rows there are at s.
-fn count_at(alloc: Global, shard: &Shard, s: u64) -> Result<usize, Refusal> {
-    Ok(shard.snapshot(alloc, &whole(alloc)?, s)?.len())
+// Whether the rows at s are these, in this order.
+fn is_seen(
+    alloc: Global,
+    shard: &Shard,
+    s: u64,
+    wanted: &[(&[u8], &[u8])],
+) -> Result<bool, Refusal> {
+    let range = whole(alloc)?;
+    let entries = shard.snapshot(alloc, &range, s)?;
+    Ok(are_entries(entries.as_slice(), wanted))
 }
+
+// The rows of `rows`, in the order of their keys.
+const ROWS: [(&[u8], &[u8]); 3] = [(&A1, &SEVEN), (&B13, &NINE), (&A2, &NULL)];
 
 /// Rows of both tables come in byte order of their keys, at and above the commit timestamp alone.
 #[test]
-fn committed(rt: HostRuntime) -> Result<(), Fail> {
+fn committed(rt: HostRuntime) -> Result<(), Refusal> {
     let alloc = rt.alloc();
-    let schema = family(alloc)?;
+    let schema = parse_schema(alloc, FAMILY)?;
     let shard = filled(alloc, &schema)?;
     assert_eq!(rt; shard.live(), 3);
-    assert_eq!(rt; count_at(alloc, &shard, 110)?, 0);
-    let entries = shard.snapshot(alloc, &whole(alloc)?, 111)?;
-    assert_eq!(rt; entries.len(), 3);
-    assert!(rt; is_entry(entries.as_slice(), 0, &A1, &SEVEN));
-    assert!(rt; is_entry(entries.as_slice(), 1, &B13, &NINE));
-    assert!(rt; is_entry(entries.as_slice(), 2, &A2, &NULL));
+    assert!(rt; is_seen(alloc, &shard, 110, &[])? && is_seen(alloc, &shard, 111, &ROWS)?);
     Ok(())
+}
+
+// Whether the rows at 111 from B(1, 3) on and before A(2) are these.
+fn is_seen_between(
+    alloc: Global,
+    shard: &Shard,
+    wanted: &[(&[u8], &[u8])],
+) -> Result<bool, Refusal> {
+    let range = KeyRange {
+        low: Key::from_slice(alloc, &B13)?,
+        high: Key::from_slice(alloc, &A2)?,
+    };
+    let entries = shard.snapshot(alloc, &range, 111)?;
+    Ok(are_entries(entries.as_slice(), wanted))
 }
 
 /// A range has its first key, and not the one that it ends before.
 #[test]
-fn ranges(rt: HostRuntime) -> Result<(), Fail> {
+fn ranges(rt: HostRuntime) -> Result<(), Refusal> {
     let alloc = rt.alloc();
-    let schema = family(alloc)?;
+    let schema = parse_schema(alloc, FAMILY)?;
     let shard = filled(alloc, &schema)?;
-    let part = KeyRange {
-        low: Key::from_slice(alloc, &B13)?,
-        high: Key::from_slice(alloc, &A2)?,
-    };
-    let entries = shard.snapshot(alloc, &part, 111)?;
-    assert_eq!(rt; entries.len(), 1);
-    assert!(rt; is_entry(entries.as_slice(), 0, &B13, &NINE));
+    assert!(rt; is_seen_between(alloc, &shard, &[(&B13, &NINE)])?);
     Ok(())
 }
 
 /// A prepared row is counted, and is no version yet; an aborted transaction leaves nothing.
 #[test]
-fn aborted(rt: HostRuntime) -> Result<(), Fail> {
+fn aborted(rt: HostRuntime) -> Result<(), Refusal> {
     let alloc = rt.alloc();
-    let schema = family(alloc)?;
+    let schema = parse_schema(alloc, FAMILY)?;
     let first = rows(alloc, &schema)?;
     let mut shard = Shard::new(alloc);
     shard.prepare(alloc, &schema, 1, first.mutations())?;
     assert_eq!(rt; shard.live(), 3);
-    assert_eq!(rt; count_at(alloc, &shard, u64::MAX)?, 0);
+    assert!(rt; is_seen(alloc, &shard, u64::MAX, &[])?);
     shard.apply(1, None);
     assert_eq!(rt; shard.live(), 0);
     Ok(())
 }
 
+// The shard with these rows at 111, after a transaction of these mutations at 222.
+fn changed(alloc: Global, schema: &Schema, asked: &[Asked<'_>]) -> Result<Shard, Refusal>
+    ensures { IfOk result (λ shard. IsIdleBefore 223 shard) }
+{
+    let mut shard = filled(alloc, schema)?;
+    let second = transaction(alloc, schema, asked)?;
+    run(alloc, schema, &mut shard, 2, &second, 222)?;
+    Ok(shard)
+}
+
+const DELETE_A1: Asked<'static> = (MutationKind::Delete, "A", &[1], None);
+
+const INSERT_A1: Asked<'static> = (MutationKind::Insert, "A", &[1], Some(9));
+
+const A2_ALONE: [(&[u8], &[u8]); 1] = [(&A2, &NULL)];
+
 /// A Delete takes the rows below with it; what was seen before is seen as before, and other directories stay.
 #[test]
-fn cascade(rt: HostRuntime) -> Result<(), Fail> {
+fn cascade(rt: HostRuntime) -> Result<(), Refusal> {
     let alloc = rt.alloc();
-    let schema = family(alloc)?;
-    let mut shard = filled(alloc, &schema)?;
-    change(
-        alloc,
-        &schema,
-        &mut shard,
-        222,
-        (MutationKind::Delete, "A", &[1], None),
-    )?;
+    let schema = parse_schema(alloc, FAMILY)?;
+    let shard = changed(alloc, &schema, &[DELETE_A1])?;
     assert_eq!(rt; shard.live(), 5);
-    assert_eq!(rt; count_at(alloc, &shard, 221)?, 3);
-    let entries = shard.snapshot(alloc, &whole(alloc)?, 222)?;
-    assert_eq!(rt; entries.len(), 1);
-    assert!(rt; is_entry(entries.as_slice(), 0, &A2, &NULL));
+    assert!(rt; is_seen(alloc, &shard, 221, &ROWS)? && is_seen(alloc, &shard, 222, &A2_ALONE)?);
     Ok(())
 }
 
 /// A row is deleted with those below it, made again, and deleted again in one transaction: what is there last counts.
 #[test]
-fn deleted_again(rt: HostRuntime) -> Result<(), Fail> {
+fn deleted_again(rt: HostRuntime) -> Result<(), Refusal> {
     let alloc = rt.alloc();
-    let schema = family(alloc)?;
-    let mut shard = filled(alloc, &schema)?;
-    let second = transaction(
-        alloc,
-        &schema,
-        &[
-            (MutationKind::Delete, "A", &[1], None),
-            (MutationKind::Insert, "A", &[1], Some(9)),
-            (MutationKind::Insert, "B", &[1, 3], Some(7)),
-            (MutationKind::Delete, "A", &[1], None),
-            (MutationKind::Insert, "A", &[1], Some(9)),
-        ],
-    )?;
-    run(alloc, &schema, &mut shard, 2, &second, 222)?;
+    let schema = parse_schema(alloc, FAMILY)?;
+    let insert_b = (MutationKind::Insert, "B", [1, 3].as_slice(), Some(7));
+    let asked = [DELETE_A1, INSERT_A1, insert_b, DELETE_A1, INSERT_A1];
+    let shard = changed(alloc, &schema, &asked)?;
     // A(1) has another row, and B(1, 3) a deletion.
     assert_eq!(rt; shard.live(), 5);
-    assert_eq!(rt; count_at(alloc, &shard, 221)?, 3);
-    let entries = shard.snapshot(alloc, &whole(alloc)?, 222)?;
-    assert_eq!(rt; entries.len(), 2);
-    assert!(rt; is_entry(entries.as_slice(), 0, &A1, &NINE));
-    assert!(rt; is_entry(entries.as_slice(), 1, &A2, &NULL));
+    let after: [(&[u8], &[u8]); 2] = [(&A1, &NINE), (&A2, &NULL)];
+    assert!(rt; is_seen(alloc, &shard, 221, &ROWS)? && is_seen(alloc, &shard, 222, &after)?);
     Ok(())
 }
 
 /// Rows that are deleted and made again as they were have no new versions.
 #[test]
-fn made_again(rt: HostRuntime) -> Result<(), Fail> {
+fn made_again(rt: HostRuntime) -> Result<(), Refusal> {
     let alloc = rt.alloc();
-    let schema = family(alloc)?;
-    let mut shard = filled(alloc, &schema)?;
-    let second = transaction(
-        alloc,
-        &schema,
-        &[
-            (MutationKind::Delete, "A", &[1], None),
-            (MutationKind::Delete, "A", &[1], None),
-            (MutationKind::Insert, "A", &[1], Some(7)),
-            (MutationKind::Insert, "B", &[1, 3], Some(9)),
-        ],
-    )?;
-    run(alloc, &schema, &mut shard, 2, &second, 222)?;
+    let schema = parse_schema(alloc, FAMILY)?;
+    let insert_a = (MutationKind::Insert, "A", [1].as_slice(), Some(7));
+    let insert_b = (MutationKind::Insert, "B", [1, 3].as_slice(), Some(9));
+    let shard = changed(alloc, &schema, &[DELETE_A1, DELETE_A1, insert_a, insert_b])?;
     assert_eq!(rt; shard.live(), 3);
-    assert_eq!(rt; count_at(alloc, &shard, 222)?, 3);
+    assert!(rt; is_seen(alloc, &shard, 222, &ROWS)?);
     Ok(())
 }
 
 /// A row that stays as it was has no new version.
 #[test]
-fn unchanged(rt: HostRuntime) -> Result<(), Fail> {
+fn unchanged(rt: HostRuntime) -> Result<(), Refusal> {
     let alloc = rt.alloc();
-    let schema = family(alloc)?;
-    let mut shard = filled(alloc, &schema)?;
-    change(
-        alloc,
-        &schema,
-        &mut shard,
-        222,
-        (MutationKind::Update, "A", &[1], Some(7)),
-    )?;
-    assert_eq!(rt; shard.live(), 3);
-    change(
-        alloc,
-        &schema,
-        &mut shard,
-        333,
-        (MutationKind::Update, "B", &[1, 3], Some(7)),
-    )?;
-    assert_eq!(rt; shard.live(), 4);
+    let schema = parse_schema(alloc, FAMILY)?;
+    let same = (MutationKind::Update, "A", [1].as_slice(), Some(7));
+    assert_eq!(rt; changed(alloc, &schema, &[same])?.live(), 3);
+    let other = (MutationKind::Update, "B", [1, 3].as_slice(), Some(7));
+    assert_eq!(rt; changed(alloc, &schema, &[other])?.live(), 4);
     Ok(())
 }
 
 /// A fault leaves all as it was.
 #[test]
-fn faults(rt: HostRuntime) -> Result<(), Fail> {
+fn faults(rt: HostRuntime) -> Result<(), Refusal> {
     let alloc = rt.alloc();
-    let schema = family(alloc)?;
+    let schema = parse_schema(alloc, FAMILY)?;
     let mut shard = filled(alloc, &schema)?;
-    let twice = refusal_of(
-        alloc,
-        &schema,
-        &mut shard,
-        222,
-        (MutationKind::Insert, "A", &[1], None),
-    )?;
-    assert_eq!(rt; twice, Some(Refusal::Exists));
-    let alone = refusal_of(
-        alloc,
-        &schema,
-        &mut shard,
-        333,
-        (MutationKind::Insert, "B", &[3, 3], None),
-    )?;
-    assert_eq!(rt; alone, Some(Refusal::ParentMissing));
-    assert_eq!(rt; shard.live(), 3);
+    let twice = (MutationKind::Insert, "A", [1].as_slice(), None);
+    let refused = refusal_of(alloc, &schema, &mut shard, 222, twice)?;
+    assert_eq!(rt; refused, Some(Refusal::Exists));
+    let alone = (MutationKind::Insert, "B", [3, 3].as_slice(), None);
+    let refused = refusal_of(alloc, &schema, &mut shard, 333, alone)?;
+    assert_eq!(rt; refused, Some(Refusal::ParentMissing));
+    assert!(rt; shard.live() == 3 && is_seen(alloc, &shard, 400, &ROWS)?);
     Ok(())
 }
 
 /// A trim below a deletion keeps what it deleted; at the deletion both go, and what is seen there stays.
 #[test]
-fn trimmed(rt: HostRuntime) -> Result<(), Fail> {
+fn trimmed(rt: HostRuntime) -> Result<(), Refusal> {
     let alloc = rt.alloc();
-    let schema = family(alloc)?;
-    let mut shard = filled(alloc, &schema)?;
-    change(
-        alloc,
-        &schema,
-        &mut shard,
-        222,
-        (MutationKind::Delete, "A", &[1], None),
-    )?;
-    assert_eq!(rt; shard.live(), 5);
+    let schema = parse_schema(alloc, FAMILY)?;
+    let mut shard = changed(alloc, &schema, &[DELETE_A1])?;
     shard.trim(221);
-    assert_eq!(rt; shard.live(), 5);
-    assert_eq!(rt; count_at(alloc, &shard, 221)?, 3);
+    assert!(rt; shard.live() == 5 && is_seen(alloc, &shard, 221, &ROWS)?);
     shard.trim(222);
-    assert_eq!(rt; shard.live(), 1);
-    let entries = shard.snapshot(alloc, &whole(alloc)?, 222)?;
-    assert_eq!(rt; entries.len(), 1);
-    assert!(rt; is_entry(entries.as_slice(), 0, &A2, &NULL));
+    assert!(rt; shard.live() == 1 && is_seen(alloc, &shard, 222, &A2_ALONE)?);
     Ok(())
 }
 
 /// A trim above every timestamp keeps what is prepared, and each row's newest version.
 #[test]
-fn trimmed_while_prepared(rt: HostRuntime) -> Result<(), Fail> {
+fn trimmed_while_prepared(rt: HostRuntime) -> Result<(), Refusal> {
     let alloc = rt.alloc();
-    let schema = family(alloc)?;
+    let schema = parse_schema(alloc, FAMILY)?;
     let mut shard = filled(alloc, &schema)?;
-    let second = transaction(
-        alloc,
-        &schema,
-        &[
-            (MutationKind::Update, "A", &[1], Some(8)),
-            (MutationKind::Insert, "A", &[3], Some(9)),
-        ],
-    )?;
+    let update = (MutationKind::Update, "A", [1].as_slice(), Some(8));
+    let insert = (MutationKind::Insert, "A", [3].as_slice(), Some(9));
+    let second = transaction(alloc, &schema, &[update, insert])?;
     shard.prepare(alloc, &schema, 2, second.mutations())?;
     shard.trim(1000);
     assert_eq!(rt; shard.live(), 5);
     shard.apply(2, Some(2000));
-    assert_eq!(rt; shard.live(), 5);
-    assert_eq!(rt; count_at(alloc, &shard, 1999)?, 3);
-    assert_eq!(rt; count_at(alloc, &shard, 2000)?, 4);
+    assert!(rt; shard.live() == 5 && is_seen(alloc, &shard, 1999, &ROWS)?);
     shard.trim(2000);
     assert_eq!(rt; shard.live(), 4);
+    Ok(())
+}
+
+// What stays before A(2).
+const BEFORE_A2: [(&[u8], &[u8]); 2] = [(&A1, &SEVEN), (&B13, &NINE)];
+
+/// A shard is split at A(2): each part has its keys with all their versions.
+#[test]
+fn split_in_two(rt: HostRuntime) -> Result<(), Refusal> {
+    let alloc = rt.alloc();
+    let schema = parse_schema(alloc, FAMILY)?;
+    let mut shard = changed(alloc, &schema, &[DELETE_A1])?;
+    let part = shard.split(alloc, &A2)?;
+    assert!(rt; shard.live() == 4 && part.live() == 1);
+    assert!(rt; is_seen(alloc, &shard, 111, &BEFORE_A2)? && is_seen(alloc, &shard, 222, &[])?);
+    assert!(rt; is_seen(alloc, &part, 111, &A2_ALONE)? && is_seen(alloc, &part, 222, &A2_ALONE)?);
     Ok(())
 }

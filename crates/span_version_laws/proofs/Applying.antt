@@ -20,6 +20,7 @@ use Rattle.span_machine_laws.proofs.InPlace.{IsUnder, IsRising, commits_at, clai
 use Rattle.span_machine_laws.proofs.Claims.{left_slot}
 use Rattle.span_machine_laws.proofs.Reached.{IsReached}
 use Rattle.span_version_laws.specs.Kept.{IsCodedRoot, IsCodedCoding, is_under, MakeRows, HasRows, IsPut, IsPending, IsKeptBy, AreKept, with_change, directory_after, made, horizon_of}
+use Rattle.span_version_laws.proofs.FirstSlot.{placed_first}
 use Rattle.span_version_laws.proofs.Trimming.{kept_newest, is_same_of, not_same_of, made_push}
 use Rattle.span_version_laws.proofs.Keys.{same_key, applied_versions, applied_prepared, versions_at-applied, prepared_at-applied}
 use Rattle.span_version_laws.proofs.Claimers.{false_and, claimers_of, above_horizon}
@@ -170,7 +171,7 @@ module _ (schema : List Table) (m : Machine) (reached : IsReached schema m) (cs 
       → IsKeptBy schema root k (horizon_of m) (commits_at schema root m.log) (applied_versions t.number (Some ts) (prepared_at cs k) (versions_at cs k)) (applied_prepared t.number (prepared_at cs k)) (filter (claims schema root 0) (applied m owner txn 0 t))) [
         | false ↦ λ off. kept_of_others root is_root k under (Some ts) off
         | true ↦ λ is.
-            let place = reached.placed root (coded_root schema root is_root) in
+            let place = placed_first schema m reached root (coded_root schema root is_root) in
             let high : horizon_of m < ts = above_horizon schema m reached root (coded_root schema root is_root) t ts (found_in (is_transaction owner txn) m.transactions t found) (first_true (is_prepared_at 0 t) (is_some_of (filter (is_at schema root) t.mutations)) is) e in
             subst (IsKeptBy schema root k (horizon_of m) (commits_at schema root m.log) (applied_versions t.number (Some ts) (prepared_at cs k) (versions_at cs k)) (applied_prepared t.number (prepared_at cs k))) (sym (left root is_root is))
             (applied_pending schema root k (horizon_of m) (commits_at schema root m.log) (versions_at cs k) (prepared_at cs k) t ts place.rising high

@@ -1,5 +1,5 @@
 use Rattle.std.proofs.Common.{◌≡◌, ℕ, ◌<◌, ◌≤◌, Bool, true, false, cond, ◌&&◌, ◌||◌, ◌==◌, Option, List, [], ◌∷◌, ◌++◌, length, Some, refl, ap, sym, ◌∙◌, subst, arith}
-use Rattle.std.specs.Prelude.{slice_get, find, filter}
+use Rattle.std.specs.Prelude.{find, filter}
 use Rattle.std.proofs.lemmas.List.Elements.{filter-append}
 use Rattle.span_machine.specs.declared.slot.SlotState.{SlotState}
 use Rattle.span_machine.specs.declared.transaction.OpenTransaction.{OpenTransaction}
@@ -16,7 +16,7 @@ use Rattle.span_machine_laws.proofs.Lists.{IsIn, all_in, split_found, both_nil}
 use Rattle.span_machine_laws.proofs.InPlace.{commits_at, claims, IsClaim}
 use Rattle.span_machine_laws.proofs.Claims.{alone}
 use Rattle.span_machine_laws.proofs.Reached.{IsReached}
-use Rattle.std.proofs.lemmas.Option.{slice_get_within}
+use Rattle.span_version_laws.proofs.FirstSlot.{first_slot_state, first_holds, placed_first}
 use Rattle.span_schema.specs.declared.table.Table.{Table}
 use Rattle.span_mutate.specs.Directories.{Root}
 use Rattle.span_machine_laws.proofs.Locality.{IsRoot}
@@ -29,21 +29,9 @@ pub false_and : (a b : Bool) → a ≡ false → (a && b) ≡ false
 false_and true b e = absurd (cc)
 false_and false b e = refl
 
-first_of_one : (slots : List SlotState) → length slots ≡ 1 → (b : SlotState) × (slice_get slots 0 ≡ Some b)
-first_of_one [] e = absurd (omega arith)
-first_of_one (b ∷ bs) e = (b, refl)
-
--- a reached machine has the state of slot 0
-pub first_slot_state : (schema : List Table) (m : Machine) → IsReached schema m → (b : SlotState) × (slice_get m.slots 0 ≡ Some b)
-first_slot_state schema m reached = first_of_one m.slots reached.sound.one_slot
-
--- slot 0 is the only one
-pub only_slot : (schema : List Table) (m : Machine) → IsReached schema m → (slot : ℕ) (slot_state : SlotState) → slice_get m.slots slot ≡ Some slot_state → slot ≡ 0
-only_slot schema m reached slot slot_state here = let within = slice_get_within m.slots slot slot_state here in let one = reached.sound.one_slot in omega arith
-
 -- at most one transaction claims a directory
 pub claim_here : (schema : List Table) (m : Machine) → IsReached schema m → (root : Root) → IsRoot schema root → (n : ℕ) × IsClaim schema root n (commits_at schema root m.log) (filter (claims schema root 0) m.transactions)
-claim_here schema m reached root is = let slot_state = first_slot_state schema m reached in (slot_state.0.last, (reached.placed root is).claim slot_state.0 slot_state.1)
+claim_here schema m reached root is = let slot_state = first_slot_state schema m reached in (slot_state.0.last, (placed_first schema m reached root is).claim slot_state.0 slot_state.1)
 
 -- the transactions that claim the directory, before and after the found one is changed or removed
 pub record Claimers (schema : List Table) (root : Root) (test : OpenTransaction → Bool) (ts : List OpenTransaction) (t : OpenTransaction) : Type 0 where
@@ -96,7 +84,8 @@ late s ts (p ∷ ps) = elim (p.slot == 0) as (λ v. (p.slot == 0) ≡ v → (v |
 pub above_horizon : (schema : List Table) (m : Machine) → IsReached schema m → (root : Root) → IsRoot schema root → (t : OpenTransaction) (ts : ℕ) → IsIn t m.transactions → is_prepared_at 0 t ≡ true → t.decision ≡ decision.Committed ts → horizon_of m < ts
 above_horizon schema m reached root is_root t ts at prepared committed =
     let slot_state = first_slot_state schema m reached in
-    let seal = reached.horizons.sealed 0 slot_state.0 slot_state.1 root is_root in
-    let above = all_in (IsAbove slot_state.0.horizon 0) m.transactions t at (seal.prepared 0 slot_state.0 slot_state.1 refl) in
+    let held = first_holds schema m reached slot_state.0 slot_state.1 root in
+    let seal = reached.horizons.sealed 0 slot_state.0 slot_state.1 root is_root held in
+    let above = all_in (IsAbove slot_state.0.horizon 0) m.transactions t at (seal.prepared 0 slot_state.0 slot_state.1 held) in
     let upto : AllByRecursion (λ (p : Prepared). p.timestamp ≤ ts) t.prepared = subst (λ o. IsUpto o t.prepared) committed (all_in (IsHolding (length m.slots)) m.transactions t at reached.holding).timely in
     subst (λ (h : ℕ). h < ts) (sym (ap (λ (o : Option SlotState). if_some o 0 (λ (b : SlotState). b.horizon)) slot_state.1)) (late slot_state.0.horizon ts t.prepared prepared above upto)

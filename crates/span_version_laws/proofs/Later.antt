@@ -23,6 +23,7 @@ use Rattle.span_machine_laws.proofs.Lists.{found_passes, all_found}
 use Rattle.span_machine_laws.proofs.InPlace.{IsUnder, IsRising, commits_at, claims}
 use Rattle.span_machine_laws.proofs.Reached.{IsReached}
 use Rattle.span_version_laws.specs.Kept.{IsCodedRoot, IsCodedCoding, is_under, with_change, directory_after, made_from, made, IsPending, AreKept, horizon_of}
+use Rattle.span_version_laws.proofs.FirstSlot.{placed_first}
 use Rattle.span_version_laws.proofs.Keys.{all_by_key}
 use Rattle.span_version_laws.proofs.Roots.{coded_root, root_of_coding}
 use Rattle.span_version_laws.proofs.Rows.{rising_front, not_of_others, others_apart}
@@ -89,7 +90,7 @@ module _ (schema : List Table) (rules : MeetsRules schema) (m : Machine) (reache
   later_at : (ts : ℕ) → t.decision ≡ decision.Committed ts → (root : Root) (is_root : IsCodedRoot schema root) (k : List ℕ) (under : is_under schema root k ≡ true) → IsLaterWrite t.number ts (versions_at cs k) (prepared_at cs k)
   later_at ts e root is_root k under = elim (claims schema root 0 t) as (λ v. claims schema root 0 t ≡ v → IsLaterWrite t.number ts (versions_at cs k) (prepared_at cs k)) [
     | true ↦ (λ is. of_write t.number ts (versions_at cs k) (prepared_at cs k) (later_pending schema root k (horizon_of m) (commits_at schema root m.log) (versions_at cs k) (prepared_at cs k) t ts
-        (reached.placed root (coded_root schema root is_root)).rising
+        (placed_first schema m reached root (coded_root schema root is_root)).rising
         (kept_under schema m reached cs kept root is_root k under (is_transaction owner txn) t (decision.Committed ts) found is e)))
     | false ↦ (λ off. of_others t.number ts (versions_at cs k) (prepared_at cs k)
         (not_of_others schema root k (horizon_of m) (commits_at schema root m.log) (versions_at cs k) (prepared_at cs k) (filter (claims schema root 0) m.transactions) t.number (kept.kept root is_root k under)

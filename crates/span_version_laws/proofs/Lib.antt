@@ -1,6 +1,8 @@
 pub mod Keys
+pub mod FirstSlot
 pub mod Claimers
 pub mod Roots
+pub mod Cuts
 pub mod Steps
 pub mod Trimming
 pub mod Rows

@@ -26,14 +26,15 @@ use Rattle.span_shard.specs.Versions.{kept_version, kept_upto}
 use Rattle.span_shard.specs.Shard.{AreInOrder, is_key, versions_of, prepared_of, versions_at, prepared_at, kept_of, live}
 use Rattle.span_shard.proofs.Bytes.{bytes_same, front_begins}
 use Rattle.span_shard.proofs.Lists.{all_append, all_filter_itself, any_all, none_any}
+use Rattle.span_machine.specs.declared.slot.SlotState.{SlotState}
 use Rattle.span_machine.specs.declared.transaction.Commit.{Commit}
 use Rattle.span_machine.specs.declared.transaction.OpenTransaction.{OpenTransaction}
 use Rattle.span_machine.specs.declared.transaction.Decision.{Decision}
 use Rattle.span_machine.specs.declared.transaction.Decision.TheVariants as decision
 use Rattle.span_machine.specs.Sorting.{in_order}
 use Rattle.span_machine.specs.Tables.{is_before, mutations_of}
-use Rattle.span_machine.specs.Machine.{Machine, is_at, is_prepared_at, commit_of}
-use Rattle.span_machine.specs.Kept.{Change, put_at, deletion_at, is_same, has_same_key, changes_between, ok_or, after_mutations, changes_from, changes_of, database_after, database_of, is_kept, kept, is_committed, count_prepared_changes, live as live_by_log}
+use Rattle.span_machine.specs.Machine.{Machine, if_some, is_at, is_prepared_at, commit_of}
+use Rattle.span_machine.specs.Kept.{Change, put_at, deletion_at, is_same, has_same_key, changes_between, ok_or, after_mutations, changes_from, changes_of, database_after, database_of, is_kept, kept, is_committed, live as slot_live}
 use Rattle.span_machine_laws.proofs.Tests.{first_true, both_of}
 use Rattle.span_machine_laws.proofs.Lists.{IsIn, kept_in, all_in, all_found, all_filtered}
 use Rattle.span_machine_laws.proofs.Locality.{IsRoot, own_root, apply-succeeds, apply-directory, empty_database, ok_same}
@@ -43,7 +44,8 @@ use Rattle.span_machine_laws.proofs.InPlace.{commits_at, claims, IsClaim, front_
 use Rattle.span_machine_laws.proofs.Claims.{some_any, all_kept}
 use Rattle.span_machine_laws.proofs.Schemas.{IsBegunBy, IsCommitBy, keyed_all, keyed_upto}
 use Rattle.span_machine_laws.proofs.Reached.{IsReached}
-use Rattle.span_version_laws.specs.Kept.{IsCodedRoot, IsCodedCoding, is_under, with_change, directory_after, made_from, made, HasRows, IsPut, IsPreparedBy, IsPending, IsKeptUnder, IsKeptBy, horizon_of, AreKept}
+use Rattle.span_version_laws.specs.Kept.{IsCodedRoot, IsCodedCoding, is_under, with_change, directory_after, made_from, made, HasRows, IsPut, IsPreparedBy, IsPending, IsKeptUnder, IsKeptBy, horizon_in, horizon_of, AreKept}
+use Rattle.span_version_laws.proofs.FirstSlot.{live_by_log, count_prepared, live_whole, first_range, placed_first}
 use Rattle.span_version_laws.proofs.Keys.{all_by_key}
 use Rattle.span_version_laws.proofs.Claimers.{claim_here, above_horizon}
 use Rattle.span_version_laws.proofs.Roots.{coded_root, coded_root_at, root_of_coding, coded_in_directory}
@@ -113,13 +115,13 @@ all_prepared schema db slot [] = []
 all_prepared schema db slot (t ∷ ts) = changes_prepared schema db slot t ++ all_prepared schema db slot ts
 
 -- they are as many as are counted
-prepared_length : (schema : List Table) (db : List TableRow) (slot : ℕ) (ts : List OpenTransaction) → length (all_prepared schema db slot ts) ≡ sum_by (count_prepared_changes schema db slot) ts
+prepared_length : (schema : List Table) (db : List TableRow) (slot : ℕ) (ts : List OpenTransaction) → length (all_prepared schema db slot ts) ≡ sum_by (count_prepared schema db slot) ts
 prepared_length schema db slot [] = refl
 prepared_length schema db slot (t ∷ ts) =
     length-append (changes_prepared schema db slot t) (all_prepared schema db slot ts)
     ∙ ap (λ (n : ℕ). n + length (all_prepared schema db slot ts)) (one (is_prepared_at slot t && not (is_committed t.decision)))
-    ∙ ap (λ (n : ℕ). count_prepared_changes schema db slot t + n) (prepared_length schema db slot ts)
-    ∙ sym (sum_by-cons (count_prepared_changes schema db slot) t ts)
+    ∙ ap (λ (n : ℕ). count_prepared schema db slot t + n) (prepared_length schema db slot ts)
+    ∙ sym (sum_by-cons (count_prepared schema db slot) t ts)
   where
     one : (b : Bool) → length (cond b (changes_between schema 0 db (after_mutations schema db t.mutations)) []) ≡ cond b (length (changes_between schema 0 db (after_mutations schema db t.mutations))) 0
     one true = refl
@@ -164,7 +166,7 @@ not_empty (y ∷ ys) x at e = omega arith
 -- the log's mutations have whole keys
 log_keyed : (schema : List Table) (m : Machine) → IsReached schema m → (root : Root) → IsRoot schema root → AreKeyed schema (mutations_of (in_order is_before m.log))
 log_keyed schema m reached root is_root =
-    subst (λ (l : List Commit). AreKeyed schema (mutations_of (in_order is_before l))) (all_kept (timestamp_end - 1) m.log (reached.placed root is_root).in_range refl) (keyed_upto schema m.log (timestamp_end - 1) reached.by_schema.log)
+    subst (λ (l : List Commit). AreKeyed schema (mutations_of (in_order is_before l))) (all_kept (timestamp_end - 1) m.log (placed_first schema m reached root is_root).in_range refl) (keyed_upto schema m.log (timestamp_end - 1) reached.by_schema.log)
 
 -- one that claims it is the only one
 one_claims : (schema : List Table) (m : Machine) → IsReached schema m → (root : Root) → IsRoot schema root → (t : OpenTransaction) → IsIn t m.transactions → claims schema root 0 t ≡ true → filter (claims schema root 0) m.transactions ≡ t ∷ []
@@ -201,7 +203,7 @@ module _ (schema : List Table) (rules : MeetsRules schema) (m : Machine) (cs : L
   directory_now root is_root =
       let log = log_made schema rules m reached root is_root in
       let order : filter (touches schema root) (in_order is_before m.log) ≡ commits_at schema root m.log =
-      filter-in_order is_before is_before-order (touches schema root) m.log ∙ in_order_rising (commits_at schema root m.log) (reached.placed root (coded_root schema root is_root)).rising in
+      filter-in_order is_before is_before-order (touches schema root) m.log ∙ in_order_rising (commits_at schema root m.log) (placed_first schema m reached root (coded_root schema root is_root)).rising in
       ap (apply schema []) (ap (changes_at schema root) (sym order) ∙ changes_at-filter schema root (in_order is_before m.log))
       ∙ apply-directory schema rules (mutations_of (in_order is_before m.log)) [] now root (coded_root schema root is_root) (empty_database schema) (log_keyed schema m reached root (coded_root schema root is_root)) log.made
 
@@ -294,7 +296,7 @@ module _ (schema : List Table) (rules : MeetsRules schema) (m : Machine) (cs : L
     kept_of_log =
         ap length (kept_at_key (horizon_of m) k (changes_of schema m.log))
         ∙ ap (λ (l : List Change). length (kept (horizon_of m) l)) (changes_of_key schema rules m reached root is_root k under)
-        ∙ kept_count (horizon_of m) (changes_made schema root k (commits_at schema root m.log)) (changes_rise schema root k [] (commits_at schema root m.log) (reached.placed root (coded_root schema root is_root)).rising)
+        ∙ kept_count (horizon_of m) (changes_made schema root k (commits_at schema root m.log)) (changes_rise schema root k [] (commits_at schema root m.log) (placed_first schema m reached root (coded_root schema root is_root)).rising)
         ∙ ap (λ (vs : List Version). length (kept_upto (horizon_of m) vs)) (sym (made_is schema root k (commits_at schema root m.log)))
 
     -- the changes prepared at the key
@@ -486,7 +488,15 @@ module _ (schema : List Table) (rules : MeetsRules schema) (m : Machine) (cs : L
   pub live_count : live cs ≡ live_by_log schema m.log m.transactions 0 (horizon_of m)
   live_count = live_by_keys schema cs are_kept.keys are_kept.coded counted_changes all_coded count_at ∙ counted_length
 
+-- the horizon of slot 0
+pub horizon_at : (slots : List SlotState) (slot_state : SlotState) → slice_get slots 0 ≡ Some slot_state → horizon_in slots ≡ slot_state.horizon
+horizon_at slots slot_state here = ap (λ (o : Option SlotState). if_some o 0 (λ (b : SlotState). b.horizon)) here
+
 -- The versions in the shard, prepared ones included, are as many as the changes of the log that are kept at the horizon and those that
 -- transactions have prepared which are not committed.
-pub live_is_kept : (schema : List Table) → MeetsRules schema → (m : Machine) (cs : List KeyVersions) → IsReached schema m → AreKept schema m cs → live cs ≡ live_by_log schema m.log m.transactions 0 (horizon_of m)
-live_is_kept schema rules m cs reached are_kept = live_count schema rules m cs reached are_kept
+pub live_is_kept : (schema : List Table) → MeetsRules schema → (m : Machine) (cs : List KeyVersions) (slot_state : SlotState) → IsReached schema m → AreKept schema m cs → slice_get m.slots 0 ≡ Some slot_state
+    → live cs ≡ slot_live schema m.log m.transactions 0 slot_state
+live_is_kept schema rules m cs slot_state reached are_kept here =
+    live_count schema rules m cs reached are_kept
+    ∙ ap (live_by_log schema m.log m.transactions 0) (horizon_at m.slots slot_state here)
+    ∙ live_whole schema slot_state (first_range schema m reached slot_state here) m.log m.transactions 0

@@ -45,6 +45,7 @@ use Rattle.span_machine_laws.proofs.Claims.{unclaimed, all_held, all_kept, under
 use Rattle.span_machine_laws.proofs.Schemas.{IsBegunBy, keyed_upto, typed_upto, keyed_in, typed_in}
 use Rattle.span_machine_laws.proofs.Reached.{IsReached, reached_tables}
 use Rattle.span_version_laws.specs.Kept.{IsCodedRoot, IsCodedCoding, is_under, HasRows, IsPut, IsKeptUnder, IsKeptBy, AreKept, horizon_of}
+use Rattle.span_version_laws.proofs.FirstSlot.{live_by_log, live_whole, first_range, placed_first}
 use Rattle.span_version_laws.proofs.Keys.{all_by_key, prepared_by, versions_at-with_writes, prepared_at-with_writes}
 use Rattle.span_version_laws.proofs.Claimers.{and_false, false_and, claimers_of}
 use Rattle.span_version_laws.proofs.Roots.{coded_root, coded_root_at, root_of_coding, coding_of_row, coded_in_directory}
@@ -52,7 +53,7 @@ use Rattle.span_version_laws.proofs.Steps.{horizon_set}
 use Rattle.span_version_laws.proofs.Trimming.{not_same_of}
 use Rattle.span_version_laws.proofs.Counting.{is_at_key}
 use Rattle.span_version_laws.proofs.Changes.{change_at, change_none, changes_at_key, IsTypedDatabase, apart_of, typed_after, after_is, log_made}
-use Rattle.span_version_laws.proofs.Live.{IsOfKey, coded_between, live_by_keys, counted_changes, count_at, all_coded, counted_length}
+use Rattle.span_version_laws.proofs.Live.{IsOfKey, coded_between, live_by_keys, counted_changes, count_at, all_coded, counted_length, horizon_at}
 use Rattle.span_shard.proofs.Lists.{all_append}
 use Rattle.std.proofs.lemmas.List.{length-append}
 use Rattle.std.proofs.lemmas.List.Elements.{filter-append}
@@ -222,7 +223,7 @@ module _ (schema : List Table) (rules : MeetsRules schema) (m : Machine) (reache
   prepare_well ws says = faults_on ∙ ap refusal_of (says made.0 made_database made_typed made_now).1
 
   whole : (root : Root) → IsCodedRoot schema root → filter (is_at schema root) (mutations_in schema slot_state t.mutations) ≡ filter (is_at schema root) t.mutations
-  whole root is = all_held schema root (coded_root schema root is) slot_state t.mutations ((reached.placed root (coded_root schema root is)).held slot_state here)
+  whole root is = all_held schema root (coded_root schema root is) slot_state t.mutations ((placed_first schema m reached root (coded_root schema root is)).held slot_state here)
 
   module _ (ws : List Write) (says : Changes ws) where
     abbrev after : List TableRow
@@ -250,7 +251,7 @@ module _ (schema : List Table) (rules : MeetsRules schema) (m : Machine) (reache
     -- the directory after its commits
     now_is : (root : Root) → IsCodedRoot schema root → apply schema [] (changes_at schema root (commits_at schema root m.log)) ≡ Ok (directory schema root made.0)
     now_is root is =
-        let place = reached.placed root (coded_root schema root is) in
+        let place = placed_first schema m reached root (coded_root schema root is) in
         sym (ap (apply schema []) (changes_at-upto schema root m.log (timestamp_end - 1) place.rising
         ∙ ap (changes_at schema root) (all_kept (timestamp_end - 1) (commits_at schema root m.log) (under_filter timestamp_end (touches schema root) m.log place.in_range) refl)))
         ∙ apply-directory schema rules (mutations_of (upto m.log (timestamp_end - 1))) [] made.0 root (coded_root schema root is) (empty_database schema) (keyed_upto schema m.log (timestamp_end - 1) reached.by_schema.log) made.1
@@ -325,7 +326,7 @@ module _ (schema : List Table) (rules : MeetsRules schema) (m : Machine) (reache
     all_made : made.0 ≡ database_of schema m.log
     all_made =
         let root = some_root in
-        let all : filter (λ (c : Commit). nat_le c.timestamp (timestamp_end - 1)) m.log ≡ m.log = all_kept (timestamp_end - 1) m.log (reached.placed root.0 (coded_root schema root.0 root.1)).in_range refl in
+        let all : filter (λ (c : Commit). nat_le c.timestamp (timestamp_end - 1)) m.log ≡ m.log = all_kept (timestamp_end - 1) m.log (placed_first schema m reached root.0 (coded_root schema root.0 root.1)).in_range refl in
         ok_same (sym made.1 ∙ ap (λ (l : List Commit). apply schema [] (mutations_of (in_order is_before l))) all ∙ (log_made schema rules m reached root.0 root.1).made)
 
     -- what the mutations change of them
@@ -377,12 +378,12 @@ module _ (schema : List Table) (rules : MeetsRules schema) (m : Machine) (reache
         omega arith
 
     -- with the writes prepared there are as many versions as the machine counts
-    pub live_prepared : live (with_writes txn ws cs) ≡ live_with schema m.log m.transactions 0 (horizon_of m) (mutations_in schema slot_state t.mutations)
+    pub live_prepared : live (with_writes txn ws cs) ≡ live_with schema m.log m.transactions 0 slot_state (mutations_in schema slot_state t.mutations)
     live_prepared =
         let its : count_changes schema (database_of schema m.log) (mutations_in schema slot_state t.mutations) ≡ length its_changes =
         ap (λ (db : List TableRow). count_changes schema db (mutations_in schema slot_state t.mutations)) (sym all_made)
         ∙ ap (λ (db : List TableRow). length (changes_between schema 0 made.0 db)) (after_is schema made.0 after (mutations_in schema slot_state t.mutations) applies) in
-        let counted = counted_length schema rules m cs reached kept in
+        let counted = counted_length schema rules m cs reached kept ∙ ap (live_by_log schema m.log m.transactions 0) (horizon_at m.slots slot_state here) ∙ live_whole schema slot_state (first_range schema m reached slot_state here) m.log m.transactions 0 in
         live_by_keys schema (with_writes txn ws cs) (in_order_with_writes txn ws cs kept.keys) (coded_with_writes schema txn ws cs writes_coded kept.coded) (counted_changes schema rules m cs reached kept ++ its_changes)
         (all_append (IsOfKey schema) (counted_changes schema rules m cs reached kept) its_changes (all_coded schema rules m cs reached kept) (coded_between schema 0 made.0 after made_typed after_typed)) each_prepared
         ∙ length-append (counted_changes schema rules m cs reached kept) its_changes

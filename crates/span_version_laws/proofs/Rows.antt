@@ -35,6 +35,7 @@ use Rattle.span_machine_laws.proofs.Numbers.{same_number}
 use Rattle.span_machine_laws.proofs.Schemas.{keyed_upto}
 use Rattle.span_machine_laws.proofs.Reached.{IsReached}
 use Rattle.span_version_laws.specs.Kept.{IsCodedRoot, is_under, MakeRows, HasRows, IsKeptUnder, IsKeptBy, AreKept, made, horizon_of}
+use Rattle.span_version_laws.proofs.FirstSlot.{placed_first}
 use Rattle.span_version_laws.proofs.Trimming.{row_kept_all, made_upto}
 use Rattle.span_version_laws.proofs.Roots.{coded_root, coded_in_directory}
 use Rattle.span_version_laws.proofs.Steps.{open_of_put}
@@ -152,14 +153,14 @@ row_of_tables schema rules m reached root is k under s row db typed has made =
     let tabled : apply schema [] (changes_at schema root (upto m.log s)) ≡ Ok (directory schema root db) =
     apply-directory schema rules (mutations_of (upto m.log s)) [] db root (coded_root schema root is) (empty_database schema) (keyed_upto schema m.log s reached.by_schema.log) made in
     let same : has.0 ≡ directory schema root db =
-    ok_same (sym has.1 ∙ ap (apply schema []) (sym (changes_at-upto schema root m.log s (reached.placed root (coded_root schema root is)).rising)) ∙ tabled) in
+    ok_same (sym has.1 ∙ ap (apply schema []) (sym (changes_at-upto schema root m.log s (placed_first schema m reached root (coded_root schema root is)).rising)) ∙ tabled) in
     sym has.2 ∙ ap (λ (l : List TableRow). row_coded schema l k) same ∙ coded_in_directory schema rules root is k under db typed
 
 -- the newest row of a key of a directory that no transaction claims is that of the tables
 pub row_now_of_tables : (schema : List Table) → MeetsRules schema → (m : Machine) (cs : List KeyVersions) (root : Root) (is : IsCodedRoot schema root) (k : List ℕ) (under : is_under schema root k ≡ true) (db : List TableRow) → IsReached schema m → AreKept schema m cs
     → AreTyped schema db → filter (claims schema root 0) m.transactions ≡ [] → tables schema m.log (timestamp_end - 1) ≡ Ok db → row_now cs k ≡ row_coded schema db k
 row_now_of_tables schema rules m cs root is k under db reached kept typed empty made_db =
-    let place = reached.placed root (coded_root schema root is) in
+    let place = placed_first schema m reached root (coded_root schema root is) in
     let has : HasRows schema root k (horizon_of m) (commits_at schema root m.log) (versions_at cs k) =
     (subst (IsKeptBy schema root k (horizon_of m) (commits_at schema root m.log) (versions_at cs k) (prepared_at cs k)) empty (kept.kept root is k under)).1 in
     let below : IsUnder timestamp_end (commits_at schema root m.log) = under_filter timestamp_end (touches schema root) m.log place.in_range in

@@ -33,6 +33,7 @@ use Rattle.span_machine_laws.proofs.Claims.{commits_at-push, prepared_root, none
 use Rattle.span_machine_laws.proofs.Walks.{MayRefuse, Ends, answer_by}
 use Rattle.span_machine_laws.proofs.Reached.{IsReached}
 use Rattle.span_version_laws.specs.Kept.{IsCodedRoot, is_under, IsPut, IsPending, IsKeptUnder, IsKeptBy, AreKept, horizon_in, horizon_of}
+use Rattle.span_version_laws.proofs.FirstSlot.{placed_first}
 use Rattle.span_version_laws.proofs.Claimers.{and_false, false_and, claimers_of}
 use Rattle.span_schema.specs.declared.table.Table.{Table}
 use Rattle.span_mutate.specs.Directories.{Root}
@@ -127,7 +128,7 @@ module _ (schema : List Table) (m : Machine) (reached : IsReached schema m) (cs 
             (subst (IsKeptBy schema root k (horizon_of m) (commits_at schema root m.log) (versions_at cs k) (prepared_at cs k)) (sym (them.away (with_decision (decision.Committed ts)) off off)) (kept.kept root is_root k under))
         | true ↦ λ e.
             let all : list_all (is_prepared_for schema m t) t.mutations ≡ true = second_true (not (length t.prepared == 0)) (list_all (is_prepared_for schema m t) t.mutations) ready in
-            let ready_at = prepared_root schema root (coded_root schema root is_root) m 0 t (reached.placed root (coded_root schema root is_root)).only t.mutations e all in
+            let ready_at = prepared_root schema root (coded_root schema root is_root) m 0 t (placed_first schema m reached root (coded_root schema root is_root)).only t.mutations e all in
             let is : claims schema root 0 t ≡ true = both_of (is_prepared_at 0 t) (is_some_of (filter (is_at schema root) t.mutations)) ready_at.0 e in
             let more : commits_at schema root (m.log ++ commit_of ts t ∷ []) ≡ commits_at schema root m.log ++ commit_of ts t ∷ [] =
             commits_at-push schema root m.log (commit_of ts t) ∙ ap (λ b. commits_at schema root m.log ++ cond b (commit_of ts t ∷ []) []) e in

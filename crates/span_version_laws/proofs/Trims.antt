@@ -17,7 +17,7 @@ use Rattle.span_machine.specs.declared.transaction.Commit.{Commit}
 use Rattle.span_machine.specs.declared.transaction.OpenTransaction.{OpenTransaction}
 use Rattle.span_machine.specs.declared.transaction.Decision.{Decision}
 use Rattle.span_machine.specs.declared.transaction.Decision.TheVariants as decision
-use Rattle.span_machine.specs.Machine.{Machine, if_some, trimmed}
+use Rattle.span_machine.specs.Machine.{Machine, if_some, trimmed, with_horizon}
 use Rattle.span_machine_laws.proofs.InPlace.{commits_at, claims}
 use Rattle.span_version_laws.specs.Kept.{IsCodedCoding, HasRows, IsKeptUnder, IsKeptBy, AreKept, made, horizon_in, horizon_of}
 use Rattle.span_version_laws.proofs.Keys.{versions_at-trimmed, prepared_at-trimmed}
@@ -60,7 +60,7 @@ kept_trimmed schema m cs kept h slot_state here high = record {
   used = used_filtered (map (trimmed_key h) cs);
   coded = coded_trimmed schema h cs kept.coded;
   kept = λ root is k under.
-      subst (λ n. IsKeptBy schema root k n (commits_at schema root m.log) (versions_at (shard.trimmed h cs) k) (prepared_at (shard.trimmed h cs) k) (filter (claims schema root 0) m.transactions)) (sym (horizon_put m.slots slot_state (record slot_state { horizon = h }) here))
+      subst (λ n. IsKeptBy schema root k n (commits_at schema root m.log) (versions_at (shard.trimmed h cs) k) (prepared_at (shard.trimmed h cs) k) (filter (claims schema root 0) m.transactions)) (sym (horizon_put m.slots slot_state (with_horizon h slot_state) here))
       (subst (λ vs. IsKeptBy schema root k h (commits_at schema root m.log) vs (prepared_at (shard.trimmed h cs) k) (filter (claims schema root 0) m.transactions)) (sym (versions_at-trimmed h cs k kept.keys))
       (subst (λ p. IsKeptBy schema root k h (commits_at schema root m.log) (kept_upto h (versions_at cs k)) p (filter (claims schema root 0) m.transactions)) (sym (prepared_at-trimmed h cs k kept.keys))
       (by_trimmed schema root k (horizon_of m) h (subst (λ (n : ℕ). n ≤ h) (sym (horizon_here m.slots slot_state here)) high) (commits_at schema root m.log) (versions_at cs k) (prepared_at cs k) (filter (claims schema root 0) m.transactions) (kept.kept root is k under))));

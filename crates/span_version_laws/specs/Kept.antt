@@ -5,8 +5,8 @@ use Rattle.std.specs.Prelude.{filter, map, slice_get}
 use Rattle.std.specs.List.{AllByRecursion}
 use Rattle.span_value.specs.declared.value.Value.{Value}
 use Rattle.span_schema.specs.declared.table.Table.{Table}
-use Rattle.span_schema.specs.Numbers.{IsTable, root_of}
-use Rattle.span_keycode.specs.Keys.{IsCodedKey, key_code}
+use Rattle.span_schema.specs.Numbers.{IsTable}
+use Rattle.span_keycode.specs.Keys.{key_code}
 use Rattle.span_keycode.specs.Roots.{IsCoding}
 use Rattle.span_keycode.specs.Limits.{longest_key}
 use Rattle.span_mutate.specs.declared.mutation.CheckedMutation.{CheckedMutation}
@@ -35,12 +35,9 @@ use Rattle.span_machine.specs.Tables.{tables}
 use Rattle.span_machine.specs.Kept.{after_mutations}
 use Rattle.span_machine.specs.Machine.{Machine, if_some, is_at, commit_of}
 use Rattle.span_machine.specs.Pieces.{Pieced}
+pub use Rattle.span_machine.specs.Slots.{IsCodedRoot}
 use Rattle.span_machine_laws.proofs.Stability.{changes_at}
 use Rattle.span_machine_laws.proofs.InPlace.{commits_at, claims}
-
--- a root row: of a root table, with a key that has a coding
-abbrev pub IsCodedRoot : List Table → Root → Type 0
-IsCodedRoot schema root = (root_of schema root.table ≡ root.table) × IsCodedKey schema root.table root.key
 
 -- the coding of a key, that is not too long
 pub record IsCodedCoding (schema : List Table) (k : List ℕ) : Type 0 where

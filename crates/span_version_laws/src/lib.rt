@@ -6,7 +6,7 @@
 //! right (Covers). The crates with code cite these laws.
 #![tactic(auto)]
 
-ghost use Rattle.std.specs.Prelude.{◌≡◌, ◌≤◌, ℕ, List, Ok, true};
+ghost use Rattle.std.specs.Prelude.{◌≡◌, ◌≤◌, ℕ, List, Ok, Some, true, slice_get};
 ghost use Rattle.span_schema.specs.Lineages.{MeetsRules};
 ghost use Rattle.span_schema.specs.Numbers.{root_of};
 ghost use Rattle.span_schema.specs.declared.table.Table.{Table};
@@ -41,8 +41,9 @@ pub fn snapshots_are_tables()
 pub fn live_is_kept()
     ensures { (schema : List Table)
         → MeetsRules schema
-        → (m : Machine) (cs : List KeyVersions)
+        → (m : Machine) (cs : List KeyVersions) (slot_state : SlotState)
         → IsReached schema m
         → AreKept schema m cs
-        → live cs ≡ kept.live schema m.log m.transactions 0 (horizon_of m) }
+        → slice_get m.slots 0 ≡ Some slot_state
+        → live cs ≡ kept.live schema m.log m.transactions 0 slot_state }
 {}

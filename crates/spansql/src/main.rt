@@ -49,7 +49,16 @@ fn start<R: AllocGlobal + Print + Eprint + Env + Files + Clock>(
     let alloc = rt.alloc();
     let words: Vec<String> = env::args(rt)?.collect(alloc)?;
     let texts = lent_texts(alloc, words.as_slice())?;
-    match read_words(alloc, texts.as_slice()) {
+    do_order(rt, read_words(alloc, texts.as_slice()), is_watched)
+}
+
+/// Does an order, or writes why there is none.
+fn do_order<R: AllocGlobal + Print + Eprint + Files + Clock>(
+    rt: &R,
+    order: Result<Order<'_>, clap::Error>,
+    is_watched: bool,
+) -> Result<u8, Fault> {
+    match order {
         Ok(
             Order::Run {
                 schema,

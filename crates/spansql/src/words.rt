@@ -61,30 +61,27 @@ fn run_command<'a>(alloc: Global) -> Result<Command<'a>, AllocError>
     ensures app { IfOk result (λ command. app_of command ≡ run) }
     ensures local { IfOk result (λ command. (fields_of command).has_globals ≡ false) }
 {
-    let schema = file(
+    // Each argument is made where it goes in: to prove that others are dropped where memory runs out took half a minute.
+    let command = Command::new(alloc, "run").about(
+        "Runs a script over a new database, and writes the answers",
+    );
+    let command = command.arg(file(
         alloc,
         "schema",
         "SCHEMA",
         "The file with the schema of the database",
-    );
-    let script = file(alloc, "script", "SCRIPT", "The file with the script");
-    let explains = flag(
+    ))?;
+    let command = command.arg(file(alloc, "script", "SCRIPT", "The file with the script"))?;
+    let command = command.arg(flag(
         alloc,
         "explain-refusals",
         "Explains each refusal on standard error",
-    );
-    let progress = flag(
+    ))?;
+    command.arg(flag(
         alloc,
         "progress",
         "Shows progress on standard error, where that is a terminal",
-    );
-    let command = Command::new(alloc, "run").about(
-        "Runs a script over a new database, and writes the answers",
-    );
-    let command = command.arg(schema)?;
-    let command = command.arg(script)?;
-    let command = command.arg(explains)?;
-    command.arg(progress)
+    ))
 }
 
 /// An argument that is the name of a file, and must be there.

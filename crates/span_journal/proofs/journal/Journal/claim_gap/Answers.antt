@@ -11,6 +11,7 @@ use Rattle.span_machine.specs.declared.step.Reply.TheVariants as reply
 use Rattle.span_value.specs.declared.refusal.Refusal.TheVariants as refusal
 use Rattle.span_journal.proofs.Stepping.{scan_none, scan_no_leaf, scan_no_slot, scan_nothing, scan_trimmed, scan_waits, may_scan, is_below, is_not_below}
 use Rattle.span_journal.specs.Judged.{MayScan}
+use Rattle.span_journal.proofs.Ready.{whole_floor}
 use Rattle.span_journal.proofs.journal.Journal.claim_gap.Goals as goal
 
 pub returns-in_default-clause-refused : goal.returns-in_default-clause-refused
@@ -115,3 +116,13 @@ returns-clause-refused c =
     let slots_are = subst (λ (o : Option SlotState). IfSome o (λ b. c.set_floor.new.slots.items ≡ slice_set j.slots c.args.slot (record b { floor = c.risen_floor-floor.result }))) here c.set_floor.ensures ∙ ap (slice_set j.slots c.args.slot) risen_is in
     subst (λ (k : Journaled). scan (machine_of k) c.args.query c.args.leaf c.args.slot c.args.interval ≡ (reply.Refused refusal.NotYet, machine_of (record j { slots = c.set_floor.new.slots.items }))) c.self.view_is
     (scan_waits j c.args.query c.args.leaf c.args.slot c.args.interval p place.found part there slot_state here c.if-part.false (is_not_below c.timestamp-s.result s slot_state.horizon timely c.if-s-slot_state.false) (sym safe ∙ c.if-is_safe_at.false) c.set_floor.new.slots.items slots_are)
+
+pub invariant_of-self : goal.invariant_of-self
+invariant_of-self c =
+    let slot_state = c.in-Some-slot_at.slot_state.now in
+    let here : slice_get c.self.inside.slots.items c.args.slot ≡ Some slot_state = subst (λ (l : List SlotState). slice_get l c.args.slot ≡ Some slot_state) c.as_slice-2.ensures.value (sym c.in-Some-slot_at.ensures) in
+    record {
+      few = c.self.invariant.few;
+      room = c.self.invariant.room;
+      whole = whole_floor c.self.inside.slots.items c.set_floor.new.slots.items c.args.slot c.risen_floor-floor.result slot_state here c.self.invariant.whole c.set_floor.ensures;
+    }

@@ -1,4 +1,4 @@
-use Rattle.std.proofs.Common.{◌≡◌, List, Some, None, Option, sym, ap, ◌∙◌, subst, inr}
+use Rattle.std.proofs.Common.{◌≡◌, arith, List, Some, None, Option, sym, ap, ◌∙◌, subst, inr}
 use Rattle.std.specs.Prelude.{find, slice_get, slice_set, IfSome}
 use Rattle.span_machine.specs.declared.transaction.OpenTransaction.{OpenTransaction}
 use Rattle.span_machine.specs.declared.slot.SlotState.{SlotState}
@@ -8,6 +8,7 @@ use Rattle.span_machine.specs.Pieces.{Journaled, machine_of}
 use Rattle.span_journal.specs.Judged.{IsNoted, has_wrong_state}
 use Rattle.span_journal.proofs.Preparing.{not_true, not_false, unnoted_transaction, unnoted_slot, unnoted_state, unnoted_late}
 use Rattle.span_journal.proofs.Stepping.{noted}
+use Rattle.span_journal.proofs.Ready.{whole_last}
 use Rattle.span_journal.proofs.journal.Journal.note_prepared.Goals as goal
 
 pub returns-in_default-clause-why : goal.returns-in_default-clause-why
@@ -60,3 +61,16 @@ returns-clause-ok c =
     let txs_are = subst (λ (o : Option OpenTransaction). IfSome o (λ u. c.add_prepared_at.new.transactions.items ≡ slice_set j.transactions c.in-Some.at (add_prepared c.args.slot ts u))) place.here c.in_ok-add_prepared_at.ensures.ok in
     subst (λ (k : Journaled). IsNoted (machine_of k) c.args.owner c.args.txn c.args.slot ts (machine_of (record j { slots = c.set_last.new.slots.items; transactions = c.add_prepared_at.new.transactions.items }))) c.self.view_is
     (noted j c.args.owner c.args.txn c.args.slot ts c.in-Some.at t slot_state c.set_last.new.slots.items c.add_prepared_at.new.transactions.items place here right stamp.0 stamp.1 slots_are txs_are)
+
+pub invariant_of-self-2 : goal.invariant_of-self-2
+invariant_of-self-2 c =
+    let slot_state = c.in-Some-slot_at.slot_state.now in
+    let here : slice_get c.self.inside.slots.items c.args.slot ≡ Some slot_state = subst (λ (l : List SlotState). slice_get l c.args.slot ≡ Some slot_state) c.as_slice-2.ensures.value (sym c.in-Some-slot_at.ensures) in
+    let few = c.self.invariant.few in
+    let room = c.self.invariant.room in
+    let fewer = c.in_ok-add_prepared_at.ensures.fewer in
+    record {
+      few = omega (arith, few, fewer);
+      room = omega (arith, room, fewer);
+      whole = whole_last c.self.inside.slots.items c.set_last.new.slots.items c.args.slot c.in-Some-prepare_timestamp.timestamp slot_state here c.self.invariant.whole c.set_last.ensures;
+    }

@@ -8,6 +8,7 @@ use Rattle.span_machine.specs.Pieces.{Pieced, Journaled, covered_by}
 use Rattle.span_value.specs.declared.refusal.Refusal.TheVariants as refusal
 use Rattle.span_journal.specs.Judged.{IsRegistered, IsUnregistered}
 use Rattle.span_journal.proofs.Stepping.{not_none}
+use Rattle.span_journal.proofs.Ready.{whole_floor}
 use Rattle.span_journal.proofs.journal.Journal.register.Goals as goal
 
 pub returns-in_default-clause-why : goal.returns-in_default-clause-why
@@ -95,3 +96,13 @@ returns-clause-ok c =
       after = ap (λ (l : List SlotState). record j { slots = l; queries = c.cover_at.new.queries.items }) slots_are
           ∙ ap (λ (l : List Pieced). record j { slots = slice_set j.slots c.args.slot (with_risen_floor slot_state p.query.s c.args.interval); queries = l }) (queries_are ∙ sym (place.changed (covered_by c.args.leaf c.args.rows)));
     })
+
+pub invariant_of-self : goal.invariant_of-self
+invariant_of-self c =
+    let slot_state = c.in-Some-slot_at.slot_state.now in
+    let here : slice_get c.self.inside.slots.items c.args.slot ≡ Some slot_state = subst (λ (l : List SlotState). slice_get l c.args.slot ≡ Some slot_state) c.as_slice-2.ensures.value (sym c.in-Some-slot_at.ensures) in
+    record {
+      few = c.self.invariant.few;
+      room = c.self.invariant.room;
+      whole = whole_floor c.self.inside.slots.items c.set_floor.new.slots.items c.args.slot c.risen_floor-floor.result slot_state here c.self.invariant.whole c.set_floor.ensures;
+    }

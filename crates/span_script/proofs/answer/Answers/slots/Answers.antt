@@ -16,7 +16,7 @@ loop-slot-preserved c =
     let before = c.args.self.now ++ number_line (codes "shards") (length m.slots) in
     elim c.match-slot_report.branch [
       | in-Some+in_ok-slot w ↦
-          let known : AreReported schema m before (c.loop-slot.slot + 1) (c.loop-slot.self ++ slot_line c.loop-slot.slot w.in-Some.state) = one_more schema m before c.loop-slot.slot c.loop-slot.self w.in-Some.state c.loop-slot.invariant (w.in-Some.ensures.slot_state, w.in-Some.ensures.live, w.in-Some.ensures.prepared) in
+          let known : AreReported schema m before (c.loop-slot.slot + 1) (c.loop-slot.self ++ slot_line c.loop-slot.slot w.in-Some.state) = one_more schema m before c.loop-slot.slot c.loop-slot.self w.in-Some.state c.loop-slot.invariant w.in-Some.ensures in
           rw (w.self-is, w.in_ok-slot.ensures.added) known
-      | in_default w ↦ absurd (missing m.slots c.loop-slot.slot (omega (arith, c.loop-slot-test.true, c.slots-slot-end.ensures)) w.in_default.ensures.slot_state)
+      | in_default w ↦ absurd (missing m.slots c.loop-slot.slot (omega (arith, c.loop-slot-test.true, c.slots-slot-end.ensures)) w.in_default.ensures)
     ]

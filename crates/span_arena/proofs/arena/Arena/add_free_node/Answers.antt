@@ -1,0 +1,21 @@
+use Rattle.std.proofs.Common.{◌≡◌, ◌<◌, arith, length, refl, sym, subst}
+use Rattle.span_arena.specs.Order.{AreInTimeOrder}
+use Rattle.span_arena.proofs.Filling.{room_sound, room_content}
+use Rattle.span_arena.proofs.arena.Arena.add_free_node.Goals as goal
+
+pub invariant_of-self-2 : goal.invariant_of-self-2
+invariant_of-self-2 c =
+    let i = c.self.inside in
+    let at : c.len-number.result ≡ length i.nodes.items = omega (arith, c.len-number.ensures, i.nodes.ok) in
+    let below : length i.nodes.items < i.most = omega (arith, c.if-self-number.false, at) in
+    record {
+      sound = rw (c.in-Ok.ensures.items, at) (room_sound i.nodes.items i.chains.items i.free i.free_count i.most c.self.invariant.sound _ refl refl below);
+      spare = c.self.invariant.spare;
+      cells = c.self.invariant.cells;
+      falling = rw c.in-Ok.ensures.items (subst AreInTimeOrder (sym (room_content i.nodes.items i.chains.items i.free i.free_count i.most c.self.invariant.sound _ refl i.cells.items)) c.self.invariant.falling);
+    }
+
+pub returns-clause-ok : goal.returns-clause-ok
+returns-clause-ok c =
+    let i = c.self.inside in
+    rw (← c.self.view_is, c.in-Ok.ensures.items) (room_content i.nodes.items i.chains.items i.free i.free_count i.most c.self.invariant.sound _ refl i.cells.items)

@@ -1,0 +1,56 @@
+use Rattle.std.proofs.Common.{◌≡◌, ◌<◌, ◌-◌, ◌∷◌, ℕ, List, Option, arith, refl, sym, ◌∙◌, ap, subst, length-set}
+use Rattle.std.proofs.lemmas.List.{get_or_default}
+use Rattle.span_arena.specs.declared.version.Version.{Version}
+use Rattle.span_arena.specs.declared.record.NodeRecord.{NodeRecord}
+use Rattle.span_arena.specs.Content.{Content, versions}
+use Rattle.span_arena.specs.Order.{AreInTimeOrder}
+use Rattle.span_arena.specs.Runs.{node_at, blank, walk, content}
+use Rattle.span_arena.proofs.Chains.{used_of, read_used}
+use Rattle.span_arena.proofs.Falling.{falling-rest}
+use Rattle.span_arena.proofs.Spares.{are_spare-used}
+use Rattle.span_arena.proofs.Taking.{take_in_range, take_sound, take_content, front_is}
+use Rattle.span_arena.proofs.arena.Arena.take_newest.Goals as goal
+
+abbrev made : ℕ → Option (List ℕ) → Version
+made timestamp image = record { timestamp = timestamp; image = image }
+
+pub index_mut-cell-requires : goal.index_mut-cell-requires
+index_mut-cell-requires c =
+    let i = c.self.inside in
+    let h = rw (← c.self.view_is) at c.requires in
+    let u = used_of (node_at i.nodes.items) i.chains.items c.args.chain.number h.0 h.1 in
+    let used = read_used i.chains.items c.args.chain.number c.index.result.now c.in-Used.links u.0 u.1 c.index.ensures c.in-Used.is in
+    let some : 0 < c.in-Used.links.count = omega (arith, c.if-links-eq0.false) in
+    omega (arith, i.nodes.ok, take_in_range i.nodes.items i.chains.items i.free i.free_count i.most i.cells.items c.self.invariant.sound c.args.chain.number c.in-Used.links used some)
+
+pub invariant_of-self : goal.invariant_of-self
+invariant_of-self c =
+    let i = c.self.inside in
+    let h = rw (← c.self.view_is) at c.requires in
+    let u = used_of (node_at i.nodes.items) i.chains.items c.args.chain.number h.0 h.1 in
+    let used = read_used i.chains.items c.args.chain.number c.index.result.now c.in-Used.links u.0 u.1 c.index.ensures c.in-Used.is in
+    let some : 0 < c.in-Used.links.count = omega (arith, c.if-links-eq0.false) in
+    let e = c.index_mut-cell.ensures.value ∙ get_or_default i.nodes.items c.in-Used.links.newest c.index_mut-cell.result.now blank (take_in_range i.nodes.items i.chains.items i.free i.free_count i.most i.cells.items c.self.invariant.sound c.args.chain.number c.in-Used.links used some) in
+    record {
+      sound = rw e (take_sound i.nodes.items i.chains.items i.free i.free_count i.most i.cells.items c.self.invariant.sound c.args.chain.number c.in-Used.links used some _ refl refl);
+      spare = are_spare-used i.chains.items i.spare i.spare_count c.args.chain.number c.in-Used.links _ used c.self.invariant.spare;
+      cells = c.self.invariant.cells ∙ sym (length-set i.chains.items c.args.chain.number _);
+      falling = rw e (subst AreInTimeOrder (sym (take_content i.nodes.items i.chains.items i.free i.free_count i.most i.cells.items c.self.invariant.sound c.args.chain.number c.in-Used.links used some _ refl refl)) (falling-rest (content i.nodes.items i.chains.items i.free_count i.most i.cells.items) c.args.chain.number _ _ c.self.invariant.falling (front_is i.nodes.items i.chains.items i.free i.free_count i.most i.cells.items c.self.invariant.sound c.args.chain.number c.in-Used.links used some)));
+    }
+
+pub returns : goal.returns
+returns c =
+    let i = c.self.inside in
+    let h = rw (← c.self.view_is) at c.requires in
+    let u = used_of (node_at i.nodes.items) i.chains.items c.args.chain.number h.0 h.1 in
+    let used = read_used i.chains.items c.args.chain.number c.index.result.now c.in-Used.links u.0 u.1 c.index.ensures c.in-Used.is in
+    let some : 0 < c.in-Used.links.count = omega (arith, c.if-links-eq0.false) in
+    let f = node_at i.nodes.items in
+    let newest = c.in-Used.links.newest in
+    let e : c.index_mut-cell.result.now ≡ f newest = c.index_mut-cell.ensures.value ∙ get_or_default i.nodes.items newest c.index_mut-cell.result.now blank (take_in_range i.nodes.items i.chains.items i.free i.free_count i.most i.cells.items c.self.invariant.sound c.args.chain.number c.in-Used.links used some) in
+    let version : (f newest).version ≡ made c.index_mut-cell.result.now.version.timestamp c.take.result = ap (λ (n : NodeRecord). n.version) (sym e) ∙ ap (made c.index_mut-cell.result.now.version.timestamp) (sym c.take.ensures.value) in
+    record {
+      rest = walk f (c.in-Used.links.count - 1) (f newest).next;
+      was = ap (λ (a : Content). versions a c.args.chain.number) (sym c.self.view_is) ∙ front_is i.nodes.items i.chains.items i.free i.free_count i.most i.cells.items c.self.invariant.sound c.args.chain.number c.in-Used.links used some ∙ ap (λ (v : Version). v ∷ walk f (c.in-Used.links.count - 1) (f newest).next) version;
+      now = rw (← c.self.view_is, e) (take_content i.nodes.items i.chains.items i.free i.free_count i.most i.cells.items c.self.invariant.sound c.args.chain.number c.in-Used.links used some _ refl refl);
+    }
