@@ -11,7 +11,7 @@ import sys
 import reference
 import tables
 
-DATA = os.path.join(os.path.dirname(os.path.abspath(__file__)), "..", "..", "crates", "span_sql_tests", "data")
+HERE = os.path.dirname(os.path.abspath(__file__))
 
 
 class Part:
@@ -33,9 +33,14 @@ def parts(path):
     return [Part(block.split("\n")) for block in open(path, encoding="utf-8").read().strip("\n").split("\n\n")]
 
 
+def paths():
+    """The files of queries, a set each."""
+    return sorted(glob.glob(os.path.join(HERE, "*.sql")))
+
+
 def sets():
-    """Of each set of files: its name, its schema's tables, their rows, and where its texts stand."""
-    for path in sorted(glob.glob(os.path.join(DATA, "*.sql"))):
+    """Of each set of files: its name, its schema's tables, their rows, and the path of its queries."""
+    for path in paths():
         stem = path.removesuffix(".sql")
         schema = tables.read_schema(open(stem + ".schema", encoding="utf-8").read())
         lines = open(stem + ".rows", encoding="utf-8").read().splitlines()
