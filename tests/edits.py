@@ -1,16 +1,18 @@
 #!/usr/bin/env python3
-"""Tries the edits of tests/edits, which the gate leaves out for its time: the prover must refuse each.
+"""Tries the edits of tests/edits: each turns the meaning of a function, and the prover must refuse it.
 
     tests/edits.py [--jobs N]               every crate's edits
     tests/edits.py [--jobs N] CRATE ..      these crates' alone
+    tests/edits.py [--jobs N] --gate        those that gate.txt names, over the libraries that `rt ci` has just built
 
-It works on a copy of the repository, builds the libraries that the crates need, and tries N edits at a time (as many as there are
-processors, where no number is given), each over what `rt check` kept of its crate: so prove the crates first (`rt all check`), or the first
-edits of a crate take as long as its proof. Run it for a crate whose contracts or code changed. Where all edits of a crate are refused, its
-line in tests/edits/README.md gets the date and the commit.
+Without --gate it works on a copy of the repository and builds the libraries that the crates need. Each edit is tried over what `rt check`
+kept of its crate: so prove the crates first (`rt all check`), or every check begins with the proof of all that a function calls. Where all
+edits of a crate are refused, its line in tests/edits/README.md gets the date and the commit.
 
-An edit is tried on the functions that it changes first, by themselves: where one is not proved, the edit is refused, and the rest of the
-crate need not be checked. Only where that shows nothing is the whole crate checked with it.
+Edits that change the bodies of different functions are tried together, by a check of these functions alone: a function is proved by the
+contracts of those that it calls, so that the body of one is nothing to another. An edit is refused where its function has no proof, for a
+goal in its own lines or in a file of its own proof. Where that shows nothing of an edit it is tried by itself, on the whole crate at last.
+N checks run at a time, as many as there are processors where no number is given.
 
 An edit that is refused only because a proof file names what the edit took away says little of the contract: such edits are counted apart.
 """
@@ -29,25 +31,34 @@ import tempfile
 TOP = os.path.dirname(os.path.dirname(os.path.abspath(__file__)))
 EDITS = os.path.join(TOP, "tests", "edits")
 README = os.path.join(EDITS, "README.md")
+GATE = os.path.join(EDITS, "gate.txt")
 BY_NAMES = "only because a proof file names"
 FLAGS = ["--jobs", "1"]
-FUNCTION = re.compile(r"^\s*(?:pub(?:\([a-z]+\))? )?fn (\w+)", re.M)
-# A goal that has no proof, and a proof that no longer fits since it names what is gone.
-GOAL = re.compile(r"note: \S+:\d+:\d+:|\S+:\d+:\d+: error")
-NAMES_GONE = re.compile(r"(\./)?proofs/.*(has no field|is not in scope|has no `|was not admitted)")
-# Edits that are tried one after another over one copy of what is kept of their crate.
-TOGETHER = 8
+FUNCTION = re.compile(r"^ *(?:pub(?:\([a-z]+\))? )?fn (\w+)", re.M)
+TYPE = re.compile(r"^impl(?:<[^{]*?>)? (?:\S+ for )?(\w+)", re.M)
+# A proof that no longer fits since it names what is gone.
+NAMES_GONE = re.compile(r".*(has no field|is not in scope|has no `|was not admitted)")
+# How many edits are tried together at most.
+TOGETHER = 12
 
 
 def arguments():
     reader = argparse.ArgumentParser(description=__doc__.split("\n", maxsplit=1)[0], allow_abbrev=False)
-    reader.add_argument("--jobs", type=int, default=os.cpu_count(), help="how many edits are tried at a time")
+    reader.add_argument("--jobs", type=int, default=os.cpu_count(), help="how many checks run at a time")
+    reader.add_argument("--gate", action="store_true", help="the edits of the gate, after rt ci")
     reader.add_argument("crates", nargs="*", metavar="CRATE")
     found = reader.parse_args()
+    if found.gate and found.crates:
+        reader.error("--gate takes no crates")
     for crate in found.crates:
         if crate not in crates_with_edits():
             reader.error(f"tests/edits has no edits of {crate}")
     return found
+
+
+def read(path):
+    with open(path, encoding="utf-8") as file:
+        return file.read()
 
 
 def crates_with_edits():
@@ -57,6 +68,15 @@ def crates_with_edits():
 def edits_of(crate):
     folder = os.path.join(EDITS, crate)
     return sorted(os.path.join(folder, name) for name in os.listdir(folder) if name.endswith(".edit"))
+
+
+def edits_of_gate():
+    """The edits that gate.txt names, by crate."""
+    found = {}
+    for line in read(GATE).split():
+        crate, name = line.split("/")
+        found.setdefault(crate, []).append(os.path.join(EDITS, crate, name + ".edit"))
+    return found
 
 
 def toolchain():
@@ -88,53 +108,122 @@ def build_libraries(crates):
         subprocess.run(["rt", "lib"], cwd=low.folder, check=True, stdout=subprocess.DEVNULL)
 
 
-def functions_of(crate, edit):
-    """The names of the functions that an edit changes."""
-    names, file = [], ""
-    with open(edit, encoding="utf-8") as lines:
-        for line in lines.read().split("\n"):
-            if line.startswith("file: "):
-                file = line.removeprefix("file: ").strip()
-            elif line.startswith("old: ") and file.startswith("src/"):
-                old = line.removeprefix("old: ")
-                with open(os.path.join(crate.folder, file), encoding="utf-8") as source:
-                    text = source.read()
-                names += FUNCTION.findall(text[: text.find(old) + len(old)])[-1:]
-    return names
+class Function:
+    """A function in the text of a file: its name, with the type that it is a method of, and its first and last line."""
+
+    def __init__(self, text, at):
+        heads = list(FUNCTION.finditer(text))
+        here = max(number for number, head in enumerate(heads) if head.start() <= at)
+        self.start, self.short = heads[here].start(1), heads[here].group(1)
+        end = heads[here + 1].start() if here + 1 < len(heads) else len(text)
+        self.indent = re.match(" *", heads[here].group()).group()
+        types = TYPE.findall(text[: self.start]) if self.indent else []
+        self.name = "::".join([*types[-1:], self.short])
+        self.first, self.last = text.count("\n", 0, self.start) + 1, text.count("\n", 0, end) + 1
+
+    def has_in_body(self, text, at):
+        """Whether a place that follows the function's head is in its body."""
+        before = text[self.start : at]
+        return "{\n" in before and f"\n{self.indent}}}\n" not in before
+
+    def goal(self, path, lines):
+        """The first goal of the function that the prover leaves open, as it says; None where it has none."""
+        if not any(re.match(rf"fn (\S+::)?{re.escape(self.short)}: (no proof|not proved)", line) for line in lines):
+            return None
+        return next((line for line in lines if self.has_goal(path, line)), None)
+
+    def has_goal(self, path, line):
+        """Whether a line of the prover is of a goal in the function's lines, or in a file of its proof, that names nothing that is gone."""
+        source = re.match(r"note: (\S+?):(\d+):\d+: it is not proved", line)
+        if source:
+            return source.group(1) == path and self.first <= int(source.group(2)) <= self.last
+        proof = re.match(rf"(\./)?proofs/(\S+/)?{re.escape(self.short)}/\w+\.antt:\d+:\d+: error", line)
+        return bool(proof) and not NAMES_GONE.match(line)
 
 
-def refusal_alone(rt, crate, edit, kept):
-    """What is said where a function that the edit changes is not proved by itself, for a goal of its own; None where that shows nothing."""
-    texts, why = rt.read_edit(edit, crate.folder)
-    for name in [] if why else functions_of(crate, edit):
-        ran = rt.checked(crate, texts, [*FLAGS, "--only", name], kept)
+class Batch:
+    """Edits of a crate that change the bodies of different functions, and the files with all of them made."""
+
+    def __init__(self, crate):
+        self.crate, self.texts, self.edits, self.changed = crate, {}, [], []
+
+    def text(self, path):
+        return self.texts.get(path) or read(os.path.join(self.crate.folder, path))
+
+    def add(self, edit):
+        """Adds an edit where it changes the body of one function more; whether it does."""
+        lines = [line for line in read(edit).split("\n") if line]
+        if [line.split(" ")[0] for line in lines] != ["file:", "old:", "new:"] or not lines[0].startswith("file: src/"):
+            return False
+        path, old, new = (line.partition(" ")[2] for line in lines)
+        text = self.text(path)
+        at = text.find(old)
+        if text.count(old) != 1 or not FUNCTION.search(text[: at + len(old)]):
+            return False
+        function = Function(text, at)
+        is_new = all((path, function.name) != (other, it.name) for other, it in self.changed)
+        if not (function.has_in_body(text, at) and is_new and len(self.edits) < TOGETHER):
+            return False
+        self.texts[path] = text.replace(old, new)
+        self.edits.append(edit)
+        self.changed.append((path, function))
+        return True
+
+    def goals(self, rt, kept):
+        """Of each edit the goal that its function has open, where it is refused for one; else None."""
+        only = [word for _, it in self.changed for word in ("--only", it.name)]
+        ran = rt.checked(self.crate, self.texts, [*FLAGS, *only], kept)
         lines = ran.stdout.split("\n")
-        goals = [line for line in lines if GOAL.match(line) and not NAMES_GONE.match(line)]
-        if ran.returncode == 1 and goals and not any(rt.unread(line, texts) for line in lines):
-            return f"must-fail {crate.name}/{os.path.basename(edit)}: refused, as it must be: {name}: {goals[0][:160]}"
-    return None
+        if ran.returncode != 1 or any(rt.unread(line, self.texts) for line in lines):
+            return [None for _ in self.edits]
+        return [Function(self.texts[path], self.start(path, it)).goal(path, lines) for path, it in self.changed]
+
+    def start(self, path, function):
+        """Where a function begins in the text with all the edits made."""
+        return next(head.start(1) for head in FUNCTION.finditer(self.texts[path]) if Function(self.texts[path], head.start(1)).name == function.name)
 
 
-def try_edit(rt, crate, edit, kept):
-    """Whether an edit is refused, and what is said of it."""
-    alone = refusal_alone(rt, crate, edit, kept)
-    return (True, alone) if alone else rt.must_fail(crate, edit, FLAGS, kept)
+def batches_of(crate, edits):
+    """The edits in batches, and those that change anything but a function's body."""
+    batches, others = [], []
+    for edit in edits:
+        if any(batch.add(edit) for batch in batches):
+            continue
+        batch = Batch(crate)
+        if batch.add(edit):
+            batches.append(batch)
+        else:
+            others.append(edit)
+    return batches, others
 
 
-def try_edits(rt, crate, edits):
-    """Tries edits of a crate, writes what is said of each, and returns it with whether it was refused."""
-    tried = []
+def try_alone(rt, crate, edit, kept):
+    """Whether an edit is refused, and what is said of it: by a check of its function, and then of the whole crate."""
+    batch = Batch(crate)
+    goal = batch.goals(rt, kept)[0] if batch.add(edit) else None
+    return refused(crate, edit, goal) if goal else rt.must_fail(crate, edit, FLAGS, kept)
+
+
+def refused(crate, edit, goal):
+    return True, f"{crate.name}/{os.path.basename(edit)}: refused, as it must be: {goal[:160]}"
+
+
+def try_batch(rt, batch, kept):
+    """Of each edit of a batch whether it is refused, and what is said of it."""
+    goals = batch.goals(rt, kept)
+    pairs = zip(batch.edits, goals)
+    return [refused(batch.crate, edit, goal) if goal else try_alone(rt, batch.crate, edit, kept) for edit, goal in pairs]
+
+
+def try_over(rt, crate, call, is_kept):
+    """What a call finds of edits, over a copy of what is kept of the crate, if anything is. Writes it."""
     with tempfile.TemporaryDirectory(prefix="edits-") as kept:
         of_crate = os.path.join(crate.folder, "out", "incremental")
-        if os.path.isdir(of_crate):
+        if is_kept and os.path.isdir(of_crate):
             shutil.copytree(of_crate, kept, dirs_exist_ok=True)
-        for edit in edits:
-            tried.append(try_edit(rt, crate, edit, kept))
-            print(tried[-1][1], flush=True)
-        # What is refused over kept work counts where the crate itself is proved over it.
-        if rt.checked(crate, {}, FLAGS, kept).returncode:
-            print(f"edits: {crate.name} is not proved itself", flush=True)
-            return [(False, text) for _, text in tried]
+        tried = call(kept if is_kept else None)
+    for _, text in tried:
+        print(text, flush=True)
     return tried
 
 
@@ -143,44 +232,55 @@ def write_line(crate, tried):
     words = ["git", "describe", "--always", "--dirty"]
     commit = subprocess.run(words, cwd=TOP, check=True, capture_output=True, text=True).stdout.strip()
     by_names = sum(BY_NAMES in text for _, text in tried)
-    with open(README, encoding="utf-8") as file:
-        text = file.read()
     line = f"| `{crate}` | {len(tried)} | {by_names or 'none'} | {datetime.date.today()} | {commit} |"
+    text = re.sub(rf"^\| `{crate}` \|.*$", line, read(README), flags=re.M)
     with open(README, "w", encoding="utf-8") as file:
-        file.write(re.sub(rf"^\| `{crate}` \|.*$", line, text, flags=re.M))
+        file.write(text)
 
 
-def try_all(rt, crates, jobs):
-    """Tries all edits of these crates, and returns what was said of each crate's. A crate whose edits are all refused gets its line."""
-    tried, left = {it.name: [] for it in crates}, {it.name: len(edits_of(it.name)) for it in crates}
+def try_all(rt, crates, edits, jobs, is_gate):
+    """Tries the edits of these crates, and returns what was said of each crate's. A crate whose edits are all refused gets its line."""
+    tried = {it.name: [] for it in crates}
     with concurrent.futures.ThreadPoolExecutor(jobs) as pool:
         running = {}
         for crate in crates:
-            edits = edits_of(crate.name)
-            for at in range(0, len(edits), TOGETHER):
-                running[pool.submit(try_edits, rt, crate, edits[at : at + TOGETHER])] = crate.name
+            batches, others = batches_of(crate, edits[crate.name])
+            calls = [lambda kept, it=it: try_batch(rt, it, kept) for it in batches]
+            calls += [lambda kept, it=it, crate=crate: [rt.must_fail(crate, it, FLAGS, kept)] for it in others]
+            running.update({pool.submit(try_over, rt, crate, call, not is_gate): crate.name for call in calls})
         for future in concurrent.futures.as_completed(running):
             name = running[future]
             tried[name] += future.result()
-            if len(tried[name]) == left[name] and all(well for well, _ in tried[name]):
+            if not is_gate and len(tried[name]) == len(edits[name]) and all(well for well, _ in tried[name]):
                 write_line(name, tried[name])
     return tried
+
+
+def unproved(rt, crates):
+    """The crates that are not proved over what is kept of them: an edit of one would be refused whatever it says."""
+    return [it.name for it in crates if not try_over(rt, it, lambda kept, it=it: [(not rt.checked(it, {}, FLAGS, kept).returncode, it.name)], True)[0][0]]
 
 
 def main():
     words, rt = arguments(), toolchain()
     rt.rtlib.guarded()
+    edits = edits_of_gate() if words.gate else {it: edits_of(it) for it in words.crates or crates_with_edits()}
     with tempfile.TemporaryDirectory() as folder:
-        copy_of_repository(folder)
-        os.chdir(folder)
-        wanted = set(words.crates or crates_with_edits())
-        crates = [it for it in rt.rtlib.crates_below(folder) if it.name in wanted]
-        build_libraries(crates)
-        tried = try_all(rt, sorted(crates, key=lambda it: -len(it.below())), words.jobs)
+        if not words.gate:
+            copy_of_repository(folder)
+        top = TOP if words.gate else folder
+        os.chdir(top)
+        crates = sorted((it for it in rt.rtlib.crates_below(top) if it.name in edits), key=lambda it: -len(it.below()))
+        if not words.gate:
+            build_libraries(crates)
+            lacking = unproved(rt, crates)
+            if lacking:
+                sys.exit(f"edits: not proved: {', '.join(lacking)}")
+        tried = try_all(rt, crates, edits, words.jobs, words.gate)
         os.chdir(TOP)
-    refused, edits = sum(well for it in tried.values() for well, _ in it), sum(map(len, tried.values()))
-    print(f"edits: {refused} of {edits} refused")
-    return int(refused < edits)
+    found = [one for it in tried.values() for one in it]
+    print(f"edits: {sum(well for well, _ in found)} of {sum(map(len, edits.values()))} refused")
+    return int(not all(well for well, _ in found) or len(found) < sum(map(len, edits.values())))
 
 
 if __name__ == "__main__":
