@@ -224,32 +224,40 @@ fn ranges(rt: HostRuntime) -> Result<(), Fail> {
 }
 
 // Bytes in the order in which Python's `sorted` puts them: of lengths around eight, and of one beginning.
-#[test]
-fn bytes_in_order(rt: HostRuntime) -> Result<(), Fail> {
-    let alloc = rt.alloc();
-    let mut sorted: Vec<&[u8]> = Vec::new(alloc);
-    sorted.push(b"")?;
-    sorted.push(b"\x00")?;
-    sorted.push(b"a")?;
-    sorted.push(b"aaaaaaa")?;
-    sorted.push(b"aaaaaaaa")?;
-    sorted.push(b"aaaaaaaa\x00")?;
-    sorted.push(b"aaaaaaaaa")?;
-    sorted.push(b"aaaaaaaaaaaaaaaa")?;
-    sorted.push(b"aaaaaaaaaaaaaaab")?;
-    sorted.push(b"aaaaaaab")?;
-    sorted.push(b"aaaaaaabaaaaaaaa")?;
-    sorted.push(b"aaaaaabaaaaaaaaaaaaaaaaa")?;
-    sorted.push(b"b")?;
-    sorted.push(b"baaaaaaaa")?;
-    sorted.push(b"\x7f\xff\xff\xff\xff\xff\xff\xff\xff")?;
-    sorted.push(b"\x80\x00\x00\x00\x00\x00\x00\x00")?;
-    sorted.push(b"\xff\xff\xff\xff\xff\xff\xff\xff")?;
-    sorted.push(b"\xff\xff\xff\xff\xff\xff\xff\xff\xff")?;
-    for i in 0..sorted.len() {
-        for j in 0..sorted.len() {
-            assert_eq!(rt; order_of_bytes(sorted[i], sorted[j]), i.cmp(&j));
+const SORTED: [&[u8]; 18] = [
+    b"",
+    b"\x00",
+    b"a",
+    b"aaaaaaa",
+    b"aaaaaaaa",
+    b"aaaaaaaa\x00",
+    b"aaaaaaaaa",
+    b"aaaaaaaaaaaaaaaa",
+    b"aaaaaaaaaaaaaaab",
+    b"aaaaaaab",
+    b"aaaaaaabaaaaaaaa",
+    b"aaaaaabaaaaaaaaaaaaaaaaa",
+    b"b",
+    b"baaaaaaaa",
+    b"\x7f\xff\xff\xff\xff\xff\xff\xff\xff",
+    b"\x80\x00\x00\x00\x00\x00\x00\x00",
+    b"\xff\xff\xff\xff\xff\xff\xff\xff",
+    b"\xff\xff\xff\xff\xff\xff\xff\xff\xff",
+];
+
+// Whether each two of them are in the order of their places.
+fn are_in_order() -> bool {
+    for (i, a) in SORTED.iter().enumerate() {
+        for (j, b) in SORTED.iter().enumerate() {
+            if order_of_bytes(*a, *b) != i.cmp(&j) {
+                return false;
+            }
         }
     }
-    Ok(())
+    true
+}
+
+#[test]
+fn bytes_in_order(rt: HostRuntime) {
+    assert!(rt; are_in_order());
 }

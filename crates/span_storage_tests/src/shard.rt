@@ -219,14 +219,20 @@ fn ranges(rt: HostRuntime) -> Result<(), Refusal> {
     Ok(())
 }
 
-/// A prepared row is counted, and is no version yet; an aborted transaction leaves nothing.
-#[test]
-fn aborted(rt: HostRuntime) -> Result<(), Refusal> {
-    let alloc = rt.alloc();
+// A shard in which transaction 1 has prepared these rows.
+fn prepared_rows(alloc: Global) -> Result<Shard, Refusal> {
     let schema = parse_schema(alloc, FAMILY)?;
     let first = rows(alloc, &schema)?;
     let mut shard = Shard::new(alloc);
     shard.prepare(alloc, &schema, 1, first.mutations())?;
+    Ok(shard)
+}
+
+/// A prepared row is counted, and is no version yet; an aborted transaction leaves nothing.
+#[test]
+fn aborted(rt: HostRuntime) -> Result<(), Refusal> {
+    let alloc = rt.alloc();
+    let mut shard = prepared_rows(alloc)?;
     assert_eq!(rt; shard.live(), 3);
     assert!(rt; is_seen(alloc, &shard, u64::MAX, &[])?);
     shard.apply(1, None);
@@ -352,15 +358,30 @@ fn trimmed_while_prepared(rt: HostRuntime) -> Result<(), Refusal> {
 // What stays before A(2).
 const BEFORE_A2: [(&[u8], &[u8]); 2] = [(&A1, &SEVEN), (&B13, &NINE)];
 
+// The shard with these rows at 111, after A(1) was deleted at 222, split at A(2): what stays there, and the part from A(2) on.
+fn split_parts(alloc: Global) -> Result<(Shard, Shard), Refusal> {
+    let schema = parse_schema(alloc, FAMILY)?;
+    let mut shard = changed(alloc, &schema, &[DELETE_A1])?;
+    let part = shard.split(alloc, &A2)?;
+    Ok((shard, part))
+}
+
+// Whether each part has its rows, before the deletion and after it.
+fn are_parts(alloc: Global, shard: &Shard, part: &Shard) -> Result<bool, Refusal> {
+    Ok(
+        is_seen(alloc, shard, 111, &BEFORE_A2)?
+            && is_seen(alloc, shard, 222, &[])?
+            && is_seen(alloc, part, 111, &A2_ALONE)?
+            && is_seen(alloc, part, 222, &A2_ALONE)?,
+    )
+}
+
 /// A shard is split at A(2): each part has its keys with all their versions.
 #[test]
 fn split_in_two(rt: HostRuntime) -> Result<(), Refusal> {
     let alloc = rt.alloc();
-    let schema = parse_schema(alloc, FAMILY)?;
-    let mut shard = changed(alloc, &schema, &[DELETE_A1])?;
-    let part = shard.split(alloc, &A2)?;
+    let (shard, part) = split_parts(alloc)?;
     assert!(rt; shard.live() == 4 && part.live() == 1);
-    assert!(rt; is_seen(alloc, &shard, 111, &BEFORE_A2)? && is_seen(alloc, &shard, 222, &[])?);
-    assert!(rt; is_seen(alloc, &part, 111, &A2_ALONE)? && is_seen(alloc, &part, 222, &A2_ALONE)?);
+    assert!(rt; are_parts(alloc, &shard, &part)?);
     Ok(())
 }
