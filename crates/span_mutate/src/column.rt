@@ -161,7 +161,8 @@ pub(crate) fn values_named(
         (λ values. values.items ≡ values_named key.now cells.now columns.now)
         (λ why. why ≡ Refusal.OutOfMemory) }
 {
-    let mut values = Vec::new(alloc);
+    // The key names columns of the table, each once.
+    let mut values = Vec::with_capacity(alloc, columns.len().saturating_sub(key.len()))?;
     for column in columns {
         if !is_in_key(key, column.name.as_str()) {
             values.push(value_named(alloc, cells, column.name.as_str())?)?;
