@@ -126,11 +126,11 @@ fn key_of(alloc: Global, parts: &[KeyField], fields: &StringRecord) -> Result<Se
         ⊎ ((why ≡ Refusal.WrongType)
         × ((key : List Value) → ¬ AllZip (IsKeyCell (fields_of fields.now)) parts.now key))) }
 {
-    let mut key = Seq::new(alloc);
+    let mut key = Vec::with_capacity(alloc, parts.len())?;
     for part in parts {
-        key.push(value_at(alloc, fields, part.at, part.kind)?)?;
+        key.push_reserved(value_at(alloc, fields, part.at, part.kind)?);
     }
-    Ok(key)
+    Ok(Seq::from_vec(key))
 }
 
 /// The cells of the columns outside the key. `WrongType`: a field is no cell of its column's type.
@@ -146,11 +146,11 @@ fn cells_of(
         ⊎ ((why ≡ Refusal.WrongType)
         × ((cells : List NamedValue) → ¬ AllZip (IsColumnCell (fields_of fields.now)) parts.now cells))) }
 {
-    let mut cells = Seq::new(alloc);
+    let mut cells = Vec::with_capacity(alloc, parts.len())?;
     for part in parts {
-        cells.push(cell_of(alloc, part, fields)?)?;
+        cells.push_reserved(cell_of(alloc, part, fields)?);
     }
-    Ok(cells)
+    Ok(Seq::from_vec(cells))
 }
 
 /// The cell of a column outside the key. `WrongType`: its field is no cell of its type.

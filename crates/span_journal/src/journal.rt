@@ -18,8 +18,8 @@ use super::slots::{
 };
 use super::transaction::KeptTransaction;
 use super::transactions::{
-    abort_at, add_prepared_at, check_apply, commit_at, copy_mutations, count_prepared,
-    count_undecided, end_prepared_at, find_transaction, has_conflict, may_prepare, remove_at,
+    abort_at, add_prepared_at, check_apply, commit_at, count_prepared, count_undecided,
+    end_prepared_at, find_transaction, has_conflict, may_prepare, remove_at,
 };
 use span_machine::slot::SlotState;
 use span_machine::step::Verdict;
@@ -185,7 +185,7 @@ impl Journal {
         ensures err { OnErr result (machine_of self.new ≡ machine_of self.old) }
         ensures pieces { self.new.queries ≡ self.old.queries }
     {
-        let entry = copy_mutations(alloc, transaction.mutations())?;
+        let entry = transaction.copy(alloc)?.into_mutations();
         self.log.reserve(undecided + 1)?;
         let number = self.next_transaction;
         let opened = OpenTransaction {

@@ -1,5 +1,5 @@
 //! Finding open transactions, and what they share.
-ghost use Rattle.std.specs.Prelude.{◌≡◌, ◌<◌, ◌+◌, ◌≤◌, ◌&&◌, ◌||◌, ◌==◌, not, true, length, position, None, Some, IfOk, IfErr, remove, OnOk, OnErr, if◌then◌else◌, count_by, find, slice_get, slice_set, IfSome, IfNone, MatchResult};
+ghost use Rattle.std.specs.Prelude.{◌≡◌, ◌<◌, ◌+◌, ◌≤◌, ◌&&◌, ◌||◌, ◌==◌, not, true, length, position, None, Some, IfOk, IfErr, remove, OnOk, OnErr, if◌then◌else◌, count_by, find, slice_get, slice_set, IfSome, IfNone};
 ghost use Rattle.std.specs.List.{list_any};
 ghost use Rattle.span_machine.specs.Machine.{is_at, root_at, is_undecided, is_transaction, is_prepared_at, with_decision, commit_of, add_prepared, without_prepared, have_common_root, apply_refusal};
 ghost use Rattle.span_machine.specs.Place.{IsPlace};
@@ -12,7 +12,6 @@ use span_mutate::mutation::CheckedMutation;
 use span_schema::schema::Schema;
 use span_truetime::interval::Interval;
 use span_value::refusal::Refusal;
-use span_value::seq::Seq;
 use std::alloc::{AllocError, Global};
 
 /// How many transactions are undecided.
@@ -89,20 +88,6 @@ pub(crate) fn commit_at(
     ensures fewer { count_by is_undecided transactions.new.items + 1 ≡ count_by is_undecided transactions.old.items }
 {
     transactions[at].commit(alloc, timestamp)
-}
-
-/// Copies of mutations.
-pub(crate) fn copy_mutations(
-    alloc: Global,
-    mutations: &[CheckedMutation],
-) -> Result<Seq<CheckedMutation>, Refusal>
-    ensures { MatchResult result (λ copies. copies ≡ mutations.now) (λ why. why ≡ Refusal.OutOfMemory) }
-{
-    let mut copies = Seq::new(alloc);
-    for mutation in mutations {
-        copies.push(mutation.copy(alloc)?)?;
-    }
-    Ok(copies)
 }
 
 /// Whether a transaction that is prepared at the slot has a mutation in a directory of these.

@@ -16,6 +16,7 @@ pub mod Parents
 pub mod Placing
 pub mod Runs
 pub mod TableLists
+pub mod Taking
 pub mod TouchedRows
 pub mod TypedRows
 pub mod Worked

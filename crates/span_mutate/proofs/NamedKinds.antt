@@ -61,10 +61,10 @@ all_push P (y ∷ ys) x all here = (all.0, all_push P ys x all.1 here)
 
 -- ---- names
 
-same_lower : (a b : List ℕ) → is_same_name a b ≡ true → str_to_ascii_lowercase a ≡ str_to_ascii_lowercase b
+pub same_lower : (a b : List ℕ) → is_same_name a b ≡ true → str_to_ascii_lowercase a ≡ str_to_ascii_lowercase b
 same_lower a b e = (bytes_eq-Decides (str_to_ascii_lowercase a) (str_to_ascii_lowercase b)).0 e
 
-lower_same : (a b : List ℕ) → str_to_ascii_lowercase a ≡ str_to_ascii_lowercase b → is_same_name a b ≡ true
+pub lower_same : (a b : List ℕ) → str_to_ascii_lowercase a ≡ str_to_ascii_lowercase b → is_same_name a b ≡ true
 lower_same a b e = (bytes_eq-Decides (str_to_ascii_lowercase a) (str_to_ascii_lowercase b)).1 e
 
 -- no item passes where none has a place
@@ -77,7 +77,7 @@ none_passes {X} p (y ∷ ys) g = cases (p y) refl (λ h. none_passes p ys h) g
     cases true e again k = absurd (omega arith)
     cases false e again k = (e, again (omega arith))
 
-none_placed : {X : Type 0} (p : X → Bool) (xs : List X) → is_some (position p xs) ≡ false → AllByRecursion (λ x. p x ≡ false) xs
+pub none_placed : {X : Type 0} (p : X → Bool) (xs : List X) → is_some (position p xs) ≡ false → AllByRecursion (λ x. p x ≡ false) xs
 none_placed p xs h = none_passes p xs (below (position_or_len p xs) (length xs) h)
   where
     below : (i n : ℕ) → is_some (cond (nat_lt i n) (Some i) None) ≡ false → n ≤ i
@@ -99,7 +99,7 @@ all_both P Q (x ∷ xs) h g = ((h.0, g.0), all_both P Q xs h.1 g.1)
 abbrev IsNamedSelf : List Column → Column → Type 0
 IsNamedSelf columns c = column_named columns c.name ≡ Some c
 
-two_false : (a b : Bool) → (a || b) ≡ false → (a ≡ false) × (b ≡ false)
+pub two_false : (a b : Bool) → (a || b) ≡ false → (a ≡ false) × (b ≡ false)
 two_false true b h = absurd (let f : true ≡ false = h in cc)
 two_false false b h = (refl, h)
 
@@ -217,3 +217,9 @@ mutation_kinds tables rules n t m at e =
     let cells = or_none (cells_cause t m.kind [] m.cells) (first_cause (lack_causes t m)) rest.1 in
     ap (λ (o : Option Table). are_named_kinds (layout.other_kinds (key_in o) (columns_in o)) (values_named t.key m.cells t.columns)) (sym at)
     ∙ named_kinds t (passes_at tables rules (n - 1) t here).columns m.kind m.cells cells
+
+-- and no two columns of a table of the schema have one name
+pub columns_apart : (tables : List Table) → MeetsRules tables → (n : ℕ) (t : Table) → Some t ≡ table_at tables n → has_repeated_column t.columns ≡ false
+columns_apart tables rules n t at =
+    let here : slice_get tables (n - 1) ≡ Some t = sym at in
+    columns_differ t (passes_at tables rules (n - 1) t here).columns

@@ -141,17 +141,23 @@ fn check_at(
     schema.meets_rules();
     let table = schema.table(number);
     check_rules(alloc, schema, number, table, &mutation)?;
+    let Mutation {
+        kind,
+        key,
+        cells,
+        ..
+    } = mutation;
     let cells = values_named(
         alloc,
         table.key.as_slice(),
-        mutation.cells.as_slice(),
+        cells.into_vec(),
         table.columns.as_slice(),
     )?;
     prove!(have_named_kinds(schema.other_kinds(number), cells.as_slice()));
     Ok(CheckedMutation {
-        kind: mutation.kind,
+        kind,
         table: number,
-        key: mutation.key,
+        key,
         cells: Seq::from_vec(cells),
     })
 }

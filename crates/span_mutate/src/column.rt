@@ -1,8 +1,10 @@
 //! What a column takes, and which columns cells name.
-ghost use Rattle.std.specs.Prelude.{◌≡◌, IfSome, IsTrue, MatchResult, length};
+ghost use Rattle.std.specs.Prelude.{◌≡◌, ℕ, List, false, position, IfSome, IsTrue, MatchResult, length};
 ghost use Rattle.std.specs.Option.{option_copied};
 ghost use Rattle.std.specs.Str.{chars};
 ghost use Rattle.span_schema.specs.Fitting.{Fits};
+ghost use Rattle.span_schema.specs.Tables.{is_same_name};
+ghost use Rattle.span_schema.specs.Rules.{has_repeated_column};
 ghost use Rattle.span_mutate.specs.Typed.{AreNamed, is_named_kind, are_named_kinds};
 ghost use Rattle.span_mutate.specs.Columns.{column_named, cell_column, has_wrong_type, is_null, is_null_refused, exceeds, exceeds_type, is_too_long, key_breaks, is_named, is_lacking, lacks_cell, value_named, values_named};
 
@@ -139,32 +141,48 @@ fn is_lacking(key: &[KeyColumn], cells: &[NamedValue], column: &Column) -> bool
         && !is_named(cells, column.name.as_str())
 }
 
-// The value that the cells give the column with a name.
-fn value_named(alloc: Global, cells: &[NamedValue], name: &str) -> Result<Option<Value>, Refusal>
-    ensures { MatchResult result (λ value. value ≡ value_named cells.now name.now) (λ why. why ≡ Refusal.OutOfMemory) }
+// The place of the first cell of the column with a name.
+fn cell_place(cells: &[NamedValue], name: &str) -> Option<usize>
+    ensures { result ≡ position (λ c. is_same_name c.column name.now) cells.now }
 {
-    match cells.iter().find(|c| are_same(c.column.as_str(), name)) {
-        None => Ok(None),
-        Some(cell) => Ok(Some(cell.value.copy(alloc)?)),
+    cells.iter().position(|c| are_same(c.column.as_str(), name))
+}
+
+// Takes the value that the cells give the column with a name. Those of other names are left.
+fn take_value(cells: &mut Vec<NamedValue>, name: &str) -> Option<Value>
+    ensures value { result ≡ value_named cells.old.items name.now }
+    ensures rest { (other : List ℕ)
+        → is_same_name other name.now ≡ false
+        → value_named cells.new.items other ≡ value_named cells.old.items other }
+{
+    match cell_place(cells.as_slice(), name) {
+        None => None,
+        Some(at) => {
+            let NamedValue { value, .. } = cells.remove(at);
+            Some(value)
+        }
     }
 }
 
-/// For each column outside the key, in the order of declaration, the value that the cells give it. `OutOfMemory`: memory ran
-/// out.
+/// For each column outside the key, in the order of declaration, the value that the cells give it. The values are moved. `OutOfMemory`:
+/// memory ran out.
 pub(crate) fn values_named(
     alloc: Global,
     key: &[KeyColumn],
-    cells: &[NamedValue],
+    cells: Vec<NamedValue>,
     columns: &[Column],
 ) -> Result<Vec<Option<Value>>, Refusal>
+    requires { has_repeated_column columns.now ≡ false }
     ensures { MatchResult result
-        (λ values. values.items ≡ values_named key.now cells.now columns.now)
+        (λ values. values.items ≡ values_named key.now cells.items columns.now)
         (λ why. why ≡ Refusal.OutOfMemory) }
 {
-    let mut values = Vec::new(alloc);
+    let mut left = cells;
+    // The key names columns of the table, each once.
+    let mut values = Vec::with_capacity(alloc, columns.len().saturating_sub(key.len()))?;
     for column in columns {
         if !is_in_key(key, column.name.as_str()) {
-            values.push(value_named(alloc, cells, column.name.as_str())?)?;
+            values.push(take_value(&mut left, column.name.as_str()))?;
         }
     }
     Ok(values)

@@ -1,4 +1,4 @@
-use Rattle.std.proofs.Common.{◌≡◌, ◌⊎◌, ◌++◌, ◌∷◌, [], inl, inr, List}
+use Rattle.std.proofs.Common.{◌≡◌, ◌⊎◌, inl, inr, List, arith}
 use Rattle.std.specs.List.{AllZip}
 use Rattle.std.proofs.lemmas.Result.{err_from_is_err_and}
 use Rattle.csv.specs.Records.{fields_of}
@@ -9,13 +9,15 @@ use Rattle.span_command.proofs.Zips.{one_more, none_at}
 use Rattle.span_command.proofs.layout.cells_of.Goals as goal
 
 pub loop-part-preserved : goal.loop-part-preserved
-loop-part-preserved c =
-    let grown : c.push.new.self ≡ c.loop-part.cells ++ c.in_ok-cell_of.field-0 ∷ [] = c.in_ok-push.ensures.ok in
-    rw grown (one_more (IsColumnCell (fields_of c.args.fields.now)) c.args.parts.now c.loop-part.cells c.loop-part.part-index c.part-item.result c.part-item.result c.in_ok-cell_of.field-0 c.loop-part-test.true c.part-item.is c.loop-part.invariant c.in_ok-cell_of.ensures.read)
+loop-part-preserved c = record {
+  read = rw c.push_reserved.ensures.items (one_more (IsColumnCell (fields_of c.args.fields.now)) c.args.parts.now c.loop-part.cells.items c.loop-part.part-index c.part-item.result c.part-item.result c.in_ok-cell_of.field-0 c.loop-part-test.true c.part-item.is c.loop-part.invariant.read c.in_ok-cell_of.ensures.read);
+  count = omega (arith, c.push_reserved.ensures.len, c.loop-part.invariant.count);
+  room = omega (arith, c.push_reserved.ensures.capacity, c.loop-part.invariant.room);
+}
 
 pub returns-in_err-cell_of-clause-refusals : goal.returns-in_err-cell_of-clause-refusals
 returns-in_err-cell_of-clause-refusals c =
-    let known = err_from_is_err_and c.from_residual.result c.from_residual.ensures.1 in
+    let known = err_from_is_err_and c.from_residual-in_err-cell_of.result c.from_residual-in_err-cell_of.ensures.1 in
     rw (known.1, known.2) (by c.in_err-cell_of.ensures.refusals)
   where
     by : (c.in_err-cell_of.field-0.0 ≡ refusal.OutOfMemory) ⊎ ((c.in_err-cell_of.field-0.0 ≡ refusal.WrongType) × ((x : NamedValue) → IsColumnCell (fields_of c.args.fields.now) c.part-item.result x → ⊥))

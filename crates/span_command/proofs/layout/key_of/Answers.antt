@@ -1,4 +1,4 @@
-use Rattle.std.proofs.Common.{◌≡◌, ◌⊎◌, ◌++◌, ◌∷◌, [], inl, inr, List, get_or, refl}
+use Rattle.std.proofs.Common.{◌≡◌, ◌⊎◌, inl, inr, List, get_or, refl, arith}
 use Rattle.std.specs.List.{AllZip}
 use Rattle.std.proofs.lemmas.Result.{err_from_is_err_and}
 use Rattle.csv.specs.Records.{fields_of}
@@ -11,12 +11,15 @@ use Rattle.span_command.proofs.layout.key_of.Goals as goal
 
 pub loop-part-preserved : goal.loop-part-preserved
 loop-part-preserved c =
-    let grown : c.push.new.self ≡ c.loop-part.key ++ c.in_ok-value_at.field-0 ∷ [] = c.in_ok-push.ensures.ok in
-    rw grown (one_more (IsKeyCell (fields_of c.args.fields.now)) c.args.parts.now c.loop-part.key c.loop-part.part-index (record { at = 0; kind = kind.Int }) (get_or c.args.parts.now c.loop-part.part-index (record { at = 0; kind = kind.Int })) c.in_ok-value_at.field-0 c.loop-part-test.true refl c.loop-part.invariant c.in_ok-value_at.ensures.read)
+    record {
+      read = rw c.push_reserved.ensures.items (one_more (IsKeyCell (fields_of c.args.fields.now)) c.args.parts.now c.loop-part.key.items c.loop-part.part-index (record { at = 0; kind = kind.Int }) (get_or c.args.parts.now c.loop-part.part-index (record { at = 0; kind = kind.Int })) c.in_ok-value_at.field-0 c.loop-part-test.true refl c.loop-part.invariant.read c.in_ok-value_at.ensures.read);
+      count = omega (arith, c.push_reserved.ensures.len, c.loop-part.invariant.count);
+      room = omega (arith, c.push_reserved.ensures.capacity, c.loop-part.invariant.room);
+    }
 
 pub returns-in_err-value_at-clause-refusals : goal.returns-in_err-value_at-clause-refusals
 returns-in_err-value_at-clause-refusals c =
-    let known = err_from_is_err_and c.from_residual.result c.from_residual.ensures.1 in
+    let known = err_from_is_err_and c.from_residual-in_err-value_at.result c.from_residual-in_err-value_at.ensures.1 in
     rw (known.1, known.2) (by c.in_err-value_at.ensures.refusals)
   where
     by : (c.in_err-value_at.field-0.0 ≡ refusal.OutOfMemory) ⊎ ((c.in_err-value_at.field-0.0 ≡ refusal.WrongType) × ((x : Value) → IsKeyCell (fields_of c.args.fields.now) (get_or c.args.parts.now c.loop-part.part-index (record { at = 0; kind = kind.Int })) x → ⊥))
