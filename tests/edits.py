@@ -227,10 +227,14 @@ def try_over(rt, crate, call, is_kept):
     return tried
 
 
-def write_line(crate, tried):
-    """Writes into the README that the crate's edits were refused today, and at which commit."""
+def commit_here():
+    """The commit of the repository, with a mark where files differ from it."""
     words = ["git", "describe", "--always", "--dirty"]
-    commit = subprocess.run(words, cwd=TOP, check=True, capture_output=True, text=True).stdout.strip()
+    return subprocess.run(words, cwd=TOP, check=True, capture_output=True, text=True).stdout.strip()
+
+
+def write_line(crate, tried, commit):
+    """Writes into the README that the crate's edits were refused today, and at which commit."""
     by_names = sum(BY_NAMES in text for _, text in tried)
     line = f"| `{crate}` | {len(tried)} | {by_names or 'none'} | {datetime.date.today()} | {commit} |"
     text = re.sub(rf"^\| `{crate}` \|.*$", line, read(README), flags=re.M)
@@ -240,7 +244,7 @@ def write_line(crate, tried):
 
 def try_all(rt, crates, edits, jobs, is_gate):
     """Tries the edits of these crates, and returns what was said of each crate's. A crate whose edits are all refused gets its line."""
-    tried = {it.name: [] for it in crates}
+    tried, commit = {it.name: [] for it in crates}, None if is_gate else commit_here()
     with concurrent.futures.ThreadPoolExecutor(jobs) as pool:
         running = {}
         for crate in crates:
@@ -252,13 +256,16 @@ def try_all(rt, crates, edits, jobs, is_gate):
             name = running[future]
             tried[name] += future.result()
             if not is_gate and len(tried[name]) == len(edits[name]) and all(well for well, _ in tried[name]):
-                write_line(name, tried[name])
+                write_line(name, tried[name], commit)
     return tried
 
 
-def unproved(rt, crates):
+def unproved(rt, crates, jobs):
     """The crates that are not proved over what is kept of them: an edit of one would be refused whatever it says."""
-    return [it.name for it in crates if not try_over(rt, it, lambda kept, it=it: [(not rt.checked(it, {}, FLAGS, kept).returncode, it.name)], True)[0][0]]
+    with concurrent.futures.ThreadPoolExecutor(jobs) as pool:
+        calls = [lambda kept, it=it: [(not rt.checked(it, {}, FLAGS, kept).returncode, f"edits: {it.name} without edits")] for it in crates]
+        found = pool.map(lambda one: try_over(rt, *one, True), zip(crates, calls))
+        return [crate.name for crate, tried in zip(crates, found) if not tried[0][0]]
 
 
 def main():
@@ -273,7 +280,7 @@ def main():
         crates = sorted((it for it in rt.rtlib.crates_below(top) if it.name in edits), key=lambda it: -len(it.below()))
         if not words.gate:
             build_libraries(crates)
-            lacking = unproved(rt, crates)
+            lacking = unproved(rt, crates, words.jobs)
             if lacking:
                 sys.exit(f"edits: not proved: {', '.join(lacking)}")
         tried = try_all(rt, crates, edits, words.jobs, words.gate)
