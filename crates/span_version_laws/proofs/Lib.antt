@@ -1,8 +1,8 @@
 pub mod Keys
-pub mod FirstSlot
-pub mod Claimers
 pub mod Roots
+pub mod Slots
 pub mod Cuts
+pub mod Claimers
 pub mod Steps
 pub mod Trimming
 pub mod Rows
@@ -12,6 +12,7 @@ pub mod Trims
 pub mod Sorted
 pub mod KeyOrders
 pub mod Snapshots
+pub mod FirstSlot
 pub mod Covers
 pub mod Counting
 pub mod Changes
