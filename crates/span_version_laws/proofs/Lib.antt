@@ -9,6 +9,7 @@ pub mod Rows
 pub mod Applying
 pub mod Preparing
 pub mod Trims
+pub mod Parts
 pub mod Sorted
 pub mod KeyOrders
 pub mod Snapshots

@@ -65,7 +65,7 @@ pending_of : (schema : List Table) (root : Root) (k : List ℕ) (h : ℕ) (cs : 
 pending_of schema root k h cs vs p t ts is = record { front = cs; whole = refl; put = is.0; rows = is.1 }
 
 -- what is kept under a transaction is kept under it wherever else it is prepared
-under_prepared : (schema : List Table) (root : Root) (k : List ℕ) (h : ℕ) (cs : List Commit) (vs : List Version) (p : Option PreparedWrite) (t : OpenTransaction) (ps : List Prepared) (o : Decision) → IsKeptUnder schema root k h cs vs p t o → IsKeptUnder schema root k h cs vs p (record t { prepared = ps }) o
+pub under_prepared : (schema : List Table) (root : Root) (k : List ℕ) (h : ℕ) (cs : List Commit) (vs : List Version) (p : Option PreparedWrite) (t : OpenTransaction) (ps : List Prepared) (o : Decision) → IsKeptUnder schema root k h cs vs p t o → IsKeptUnder schema root k h cs vs p (record t { prepared = ps }) o
 under_prepared schema root k h cs vs p t ps decision.Undecided is = is
 under_prepared schema root k h cs vs p t ps decision.Aborted is = is
 under_prepared schema root k h cs vs p t ps (decision.Committed ts) is = record { front = is.front; whole = is.whole; put = is.put; rows = is.rows }
