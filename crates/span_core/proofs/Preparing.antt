@@ -160,8 +160,8 @@ module _ (schema : List Table) (j : Journaled) (cs : List KeyVersions) (w : IsWh
           rules = w.rules;
           past = past_answered schema m (step.Prepare owner txn slot) (machine_of k) w.past tt tt is;
           reached = subst (IsReached schema) (sym is) (answer_reached schema w.rules m w.reached no_text (step.Prepare owner txn slot) tt);
-          kept = subst (λ (n : Machine). AreKept schema n (with_writes txn ws cs)) (sym d.after)
-              (subst (λ (b : SlotState). AreKept schema (prepared m owner txn slot b).1 (with_writes txn ws cs)) same (subst (λ i. AreKept schema (prepared m owner txn i may.slot_state).1 (with_writes txn ws cs)) (sym zero_slot) kept));
+          kept = subst (λ (n : Machine). AreKept schema n 0 (with_writes txn ws cs)) (sym d.after)
+              (subst (λ (b : SlotState). AreKept schema (prepared m owner txn slot b).1 0 (with_writes txn ws cs)) same (subst (λ i. AreKept schema (prepared m owner txn i may.slot_state).1 0 (with_writes txn ws cs)) (sym zero_slot) kept));
           pieced = subst (ArePieced schema (machine_of k)) (sym queries) (subst (λ (n : Machine). ArePieced schema n j.queries) (sym is) (pieced_by_step schema w.rules m w.reached j.queries refl w.pieced no_text (step.Prepare owner txn slot) tt));
         }
 

@@ -27,8 +27,8 @@ use Rattle.span_machine.specs.declared.transaction.OpenTransaction.{OpenTransact
 use Rattle.span_machine.specs.Machine.{Machine, IsUnderstood, Answer, Answers, answer, start, refused, unless_refused, if_some, for_slot, is_query, is_transaction, is_safe, with_risen_floor, with_slot_state, cover, changed_first, without_first, scan, scan_query, scan_leaf, scan_gap, scanned, trim, trim_slot, trimmed, with_horizon, applied_at, apply_step, apply_transaction, begin, open_query, answer_on, rows_or_refusal}
 use Rattle.span_machine.specs.Pieces.{Pieced, Journaled, unread, covered_by, machine_of, queries_of}
 use Rattle.span_machine_laws.proofs.Reached.{IsReached, start_reached, answer_reached, reached_tables}
-use Rattle.span_version_laws.specs.Kept.{AreKept, ArePieced, IsReading, family, horizon_of}
-use Rattle.span_version_laws.proofs.Trims.{kept_trimmed, horizon_here}
+use Rattle.span_version_laws.specs.Kept.{AreKept, ArePieced, IsReading, family}
+use Rattle.span_version_laws.proofs.Trims.{kept_trimmed}
 use Rattle.span_version_laws.proofs.Live.{live_is_kept}
 use Rattle.span_machine.specs.Kept as kept
 use Rattle.span_machine.specs.declared.transaction.Commit.{Commit}
@@ -57,7 +57,7 @@ start_whole schema rules j is none = record {
   rules = rules;
   past = subst (IsRunTo schema) (sym is) (no_steps schema);
   reached = subst (IsReached schema) (sym is) (start_reached schema);
-  kept = subst (λ (m : Machine). AreKept schema m []) (sym is) (start_kept schema);
+  kept = subst (λ (m : Machine). AreKept schema m 0 []) (sym is) (start_kept schema);
   pieced = subst (ArePieced schema (machine_of j)) (sym none) (no_pieces schema (machine_of j));
 }
 
@@ -91,20 +91,20 @@ pub past_answered : (schema : List Table) (m : Machine) (s : Step) (n : Machine)
 past_answered schema m s n past of none is = one_more schema m n s (answer schema m no_text s).0 past of (inl (no_text, none, (refl, is)))
 
 -- a step that leaves the versions
-pub whole_step : (schema : List Table) (j k : Journaled) (cs : List KeyVersions) (s : Step) (r : Reply) → IsWhole schema j cs → Steps schema (machine_of j) s r (machine_of k) → IsOfSchema schema s → ((u : Result Statement Refusal) → AreKept schema (answer schema (machine_of j) u s).1 cs)
+pub whole_step : (schema : List Table) (j k : Journaled) (cs : List KeyVersions) (s : Step) (r : Reply) → IsWhole schema j cs → Steps schema (machine_of j) s r (machine_of k) → IsOfSchema schema s → ((u : Result Statement Refusal) → AreKept schema (answer schema (machine_of j) u s).1 0 cs)
     → ((n : Machine) → ArePieced schema n j.queries → ArePieced schema n k.queries) → IsWhole schema k cs
 whole_step schema j k cs s r w (inl e) of kept pieces = record {
   rules = w.rules;
   past = one_more schema (machine_of j) (machine_of k) s r w.past of (inl e);
   reached = subst (IsReached schema) (sym e.2.1) (answer_reached schema w.rules (machine_of j) w.reached e.0 s of);
-  kept = subst (λ (m : Machine). AreKept schema m cs) (sym e.2.1) (kept e.0);
+  kept = subst (λ (m : Machine). AreKept schema m 0 cs) (sym e.2.1) (kept e.0);
   pieced = pieces (machine_of k) (subst (λ (m : Machine). ArePieced schema m j.queries) (sym e.2.1) (pieced_by_step schema w.rules (machine_of j) w.reached j.queries refl w.pieced e.0 s of));
 }
 whole_step schema j k cs s r w (inr e) of kept pieces = record {
   rules = w.rules;
   past = one_more schema (machine_of j) (machine_of k) s r w.past of (inr e);
   reached = subst (IsReached schema) (sym e.1.1) w.reached;
-  kept = subst (λ (m : Machine). AreKept schema m cs) (sym e.1.1) w.kept;
+  kept = subst (λ (m : Machine). AreKept schema m 0 cs) (sym e.1.1) w.kept;
   pieced = pieces (machine_of k) (subst (λ (m : Machine). ArePieced schema m j.queries) (sym e.1.1) w.pieced);
 }
 
@@ -114,7 +114,7 @@ whole_same schema j k cs ds w is queries same = record {
   rules = w.rules;
   past = subst (IsRunTo schema) (sym is) w.past;
   reached = subst (IsReached schema) (sym is) w.reached;
-  kept = subst (AreKept schema (machine_of k)) (sym same) (subst (λ (m : Machine). AreKept schema m cs) (sym is) w.kept);
+  kept = subst (AreKept schema (machine_of k) 0) (sym same) (subst (λ (m : Machine). AreKept schema m 0 cs) (sym is) w.kept);
   pieced = subst (ArePieced schema (machine_of k)) (sym queries) (subst (λ (m : Machine). ArePieced schema m j.queries) (sym is) w.pieced);
 }
 
@@ -148,10 +148,10 @@ applied_steps schema m owner txn slot interval committed n d =
     let e = apply_is m owner txn slot interval committed n d in
     inl (no_text, tt, (sym (ap (λ (a : Answer). a.0) e ∙ applied_reply committed m owner txn slot d.transaction), d.after ∙ sym (ap (λ (a : Answer). a.1) e)))
 
-kept_applied : (schema : List Table) (m : Machine) (cs : List KeyVersions) (owner txn slot : ℕ) (committed : Option ℕ) (t : OpenTransaction) → IsReached schema m → AreKept schema m cs → find (is_transaction owner txn) m.transactions ≡ Some t → slot ≡ 0 → t.decision ≡ decision_of committed
-    → AreKept schema (applied_at (decision_of committed) m owner txn slot t).1 (shard.applied txn committed cs)
-kept_applied schema m cs owner txn slot None t reached kept found zero is = subst (λ i. AreKept schema (applied_at decision.Aborted m owner txn i t).1 (shard.applied txn None cs)) (sym zero) (kept_aborted schema m reached cs kept owner txn t found is)
-kept_applied schema m cs owner txn slot (Some ts) t reached kept found zero is = subst (λ i. AreKept schema (applied_at (decision.Committed ts) m owner txn i t).1 (shard.applied txn (Some ts) cs)) (sym zero) (kept_committed schema m reached cs kept owner txn t found ts is)
+kept_applied : (schema : List Table) (m : Machine) (cs : List KeyVersions) (owner txn slot : ℕ) (committed : Option ℕ) (t : OpenTransaction) → IsReached schema m → AreKept schema m 0 cs → find (is_transaction owner txn) m.transactions ≡ Some t → slot ≡ 0 → t.decision ≡ decision_of committed
+    → AreKept schema (applied_at (decision_of committed) m owner txn slot t).1 0 (shard.applied txn committed cs)
+kept_applied schema m cs owner txn slot None t reached kept found zero is = subst (λ i. AreKept schema (applied_at decision.Aborted m owner txn i t).1 0 (shard.applied txn None cs)) (sym zero) (kept_aborted schema m reached cs kept owner txn t found is)
+kept_applied schema m cs owner txn slot (Some ts) t reached kept found zero is = subst (λ i. AreKept schema (applied_at (decision.Committed ts) m owner txn i t).1 0 (shard.applied txn (Some ts) cs)) (sym zero) (kept_committed schema m reached cs kept owner txn t found ts is)
 
 -- a commit timestamp is later than the versions of every key where the transaction has a write prepared
 pub later_applied : (schema : List Table) (j : Journaled) (cs : List KeyVersions) (owner txn slot : ℕ) (interval : Interval) (committed : Option ℕ) (n : Machine) → IsWhole schema j cs → IsApplied (machine_of j) owner txn slot interval committed n → IsLaterCommit txn committed cs
@@ -170,7 +170,7 @@ whole_applied schema j k cs owner txn slot interval committed w d queries =
       rules = w.rules;
       past = past_answered schema m (step.Apply owner txn slot interval) (machine_of k) w.past tt tt is;
       reached = subst (IsReached schema) (sym is) (answer_reached schema w.rules m w.reached no_text (step.Apply owner txn slot interval) tt);
-      kept = subst (λ (n : Machine). AreKept schema n (shard.applied txn committed cs)) (sym d.after) (kept_applied schema m cs owner txn slot committed d.transaction w.reached w.kept d.found zero d.decision);
+      kept = subst (λ (n : Machine). AreKept schema n 0 (shard.applied txn committed cs)) (sym d.after) (kept_applied schema m cs owner txn slot committed d.transaction w.reached w.kept d.found zero d.decision);
       pieced = subst (ArePieced schema (machine_of k)) (sym queries) (subst (λ (n : Machine). ArePieced schema n j.queries) (sym is) (pieced_by_step schema w.rules m w.reached j.queries refl w.pieced no_text (step.Apply owner txn slot interval) tt));
     }
 
@@ -180,11 +180,9 @@ some_same x y e = cc
 not_below : (s h : ℕ) → nat_lt s h ≡ false → h ≤ s
 not_below s h e = grind (arith, nat_tests)
 
--- what may be scanned is not below the horizon
-above_horizon : (schema : List Table) (m : Machine) → IsReached schema m → (query leaf slot : ℕ) (interval : Interval) (table s : ℕ) (d : MayScan m query leaf slot interval table s) → horizon_of m ≤ d.question.s
-above_horizon schema m reached query leaf slot interval table s d =
-    let here : slice_get m.slots 0 ≡ Some d.slot_state = subst (λ (i : ℕ). slice_get m.slots i ≡ Some d.slot_state) (only_slot schema m reached slot d.slot_state d.here) d.here in
-    subst (λ (h : ℕ). h ≤ d.question.s) (sym (horizon_here m.slots d.slot_state here)) (not_below d.question.s d.slot_state.horizon d.above)
+-- what may be scanned is in slot 0
+first_here : (schema : List Table) (m : Machine) → IsReached schema m → (query leaf slot : ℕ) (interval : Interval) (table s : ℕ) (d : MayScan m query leaf slot interval table s) → slice_get m.slots 0 ≡ Some d.slot_state
+first_here schema m reached query leaf slot interval table s d = subst (λ (i : ℕ). slice_get m.slots i ≡ Some d.slot_state) (only_slot schema m reached slot d.slot_state d.here) d.here
 
 -- ---- trim
 
@@ -205,8 +203,8 @@ whole_trimmed schema j k cs slot h w d queries =
       rules = w.rules;
       past = past_answered schema m (step.Trim slot h) (machine_of k) w.past tt tt is;
       reached = subst (IsReached schema) (sym is) (answer_reached schema w.rules m w.reached no_text (step.Trim slot h) tt);
-      kept = subst (λ (n : Machine). AreKept schema n (shard.trimmed h cs)) (sym d.after)
-          (subst (λ (i : ℕ). AreKept schema (trimmed schema m i h d.slot_state).1 (shard.trimmed h cs)) (sym zero) (kept_trimmed schema m cs w.kept h d.slot_state here high));
+      kept = subst (λ (n : Machine). AreKept schema n 0 (shard.trimmed h cs)) (sym d.after)
+          (subst (λ (i : ℕ). AreKept schema (trimmed schema m i h d.slot_state).1 0 (shard.trimmed h cs)) (sym zero) (kept_trimmed schema m cs w.kept h d.slot_state here high));
       pieced = subst (ArePieced schema (machine_of k)) (sym queries) (subst (λ (n : Machine). ArePieced schema n j.queries) (sym is) (pieced_by_step schema w.rules m w.reached j.queries refl w.pieced no_text (step.Trim slot h) tt));
     }
 
@@ -224,7 +222,7 @@ trimmed_steps schema j k cs slot h w d queries =
     let there : slice_get (machine_of k).slots 0 ≡ Some (with_horizon h d.slot_state) =
     ap (λ (n : Machine). slice_get n.slots 0) d.after ∙ ap (λ (i : ℕ). slice_get (slice_set m.slots i (with_horizon h d.slot_state)) 0) zero ∙ set_there m.slots 0 d.slot_state (with_horizon h d.slot_state) here in
     let number : shard.live (shard.trimmed h cs) ≡ kept.live schema m.log m.transactions slot (with_horizon h d.slot_state) =
-    live_is_kept schema w.rules (machine_of k) (shard.trimmed h cs) (with_horizon h d.slot_state) after.reached after.kept there
+    live_is_kept schema w.rules (machine_of k) 0 (with_horizon h d.slot_state) (shard.trimmed h cs) after.reached after.kept there
     ∙ ap (λ (l : List Commit). kept.live schema l (machine_of k).transactions 0 (with_horizon h d.slot_state)) log
     ∙ ap (λ (ts : List OpenTransaction). kept.live schema m.log ts 0 (with_horizon h d.slot_state)) open_still
     ∙ ap (λ (i : ℕ). kept.live schema m.log m.transactions i (with_horizon h d.slot_state)) (sym zero) in
@@ -237,7 +235,7 @@ live_here schema j cs slot slot_state w here =
     let m = machine_of j in
     let zero = only_slot schema m w.reached slot slot_state here in
     let here_zero : slice_get m.slots 0 ≡ Some slot_state = subst (λ (i : ℕ). slice_get m.slots i ≡ Some slot_state) zero here in
-    live_is_kept schema w.rules m cs slot_state w.reached w.kept here_zero
+    live_is_kept schema w.rules m 0 slot_state cs w.reached w.kept here_zero
     ∙ ap (λ (i : ℕ). kept.live schema m.log m.transactions i slot_state) (sym zero)
 
 -- ---- scan
@@ -297,16 +295,16 @@ scanned_whole schema j k cs query leaf slot interval table s shown w d reading g
     let zero = only_slot schema m w.reached slot d.slot_state d.here in
     let safe : is_safe m 0 (with_risen_floor d.slot_state d.question.s interval) g.question.query.s ≡ true =
     ap (λ (q : OpenQuery). is_safe m 0 (with_risen_floor d.slot_state d.question.s interval) q.s) same ∙ subst (λ i. is_safe m i (with_risen_floor d.slot_state d.question.s interval) d.question.s ≡ true) zero d.safe in
-    let high : horizon_of m ≤ g.question.query.s = subst (λ (q : OpenQuery). horizon_of m ≤ q.s) (sym same) (above_horizon schema m w.reached query leaf slot interval table s d) in
+    let high : d.slot_state.horizon ≤ g.question.query.s = subst (λ (q : OpenQuery). d.slot_state.horizon ≤ q.s) (sym same) (not_below d.question.s d.slot_state.horizon d.above) in
     let there : slice_get g.question.query.leaves leaf ≡ Some d.gap = ap (λ (q : OpenQuery). slice_get q.leaves leaf) same ∙ d.there in
     let reading_there : IsReading schema d.gap.table (snapshot (family (root_of schema d.gap.table)) g.question.query.s cs) shown =
     subst (λ n. IsReading schema n (snapshot (family (root_of schema n)) g.question.query.s cs) shown) d.of_table (subst (λ i. IsReading schema table (snapshot (family (root_of schema table)) i cs) shown) read_at reading) in
-    let pieced = pieced_scanned schema w.rules m cs j.queries w.reached w.kept w.pieced query g.question (with_risen_floor d.slot_state d.question.s interval) g.found safe high leaf d.gap there shown reading_there in (
+    let pieced = pieced_scanned schema w.rules m cs j.queries w.reached w.kept w.pieced query g.question d.slot_state (with_risen_floor d.slot_state d.question.s interval) g.found (first_here schema m w.reached query leaf slot interval table s d) safe high leaf d.gap there shown reading_there in (
       record {
         rules = w.rules;
         past = past_answered schema m (step.Scan query leaf slot interval) (machine_of k) w.past tt tt is;
         reached = subst (IsReached schema) (sym is) (answer_reached schema w.rules m w.reached no_text (step.Scan query leaf slot interval) tt);
-        kept = subst (λ (n : Machine). AreKept schema n cs) (sym is) (kept_scan schema m w.reached cs w.kept query leaf slot interval);
+        kept = subst (λ (n : Machine). AreKept schema n 0 cs) (sym is) (kept_scan schema m w.reached cs w.kept query leaf slot interval);
         pieced = subst (λ (l : Journaled). ArePieced schema (machine_of l) l.queries) (sym g.after) pieced;
       },
       inl (no_text, tt, (sym (ap (λ (a : Answer). a.0) (scan_is m query leaf slot interval table s d)), is)),
@@ -337,7 +335,7 @@ reads schema j cs query leaf slot interval table s why w d (inr none) =
     let zero = only_slot schema m w.reached slot d.slot_state d.here in
     let safe : is_safe m 0 (with_risen_floor d.slot_state d.question.s interval) d.question.s ≡ true = subst (λ i. is_safe m i (with_risen_floor d.slot_state d.question.s interval) d.question.s ≡ true) zero d.safe in
     let made = reached_tables schema w.rules m d.question.s w.reached in
-    let seen = snapshot_when_safe schema w.rules m cs d.question.s (with_risen_floor d.slot_state d.question.s interval) w.reached w.kept safe (above_horizon schema m w.reached query leaf slot interval table s d) made.0 made.1 table in
+    let seen = snapshot_when_safe schema w.rules m 0 d.slot_state (with_risen_floor d.slot_state d.question.s interval) cs d.question.s w.reached w.kept (first_here schema m w.reached query leaf slot interval table s d) safe (not_below d.question.s d.slot_state.horizon d.above) made.0 made.1 table in
     absurd (none seen.rows seen.typed (ap (λ i. snapshot (family (root_of schema table)) i cs) d.at ∙ seen.entries_are))
 
 -- ---- finish

@@ -21,12 +21,12 @@ pub record State : Type 0 where
   pub machine : Machine
 
 -- a journal and a shard that belong together: a run leads to the machine, and what holds of every machine that a run reaches holds of it;
--- the shard's versions are those of its commits, and the pieces of covered leaves have the rows of its tables
+-- the shard's versions are those that slot 0 keeps of its commits, and the pieces of covered leaves have the rows of its tables
 pub record IsWhole (schema : List Table) (j : Journaled) (cs : List KeyVersions) : Type 0 where
   pub rules : MeetsRules schema
   pub past : IsRunTo schema (machine_of j)
   pub reached : IsReached schema (machine_of j)
-  pub kept : AreKept schema (machine_of j) cs
+  pub kept : AreKept schema (machine_of j) 0 cs
   pub pieced : ArePieced schema (machine_of j) j.queries
 
 -- the rows of a table at s

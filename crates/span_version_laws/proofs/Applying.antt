@@ -11,7 +11,7 @@ use Rattle.span_shard.proofs.Undo.{IsOpenFor, used_filtered}
 use Rattle.span_machine.specs.declared.transaction.Commit.{Commit}
 use Rattle.span_machine.specs.declared.transaction.OpenTransaction.{OpenTransaction}
 use Rattle.span_machine.specs.declared.transaction.Decision.TheVariants as decision
-use Rattle.span_machine.specs.Machine.{Machine, is_transaction, is_prepared_at, without_prepared, without_first, changed_first, applied, applied_at, commit_of}
+use Rattle.span_machine.specs.Machine.{Machine, has_key, holds, is_transaction, is_prepared_at, without_prepared, without_first, changed_first, applied, applied_at, commit_of}
 use Rattle.span_machine.specs.Kept.{ok_or}
 use Rattle.span_machine_laws.proofs.Tests.{first_true, second_true, number_same, equal_number}
 use Rattle.span_machine_laws.proofs.Lists.{found_passes, found_in}
@@ -19,12 +19,12 @@ use Rattle.span_machine_laws.proofs.Stability.{is_some_of, changes_at}
 use Rattle.span_machine_laws.proofs.InPlace.{IsUnder, IsRising, commits_at, claims}
 use Rattle.span_machine_laws.proofs.Claims.{left_slot}
 use Rattle.span_machine_laws.proofs.Reached.{IsReached}
-use Rattle.span_version_laws.specs.Kept.{IsCodedRoot, IsCodedCoding, is_under, MakeRows, HasRows, IsPut, IsPending, IsKeptBy, AreKept, with_change, directory_after, made, horizon_of}
-use Rattle.span_version_laws.proofs.FirstSlot.{placed_first}
+use Rattle.span_version_laws.specs.Kept.{IsCodedRoot, IsCodedCoding, is_under, MakeRows, HasRows, IsPut, IsPending, IsKeptBy, AreKept, with_change, directory_after, made}
+use Rattle.span_version_laws.proofs.Slots.{IsStill, placed_in, still_same, still_last, other_number, home}
 use Rattle.span_version_laws.proofs.Trimming.{kept_newest, is_same_of, not_same_of, made_push}
 use Rattle.span_version_laws.proofs.Keys.{same_key, applied_versions, applied_prepared, versions_at-applied, prepared_at-applied}
-use Rattle.span_version_laws.proofs.Claimers.{false_and, claimers_of, above_horizon}
-use Rattle.span_version_laws.proofs.Steps.{open_of_put, kept_under, horizon_last}
+use Rattle.span_version_laws.proofs.Claimers.{false_and, above_horizon}
+use Rattle.span_version_laws.proofs.Steps.{open_of_put, kept_still, kept_under, claimers}
 use Rattle.span_version_laws.proofs.Rows.{rising_front, rows_push, rows_still, not_of_others, others_apart}
 use Rattle.std.specs.List.{AllByRecursion}
 use Rattle.span_schema.specs.declared.table.Table.{Table}
@@ -36,9 +36,6 @@ use Rattle.span_shard.proofs.InOrder.{in_order_applied}
 use Rattle.span_version_laws.proofs.Roots.{coded_root}
 
 -- ---- the write of one key
-
-other_number : (n k : ℕ) → n ≢ k → (n == k) ≡ false
-other_number n k off = elim (n == k) as (λ b. (n == k) ≡ b → b ≡ false) [ true ↦ λ e. absurd (off (number_same n k e)) | false ↦ λ e. refl ] refl
 
 -- what is of the transaction is prepared no more
 none_prepared : (txn : ℕ) (p : Option PreparedWrite) → IsOpenFor txn p → applied_prepared txn p ≡ None
@@ -103,100 +100,100 @@ applied_pending schema root k h cs vs p t ts up high is = (
       (rows_applied schema root k h is.front (commit_of ts t) vs is.put.before is.put.after t.number p is.rows (rising_front is.front (commit_of ts t) (subst IsRising is.whole up)) high is.put.now is.put.through is.put.put),
 )
 
--- every key stays the coding of a key
-coded_applied : (schema : List Table) (txn : ℕ) (committed : Option ℕ) (cs : List KeyVersions) → AllByRecursion (λ (c : KeyVersions). IsCodedCoding schema c.key) cs → AllByRecursion (λ (c : KeyVersions). IsCodedCoding schema c.key) (shard.applied txn committed cs)
-coded_applied schema txn committed [] all = tt
-coded_applied schema txn committed (c ∷ cs) all =
-    elim (is_used (applied_to_key txn committed c)) as (λ b. AllByRecursion (λ (d : KeyVersions). IsCodedCoding schema d.key) (cond b (applied_to_key txn committed c ∷ shard.applied txn committed cs) (shard.applied txn committed cs))) [
-      | true ↦ (subst (IsCodedCoding schema) (sym (same_key txn committed c)) all.0, coded_applied schema txn committed cs all.1)
-      | false ↦ coded_applied schema txn committed cs all.1
+-- what holds of every key still does
+keys_applied : (P : List ℕ → Type 0) (txn : ℕ) (committed : Option ℕ) (cs : List KeyVersions) → AllByRecursion (λ (c : KeyVersions). P c.key) cs → AllByRecursion (λ (c : KeyVersions). P c.key) (shard.applied txn committed cs)
+keys_applied P txn committed [] all = tt
+keys_applied P txn committed (c ∷ cs) all =
+    elim (is_used (applied_to_key txn committed c)) as (λ b. AllByRecursion (λ (d : KeyVersions). P d.key) (cond b (applied_to_key txn committed c ∷ shard.applied txn committed cs) (shard.applied txn committed cs))) [
+      | true ↦ (subst P (sym (same_key txn committed c)) all.0, keys_applied P txn committed cs all.1)
+      | false ↦ keys_applied P txn committed cs all.1
     ]
 
--- ---- Apply at slot 0
+-- ---- Apply at the slot
 
-module _ (schema : List Table) (m : Machine) (reached : IsReached schema m) (cs : List KeyVersions) (kept : AreKept schema m cs) (owner txn : ℕ) (t : OpenTransaction) (found : find (is_transaction owner txn) m.transactions ≡ Some t) where
+module _ (schema : List Table) (m : Machine) (reached : IsReached schema m) {slot : ℕ} (cs : List KeyVersions) (kept : AreKept schema m slot cs) (owner txn : ℕ) (t : OpenTransaction) (found : find (is_transaction owner txn) m.transactions ≡ Some t) where
   txn_is : t.number ≡ txn
   txn_is = number_same t.number txn (second_true (t.owner == owner) (t.number == txn) (found_passes (is_transaction owner txn) m.transactions t found))
 
-  off_after : (root : Root) → claims schema root 0 (without_prepared 0 t) ≡ false
-  off_after root = false_and (is_prepared_at 0 (without_prepared 0 t)) (is_some_of (filter (is_at schema root) t.mutations)) (left_slot 0 t.prepared)
+  off_after : (root : Root) → claims schema root slot (without_prepared slot t) ≡ false
+  off_after root = false_and (is_prepared_at slot (without_prepared slot t)) (is_some_of (filter (is_at schema root) t.mutations)) (left_slot slot t.prepared)
 
   -- the transaction claims no key more
-  left : (root : Root) → IsCodedRoot schema root → claims schema root 0 t ≡ true → filter (claims schema root 0) (applied m owner txn 0 t) ≡ []
-  left root is_root is =
-      let them = claimers_of schema m reached root (coded_root schema root is_root) (is_transaction owner txn) t found in
-      elim (length (without_prepared 0 t).prepared == 0) as (λ v. filter (claims schema root 0) (cond v (without_first (is_transaction owner txn) m.transactions) (changed_first (is_transaction owner txn) (without_prepared 0) m.transactions)) ≡ []) [
+  left : (root : Root) → IsCodedRoot schema root → holds schema kept.slot_state root ≡ true → claims schema root slot t ≡ true → filter (claims schema root slot) (applied m owner txn slot t) ≡ []
+  left root is_root held is =
+      let them = claimers schema m reached cs kept root is_root held (is_transaction owner txn) t found in
+      elim (length (without_prepared slot t).prepared == 0) as (λ v. filter (claims schema root slot) (cond v (without_first (is_transaction owner txn) m.transactions) (changed_first (is_transaction owner txn) (without_prepared slot) m.transactions)) ≡ []) [
         | true ↦ them.gone is
-        | false ↦ them.changed (without_prepared 0) is ∙ ap (λ b. cond b (without_prepared 0 t ∷ []) []) (off_after root)
+        | false ↦ them.changed (without_prepared slot) is ∙ ap (λ b. cond b (without_prepared slot t ∷ []) []) (off_after root)
       ]
 
-  others : (root : Root) → IsCodedRoot schema root → claims schema root 0 t ≡ false → filter (claims schema root 0) (applied m owner txn 0 t) ≡ filter (claims schema root 0) m.transactions
-  others root is_root off =
-      let them = claimers_of schema m reached root (coded_root schema root is_root) (is_transaction owner txn) t found in
-      elim (length (without_prepared 0 t).prepared == 0) as (λ v. filter (claims schema root 0) (cond v (without_first (is_transaction owner txn) m.transactions) (changed_first (is_transaction owner txn) (without_prepared 0) m.transactions)) ≡ filter (claims schema root 0) m.transactions) [
+  others : (root : Root) → IsCodedRoot schema root → holds schema kept.slot_state root ≡ true → claims schema root slot t ≡ false → filter (claims schema root slot) (applied m owner txn slot t) ≡ filter (claims schema root slot) m.transactions
+  others root is_root held off =
+      let them = claimers schema m reached cs kept root is_root held (is_transaction owner txn) t found in
+      elim (length (without_prepared slot t).prepared == 0) as (λ v. filter (claims schema root slot) (cond v (without_first (is_transaction owner txn) m.transactions) (changed_first (is_transaction owner txn) (without_prepared slot) m.transactions)) ≡ filter (claims schema root slot) m.transactions) [
         | true ↦ them.away_gone off
-        | false ↦ them.away (without_prepared 0) off (off_after root)
+        | false ↦ them.away (without_prepared slot) off (off_after root)
       ]
 
   -- what is kept at a key that another transaction claims, or none
-  kept_of_others : (root : Root) (is_root : IsCodedRoot schema root) (k : List ℕ) (under : is_under schema root k ≡ true) (committed : Option ℕ) → claims schema root 0 t ≡ false
-      → IsKeptBy schema root k (horizon_of m) (commits_at schema root m.log) (applied_versions t.number committed (prepared_at cs k) (versions_at cs k)) (applied_prepared t.number (prepared_at cs k)) (filter (claims schema root 0) (applied m owner txn 0 t))
-  kept_of_others root is_root k under committed off =
+  kept_of_others : (root : Root) (is_root : IsCodedRoot schema root) (held : holds schema kept.slot_state root ≡ true) (k : List ℕ) (under : is_under schema root k ≡ true) (committed : Option ℕ) → claims schema root slot t ≡ false
+      → IsKeptBy schema root k kept.slot_state.horizon (commits_at schema root m.log) (applied_versions t.number committed (prepared_at cs k) (versions_at cs k)) (applied_prepared t.number (prepared_at cs k)) (filter (claims schema root slot) (applied m owner txn slot t))
+  kept_of_others root is_root held k under committed off =
       let not_its : IsNotOf t.number (prepared_at cs k) =
-      not_of_others schema root k (horizon_of m) (commits_at schema root m.log) (versions_at cs k) (prepared_at cs k) (filter (claims schema root 0) m.transactions) t.number (kept.kept root is_root k under) (others_apart schema m reached root (is_transaction owner txn) t found off) in
-      subst (λ vs. IsKeptBy schema root k (horizon_of m) (commits_at schema root m.log) vs (applied_prepared t.number (prepared_at cs k)) (filter (claims schema root 0) (applied m owner txn 0 t))) (sym (still_versions t.number committed (prepared_at cs k) (versions_at cs k) not_its))
-      (subst (λ p. IsKeptBy schema root k (horizon_of m) (commits_at schema root m.log) (versions_at cs k) p (filter (claims schema root 0) (applied m owner txn 0 t))) (sym (still_prepared t.number (prepared_at cs k) not_its))
-      (subst (IsKeptBy schema root k (horizon_of m) (commits_at schema root m.log) (versions_at cs k) (prepared_at cs k)) (sym (others root is_root off)) (kept.kept root is_root k under)))
+      not_of_others schema root k kept.slot_state.horizon (commits_at schema root m.log) (versions_at cs k) (prepared_at cs k) (filter (claims schema root slot) m.transactions) t.number (kept.kept root is_root held k under) (others_apart schema m reached root slot (is_transaction owner txn) t found off) in
+      subst (λ vs. IsKeptBy schema root k kept.slot_state.horizon (commits_at schema root m.log) vs (applied_prepared t.number (prepared_at cs k)) (filter (claims schema root slot) (applied m owner txn slot t))) (sym (still_versions t.number committed (prepared_at cs k) (versions_at cs k) not_its))
+      (subst (λ p. IsKeptBy schema root k kept.slot_state.horizon (commits_at schema root m.log) (versions_at cs k) p (filter (claims schema root slot) (applied m owner txn slot t))) (sym (still_prepared t.number (prepared_at cs k) not_its))
+      (subst (IsKeptBy schema root k kept.slot_state.horizon (commits_at schema root m.log) (versions_at cs k) (prepared_at cs k)) (sym (others root is_root held off)) (kept.kept root is_root held k under)))
 
   -- where it is so at every key, it is so of the shard
-  kept_by_keys : (n : Machine) (committed : Option ℕ) → n.log ≡ m.log → n.transactions ≡ applied m owner txn 0 t → horizon_of n ≡ horizon_of m
-      → ((root : Root) (is_root : IsCodedRoot schema root) (k : List ℕ) (under : is_under schema root k ≡ true) → IsKeptBy schema root k (horizon_of m) (commits_at schema root m.log) (applied_versions t.number committed (prepared_at cs k) (versions_at cs k)) (applied_prepared t.number (prepared_at cs k)) (filter (claims schema root 0) (applied m owner txn 0 t)))
-      → AreKept schema n (shard.applied t.number committed cs)
-  kept_by_keys n committed log ts horizon each = record {
-    keys = in_order_applied t.number committed cs kept.keys;
-    used = used_filtered (map (applied_to_key t.number committed) cs);
-    coded = coded_applied schema t.number committed cs kept.coded;
-    kept = λ root is_root k under.
-        subst (λ h. IsKeptBy schema root k h (commits_at schema root n.log) (versions_at (shard.applied t.number committed cs) k) (prepared_at (shard.applied t.number committed cs) k) (filter (claims schema root 0) n.transactions)) (sym horizon)
-        (subst (λ l. IsKeptBy schema root k (horizon_of m) (commits_at schema root l) (versions_at (shard.applied t.number committed cs) k) (prepared_at (shard.applied t.number committed cs) k) (filter (claims schema root 0) n.transactions)) (sym log)
-        (subst (λ us. IsKeptBy schema root k (horizon_of m) (commits_at schema root m.log) (versions_at (shard.applied t.number committed cs) k) (prepared_at (shard.applied t.number committed cs) k) (filter (claims schema root 0) us)) (sym ts)
-        (subst (λ vs. IsKeptBy schema root k (horizon_of m) (commits_at schema root m.log) vs (prepared_at (shard.applied t.number committed cs) k) (filter (claims schema root 0) (applied m owner txn 0 t))) (sym (versions_at-applied t.number committed cs k kept.keys))
-        (subst (λ p. IsKeptBy schema root k (horizon_of m) (commits_at schema root m.log) (applied_versions t.number committed (prepared_at cs k) (versions_at cs k)) p (filter (claims schema root 0) (applied m owner txn 0 t))) (sym (prepared_at-applied t.number committed cs k kept.keys))
-        (each root is_root k under)))));
-  }
+  kept_by_keys : (n : Machine) (committed : Option ℕ) → n.log ≡ m.log → n.transactions ≡ applied m owner txn slot t → IsStill n.slots slot kept.slot_state
+      → ((root : Root) (is_root : IsCodedRoot schema root) (held : holds schema kept.slot_state root ≡ true) (k : List ℕ) (under : is_under schema root k ≡ true)
+      → IsKeptBy schema root k kept.slot_state.horizon (commits_at schema root m.log) (applied_versions t.number committed (prepared_at cs k) (versions_at cs k)) (applied_prepared t.number (prepared_at cs k)) (filter (claims schema root slot) (applied m owner txn slot t)))
+      → AreKept schema n slot (shard.applied t.number committed cs)
+  kept_by_keys n committed log ts still each = kept_still schema n slot kept.slot_state (shard.applied t.number committed cs) still
+      (in_order_applied t.number committed cs kept.keys)
+      (used_filtered (map (applied_to_key t.number committed) cs))
+      (keys_applied (IsCodedCoding schema) t.number committed cs kept.coded)
+      (keys_applied (λ key. has_key kept.slot_state key ≡ true) t.number committed cs kept.inside)
+      (λ root is_root held k under.
+      subst (λ l. IsKeptBy schema root k kept.slot_state.horizon (commits_at schema root l) (versions_at (shard.applied t.number committed cs) k) (prepared_at (shard.applied t.number committed cs) k) (filter (claims schema root slot) n.transactions)) (sym log)
+      (subst (λ us. IsKeptBy schema root k kept.slot_state.horizon (commits_at schema root m.log) (versions_at (shard.applied t.number committed cs) k) (prepared_at (shard.applied t.number committed cs) k) (filter (claims schema root slot) us)) (sym ts)
+      (subst (λ vs. IsKeptBy schema root k kept.slot_state.horizon (commits_at schema root m.log) vs (prepared_at (shard.applied t.number committed cs) k) (filter (claims schema root slot) (applied m owner txn slot t))) (sym (versions_at-applied t.number committed cs k kept.keys))
+      (subst (λ p. IsKeptBy schema root k kept.slot_state.horizon (commits_at schema root m.log) (applied_versions t.number committed (prepared_at cs k) (versions_at cs k)) p (filter (claims schema root slot) (applied m owner txn slot t))) (sym (prepared_at-applied t.number committed cs k kept.keys))
+      (each root is_root held k under)))))
 
-  committed_key : (ts : ℕ) → t.decision ≡ decision.Committed ts → (root : Root) (is_root : IsCodedRoot schema root) (k : List ℕ) (under : is_under schema root k ≡ true)
-      → IsKeptBy schema root k (horizon_of m) (commits_at schema root m.log) (applied_versions t.number (Some ts) (prepared_at cs k) (versions_at cs k)) (applied_prepared t.number (prepared_at cs k)) (filter (claims schema root 0) (applied m owner txn 0 t))
-  committed_key ts e root is_root k under = elim (claims schema root 0 t) as (λ v. claims schema root 0 t ≡ v
-      → IsKeptBy schema root k (horizon_of m) (commits_at schema root m.log) (applied_versions t.number (Some ts) (prepared_at cs k) (versions_at cs k)) (applied_prepared t.number (prepared_at cs k)) (filter (claims schema root 0) (applied m owner txn 0 t))) [
-        | false ↦ λ off. kept_of_others root is_root k under (Some ts) off
+  committed_key : (ts : ℕ) → t.decision ≡ decision.Committed ts → (root : Root) (is_root : IsCodedRoot schema root) (held : holds schema kept.slot_state root ≡ true) (k : List ℕ) (under : is_under schema root k ≡ true)
+      → IsKeptBy schema root k kept.slot_state.horizon (commits_at schema root m.log) (applied_versions t.number (Some ts) (prepared_at cs k) (versions_at cs k)) (applied_prepared t.number (prepared_at cs k)) (filter (claims schema root slot) (applied m owner txn slot t))
+  committed_key ts e root is_root held k under = elim (claims schema root slot t) as (λ v. claims schema root slot t ≡ v
+      → IsKeptBy schema root k kept.slot_state.horizon (commits_at schema root m.log) (applied_versions t.number (Some ts) (prepared_at cs k) (versions_at cs k)) (applied_prepared t.number (prepared_at cs k)) (filter (claims schema root slot) (applied m owner txn slot t))) [
+        | false ↦ λ off. kept_of_others root is_root held k under (Some ts) off
         | true ↦ λ is.
-            let place = placed_first schema m reached root (coded_root schema root is_root) in
-            let high : horizon_of m < ts = above_horizon schema m reached root (coded_root schema root is_root) t ts (found_in (is_transaction owner txn) m.transactions t found) (first_true (is_prepared_at 0 t) (is_some_of (filter (is_at schema root) t.mutations)) is) e in
-            subst (IsKeptBy schema root k (horizon_of m) (commits_at schema root m.log) (applied_versions t.number (Some ts) (prepared_at cs k) (versions_at cs k)) (applied_prepared t.number (prepared_at cs k))) (sym (left root is_root is))
-            (applied_pending schema root k (horizon_of m) (commits_at schema root m.log) (versions_at cs k) (prepared_at cs k) t ts place.rising high
-            (kept_under schema m reached cs kept root is_root k under (is_transaction owner txn) t (decision.Committed ts) found is e))
+            let place = placed_in schema m reached root (coded_root schema root is_root) slot (home schema m cs kept root held) in
+            let high : kept.slot_state.horizon < ts = above_horizon schema m reached root (coded_root schema root is_root) slot (home schema m cs kept root held) t ts (found_in (is_transaction owner txn) m.transactions t found) (first_true (is_prepared_at slot t) (is_some_of (filter (is_at schema root) t.mutations)) is) e in
+            subst (IsKeptBy schema root k kept.slot_state.horizon (commits_at schema root m.log) (applied_versions t.number (Some ts) (prepared_at cs k) (versions_at cs k)) (applied_prepared t.number (prepared_at cs k))) (sym (left root is_root held is))
+            (applied_pending schema root k kept.slot_state.horizon (commits_at schema root m.log) (versions_at cs k) (prepared_at cs k) t ts place.rising high
+            (kept_under schema m reached cs kept root is_root held k under (is_transaction owner txn) t (decision.Committed ts) found is e))
       ] refl
 
-  aborted_key : t.decision ≡ decision.Aborted → (root : Root) (is_root : IsCodedRoot schema root) (k : List ℕ) (under : is_under schema root k ≡ true)
-      → IsKeptBy schema root k (horizon_of m) (commits_at schema root m.log) (applied_versions t.number None (prepared_at cs k) (versions_at cs k)) (applied_prepared t.number (prepared_at cs k)) (filter (claims schema root 0) (applied m owner txn 0 t))
-  aborted_key e root is_root k under = elim (claims schema root 0 t) as (λ v. claims schema root 0 t ≡ v
-      → IsKeptBy schema root k (horizon_of m) (commits_at schema root m.log) (applied_versions t.number None (prepared_at cs k) (versions_at cs k)) (applied_prepared t.number (prepared_at cs k)) (filter (claims schema root 0) (applied m owner txn 0 t))) [
-        | false ↦ λ off. kept_of_others root is_root k under None off
+  aborted_key : t.decision ≡ decision.Aborted → (root : Root) (is_root : IsCodedRoot schema root) (held : holds schema kept.slot_state root ≡ true) (k : List ℕ) (under : is_under schema root k ≡ true)
+      → IsKeptBy schema root k kept.slot_state.horizon (commits_at schema root m.log) (applied_versions t.number None (prepared_at cs k) (versions_at cs k)) (applied_prepared t.number (prepared_at cs k)) (filter (claims schema root slot) (applied m owner txn slot t))
+  aborted_key e root is_root held k under = elim (claims schema root slot t) as (λ v. claims schema root slot t ≡ v
+      → IsKeptBy schema root k kept.slot_state.horizon (commits_at schema root m.log) (applied_versions t.number None (prepared_at cs k) (versions_at cs k)) (applied_prepared t.number (prepared_at cs k)) (filter (claims schema root slot) (applied m owner txn slot t))) [
+        | false ↦ λ off. kept_of_others root is_root held k under None off
         | true ↦ λ is.
-            let old = kept_under schema m reached cs kept root is_root k under (is_transaction owner txn) t decision.Aborted found is e in
-            subst (IsKeptBy schema root k (horizon_of m) (commits_at schema root m.log) (applied_versions t.number None (prepared_at cs k) (versions_at cs k)) (applied_prepared t.number (prepared_at cs k))) (sym (left root is_root is)) (
+            let old = kept_under schema m reached cs kept root is_root held k under (is_transaction owner txn) t decision.Aborted found is e in
+            subst (IsKeptBy schema root k kept.slot_state.horizon (commits_at schema root m.log) (applied_versions t.number None (prepared_at cs k) (versions_at cs k)) (applied_prepared t.number (prepared_at cs k))) (sym (left root is_root held is)) (
               none_prepared t.number (prepared_at cs k) (open_of_put t.number _ _ (prepared_at cs k) old.0.put),
-              subst (HasRows schema root k (horizon_of m) (commits_at schema root m.log)) (sym (given_up_versions t.number (prepared_at cs k) (versions_at cs k))) old.1,
+              subst (HasRows schema root k kept.slot_state.horizon (commits_at schema root m.log)) (sym (given_up_versions t.number (prepared_at cs k) (versions_at cs k))) old.1,
             )
       ] refl
 
   -- the commit's writes are versions
-  pub kept_committed : (ts : ℕ) → t.decision ≡ decision.Committed ts → AreKept schema (applied_at (decision.Committed ts) m owner txn 0 t).1 (shard.applied txn (Some ts) cs)
-  kept_committed ts e = subst (λ n. AreKept schema (applied_at (decision.Committed ts) m owner txn 0 t).1 (shard.applied n (Some ts) cs)) txn_is
-      (kept_by_keys (applied_at (decision.Committed ts) m owner txn 0 t).1 (Some ts) refl refl (horizon_last m.slots 0 ts) (committed_key ts e))
+  pub kept_committed : (ts : ℕ) → t.decision ≡ decision.Committed ts → AreKept schema (applied_at (decision.Committed ts) m owner txn slot t).1 slot (shard.applied txn (Some ts) cs)
+  kept_committed ts e = subst (λ n. AreKept schema (applied_at (decision.Committed ts) m owner txn slot t).1 slot (shard.applied n (Some ts) cs)) txn_is
+      (kept_by_keys (applied_at (decision.Committed ts) m owner txn slot t).1 (Some ts) refl refl (still_last m.slots slot slot ts kept.slot_state kept.here) (committed_key ts e))
 
   -- the writes are given up
-  pub kept_aborted : t.decision ≡ decision.Aborted → AreKept schema (applied_at decision.Aborted m owner txn 0 t).1 (shard.applied txn None cs)
-  kept_aborted e = subst (λ n. AreKept schema (applied_at decision.Aborted m owner txn 0 t).1 (shard.applied n None cs)) txn_is
-      (kept_by_keys (applied_at decision.Aborted m owner txn 0 t).1 None refl refl refl (aborted_key e))
+  pub kept_aborted : t.decision ≡ decision.Aborted → AreKept schema (applied_at decision.Aborted m owner txn slot t).1 slot (shard.applied txn None cs)
+  kept_aborted e = subst (λ n. AreKept schema (applied_at decision.Aborted m owner txn slot t).1 slot (shard.applied n None cs)) txn_is
+      (kept_by_keys (applied_at decision.Aborted m owner txn slot t).1 None refl refl (still_same m.slots slot kept.slot_state kept.here) (aborted_key e))

@@ -45,7 +45,6 @@ use Rattle.span_machine_laws.proofs.Claims.{all_kept}
 use Rattle.span_machine_laws.proofs.Schemas.{IsCommitBy, keyed_all, typed_upto}
 use Rattle.span_machine_laws.proofs.Reached.{IsReached, reached_tables}
 use Rattle.span_version_laws.specs.Kept.{IsCodedRoot, is_under, with_change, directory_after, made_from, made}
-use Rattle.span_version_laws.proofs.FirstSlot.{placed_first}
 use Rattle.span_version_laws.proofs.Roots.{coded_root, coded_in_directory}
 use Rattle.span_version_laws.proofs.Counting.{any_alike, any_both, filter_made, is_at_key, newest_first, newest_joined, AreRising}
 
@@ -366,7 +365,7 @@ module _ (schema : List Table) (rules : MeetsRules schema) (m : Machine) (reache
   pub log_made : IsLogMade schema m (database_of schema m.log)
   log_made =
       let tables_now = reached_tables schema rules m (timestamp_end - 1) reached in
-      let all : filter (λ (c : Commit). nat_le c.timestamp (timestamp_end - 1)) m.log ≡ m.log = all_kept (timestamp_end - 1) m.log (placed_first schema m reached root (coded_root schema root is_root)).in_range refl in
+      let all : filter (λ (c : Commit). nat_le c.timestamp (timestamp_end - 1)) m.log ≡ m.log = all_kept (timestamp_end - 1) m.log (reached.placed root (coded_root schema root is_root)).1.in_range refl in
       let made : apply schema [] (mutations_of (in_order is_before m.log)) ≡ Ok tables_now.0 = ap (λ (l : List Commit). apply schema [] (mutations_of (in_order is_before l))) (sym all) ∙ tables_now.1 in
       let typed : AreTypedMutations schema (mutations_of (in_order is_before m.log)) = subst (λ (l : List Commit). AreTypedMutations schema (mutations_of (in_order is_before l))) all (typed_upto schema m.log (timestamp_end - 1) reached.by_schema.log) in
       subst (IsLogMade schema m) (sym (database_after_is schema [] tables_now.0 (in_order is_before m.log) made)) (record { made = made; is = typed_after schema rules [] tables_now.0 (mutations_of (in_order is_before m.log)) empty_is typed made })
@@ -375,4 +374,4 @@ module _ (schema : List Table) (rules : MeetsRules schema) (m : Machine) (reache
   pub changes_of_key : (k : List ℕ) → is_under schema root k ≡ true → filter (is_at_key k) (changes_of schema m.log) ≡ changes_made schema root k (commits_at schema root m.log)
   changes_of_key k under =
       changes_from_key schema rules root is_root k under [] (database_of schema m.log) (in_order is_before m.log) empty_is (all_in_order (IsCommitBy schema) m.log reached.by_schema.log) log_made.made
-      ∙ ap (changes_made schema root k) (filter-in_order is_before is_before-order (touches schema root) m.log ∙ in_order_rising (commits_at schema root m.log) (placed_first schema m reached root (coded_root schema root is_root)).rising)
+      ∙ ap (changes_made schema root k) (filter-in_order is_before is_before-order (touches schema root) m.log ∙ in_order_rising (commits_at schema root m.log) (reached.placed root (coded_root schema root is_root)).1.rising)

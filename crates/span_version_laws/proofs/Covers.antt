@@ -22,8 +22,8 @@ use Rattle.span_machine_laws.proofs.Sealed.{answer_keeps}
 use Rattle.span_machine_laws.proofs.Sound.{IsCoveredSealed}
 use Rattle.span_machine_laws.proofs.Reached.{IsReached, reached_tables, finish_meant}
 use Rattle.span_machine_laws.proofs.Tests.{first_true, second_true, first_or, second_or}
-use Rattle.span_version_laws.specs.Kept.{AreKept, IsReading, HasTable, AreLeafPieces, IsPieced, ArePieced, family, horizon_of}
-use Rattle.span_version_laws.proofs.Snapshots.{snapshot_when_safe}
+use Rattle.span_version_laws.specs.Kept.{AreKept, IsReading, HasTable, AreLeafPieces, IsPieced, ArePieced, family}
+use Rattle.span_version_laws.proofs.FirstSlot.{first_snapshot}
 use Rattle.span_schema.specs.declared.table.Table.{Table}
 use Rattle.span_schema.specs.Lineages.{MeetsRules}
 use Rattle.span_schema.specs.Numbers.{IsTable, root_of}
@@ -147,14 +147,15 @@ pieced_without schema m ps test pieced = all_without (IsPieced schema m.log) tes
 pub pieced_table : (schema : List Table) (m : Machine) (ps : List Pieced) (query : ℕ) (p : Pieced) (leaf : ℕ) (l : Leaf) → ArePieced schema m ps → find (λ x. is_query query x.query) ps ≡ Some p → slice_get p.query.leaves leaf ≡ Some l → IsTable schema l.table
 pieced_table schema m ps query p leaf l pieced found here = leaf_table schema m.log p.query.s p.query.leaves p.pieces leaf l here (all_found (IsPieced schema m.log) (λ x. is_query query x.query) ps p found pieced)
 
--- a scan that finds the slot safe covers the leaf with what it reads of the family of its table
-pub pieced_scanned : (schema : List Table) → MeetsRules schema → (m : Machine) (cs : List KeyVersions) (ps : List Pieced) → IsReached schema m → AreKept schema m cs → ArePieced schema m ps → (query : ℕ) (p : Pieced) (slot_state : SlotState)
-    → find (λ x. is_query query x.query) ps ≡ Some p → is_safe m 0 slot_state p.query.s ≡ true → horizon_of m ≤ p.query.s → (leaf : ℕ) (l : Leaf) → slice_get p.query.leaves leaf ≡ Some l
+-- a scan that finds the first slot safe covers the leaf with what it reads of the family of its table
+pub pieced_scanned : (schema : List Table) → MeetsRules schema → (m : Machine) (cs : List KeyVersions) (ps : List Pieced) → IsReached schema m → AreKept schema m 0 cs → ArePieced schema m ps → (query : ℕ) (p : Pieced) (slot_state risen : SlotState)
+    → find (λ x. is_query query x.query) ps ≡ Some p → slice_get m.slots 0 ≡ Some slot_state → is_safe m 0 risen p.query.s ≡ true → slot_state.horizon ≤ p.query.s → (leaf : ℕ) (l : Leaf) → slice_get p.query.leaves leaf ≡ Some l
     → (shown : List Row) → IsReading schema l.table (snapshot (family (root_of schema l.table)) p.query.s cs) shown → ArePieced schema m (changed_first (λ x. is_query query x.query) (covered_by leaf shown) ps)
-pieced_scanned schema rules m cs ps reached kept pieced query p slot_state found safe high leaf l here shown reading =
+pieced_scanned schema rules m cs ps reached kept pieced query p slot_state risen found at safe high leaf l here shown reading =
     let made = reached_tables schema rules m p.query.s reached in
-    let seen = snapshot_when_safe schema rules m cs p.query.s slot_state reached kept safe high made.0 made.1 l.table in
-    let has : HasTable schema m.log p.query.s l.table shown = record { db = made.0; made = made.1; whole = reading seen.rows seen.typed seen.entries_are ∙ ap (map (declared_row schema)) seen.of_table } in
+    let snap = first_snapshot schema rules m slot_state risen cs p.query.s reached kept at safe high made.0 made.1 l.table in
+    let seen = snap.0 in
+    let has : HasTable schema m.log p.query.s l.table shown = record { db = made.0; made = made.1; whole = reading seen.rows seen.typed seen.entries_are ∙ ap (map (declared_row schema)) snap.1 } in
     all_changed_found (IsPieced schema m.log) (λ x. is_query query x.query) (covered_by leaf shown) ps p found
     (leaf_read schema m.log p.query.s p.query.leaves p.pieces leaf l shown here has (all_found (IsPieced schema m.log) (λ x. is_query query x.query) ps p found pieced)) pieced
 

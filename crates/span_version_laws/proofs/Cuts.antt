@@ -1,5 +1,6 @@
 -- A key is in the range of a slot just where the directory that it lies in is: ranges are cut at root keys.
-use Rattle.std.proofs.Common.{◌≡◌, ◌≢◌, ℕ, true, not, ◌&&◌, Bool, List, [], ◌∷◌, ◌++◌, Option, Some, None, length, map, drop, refl, ap, sym, ◌∙◌, subst}
+use Rattle.std.proofs.Common.{◌≡◌, ◌≢◌, ℕ, zero, suc, true, not, ◌&&◌, Bool, List, [], ◌∷◌, ◌++◌, Option, Some, None, length, map, drop, refl, ap, sym, ◌∙◌, subst}
+use Rattle.std.specs.Prelude.{slice_get}
 use Rattle.std.specs.Ordering.{is_lt, nat_cmp, ordering_then}
 use Rattle.std.specs.declared.cmp.Ordering.{Ordering}
 use Rattle.std.specs.declared.cmp.Ordering.TheVariants.{Less, Equal, Greater}
@@ -15,9 +16,12 @@ use Rattle.span_keycode.proofs.KeyLaws.{order_in_table}
 use Rattle.span_mutate.specs.Directories.{Root}
 use Rattle.span_shard.proofs.Bytes.{begins_front}
 use Rattle.span_machine.specs.declared.slot.SlotState.{SlotState}
-use Rattle.span_machine.specs.Slots.{IsCodedRoot, IsCut, is_from, is_upto, is_between, has_key, holds, root_code}
+use Rattle.span_machine.specs.Slots.{IsCodedRoot, IsCut, AreCut, is_from, is_upto, is_between, has_key, holds, root_code, ranges_of}
+use Rattle.span_machine.specs.Machine.{Machine}
+use Rattle.span_machine_laws.proofs.Reached.{IsReached}
 use Rattle.span_version_laws.specs.Kept.{is_under}
 use Rattle.span_version_laws.proofs.Roots.{first_and_rest}
+use Rattle.span_version_laws.proofs.Slots.{some_same}
 
 -- ---- bytes that go on
 
@@ -105,3 +109,23 @@ module _ (schema : List Table) (rules : MeetsRules schema) where
     pub has_under : (slot_state : SlotState) → IsCut schema slot_state.lo → IsCut schema slot_state.hi → has_key slot_state k ≡ holds schema slot_state root
     unfolding is_between
     has_under slot_state lo hi = ap (λ (b : Bool). b && is_upto slot_state.hi k) (from_cut slot_state.lo lo) ∙ ap (λ (b : Bool). is_from slot_state.lo (root_code schema root) && b) (upto_cut slot_state.hi hi)
+
+-- ---- the slots of a machine
+
+-- the ends of a slot's range are cuts
+cuts_of : (schema : List Table) (slots : List SlotState) (slot : ℕ) (b : SlotState) → slice_get slots slot ≡ Some b → AreCut schema (ranges_of slots) → IsCut schema b.lo × IsCut schema b.hi
+cuts_of schema [] slot b here cut = absurd (cc)
+cuts_of schema (c ∷ slots) zero b here cut = subst (λ (d : SlotState). IsCut schema d.lo × IsCut schema d.hi) (some_same c b here) cut.0
+cuts_of schema (c ∷ slots) (suc slot) b here cut = cuts_of schema slots slot b here cut.1
+
+module _ (schema : List Table) (rules : MeetsRules schema) (m : Machine) (reached : IsReached schema m) (slot : ℕ) (slot_state : SlotState) (here : slice_get m.slots slot ≡ Some slot_state)
+    (root : Root) (is : IsCodedRoot schema root) (k : List ℕ) (under : is_under schema root k ≡ true) where
+  -- a slot has a key in its range just where it has its directory
+  pub has_as_root : has_key slot_state k ≡ holds schema slot_state root
+  has_as_root = let cut = cuts_of schema m.slots slot slot_state here reached.ranges.cut in has_under schema rules root is k under slot_state cut.0 cut.1
+
+  pub held_by_key : has_key slot_state k ≡ true → holds schema slot_state root ≡ true
+  held_by_key has = sym has_as_root ∙ has
+
+  pub key_by_held : holds schema slot_state root ≡ true → has_key slot_state k ≡ true
+  key_by_held held = has_as_root ∙ held

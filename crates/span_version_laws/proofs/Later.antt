@@ -17,13 +17,13 @@ use Rattle.span_shard.specs.Shard.{is_key, versions_of, prepared_of, versions_at
 use Rattle.span_machine.specs.declared.transaction.Commit.{Commit}
 use Rattle.span_machine.specs.declared.transaction.OpenTransaction.{OpenTransaction}
 use Rattle.span_machine.specs.declared.transaction.Decision.TheVariants as decision
-use Rattle.span_machine.specs.Machine.{Machine, is_transaction, commit_of}
+use Rattle.span_machine.specs.Machine.{Machine, is_transaction, has_key, holds, commit_of}
 use Rattle.span_machine_laws.proofs.Tests.{second_true, number_same}
 use Rattle.span_machine_laws.proofs.Lists.{found_passes, all_found}
 use Rattle.span_machine_laws.proofs.InPlace.{IsUnder, IsRising, commits_at, claims}
 use Rattle.span_machine_laws.proofs.Reached.{IsReached}
-use Rattle.span_version_laws.specs.Kept.{IsCodedRoot, IsCodedCoding, is_under, with_change, directory_after, made_from, made, IsPending, AreKept, horizon_of}
-use Rattle.span_version_laws.proofs.FirstSlot.{placed_first}
+use Rattle.span_version_laws.specs.Kept.{IsCodedRoot, IsCodedCoding, is_under, with_change, directory_after, made_from, made, IsPending, AreKept}
+use Rattle.span_version_laws.proofs.Cuts.{held_by_key}
 use Rattle.span_version_laws.proofs.Keys.{all_by_key}
 use Rattle.span_version_laws.proofs.Roots.{coded_root, root_of_coding}
 use Rattle.span_version_laws.proofs.Rows.{rising_front, not_of_others, others_apart}
@@ -83,18 +83,18 @@ of_others : (txn ts : ℕ) (vs : List Version) (p : Option PreparedWrite) → Is
 of_others txn ts vs None off = tt
 of_others txn ts vs (Some w) off = λ e. absurd (off e)
 
-module _ (schema : List Table) (rules : MeetsRules schema) (m : Machine) (reached : IsReached schema m) (cs : List KeyVersions) (kept : AreKept schema m cs) (owner txn : ℕ) (t : OpenTransaction) (found : find (is_transaction owner txn) m.transactions ≡ Some t) where
+module _ (schema : List Table) (rules : MeetsRules schema) (m : Machine) (reached : IsReached schema m) {slot : ℕ} (cs : List KeyVersions) (kept : AreKept schema m slot cs) (owner txn : ℕ) (t : OpenTransaction) (found : find (is_transaction owner txn) m.transactions ≡ Some t) where
   txn_is : t.number ≡ txn
   txn_is = number_same t.number txn (second_true (t.owner == owner) (t.number == txn) (found_passes (is_transaction owner txn) m.transactions t found))
 
-  later_at : (ts : ℕ) → t.decision ≡ decision.Committed ts → (root : Root) (is_root : IsCodedRoot schema root) (k : List ℕ) (under : is_under schema root k ≡ true) → IsLaterWrite t.number ts (versions_at cs k) (prepared_at cs k)
-  later_at ts e root is_root k under = elim (claims schema root 0 t) as (λ v. claims schema root 0 t ≡ v → IsLaterWrite t.number ts (versions_at cs k) (prepared_at cs k)) [
-    | true ↦ (λ is. of_write t.number ts (versions_at cs k) (prepared_at cs k) (later_pending schema root k (horizon_of m) (commits_at schema root m.log) (versions_at cs k) (prepared_at cs k) t ts
-        (placed_first schema m reached root (coded_root schema root is_root)).rising
-        (kept_under schema m reached cs kept root is_root k under (is_transaction owner txn) t (decision.Committed ts) found is e)))
+  later_at : (ts : ℕ) → t.decision ≡ decision.Committed ts → (root : Root) (is_root : IsCodedRoot schema root) (held : holds schema kept.slot_state root ≡ true) (k : List ℕ) (under : is_under schema root k ≡ true) → IsLaterWrite t.number ts (versions_at cs k) (prepared_at cs k)
+  later_at ts e root is_root held k under = elim (claims schema root slot t) as (λ v. claims schema root slot t ≡ v → IsLaterWrite t.number ts (versions_at cs k) (prepared_at cs k)) [
+    | true ↦ (λ is. of_write t.number ts (versions_at cs k) (prepared_at cs k) (later_pending schema root k kept.slot_state.horizon (commits_at schema root m.log) (versions_at cs k) (prepared_at cs k) t ts
+        (reached.placed root (coded_root schema root is_root)).1.rising
+        (kept_under schema m reached cs kept root is_root held k under (is_transaction owner txn) t (decision.Committed ts) found is e)))
     | false ↦ (λ off. of_others t.number ts (versions_at cs k) (prepared_at cs k)
-        (not_of_others schema root k (horizon_of m) (commits_at schema root m.log) (versions_at cs k) (prepared_at cs k) (filter (claims schema root 0) m.transactions) t.number (kept.kept root is_root k under)
-        (others_apart schema m reached root (is_transaction owner txn) t found off)))
+        (not_of_others schema root k kept.slot_state.horizon (commits_at schema root m.log) (versions_at cs k) (prepared_at cs k) (filter (claims schema root slot) m.transactions) t.number (kept.kept root is_root held k under)
+        (others_apart schema m reached root slot (is_transaction owner txn) t found off)))
   ] refl
 
   -- a commit timestamp is later than the versions of every key where the transaction has a write prepared
@@ -102,4 +102,6 @@ module _ (schema : List Table) (rules : MeetsRules schema) (m : Machine) (reache
   later_committed ts e = subst (λ (n : ℕ). IsLaterCommit n (Some ts) cs) txn_is
       (all_by_key (λ (c : KeyVersions). IsLaterWrite t.number ts c.versions c.prepared) cs kept.keys (λ c at.
       let root = root_of_coding schema rules c.key (all_found (λ (d : KeyVersions). IsCodedCoding schema d.key) (is_key c.key) cs c at kept.coded) in
-      subst (λ (o : Option KeyVersions). IsLaterWrite t.number ts (versions_of o) (prepared_of o)) at (later_at ts e root.0 root.1 c.key root.2)))
+      let inside : has_key kept.slot_state c.key ≡ true = all_found (λ (d : KeyVersions). has_key kept.slot_state d.key ≡ true) (is_key c.key) cs c at kept.inside in
+      let held = held_by_key schema rules m reached slot kept.slot_state kept.here root.0 root.1 c.key root.2 inside in
+      subst (λ (o : Option KeyVersions). IsLaterWrite t.number ts (versions_of o) (prepared_of o)) at (later_at ts e root.0 root.1 held c.key root.2)))

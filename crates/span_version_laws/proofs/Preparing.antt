@@ -33,10 +33,10 @@ use Rattle.span_machine.specs.declared.transaction.Prepared.{Prepared}
 use Rattle.span_machine.specs.declared.transaction.Commit.{Commit}
 use Rattle.span_machine.specs.Sorting.{in_order}
 use Rattle.span_machine.specs.Tables.{is_before, upto, mutations_of, tables}
-use Rattle.span_machine.specs.Kept.{Change, changes_between, database_of, count_changes, live_with}
-use Rattle.span_machine.specs.Machine.{Machine, root_at, is_at, is_transaction, is_undecided, is_prepared_at, mutations_in, has_conflict, prepare_refusal, prepare_timestamp, prepared, add_prepared, changed_first, mutations_refusal, refusal_of}
+use Rattle.span_machine.specs.Kept.{Change, changes_between, database_of, count_changes, live_with, live as slot_live}
+use Rattle.span_machine.specs.Machine.{Machine, root_at, is_at, has_key, holds, is_transaction, is_undecided, is_prepared_at, mutations_in, has_conflict, prepare_refusal, prepare_timestamp, prepared, add_prepared, changed_first, mutations_refusal, refusal_of}
 use Rattle.span_machine_laws.proofs.Causes.{may_prepare, undecided_is}
-use Rattle.span_machine_laws.proofs.Tests.{second_true, second_or, number_same}
+use Rattle.span_machine_laws.proofs.Tests.{second_true, first_or, second_or, equal_number, number_same}
 use Rattle.span_machine_laws.proofs.Lists.{found_passes, all_found, all_weaker}
 use Rattle.span_machine_laws.proofs.Locality.{is_at-itself, apply-directory, apply-database, empty_database, ok_same}
 use Rattle.span_machine_laws.proofs.Stability.{changes_at, touches, is_some_of, none_of}
@@ -44,16 +44,17 @@ use Rattle.span_machine_laws.proofs.InPlace.{commits_at, claims, changes_at-upto
 use Rattle.span_machine_laws.proofs.Claims.{unclaimed, all_held, all_kept, under_filter}
 use Rattle.span_machine_laws.proofs.Schemas.{IsBegunBy, keyed_upto, typed_upto, keyed_in, typed_in}
 use Rattle.span_machine_laws.proofs.Reached.{IsReached, reached_tables}
-use Rattle.span_version_laws.specs.Kept.{IsCodedRoot, IsCodedCoding, is_under, HasRows, IsPut, IsKeptUnder, IsKeptBy, AreKept, horizon_of}
-use Rattle.span_version_laws.proofs.FirstSlot.{live_by_log, live_whole, first_range, placed_first}
+use Rattle.span_version_laws.specs.Kept.{IsCodedRoot, IsCodedCoding, is_under, HasRows, IsPut, IsKeptUnder, IsKeptBy, IsKeptAt, AreKept}
+use Rattle.span_version_laws.proofs.Slots.{HasRoot, held_of_some, none_held, still_set, state_is}
+use Rattle.span_version_laws.proofs.Cuts.{held_by_key, key_by_held}
 use Rattle.span_version_laws.proofs.Keys.{all_by_key, prepared_by, versions_at-with_writes, prepared_at-with_writes}
 use Rattle.span_version_laws.proofs.Claimers.{and_false, false_and, claimers_of}
 use Rattle.span_version_laws.proofs.Roots.{coded_root, coded_root_at, root_of_coding, coding_of_row, coded_in_directory}
-use Rattle.span_version_laws.proofs.Steps.{horizon_set}
+use Rattle.span_version_laws.proofs.Steps.{kept_still}
 use Rattle.span_version_laws.proofs.Trimming.{not_same_of}
 use Rattle.span_version_laws.proofs.Counting.{is_at_key}
 use Rattle.span_version_laws.proofs.Changes.{change_at, change_none, changes_at_key, IsTypedDatabase, apart_of, typed_after, after_is, log_made}
-use Rattle.span_version_laws.proofs.Live.{IsOfKey, coded_between, live_by_keys, counted_changes, count_at, all_coded, counted_length, horizon_at}
+use Rattle.span_version_laws.proofs.Live.{IsOfKey, coded_between, live_by_keys, counted_changes, count_at, all_coded, counted_length}
 use Rattle.span_shard.proofs.Lists.{all_append}
 use Rattle.std.proofs.lemmas.List.{length-append}
 use Rattle.std.proofs.lemmas.List.Elements.{filter-append}
@@ -61,9 +62,9 @@ use Rattle.span_version_laws.proofs.Rows.{row_now_of_tables, not_of_others, othe
 
 -- ---- tests
 
-prepared_here : (ts : ℕ) (ps : List Prepared) → list_any (λ p. p.slot == 0) (ps ++ (record { slot = 0; timestamp = ts }) ∷ []) ≡ true
-prepared_here ts [] = refl
-prepared_here ts (p ∷ ps) = second_or (p.slot == 0) _ (prepared_here ts ps)
+prepared_here : (slot ts : ℕ) (ps : List Prepared) → list_any (λ p. p.slot == slot) (ps ++ (record { slot = slot; timestamp = ts }) ∷ []) ≡ true
+prepared_here slot ts [] = first_or (slot == slot) false (equal_number slot slot refl)
+prepared_here slot ts (p ∷ ps) = second_or (p.slot == slot) _ (prepared_here slot ts ps)
 
 -- a touched key is under the root row of one of the mutations
 pub touched_root : (schema : List Table) → MeetsRules schema → (k : List ℕ) (ms : List CheckedMutation) → AreTypedMutations schema ms → is_touched schema ms k ≡ true
@@ -105,10 +106,6 @@ changed_coding schema k db after typed typed_after off = cases (row_coded schema
     cases None (Some row) e f = coding_of_row schema k after row typed_after f
     cases None None e f = absurd (off (f ∙ sym e))
 
-written_coding : (schema : List Table) (k : List ℕ) (db after : List TableRow) (found : Option Write) → AreTyped schema db → AreTyped schema after → IsWrite k (row_coded schema db k) (row_coded schema after k) found → is_some found ≡ true → IsCodedCoding schema k
-written_coding schema k db after None typed typed_after write some = absurd (let f : false ≡ true = some in cc)
-written_coding schema k db after (Some w) typed typed_after write some = changed_coding schema k db after typed typed_after write.2
-
 some_more : (p : Write → Bool) (w : Write) (ws : List Write) → is_some (find p ws) ≡ true → is_some (find p (w ∷ ws)) ≡ true
 some_more p w ws e = elim (p w) as (λ b. is_some (cond b (Some w) (find p ws)) ≡ true) [ true ↦ refl | false ↦ e ]
 
@@ -119,20 +116,24 @@ some_found (w ∷ ws) = (
   all_weaker (λ v. is_some (find (is_of v.key) ws) ≡ true) (λ v. is_some (find (is_of v.key) (w ∷ ws)) ≡ true) (λ v e. some_more (is_of v.key) w ws e) ws (some_found ws),
 )
 
--- every key stays the coding of a key
-coded_with_write : (schema : List Table) (txn : ℕ) (w : Write) (cs : List KeyVersions) → IsCodedCoding schema w.key → AllByRecursion (λ (c : KeyVersions). IsCodedCoding schema c.key) cs → AllByRecursion (λ (c : KeyVersions). IsCodedCoding schema c.key) (with_write txn w cs)
-coded_with_write schema txn w [] here all = (here, tt)
-coded_with_write schema txn w (c ∷ cs) here all =
-    elim (byte_order w.key c.key) as (λ o. AllByRecursion (λ (d : KeyVersions). IsCodedCoding schema d.key) (by_order o (new_key txn w ∷ c ∷ cs) (with_prepared (prepared_write txn w) c ∷ cs) (c ∷ with_write txn w cs))) [
+-- what holds of every key, and of the keys that are written, still does
+keys_with_write : (P : List ℕ → Type 0) (txn : ℕ) (w : Write) (cs : List KeyVersions) → P w.key → AllByRecursion (λ (c : KeyVersions). P c.key) cs → AllByRecursion (λ (c : KeyVersions). P c.key) (with_write txn w cs)
+keys_with_write P txn w [] here all = (here, tt)
+keys_with_write P txn w (c ∷ cs) here all =
+    elim (byte_order w.key c.key) as (λ o. AllByRecursion (λ (d : KeyVersions). P d.key) (by_order o (new_key txn w ∷ c ∷ cs) (with_prepared (prepared_write txn w) c ∷ cs) (c ∷ with_write txn w cs))) [
       | Less ↦ (here, all)
       | Equal ↦ (all.0, all.1)
-      | Greater ↦ (all.0, coded_with_write schema txn w cs here all.1)
+      | Greater ↦ (all.0, keys_with_write P txn w cs here all.1)
     ]
 
-coded_with_writes : (schema : List Table) (txn : ℕ) (ws : List Write) (cs : List KeyVersions) → AllByRecursion (λ (w : Write). IsCodedCoding schema w.key) ws → AllByRecursion (λ (c : KeyVersions). IsCodedCoding schema c.key) cs
-    → AllByRecursion (λ (c : KeyVersions). IsCodedCoding schema c.key) (with_writes txn ws cs)
-coded_with_writes schema txn [] cs each all = all
-coded_with_writes schema txn (w ∷ ws) cs each all = coded_with_write schema txn w (with_writes txn ws cs) each.0 (coded_with_writes schema txn ws cs each.1 all)
+keys_with_writes : (P : List ℕ → Type 0) (txn : ℕ) (ws : List Write) (cs : List KeyVersions) → AllByRecursion (λ (w : Write). P w.key) ws → AllByRecursion (λ (c : KeyVersions). P c.key) cs → AllByRecursion (λ (c : KeyVersions). P c.key) (with_writes txn ws cs)
+keys_with_writes P txn [] cs each all = all
+keys_with_writes P txn (w ∷ ws) cs each all = keys_with_write P txn w (with_writes txn ws cs) each.0 (keys_with_writes P txn ws cs each.1 all)
+
+-- a key that is written changes
+written_changes : (k : List ℕ) (before after : Option (List ℕ)) (found : Option Write) → IsWrite k before after found → is_some found ≡ true → after ≢ before
+written_changes k before after None write some = absurd (let f : false ≡ true = some in cc)
+written_changes k before after (Some w) write some = write.2
 
 -- a transaction that may be prepared has a mutation of the slot
 has_some : (u p c z : Bool) → first_cause ((not u || p || z, refusal.WrongState) ∷ (c, refusal.Conflict) ∷ []) ≡ None → z ≡ true → ⊥
@@ -141,15 +142,15 @@ has_some true true c true e is = absurd (cc)
 has_some false p c true e is = absurd (cc)
 has_some u p c false e is = absurd (cc)
 
--- ---- Prepare at slot 0
+-- ---- Prepare at the slot
 
-module _ (schema : List Table) (rules : MeetsRules schema) (m : Machine) (reached : IsReached schema m) (cs : List KeyVersions) (kept : AreKept schema m cs) (owner txn : ℕ) (t : OpenTransaction) (slot_state : SlotState)
-    (found : find (is_transaction owner txn) m.transactions ≡ Some t) (here : slice_get m.slots 0 ≡ Some slot_state) (accepted : prepare_refusal schema m 0 t slot_state ≡ None) where
+module _ (schema : List Table) (rules : MeetsRules schema) (m : Machine) (reached : IsReached schema m) {slot : ℕ} (cs : List KeyVersions) (kept : AreKept schema m slot cs) (owner txn : ℕ) (t : OpenTransaction) (slot_state : SlotState)
+    (found : find (is_transaction owner txn) m.transactions ≡ Some t) (here : slice_get m.slots slot ≡ Some slot_state) (accepted : prepare_refusal schema m slot t slot_state ≡ None) where
   abbrev its : List CheckedMutation
   its = mutations_in schema slot_state t.mutations
 
-  may : (is_undecided t ≡ true) × (is_prepared_at 0 t ≡ false) × (has_conflict schema m 0 (mutations_in schema slot_state t.mutations) ≡ false)
-  may = may_prepare (is_undecided t) (is_prepared_at 0 t) (length (mutations_in schema slot_state t.mutations) == 0) (has_conflict schema m 0 (mutations_in schema slot_state t.mutations)) accepted
+  may : (is_undecided t ≡ true) × (is_prepared_at slot t ≡ false) × (has_conflict schema m slot (mutations_in schema slot_state t.mutations) ≡ false)
+  may = may_prepare (is_undecided t) (is_prepared_at slot t) (length (mutations_in schema slot_state t.mutations) == 0) (has_conflict schema m slot (mutations_in schema slot_state t.mutations)) accepted
 
   txn_is : t.number ≡ txn
   txn_is = number_same t.number txn (second_true (t.owner == owner) (t.number == txn) (found_passes (is_transaction owner txn) m.transactions t found))
@@ -160,16 +161,34 @@ module _ (schema : List Table) (rules : MeetsRules schema) (m : Machine) (reache
   its_keyed : AreKeyed schema (mutations_in schema slot_state t.mutations)
   its_keyed = keyed_in schema slot_state t.mutations (all_found (IsBegunBy schema) (is_transaction owner txn) m.transactions t found reached.by_schema.transactions)
 
-  -- no transaction claims a directory of the mutations
-  none_claims : (root : Root) → IsCodedRoot schema root → is_some_of (filter (is_at schema root) (mutations_in schema slot_state t.mutations)) ≡ true → filter (claims schema root 0) m.transactions ≡ []
-  none_claims root is some = unclaimed schema root (coded_root schema root is) 0 (mutations_in schema slot_state t.mutations) m.transactions some may.2
+  -- the state that the shard is kept by is the slot's
+  same_state : kept.slot_state ≡ slot_state
+  same_state = state_is schema m cs kept slot_state here
 
-  not_yet : (root : Root) → claims schema root 0 t ≡ false
-  not_yet root = false_and (is_prepared_at 0 t) (is_some_of (filter (is_at schema root) t.mutations)) may.1
+  -- what is kept, by that state
+  kept_at : (root : Root) → IsCodedRoot schema root → holds schema slot_state root ≡ true → (k : List ℕ) → is_under schema root k ≡ true → IsKeptAt schema m slot slot_state.horizon cs root k
+  kept_at root is held k under = subst (λ (b : SlotState). IsKeptAt schema m slot b.horizon cs root k) same_state (kept.kept root is (subst (λ (b : SlotState). holds schema b root ≡ true) (sym same_state) held) k under)
+
+  inside_at : AllByRecursion (λ (c : KeyVersions). has_key slot_state c.key ≡ true) cs
+  inside_at = subst (λ (b : SlotState). AllByRecursion (λ (c : KeyVersions). has_key b c.key ≡ true) cs) same_state kept.inside
+
+  -- a directory of the mutations is one of the slot
+  its_held : (root : Root) → IsCodedRoot schema root → is_some_of (filter (is_at schema root) (mutations_in schema slot_state t.mutations)) ≡ true → holds schema slot_state root ≡ true
+  its_held root is some = held_of_some schema root (coded_root schema root is) slot_state t.mutations some
+
+  has_root : (root : Root) → holds schema slot_state root ≡ true → HasRoot schema m slot root
+  has_root root held = record { slot_state = slot_state; here = here; held = held }
+
+  -- no transaction claims a directory of the mutations
+  none_claims : (root : Root) → IsCodedRoot schema root → is_some_of (filter (is_at schema root) (mutations_in schema slot_state t.mutations)) ≡ true → filter (claims schema root slot) m.transactions ≡ []
+  none_claims root is some = unclaimed schema root (coded_root schema root is) slot (mutations_in schema slot_state t.mutations) m.transactions some may.2
+
+  not_yet : (root : Root) → claims schema root slot t ≡ false
+  not_yet root = false_and (is_prepared_at slot t) (is_some_of (filter (is_at schema root) t.mutations)) may.1
 
   none_kept : (root : Root) (is : IsCodedRoot schema root) (k : List ℕ) (under : is_under schema root k ≡ true) → is_some_of (filter (is_at schema root) (mutations_in schema slot_state t.mutations)) ≡ true
-      → (prepared_at cs k ≡ None) × HasRows schema root k (horizon_of m) (commits_at schema root m.log) (versions_at cs k)
-  none_kept root is k under some = subst (IsKeptBy schema root k (horizon_of m) (commits_at schema root m.log) (versions_at cs k) (prepared_at cs k)) (none_claims root is some) (kept.kept root is k under)
+      → (prepared_at cs k ≡ None) × HasRows schema root k slot_state.horizon (commits_at schema root m.log) (versions_at cs k)
+  none_kept root is k under some = subst (IsKeptBy schema root k slot_state.horizon (commits_at schema root m.log) (versions_at cs k) (prepared_at cs k)) (none_claims root is some) (kept_at root is (its_held root is some) k under)
 
   -- nothing is prepared at a key that the mutations touch
   pub prepare_free : IsFree schema (mutations_in schema slot_state t.mutations) cs
@@ -181,9 +200,11 @@ module _ (schema : List Table) (rules : MeetsRules schema) (m : Machine) (reache
   pub prepare_new : HasNoneOf txn cs
   prepare_new = all_by_key (λ (c : KeyVersions). IsNotOf txn c.prepared) cs kept.keys (λ c at.
       let root = root_of_coding schema rules c.key (all_found (λ (d : KeyVersions). IsCodedCoding schema d.key) (is_key c.key) cs c at kept.coded) in
+      let inside : has_key slot_state c.key ≡ true = all_found (λ (d : KeyVersions). has_key slot_state d.key ≡ true) (is_key c.key) cs c at inside_at in
+      let held = held_by_key schema rules m reached slot slot_state here root.0 root.1 c.key root.2 inside in
       subst (IsNotOf txn) (ap prepared_of at) (subst (λ n. IsNotOf n (prepared_at cs c.key)) txn_is
-      (not_of_others schema root.0 c.key (horizon_of m) (commits_at schema root.0 m.log) (versions_at cs c.key) (prepared_at cs c.key) (filter (claims schema root.0 0) m.transactions) t.number (kept.kept root.0 root.1 c.key root.2)
-      (others_apart schema m reached root.0 (is_transaction owner txn) t found (not_yet root.0)))))
+      (not_of_others schema root.0 c.key slot_state.horizon (commits_at schema root.0 m.log) (versions_at cs c.key) (prepared_at cs c.key) (filter (claims schema root.0 slot) m.transactions) t.number (kept_at root.0 root.1 held c.key root.2)
+      (others_apart schema m reached root.0 slot (is_transaction owner txn) t found (not_yet root.0)))))
 
   -- the tables as they are
   made : (db : List TableRow) × (tables schema m.log (timestamp_end - 1) ≡ Ok db)
@@ -199,7 +220,7 @@ module _ (schema : List Table) (rules : MeetsRules schema) (m : Machine) (reache
   made_now : IsNow schema (mutations_in schema slot_state t.mutations) made.0 cs
   made_now k touched =
       let at_root = touched_root schema rules k (mutations_in schema slot_state t.mutations) its_typed touched in
-      row_now_of_tables schema rules m cs at_root.0 at_root.1 k at_root.2 made.0 reached kept made_typed (none_claims at_root.0 at_root.1 at_root.3) made.1
+      row_now_of_tables schema rules m slot cs kept at_root.0 at_root.1 (subst (λ (b : SlotState). holds schema b at_root.0 ≡ true) (sym same_state) (its_held at_root.0 at_root.1 at_root.3)) k at_root.2 made.0 reached made_typed (none_claims at_root.0 at_root.1 at_root.3) made.1
 
   faults_on : mutations_refusal schema m (mutations_in schema slot_state t.mutations) ≡ refusal_of (apply schema made.0 (mutations_in schema slot_state t.mutations))
   faults_on = ap (λ r. refusal_of (and_then r (λ d. apply schema d (mutations_in schema slot_state t.mutations)))) made.1
@@ -222,8 +243,8 @@ module _ (schema : List Table) (rules : MeetsRules schema) (m : Machine) (reache
   pub prepare_well : (ws : List Write) → Changes ws → mutations_refusal schema m (mutations_in schema slot_state t.mutations) ≡ None
   prepare_well ws says = faults_on ∙ ap refusal_of (says made.0 made_database made_typed made_now).1
 
-  whole : (root : Root) → IsCodedRoot schema root → filter (is_at schema root) (mutations_in schema slot_state t.mutations) ≡ filter (is_at schema root) t.mutations
-  whole root is = all_held schema root (coded_root schema root is) slot_state t.mutations ((placed_first schema m reached root (coded_root schema root is)).held slot_state here)
+  whole : (root : Root) → IsCodedRoot schema root → holds schema slot_state root ≡ true → filter (is_at schema root) (mutations_in schema slot_state t.mutations) ≡ filter (is_at schema root) t.mutations
+  whole root is held = all_held schema root (coded_root schema root is) slot_state t.mutations held
 
   module _ (ws : List Write) (says : Changes ws) where
     abbrev after : List TableRow
@@ -251,63 +272,76 @@ module _ (schema : List Table) (rules : MeetsRules schema) (m : Machine) (reache
     -- the directory after its commits
     now_is : (root : Root) → IsCodedRoot schema root → apply schema [] (changes_at schema root (commits_at schema root m.log)) ≡ Ok (directory schema root made.0)
     now_is root is =
-        let place = placed_first schema m reached root (coded_root schema root is) in
+        let place = (reached.placed root (coded_root schema root is)).1 in
         sym (ap (apply schema []) (changes_at-upto schema root m.log (timestamp_end - 1) place.rising
         ∙ ap (changes_at schema root) (all_kept (timestamp_end - 1) (commits_at schema root m.log) (under_filter timestamp_end (touches schema root) m.log place.in_range) refl)))
         ∙ apply-directory schema rules (mutations_of (upto m.log (timestamp_end - 1))) [] made.0 root (coded_root schema root is) (empty_database schema) (keyed_upto schema m.log (timestamp_end - 1) reached.by_schema.log) made.1
 
     -- what is kept at a key with its write prepared
-    prepared_key : (root : Root) (is_root : IsCodedRoot schema root) (k : List ℕ) (under : is_under schema root k ≡ true)
-        → IsKeptBy schema root k (horizon_of m) (commits_at schema root m.log) (versions_at cs k) (prepared_by txn (find (is_of k) ws) (prepared_at cs k)) (filter (claims schema root 0) (changed_first (is_transaction owner txn) (add_prepared 0 (prepare_timestamp slot_state)) m.transactions))
-    prepared_key root is_root k under =
-        let them = claimers_of schema m reached root (coded_root schema root is_root) (is_transaction owner txn) t found in
+    prepared_key : (root : Root) (is_root : IsCodedRoot schema root) (held : holds schema slot_state root ≡ true) (k : List ℕ) (under : is_under schema root k ≡ true)
+        → IsKeptBy schema root k slot_state.horizon (commits_at schema root m.log) (versions_at cs k) (prepared_by txn (find (is_of k) ws) (prepared_at cs k)) (filter (claims schema root slot) (changed_first (is_transaction owner txn) (add_prepared slot (prepare_timestamp slot_state)) m.transactions))
+    prepared_key root is_root held k under =
+        let them = claimers_of schema m reached root (coded_root schema root is_root) slot (has_root root held) (is_transaction owner txn) t found in
         elim (is_some_of (filter (is_at schema root) t.mutations)) as (λ v. is_some_of (filter (is_at schema root) t.mutations) ≡ v
-        → IsKeptBy schema root k (horizon_of m) (commits_at schema root m.log) (versions_at cs k) (prepared_by txn (find (is_of k) ws) (prepared_at cs k)) (filter (claims schema root 0) (changed_first (is_transaction owner txn) (add_prepared 0 (prepare_timestamp slot_state)) m.transactions))) [
+        → IsKeptBy schema root k slot_state.horizon (commits_at schema root m.log) (versions_at cs k) (prepared_by txn (find (is_of k) ws) (prepared_at cs k)) (filter (claims schema root slot) (changed_first (is_transaction owner txn) (add_prepared slot (prepare_timestamp slot_state)) m.transactions))) [
           | false ↦ λ e.
-              let none : filter (is_at schema root) (mutations_in schema slot_state t.mutations) ≡ [] = whole root is_root ∙ none_of (filter (is_at schema root) t.mutations) e in
+              let none : filter (is_at schema root) (mutations_in schema slot_state t.mutations) ≡ [] = whole root is_root held ∙ none_of (filter (is_at schema root) t.mutations) e in
               let nothing : find (is_of k) ws ≡ None = no_write k (row_coded schema made.0 k) (row_coded schema after k) (find (is_of k) ws) (row_stays root is_root k under none) (are k) in
-              let still : filter (claims schema root 0) (changed_first (is_transaction owner txn) (add_prepared 0 (prepare_timestamp slot_state)) m.transactions) ≡ filter (claims schema root 0) m.transactions =
-              them.away (add_prepared 0 (prepare_timestamp slot_state)) (not_yet root) (and_false (is_prepared_at 0 (add_prepared 0 (prepare_timestamp slot_state) t)) (is_some_of (filter (is_at schema root) t.mutations)) e) in
-              subst (IsKeptBy schema root k (horizon_of m) (commits_at schema root m.log) (versions_at cs k) (prepared_by txn (find (is_of k) ws) (prepared_at cs k))) (sym still)
-              (subst (λ f. IsKeptBy schema root k (horizon_of m) (commits_at schema root m.log) (versions_at cs k) (prepared_by txn f (prepared_at cs k)) (filter (claims schema root 0) m.transactions)) (sym nothing) (kept.kept root is_root k under))
+              let still : filter (claims schema root slot) (changed_first (is_transaction owner txn) (add_prepared slot (prepare_timestamp slot_state)) m.transactions) ≡ filter (claims schema root slot) m.transactions =
+              them.away (add_prepared slot (prepare_timestamp slot_state)) (not_yet root) (and_false (is_prepared_at slot (add_prepared slot (prepare_timestamp slot_state) t)) (is_some_of (filter (is_at schema root) t.mutations)) e) in
+              subst (IsKeptBy schema root k slot_state.horizon (commits_at schema root m.log) (versions_at cs k) (prepared_by txn (find (is_of k) ws) (prepared_at cs k))) (sym still)
+              (subst (λ f. IsKeptBy schema root k slot_state.horizon (commits_at schema root m.log) (versions_at cs k) (prepared_by txn f (prepared_at cs k)) (filter (claims schema root slot) m.transactions)) (sym nothing) (kept_at root is_root held k under))
           | true ↦ λ e.
-              let some : is_some_of (filter (is_at schema root) (mutations_in schema slot_state t.mutations)) ≡ true = ap is_some_of (whole root is_root) ∙ e in
+              let some : is_some_of (filter (is_at schema root) (mutations_in schema slot_state t.mutations)) ≡ true = ap is_some_of (whole root is_root held) ∙ e in
               let old = none_kept root is_root k under some in
-              let is : claims schema root 0 (add_prepared 0 (prepare_timestamp slot_state) t) ≡ true = ap (λ b. b && is_some_of (filter (is_at schema root) t.mutations)) (prepared_here (prepare_timestamp slot_state) t.prepared) ∙ e in
+              let is : claims schema root slot (add_prepared slot (prepare_timestamp slot_state) t) ≡ true = ap (λ b. b && is_some_of (filter (is_at schema root) t.mutations)) (prepared_here slot (prepare_timestamp slot_state) t.prepared) ∙ e in
               let write : IsWrite k (row_coded schema (directory schema root made.0) k) (row_coded schema (directory schema root after) k) (find (is_of k) ws) =
               subst (λ (b : Option (List ℕ)). IsWrite k b (row_coded schema (directory schema root after) k) (find (is_of k) ws)) (sym (coded_in_directory schema rules root is_root k under made.0 made_typed))
               (subst (λ (a : Option (List ℕ)). IsWrite k (row_coded schema made.0 k) a (find (is_of k) ws)) (sym (coded_in_directory schema rules root is_root k under after after_typed)) (are k)) in
-              subst (IsKeptBy schema root k (horizon_of m) (commits_at schema root m.log) (versions_at cs k) (prepared_by txn (find (is_of k) ws) (prepared_at cs k)))
-              (sym (them.comes (add_prepared 0 (prepare_timestamp slot_state)) (not_yet root) is (none_claims root is_root some)))
-              (subst (IsKeptUnder schema root k (horizon_of m) (commits_at schema root m.log) (versions_at cs k) (prepared_by txn (find (is_of k) ws) (prepared_at cs k)) (add_prepared 0 (prepare_timestamp slot_state) t)) (sym (undecided_is t.decision may.0)) (
+              subst (IsKeptBy schema root k slot_state.horizon (commits_at schema root m.log) (versions_at cs k) (prepared_by txn (find (is_of k) ws) (prepared_at cs k)))
+              (sym (them.comes (add_prepared slot (prepare_timestamp slot_state)) (not_yet root) is (none_claims root is_root some)))
+              (subst (IsKeptUnder schema root k slot_state.horizon (commits_at schema root m.log) (versions_at cs k) (prepared_by txn (find (is_of k) ws) (prepared_at cs k)) (add_prepared slot (prepare_timestamp slot_state) t)) (sym (undecided_is t.decision may.0)) (
                 record {
                   before = directory schema root made.0;
                   after = directory schema root after;
                   now = now_is root is_root;
-                  through = subst (λ l. apply schema (directory schema root made.0) l ≡ Ok (directory schema root after)) (whole root is_root) (in_one root is_root);
+                  through = subst (λ l. apply schema (directory schema root made.0) l ≡ Ok (directory schema root after)) (whole root is_root held) (in_one root is_root);
                   put = put_of k t.number txn (row_coded schema (directory schema root made.0) k) (row_coded schema (directory schema root after) k) (find (is_of k) ws) (prepared_at cs k) old.0 (sym txn_is) write;
                 },
                 old.1,
               ))
         ] refl
 
-    -- the keys of the writes are codings
-    writes_coded : AllByRecursion (λ (w : Write). IsCodedCoding schema w.key) ws
-    writes_coded = all_weaker (λ (w : Write). is_some (find (is_of w.key) ws) ≡ true) (λ (w : Write). IsCodedCoding schema w.key)
-        (λ w some. written_coding schema w.key made.0 after (find (is_of w.key) ws) made_typed after_typed (are w.key) some) ws (some_found ws)
+    -- a key that changes is the coding of a key in the slot's range
+    changed_inside : (k : List ℕ) → row_coded schema after k ≢ row_coded schema made.0 k → IsCodedCoding schema k × (has_key slot_state k ≡ true)
+    changed_inside k off =
+        let coding = changed_coding schema k made.0 after made_typed after_typed off in
+        let root = root_of_coding schema rules k coding in
+        (coding, key_by_held schema rules m reached slot slot_state here root.0 root.1 k root.2 (by_held root.0 root.1 root.2 (holds schema slot_state root.0) refl))
+      where
+        by_held : (root : Root) (is : IsCodedRoot schema root) → is_under schema root k ≡ true → (b : Bool) → holds schema slot_state root ≡ b → b ≡ true
+        by_held root is under true e = refl
+        by_held root is under false e = absurd (off (row_stays root is k under (none_held schema root (coded_root schema root is) slot_state t.mutations e)))
+
+    -- the keys of the writes are such
+    writes_inside : AllByRecursion (λ (w : Write). IsCodedCoding schema w.key × (has_key slot_state w.key ≡ true)) ws
+    writes_inside = all_weaker (λ (w : Write). is_some (find (is_of w.key) ws) ≡ true) (λ (w : Write). IsCodedCoding schema w.key × (has_key slot_state w.key ≡ true))
+        (λ w some. changed_inside w.key (written_changes w.key (row_coded schema made.0 w.key) (row_coded schema after w.key) (find (is_of w.key) ws) (are w.key) some)) ws (some_found ws)
+
+    with_coded : AllByRecursion (λ (c : KeyVersions). IsCodedCoding schema c.key) (with_writes txn ws cs)
+    with_coded = keys_with_writes (IsCodedCoding schema) txn ws cs (all_weaker (λ (w : Write). IsCodedCoding schema w.key × (has_key slot_state w.key ≡ true)) (λ (w : Write). IsCodedCoding schema w.key) (λ w is. is.0) ws writes_inside) kept.coded
+
+    with_inside : AllByRecursion (λ (c : KeyVersions). has_key slot_state c.key ≡ true) (with_writes txn ws cs)
+    with_inside = keys_with_writes (λ key. has_key slot_state key ≡ true) txn ws cs
+        (all_weaker (λ (w : Write). IsCodedCoding schema w.key × (has_key slot_state w.key ≡ true)) (λ (w : Write). has_key slot_state w.key ≡ true) (λ w is. is.1) ws writes_inside) inside_at
 
     -- the writes of the transaction are prepared
-    pub kept_prepared : AreKept schema (prepared m owner txn 0 slot_state).1 (with_writes txn ws cs)
-    kept_prepared = record {
-      keys = in_order_with_writes txn ws cs kept.keys;
-      used = used_with_writes txn ws cs kept.used;
-      coded = coded_with_writes schema txn ws cs writes_coded kept.coded;
-      kept = λ root is_root k under.
-          subst (λ h. IsKeptBy schema root k h (commits_at schema root m.log) (versions_at (with_writes txn ws cs) k) (prepared_at (with_writes txn ws cs) k) (filter (claims schema root 0) (changed_first (is_transaction owner txn) (add_prepared 0 (prepare_timestamp slot_state)) m.transactions))) (sym (horizon_set m.slots 0 slot_state _ here refl))
-          (subst (λ vs. IsKeptBy schema root k (horizon_of m) (commits_at schema root m.log) vs (prepared_at (with_writes txn ws cs) k) (filter (claims schema root 0) (changed_first (is_transaction owner txn) (add_prepared 0 (prepare_timestamp slot_state)) m.transactions))) (sym (versions_at-with_writes txn ws cs k kept.keys))
-          (subst (λ p. IsKeptBy schema root k (horizon_of m) (commits_at schema root m.log) (versions_at cs k) p (filter (claims schema root 0) (changed_first (is_transaction owner txn) (add_prepared 0 (prepare_timestamp slot_state)) m.transactions))) (sym (prepared_at-with_writes txn ws cs k kept.keys))
-          (prepared_key root is_root k under)));
-    }
+    pub kept_prepared : AreKept schema (prepared m owner txn slot slot_state).1 slot (with_writes txn ws cs)
+    kept_prepared = kept_still schema (prepared m owner txn slot slot_state).1 slot slot_state (with_writes txn ws cs) (still_set m.slots slot slot slot_state slot_state (record slot_state { last = prepare_timestamp slot_state }) here here refl refl)
+        (in_order_with_writes txn ws cs kept.keys) (used_with_writes txn ws cs kept.used) with_coded with_inside (λ root is_root held k under.
+        subst (λ vs. IsKeptBy schema root k slot_state.horizon (commits_at schema root m.log) vs (prepared_at (with_writes txn ws cs) k) (filter (claims schema root slot) (changed_first (is_transaction owner txn) (add_prepared slot (prepare_timestamp slot_state)) m.transactions))) (sym (versions_at-with_writes txn ws cs k kept.keys))
+        (subst (λ p. IsKeptBy schema root k slot_state.horizon (commits_at schema root m.log) (versions_at cs k) p (filter (claims schema root slot) (changed_first (is_transaction owner txn) (add_prepared slot (prepare_timestamp slot_state)) m.transactions))) (sym (prepared_at-with_writes txn ws cs k kept.keys))
+        (prepared_key root is_root held k under)))
 
     -- ---- how many versions there are then
 
@@ -317,7 +351,7 @@ module _ (schema : List Table) (rules : MeetsRules schema) (m : Machine) (reache
     some_mutation (c ∷ l) e none typed = (root_at schema c, coded_root_at schema rules c typed.0)
 
     not_none : mutations_in schema slot_state t.mutations ≡ [] → ⊥
-    not_none e = has_some (is_undecided t) (is_prepared_at 0 t) (has_conflict schema m 0 (mutations_in schema slot_state t.mutations)) (length (mutations_in schema slot_state t.mutations) == 0) accepted (ap (λ (l : List CheckedMutation). length l == 0) e)
+    not_none e = has_some (is_undecided t) (is_prepared_at slot t) (has_conflict schema m slot (mutations_in schema slot_state t.mutations)) (length (mutations_in schema slot_state t.mutations) == 0) accepted (ap (λ (l : List CheckedMutation). length l == 0) e)
 
     some_root : (root : Root) × IsCodedRoot schema root
     some_root = some_mutation (mutations_in schema slot_state t.mutations) refl not_none its_typed
@@ -326,7 +360,7 @@ module _ (schema : List Table) (rules : MeetsRules schema) (m : Machine) (reache
     all_made : made.0 ≡ database_of schema m.log
     all_made =
         let root = some_root in
-        let all : filter (λ (c : Commit). nat_le c.timestamp (timestamp_end - 1)) m.log ≡ m.log = all_kept (timestamp_end - 1) m.log (placed_first schema m reached root.0 (coded_root schema root.0 root.1)).in_range refl in
+        let all : filter (λ (c : Commit). nat_le c.timestamp (timestamp_end - 1)) m.log ≡ m.log = all_kept (timestamp_end - 1) m.log (reached.placed root.0 (coded_root schema root.0 root.1)).1.in_range refl in
         ok_same (sym made.1 ∙ ap (λ (l : List Commit). apply schema [] (mutations_of (in_order is_before l))) all ∙ (log_made schema rules m reached root.0 root.1).made)
 
     -- what the mutations change of them
@@ -378,13 +412,13 @@ module _ (schema : List Table) (rules : MeetsRules schema) (m : Machine) (reache
         omega arith
 
     -- with the writes prepared there are as many versions as the machine counts
-    pub live_prepared : live (with_writes txn ws cs) ≡ live_with schema m.log m.transactions 0 slot_state (mutations_in schema slot_state t.mutations)
+    pub live_prepared : live (with_writes txn ws cs) ≡ live_with schema m.log m.transactions slot slot_state (mutations_in schema slot_state t.mutations)
     live_prepared =
         let its : count_changes schema (database_of schema m.log) (mutations_in schema slot_state t.mutations) ≡ length its_changes =
         ap (λ (db : List TableRow). count_changes schema db (mutations_in schema slot_state t.mutations)) (sym all_made)
         ∙ ap (λ (db : List TableRow). length (changes_between schema 0 made.0 db)) (after_is schema made.0 after (mutations_in schema slot_state t.mutations) applies) in
-        let counted = counted_length schema rules m cs reached kept ∙ ap (live_by_log schema m.log m.transactions 0) (horizon_at m.slots slot_state here) ∙ live_whole schema slot_state (first_range schema m reached slot_state here) m.log m.transactions 0 in
-        live_by_keys schema (with_writes txn ws cs) (in_order_with_writes txn ws cs kept.keys) (coded_with_writes schema txn ws cs writes_coded kept.coded) (counted_changes schema rules m cs reached kept ++ its_changes)
+        let counted : length (counted_changes schema rules m cs reached kept) ≡ slot_live schema m.log m.transactions slot slot_state = counted_length schema rules m cs reached kept ∙ ap (slot_live schema m.log m.transactions slot) same_state in
+        live_by_keys schema (with_writes txn ws cs) (in_order_with_writes txn ws cs kept.keys) with_coded (counted_changes schema rules m cs reached kept ++ its_changes)
         (all_append (IsOfKey schema) (counted_changes schema rules m cs reached kept) its_changes (all_coded schema rules m cs reached kept) (coded_between schema 0 made.0 after made_typed after_typed)) each_prepared
         ∙ length-append (counted_changes schema rules m cs reached kept) its_changes
         ∙ omega arith

@@ -24,7 +24,7 @@ use Rattle.span_machine.specs.declared.transaction.OpenTransaction.{OpenTransact
 use Rattle.span_machine.specs.declared.transaction.Decision.{Decision}
 use Rattle.span_machine.specs.declared.transaction.Decision.TheVariants as decision
 use Rattle.span_machine.specs.Tables.{upto, mutations_of, tables}
-use Rattle.span_machine.specs.Machine.{Machine, is_at}
+use Rattle.span_machine.specs.Machine.{Machine, is_at, holds}
 use Rattle.span_machine_laws.proofs.Tests.{not_both}
 use Rattle.span_machine_laws.proofs.Lists.{IsIn, found_in, kept_in, all_in}
 use Rattle.span_machine_laws.proofs.Locality.{apply-directory, empty_database, ok_same}
@@ -34,8 +34,7 @@ use Rattle.span_machine_laws.proofs.Claims.{all_kept, under_filter}
 use Rattle.span_machine_laws.proofs.Numbers.{same_number}
 use Rattle.span_machine_laws.proofs.Schemas.{keyed_upto}
 use Rattle.span_machine_laws.proofs.Reached.{IsReached}
-use Rattle.span_version_laws.specs.Kept.{IsCodedRoot, is_under, MakeRows, HasRows, IsKeptUnder, IsKeptBy, AreKept, made, horizon_of}
-use Rattle.span_version_laws.proofs.FirstSlot.{placed_first}
+use Rattle.span_version_laws.specs.Kept.{IsCodedRoot, is_under, MakeRows, HasRows, IsKeptUnder, IsKeptBy, AreKept, made}
 use Rattle.span_version_laws.proofs.Trimming.{row_kept_all, made_upto}
 use Rattle.span_version_laws.proofs.Roots.{coded_root, coded_in_directory}
 use Rattle.span_version_laws.proofs.Steps.{open_of_put}
@@ -153,20 +152,20 @@ row_of_tables schema rules m reached root is k under s row db typed has made =
     let tabled : apply schema [] (changes_at schema root (upto m.log s)) ≡ Ok (directory schema root db) =
     apply-directory schema rules (mutations_of (upto m.log s)) [] db root (coded_root schema root is) (empty_database schema) (keyed_upto schema m.log s reached.by_schema.log) made in
     let same : has.0 ≡ directory schema root db =
-    ok_same (sym has.1 ∙ ap (apply schema []) (sym (changes_at-upto schema root m.log s (placed_first schema m reached root (coded_root schema root is)).rising)) ∙ tabled) in
+    ok_same (sym has.1 ∙ ap (apply schema []) (sym (changes_at-upto schema root m.log s (reached.placed root (coded_root schema root is)).1.rising)) ∙ tabled) in
     sym has.2 ∙ ap (λ (l : List TableRow). row_coded schema l k) same ∙ coded_in_directory schema rules root is k under db typed
 
--- the newest row of a key of a directory that no transaction claims is that of the tables
-pub row_now_of_tables : (schema : List Table) → MeetsRules schema → (m : Machine) (cs : List KeyVersions) (root : Root) (is : IsCodedRoot schema root) (k : List ℕ) (under : is_under schema root k ≡ true) (db : List TableRow) → IsReached schema m → AreKept schema m cs
-    → AreTyped schema db → filter (claims schema root 0) m.transactions ≡ [] → tables schema m.log (timestamp_end - 1) ≡ Ok db → row_now cs k ≡ row_coded schema db k
-row_now_of_tables schema rules m cs root is k under db reached kept typed empty made_db =
-    let place = placed_first schema m reached root (coded_root schema root is) in
-    let has : HasRows schema root k (horizon_of m) (commits_at schema root m.log) (versions_at cs k) =
-    (subst (IsKeptBy schema root k (horizon_of m) (commits_at schema root m.log) (versions_at cs k) (prepared_at cs k)) empty (kept.kept root is k under)).1 in
+-- the newest row of a key of a directory of the slot, which no transaction claims, is that of the tables
+pub row_now_of_tables : (schema : List Table) → MeetsRules schema → (m : Machine) (slot : ℕ) (cs : List KeyVersions) (kept : AreKept schema m slot cs) (root : Root) (is : IsCodedRoot schema root) (held : holds schema kept.slot_state root ≡ true) (k : List ℕ) (under : is_under schema root k ≡ true) (db : List TableRow)
+    → IsReached schema m → AreTyped schema db → filter (claims schema root slot) m.transactions ≡ [] → tables schema m.log (timestamp_end - 1) ≡ Ok db → row_now cs k ≡ row_coded schema db k
+row_now_of_tables schema rules m slot cs kept root is held k under db reached typed empty made_db =
+    let place = (reached.placed root (coded_root schema root is)).1 in
+    let has : HasRows schema root k kept.slot_state.horizon (commits_at schema root m.log) (versions_at cs k) =
+    (subst (IsKeptBy schema root k kept.slot_state.horizon (commits_at schema root m.log) (versions_at cs k) (prepared_at cs k)) empty (kept.kept root is held k under)).1 in
     let below : IsUnder timestamp_end (commits_at schema root m.log) = under_filter timestamp_end (touches schema root) m.log place.in_range in
     let end = row_end schema root k (commits_at schema root m.log) (made schema root k (commits_at schema root m.log)) has.makes below in
     let now : row_now cs k ≡ row_at (made schema root k (commits_at schema root m.log)) end_of_time =
-    ap (λ (vs : List Version). row_at vs end_of_time) has.versions ∙ row_kept_all (horizon_of m) end_of_time (made schema root k (commits_at schema root m.log)) (made_upto schema root k (commits_at schema root m.log) end_of_time timestamp_end end_is_past below) in
+    ap (λ (vs : List Version). row_at vs end_of_time) has.versions ∙ row_kept_all kept.slot_state.horizon end_of_time (made schema root k (commits_at schema root m.log)) (made_upto schema root k (commits_at schema root m.log) end_of_time timestamp_end end_is_past below) in
     now ∙ row_of_tables schema rules m reached root is k under (timestamp_end - 1) (row_at (made schema root k (commits_at schema root m.log)) end_of_time) db typed
     (end.0, ap (λ l. apply schema [] (changes_at schema root l)) (all_kept (timestamp_end - 1) (commits_at schema root m.log) below refl) ∙ end.1, end.2)
     made_db
@@ -188,8 +187,8 @@ not_of_others schema root k h cs vs p [] txn is off = subst (IsNotOf txn) (sym i
 not_of_others schema root k h cs vs p (u ∷ us) txn is off = not_of u.number txn p (open_under schema root k h cs vs p u u.decision is) off.0
 
 -- the transactions that claim a directory have other numbers than one that does not
-pub others_apart : (schema : List Table) (m : Machine) → IsReached schema m → (root : Root) (test : OpenTransaction → Bool) (t : OpenTransaction) → find test m.transactions ≡ Some t → claims schema root 0 t ≡ false
-    → AllByRecursion (λ u. u.number ≢ t.number) (filter (claims schema root 0) m.transactions)
-others_apart schema m reached root test t found off = all_each (λ u. u.number ≢ t.number) (filter (claims schema root 0) m.transactions) (λ u is same.
-    let alike : u ≡ t = same_number m reached.numbered u t (kept_in (claims schema root 0) m.transactions u is) (found_in test m.transactions t found) same in
-    not_both (claims schema root 0 u) (all_in (λ x. claims schema root 0 x ≡ true) (filter (claims schema root 0) m.transactions) u is (all_pass (claims schema root 0) m.transactions)) (subst (λ x. claims schema root 0 x ≡ false) (sym alike) off))
+pub others_apart : (schema : List Table) (m : Machine) → IsReached schema m → (root : Root) (slot : ℕ) (test : OpenTransaction → Bool) (t : OpenTransaction) → find test m.transactions ≡ Some t → claims schema root slot t ≡ false
+    → AllByRecursion (λ u. u.number ≢ t.number) (filter (claims schema root slot) m.transactions)
+others_apart schema m reached root slot test t found off = all_each (λ u. u.number ≢ t.number) (filter (claims schema root slot) m.transactions) (λ u is same.
+    let alike : u ≡ t = same_number m reached.numbered u t (kept_in (claims schema root slot) m.transactions u is) (found_in test m.transactions t found) same in
+    not_both (claims schema root slot u) (all_in (λ x. claims schema root slot x ≡ true) (filter (claims schema root slot) m.transactions) u is (all_pass (claims schema root slot) m.transactions)) (subst (λ x. claims schema root slot x ≡ false) (sym alike) off))

@@ -41,7 +41,7 @@ use Rattle.span_machine.specs.Tables.{upto, mutations_of, tables}
 use Rattle.span_mutate.proofs.TypedRows.{typed_stay}
 use Rattle.span_machine_laws.proofs.Locality.{apply-database, empty_database}
 use Rattle.span_machine_laws.proofs.Schemas.{keyed_upto, typed_upto}
-use Rattle.span_machine.specs.Machine.{Machine, is_prepared_at, is_safe, commit_of}
+use Rattle.span_machine.specs.Machine.{Machine, has_key, holds, is_prepared_at, is_safe, commit_of}
 use Rattle.span_machine_laws.proofs.Tests.{first_true, second_true, both_of}
 use Rattle.span_machine_laws.proofs.Lists.{IsIn, found_in, found_passes, kept_in, all_in, all_found, all_true}
 use Rattle.span_machine_laws.proofs.Stability.{changes_at, is_some_of}
@@ -49,10 +49,12 @@ use Rattle.span_machine_laws.proofs.InPlace.{commits_at, claims}
 use Rattle.span_machine_laws.proofs.Sealed.{IsAbove}
 use Rattle.span_machine_laws.proofs.Holdings.{IsHolding, IsUpto}
 use Rattle.span_machine_laws.proofs.Reached.{IsReached}
-use Rattle.span_version_laws.specs.Kept.{IsCodedRoot, IsCodedCoding, is_under, IsKeptUnder, IsKeptBy, AreKept, key_row, family, HasRowsOf, HasRows, horizon_of}
+use Rattle.span_version_laws.specs.Kept.{IsCodedRoot, IsCodedCoding, is_under, IsKeptUnder, IsKeptBy, AreKept, key_row, family, HasRowsOf, HasRows, has_row}
 use Rattle.span_version_laws.specs.Kept as versions
 use Rattle.span_machine.specs.declared.transaction.Commit.{Commit}
 use Rattle.span_shard.specs.declared.chain.Version.{Version}
+use Rattle.span_version_laws.proofs.Slots.{state_is}
+use Rattle.span_version_laws.proofs.Cuts.{held_by_key}
 use Rattle.span_version_laws.proofs.Trimming.{row_kept_above}
 use Rattle.span_version_laws.proofs.Claimers.{late}
 use Rattle.span_version_laws.proofs.Keys.{IsUnderAll, all_by_key}
@@ -63,8 +65,8 @@ use Rattle.span_version_laws.proofs.Sorted.{in_cons, same_rising}
 
 -- ---- a commit that is not applied yet is above what is sealed
 
-above_by : (p s ts : ℕ) → (not (p == 0) || nat_lt s ts) ≡ true → p ≡ 0 → s < ts
-above_by p s ts e same = grind (arith, nat_tests)
+above_by : (p slot s ts : ℕ) → (not (p == slot) || nat_lt s ts) ≡ true → p ≡ slot → s < ts
+above_by p slot s ts e same = grind (arith, nat_tests)
 
 not_upto : (s ts : ℕ) → s < ts → nat_le ts s ≡ false
 not_upto s ts low = grind (arith, nat_tests)
@@ -160,39 +162,45 @@ within_family t k rest e = subst (λ (l : List ℕ). is_within (family t) l ≡ 
 
 -- ---- the tables
 
-module _ (schema : List Table) (rules : MeetsRules schema) (m : Machine) (cs : List KeyVersions) (s : ℕ) (reached : IsReached schema m) (kept : AreKept schema m cs) (above : AllByRecursion (IsAbove s 0) m.transactions) (high : horizon_of m ≤ s)
+module _ (schema : List Table) (rules : MeetsRules schema) (m : Machine) {slot : ℕ} (cs : List KeyVersions) (s : ℕ) (reached : IsReached schema m) (kept : AreKept schema m slot cs) (above : AllByRecursion (IsAbove s slot) m.transactions) (high : kept.slot_state.horizon ≤ s)
     (db : List TableRow) (is_db : IsDatabase schema db) (typed : AreTyped schema db) (made : tables schema m.log s ≡ Ok db) where
   -- at s the versions have the row that the commits up to s make
-  row_seen : (root : Root) (is_root : IsCodedRoot schema root) (k : List ℕ) (under : is_under schema root k ≡ true) (commits : List Commit) → HasRows schema root k (horizon_of m) commits (versions_at cs k)
+  row_seen : (root : Root) (is_root : IsCodedRoot schema root) (k : List ℕ) (under : is_under schema root k ≡ true) (commits : List Commit) → HasRows schema root k kept.slot_state.horizon commits (versions_at cs k)
       → filter (λ d. nat_le d.timestamp s) (commits_at schema root m.log) ≡ filter (λ d. nat_le d.timestamp s) commits → row_at (versions_at cs k) s ≡ row_coded schema db k
   row_seen root is_root k under commits has same =
       let now = has.makes.rows s in
-      ap (λ (vs : List Version). row_at vs s) has.versions ∙ row_kept_above (horizon_of m) s (versions.made schema root k commits) high
+      ap (λ (vs : List Version). row_at vs s) has.versions ∙ row_kept_above kept.slot_state.horizon s (versions.made schema root k commits) high
       ∙ row_of_tables schema rules m reached root is_root k under s (row_at (versions.made schema root k commits) s) db typed (now.0, ap (λ l. apply schema [] (changes_at schema root l)) same ∙ now.1, now.2) made
 
-  row_under : (root : Root) (is_root : IsCodedRoot schema root) (k : List ℕ) (under : is_under schema root k ≡ true) (u : OpenTransaction) (o : Decision) → u.decision ≡ o → IsIn u m.transactions → claims schema root 0 u ≡ true
-      → IsKeptUnder schema root k (horizon_of m) (commits_at schema root m.log) (versions_at cs k) (prepared_at cs k) u o → row_at (versions_at cs k) s ≡ row_coded schema db k
+  row_under : (root : Root) (is_root : IsCodedRoot schema root) (k : List ℕ) (under : is_under schema root k ≡ true) (u : OpenTransaction) (o : Decision) → u.decision ≡ o → IsIn u m.transactions → claims schema root slot u ≡ true
+      → IsKeptUnder schema root k kept.slot_state.horizon (commits_at schema root m.log) (versions_at cs k) (prepared_at cs k) u o → row_at (versions_at cs k) s ≡ row_coded schema db k
   row_under root is_root k under u decision.Undecided e at is h = row_seen root is_root k under (commits_at schema root m.log) h.1 refl
   row_under root is_root k under u decision.Aborted e at is h = row_seen root is_root k under (commits_at schema root m.log) h.1 refl
   row_under root is_root k under u (decision.Committed ts) e at is h =
       let upto_ts : AllByRecursion (λ (p : Prepared). p.timestamp ≤ ts) u.prepared = subst (λ o. IsUpto o u.prepared) e (all_in (IsHolding _) m.transactions u at reached.holding).timely in
-      let later : s < ts = late s ts u.prepared (first_true (is_prepared_at 0 u) (is_some_of _) is) (all_in (IsAbove s 0) m.transactions u at above) upto_ts in
+      let later : s < ts = late slot s ts u.prepared (first_true (is_prepared_at slot u) (is_some_of _) is) (all_in (IsAbove s slot) m.transactions u at above) upto_ts in
       row_seen root is_root k under h.front h.rows
       (ap (filter (λ d. nat_le d.timestamp s)) h.whole ∙ filter-append (λ d. nat_le d.timestamp s) h.front (commit_of ts u ∷ [])
       ∙ ap (λ b. filter (λ d. nat_le d.timestamp s) h.front ++ cond b (commit_of ts u ∷ []) []) (not_upto s ts later) ∙ append-nil _)
 
   -- the newest version at or below s is the row of the tables at s
-  row_in_root : (root : Root) (is_root : IsCodedRoot schema root) (k : List ℕ) (under : is_under schema root k ≡ true) → row_at (versions_at cs k) s ≡ row_coded schema db k
-  row_in_root root is_root k under = elim (filter (claims schema root 0) m.transactions) as (λ us. filter (claims schema root 0) m.transactions ≡ us
-      → IsKeptBy schema root k (horizon_of m) (commits_at schema root m.log) (versions_at cs k) (prepared_at cs k) us → row_at (versions_at cs k) s ≡ row_coded schema db k) [
+  row_in_root : (root : Root) (is_root : IsCodedRoot schema root) (held : holds schema kept.slot_state root ≡ true) (k : List ℕ) (under : is_under schema root k ≡ true) → row_at (versions_at cs k) s ≡ row_coded schema db k
+  row_in_root root is_root held k under = elim (filter (claims schema root slot) m.transactions) as (λ us. filter (claims schema root slot) m.transactions ≡ us
+      → IsKeptBy schema root k kept.slot_state.horizon (commits_at schema root m.log) (versions_at cs k) (prepared_at cs k) us → row_at (versions_at cs k) s ≡ row_coded schema db k) [
         | [] ↦ λ e h. row_seen root is_root k under (commits_at schema root m.log) h.1 refl
         | u ∷ us ↦ λ e h.
-            let pass : AllByRecursion (λ x. claims schema root 0 x ≡ true) (u ∷ us) = subst (AllByRecursion (λ x. claims schema root 0 x ≡ true)) e (all_pass (claims schema root 0) m.transactions) in
-            row_under root is_root k under u u.decision refl (kept_in (claims schema root 0) m.transactions u (0, ap (λ l. slice_get l 0) e)) pass.0 h
-      ] refl (kept.kept root is_root k under)
+            let pass : AllByRecursion (λ x. claims schema root slot x ≡ true) (u ∷ us) = subst (AllByRecursion (λ x. claims schema root slot x ≡ true)) e (all_pass (claims schema root slot) m.transactions) in
+            row_under root is_root k under u u.decision refl (kept_in (claims schema root slot) m.transactions u (0, ap (λ l. slice_get l 0) e)) pass.0 h
+      ] refl (kept.kept root is_root held k under)
 
-  row_is_tables : (k : List ℕ) → IsCodedCoding schema k → row_at (versions_at cs k) s ≡ row_coded schema db k
-  row_is_tables k coding = let root = root_of_coding schema rules k coding in row_in_root root.0 root.1 k root.2
+  row_is_tables : (k : List ℕ) → IsCodedCoding schema k → has_key kept.slot_state k ≡ true → row_at (versions_at cs k) s ≡ row_coded schema db k
+  row_is_tables k coding has =
+      let root = root_of_coding schema rules k coding in
+      row_in_root root.0 root.1 (held_by_key schema rules m reached slot kept.slot_state kept.here root.0 root.1 k root.2 has) k root.2
+
+  -- the slot's range has the key of each that is found
+  inside_found : (k : List ℕ) (c : KeyVersions) → find (is_key k) cs ≡ Some c → has_key kept.slot_state c.key ≡ true
+  inside_found k c at = all_found (λ (d : KeyVersions). has_key kept.slot_state d.key ≡ true) (is_key k) cs c at kept.inside
 
   -- each key of the shard has the row of the tables
   abbrev IsSeen : KeyVersions → Type 0
@@ -200,7 +208,7 @@ module _ (schema : List Table) (rules : MeetsRules schema) (m : Machine) (cs : L
 
   all_seen : AllByRecursion IsSeen cs
   all_seen = all_by_key IsSeen cs kept.keys (λ c at.
-      sym (ap (λ o. row_at (versions_of o) s) at) ∙ row_is_tables c.key (all_found (λ (d : KeyVersions). IsCodedCoding schema d.key) (is_key c.key) cs c at kept.coded))
+      sym (ap (λ o. row_at (versions_of o) s) at) ∙ row_is_tables c.key (all_found (λ (d : KeyVersions). IsCodedCoding schema d.key) (is_key c.key) cs c at kept.coded) (inside_found c.key c at))
 
   -- ---- the rows of a family
 
@@ -278,6 +286,15 @@ module _ (schema : List Table) (rules : MeetsRules schema) (m : Machine) (cs : L
     code_is : (c : KeyVersions) (r : TableRow) → row_from c ≡ Some r → c.key ≡ code_of schema r
     code_is c r e = same_bytes c.key (code_of schema r) (found_passes (is_coded schema c.key) db r (row_from_is c r e).0)
 
+    -- and one in the slot's range
+    rows_inside : (ds : List KeyVersions) → AllByRecursion (λ (c : KeyVersions). has_key kept.slot_state c.key ≡ true) ds → AllByRecursion (λ r. has_row schema kept.slot_state r ≡ true) (rows_from ds)
+    rows_inside [] inside = tt
+    rows_inside (c ∷ ds) inside = by_row (row_from c) refl (rows_inside ds inside.1)
+      where
+        by_row : (o : Option TableRow) → row_from c ≡ o → AllByRecursion (λ r. has_row schema kept.slot_state r ≡ true) (rows_from ds) → AllByRecursion (λ r. has_row schema kept.slot_state r ≡ true) (cons_option o (rows_from ds))
+        by_row None e all = all
+        by_row (Some r) e all = (ap (has_key kept.slot_state) (sym (code_is c r e)) ∙ inside.0, all)
+
     rows_under : (k : List ℕ) (ds : List KeyVersions) → IsUnderAll k ds → AllByRecursion (λ r. byte_order k (code_of schema r) ≡ Less) (rows_from ds)
     rows_under k [] under = tt
     rows_under k (c ∷ ds) under = by_row (row_from c) refl (rows_under k ds under.1)
@@ -294,14 +311,14 @@ module _ (schema : List Table) (rules : MeetsRules schema) (m : Machine) (cs : L
         by_row None e rest = rest
         by_row (Some r) e rest = (subst (λ (k : List ℕ). AllByRecursion (λ q. byte_order k (code_of schema q) ≡ Less) (rows_from ds)) (code_is c r e) (rows_under c.key ds up.0), rest)
 
-    -- every row of a table of the family is there
-    row_is_there : (r : TableRow) → IsTyped schema r → IsIn r db → root_of schema r.table ≡ t → IsIn r (rows_from cs)
+    -- every row of a table of the family in the slot's range is there
+    row_is_there : (r : TableRow) → IsTyped schema r → has_row schema kept.slot_state r ≡ true → IsIn r db → root_of schema r.table ≡ t → IsIn r (rows_from cs)
     unfolding row_if
-    row_is_there r is_typed at family_is =
+    row_is_there r is_typed has at family_is =
         let found : find (is_coded schema (code_of schema r)) db ≡ Some r = found_itself schema rules db is_db.0 typed r is_typed at in
         let coded : row_coded schema db (code_of schema r) ≡ Some (row_code r.cells) = ap (option_map (λ (q : TableRow). row_code q.cells)) found in
         let seen : row_at (versions_at cs (code_of schema r)) s ≡ Some (row_code r.cells) =
-        row_is_tables (code_of schema r) (coding_of_row schema (code_of schema r) db (row_code r.cells) typed coded) ∙ coded in
+        row_is_tables (code_of schema r) (coding_of_row schema (code_of schema r) db (row_code r.cells) typed coded) has ∙ coded in
         by_find found (find (is_key (code_of schema r)) cs) refl seen
       where
         none_seen : row_at [] s ≡ None
@@ -337,29 +354,38 @@ module _ (schema : List Table) (rules : MeetsRules schema) (m : Machine) (cs : L
         ∙ code_order schema rules r.table q.key r.key (subst (λ (j : ℕ). keys.IsKey schema j q.key) one of_q.0.0.0) of_r.0.0.0
         ∙ ap (λ (j : ℕ). key_order (key_columns schema j) q.key r.key) of_r.1 ∙ e
 
-    family_rows : (n : ℕ) → root_of schema n ≡ t → rows_of n (rows_from cs) ≡ rows_of n db
-    family_rows n family_is = same_rising (code_cmp schema) (never_less schema) (λ x y z e f. bytes_total.trans (code_of schema x) (code_of schema y) (code_of schema z) e f) (rows_of n (rows_from cs)) (rows_of n db)
+    family_rows : (n : ℕ) → root_of schema n ≡ t → rows_of n (rows_from cs) ≡ filter (has_row schema kept.slot_state) (rows_of n db)
+    family_rows n family_is = same_rising (code_cmp schema) (never_less schema) (λ x y z e f. bytes_total.trans (code_of schema x) (code_of schema y) (code_of schema z) e f) (rows_of n (rows_from cs)) (filter (has_row schema kept.slot_state) (rows_of n db))
         (rising_filter (code_cmp schema) (λ (r : TableRow). r.table == n) (rows_from cs) (rows_rise cs kept.keys))
-        (rising_as (IsOfTable n) (by_key schema n) (code_cmp schema) (by_code n) (rows_of n db) (of_table n db typed) (rows_in_order schema db is_db n))
-        (λ r at. in_filter (λ (q : TableRow). q.table == n) db r (all_in (λ q. IsIn q db) (rows_from cs) r (kept_in (λ (q : TableRow). q.table == n) (rows_from cs) r at) (rows_of_database cs))
-        (all_in (λ (q : TableRow). (q.table == n) ≡ true) (rows_of n (rows_from cs)) r at (all_pass (λ (q : TableRow). q.table == n) (rows_from cs))))
+        (rising_filter (code_cmp schema) (has_row schema kept.slot_state) (rows_of n db) (rising_as (IsOfTable n) (by_key schema n) (code_cmp schema) (by_code n) (rows_of n db) (of_table n db typed) (rows_in_order schema db is_db n)))
         (λ r at.
-        let is = all_in (IsOfTable n) (rows_of n db) r at (of_table n db typed) in
-        in_filter (λ (q : TableRow). q.table == n) (rows_from cs) r (row_is_there r is.0 (kept_in (λ (q : TableRow). q.table == n) db r at) (ap (root_of schema) is.1 ∙ family_is))
-        (all_in (λ (q : TableRow). (q.table == n) ≡ true) (rows_of n db) r at (all_pass (λ (q : TableRow). q.table == n) db)))
+        let from : IsIn r (rows_from cs) = kept_in (λ (q : TableRow). q.table == n) (rows_from cs) r at in
+        in_filter (has_row schema kept.slot_state) (rows_of n db) r
+        (in_filter (λ (q : TableRow). q.table == n) db r (all_in (λ q. IsIn q db) (rows_from cs) r from (rows_of_database cs))
+        (all_in (λ (q : TableRow). (q.table == n) ≡ true) (rows_of n (rows_from cs)) r at (all_pass (λ (q : TableRow). q.table == n) (rows_from cs))))
+        (all_in (λ (q : TableRow). has_row schema kept.slot_state q ≡ true) (rows_from cs) r from (rows_inside cs kept.inside)))
+        (λ r at.
+        let there : IsIn r (rows_of n db) = kept_in (has_row schema kept.slot_state) (rows_of n db) r at in
+        let has : has_row schema kept.slot_state r ≡ true = all_in (λ (q : TableRow). has_row schema kept.slot_state q ≡ true) (filter (has_row schema kept.slot_state) (rows_of n db)) r at (all_pass (has_row schema kept.slot_state) (rows_of n db)) in
+        let is = all_in (IsOfTable n) (rows_of n db) r there (of_table n db typed) in
+        in_filter (λ (q : TableRow). q.table == n) (rows_from cs) r (row_is_there r is.0 has (kept_in (λ (q : TableRow). q.table == n) db r there) (ap (root_of schema) is.1 ∙ family_is))
+        (all_in (λ (q : TableRow). (q.table == n) ≡ true) (rows_of n db) r there (all_pass (λ (q : TableRow). q.table == n) db)))
 
     -- what a snapshot of the family has
-    pub snapshot_rows : (n : ℕ) → root_of schema n ≡ t → HasRowsOf schema n db (snapshot (family t) s cs)
+    pub snapshot_rows : (n : ℕ) → root_of schema n ≡ t → HasRowsOf schema kept.slot_state n db (snapshot (family t) s cs)
     snapshot_rows n family_is = record { rows = rows_from cs; typed = rows_typed cs; entries_are = entries_are cs all_seen; of_table = family_rows n family_is }
 
--- a snapshot that a scan makes at a safe timestamp, not below the horizon, has the rows of the tables
-pub snapshot_when_safe : (schema : List Table) → MeetsRules schema → (m : Machine) (cs : List KeyVersions) (s : ℕ) (slot_state : SlotState) → IsReached schema m → AreKept schema m cs → is_safe m 0 slot_state s ≡ true → horizon_of m ≤ s → (db : List TableRow) → tables schema m.log s ≡ Ok db
-    → (n : ℕ) → HasRowsOf schema n db (snapshot (family (root_of schema n)) s cs)
-snapshot_when_safe schema rules m cs s slot_state reached kept safe high db made n =
-    let above : AllByRecursion (IsAbove s 0) m.transactions =
-    all_true (IsAbove s 0) (λ t. list_all (λ p. not (p.slot == 0) || nat_lt s p.timestamp) t.prepared)
-    (λ t e. all_true (λ (p : Prepared). p.slot ≡ 0 → s < p.timestamp) (λ p. not (p.slot == 0) || nat_lt s p.timestamp) (λ p e same. above_by p.slot s p.timestamp e same) t.prepared e)
-    m.transactions (second_true (nat_le s slot_state.floor) _ safe) in
+-- A snapshot that a scan makes at a safe timestamp, not below the horizon, has the rows of the tables that the slot's range has. The floor may
+-- have risen before.
+pub snapshot_when_safe : (schema : List Table) → MeetsRules schema → (m : Machine) (slot : ℕ) (slot_state risen : SlotState) (cs : List KeyVersions) (s : ℕ) → IsReached schema m → AreKept schema m slot cs → slice_get m.slots slot ≡ Some slot_state
+    → is_safe m slot risen s ≡ true → slot_state.horizon ≤ s → (db : List TableRow) → tables schema m.log s ≡ Ok db → (n : ℕ) → HasRowsOf schema slot_state n db (snapshot (family (root_of schema n)) s cs)
+snapshot_when_safe schema rules m slot slot_state risen cs s reached kept here safe high db made n =
+    let same : kept.slot_state ≡ slot_state = state_is schema m cs kept slot_state here in
+    let above : AllByRecursion (IsAbove s slot) m.transactions =
+    all_true (IsAbove s slot) (λ t. list_all (λ p. not (p.slot == slot) || nat_lt s p.timestamp) t.prepared)
+    (λ t e. all_true (λ (p : Prepared). p.slot ≡ slot → s < p.timestamp) (λ p. not (p.slot == slot) || nat_lt s p.timestamp) (λ p e same. above_by p.slot slot s p.timestamp e same) t.prepared e)
+    m.transactions (second_true (nat_le s risen.floor) _ safe) in
     let is_db : IsDatabase schema db = apply-database schema rules (mutations_of (upto m.log s)) [] db (empty_database schema) (keyed_upto schema m.log s reached.by_schema.log) made in
     let typed : AreTyped schema db = typed_stay schema [] (mutations_of (upto m.log s)) db tt (typed_upto schema m.log s reached.by_schema.log) made in
-    snapshot_rows schema rules m cs s reached kept above high db is_db typed made (root_of schema n) n refl
+    subst (λ (b : SlotState). HasRowsOf schema b n db (snapshot (family (root_of schema n)) s cs)) same
+    (snapshot_rows schema rules m cs s reached kept above (subst (λ (b : SlotState). b.horizon ≤ s) (sym same) high) db is_db typed made (root_of schema n) n refl)

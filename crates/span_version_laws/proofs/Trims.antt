@@ -1,5 +1,5 @@
 -- A trim keeps a shard as the log and the open transactions make it, at the new horizon.
-use Rattle.std.proofs.Common.{◌≡◌, ℕ, ◌≤◌, true, false, cond, List, [], ◌∷◌, Option, Some, refl, ap, sym, ◌∙◌, subst}
+use Rattle.std.proofs.Common.{◌≡◌, ℕ, zero, suc, ◌≤◌, true, false, cond, List, [], ◌∷◌, Option, Some, refl, ap, sym, ◌∙◌, subst}
 use Rattle.std.specs.Prelude.{filter, map, slice_get, slice_set}
 use Rattle.std.specs.List.{AllByRecursion}
 use Rattle.span_schema.specs.declared.table.Table.{Table}
@@ -17,10 +17,11 @@ use Rattle.span_machine.specs.declared.transaction.Commit.{Commit}
 use Rattle.span_machine.specs.declared.transaction.OpenTransaction.{OpenTransaction}
 use Rattle.span_machine.specs.declared.transaction.Decision.{Decision}
 use Rattle.span_machine.specs.declared.transaction.Decision.TheVariants as decision
-use Rattle.span_machine.specs.Machine.{Machine, if_some, trimmed, with_horizon}
+use Rattle.span_machine.specs.Machine.{Machine, has_key, holds, trimmed, with_horizon}
 use Rattle.span_machine_laws.proofs.InPlace.{commits_at, claims}
-use Rattle.span_version_laws.specs.Kept.{IsCodedCoding, HasRows, IsKeptUnder, IsKeptBy, AreKept, made, horizon_in, horizon_of}
+use Rattle.span_version_laws.specs.Kept.{IsCodedCoding, HasRows, IsKeptUnder, IsKeptBy, AreKept, made}
 use Rattle.span_version_laws.proofs.Keys.{versions_at-trimmed, prepared_at-trimmed}
+use Rattle.span_version_laws.proofs.Slots.{state_is}
 use Rattle.span_version_laws.proofs.Trimming.{kept_again}
 
 module _ (schema : List Table) (root : Root) (k : List ℕ) (h n : ℕ) (high : h ≤ n) where
@@ -37,31 +38,35 @@ module _ (schema : List Table) (root : Root) (k : List ℕ) (h n : ℕ) (high : 
   by_trimmed cs vs p [] is = (is.0, rows_trimmed cs vs is.1)
   by_trimmed cs vs p (u ∷ us) is = under_trimmed cs vs p u u.decision is
 
--- every key stays the coding of a key
-coded_trimmed : (schema : List Table) (h : ℕ) (cs : List KeyVersions) → AllByRecursion (λ (c : KeyVersions). IsCodedCoding schema c.key) cs → AllByRecursion (λ (c : KeyVersions). IsCodedCoding schema c.key) (shard.trimmed h cs)
-coded_trimmed schema h [] all = tt
-coded_trimmed schema h (c ∷ cs) all =
-    elim (is_used (trimmed_key h c)) as (λ b. AllByRecursion (λ (d : KeyVersions). IsCodedCoding schema d.key) (cond b (trimmed_key h c ∷ shard.trimmed h cs) (shard.trimmed h cs))) [
-      | true ↦ (all.0, coded_trimmed schema h cs all.1)
-      | false ↦ coded_trimmed schema h cs all.1
+-- what holds of every key still does
+keys_trimmed : (P : List ℕ → Type 0) (h : ℕ) (cs : List KeyVersions) → AllByRecursion (λ (c : KeyVersions). P c.key) cs → AllByRecursion (λ (c : KeyVersions). P c.key) (shard.trimmed h cs)
+keys_trimmed P h [] all = tt
+keys_trimmed P h (c ∷ cs) all =
+    elim (is_used (trimmed_key h c)) as (λ b. AllByRecursion (λ (d : KeyVersions). P d.key) (cond b (trimmed_key h c ∷ shard.trimmed h cs) (shard.trimmed h cs))) [
+      | true ↦ (all.0, keys_trimmed P h cs all.1)
+      | false ↦ keys_trimmed P h cs all.1
     ]
 
-pub horizon_here : (slots : List SlotState) (slot_state : SlotState) → slice_get slots 0 ≡ Some slot_state → horizon_in slots ≡ slot_state.horizon
-horizon_here slots slot_state here = ap (λ (o : Option SlotState). if_some o 0 (λ (b : SlotState). b.horizon)) here
-
-pub horizon_put : (slots : List SlotState) (old new : SlotState) → slice_get slots 0 ≡ Some old → horizon_in (slice_set slots 0 new) ≡ new.horizon
-horizon_put [] old new here = absurd (cc)
-horizon_put (b ∷ slots) old new here = refl
+there_set : (slots : List SlotState) (slot : ℕ) (old new : SlotState) → slice_get slots slot ≡ Some old → slice_get (slice_set slots slot new) slot ≡ Some new
+there_set [] slot old new here = absurd (cc)
+there_set (b ∷ slots) zero old new here = refl
+there_set (b ∷ slots) (suc slot) old new here = there_set slots slot old new here
 
 -- the shard trimmed at h is what the machine makes it after the trim
-pub kept_trimmed : (schema : List Table) (m : Machine) (cs : List KeyVersions) → AreKept schema m cs → (h : ℕ) (slot_state : SlotState) → slice_get m.slots 0 ≡ Some slot_state → slot_state.horizon ≤ h → AreKept schema (trimmed schema m 0 h slot_state).1 (shard.trimmed h cs)
-kept_trimmed schema m cs kept h slot_state here high = record {
-  keys = in_order_trimmed h cs kept.keys;
-  used = used_filtered (map (trimmed_key h) cs);
-  coded = coded_trimmed schema h cs kept.coded;
-  kept = λ root is k under.
-      subst (λ n. IsKeptBy schema root k n (commits_at schema root m.log) (versions_at (shard.trimmed h cs) k) (prepared_at (shard.trimmed h cs) k) (filter (claims schema root 0) m.transactions)) (sym (horizon_put m.slots slot_state (with_horizon h slot_state) here))
-      (subst (λ vs. IsKeptBy schema root k h (commits_at schema root m.log) vs (prepared_at (shard.trimmed h cs) k) (filter (claims schema root 0) m.transactions)) (sym (versions_at-trimmed h cs k kept.keys))
-      (subst (λ p. IsKeptBy schema root k h (commits_at schema root m.log) (kept_upto h (versions_at cs k)) p (filter (claims schema root 0) m.transactions)) (sym (prepared_at-trimmed h cs k kept.keys))
-      (by_trimmed schema root k (horizon_of m) h (subst (λ (n : ℕ). n ≤ h) (sym (horizon_here m.slots slot_state here)) high) (commits_at schema root m.log) (versions_at cs k) (prepared_at cs k) (filter (claims schema root 0) m.transactions) (kept.kept root is k under))));
-}
+pub kept_trimmed : (schema : List Table) (m : Machine) {slot : ℕ} (cs : List KeyVersions) → AreKept schema m slot cs → (h : ℕ) (slot_state : SlotState) → slice_get m.slots slot ≡ Some slot_state → slot_state.horizon ≤ h → AreKept schema (trimmed schema m slot h slot_state).1 slot (shard.trimmed h cs)
+kept_trimmed schema m {slot} cs kept h slot_state here high =
+    let same : kept.slot_state ≡ slot_state = state_is schema m cs kept slot_state here in
+    let low : kept.slot_state.horizon ≤ h = subst (λ (b : SlotState). b.horizon ≤ h) (sym same) high in
+    record {
+      slot_state = with_horizon h slot_state;
+      here = there_set m.slots slot slot_state (with_horizon h slot_state) here;
+      keys = in_order_trimmed h cs kept.keys;
+      used = used_filtered (map (trimmed_key h) cs);
+      coded = keys_trimmed (IsCodedCoding schema) h cs kept.coded;
+      inside = keys_trimmed (λ key. has_key slot_state key ≡ true) h cs (subst (λ (b : SlotState). AllByRecursion (λ (c : KeyVersions). has_key b c.key ≡ true) cs) same kept.inside);
+      kept = λ root is held k under.
+          subst (λ vs. IsKeptBy schema root k h (commits_at schema root m.log) vs (prepared_at (shard.trimmed h cs) k) (filter (claims schema root slot) m.transactions)) (sym (versions_at-trimmed h cs k kept.keys))
+          (subst (λ p. IsKeptBy schema root k h (commits_at schema root m.log) (kept_upto h (versions_at cs k)) p (filter (claims schema root slot) m.transactions)) (sym (prepared_at-trimmed h cs k kept.keys))
+          (by_trimmed schema root k kept.slot_state.horizon h low (commits_at schema root m.log) (versions_at cs k) (prepared_at cs k) (filter (claims schema root slot) m.transactions)
+          (kept.kept root is (subst (λ (b : SlotState). holds schema b root ≡ true) (sym same) held) k under)));
+    }

@@ -33,7 +33,7 @@ use Rattle.span_machine.specs.declared.transaction.Decision.TheVariants as decis
 use Rattle.span_machine.specs.Meaning.{declared_row, whole_table}
 use Rattle.span_machine.specs.Tables.{tables}
 use Rattle.span_machine.specs.Kept.{after_mutations}
-use Rattle.span_machine.specs.Machine.{Machine, if_some, is_at, commit_of}
+use Rattle.span_machine.specs.Machine.{Machine, is_at, has_key, holds, commit_of}
 use Rattle.span_machine.specs.Pieces.{Pieced}
 pub use Rattle.span_machine.specs.Slots.{IsCodedRoot}
 use Rattle.span_machine_laws.proofs.Stability.{changes_at}
@@ -107,23 +107,20 @@ abbrev pub IsKeptBy : List Table → Root → List ℕ → ℕ → List Commit �
 IsKeptBy schema root k h commits vs prepared [] = (prepared ≡ None) × HasRows schema root k h commits vs
 IsKeptBy schema root k h commits vs prepared (t ∷ ts) = IsKeptUnder schema root k h commits vs prepared t t.decision
 
--- the horizon of slot 0
-abbrev pub horizon_in : List SlotState → ℕ
-horizon_in slots = if_some (slice_get slots 0) 0 (λ slot_state. slot_state.horizon)
+-- what is kept at a key by a machine, in a slot that has this horizon
+abbrev pub IsKeptAt : List Table → Machine → ℕ → ℕ → List KeyVersions → Root → List ℕ → Type 0
+IsKeptAt schema m slot horizon cs root k = IsKeptBy schema root k horizon (commits_at schema root m.log) (versions_at cs k) (prepared_at cs k) (filter (claims schema root slot) m.transactions)
 
-abbrev pub horizon_of : Machine → ℕ
-horizon_of m = horizon_in m.slots
-
--- what is kept at a key by a machine
-abbrev pub IsKeptAt : List Table → Machine → List KeyVersions → Root → List ℕ → Type 0
-IsKeptAt schema m cs root k = IsKeptBy schema root k (horizon_of m) (commits_at schema root m.log) (versions_at cs k) (prepared_at cs k) (filter (claims schema root 0) m.transactions)
-
--- the shard of slot 0 is what the log and the open transactions make it
-pub record AreKept (schema : List Table) (m : Machine) (cs : List KeyVersions) : Type 0 where
+-- The slot is in use, and its shard is what the log and the open transactions make it there: it has no key outside the slot's range, and
+-- at each key of the directories that the range has it keeps what they make, at the slot's own horizon.
+pub record AreKept (schema : List Table) (m : Machine) (slot : ℕ) (cs : List KeyVersions) : Type 0 where
+  pub slot_state : SlotState
+  pub here : slice_get m.slots slot ≡ Some slot_state
   pub keys : AreInOrder cs
   pub used : AllByRecursion IsInUse cs
   pub coded : AllByRecursion (λ c. IsCodedCoding schema c.key) cs
-  pub kept : (root : Root) → IsCodedRoot schema root → (k : List ℕ) → is_under schema root k ≡ true → IsKeptAt schema m cs root k
+  pub inside : AllByRecursion (λ c. has_key slot_state c.key ≡ true) cs
+  pub kept : (root : Root) → IsCodedRoot schema root → holds schema slot_state root ≡ true → (k : List ℕ) → is_under schema root k ≡ true → IsKeptAt schema m slot slot_state.horizon cs root k
 
 -- the rows are those of a table of the schema, at s
 pub record HasTable (schema : List Table) (log : List Commit) (s table : ℕ) (rows : List Row) : Type 0 where
@@ -157,12 +154,16 @@ key_row schema r = record { key = code_of schema r; row = row_code r.cells }
 abbrev pub family : ℕ → KeyRange
 family root = record { low = root ∷ []; high = (root + 1) ∷ [] }
 
--- entries that are the rows of a family, those of table n being all that the database has
-pub record HasRowsOf (schema : List Table) (n : ℕ) (db : List TableRow) (entries : List KeyRow) : Type 0 where
+-- the slot's range has the key of the row
+abbrev pub has_row : List Table → SlotState → TableRow → Bool
+has_row schema slot_state r = has_key slot_state (code_of schema r)
+
+-- entries that are rows of a family in the slot's range, those of table n being all that the database has there, in its order
+pub record HasRowsOf (schema : List Table) (slot_state : SlotState) (n : ℕ) (db : List TableRow) (entries : List KeyRow) : Type 0 where
   pub rows : List TableRow
   pub typed : AreTyped schema rows
   pub entries_are : entries ≡ map (key_row schema) rows
-  pub of_table : rows_of n rows ≡ rows_of n db
+  pub of_table : rows_of n rows ≡ filter (has_row schema slot_state) (rows_of n db)
 
 -- the rows that are read of entries: those of table n, in the order in which its columns are declared
 abbrev pub IsReading : List Table → ℕ → List KeyRow → List (List Value) → Type 0

@@ -1,9 +1,10 @@
 //! That a shard's versions are what the log and the open transactions make them: no code runs here.
 //!
-//! `specs/Kept.antt` says what a shard keeps of each key (`AreKept`) and what the pieces of open queries are (`ArePieced`). `proofs/`
-//! shows that every step of the machine goes with a change of the shard that keeps it so: Steps (the steps that leave the versions),
-//! Preparing, Applying; that a snapshot at a safe timestamp then has the rows of the tables (Snapshots); and that the pieces stay
-//! right (Covers). The crates with code cite these laws.
+//! `specs/Kept.antt` says what the shard of a slot keeps of each key in the slot's range (`AreKept`) and what the pieces of open queries
+//! are (`ArePieced`). `proofs/` shows that every step of the machine goes with a change of the shard of its slot that keeps it so, and
+//! leaves the shards of other slots: Steps (the steps that leave the versions, and those at other slots), Preparing, Applying, Trims;
+//! that a snapshot at a safe timestamp then has the rows of the tables there (Snapshots); and that the pieces stay right (Covers, for the
+//! first slot while it is the only one: FirstSlot). The crates with code cite these laws.
 #![tactic(auto)]
 
 ghost use Rattle.std.specs.Prelude.{◌≡◌, ◌≤◌, ℕ, List, Ok, Some, true, slice_get};
@@ -18,32 +19,34 @@ ghost use Rattle.span_machine.specs.Kept as kept;
 ghost use Rattle.span_machine.specs.Tables.{tables};
 ghost use Rattle.span_machine.specs.declared.slot.SlotState.{SlotState};
 ghost use Rattle.span_machine_laws.proofs.Reached.{IsReached};
-ghost use Rattle.span_version_laws.specs.Kept.{AreKept, HasRowsOf, family, horizon_of};
+ghost use Rattle.span_version_laws.specs.Kept.{AreKept, HasRowsOf, family};
 
-/// In every machine that a run reaches, a snapshot that the shard kept for it gives of a table's family, at a timestamp that is safe
-/// and not below the horizon, has of that table just the rows of the tables at that timestamp, in order.
+/// In every machine that a run reaches, a snapshot that the shard kept for a slot gives of a table's family, at a timestamp that is safe
+/// there and not below the slot's horizon, has of that table just the rows of the tables at that timestamp whose keys are in the slot's
+/// range, in order. A scan may raise the slot's floor first.
 pub fn snapshots_are_tables()
     ensures { (schema : List Table)
         → MeetsRules schema
-        → (m : Machine) (cs : List KeyVersions) (s : ℕ) (slot_state : SlotState)
+        → (m : Machine) (slot : ℕ) (slot_state risen : SlotState) (cs : List KeyVersions) (s : ℕ)
         → IsReached schema m
-        → AreKept schema m cs
-        → is_safe m 0 slot_state s ≡ true
-        → horizon_of m ≤ s
+        → AreKept schema m slot cs
+        → slice_get m.slots slot ≡ Some slot_state
+        → is_safe m slot risen s ≡ true
+        → slot_state.horizon ≤ s
         → (db : List TableRow)
         → tables schema m.log s ≡ Ok db
         → (n : ℕ)
-        → HasRowsOf schema n db (snapshot (family (root_of schema n)) s cs) }
+        → HasRowsOf schema slot_state n db (snapshot (family (root_of schema n)) s cs) }
 {}
 
-/// In every machine that a run reaches, the shard that is kept for it has just as many versions, prepared ones included, as changes of
-/// the log are kept at the horizon and changes are prepared.
+/// In every machine that a run reaches, the shard that is kept for a slot has just as many versions, prepared ones included, as changes
+/// of the log in the slot's range are kept at its horizon and changes are prepared there.
 pub fn live_is_kept()
     ensures { (schema : List Table)
         → MeetsRules schema
-        → (m : Machine) (cs : List KeyVersions) (slot_state : SlotState)
+        → (m : Machine) (slot : ℕ) (slot_state : SlotState) (cs : List KeyVersions)
         → IsReached schema m
-        → AreKept schema m cs
-        → slice_get m.slots 0 ≡ Some slot_state
-        → live cs ≡ kept.live schema m.log m.transactions 0 slot_state }
+        → AreKept schema m slot cs
+        → slice_get m.slots slot ≡ Some slot_state
+        → live cs ≡ kept.live schema m.log m.transactions slot slot_state }
 {}
