@@ -88,17 +88,18 @@ def toolchain():
     return module
 
 
-def copy_of_repository(folder):
-    """The files that the repository tracks, copied, with the work that checks have kept."""
+def copy_of_repository(folder, tried):
+    """The files that the repository tracks, copied, with the libraries that were built, and the work that checks of the crates to try have kept."""
     files = subprocess.run(["git", "ls-files", "-z"], cwd=TOP, check=True, capture_output=True).stdout.decode().split("\0")
     for file in filter(None, files):
         to = os.path.join(folder, file)
         os.makedirs(os.path.dirname(to), exist_ok=True)
         shutil.copy2(os.path.join(TOP, file), to)
     for crate in os.listdir(os.path.join(TOP, "crates")):
-        kept = os.path.join(TOP, "crates", crate, "out")
-        if os.path.isdir(kept):
-            shutil.copytree(kept, os.path.join(folder, "crates", crate, "out"))
+        for part in ["rlib"] + ["incremental"] * (crate in tried):
+            kept = os.path.join(TOP, "crates", crate, "out", part)
+            if os.path.isdir(kept):
+                shutil.copytree(kept, os.path.join(folder, "crates", crate, "out", part))
 
 
 def build_libraries(crates):
@@ -274,7 +275,7 @@ def main():
     edits = edits_of_gate() if words.gate else {it: edits_of(it) for it in words.crates or crates_with_edits()}
     with tempfile.TemporaryDirectory() as folder:
         if not words.gate:
-            copy_of_repository(folder)
+            copy_of_repository(folder, edits)
         top = TOP if words.gate else folder
         os.chdir(top)
         crates = sorted((it for it in rt.rtlib.crates_below(top) if it.name in edits), key=lambda it: -len(it.below()))

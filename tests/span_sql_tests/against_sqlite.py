@@ -144,7 +144,10 @@ def cause(text, wanted, found):
     return None
 
 
-def main():
+def main(words):
+    if words:
+        print(f"against_sqlite.py: takes no words, and was given {' '.join(words)}", file=sys.stderr)
+        return 2
     counts, refused, faults, status = collections.Counter(), collections.Counter(), collections.Counter(), 0
     for name, schema, rows, path in check.sets():
         base = database(schema, rows)
@@ -179,4 +182,4 @@ def main():
 
 
 if __name__ == "__main__":
-    sys.exit(main())
+    sys.exit(main(sys.argv[1:]))
