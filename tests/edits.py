@@ -116,11 +116,13 @@ class Function:
         heads = list(FUNCTION.finditer(text))
         here = max(number for number, head in enumerate(heads) if head.start() <= at)
         self.start, self.short = heads[here].start(1), heads[here].group(1)
-        end = heads[here + 1].start() if here + 1 < len(heads) else len(text)
+        end = text.rfind("\n\n", 0, heads[here + 1].start()) if here + 1 < len(heads) else len(text)
         self.indent = re.match(" *", heads[here].group()).group()
         types = TYPE.findall(text[: self.start]) if self.indent else []
         self.name = "::".join([*types[-1:], self.short])
-        self.first, self.last = text.count("\n", 0, self.start) + 1, text.count("\n", 0, end) + 1
+        # The prover names the line of what is written above the head, where there is an attribute.
+        above = text.rfind("\n\n", 0, self.start)
+        self.first, self.last = text.count("\n", 0, above + 1) + 1, text.count("\n", 0, end) + 1
 
     def has_in_body(self, text, at):
         """Whether a place that follows the function's head is in its body."""
