@@ -3,7 +3,8 @@
 
     tests/edits.py [--jobs N]               every crate's edits
     tests/edits.py [--jobs N] CRATE ..      these crates' alone
-    tests/edits.py [--jobs N] --gate        those that gate.txt names, over the libraries that `rt ci` has just built
+    tests/edits.py [--jobs N] --gate        those that gate.txt names, over the libraries that `rt ci` has just built: it has proved the
+                                            crates as they are, which is not done again here
 
 Without --gate it works on a copy of the repository and builds the libraries that the crates need. Each edit is tried over what `rt check`
 kept of its crate: so prove the crates first (`rt all check`), or every check begins with the proof of all that a function calls. Where all
@@ -275,6 +276,8 @@ def main():
     words, rt = arguments(), toolchain()
     rt.rtlib.guarded()
     edits = edits_of_gate() if words.gate else {it: edits_of(it) for it in words.crates or crates_with_edits()}
+    if not any(edits.values()):
+        sys.exit("edits: there are none to try")
     with tempfile.TemporaryDirectory() as folder:
         if not words.gate:
             copy_of_repository(folder, edits)
