@@ -4,21 +4,25 @@
     tests/edits.py [--jobs N]               every crate's edits
     tests/edits.py [--jobs N] CRATE ..      these crates' alone
     tests/edits.py [--jobs N] --gate        those that gate.txt names, over the libraries that `rt ci` has just built: it has proved the
-                                            crates as they are, which is not done again here
+                                            crates as they are, and nothing but the edited functions is proved again here
 
 Without --gate it works on a copy of the repository and builds the libraries that the crates need. Each edit is tried over what `rt check`
 kept of its crate: so prove the crates first (`rt all check`), or every check begins with the proof of all that a function calls. Where all
 edits of a crate are refused, its line in tests/edits/README.md gets the date and the commit.
 
 Edits that change the bodies of different functions are tried together, by a check of these functions alone: a function is proved by the
-contracts of those that it calls, so that the body of one is nothing to another. An edit is refused where its function has no proof, for a
-goal in its own lines or in a file of its own proof. Where that shows nothing of an edit it is tried by itself, on the whole crate at last.
-N checks run at a time, as many as there are processors where no number is given.
+contracts of those that it calls, so that the body of one is nothing to another. An edit of a private constant counts as one of the first
+function that names it. With --gate a hole stands in place of the proof of every other function of the crate, so that the check takes their
+contracts as they stand. An edit is refused where its function has no proof, for a goal in its own lines or in a file of its own proof. Where
+that shows nothing of an edit it is tried by itself, on the whole crate at last. N checks run at a time, as many as there are processors where
+no number is given.
 
 An edit that is refused only because a proof file names what the edit took away says little of the contract: such edits are counted apart.
 """
 import argparse
 import concurrent.futures
+import contextlib
+import copy
 import datetime
 import importlib.machinery
 import importlib.util
@@ -37,6 +41,10 @@ BY_NAMES = "only because a proof file names"
 FLAGS = ["--jobs", "1"]
 FUNCTION = re.compile(r"^ *(?:pub(?:\([a-z]+\))? )?fn (\w+)", re.M)
 TYPE = re.compile(r"^impl(?:<[^{]*?>)? (?:\S+ for )?(\w+)", re.M)
+CONSTANT = re.compile(r"const (\w+): ")
+CYCLE = re.compile(r"^ *#\[cycle\((\w+)\)\]", re.M)
+# A proof that is left out: what the function's statement says is taken as it stands.
+HOLE = "use {module}.{{statement}}\n\npub {name}_spec : {{M : Type 1}} → statement M\n{name}_spec = ?\n"
 # A proof that no longer fits since it names what is gone.
 NAMES_GONE = re.compile(r".*(has no field|is not in scope|has no `|was not admitted)")
 # How many edits are tried together at most.
@@ -124,6 +132,11 @@ class Function:
         # The prover names the line of what is written above the head, where there is an attribute.
         above = text.rfind("\n\n", 0, self.start)
         self.first, self.last = text.count("\n", 0, above + 1) + 1, text.count("\n", 0, end) + 1
+        self.cycle, self.text = next(iter(CYCLE.findall(text[above + 1 : self.start])), None), text[self.start : end]
+
+    def proof(self):
+        """The name of its proof, below its module: its own, or that of the cycle of calls that it is in."""
+        return "/".join([*self.name.split("::")[:-1], f"+{self.cycle}" if self.cycle else self.short])
 
     def has_in_body(self, text, at):
         """Whether a place that follows the function's head is in its body."""
@@ -145,6 +158,50 @@ class Function:
         return bool(proof) and not NAMES_GONE.match(line)
 
 
+def functions_of(text):
+    """The functions of a file."""
+    return [Function(text, head.start(1)) for head in FUNCTION.finditer(text)]
+
+
+def functions_that_name(text, constant):
+    """The functions of a file that name a constant."""
+    return [it for it in functions_of(text) if re.search(rf"\b{constant}\b", it.text)]
+
+
+def hole_for(crate, module, proof):
+    """The file of a proof that is left out, by its path in the crate, and its text."""
+    parts = [it for it in (*module.split("/"), *proof.split("/")) if it]
+    # (a cycle of calls has its statement beside its proof)
+    statement = parts if parts[-1].startswith("+") else [*parts, "Statement"]
+    return "/".join(parts), HOLE.format(module=".".join(["Rattle", crate.name, "proofs", *statement]), name=parts[-1])
+
+
+def module_of(path):
+    """The module, below the crate, that a file of src/ is."""
+    module = path.removeprefix("src/").removesuffix(".rt").removesuffix("/mod")
+    return "" if module in ("lib", "main") else module
+
+
+def leave_proofs_out(crate, kept):
+    """Puts a hole in place of each proof of the crate's functions but of those that are kept, each a module and a name in it."""
+    for path in sorted(files_below(crate.folder, "src")):
+        module = module_of(path)
+        for proof in {it.proof() for it in functions_of(read(os.path.join(crate.folder, path)))} - {it for of, it in kept if of == module}:
+            place, text = hole_for(crate, module, proof)
+            folder = os.path.join(crate.folder, "proofs", place)
+            os.makedirs(folder, exist_ok=True)
+            for name in ("Invariants.antt", "Answers.antt"):
+                with contextlib.suppress(FileNotFoundError):
+                    os.remove(os.path.join(folder, name))
+            with open(os.path.join(folder, "Proof.antt"), "w", encoding="utf-8") as file:
+                file.write(text)
+
+
+def files_below(top, part):
+    """The files of a part of a crate, by their paths in the crate."""
+    return [os.path.relpath(os.path.join(folder, name), top) for folder, _, names in os.walk(os.path.join(top, part)) for name in names]
+
+
 class Batch:
     """Edits of a crate that change the bodies of different functions, and the files with all of them made."""
 
@@ -161,26 +218,49 @@ class Batch:
             return False
         path, old, new = (line.partition(" ")[2] for line in lines)
         text = self.text(path)
-        at = text.find(old)
-        if text.count(old) != 1 or not FUNCTION.search(text[: at + len(old)]):
-            return False
-        function = Function(text, at)
-        is_new = all((path, function.name) != (other, it.name) for other, it in self.changed)
-        if not (function.has_in_body(text, at) and is_new and len(self.edits) < TOGETHER):
+        function = self.function_of(text, old) if text.count(old) == 1 else None
+        is_new = function and all((path, function.name) != (other, it.name) for other, it in self.changed)
+        if not is_new or len(self.edits) == TOGETHER:
             return False
         self.texts[path] = text.replace(old, new)
         self.edits.append(edit)
         self.changed.append((path, function))
         return True
 
+    @staticmethod
+    def function_of(text, old):
+        """The function in whose body a text stands, or the first that names the private constant that it declares; None where there is none."""
+        at = text.find(old)
+        constant = CONSTANT.match(old)
+        if constant:
+            return next(iter(functions_that_name(text, constant.group(1))), None)
+        if not FUNCTION.search(text[: at + len(old)]):
+            return None
+        function = Function(text, at)
+        return function if function.has_in_body(text, at) else None
+
     def goals(self, rt, kept):
         """Of each edit the goal that its function has open, where it is refused for one; else None."""
-        only = [word for _, it in self.changed for word in ("--only", it.name)]
-        ran = rt.checked(self.crate, self.texts, [*FLAGS, *only], kept)
+        flags = [*FLAGS, *(word for _, it in self.changed for word in ("--only", it.name))]
+        with contextlib.ExitStack() as stack:
+            crate = self.crate if kept else stack.enter_context(self.crate_with_holes(rt))
+            ran = rt.checked(crate, self.texts, flags if kept else [*flags, "--allow-holes"], kept)
         lines = ran.stdout.split("\n")
         if ran.returncode != 1 or any(rt.unread(line, self.texts) for line in lines):
             return [None for _ in self.edits]
         return [Function(self.texts[path], self.start(path, it)).goal(path, lines) for path, it in self.changed]
+
+    @contextlib.contextmanager
+    def crate_with_holes(self, rt):
+        """A copy of the crate in which only the functions that are changed have a proof."""
+        with tempfile.TemporaryDirectory(prefix="edits-") as folder:
+            for part in rt.rtlib.PARTS:
+                if os.path.isdir(os.path.join(self.crate.folder, part)):
+                    shutil.copytree(os.path.join(self.crate.folder, part), os.path.join(folder, part))
+            crate = copy.copy(self.crate)
+            crate.folder = folder
+            leave_proofs_out(crate, {(module_of(path), it.proof()) for path, it in self.changed})
+            yield crate
 
     def start(self, path, function):
         """Where a function begins in the text with all the edits made."""
