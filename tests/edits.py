@@ -132,11 +132,17 @@ class Function:
         # The prover names the line of what is written above the head, where there is an attribute.
         above = text.rfind("\n\n", 0, self.start)
         self.first, self.last = text.count("\n", 0, above + 1) + 1, text.count("\n", 0, end) + 1
-        self.cycle, self.text = next(iter(CYCLE.findall(text[above + 1 : self.start])), None), text[self.start : end]
+        self.text = text[self.start : end]
+        # A function that calls itself is a cycle of its own name.
+        itself = rf"\b(self\.|Self::|{types[-1]}::)" if types else r"(?<![.:\w])"
+        calls_itself = re.search(rf"{itself}{self.short}\(", self.text.partition("{\n")[2])
+        self.cycle = next(iter(CYCLE.findall(text[above + 1 : self.start])), self.short if calls_itself else None)
 
-    def proof(self):
-        """The name of its proof, below its module: its own, or that of the cycle of calls that it is in."""
-        return "/".join([*self.name.split("::")[:-1], f"+{self.cycle}" if self.cycle else self.short])
+    def proof(self, proofs):
+        """The name of its proof in the folder of its module's proofs: its own, or that of the cycle of calls that it is in."""
+        *types, short = self.name.split("::")
+        is_cycle = self.cycle or os.path.isdir(os.path.join(proofs, *types, f"+{short}"))
+        return "/".join([*types, f"+{self.cycle or short}" if is_cycle else short])
 
     def has_in_body(self, text, at):
         """Whether a place that follows the function's head is in its body."""
@@ -168,33 +174,39 @@ def functions_that_name(text, constant):
     return [it for it in functions_of(text) if re.search(rf"\b{constant}\b", it.text)]
 
 
-def hole_for(crate, module, proof):
-    """The file of a proof that is left out, by its path in the crate, and its text."""
-    parts = [it for it in (*module.split("/"), *proof.split("/")) if it]
-    # (a cycle of calls has its statement beside its proof)
-    statement = parts if parts[-1].startswith("+") else [*parts, "Statement"]
-    return "/".join(parts), HOLE.format(module=".".join(["Rattle", crate.name, "proofs", *statement]), name=parts[-1])
-
-
 def module_of(path):
     """The module, below the crate, that a file of src/ is."""
     module = path.removeprefix("src/").removesuffix(".rt").removesuffix("/mod")
     return "" if module in ("lib", "main") else module
 
 
-def leave_proofs_out(crate, kept):
-    """Puts a hole in place of each proof of the crate's functions but of those that are kept, each a module and a name in it."""
-    for path in sorted(files_below(crate.folder, "src")):
+def proofs_of(crate):
+    """The proofs of the crate's functions, each by its place below proofs/, with the path of the functions' file and their names."""
+    found = {}
+    for path in files_below(crate.folder, "src"):
         module = module_of(path)
-        for proof in {it.proof() for it in functions_of(read(os.path.join(crate.folder, path)))} - {it for of, it in kept if of == module}:
-            place, text = hole_for(crate, module, proof)
-            folder = os.path.join(crate.folder, "proofs", place)
-            os.makedirs(folder, exist_ok=True)
-            for name in ("Invariants.antt", "Answers.antt"):
-                with contextlib.suppress(FileNotFoundError):
-                    os.remove(os.path.join(folder, name))
-            with open(os.path.join(folder, "Proof.antt"), "w", encoding="utf-8") as file:
-                file.write(text)
+        for function in functions_of(read(os.path.join(crate.folder, path))):
+            proof = function.proof(os.path.join(crate.folder, "proofs", module))
+            found.setdefault(os.path.join(module, proof), set()).add((path, function.name))
+    return found
+
+
+def leave_proofs_out(crate, kept):
+    """Puts a hole in place of each proof of the crate's functions but of those that are kept, each the path of a file and a name in it."""
+    for place, functions in proofs_of(crate).items():
+        if functions & kept:
+            continue
+        folder = os.path.join(crate.folder, "proofs", place)
+        os.makedirs(folder, exist_ok=True)
+        for name in ("Invariants.antt", "Answers.antt"):
+            with contextlib.suppress(FileNotFoundError):
+                os.remove(os.path.join(folder, name))
+        # (a cycle of calls has its statement beside its proof)
+        *modules, name = place.split("/")
+        of_function = [] if name.startswith("+") else ["Statement"]
+        module = ".".join(["Rattle", crate.name, "proofs", *modules, name, *of_function])
+        with open(os.path.join(folder, "Proof.antt"), "w", encoding="utf-8") as file:
+            file.write(HOLE.format(module=module, name=name))
 
 
 def files_below(top, part):
@@ -259,7 +271,7 @@ class Batch:
                     shutil.copytree(os.path.join(self.crate.folder, part), os.path.join(folder, part))
             crate = copy.copy(self.crate)
             crate.folder = folder
-            leave_proofs_out(crate, {(module_of(path), it.proof()) for path, it in self.changed})
+            leave_proofs_out(crate, {(path, it.name) for path, it in self.changed})
             yield crate
 
     def start(self, path, function):
