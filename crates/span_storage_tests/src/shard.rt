@@ -1,6 +1,7 @@
 //! A shard with directories of two tables, through transactions that commit and that abort. Keys and rows are coded by hand.
-ghost use Rattle.std.specs.Prelude.{◌+◌, IfOk};
+ghost use Rattle.std.specs.Prelude.{◌+◌, IfOk, Some};
 ghost use Rattle.span_mutate.specs.Typed.{AreTypedMutations};
+ghost use Rattle.span_shard.specs.Shard.{IsLaterCommit};
 ghost use Rattle.span_shard.specs.Tested.{IsIdleBefore};
 
 use span_keycode::key::Key;
@@ -256,55 +257,92 @@ const INSERT_A1: Asked<'static> = (MutationKind::Insert, "A", &[1], Some(9));
 
 const A2_ALONE: [(&[u8], &[u8]); 1] = [(&A2, &NULL)];
 
-/// A Delete takes the rows below with it; what was seen before is seen as before, and other directories stay.
+// The mutations of a transaction, how many nodes are in use after it, and the rows that are seen then.
+type Change<'a> = (&'a [Asked<'a>], usize, &'a [(&'a [u8], &'a [u8])]);
+
+const CHANGES: [Change<'static>; 5] = [
+    // A Delete takes the rows below with it, and other directories stay.
+    (&[DELETE_A1], 5, &A2_ALONE),
+    // A row is deleted with those below it, made again, and deleted again: what is there last counts. A(1) has another row, and B(1, 3)
+    // a deletion.
+    (
+        &[
+            DELETE_A1,
+            INSERT_A1,
+            (MutationKind::Insert, "B", &[1, 3], Some(7)),
+            DELETE_A1,
+            INSERT_A1,
+        ],
+        5,
+        &[(&A1, &NINE), (&A2, &NULL)],
+    ),
+    // Rows that are deleted and made again as they were have no new versions.
+    (
+        &[
+            DELETE_A1,
+            DELETE_A1,
+            (MutationKind::Insert, "A", &[1], Some(7)),
+            (MutationKind::Insert, "B", &[1, 3], Some(9)),
+        ],
+        3,
+        &ROWS,
+    ),
+    // A row that stays as it was has no new version.
+    (&[(MutationKind::Update, "A", &[1], Some(7))], 3, &ROWS),
+    (
+        &[(MutationKind::Update, "B", &[1, 3], Some(7))],
+        4,
+        &[(&A1, &SEVEN), (&B13, &SEVEN), (&A2, &NULL)],
+    ),
+];
+
+// Whether a transaction leaves so many nodes in use, and these rows; what was seen before is seen as before.
+fn is_change(alloc: Global, schema: &Schema, change: Change<'_>) -> Result<bool, Refusal> {
+    let (asked, live, wanted) = change;
+    let shard = changed(alloc, schema, asked)?;
+    Ok(
+        shard.live() == live
+            && is_seen(alloc, &shard, 221, &ROWS)?
+            && is_seen(alloc, &shard, 222, wanted)?,
+    )
+}
+
+/// What transactions leave.
 #[test]
-fn cascade(rt: HostRuntime) -> Result<(), Refusal> {
+fn changes(rt: HostRuntime) -> Result<(), Refusal> {
     let alloc = rt.alloc();
     let schema = parse_schema(alloc, FAMILY)?;
-    let shard = changed(alloc, &schema, &[DELETE_A1])?;
-    assert_eq!(rt; shard.live(), 5);
-    assert!(rt; is_seen(alloc, &shard, 221, &ROWS)? && is_seen(alloc, &shard, 222, &A2_ALONE)?);
+    for change in CHANGES {
+        assert!(rt; is_change(alloc, &schema, change)?);
+    }
     Ok(())
 }
 
-/// A row is deleted with those below it, made again, and deleted again in one transaction: what is there last counts.
-#[test]
-fn deleted_again(rt: HostRuntime) -> Result<(), Refusal> {
-    let alloc = rt.alloc();
-    let schema = parse_schema(alloc, FAMILY)?;
-    let insert_b = (MutationKind::Insert, "B", [1, 3].as_slice(), Some(7));
-    let asked = [DELETE_A1, INSERT_A1, insert_b, DELETE_A1, INSERT_A1];
-    let shard = changed(alloc, &schema, &asked)?;
-    // A(1) has another row, and B(1, 3) a deletion.
-    assert_eq!(rt; shard.live(), 5);
-    let after: [(&[u8], &[u8]); 2] = [(&A1, &NINE), (&A2, &NULL)];
-    assert!(rt; is_seen(alloc, &shard, 221, &ROWS)? && is_seen(alloc, &shard, 222, &after)?);
-    Ok(())
-}
+// A mutation, and why it is refused.
+const FAULTS: [(Asked<'static>, Refusal); 2] = [
+    ((MutationKind::Insert, "A", &[1], None), Refusal::Exists),
+    (
+        (MutationKind::Insert, "B", &[3, 3], None),
+        Refusal::ParentMissing,
+    ),
+];
 
-/// Rows that are deleted and made again as they were have no new versions.
-#[test]
-fn made_again(rt: HostRuntime) -> Result<(), Refusal> {
-    let alloc = rt.alloc();
-    let schema = parse_schema(alloc, FAMILY)?;
-    let insert_a = (MutationKind::Insert, "A", [1].as_slice(), Some(7));
-    let insert_b = (MutationKind::Insert, "B", [1, 3].as_slice(), Some(9));
-    let shard = changed(alloc, &schema, &[DELETE_A1, DELETE_A1, insert_a, insert_b])?;
-    assert_eq!(rt; shard.live(), 3);
-    assert!(rt; is_seen(alloc, &shard, 222, &ROWS)?);
-    Ok(())
-}
-
-/// A row that stays as it was has no new version.
-#[test]
-fn unchanged(rt: HostRuntime) -> Result<(), Refusal> {
-    let alloc = rt.alloc();
-    let schema = parse_schema(alloc, FAMILY)?;
-    let same = (MutationKind::Update, "A", [1].as_slice(), Some(7));
-    assert_eq!(rt; changed(alloc, &schema, &[same])?.live(), 3);
-    let other = (MutationKind::Update, "B", [1, 3].as_slice(), Some(7));
-    assert_eq!(rt; changed(alloc, &schema, &[other])?.live(), 4);
-    Ok(())
+// Whether a mutation is refused for this, and once more after that, and all is as it was.
+fn is_fault(
+    alloc: Global,
+    schema: &Schema,
+    asked: Asked<'_>,
+    why: Refusal,
+) -> Result<bool, Refusal> {
+    let mut shard = filled(alloc, schema)?;
+    let first = refusal_of(alloc, schema, &mut shard, 222, asked)?;
+    let second = refusal_of(alloc, schema, &mut shard, 333, asked)?;
+    Ok(
+        first == Some(why)
+            && second == Some(why)
+            && shard.live() == 3
+            && is_seen(alloc, &shard, 400, &ROWS)?,
+    )
 }
 
 /// A fault leaves all as it was.
@@ -312,15 +350,22 @@ fn unchanged(rt: HostRuntime) -> Result<(), Refusal> {
 fn faults(rt: HostRuntime) -> Result<(), Refusal> {
     let alloc = rt.alloc();
     let schema = parse_schema(alloc, FAMILY)?;
-    let mut shard = filled(alloc, &schema)?;
-    let twice = (MutationKind::Insert, "A", [1].as_slice(), None);
-    let refused = refusal_of(alloc, &schema, &mut shard, 222, twice)?;
-    assert_eq!(rt; refused, Some(Refusal::Exists));
-    let alone = (MutationKind::Insert, "B", [3, 3].as_slice(), None);
-    let refused = refusal_of(alloc, &schema, &mut shard, 333, alone)?;
-    assert_eq!(rt; refused, Some(Refusal::ParentMissing));
-    assert!(rt; shard.live() == 3 && is_seen(alloc, &shard, 400, &ROWS)?);
+    for (asked, why) in FAULTS {
+        assert!(rt; is_fault(alloc, &schema, asked, why)?);
+    }
     Ok(())
+}
+
+// Whether a trim leaves so many nodes in use, and at its horizon these rows.
+fn is_trimmed(
+    alloc: Global,
+    shard: &mut Shard,
+    horizon: u64,
+    live: usize,
+    wanted: &[(&[u8], &[u8])],
+) -> Result<bool, Refusal> {
+    shard.trim(horizon);
+    Ok(shard.live() == live && is_seen(alloc, shard, horizon, wanted)?)
 }
 
 /// A trim below a deletion keeps what it deleted; at the deletion both go, and what is seen there stays.
@@ -329,24 +374,34 @@ fn trimmed(rt: HostRuntime) -> Result<(), Refusal> {
     let alloc = rt.alloc();
     let schema = parse_schema(alloc, FAMILY)?;
     let mut shard = changed(alloc, &schema, &[DELETE_A1])?;
-    shard.trim(221);
-    assert!(rt; shard.live() == 5 && is_seen(alloc, &shard, 221, &ROWS)?);
-    shard.trim(222);
-    assert!(rt; shard.live() == 1 && is_seen(alloc, &shard, 222, &A2_ALONE)?);
+    assert!(rt; is_trimmed(alloc, &mut shard, 221, 5, &ROWS)?);
+    assert!(rt; is_trimmed(alloc, &mut shard, 222, 1, &A2_ALONE)?);
     Ok(())
+}
+
+// An Update and an Insert.
+const PREPARED: [Asked<'static>; 2] = [
+    (MutationKind::Update, "A", &[1], Some(8)),
+    (MutationKind::Insert, "A", &[3], Some(9)),
+];
+
+// The shard with these rows at 111, trimmed above every timestamp while transaction 2 is prepared.
+fn trimmed_above(alloc: Global) -> Result<Shard, Refusal>
+    ensures { IfOk result (IsLaterCommit 2 (Some 2000)) }
+{
+    let schema = parse_schema(alloc, FAMILY)?;
+    let mut shard = filled(alloc, &schema)?;
+    let second = transaction(alloc, &schema, &PREPARED)?;
+    shard.prepare(alloc, &schema, 2, second.mutations())?;
+    shard.trim(1000);
+    Ok(shard)
 }
 
 /// A trim above every timestamp keeps what is prepared, and each row's newest version.
 #[test]
 fn trimmed_while_prepared(rt: HostRuntime) -> Result<(), Refusal> {
     let alloc = rt.alloc();
-    let schema = parse_schema(alloc, FAMILY)?;
-    let mut shard = filled(alloc, &schema)?;
-    let update = (MutationKind::Update, "A", [1].as_slice(), Some(8));
-    let insert = (MutationKind::Insert, "A", [3].as_slice(), Some(9));
-    let second = transaction(alloc, &schema, &[update, insert])?;
-    shard.prepare(alloc, &schema, 2, second.mutations())?;
-    shard.trim(1000);
+    let mut shard = trimmed_above(alloc)?;
     assert_eq!(rt; shard.live(), 5);
     shard.apply(2, Some(2000));
     assert!(rt; shard.live() == 5 && is_seen(alloc, &shard, 1999, &ROWS)?);
