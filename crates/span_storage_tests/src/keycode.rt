@@ -178,17 +178,24 @@ fn is_bad(alloc: Global, schema: &Schema, bytes: &[u8]) -> bool {
     }
 }
 
+// Bytes that code no word.
+const NO_KEYS: [&[u8]; 7] = [
+    b"",
+    b"\x02\x00",
+    b"\x01\x02",
+    b"\x01\x00\x00",
+    b"\x01\x01\x61\x00",
+    b"\x01\x01\x61\x00\x02",
+    b"\x01\x01\xff\x00\x01",
+];
+
 #[test]
 fn no_keys(rt: HostRuntime) -> Result<(), Fail> {
     let alloc = rt.alloc();
     let schema = parse_schema(alloc, WORDS)?;
-    assert!(rt; is_bad(alloc, &schema, b""));
-    assert!(rt; is_bad(alloc, &schema, b"\x02\x00"));
-    assert!(rt; is_bad(alloc, &schema, b"\x01\x02"));
-    assert!(rt; is_bad(alloc, &schema, b"\x01\x00\x00"));
-    assert!(rt; is_bad(alloc, &schema, b"\x01\x01\x61\x00"));
-    assert!(rt; is_bad(alloc, &schema, b"\x01\x01\x61\x00\x02"));
-    assert!(rt; is_bad(alloc, &schema, b"\x01\x01\xff\x00\x01"));
+    for bytes in NO_KEYS {
+        assert!(rt; is_bad(alloc, &schema, bytes));
+    }
     Ok(())
 }
 

@@ -162,31 +162,6 @@ const DELETE_A: Asked<'static> = (MutationKind::Delete, "A", &[1], &[]);
 
 const DELETE_B: Asked<'static> = (MutationKind::Delete, "B", &[1, 1], &[]);
 
-#[test]
-fn no_action(rt: HostRuntime) -> Result<(), Fail> {
-    let alloc = rt.alloc();
-    let schema = parse_schema(alloc, C_CASCADES)?;
-    assert_eq!(rt;
-        refusal_of(alloc, &schema, &THREE, &[DELETE_A]),
-        Some(Refusal::HasChildren)
-    );
-    assert!(rt; gives(alloc, &schema, &THREE, &[DELETE_B, DELETE_A], &[])?);
-    Ok(())
-}
-
-#[test]
-fn cascade(rt: HostRuntime) -> Result<(), Fail> {
-    let alloc = rt.alloc();
-    let schema = parse_schema(alloc, B_CASCADES)?;
-    assert_eq!(rt;
-        refusal_of(alloc, &schema, &THREE, &[DELETE_A]),
-        Some(Refusal::HasChildren)
-    );
-    let schema = parse_schema(alloc, BOTH_CASCADE)?;
-    assert!(rt; gives(alloc, &schema, &THREE, &[DELETE_A], &[])?);
-    Ok(())
-}
-
 const ASKED: [Asked<'static>; 6] = [
     // (1, 7, NULL) becomes (1, 7, 9).
     (MutationKind::Update, "a", &[1], &[("V", Some(9))]),
@@ -206,93 +181,76 @@ const WANTED: [Wanted<'static>; 3] = [
     (3, &[1, 0, 7], &[]),
 ];
 
+// A schema, mutations of the rows A(1), B(1, 1), C(1, 1, 1), and the rows after them.
+const GIVEN: [(&str, &[Asked<'static>], &[Wanted<'static>]); 3] = [
+    (C_CASCADES, &[DELETE_B, DELETE_A], &[]),
+    (BOTH_CASCADE, &[DELETE_A], &[]),
+    (BOTH_CASCADE, &ASKED, &WANTED),
+];
+
 #[test]
-fn all_kinds(rt: HostRuntime) -> Result<(), Fail> {
+fn given(rt: HostRuntime) -> Result<(), Fail> {
     let alloc = rt.alloc();
-    let schema = parse_schema(alloc, BOTH_CASCADE)?;
-    assert!(rt; gives(alloc, &schema, &THREE, &ASKED, &WANTED)?);
+    for (text, asked, wanted) in GIVEN {
+        let schema = parse_schema(alloc, text)?;
+        assert!(rt; gives(alloc, &schema, &THREE, asked, wanted)?);
+    }
     Ok(())
 }
 
-#[test]
-fn refused_by_rows(rt: HostRuntime) -> Result<(), Fail> {
-    let alloc = rt.alloc();
-    let schema = parse_schema(alloc, BOTH_CASCADE)?;
-    assert_eq!(rt;
-        refusal_of(
-            alloc,
-            &schema,
-            &THREE,
-            &[(MutationKind::Insert, "C", &[1, 2, 1], &[])]
-        ),
-        Some(Refusal::ParentMissing)
-    );
-    assert_eq!(rt;
-        refusal_of(
-            alloc,
-            &schema,
-            &THREE,
-            &[(MutationKind::Insert, "A", &[1], &[])]
-        ),
-        Some(Refusal::Exists)
-    );
-    assert_eq!(rt;
-        refusal_of(
-            alloc,
-            &schema,
-            &THREE,
-            &[(MutationKind::Update, "B", &[1, 2], &[])]
-        ),
-        Some(Refusal::Missing)
-    );
-    Ok(())
-}
+// A schema, mutations of the same rows, and why they are refused.
+const REFUSED: [(&str, &[Asked<'static>], Refusal); 10] = [
+    // A child whose deletion does not cascade.
+    (C_CASCADES, &[DELETE_A], Refusal::HasChildren),
+    (B_CASCADES, &[DELETE_A], Refusal::HasChildren),
+    // By the rows that are there.
+    (
+        BOTH_CASCADE,
+        &[(MutationKind::Insert, "C", &[1, 2, 1], &[])],
+        Refusal::ParentMissing,
+    ),
+    (
+        BOTH_CASCADE,
+        &[(MutationKind::Insert, "A", &[1], &[])],
+        Refusal::Exists,
+    ),
+    (
+        BOTH_CASCADE,
+        &[(MutationKind::Update, "B", &[1, 2], &[])],
+        Refusal::Missing,
+    ),
+    // By the schema.
+    (BOTH_CASCADE, &[], Refusal::EmptyTransaction),
+    (
+        BOTH_CASCADE,
+        &[(MutationKind::Delete, "B", &[1], &[])],
+        Refusal::WrongType,
+    ),
+    (
+        BOTH_CASCADE,
+        &[(MutationKind::InsertOrUpdate, "B", &[1, 1], &[])],
+        Refusal::NullNotAllowed,
+    ),
+    // By a name.
+    (
+        BOTH_CASCADE,
+        &[(MutationKind::Delete, "D", &[1], &[])],
+        Refusal::NoTable,
+    ),
+    (
+        BOTH_CASCADE,
+        &[(MutationKind::Delete, "A", &[1], &[("u", None)])],
+        Refusal::NoColumn,
+    ),
+];
 
 #[test]
-fn refused_by_schema(rt: HostRuntime) -> Result<(), Fail> {
+fn refused(rt: HostRuntime) -> Result<(), Fail> {
     let alloc = rt.alloc();
-    let schema = parse_schema(alloc, BOTH_CASCADE)?;
-    assert_eq!(rt;
-        refusal_of(alloc, &schema, &THREE, &[]),
-        Some(Refusal::EmptyTransaction)
-    );
-    assert_eq!(rt;
-        refusal_of(
-            alloc,
-            &schema,
-            &THREE,
-            &[(MutationKind::Delete, "B", &[1], &[])]
-        ),
-        Some(Refusal::WrongType)
-    );
-    assert_eq!(rt;
-        refusal_of(
-            alloc,
-            &schema,
-            &THREE,
-            &[(MutationKind::InsertOrUpdate, "B", &[1, 1], &[])]
-        ),
-        Some(Refusal::NullNotAllowed)
-    );
-    Ok(())
-}
-
-const DELETE_D: Asked<'static> = (MutationKind::Delete, "D", &[1], &[]);
-
-const DELETE_CELL: Asked<'static> = (MutationKind::Delete, "A", &[1], &[("u", None)]);
-
-#[test]
-fn refused_by_name(rt: HostRuntime) -> Result<(), Fail> {
-    let alloc = rt.alloc();
-    let schema = parse_schema(alloc, BOTH_CASCADE)?;
-    assert_eq!(rt;
-        refusal_of(alloc, &schema, &THREE, &[DELETE_D]),
-        Some(Refusal::NoTable)
-    );
-    assert_eq!(rt;
-        refusal_of(alloc, &schema, &THREE, &[DELETE_CELL]),
-        Some(Refusal::NoColumn)
-    );
+    for (text, asked, why) in REFUSED {
+        let schema = parse_schema(alloc, text)?;
+        assert_eq!(rt; refusal_of(alloc, &schema, &THREE, asked), Some(why));
+    }
     Ok(())
 }
 
@@ -320,20 +278,20 @@ fn refusal_of_email(alloc: Global, schema: &Schema, len: usize) -> Result<Option
     Ok(run(alloc, schema, Vec::new(alloc), mutations).err())
 }
 
+// A schema, the length of an email, and why its row is refused, if it is.
+const EMAILS: [(&str, usize, Option<Refusal>); 4] = [
+    (USERS, 1_048_571, None),
+    (USERS, 1_048_572, Some(Refusal::RowTooLong)),
+    (SHORT_EMAILS, 3, None),
+    (SHORT_EMAILS, 4, Some(Refusal::ValueTooLong)),
+];
+
 #[test]
 fn emails(rt: HostRuntime) -> Result<(), Fail> {
     let alloc = rt.alloc();
-    let schema = parse_schema(alloc, USERS)?;
-    assert_eq!(rt; refusal_of_email(alloc, &schema, 1_048_571)?, None);
-    assert_eq!(rt;
-        refusal_of_email(alloc, &schema, 1_048_572)?,
-        Some(Refusal::RowTooLong)
-    );
-    let schema = parse_schema(alloc, SHORT_EMAILS)?;
-    assert_eq!(rt; refusal_of_email(alloc, &schema, 3)?, None);
-    assert_eq!(rt;
-        refusal_of_email(alloc, &schema, 4)?,
-        Some(Refusal::ValueTooLong)
-    );
+    for (text, len, wanted) in EMAILS {
+        let schema = parse_schema(alloc, text)?;
+        assert_eq!(rt; refusal_of_email(alloc, &schema, len)?, wanted);
+    }
     Ok(())
 }

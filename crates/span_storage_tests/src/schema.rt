@@ -1,4 +1,5 @@
 //! Schemas, each judged as its text declares it, and the schema of the worked rows.
+use span_schema::schema::Schema;
 use span_schematext::text::parse_schema;
 use span_value::refusal::Refusal;
 use std::alloc::Global;
@@ -69,28 +70,40 @@ const USERS_AND_ALBUMS: &str = "
     CREATE TABLE Albums (uid INT64, aid INT64, name INT64) PRIMARY KEY (uid, aid),
       INTERLEAVE IN PARENT Users";
 
+// Whether the schema has these two tables, the second of them in the first.
+fn are_users_and_albums(schema: &Schema) -> bool {
+    let (Some(users), Some(albums)) = (schema.find("USERS"), schema.find("albums")) else {
+        return false;
+    };
+    users == 1
+        && albums == 2
+        && schema.len() == 2
+        && schema.tables().len() == 2
+        && schema.find("Songs").is_none()
+        && schema.root_of(albums) == 1
+        && schema.level_of(albums) == 2
+        && schema.path_of(albums) == [1, 2].as_slice()
+        && schema.parent_of(users).is_none()
+        && schema.parent_of(albums) == Some(1)
+        && schema.children_of(users) == [2].as_slice()
+}
+
+// Whether the second table of the schema has these columns.
+fn are_columns_of_albums(schema: &Schema) -> bool {
+    let Some(albums) = schema.find("albums") else {
+        return false;
+    };
+    schema.table(albums).name.as_str() == "Albums"
+        && schema.key_columns(albums).len() == 2
+        && schema.own_key_columns(albums).len() == 1
+        && schema.key_places(albums) == [0, 1].as_slice()
+        && schema.other_places(albums) == [2].as_slice()
+        && schema.column(albums, "NAME") == Some(2)
+}
+
 #[test]
 fn worked_schema(rt: HostRuntime) -> Result<(), Fail> {
-    let alloc = rt.alloc();
-    let schema = parse_schema(alloc, USERS_AND_ALBUMS)?;
-    assert_eq!(rt; schema.len(), 2);
-    assert_eq!(rt; schema.tables().len(), 2);
-    let users = schema.find("USERS").ok_or("Users")?;
-    let albums = schema.find("albums").ok_or("Albums")?;
-    assert_eq!(rt; users, 1);
-    assert_eq!(rt; albums, 2);
-    assert_eq!(rt; schema.find("Songs"), None);
-    assert!(rt; schema.table(albums).name.as_str() == "Albums");
-    assert_eq!(rt; schema.root_of(albums), 1);
-    assert_eq!(rt; schema.level_of(albums), 2);
-    assert!(rt; schema.path_of(albums) == [1, 2].as_slice());
-    assert_eq!(rt; schema.parent_of(users), None);
-    assert_eq!(rt; schema.parent_of(albums), Some(1));
-    assert!(rt; schema.children_of(users) == [2].as_slice());
-    assert_eq!(rt; schema.key_columns(albums).len(), 2);
-    assert_eq!(rt; schema.own_key_columns(albums).len(), 1);
-    assert!(rt; schema.key_places(albums) == [0, 1].as_slice());
-    assert!(rt; schema.other_places(albums) == [2].as_slice());
-    assert_eq!(rt; schema.column(albums, "NAME"), Some(2));
+    let schema = parse_schema(rt.alloc(), USERS_AND_ALBUMS)?;
+    assert!(rt; are_users_and_albums(&schema) && are_columns_of_albums(&schema));
     Ok(())
 }
