@@ -297,7 +297,10 @@ def try_alone(rt, crate, edit, kept):
     """Whether an edit is refused, and what is said of it: by a check of its function, and then of the whole crate."""
     batch = Batch(crate)
     goal = batch.goals(rt, kept)[0] if batch.add(edit) else None
-    return refused(crate, edit, goal) if goal else rt.must_fail(crate, edit, FLAGS, kept)
+    if goal:
+        return refused(crate, edit, goal)
+    kind, said = rt.must_fail(crate, edit, FLAGS, kept)
+    return kind in (rt.REFUSED, rt.AT_LIMIT), said
 
 
 def refused(crate, edit, goal):
