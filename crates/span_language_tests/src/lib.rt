@@ -23,3 +23,5 @@ mod parser_answers;
 mod schematext;
 #[cfg(test)]
 mod schematext_answers;
+#[cfg(test)]
+mod texts;

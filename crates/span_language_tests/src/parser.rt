@@ -1,4 +1,5 @@
 //! Queries read as trees, worked out by hand; the places of refusals; that the stack holds the deepest tree.
+use crate::texts::{Repeated, text_of};
 use span_lexer::lexer::ReadError;
 use span_parser::parse::parse_select;
 use span_parser::tree::{Item, Limit, Output, Query, SortColumn, SortKey};
@@ -14,29 +15,6 @@ fn refusal(alloc: Global, text: &str) -> Option<(Refusal, usize)> {
     match parse_select(alloc, text).err() {
         Some(ReadError { refusal, place }) => Some((refusal, place)),
         None => None,
-    }
-}
-
-fn repeat_text(
-    alloc: Global,
-    head: &str,
-    part: &str,
-    times: usize,
-    tail: &str,
-) -> Result<String, AllocError> {
-    let mut text = String::from_str(alloc, head)?;
-    for _ in 0..times {
-        text.push_str(part)?;
-    }
-    text.push_str(tail)?;
-    Ok(text)
-}
-
-/// The output expression of a query at a place, counted from 0.
-fn output_expr(query: &Query, place: usize) -> Option<&Expr> {
-    match query.first.outputs.as_slice().get(place) {
-        Some(Output::Value(value, _)) => Some(value),
-        _ => None,
     }
 }
 
@@ -101,9 +79,9 @@ fn clauses(rt: HostRuntime) -> Result<(), ReadError> {
 }
 
 /// Whether it is `x - a * b < y`, read as `(x - (a * b)) < y`.
-fn is_difference_below(expr: Option<&Expr>) -> bool {
+fn is_difference_below(expr: &Expr) -> bool {
     match expr {
-        Some(Expr::Compare(left, ComparisonOperator::Less, _)) => match left.get() {
+        Expr::Compare(left, ComparisonOperator::Less, _) => match left.get() {
             Expr::Chain(_, more) => match more.as_slice() {
                 [link] => {
                     link.operator == Operator::Minus && matches!(&link.operand, Expr::Chain(_, _))
@@ -116,18 +94,10 @@ fn is_difference_below(expr: Option<&Expr>) -> bool {
     }
 }
 
-#[test]
-fn product_before_difference(rt: HostRuntime) -> Result<(), ReadError> {
-    let query = parse_select(rt.alloc(), "SELECT 1 - 2 * 3 < 4 FROM t")?;
-    assert!(rt; is_difference_below(output_expr(&query, 0)));
-    discard(query);
-    Ok(())
-}
-
 /// Whether it is an AND of two, the first of which is a NOT of a BETWEEN.
-fn is_not_between_and(expr: Option<&Expr>) -> bool {
+fn is_not_between_and(expr: &Expr) -> bool {
     match expr {
-        Some(Expr::And(first, more)) => match first.get() {
+        Expr::And(first, more) => match first.get() {
             Expr::Not(inner) => more.len() == 1 && matches!(inner.get(), Expr::Between(_, _, _)),
             _ => false,
         },
@@ -135,151 +105,184 @@ fn is_not_between_and(expr: Option<&Expr>) -> bool {
     }
 }
 
-#[test]
-fn between_inside_not_inside_and(rt: HostRuntime) -> Result<(), ReadError> {
-    let query = parse_select(rt.alloc(), "SELECT NOT a BETWEEN 1 AND 2 AND b FROM t")?;
-    assert!(rt; is_not_between_and(output_expr(&query, 0)));
-    discard(query);
-    Ok(())
-}
-
-/// Whether it is this integer.
-fn is_integer(expr: Option<&Expr>, is_negative: bool, value: u64) -> bool {
-    match expr {
-        Some(Expr::Integer(number)) => number.is_negative == is_negative && number.value == value,
-        _ => false,
-    }
-}
-
-#[test]
-fn minus_before_an_integer(rt: HostRuntime) -> Result<(), ReadError> {
-    let query = parse_select(rt.alloc(), "SELECT - 5, -(5), 007 FROM t")?;
-    assert!(rt; is_integer(output_expr(&query, 0), true, 5));
-    assert!(rt; matches!(output_expr(&query, 1), Some(Expr::Negative(_))));
-    assert!(rt; is_integer(output_expr(&query, 2), false, 7));
-    discard(query);
-    Ok(())
-}
-
-/// Whether it is this column of this table.
-fn is_column(expr: Option<&Expr>, table: &str, name: &str) -> bool {
-    match expr {
-        Some(
-            Expr::Column(
-                Column {
-                    table: Some(first),
-                    name: second,
-                },
-            ),
-        ) => is_spelt(first, table) && is_spelt(second, name),
-        _ => false,
-    }
+/// What an expression is read as.
+#[derive(Clone, Copy)]
+enum Shape {
+    DifferenceBelow,
+    NotBetweenAnd,
+    /// Whether it is negative, and its value.
+    Integer(bool, u64),
+    Negative,
+    /// A literal or a parameter, as it is spelt.
+    Spelt(&'static str),
+    /// A table and a name.
+    Column(&'static str, &'static str),
+    Truth(bool),
+    Null,
+    /// A name and how many operands.
+    Call(&'static str, usize),
+    CallStar(&'static str),
+    /// How many arms, and whether it has an operand and ELSE, or neither.
+    Case(usize, bool),
 }
 
 /// Whether it is this literal or parameter, as it is spelt.
-fn is_literal(expr: Option<&Expr>, text: &str) -> bool {
+fn is_literal(expr: &Expr, text: &str) -> bool {
     match expr {
-        Some(Expr::Str(spelling)) => is_spelt(spelling, text),
-        Some(Expr::Bytes(spelling)) => is_spelt(spelling, text),
-        Some(Expr::Parameter(spelling)) => is_spelt(spelling, text),
+        Expr::Str(spelling) | Expr::Bytes(spelling) | Expr::Parameter(spelling) => {
+            is_spelt(spelling, text)
+        }
         _ => false,
     }
 }
 
-#[test]
-fn literals_and_columns(rt: HostRuntime) -> Result<(), ReadError> {
-    let query = parse_select(
-        rt.alloc(),
-        "SELECT 'a\\n', B'\\xff', @p, u.a, TRUE, false, NULL FROM t",
-    )?;
-    assert!(rt; is_literal(output_expr(&query, 0), "'a\\n'"));
-    assert!(rt; is_literal(output_expr(&query, 1), "B'\\xff'"));
-    assert!(rt; is_literal(output_expr(&query, 2), "@p"));
-    assert!(rt; is_column(output_expr(&query, 3), "u", "a"));
-    assert!(rt; matches!(output_expr(&query, 4), Some(Expr::Truth(true, _))));
-    assert!(rt; matches!(output_expr(&query, 5), Some(Expr::Truth(false, _))));
-    assert!(rt; matches!(output_expr(&query, 6), Some(Expr::Null(_))));
-    discard(query);
-    Ok(())
-}
-
-/// Whether it is a call of this name with `operands` operands.
-fn is_call(expr: Option<&Expr>, name: &str, operands: usize) -> bool {
-    match expr {
-        Some(Expr::Call(spelling, found)) => is_spelt(spelling, name) && found.len() == operands,
-        _ => false,
+/// Whether it is this column of this table.
+fn is_column(column: &Column, table: &str, name: &str) -> bool {
+    match &column.table {
+        Some(first) => is_spelt(first, table) && is_spelt(&column.name, name),
+        None => false,
     }
 }
 
-/// Whether it is a CASE with `arms` arms, with an operand and ELSE or with neither.
-fn is_case(expr: Option<&Expr>, arms: usize, is_full: bool) -> bool {
-    match expr {
-        Some(Expr::Case(operand, found, otherwise)) => {
+/// Whether an expression has this shape.
+fn has_shape(expr: &Expr, shape: Shape) -> bool {
+    match (shape, expr) {
+        (Shape::DifferenceBelow, _) => is_difference_below(expr),
+        (Shape::NotBetweenAnd, _) => is_not_between_and(expr),
+        (Shape::Integer(is_negative, value), Expr::Integer(number)) => {
+            number.is_negative == is_negative && number.value == value
+        }
+        (Shape::Negative, Expr::Negative(_)) => true,
+        (Shape::Spelt(text), _) => is_literal(expr, text),
+        (Shape::Column(table, name), Expr::Column(column)) => is_column(column, table, name),
+        (Shape::Truth(truth), Expr::Truth(found, _)) => *found == truth,
+        (Shape::Null, Expr::Null(_)) => true,
+        (Shape::Call(name, operands), Expr::Call(spelling, found)) => {
+            is_spelt(spelling, name) && found.len() == operands
+        }
+        (Shape::CallStar(name), Expr::CallStar(spelling)) => is_spelt(spelling, name),
+        (Shape::Case(arms, is_full), Expr::Case(operand, found, otherwise)) => {
             found.len() == arms && operand.is_some() == is_full && otherwise.is_some() == is_full
         }
         _ => false,
     }
 }
 
-#[test]
-fn calls_and_cases(rt: HostRuntime) -> Result<(), ReadError> {
-    let query = parse_select(
-        rt.alloc(),
+/// A query text, and the shapes of its output expressions, from the first on.
+const SHAPES: [(&str, &[Shape]); 5] = [
+    ("SELECT 1 - 2 * 3 < 4 FROM t", &[Shape::DifferenceBelow]),
+    (
+        "SELECT NOT a BETWEEN 1 AND 2 AND b FROM t",
+        &[Shape::NotBetweenAnd],
+    ),
+    (
+        "SELECT - 5, -(5), 007 FROM t",
+        &[
+            Shape::Integer(true, 5),
+            Shape::Negative,
+            Shape::Integer(false, 7),
+        ],
+    ),
+    (
+        "SELECT 'a\\n', B'\\xff', @p, u.a, TRUE, false, NULL FROM t",
+        &[
+            Shape::Spelt("'a\\n'"),
+            Shape::Spelt("B'\\xff'"),
+            Shape::Spelt("@p"),
+            Shape::Column("u", "a"),
+            Shape::Truth(true),
+            Shape::Truth(false),
+            Shape::Null,
+        ],
+    ),
+    (
         "SELECT f(), COUNT(*), if(a, 1, 2), CASE a WHEN 1 THEN 2 WHEN 3 THEN 4 ELSE 5 END, CASE WHEN a THEN b END FROM t",
-    )?;
-    assert!(rt; is_call(output_expr(&query, 0), "f", 0));
-    assert!(rt;
-        matches!(output_expr(&query, 1), Some(Expr::CallStar(name)) if is_spelt(name, "COUNT"))
-    );
-    assert!(rt; is_call(output_expr(&query, 2), "if", 3));
-    assert!(rt; is_case(output_expr(&query, 3), 2, true));
-    assert!(rt; is_case(output_expr(&query, 4), 1, false));
-    discard(query);
-    Ok(())
+        &[
+            Shape::Call("f", 0),
+            Shape::CallStar("COUNT"),
+            Shape::Call("if", 3),
+            Shape::Case(2, true),
+            Shape::Case(1, false),
+        ],
+    ),
+];
+
+/// Whether the output expressions of a query have these shapes.
+fn have_shapes(outputs: &[Output], shapes: &[Shape]) -> bool {
+    if outputs.len() != shapes.len() {
+        return false;
+    }
+    for (i, output) in outputs.iter().enumerate() {
+        match output {
+            Output::Value(value, _) if has_shape(value, shapes[i]) => (),
+            _ => return false,
+        }
+    }
+    true
+}
+
+/// Whether a text is read as a query whose output expressions have these shapes.
+fn is_read_so(alloc: Global, text: &str, shapes: &[Shape]) -> bool {
+    match parse_select(alloc, text) {
+        Ok(query) => {
+            let found = have_shapes(query.first.outputs.as_slice(), shapes);
+            discard(query);
+            found
+        }
+        Err(_) => false,
+    }
 }
 
 #[test]
-fn places(rt: HostRuntime) -> Result<(), AllocError> {
-    let a = rt.alloc();
-    assert_eq!(rt;
-        refusal(a, "SELECT a FROM t WHERE"),
-        Some((Refusal::Syntax, 21))
-    );
-    assert_eq!(rt;
-        refusal(a, "SELECT a FROM select"),
-        Some((Refusal::Syntax, 14))
-    );
-    assert_eq!(rt;
-        refusal(a, "SELECT a AS from FROM t"),
-        Some((Refusal::Syntax, 12))
-    );
-    assert_eq!(rt;
-        refusal(a, "SELECT @from FROM t"),
-        Some((Refusal::BadToken, 7))
-    );
-    assert_eq!(rt;
-        refusal(a, "SELECT a FROM t; x"),
-        Some((Refusal::Syntax, 17))
-    );
-    let deep = repeat_text(a, "SELECT ", "(", 33, "1")?;
-    assert_eq!(rt; refusal(a, deep.as_str()), Some((Refusal::TooDeep, 39)));
-    Ok(())
+fn trees(rt: HostRuntime) {
+    for (text, shapes) in SHAPES {
+        assert!(rt; is_read_so(rt.alloc(), text, shapes), "at {text}");
+    }
 }
+
+/// A query text that is refused, and where.
+const PLACES: [(&str, Refusal, usize); 5] = [
+    ("SELECT a FROM t WHERE", Refusal::Syntax, 21),
+    ("SELECT a FROM select", Refusal::Syntax, 14),
+    ("SELECT a AS from FROM t", Refusal::Syntax, 12),
+    ("SELECT @from FROM t", Refusal::BadToken, 7),
+    ("SELECT a FROM t; x", Refusal::Syntax, 17),
+];
+
+#[test]
+fn places(rt: HostRuntime) {
+    for (text, why, place) in PLACES {
+        assert_eq!(rt; refusal(rt.alloc(), text), Some((why, place)), "at {text}");
+    }
+}
+
+/// Texts at a limit and beyond it, and where they are refused: the 33rd opening, the deepest tree, the longest texts.
+const LIMITS: [(Repeated<'static>, Option<(Refusal, usize)>); 5] = [
+    (
+        Repeated("SELECT ", "(", 33, "1", "", ""),
+        Some((Refusal::TooDeep, 39)),
+    ),
+    (
+        Repeated("SELECT ", "CASE WHEN ", 32, "1", " THEN 1 END", " FROM t"),
+        None,
+    ),
+    (
+        Repeated("SELECT a", " OR a", 13000, " FROM t", "", ""),
+        None,
+    ),
+    (Repeated("SELECT a FROM t", " ", 65521, "", "", ""), None),
+    (
+        Repeated("SELECT a FROM t", " ", 65522, "", "", ""),
+        Some((Refusal::TextTooLong, 65536)),
+    ),
+];
 
 #[test]
 fn deepest_and_longest(rt: HostRuntime) -> Result<(), AllocError> {
     let a = rt.alloc();
-    let inner = repeat_text(a, "SELECT ", "CASE WHEN ", 32, "1")?;
-    let deep = repeat_text(a, inner.as_str(), " THEN 1 END", 32, " FROM t")?;
-    assert_eq!(rt; refusal(a, deep.as_str()), None);
-    let long = repeat_text(a, "SELECT a", " OR a", 13000, " FROM t")?;
-    assert_eq!(rt; refusal(a, long.as_str()), None);
-    let blanks = repeat_text(a, "SELECT a FROM t", " ", 65521, "")?;
-    assert_eq!(rt; refusal(a, blanks.as_str()), None);
-    let longer = repeat_text(a, "SELECT a FROM t", " ", 65522, "")?;
-    assert_eq!(rt;
-        refusal(a, longer.as_str()),
-        Some((Refusal::TextTooLong, 65536))
-    );
+    for (of, wanted) in LIMITS {
+        let text = text_of(a, &of)?;
+        assert_eq!(rt; refusal(a, text.as_str()), wanted);
+    }
     Ok(())
 }
