@@ -75,6 +75,10 @@ are_of_kinds [] (v ∷ vs) = false
 are_of_kinds (c ∷ cs) [] = false
 are_of_kinds (c ∷ cs) (v ∷ vs) = is_of_kind c.kind v && are_of_kinds cs vs
 
+-- values that are of the kinds of columns fit them, as those of a running program do
+abbrev pub AreValues : List Value → Type 0
+AreValues vs = (cs : List KeyPart) → are_of_kinds cs vs ≡ true → AreFit cs vs
+
 -- the codings of the columns, one after another
 abbrev pub tuple_code : List KeyPart → List Value → List ℕ
 tuple_code [] vs = []

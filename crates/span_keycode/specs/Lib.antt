@@ -6,4 +6,5 @@ pub mod Reads
 pub mod Laws
 pub mod Roots
 pub mod Ranges
+pub mod Parts
 pub mod Limits

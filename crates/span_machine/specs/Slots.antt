@@ -2,7 +2,7 @@
 --
 -- A range is cut at coded root keys alone, so that a directory, whose keys all begin with the coding of its root row, is in one slot as a
 -- whole.
-use Rattle.std.specs.Prelude.{◌≡◌, ℕ, Bool, true, not, ◌&&◌, List, map, filter, slice_get, Option, Some, None}
+use Rattle.std.specs.Prelude.{◌≡◌, ℕ, Bool, true, not, ◌&&◌, List, map, filter, position, slice_get, Option, Some, None}
 use Rattle.std.specs.List.{AllByRecursion}
 use Rattle.std.specs.Ordering.{is_lt}
 use Rattle.span_schema.specs.declared.table.Table.{Table}
@@ -46,6 +46,10 @@ is_between lo hi key = is_from lo key && is_upto hi key
 -- the slot's range has the coded key
 abbrev pub has_key : SlotState → List ℕ → Bool
 has_key slot_state key = is_between slot_state.lo slot_state.hi key
+
+-- the number of the slot whose range has the coded key
+abbrev pub slot_of : List SlotState → List ℕ → Option ℕ
+slot_of slots key = position (λ slot_state. has_key slot_state key) slots
 
 -- the slot's range has the directory of the root row
 abbrev pub holds : List Table → SlotState → Root → Bool
