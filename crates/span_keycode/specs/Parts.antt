@@ -1,7 +1,7 @@
 -- Parts of ranges of coded keys: what no piece covers, and when pieces tile a range.
 --
 -- Pieces of a range are listed in the order of their low ends.
-use Rattle.std.specs.Prelude.{ℕ, ◌+◌, Bool, false, not, ◌&&◌, List, [], ◌∷◌, Option, Some, None, if◌then◌else◌}
+use Rattle.std.specs.Prelude.{ℕ, ◌+◌, Bool, true, false, not, ◌&&◌, List, [], ◌∷◌, Option, Some, None, if◌then◌else◌}
 use Rattle.std.specs.List.{list_any}
 use Rattle.std.specs.Ordering.{is_lt}
 use Rattle.std.specs.Str.{bytes_eq}
@@ -41,6 +41,22 @@ earlier_of (Some hi) key = earlier hi key
 -- the part of a range from lo on and before hi
 abbrev pub part_between : Option (List ℕ) → Option (List ℕ) → KeyRange → KeyRange
 part_between lo hi range = record { low = later_of lo range.low; high = earlier_of hi range.high }
+
+-- ---- ends that may be open
+
+-- the key is not before the range
+abbrev pub is_from : Option (List ℕ) → List ℕ → Bool
+is_from None key = true
+is_from (Some low) key = not (is_lt (byte_order key low))
+
+-- the key is not after the range
+abbrev pub is_upto : Option (List ℕ) → List ℕ → Bool
+is_upto None key = true
+is_upto (Some high) key = is_lt (byte_order key high)
+
+-- the key is from the one end on, and before the other
+unfoldable pub is_between : Option (List ℕ) → Option (List ℕ) → List ℕ → Bool
+is_between lo hi key = is_from lo key && is_upto hi key
 
 -- ---- pieces
 
