@@ -10,6 +10,6 @@ pub mod plain;
 mod row;
 mod select;
 pub mod sort;
-mod source;
+pub mod source;
 mod states;
 mod sum;
