@@ -2,7 +2,7 @@ use Rattle.std.proofs.Common.{◌++◌, ◌∷◌, [], map, sym, ap, ◌∙◌, 
 use Rattle.std.proofs.lemmas.List.FromFn.{map-range_with_len_more}
 use Rattle.std.specs.List.{range_with_len}
 use Rattle.span_machine.specs.Meaning.{value_at}
-use Rattle.span_core.proofs.reading.row_in_declared_order.Goals as goal
+use Rattle.span_parts.proofs.reading.row_in_declared_order.Goals as goal
 
 pub loop-place-preserved : goal.loop-place-preserved
 loop-place-preserved c =

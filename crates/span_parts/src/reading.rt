@@ -1,13 +1,12 @@
 //! Reading the rows of a table from what a shard lends.
 ghost use Rattle.std.specs.Prelude.{◌≡◌, ℕ, List, map, IfOk, IfErr, MatchResult, Some, None, ◌==◌, ◌⊎◌, ◌<◌, if◌then◌else◌};
 ghost use Rattle.std.specs.Option.{option_copied};
-ghost use Rattle.span_schema.specs.Numbers.{IsTable, root_of};
+ghost use Rattle.span_schema.specs.Numbers.{IsTable};
 ghost use Rattle.span_machine.specs.Meaning.{value_for, value_at, declared_row};
 ghost use Rattle.span_shard.specs.Reading.{entry_row};
-ghost use Rattle.span_version_laws.specs.Kept.{IsReading, family};
-ghost use Rattle.span_core.specs.Whole.{AreNoRows, IsRead, IsUnread};
+ghost use Rattle.span_version_laws.specs.Kept.{IsReading};
+ghost use Rattle.span_parts.specs.Whole.{AreNoRows, IsRead, IsUnread};
 
-use span_keycode::key::Key;
 use span_keycode::range::KeyRange;
 use span_mutate::row::TableRow;
 use span_schema::schema::Schema;
@@ -18,43 +17,20 @@ use span_value::seq::Seq;
 use span_value::value::{Row, Value};
 use std::alloc::{AllocError, Global};
 
-/// The rows of a table at s. `OutOfMemory`, where the shard has the rows of the schema's tables.
-pub(crate) fn read(
+/// The rows of a table in a range of coded keys, at s. `OutOfMemory`, where the shard has the rows of the schema's tables.
+pub fn read(
     alloc: Global,
     schema: &Schema,
     shard: &Shard,
     table: usize,
+    range: &KeyRange,
     s: u64,
 ) -> Result<Seq<Row>, Refusal>
     requires { IsTable schema.now table }
-    ensures { MatchResult result (IsRead schema.now shard.now table s) (IsUnread schema.now shard.now table s) }
+    ensures { MatchResult result (IsRead schema.now shard.now table range.now s) (IsUnread schema.now shard.now table range.now s) }
 {
-    let range = family_of(alloc, schema, table)?;
-    let entries = shard.snapshot(alloc, &range, s)?;
+    let entries = shard.snapshot(alloc, range, s)?;
     rows_of(alloc, schema, table, entries.as_slice())
-}
-
-/// The keys of the family of a table: all that begin with the number of its root table.
-fn family_of(alloc: Global, schema: &Schema, table: usize) -> Result<KeyRange, AllocError>
-    requires { IsTable schema.now table }
-    ensures { IfOk result (λ range. range ≡ family (root_of schema.now table)) }
-{
-    schema.meets_rules();
-    let root = number(schema, schema.root_of(table));
-    Ok(KeyRange {
-        low: Key::from_slice(alloc, &[root])?,
-        high: Key::from_slice(alloc, &[root + 1])?,
-    })
-}
-
-// The number of a table as the byte that begins the keys of its family.
-fn number(schema: &Schema, table: usize) -> u8
-    requires { IsTable schema.now table }
-    ensures number { result ≡ table }
-    ensures few { result < 255 }
-{
-    schema.meets_rules();
-    table as u8
 }
 
 /// The rows of a table among the entries, each with its values in the order in which the columns are declared.

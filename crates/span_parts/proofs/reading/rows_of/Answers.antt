@@ -6,9 +6,9 @@ use Rattle.span_value.specs.declared.value.Value.{Value}
 use Rattle.span_shard.specs.Shard.{KeyRow}
 use Rattle.span_shard.specs.declared.shard.Entry.{Entry}
 use Rattle.span_shard.specs.Reading.{entry_row}
-use Rattle.span_core.proofs.Entries.{AreReadOf, more_read, all_read, entry_is, shown_step, not_rows}
-use Rattle.span_core.proofs.reading.rows_of.Goals as goal
-use Rattle.span_core.proofs.reading.rows_of.Goals.{then-row-table+in_ok-row_in_declared_order+in_ok-push, else-row-table}
+use Rattle.span_parts.proofs.Entries.{AreReadOf, more_read, all_read, entry_is, shown_step, not_rows}
+use Rattle.span_parts.proofs.reading.rows_of.Goals as goal
+use Rattle.span_parts.proofs.reading.rows_of.Goals.{then-row-table+in_ok-row_in_declared_order+in_ok-push, else-row-table}
 
 abbrev nothing : Entry
 nothing = record { key = record { ref_ptr = (0, 0); now = [] }; row = record { ref_ptr = (0, 0); now = [] } }

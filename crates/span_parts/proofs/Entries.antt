@@ -19,7 +19,7 @@ use Rattle.span_shard.specs.Shard.{KeyRow}
 use Rattle.span_shard.specs.declared.shard.Entry.{Entry}
 use Rattle.span_shard.specs.Reading.{entry_row, IsNoTableRow}
 use Rattle.span_version_laws.specs.Kept.{IsReading, key_row}
-use Rattle.span_core.specs.Whole.{AreNoRows}
+use Rattle.span_parts.specs.Whole.{AreNoRows}
 
 abbrev row_with : ℕ → List Value → List Value → TableRow
 row_with n key cells = record { table = n; key = key; cells = cells }
