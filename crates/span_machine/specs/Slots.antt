@@ -2,13 +2,12 @@
 --
 -- A range is cut at coded root keys alone, so that a directory, whose keys all begin with the coding of its root row, is in one slot as a
 -- whole.
-use Rattle.std.specs.Prelude.{◌≡◌, ℕ, Bool, true, not, ◌&&◌, List, map, filter, position, slice_get, Option, Some, None}
+use Rattle.std.specs.Prelude.{◌≡◌, ℕ, Bool, true, List, map, filter, position, slice_get, Option, Some, None}
 use Rattle.std.specs.List.{AllByRecursion}
-use Rattle.std.specs.Ordering.{is_lt}
 use Rattle.span_schema.specs.declared.table.Table.{Table}
 use Rattle.span_schema.specs.Numbers.{root_of}
-use Rattle.span_keycode.specs.Order.{byte_order}
 use Rattle.span_keycode.specs.Keys.{IsCodedKey, key_code}
+pub use Rattle.span_keycode.specs.Parts.{is_from, is_upto, is_between}
 use Rattle.span_mutate.specs.declared.mutation.CheckedMutation.{CheckedMutation}
 use Rattle.span_mutate.specs.Directories.{Root, is_in_directory, root_row}
 use Rattle.span_machine.specs.declared.slot.SlotState.{SlotState}
@@ -28,20 +27,6 @@ unfoldable pub root_code : List Table → Root → List ℕ
 root_code schema root = key_code schema root.table root.key
 
 -- ---- ranges
-
--- the key is not before the range
-abbrev pub is_from : Option (List ℕ) → List ℕ → Bool
-is_from None key = true
-is_from (Some low) key = not (is_lt (byte_order key low))
-
--- the key is not after the range
-abbrev pub is_upto : Option (List ℕ) → List ℕ → Bool
-is_upto None key = true
-is_upto (Some high) key = is_lt (byte_order key high)
-
--- the key is from the one end on, and before the other
-unfoldable pub is_between : Option (List ℕ) → Option (List ℕ) → List ℕ → Bool
-is_between lo hi key = is_from lo key && is_upto hi key
 
 -- the slot's range has the coded key
 abbrev pub has_key : SlotState → List ℕ → Bool
