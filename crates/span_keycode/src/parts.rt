@@ -81,16 +81,16 @@ fn gap_between<'a>(
         lowest_gap (record { low = low.now; high = high.now }) covered.now
         ≡ Some (record { low = gap.0.now; high = gap.1.now })) }
 {
-    let mut low = low;
+    let mut from = low;
     for piece in covered {
         let end = earlier(piece.low.as_slice(), high);
-        if is_before(low, end) {
-            return Some((low, end));
+        if is_before(from, end) {
+            return Some((from, end));
         }
-        low = later(piece.high.as_slice(), low);
+        from = later(piece.high.as_slice(), from);
     }
-    if is_before(low, high) {
-        return Some((low, high));
+    if is_before(from, high) {
+        return Some((from, high));
     }
     None
 }
