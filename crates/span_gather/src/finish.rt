@@ -1,5 +1,5 @@
 //! The rows of a query from the pieces of its leaves.
-ghost use Rattle.std.specs.Prelude.{◌≡◌, ◌×◌, ◌⊎◌, ◌++◌, ◌∷◌, [], map, MatchResult, IfErr, OnOk, Some, None};
+ghost use Rattle.std.specs.Prelude.{◌≡◌, ◌⊎◌, ◌++◌, ◌∷◌, [], map, MatchResult, IfErr, OnOk, Some, None};
 ghost use Rattle.span_query.specs.Rows.{joined};
 ghost use Rattle.span_query.specs.Meaning.{meaning};
 
