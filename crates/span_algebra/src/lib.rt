@@ -7,7 +7,7 @@ mod distinct;
 mod group;
 mod join;
 pub mod plain;
-mod row;
+pub mod row;
 mod select;
 pub mod sort;
 pub mod source;

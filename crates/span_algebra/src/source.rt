@@ -1,5 +1,6 @@
 //! The rows of an item of a FROM, and the tables that a query reads. Rows that are there already are lent and not copied.
-ghost use Rattle.std.specs.Prelude.{◌≡◌, [], ◌∷◌, ◌++◌, OnOk, OnErr};
+ghost use Rattle.std.specs.Prelude.{◌≡◌, [], ◌∷◌, ◌++◌, map, slice_get, OnOk, OnErr};
+ghost use Rattle.std.specs.Option.{option_copied};
 ghost use Rattle.span_query.specs.Meaning as spec;
 ghost use Rattle.span_algebra.specs.Sources.{source_rows};
 
@@ -46,7 +47,7 @@ impl<'a> Model for Tables<'a> {
 impl<'a> Tables<'a> {
     /// No tables. It takes no memory.
     pub fn new(alloc: Global) -> Tables<'a>
-        ensures { result.entry ≡ [] }
+        ensures { result ≡ [] }
     {
         Tables {
             sources: Vec::new(alloc),
@@ -75,12 +76,25 @@ impl<'a> Tables<'a> {
     pub(crate) fn rows(&self, number: usize) -> &[Row]
         ensures { result.now ≡ spec.table_rows self.now number }
     {
-        if number == 0 {
-            return &[];
-        }
-        match self.sources.get(number - 1) {
-            Some(rows) => rows.as_slice(),
-            None => &[],
-        }
+        rows_at(self.sources.as_slice(), number)
     }
+}
+
+/// The rows of the table with this number; the first has number 1.
+fn rows_at<'a>(sources: &'a [Source<'_>], number: usize) -> &'a [Row]
+    ensures { result.now ≡ spec.table_rows (map source_rows sources.now) number }
+{
+    if number == 0 {
+        return &[];
+    }
+    match source_at(sources, number - 1) {
+        Some(rows) => rows.as_slice(),
+        None => &[],
+    }
+}
+
+fn source_at<'a, 'b>(sources: &'a [Source<'b>], place: usize) -> Option<&'a Source<'b>>
+    ensures { option_copied result ≡ slice_get sources.now place }
+{
+    sources.get(place)
 }

@@ -4,6 +4,7 @@ ghost use Rattle.span_query.specs.Rows.{joined};
 ghost use Rattle.span_query.specs.Meaning.{meaning};
 
 use span_algebra::plain::eval_plain;
+use span_algebra::row::copy_row;
 use span_algebra::source::Tables;
 use span_query::query::BoundQuery;
 use span_value::refusal::Refusal;
@@ -28,20 +29,9 @@ fn add_copies(alloc: Global, rows: &mut Vec<Row>, piece: &[Row]) -> Result<(), R
     ensures memory { IfErr result (λ why. why ≡ Refusal.OutOfMemory) }
 {
     for row in piece {
-        rows.push(copy_row(alloc, row)?)?;
+        rows.push(copy_row(alloc, row.as_slice())?)?;
     }
     Ok(())
-}
-
-/// An equal row.
-fn copy_row(alloc: Global, row: &Row) -> Result<Row, Refusal>
-    ensures { MatchResult result (λ copy. copy ≡ row.now) (λ why. why ≡ Refusal.OutOfMemory) }
-{
-    let mut values = Vec::with_capacity(alloc, row.len())?;
-    for value in row.as_slice() {
-        values.push(value.copy(alloc)?)?;
-    }
-    Ok(Seq::from_vec(values))
 }
 
 /// Adds the table of a leaf. The rows of its only piece are lent.
@@ -62,7 +52,7 @@ fn add_table<'a>(
 
 /// The tables of all leaves.
 fn tables_of<'a>(alloc: Global, leaves: &'a [Seq<Seq<Row>>]) -> Result<Tables<'a>, Refusal>
-    ensures { MatchResult result.entry (λ tables. tables ≡ map joined leaves.now) (λ why. why ≡ Refusal.OutOfMemory) }
+    ensures { MatchResult result (λ tables. tables ≡ map joined leaves.now) (λ why. why ≡ Refusal.OutOfMemory) }
 {
     let mut tables = Tables::new(alloc);
     for pieces in leaves {
