@@ -23,3 +23,4 @@ pub mod Words
 pub mod Befores
 pub mod PartLaws
 pub mod Comparing
+pub mod RootCodes
