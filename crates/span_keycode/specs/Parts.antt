@@ -1,8 +1,8 @@
 -- Parts of ranges of coded keys: what no piece covers, and when pieces tile a range.
 --
 -- Pieces of a range are listed in the order of their low ends.
-use Rattle.std.specs.Prelude.{ℕ, ◌+◌, Bool, true, false, not, ◌&&◌, List, [], ◌∷◌, Option, Some, None, if◌then◌else◌}
-use Rattle.std.specs.List.{list_any}
+use Rattle.std.specs.Prelude.{◌≡◌, ℕ, ◌+◌, Bool, true, false, not, ◌&&◌, List, [], ◌∷◌, Option, Some, None, if◌then◌else◌}
+use Rattle.std.specs.List.{AllByRecursion, list_any}
 use Rattle.std.specs.Ordering.{is_lt}
 use Rattle.std.specs.Str.{bytes_eq}
 use Rattle.span_keycode.specs.Order.{byte_order}
@@ -42,14 +42,12 @@ earlier_of (Some hi) key = earlier hi key
 abbrev pub part_between : Option (List ℕ) → Option (List ℕ) → KeyRange → KeyRange
 part_between lo hi range = record { low = later_of lo range.low; high = earlier_of hi range.high }
 
--- ---- ends that may be open
-
--- the key is not before the range
+-- the key is not before the low end
 abbrev pub is_from : Option (List ℕ) → List ℕ → Bool
 is_from None key = true
 is_from (Some low) key = not (is_lt (byte_order key low))
 
--- the key is not after the range
+-- the key is before the high end
 abbrev pub is_upto : Option (List ℕ) → List ℕ → Bool
 is_upto None key = true
 is_upto (Some high) key = is_lt (byte_order key high)
@@ -81,6 +79,10 @@ overlaps a b = is_nonempty (part_between (Some a.low) (Some a.high) b)
 abbrev pub is_covered_in_part : List KeyRange → KeyRange → Bool
 is_covered_in_part pieces range = list_any (overlaps range) pieces
 
+-- the piece begins at a key, is not empty, and ends at or before another key
+abbrev pub follows : List ℕ → List ℕ → KeyRange → Bool
+follows low high piece = bytes_eq piece.low low && is_nonempty piece && not (is_lt (byte_order high piece.high))
+
 -- the pieces tile the range: each begins where the one before it ends, none is empty, and the last ends where the range does
 abbrev pub tiles : KeyRange → List KeyRange → Bool
 tiles range [] = not (is_nonempty range)
@@ -91,3 +93,9 @@ tiles range (piece ∷ pieces) =
 abbrev pub place_among : List KeyRange → KeyRange → ℕ
 place_among [] range = 0
 place_among (piece ∷ pieces) range = if is_lt (byte_order piece.low range.low) then place_among pieces range + 1 else 0
+
+-- each piece has keys, and ends at or before the low end of every later one
+abbrev pub AreApart : List KeyRange → Type 0
+AreApart [] = Unit {0}
+AreApart (piece ∷ pieces) =
+    (is_nonempty piece ≡ true) × AllByRecursion (λ (after : KeyRange). is_lt (byte_order after.low piece.high) ≡ false) pieces × AreApart pieces
