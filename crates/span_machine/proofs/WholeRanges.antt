@@ -3,7 +3,8 @@ use Rattle.std.proofs.Common.{◌≡◌, ℕ, true, cond, List, [], ◌∷◌, r
 use Rattle.span_schema.specs.declared.table.Table.{Table}
 use Rattle.span_mutate.specs.declared.mutation.CheckedMutation.{CheckedMutation}
 use Rattle.span_machine.specs.declared.slot.SlotState.{SlotState}
-use Rattle.span_machine.specs.Slots.{SlotRange, is_between, has_key, root_at, root_code, mutations_in, range_of, whole_range}
+use Rattle.span_keycode.specs.Parts.{is_between}
+use Rattle.span_machine.specs.Slots.{SlotRange, has_key, root_at, root_code, mutations_in, range_of, whole_range}
 
 pub whole_has : (slot_state : SlotState) → range_of slot_state ≡ whole_range → (key : List ℕ) → has_key slot_state key ≡ true
 unfolding is_between
