@@ -20,3 +20,5 @@ pub mod Bounds
 pub mod RangeLaws
 pub mod FamilyRanges
 pub mod Words
+pub mod Befores
+pub mod PartLaws
