@@ -1,4 +1,3 @@
 pub mod Preparing
 pub mod Stepping
-pub mod Ready
 pub mod Committing
