@@ -146,7 +146,7 @@ impl Core {
                 txn,
                 slot,
                 interval,
-            } => self.apply(alloc, owner, txn, slot, interval),
+            } => self.apply(owner, txn, slot, interval),
             Step::Advance { slot, interval } => self.advance(slot, interval),
             Step::Trim { slot, h } => self.trim(slot, h),
             Step::Open {
@@ -231,7 +231,6 @@ impl Core {
 
     fn apply(
         &mut self,
-        alloc: Global,
         owner: u64,
         txn: u64,
         slot: usize,
@@ -241,7 +240,6 @@ impl Core {
         ensures schema { self.new.schema ≡ self.old.schema }
     {
         apply_reply(steps::apply(
-            alloc,
             &self.schema,
             &mut self.journal,
             &mut self.shards,

@@ -1,8 +1,7 @@
 //! The steps of the machine but splits, each as the machine's answer (`span_machine/specs/Machine.antt`).
-ghost use Rattle.std.specs.Prelude.{◌≡◌, List, IfOk, Some, None, Ok};
+ghost use Rattle.std.specs.Prelude.{◌≡◌, ◌∷◌, [], List, IfErr, OnOk, OnErr, Ok, length};
 ghost use Rattle.std.specs.List.{AllByRecursion};
 ghost use Rattle.span_schema.specs.Numbers.{IsTable};
-ghost use Rattle.span_schema.specs.Lineages.{MeetsRules};
 ghost use Rattle.span_mutate.specs.Typed.{AreTypedMutations};
 ghost use Rattle.span_machine.specs.Machine.{Answers, IsAnswer, start, begin, prepare, decide, apply_step, advance, trim, open_query, scan, finish, close};
 ghost use Rattle.span_machine.specs.Pieces.{machine_of};
@@ -146,7 +145,6 @@ pub fn decide(
 
 /// Applies a decided transaction at a slot.
 pub fn apply(
-    alloc: Global,
     schema: &Schema,
     journal: &mut Journal,
     shards: &mut Vec<Shard>,
@@ -163,7 +161,7 @@ pub fn apply(
     ensures whole { IsWhole schema.now journal.new shards.new.items }
 {
     schema.meets_rules();
-    match journal.note_applied(alloc, owner, txn, slot, interval) {
+    match journal.note_applied(owner, txn, slot, interval) {
         Ok(committed) => {
             apply_at(shards, slot, txn, committed);
             Ok(())
@@ -254,7 +252,7 @@ pub fn scan(
     schema.meets_rules();
     match journal.claim_gap(alloc, query, leaf, slot, interval) {
         Ok(Some(gap)) => match read(alloc, schema, &shards[slot], gap.table, &gap.range, gap.s) {
-            Ok(rows) => match journal.register(query, leaf, slot, interval, gap.range, rows) {
+            Ok(rows) => match journal.register(alloc, query, leaf, slot, interval, gap.range, rows) {
                 Ok(()) => Ok(true),
                 Err(why) => Err(why),
             },
