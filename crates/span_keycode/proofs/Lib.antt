@@ -24,3 +24,4 @@ pub mod Befores
 pub mod PartLaws
 pub mod Comparing
 pub mod RootCodes
+pub mod ValueLaws
