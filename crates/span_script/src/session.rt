@@ -640,7 +640,7 @@ fn scan_leaf(
 
 /// Why a record has no key to split at, or that memory ran out.
 fn split_refusal(why: Refusal) -> Refusal
-    ensures { (result ≡ Refusal.BadSplit) ⊎ ((result ≡ Refusal.OutOfMemory) × (why ≡ Refusal.OutOfMemory)) }
+    ensures which { (result ≡ Refusal.BadSplit) ⊎ ((result ≡ Refusal.OutOfMemory) × (why ≡ Refusal.OutOfMemory)) }
     ensures memory { why ≡ Refusal.OutOfMemory → result ≡ Refusal.OutOfMemory }
 {
     match why {
