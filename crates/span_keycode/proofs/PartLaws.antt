@@ -1,10 +1,10 @@
 -- The laws of parts of ranges: gaps, pieces in order, and ranges that pieces tile.
-use Rattle.std.proofs.Common.{◌≡◌, ℕ, zero, suc, ◌+◌, ◌≤◌, List, [], ◌∷◌, ◌++◌, Option, Some, None, Bool, true, false, not, ◌&&◌, ◌||◌, ◌⊎◌, inl, inr, refl, sym, ◌∙◌, ap, subst, arith, length, take, drop, if◌then◌else◌}
+use Rattle.std.proofs.Common.{◌≡◌, ℕ, zero, suc, ◌+◌, ◌≤◌, List, [], ◌∷◌, ◌++◌, Option, Some, None, Bool, true, false, not, ◌&&◌, ◌||◌, ◌⊎◌, inl, inr, refl, sym, subst, arith, length, take, drop, if◌then◌else◌}
 use Rattle.std.specs.Cmp.{both_ways as same_tests}
-use Rattle.std.specs.List.{AllByRecursion, list_any, insert}
+use Rattle.std.specs.List.{AllByRecursion, insert}
 use Rattle.std.specs.Ordering.{is_lt}
 use Rattle.std.specs.Str.{bytes_eq}
-use Rattle.std.proofs.lemmas.Bool.{and_parts, and_from, not-true, not-false, not_from_false, or_cases, or_left, or_right, or_from, or_parts, false_from_ne_true}
+use Rattle.std.proofs.lemmas.Bool.{and_parts, and_from, not-true, not_from_false, or_cases, or_left, or_right, or_from, or_parts, false_from_ne_true}
 use Rattle.std.proofs.lemmas.Slice.Eq.{bytes_eq-Decides}
 use Rattle.span_keycode.specs.declared.range.KeyRange.{KeyRange}
 use Rattle.span_keycode.specs.Order.{byte_order}
@@ -12,9 +12,7 @@ use Rattle.span_keycode.specs.Parts.{
   is_within, is_nonempty, later, earlier, later_of, earlier_of, part_between, is_from, is_upto, is_between, part_before, part_after, lowest_gap, overlaps, is_covered_in_part,
   follows, tiles, place_among, AreApart
 }
-use Rattle.span_keycode.proofs.Befores.{
-  IsBefore, IsUpto, upto_upto, before_upto, lt_le, le_lt, lt_lt, itself, before_or_not, not_both, later_left, later_right, later_least, earlier_left, earlier_right, earlier_most, earlier_cases
-}
+use Rattle.span_keycode.proofs.Befores.{IsBefore, IsUpto, upto_upto, before_upto, lt_le, itself, before_or_not, not_both, later_left, later_right, later_least, earlier_left, earlier_right, earlier_most, earlier_cases}
 
 -- ---- keys within a range
 
