@@ -45,7 +45,7 @@ slots_ends schema m u = record {
   trims = λ slot h slot_state here accepted. length-set m.slots slot _;
   opens = λ text params bound interval asked is accepted. refl;
   finds_nothing = λ query leaf slot interval. refl;
-  scans = λ query leaf slot interval q slot_state found here above safe. length-set m.slots slot _;
+  scans = λ query leaf slot interval q slot_state l part found here at gap above safe. length-set m.slots slot _;
   waits = λ query leaf slot interval q slot_state found here. length-set m.slots slot _;
   finishes = λ query q found covered. refl;
   closes = λ query q found. refl;
@@ -164,7 +164,7 @@ module _ (schema : List Table) (m : Machine) (holding : AreHolding m) where
     trims = λ slot h slot_state here accepted. holding;
     opens = λ text params bound interval asked is accepted. holding;
     finds_nothing = λ query leaf slot interval. holding;
-    scans = λ query leaf slot interval q slot_state found here above safe. holding;
+    scans = λ query leaf slot interval q slot_state l part found here at gap above safe. holding;
     waits = λ query leaf slot interval q slot_state found here. holding;
     finishes = λ query q found covered. holding;
     closes = λ query q found. holding;

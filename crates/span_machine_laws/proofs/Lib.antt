@@ -5,6 +5,7 @@ pub mod Ordered
 pub mod Locality
 pub mod Stability
 pub mod Walks
+pub mod Splits
 pub mod Ranges
 pub mod Sealed
 pub mod InPlace

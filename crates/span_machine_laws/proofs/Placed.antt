@@ -258,10 +258,10 @@ module _ (schema : List Table) (rules : MeetsRules schema) (root : Root) (is : I
     applies = λ owner txn i interval t slot_state found here accepted. apply_there owner txn i t found;
     advances = λ i interval slot_state here. slots_placed (advanced m i interval slot_state).1 (lifts_set m.slots i slot_state (record slot_state { floor = max slot_state.floor interval.latest }) here (omega arith) (λ _. refl)) refl refl;
     trims = λ i h slot_state here accepted. slots_placed (trimmed schema m i h slot_state).1 (lifts_set m.slots i slot_state (with_horizon h slot_state) here (omega arith) (λ _. refl)) refl refl;
-    opens = λ text params bound interval asked is accepted. slots_placed (opened m asked (timestamp_of bound interval)).1 (lifts_same m.slots) refl refl;
+    opens = λ text params bound interval asked is accepted. slots_placed (opened schema m text params asked (timestamp_of bound interval)).1 (lifts_same m.slots) refl refl;
     finds_nothing = λ query leaf i interval. o;
-    scans = λ query leaf i interval q slot_state found here above safe.
-        slots_placed (record (with_slot_state m i (with_risen_floor slot_state q.s interval)) { queries = changed_first (is_query query) (cover leaf) m.queries }) (lifts_risen i q.s interval slot_state here) refl refl;
+    scans = λ query leaf i interval q slot_state l part found here at gap above safe.
+        slots_placed (record (with_slot_state m i (with_risen_floor slot_state q.s interval)) { queries = changed_first (is_query query) (cover leaf part) m.queries }) (lifts_risen i q.s interval slot_state here) refl refl;
     waits = λ query leaf i interval q slot_state found here. slots_placed (with_slot_state m i (with_risen_floor slot_state q.s interval)) (lifts_risen i q.s interval slot_state here) refl refl;
     finishes = λ query q found covered. o;
     closes = λ query q found. slots_placed (closed m query q).1 (lifts_same m.slots) refl refl;

@@ -183,10 +183,10 @@ module _ (schema : List Table) (root : Root) (is : IsRoot schema root) (s : ℕ)
     applies = λ owner txn slot interval t slot_state found here accepted. applied_keeps t.decision owner txn slot t;
     advances = λ slot interval slot_state here. kept_by (advanced m slot interval slot_state) (rises_set m.slots slot slot_state (record slot_state { floor = max slot_state.floor interval.latest }) here (omega arith) (λ _ k. k)) (λ i b h k all. all) refl;
     trims = λ slot horizon slot_state here accepted. kept_by (trimmed schema m slot horizon slot_state) (rises_set m.slots slot slot_state (with_horizon horizon slot_state) here (omega arith) (λ _ k. k)) (λ i b h k all. all) refl;
-    opens = λ text params bound interval asked is accepted. kept_by (opened m asked (timestamp_of bound interval)) (rises_same m.slots) (λ i b h k all. all) refl;
+    opens = λ text params bound interval asked is accepted. kept_by (opened schema m text params asked (timestamp_of bound interval)) (rises_same m.slots) (λ i b h k all. all) refl;
     finds_nothing = λ query leaf slot interval. kept_as_is (reply.Nothing, m) refl;
-    scans = λ query leaf slot interval q slot_state found here above safe.
-        kept_by (reply.Scanned, record (with_slot_state m slot (with_risen_floor slot_state q.s interval)) { queries = changed_first (is_query query) (cover leaf) m.queries }) (rises_risen slot q.s interval slot_state here) (λ i b h k all. all) refl;
+    scans = λ query leaf slot interval q slot_state l part found here at gap above safe.
+        kept_by (reply.Scanned, record (with_slot_state m slot (with_risen_floor slot_state q.s interval)) { queries = changed_first (is_query query) (cover leaf part) m.queries }) (rises_risen slot q.s interval slot_state here) (λ i b h k all. all) refl;
     waits = λ query leaf slot interval q slot_state found here. kept_by (Refused refusal.NotYet, with_slot_state m slot (with_risen_floor slot_state q.s interval)) (rises_risen slot q.s interval slot_state here) (λ i b h k all. all) refl;
     finishes = λ query q found covered. kept_as_is (answer_on q.s (meaning schema m q), m) refl;
     closes = λ query q found. kept_by (closed m query q) (rises_same m.slots) (λ i b h k all. all) refl;
