@@ -106,7 +106,7 @@ same_slot a b e = grind (arith, nat_tests)
 other_slot : (a b : ℕ) → (a == b) ≡ false → a ≢ b
 other_slot a b e = λ same. grind (arith, nat_tests)
 
-some_state : (a b : SlotState) → Some a ≡ Some b → a ≡ b
+pub some_state : (a b : SlotState) → Some a ≡ Some b → a ≡ b
 some_state a b e = cc
 
 module _ (slots : List SlotState) (slot : ℕ) (slot_state : SlotState) (code : List ℕ) (here : slice_get slots slot ≡ Some slot_state) (inside : has_key slot_state code ≡ true) where
@@ -162,7 +162,7 @@ module _ (slots : List SlotState) (slot : ℕ) (slot_state : SlotState) (code : 
     ];
   }
 
-  home_split : (key : List ℕ) → IsHome slots key → IsHome cut_slots key
+  pub home_split : (key : List ℕ) → IsHome slots key → IsHome cut_slots key
   home_split key home = elim (home.slot == slot) as (λ v. (home.slot == slot) ≡ v → IsHome cut_slots key) [
     | true ↦ λ e.
         let at : home.slot ≡ slot = same_slot home.slot slot e in
