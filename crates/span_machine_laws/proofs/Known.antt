@@ -18,7 +18,7 @@ use Rattle.span_params.specs.declared.params.Parameter.{Parameter}
 use Rattle.span_query.specs.declared.query.Statement.{Statement}
 use Rattle.span_query.specs.Rows as rows
 use Rattle.span_machine.specs.declared.step.Step.{Step}
-use Rattle.span_machine.specs.declared.step.Step.TheVariants.{Begin, Prepare, Decide, Apply, Advance, Trim, Open, Scan, Finish, Close}
+use Rattle.span_machine.specs.declared.step.Step.TheVariants.{Begin, Prepare, Decide, Apply, Advance, Trim, Open, Scan, Finish, Close, Split}
 use Rattle.span_machine.specs.declared.step.Reply.{Reply}
 use Rattle.span_machine.specs.declared.step.Reply.TheVariants as reply
 use Rattle.span_machine.specs.declared.step.Reply.TheVariants.{Rows, Refused}
@@ -329,8 +329,8 @@ module _ (understands : Understanding) (schema : List Table) (begun : List Begun
     trims = λ slot h slot_state here accepted understood. tells_quiet _ _ _ (record { no_begun = refl; no_asked = refl; no_commit = refl }) known.transactions known.queries refl refl refl tt;
     opens = λ text params bound interval q is accepted understood. tells_opened text params bound interval q (timestamp_of bound interval) (subst (λ v. understands text params v) is understood);
     finds_nothing = λ query leaf slot interval understood. tells_same _ _ (record { no_begun = refl; no_asked = refl; no_commit = refl }) tt;
-    scans = λ query leaf slot interval q slot_state found here above safe understood. tells_quiet _ _ _ (record { no_begun = refl; no_asked = refl; no_commit = refl })
-        known.transactions (all_changed (IsAsked understands asked) (is_query query) (cover leaf) (asked_covered understands asked leaf) m.queries known.queries) refl refl refl tt;
+    scans = λ query leaf slot interval q slot_state l part found here at gap above safe understood. tells_quiet _ _ _ (record { no_begun = refl; no_asked = refl; no_commit = refl })
+        known.transactions (all_changed (IsAsked understands asked) (is_query query) (cover leaf part) (asked_covered understands asked leaf) m.queries known.queries) refl refl refl tt;
     waits = λ query leaf slot interval q slot_state found here understood. tells_quiet _ _ _ (record { no_begun = refl; no_asked = refl; no_commit = refl }) known.transactions known.queries refl refl refl tt;
     finishes = λ query q found covered understood. tells_same (Finish query) (answer_on q.s (meaning schema m q)) (quiet_answer query q.s (meaning schema m q))
         (right_finish query q (number_same q.number query (found_passes (is_query query) m.queries q found)) (all_found (IsAsked understands asked) (is_query query) m.queries q found known.queries)

@@ -5,14 +5,15 @@ pub mod Ordered
 pub mod Locality
 pub mod Stability
 pub mod Walks
+pub mod Splits
 pub mod Ranges
+pub mod Holdings
 pub mod Sealed
 pub mod InPlace
 pub mod Claims
 pub mod Schemas
 pub mod Placed
 pub mod Numbers
-pub mod Holdings
 pub mod Decisions
 pub mod Sound
 pub mod Horizons

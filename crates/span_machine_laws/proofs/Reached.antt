@@ -19,7 +19,7 @@ use Rattle.span_machine.specs.Tables.{tables}
 use Rattle.span_machine.specs.Machine.{Machine, Understanding, Answer, Steps, answer, start, holds, is_query, is_covered, tables_of, rows_or_refusal, if_some, refused, meaning, answer_on, finish_query}
 use Rattle.span_machine.specs.Run.{Run, IsOfSchema, AreOfSchema}
 use Rattle.span_machine_laws.proofs.Locality.{IsRoot}
-use Rattle.span_machine_laws.proofs.InPlace.{IsInPlace, tables_made}
+use Rattle.span_machine_laws.proofs.InPlace.{IsInPlace, IsPlaced, tables_made}
 use Rattle.span_machine_laws.proofs.Ranges.{HasRanges, answer_has_ranges, start_ranges}
 use Rattle.span_machine_laws.proofs.Schemas.{IsBySchema, answer_by_schema, start_by_schema, keyed_upto}
 use Rattle.span_machine_laws.proofs.Placed.{answer_placed, start_placed}
@@ -27,10 +27,6 @@ use Rattle.span_machine_laws.proofs.Numbers.{IsNumbered, answer_numbered, start_
 use Rattle.span_machine_laws.proofs.Holdings.{AreHolding, answer_holding, start_holding}
 use Rattle.span_machine_laws.proofs.Sound.{IsSound, answer_sound, start_sound}
 use Rattle.span_machine_laws.proofs.Horizons.{HasHorizons, answer_horizons, start_horizons}
-
--- a directory is in place in the slot that has it
-abbrev pub IsPlaced : List Table → Root → Machine → Type 0
-IsPlaced schema root m = (slot : ℕ) × IsInPlace schema root slot m
 
 -- what holds of every machine that a run from the start reaches
 pub record IsReached (schema : List Table) (m : Machine) : Type 0 where

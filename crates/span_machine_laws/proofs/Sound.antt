@@ -108,9 +108,9 @@ module _ (schema : List Table) (m : Machine) (sound : IsSound schema m) where
     opens = λ text params bound interval asked is accepted w. all_push (IsCoveredSealed schema _) m.queries (as_opened m.next_query (timestamp_of bound interval) asked)
         (all_weaker (IsCoveredSealed schema m) (IsCoveredSealed schema _) w m.queries sound.queries) (λ bad. absurd (let none = none_covered asked.leaves in cc));
     finds_nothing = λ query leaf slot interval. goes_same m refl;
-    scans = λ query leaf slot interval q slot_state found here above safe w.
-        let after : Machine = record (with_slot_state m slot (with_risen_floor slot_state q.s interval)) { queries = changed_first (is_query query) (cover leaf) m.queries } in
-        all_changed_found (IsCoveredSealed schema after) (is_query query) (cover leaf) m.queries q found (λ _ root is. sealed_by_scan slot q.s slot_state (with_risen_floor slot_state q.s interval) (changed_first (is_query query) (cover leaf) m.queries) root here safe)
+    scans = λ query leaf slot interval q slot_state l part found here at gap above safe w.
+        let after : Machine = record (with_slot_state m slot (with_risen_floor slot_state q.s interval)) { queries = changed_first (is_query query) (cover leaf part) m.queries } in
+        all_changed_found (IsCoveredSealed schema after) (is_query query) (cover leaf part) m.queries q found (λ _ root is. sealed_by_scan slot q.s slot_state (with_risen_floor slot_state q.s interval) (changed_first (is_query query) (cover leaf part) m.queries) root here safe)
         (all_weaker (IsCoveredSealed schema m) (IsCoveredSealed schema after) w m.queries sound.queries);
     waits = λ query leaf slot interval q slot_state found here. goes_same _ refl;
     finishes = λ query q found covered. goes_same m refl;
