@@ -24,6 +24,23 @@ get_set (a ∷ xs) (suc i) (suc k) x y e = elim (get_set xs i k x y e) [
   | inr other ↦ inr ((λ f. other.0 (omega (arith, f))), other.1)
 ]
 
+-- what is set at a place in use is there
+pub set_there : {A : Type 0} (xs : List A) (i : ℕ) (old new : A) → slice_get xs i ≡ Some old → slice_get (slice_set xs i new) i ≡ Some new
+set_there [] i old new here = absurd (cc here)
+set_there (x ∷ xs) zero old new here = refl
+set_there (x ∷ xs) (suc i) old new here = set_there xs i old new here
+
+-- the last that is set is there, and what was there may be set again
+pub set_twice : {A : Type 0} (xs : List A) (i : ℕ) (x y : A) → slice_set (slice_set xs i x) i y ≡ slice_set xs i y
+set_twice [] i x y = refl
+set_twice (a ∷ xs) zero x y = refl
+set_twice (a ∷ xs) (suc i) x y = ap (λ l. a ∷ l) (set_twice xs i x y)
+
+pub set_again : {A : Type 0} (xs : List A) (i : ℕ) (x : A) → slice_get xs i ≡ Some x → slice_set xs i x ≡ xs
+set_again [] i x here = refl
+set_again (a ∷ xs) zero x here = let same : a ≡ x = some_same a x here in ap (λ b. b ∷ xs) (sym same)
+set_again (a ∷ xs) (suc i) x here = ap (λ l. a ∷ l) (set_again xs i x here)
+
 -- there is something at each place within
 pub there_is : {A : Type 0} (xs : List A) (i : ℕ) → i < length xs → (x : A) × (slice_get xs i ≡ Some x)
 there_is [] i within = absurd (omega (arith, within))
