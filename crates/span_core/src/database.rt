@@ -70,9 +70,11 @@ impl Core {
         schema.meets_rules();
         let mut shards = Vec::new(alloc);
         shards.push(Shard::new(alloc))?;
+        let journal = Journal::new(alloc)?;
+        steps::start(&schema, &journal, &shards);
         Ok(Core {
             schema,
-            journal: Journal::new(alloc)?,
+            journal,
             shards,
         })
     }

@@ -110,5 +110,5 @@ module _ (schema : List Table) (j : Journaled) (shards : Shards) (w : IsWhole sc
           reached = subst (IsReached schema) (sym registered_is) (answer_reached schema w.rules m w.reached no_text (step.Scan query leaf slot interval) tt);
           kept = subst (λ (n : Machine). AreAllKept schema n shards) (sym registered_is)
               (all_same schema m (scan m query leaf slot interval).1 shards w.kept (counted schema m no_text (step.Scan query leaf slot interval)) (λ i c kept. kept_scan schema m w.reached c kept query leaf slot interval));
-          pieced = subst (λ (l : Journaled). ArePieced schema (machine_of l) l.queries) (sym g.after) (pieced_log (machine_of k) pieced);
+          pieced = subst (λ (l : Journaled). ArePieced schema (machine_of l) l.queries) (sym g.after) pieced;
         }
