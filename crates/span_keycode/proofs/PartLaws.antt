@@ -9,8 +9,25 @@ use Rattle.std.proofs.lemmas.Slice.Eq.{bytes_eq-Decides}
 use Rattle.span_keycode.specs.declared.range.KeyRange.{KeyRange}
 use Rattle.span_keycode.specs.Order.{byte_order}
 use Rattle.span_keycode.specs.Parts.{
-  is_within, is_nonempty, later, earlier, later_of, earlier_of, part_between, is_from, is_upto, is_between, part_before, part_after, lowest_gap, overlaps, is_covered_in_part,
-  follows, tiles, place_among, AreApart
+  is_within,
+  is_nonempty,
+  later,
+  earlier,
+  later_of,
+  earlier_of,
+  part_between,
+  is_from,
+  is_upto,
+  is_between,
+  part_before,
+  part_after,
+  lowest_gap,
+  overlaps,
+  is_covered_in_part,
+  follows,
+  tiles,
+  place_among,
+  AreApart,
 }
 use Rattle.span_keycode.proofs.Befores.{IsBefore, IsUpto, upto_upto, before_upto, lt_le, itself, before_or_not, not_both, later_left, later_right, later_least, earlier_left, earlier_right, earlier_most, earlier_cases}
 
@@ -184,7 +201,7 @@ apart_insert (c ∷ cs) g a some o =
     placed (is_lt (byte_order c.low g.low)) c cs g (place_among cs g) AreApart
     (λ first. (a.0, after_insert c.high cs (place_among cs g) g a.1 (apart_second g c some (before_upto c.low g.low first) apart.0), apart_insert cs g a.2 some apart.1))
     (λ first. let here = apart_first g c a.0 first apart.0 in
-        (some, (here, after_lower g.high c.high cs (upto_upto g.high c.low c.high here (before_upto c.low c.high a.0)) a.1), a))
+    (some, (here, after_lower g.high c.high cs (upto_upto g.high c.low c.high here (before_upto c.low c.high a.0)) a.1), a))
 
 pub place_within : (cs : List KeyRange) (g : KeyRange) → place_among cs g ≤ length cs
 place_within [] g = omega arith
