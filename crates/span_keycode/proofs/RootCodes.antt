@@ -1,5 +1,5 @@
 -- The coding of the key of a root row: the number of its table, and then its values.
-use Rattle.std.proofs.Common.{◌≡◌, ℕ, zero, suc, ◌+◌, ◌-◌, ◌<◌, ◌≤◌, List, [], ◌∷◌, ◌++◌, Option, Some, None, refl, sym, ◌∙◌, ap, subst, arith, length, map, take, drop, get_or, slice_index}
+use Rattle.std.proofs.Common.{◌≡◌, ℕ, ◌+◌, ◌-◌, ◌≤◌, List, [], ◌∷◌, ◌++◌, Option, Some, None, refl, sym, ◌∙◌, ap, subst, arith, length, take, drop, slice_index}
 use Rattle.std.specs.declared.cmp.Ordering.{Ordering}
 use Rattle.span_value.specs.declared.value.Value.{Value}
 use Rattle.span_schema.specs.declared.table.Table.{Table}
@@ -7,7 +7,7 @@ use Rattle.span_schema.specs.declared.layout.KeyPart.{KeyPart}
 use Rattle.span_schema.specs.Lineages.{parent_at, path_at}
 use Rattle.span_schema.specs.Numbers.{key_at, key_columns, own_key_at, columns_above, root_of}
 use Rattle.span_keycode.specs.Coding.{column_code, tuple_code}
-use Rattle.span_keycode.specs.Keys.{own_values_at, level_of, code_of, key_code}
+use Rattle.span_keycode.specs.Keys.{own_values_at, code_of}
 use Rattle.span_keycode.specs.Order.{byte_order}
 use Rattle.span_keycode.specs.RootOrder.{ComparesAs, root_code_of}
 use Rattle.span_keycode.proofs.Comparing.{front_same, nothing_more}

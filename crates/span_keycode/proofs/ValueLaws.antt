@@ -1,12 +1,10 @@
 -- Values fit the columns whose kinds they have.
-use Rattle.std.proofs.Common.{◌≡◌, ◌+◌, ◌&&◌, ◌<◌, ◌≤◌, ℕ, List, [], ◌∷◌, Bool, true, false, length, drop, get_or, subst, sym}
+use Rattle.std.proofs.Common.{◌≡◌, ◌+◌, ◌<◌, ◌≤◌, ℕ, List, [], ◌∷◌, true, length, drop, get_or, subst, sym}
 use Rattle.std.proofs.lemmas.Bool.{and_parts, false≢true}
 use Rattle.std.proofs.lemmas.List.{drop_more, at_drop_all}
-use Rattle.span_value.specs.declared.value.Kind.{Kind}
 use Rattle.span_value.specs.declared.value.Kind.TheVariants as kind
 use Rattle.span_value.specs.declared.value.Value.{Value}
-use Rattle.span_schema.specs.declared.layout.KeyPart.{KeyPart}
-use Rattle.span_keycode.specs.Coding.{Fits, is_of_kind, AreFit, are_of_kinds, IsValue, AreValues}
+use Rattle.span_keycode.specs.Coding.{Fits, is_of_kind, are_of_kinds, IsValue, AreValues}
 
 pub value_from : (v : Value) → (is_of_kind kind.Int v ≡ true → Fits kind.Int v) → (is_of_kind kind.Str v ≡ true → Fits kind.Str v)
     → (is_of_kind kind.Bytes v ≡ true → Fits kind.Bytes v) → (is_of_kind kind.Bool v ≡ true → Fits kind.Bool v) → IsValue v

@@ -1,5 +1,5 @@
 -- The order of a root row's coded key and of bytes, where the coding is not made.
-use Rattle.std.specs.Prelude.{◌≡◌, ℕ, List, [], ◌∷◌, ◌++◌, length, take}
+use Rattle.std.specs.Prelude.{◌≡◌, ℕ, List, ◌++◌, length, take}
 use Rattle.std.specs.declared.cmp.Ordering.{Ordering}
 use Rattle.span_value.specs.declared.value.Value.{Value}
 use Rattle.span_schema.specs.declared.table.Table.{Table}

@@ -18,12 +18,7 @@ use std::alloc::Global;
 /// The coded key with these values of the root table with a name.
 ///
 /// `BadSplit`: there is no such root table, or the values are no key of it. `OutOfMemory`: memory ran out.
-pub fn root_key(
-    alloc: Global,
-    schema: &Schema,
-    table: &str,
-    key: &[Value],
-) -> Result<Key, Refusal>
+pub fn root_key(alloc: Global, schema: &Schema, table: &str, key: &[Value]) -> Result<Key, Refusal>
     ensures { MatchResult result
         (λ coded. root_key schema.now table.now key.now ≡ Some coded)
         (λ why.
@@ -36,12 +31,7 @@ pub fn root_key(
     }
 }
 
-fn root_key_at(
-    alloc: Global,
-    schema: &Schema,
-    number: usize,
-    key: &[Value],
-) -> Result<Key, Refusal>
+fn root_key_at(alloc: Global, schema: &Schema, number: usize, key: &[Value]) -> Result<Key, Refusal>
     requires { IsTable schema.now number }
     ensures { MatchResult result
         (λ coded. root_key_at schema.now number (table_at schema.now number) key.now ≡ Some coded)

@@ -1,4 +1,4 @@
-use Rattle.std.proofs.Common.{◌≡◌, ◌≤◌, [], ◌∷◌, ◌++◌, length, drop, get_or, ◌+◌, arith}
+use Rattle.std.proofs.Common.{◌≤◌, [], ◌∷◌, length, drop, get_or, ◌+◌, arith}
 use Rattle.std.proofs.lemmas.Result.{err_from_is_err_and}
 use Rattle.span_keycode.specs.Coding.{in_direction, escaped, escaped_byte}
 use Rattle.span_keycode.proofs.Comparing.{left_more, left_decided, last_part, escaped_next, end_directed}

@@ -1,5 +1,4 @@
 use Rattle.std.proofs.Common.{[], ◌∷◌}
-use Rattle.std.specs.Int.{to_be_bytes, w64}
 use Rattle.std.proofs.lemmas.Result.{err_from_is_err_and}
 use Rattle.span_keycode.specs.Coding.{in_direction, escaped}
 use Rattle.span_keycode.proofs.Comparing.{first_same, first_decides, last_part, first_directed}

@@ -1,4 +1,4 @@
-use Rattle.std.proofs.Common.{◌≡◌, ℕ, List, ◌++◌, sym, ap, ◌<◌, ◌≤◌, ◌⊎◌, inl, inr, false, length, drop, get_or, ◌+◌, arith}
+use Rattle.std.proofs.Common.{ℕ, List, ◌++◌, sym, ap, ◌<◌, ◌≤◌, ◌⊎◌, inl, inr, false, length, drop, get_or, ◌+◌, arith}
 use Rattle.std.proofs.lemmas.Result.{err_from_is_err_and}
 use Rattle.std.proofs.lemmas.Bool.{cases_lt}
 use Rattle.span_value.specs.declared.value.Kind.TheVariants as kind
