@@ -1,15 +1,13 @@
-use Rattle.std.proofs.Common.{◌≡◌, ℕ, List, [], ◌∷◌, ◌++◌, Ok, ap, sym, ◌∙◌, subst, inl, inr, append_assoc}
+use Rattle.std.proofs.Common.{◌≡◌, ℕ, List, [], ◌∷◌, ◌++◌, Ok, ap, sym, ◌∙◌, subst, append_assoc}
 use Rattle.std.proofs.lemmas.List.{append-nil}
 use Rattle.span_query.specs.Rows as rows
 use Rattle.span_mutate.specs.declared.row.TableRow.{TableRow}
-use Rattle.span_mutate.specs.Directories.{Root}
 use Rattle.span_machine.specs.declared.step.Step.{Step}
 use Rattle.span_machine.specs.declared.step.Step.TheVariants.{Finish}
 use Rattle.span_machine.specs.declared.step.Reply.{Reply}
 use Rattle.span_machine.specs.declared.step.Reply.TheVariants.{Rows, Refused}
 use Rattle.span_machine.specs.declared.transaction.Commit.{Commit}
 use Rattle.span_machine.specs.Tables.{tables, upto, mutations_of}
-use Rattle.span_machine.specs.Meaning.{means}
 use Rattle.span_machine.specs.Commits.{BegunTransaction, begun_by, committed_by, commits_after, commits_of, OpenedQuery, opened_by}
 use Rattle.span_machine.specs.Run.{Run, AreOfSchema, IsMeant, IsRight, AreRight, IsHistory}
 use Rattle.span_machine.specs.Machine.{Machine, Understanding, start}
@@ -45,9 +43,9 @@ module _ (understands : Understanding) (schema : List Table) (rules : MeetsRules
       let there = reached_tables schema rules last s reached_last in
       let same : AllByRecursion (λ n. rows_of n now.db ≡ rows_of n there.0) now.statement.leaves =
       all_weaker (IsFamilySealed schema m s) (λ n. rows_of n now.db ≡ rows_of n there.0)
-          (λ n sealed. rows_alike schema rules n (mutations_of (upto m.log s)) (mutations_of (upto last.log s)) now.db there.0 (keyed_upto schema m.log s reached.by_schema.log) (keyed_upto schema last.log s reached_last.by_schema.log) now.made there.1
-          (λ root is own. run_keeps understands schema root is s m steps replies last run reached.holding (sealed root is own)))
-          now.statement.leaves is.stays in
+      (λ n sealed. rows_alike schema rules n (mutations_of (upto m.log s)) (mutations_of (upto last.log s)) now.db there.0 (keyed_upto schema m.log s reached.by_schema.log) (keyed_upto schema last.log s reached_last.by_schema.log) now.made there.1
+      (λ root is own. run_keeps understands schema root is s m steps replies last run reached.holding (sealed root is own)))
+      now.statement.leaves is.stays in
       record {
         question = now.question;
         opened = now.opened;

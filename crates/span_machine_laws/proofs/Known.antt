@@ -1,4 +1,4 @@
-use Rattle.std.proofs.Common.{◌≡◌, ℕ, ◌<◌, ◌+◌, Bool, true, false, cond, ◌==◌, List, [], ◌∷◌, ◌++◌, length, Some, None, Result, Ok, Err, refl, ap, sym, ◌∙◌, subst, inl, inr, ◌⊎◌, arith}
+use Rattle.std.proofs.Common.{◌≡◌, ℕ, ◌<◌, ◌+◌, Bool, true, false, cond, ◌==◌, List, [], ◌∷◌, ◌++◌, length, Some, None, Result, Ok, Err, refl, ap, sym, ◌∙◌, subst, inl, inr, arith}
 use Rattle.std.specs.Prelude.{find}
 use Rattle.std.proofs.lemmas.Bool.Decides.{nat_tests}
 use Rattle.std.proofs.lemmas.List.{append-nil}
@@ -38,7 +38,7 @@ use Rattle.span_machine_laws.proofs.Sealed.{IsSealed}
 use Rattle.span_machine_laws.proofs.Walks.{MayRefuse, Ends, answer_by}
 use Rattle.span_machine_laws.proofs.Sound.{IsSound, IsPartSealed, IsCoveredSealed}
 use Rattle.span_machine_laws.proofs.Locality.{IsRoot}
-use Rattle.span_keycode.specs.Parts.{family, is_within}
+use Rattle.span_keycode.specs.Parts.{is_within}
 use Rattle.span_keycode.specs.declared.range.KeyRange.{KeyRange}
 use Rattle.span_machine.specs.Slots.{root_code}
 use Rattle.span_machine.specs.declared.query.ScanLeaf.{ScanLeaf}

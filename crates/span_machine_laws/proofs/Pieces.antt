@@ -8,7 +8,7 @@ use Rattle.span_schema.specs.declared.table.Table.{Table}
 use Rattle.span_schema.specs.Numbers.{root_of}
 use Rattle.span_keycode.specs.declared.range.KeyRange.{KeyRange}
 use Rattle.span_keycode.specs.Order.{byte_order}
-use Rattle.span_keycode.specs.Parts.{family, is_nonempty, later, earlier, later_of, earlier_of, part_between, part_before, part_after, lowest_gap, place_among, AreApart}
+use Rattle.span_keycode.specs.Parts.{family, is_nonempty, later_of, earlier_of, part_between, part_before, part_after, lowest_gap, place_among, AreApart}
 use Rattle.span_keycode.proofs.PartLaws.{gap_nonempty, gap_apart, apart_insert}
 use Rattle.span_query.specs.declared.query.Statement.{Statement}
 use Rattle.span_truetime.specs.Time.{timestamp_of}
@@ -19,7 +19,7 @@ use Rattle.span_machine.specs.declared.step.Step.{Step}
 use Rattle.span_machine.specs.declared.transaction.Decision.{Decision}
 use Rattle.span_machine.specs.declared.transaction.Decision.TheVariants as decision
 use Rattle.span_machine.specs.declared.transaction.OpenTransaction.{OpenTransaction}
-use Rattle.span_machine.specs.Machine.{Machine, answer, start, if_some, is_query, gap_in, add_piece, with_piece, cover, uncovered, as_opened, changed_first, applied_at}
+use Rattle.span_machine.specs.Machine.{Machine, answer, if_some, is_query, gap_in, add_piece, with_piece, cover, uncovered, as_opened, applied_at}
 use Rattle.span_machine.specs.Slots.{IsCut}
 use Rattle.span_machine_laws.proofs.Lists.{all_push, all_without, all_found, all_changed_found, all_at}
 use Rattle.span_machine_laws.proofs.Ranges.{HasRanges, cut_at}
