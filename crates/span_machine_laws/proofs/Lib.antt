@@ -15,7 +15,9 @@ pub mod Schemas
 pub mod Placed
 pub mod Numbers
 pub mod Decisions
+pub mod Pieces
 pub mod Sound
+pub mod FamilyRows
 pub mod Horizons
 pub mod Known
 pub mod Reached

@@ -257,20 +257,20 @@ module _ (schema : List Table) (rules : MeetsRules schema) (root : Root) (is : I
   claim_split i slot_state code b j here inside idle h has =
       let below : holds schema slot_state root ≡ true → IsBelow slot_state.last (commits_at schema root m.log) =
       λ held. subst (IsClaim schema root slot_state.last (commits_at schema root m.log)) (unclaimed_idle schema root slot m.transactions (subst (λ k. list_any (is_prepared_at k) m.transactions ≡ false) (o.only i slot_state here held) idle))
-          (o.claim slot_state (subst (λ k. slice_get m.slots k ≡ Some slot_state) (o.only i slot_state here held) here)) in
+      (o.claim slot_state (subst (λ k. slice_get m.slots k ≡ Some slot_state) (o.only i slot_state here held) here)) in
       elim (split_place m.slots i (part_below code slot_state) (part_from code slot_state) b j h) [
         | inl e ↦
-          (let held : holds schema slot_state root ≡ true = (below_parts code slot_state (root_code schema root) inside (subst (λ (c : SlotState). has_key c (root_code schema root) ≡ true) e.1 has)).0 in
-          let none : filter (claims schema root j) m.transactions ≡ [] = unclaimed_idle schema root j m.transactions (subst (λ k. list_any (is_prepared_at k) m.transactions ≡ false) (sym e.0) idle) in
-          subst (IsClaim schema root b.last (commits_at schema root m.log)) (sym none) (subst (λ (c : SlotState). IsBelow c.last (commits_at schema root m.log)) (sym e.1) (below held)))
+            (let held : holds schema slot_state root ≡ true = (below_parts code slot_state (root_code schema root) inside (subst (λ (c : SlotState). has_key c (root_code schema root) ≡ true) e.1 has)).0 in
+            let none : filter (claims schema root j) m.transactions ≡ [] = unclaimed_idle schema root j m.transactions (subst (λ k. list_any (is_prepared_at k) m.transactions ≡ false) (sym e.0) idle) in
+            subst (IsClaim schema root b.last (commits_at schema root m.log)) (sym none) (subst (λ (c : SlotState). IsBelow c.last (commits_at schema root m.log)) (sym e.1) (below held)))
         | inr other ↦ (elim other [
           | inl e ↦
-            (let held : holds schema slot_state root ≡ true = (from_parts code slot_state (root_code schema root) inside (subst (λ (c : SlotState). has_key c (root_code schema root) ≡ true) e.1 has)).0 in
-            let none : filter (claims schema root j) m.transactions ≡ [] = unclaimed_idle schema root j m.transactions (subst (λ k. list_any (is_prepared_at k) m.transactions ≡ false) (sym e.0) (none_beyond (length m.slots) m.transactions holding)) in
-            subst (IsClaim schema root b.last (commits_at schema root m.log)) (sym none) (subst (λ (c : SlotState). IsBelow c.last (commits_at schema root m.log)) (sym e.1) (below held)))
+              (let held : holds schema slot_state root ≡ true = (from_parts code slot_state (root_code schema root) inside (subst (λ (c : SlotState). has_key c (root_code schema root) ≡ true) e.1 has)).0 in
+              let none : filter (claims schema root j) m.transactions ≡ [] = unclaimed_idle schema root j m.transactions (subst (λ k. list_any (is_prepared_at k) m.transactions ≡ false) (sym e.0) (none_beyond (length m.slots) m.transactions holding)) in
+              subst (IsClaim schema root b.last (commits_at schema root m.log)) (sym none) (subst (λ (c : SlotState). IsBelow c.last (commits_at schema root m.log)) (sym e.1) (below held)))
           | inr e ↦
-            (let at : j ≡ slot = o.only j b e.0 has in
-            subst (λ k. IsClaim schema root b.last (commits_at schema root m.log) (filter (claims schema root k) m.transactions)) (sym at) (o.claim b (subst (λ k. slice_get m.slots k ≡ Some b) at e.0)))
+              (let at : j ≡ slot = o.only j b e.0 has in
+              subst (λ k. IsClaim schema root b.last (commits_at schema root m.log) (filter (claims schema root k) m.transactions)) (sym at) (o.claim b (subst (λ k. slice_get m.slots k ≡ Some b) at e.0)))
         ])
       ]
 

@@ -1,5 +1,5 @@
 -- The ranges of the slots: no step but a Split changes them. Each coded key is in the range of one slot, and the ranges are cut at root keys.
-use Rattle.std.proofs.Common.{◌≡◌, ◌≢◌, ℕ, zero, suc, max, true, false, cond, ◌&&◌, ◌||◌, ◌==◌, ◌++◌, nat_lt, nat_le, List, [], ◌∷◌, length, Option, Some, None, refl, ap, sym, ◌∙◌, subst, inl, inr, ◌⊎◌, arith}
+use Rattle.std.proofs.Common.{◌≡◌, ◌≢◌, ℕ, zero, suc, max, true, false, cond, ◌&&◌, ◌==◌, ◌++◌, nat_lt, nat_le, List, [], ◌∷◌, length, Option, Some, None, refl, ap, sym, ◌∙◌, subst, inl, inr, ◌⊎◌, arith}
 use Rattle.std.specs.Prelude.{slice_get, slice_set, option_map, Result}
 use Rattle.span_schema.specs.declared.table.Table.{Table}
 use Rattle.span_value.specs.declared.refusal.Refusal.{Refusal}
@@ -19,12 +19,10 @@ use Rattle.span_machine.specs.Run.{Run, IsOfSchema}
 use Rattle.span_machine.specs.Machine.{Machine, Understanding, Steps, answer, start, if_some, with_last, with_risen_floor, with_horizon, coordinator_slot, commit_timestamp, applied_at}
 use Rattle.span_machine_laws.proofs.Walks.{Ends, answer_by}
 use Rattle.span_machine_laws.proofs.Splits.{part_below, part_from, below_parts, from_parts, below_has, from_has, found_has, split_place, split_here, split_new, split_other, IsRootKey, root_key_is}
-use Rattle.span_machine_laws.proofs.Lists.{all_push}
 use Rattle.span_keycode.specs.Coding.{AreValues}
 use Rattle.span_keycode.proofs.Befores.{IsBefore, IsUpto, before_or_not, not_both}
 use Rattle.span_value.specs.declared.value.Value.{Value}
 use Rattle.std.proofs.lemmas.Bool.Decides.{nat_tests}
-use Rattle.std.specs.List.{AllByRecursion}
 
 -- ---- no step but a Split changes a range
 

@@ -89,24 +89,24 @@ pub rises_cut : (slots : List SlotState) (slot : ℕ) (a : SlotState) (code : Li
 rises_cut slots slot a code here inside = record {
   from = λ i b h. elim (split_place slots slot (part_below code a) (part_from code a) b i h) [
     | inl e ↦ (
-        a,
-        ap (slice_get slots) (from_other (length slots) slot i (subst (λ j. j < length slots) (sym e.0) (slice_get_within slots slot a here)) ∙ e.0) ∙ here,
-        subst (λ (c : SlotState). a.floor ≤ c.floor) (sym e.1) (omega arith),
-        λ key k. (below_parts code a key inside (subst (λ (c : SlotState). has_key c key ≡ true) e.1 k)).0,
-      )
+      a,
+      ap (slice_get slots) (from_other (length slots) slot i (subst (λ j. j < length slots) (sym e.0) (slice_get_within slots slot a here)) ∙ e.0) ∙ here,
+      subst (λ (c : SlotState). a.floor ≤ c.floor) (sym e.1) (omega arith),
+      λ key k. (below_parts code a key inside (subst (λ (c : SlotState). has_key c key ≡ true) e.1 k)).0,
+    )
     | inr other ↦ (elim other [
       | inl e ↦ (
-          a,
-          ap (slice_get slots) (from_new (length slots) slot i e.0) ∙ here,
-          subst (λ (c : SlotState). a.floor ≤ c.floor) (sym e.1) (omega arith),
-          λ key k. (from_parts code a key inside (subst (λ (c : SlotState). has_key c key ≡ true) e.1 k)).0,
-        )
+        a,
+        ap (slice_get slots) (from_new (length slots) slot i e.0) ∙ here,
+        subst (λ (c : SlotState). a.floor ≤ c.floor) (sym e.1) (omega arith),
+        λ key k. (from_parts code a key inside (subst (λ (c : SlotState). has_key c key ≡ true) e.1 k)).0,
+      )
       | inr e ↦ (
-          b,
-          ap (slice_get slots) (from_other (length slots) slot i (slice_get_within slots i b e.0)) ∙ e.0,
-          omega arith,
-          λ key k. k,
-        )
+        b,
+        ap (slice_get slots) (from_other (length slots) slot i (slice_get_within slots i b e.0)) ∙ e.0,
+        omega arith,
+        λ key k. k,
+      )
     ])
   ];
 }

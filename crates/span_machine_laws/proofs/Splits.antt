@@ -1,7 +1,6 @@
 -- A slot that is cut in two at a key: the keys of the two parts, and the list of slots.
-use Rattle.std.proofs.Common.{◌≡◌, ◌≢◌, ℕ, zero, suc, ◌+◌, ◌-◌, ◌≤◌, Bool, true, false, not, ◌&&◌, ◌==◌, nat_lt, List, [], ◌∷◌, ◌++◌, length, Option, Some, None, is_none, if◌then◌else◌, refl, ap, sym, ◌∙◌, subst, inl, inr, ◌⊎◌, arith}
-use Rattle.std.specs.Prelude.{slice_get, slice_set, position}
-use Rattle.std.specs.Option.{option_map}
+use Rattle.std.proofs.Common.{◌≡◌, ◌≢◌, ℕ, zero, suc, ◌+◌, ◌-◌, ◌≤◌, Bool, true, false, not, ◌==◌, nat_lt, List, [], ◌∷◌, ◌++◌, length, Option, Some, None, is_none, if◌then◌else◌, refl, ap, subst, inl, inr, ◌⊎◌, arith}
+use Rattle.std.specs.Prelude.{slice_get, slice_set}
 use Rattle.std.specs.Ordering.{is_lt}
 use Rattle.std.proofs.lemmas.Bool.Decides.{nat_tests}
 use Rattle.std.proofs.lemmas.Bool.{not-true, not_from_false}
@@ -11,9 +10,9 @@ use Rattle.span_value.specs.Results.{first_cause}
 use Rattle.span_value.specs.declared.refusal.Refusal.TheVariants as refusal
 use Rattle.span_value.specs.declared.value.Value.{Value}
 use Rattle.span_schema.specs.declared.table.Table.{Table}
-use Rattle.span_schema.specs.Numbers.{IsTable, number_named, number_of, table_at, root_of, key_columns}
+use Rattle.span_schema.specs.Numbers.{number_of, table_at, root_of, key_columns}
 use Rattle.span_schema.specs.Tables.{table_place}
-use Rattle.span_keycode.specs.Coding.{AreFit, AreValues, are_of_kinds}
+use Rattle.span_keycode.specs.Coding.{AreValues, are_of_kinds}
 use Rattle.span_keycode.specs.Keys.{IsCodedKey, key_code}
 use Rattle.span_keycode.specs.Limits.{longest_key}
 use Rattle.span_keycode.specs.Order.{byte_order}
@@ -21,7 +20,7 @@ use Rattle.span_keycode.proofs.Befores.{IsBefore, IsUpto, upto_upto, lt_lt}
 use Rattle.span_mutate.specs.Checking.{key_causes}
 use Rattle.span_mutate.specs.RootKeys.{root_key, root_key_at, root_key_in, is_root_key}
 use Rattle.span_machine.specs.declared.slot.SlotState.{SlotState}
-use Rattle.span_machine.specs.Machine.{slot_of, is_prepared_at, begins_at, split_refusal}
+use Rattle.span_machine.specs.Machine.{slot_of}
 use Rattle.span_machine.specs.Slots.{is_from, is_upto, is_between, has_key}
 use Rattle.span_machine_laws.proofs.Tests.{first_true, second_true, both_of}
 
