@@ -46,7 +46,7 @@ fn has_all(schema: &Schema, slot_state: &SlotState, mutations: &[CheckedMutation
 }
 
 /// The mutations whose directories lie in the slot. They are copied where there are others, which may run out of memory.
-pub(crate) fn choose<'a>(
+pub(crate) fn mutations_in<'a>(
     alloc: Global,
     schema: &Schema,
     slot_state: &SlotState,

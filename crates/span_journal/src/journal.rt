@@ -13,7 +13,7 @@ ghost use Rattle.span_machine.specs.declared.step.Reply.TheVariants as reply_of;
 ghost use Rattle.span_journal.specs.Choices.{chosen_mutations};
 ghost use Rattle.span_journal.specs.Judged.{as_reply, decision_reply, MayPrepare, IsUnprepared, IsNoted, IsUnnoted, IsApplied, IsGap, IsUnclaimed, IsRaised, IsRegistered, IsUnregistered, IsUnchanged, IsCovered, IsTaken, MaySplit, IsCutOf};
 
-use super::choice::{Chosen, choose, has_any};
+use super::choice::{Chosen, has_any, mutations_in};
 use super::owned::{append, drop_at, pair_with};
 use super::queries::{cover_at, find_query, find_target, take_at};
 use super::query::KeptQuery;
@@ -392,7 +392,7 @@ impl Journal {
         if has_conflict(schema, transactions, slot, slot_state, mutations) {
             return Err(Refusal::Conflict);
         }
-        choose(alloc, schema, slot_state, mutations)
+        mutations_in(alloc, schema, slot_state, mutations)
     }
 
     /// Notes that a transaction is prepared at the slot, and returns its prepare timestamp. It takes no memory. `UnknownTransaction`,
