@@ -1,3 +1,4 @@
+pub mod PreparedOnce
 pub mod Preparing
 pub mod Stepping
 pub mod Committing

@@ -1,6 +1,6 @@
 -- Which slot the directory of a mutation is in, and where a transaction is prepared.
-use Rattle.std.specs.Prelude.{ℕ, ◌<◌, Bool, false, ◌&&◌, ◌==◌, List, [], ◌∷◌, map, slice_get, nat_eq}
-use Rattle.std.specs.List.{list_any, AllByRecursion, IsDistinct}
+use Rattle.std.specs.Prelude.{◌≡◌, ℕ, ◌<◌, Bool, false, ◌&&◌, ◌==◌, List, [], ◌∷◌, map, slice_get, nat_eq, ⊤}
+use Rattle.std.specs.List.{list_any, AllByRecursion}
 use Rattle.span_schema.specs.declared.table.Table.{Table}
 use Rattle.span_mutate.specs.declared.mutation.CheckedMutation.{CheckedMutation}
 use Rattle.span_machine.specs.declared.slot.SlotState.{SlotState}
@@ -20,7 +20,12 @@ share_directory_in schema slot_state ms ns = list_any (λ m. holds schema slot_s
 abbrev pub slots_of : List Prepared → List ℕ
 slots_of ps = map (λ (p : Prepared). p.slot) ps
 
+-- no two of the numbers are equal
+abbrev pub AreDifferent : List ℕ → Type 0
+AreDifferent [] = ⊤
+AreDifferent (n ∷ ns) = AllByRecursion (λ m. nat_eq n m ≡ false) ns × AreDifferent ns
+
 -- a transaction is prepared once at each of these slots, which may all be in use
 pub record AreOfSlots (ps : List Prepared) : Type 0 where
-  pub once : IsDistinct nat_eq (slots_of ps)
+  pub once : AreDifferent (slots_of ps)
   pub low : AllByRecursion (λ (slot : ℕ). slot < most_slots) (slots_of ps)
