@@ -1,4 +1,5 @@
 pub mod PreparedOnce
+pub mod Counted
 pub mod Preparing
 pub mod Stepping
 pub mod Committing
