@@ -1,8 +1,8 @@
 -- The order of bytes as a test: which bytes are before which, and which are not after which.
-use Rattle.std.proofs.Common.{◌≡◌, ℕ, List, Bool, true, false, ◌⊎◌, inl, inr, if◌then◌else◌, cond}
+use Rattle.std.proofs.Common.{◌≡◌, ℕ, List, true, false, ◌⊎◌, inl, inr}
 use Rattle.std.specs.Cmp.{IsStrictWeakOrder}
 use Rattle.std.specs.Ordering.{is_lt}
-use Rattle.std.proofs.lemmas.Bool.{cases_Bool, cond_both, false_from_ne_true, true_from_ne_false, true≢false, both_ways}
+use Rattle.std.proofs.lemmas.Bool.{cases_Bool, cond_both, false_from_ne_true, true_from_ne_false, both_ways}
 use Rattle.std.proofs.lemmas.Cmp.{nat_list_cmp_total}
 use Rattle.std.proofs.lemmas.List.MinMax.{ranks_by}
 use Rattle.span_keycode.specs.Order.{byte_order}

@@ -22,3 +22,6 @@ pub mod FamilyRanges
 pub mod Words
 pub mod Befores
 pub mod PartLaws
+pub mod Comparing
+pub mod RootCodes
+pub mod ValueLaws

@@ -1,20 +1,35 @@
 -- The laws of parts of ranges: gaps, pieces in order, and ranges that pieces tile.
-use Rattle.std.proofs.Common.{◌≡◌, ℕ, zero, suc, ◌+◌, ◌≤◌, List, [], ◌∷◌, ◌++◌, Option, Some, None, Bool, true, false, not, ◌&&◌, ◌||◌, ◌⊎◌, inl, inr, refl, sym, ◌∙◌, ap, subst, arith, length, take, drop, if◌then◌else◌}
+use Rattle.std.proofs.Common.{◌≡◌, ℕ, zero, suc, ◌+◌, ◌≤◌, List, [], ◌∷◌, ◌++◌, Option, Some, None, Bool, true, false, not, ◌&&◌, ◌||◌, ◌⊎◌, inl, inr, refl, sym, subst, arith, length, take, drop, if◌then◌else◌}
 use Rattle.std.specs.Cmp.{both_ways as same_tests}
-use Rattle.std.specs.List.{AllByRecursion, list_any, insert}
+use Rattle.std.specs.List.{AllByRecursion, insert}
 use Rattle.std.specs.Ordering.{is_lt}
 use Rattle.std.specs.Str.{bytes_eq}
-use Rattle.std.proofs.lemmas.Bool.{and_parts, and_from, not-true, not-false, not_from_false, or_cases, or_left, or_right, or_from, or_parts, false_from_ne_true}
+use Rattle.std.proofs.lemmas.Bool.{and_parts, and_from, not-true, not_from_false, or_cases, or_left, or_right, or_from, or_parts, false_from_ne_true}
 use Rattle.std.proofs.lemmas.Slice.Eq.{bytes_eq-Decides}
 use Rattle.span_keycode.specs.declared.range.KeyRange.{KeyRange}
 use Rattle.span_keycode.specs.Order.{byte_order}
 use Rattle.span_keycode.specs.Parts.{
-  is_within, is_nonempty, later, earlier, later_of, earlier_of, part_between, is_from, is_upto, is_between, part_before, part_after, lowest_gap, overlaps, is_covered_in_part,
-  follows, tiles, place_among, AreApart
+  is_within,
+  is_nonempty,
+  later,
+  earlier,
+  later_of,
+  earlier_of,
+  part_between,
+  is_from,
+  is_upto,
+  is_between,
+  part_before,
+  part_after,
+  lowest_gap,
+  overlaps,
+  is_covered_in_part,
+  follows,
+  tiles,
+  place_among,
+  AreApart,
 }
-use Rattle.span_keycode.proofs.Befores.{
-  IsBefore, IsUpto, upto_upto, before_upto, lt_le, le_lt, lt_lt, itself, before_or_not, not_both, later_left, later_right, later_least, earlier_left, earlier_right, earlier_most, earlier_cases
-}
+use Rattle.span_keycode.proofs.Befores.{IsBefore, IsUpto, upto_upto, before_upto, lt_le, itself, before_or_not, not_both, later_left, later_right, later_least, earlier_left, earlier_right, earlier_most, earlier_cases}
 
 -- ---- keys within a range
 
@@ -186,7 +201,7 @@ apart_insert (c ∷ cs) g a some o =
     placed (is_lt (byte_order c.low g.low)) c cs g (place_among cs g) AreApart
     (λ first. (a.0, after_insert c.high cs (place_among cs g) g a.1 (apart_second g c some (before_upto c.low g.low first) apart.0), apart_insert cs g a.2 some apart.1))
     (λ first. let here = apart_first g c a.0 first apart.0 in
-        (some, (here, after_lower g.high c.high cs (upto_upto g.high c.low c.high here (before_upto c.low c.high a.0)) a.1), a))
+    (some, (here, after_lower g.high c.high cs (upto_upto g.high c.low c.high here (before_upto c.low c.high a.0)) a.1), a))
 
 pub place_within : (cs : List KeyRange) (g : KeyRange) → place_among cs g ≤ length cs
 place_within [] g = omega arith

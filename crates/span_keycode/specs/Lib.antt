@@ -7,4 +7,5 @@ pub mod Laws
 pub mod Roots
 pub mod Ranges
 pub mod Parts
+pub mod RootOrder
 pub mod Limits

@@ -10,6 +10,7 @@ pub mod laws;
 pub mod parts;
 pub mod range;
 pub mod root;
+pub mod root_order;
 mod text;
 mod tuple;
 mod value;

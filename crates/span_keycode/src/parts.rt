@@ -4,8 +4,21 @@ ghost use Rattle.std.specs.Ordering.{is_lt};
 ghost use Rattle.std.specs.Str.{bytes_eq};
 ghost use Rattle.span_keycode.specs.Order.{byte_order};
 ghost use Rattle.span_keycode.specs.Parts.{
-    is_nonempty, later, earlier, later_of, earlier_of, part_between, lowest_gap, follows, overlaps, is_covered_in_part, tiles, place_among, is_from,
-    is_upto, is_between
+  is_nonempty,
+  later,
+  earlier,
+  later_of,
+  earlier_of,
+  part_between,
+  lowest_gap,
+  follows,
+  overlaps,
+  is_covered_in_part,
+  tiles,
+  place_among,
+  is_from,
+  is_upto,
+  is_between,
 };
 ghost use Rattle.span_keycode.specs.declared.range.KeyRange.{KeyRange};
 
@@ -133,12 +146,7 @@ pub fn lowest_gap(
 }
 
 /// Whether no piece covers a part of a range from `lo` on and before `hi`.
-pub fn has_gap(
-    lo: &Option<Key>,
-    hi: &Option<Key>,
-    range: &KeyRange,
-    covered: &[KeyRange],
-) -> bool
+pub fn has_gap(lo: &Option<Key>, hi: &Option<Key>, range: &KeyRange, covered: &[KeyRange]) -> bool
     ensures { result ≡ is_some (lowest_gap (part_between lo.now hi.now range.now) covered.now) }
 {
     match gap_ends(lo, hi, range, covered) {

@@ -7,7 +7,8 @@ use Rattle.std.specs.List.{AllByRecursion}
 use Rattle.span_schema.specs.declared.table.Table.{Table}
 use Rattle.span_schema.specs.Numbers.{root_of}
 use Rattle.span_keycode.specs.Keys.{IsCodedKey, key_code}
-pub use Rattle.span_keycode.specs.Parts.{is_from, is_upto, is_between}
+pub use Rattle.span_keycode.specs.Parts.{is_from, is_upto}
+unfoldable pub use Rattle.span_keycode.specs.Parts.{is_between}
 use Rattle.span_mutate.specs.declared.mutation.CheckedMutation.{CheckedMutation}
 use Rattle.span_mutate.specs.Directories.{Root, is_in_directory, root_row}
 use Rattle.span_machine.specs.declared.slot.SlotState.{SlotState}

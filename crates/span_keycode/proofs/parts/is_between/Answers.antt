@@ -1,4 +1,4 @@
-use Rattle.std.proofs.Common.{rules, arith}
+use Rattle.std.proofs.Common.{arith}
 use Rattle.std.proofs.lemmas.Grind.{common_steps}
 use Rattle.span_keycode.specs.Parts.{is_between}
 use Rattle.span_keycode.proofs.parts.is_between.Goals as goal
