@@ -1,17 +1,18 @@
 -- The leaves of an open query beside the rows of their pieces.
 use Rattle.std.proofs.Common.{◌≡◌, ℕ, ◌<◌, ◌≤◌, ◌+◌, zero, suc, List, [], ◌∷◌, length, map, Option, Some, None, refl, ap, sym, ◌∙◌, subst, arith}
-use Rattle.std.specs.Prelude.{insert, slice_get, slice_set, Result, Ok, Err, OnOk, OnErr}
+use Rattle.std.specs.Prelude.{true, not, insert, slice_get, slice_set, IfSome, Result, Ok, Err, OnOk, OnErr}
+use Rattle.std.proofs.lemmas.Bool.{and_parts, not-true}
 use Rattle.std.proofs.lemmas.List.{length-map}
 use Rattle.std.proofs.lemmas.List.Edits.{length-insert}
 use Rattle.span_schema.specs.declared.table.Table.{Table}
 use Rattle.span_keycode.specs.declared.range.KeyRange.{KeyRange}
-use Rattle.span_keycode.specs.Parts.{place_among}
-use Rattle.span_keycode.proofs.PartLaws.{place_within}
+use Rattle.span_keycode.specs.Parts.{place_among, is_nonempty, is_covered_in_part, AreApart}
+use Rattle.span_keycode.proofs.PartLaws.{place_within, apart_insert}
 use Rattle.span_query.specs.Rows.{Row}
 use Rattle.span_machine.specs.declared.query.ScanLeaf.{ScanLeaf}
 use Rattle.span_machine.specs.Machine.{if_some, add_piece, uncovered, with_piece}
 use Rattle.span_machine.specs.Pieces.{no_pieces, with_rows, with_rows_at}
-use Rattle.span_journal.specs.Counts.{AreCounted, count_covered, count_pieces}
+use Rattle.span_journal.specs.Counts.{AreCounted, AreAllApart, count_covered, count_pieces, is_uncovered}
 
 -- equal lists
 pub recounted : (leaves leaves' : List ScanLeaf) (pieces pieces' : List (List (List Row))) → leaves' ≡ leaves → pieces' ≡ pieces → AreCounted leaves pieces → AreCounted leaves' pieces'
@@ -81,6 +82,32 @@ covered_counted leaves pieces leaf part rows counted = elim (slice_get leaves le
   ] refl
 ] refl
 
+-- ---- pieces that are apart
+
+pub opened_apart : (schema : List Table) (ns : List ℕ) → AreAllApart (map (uncovered schema) ns)
+opened_apart schema [] = tt
+opened_apart schema (n ∷ ns) = (tt, opened_apart schema ns)
+
+pub apart_at : (leaves : List ScanLeaf) (i : ℕ) (l : ScanLeaf) → AreAllApart leaves → slice_get leaves i ≡ Some l → AreApart l.covered
+apart_at [] i l all here = absurd (cc)
+apart_at (k ∷ ks) zero l all here = let e : k ≡ l = cc in subst (λ (m : ScanLeaf). AreApart m.covered) e all.0
+apart_at (k ∷ ks) (suc i) l all here = apart_at ks i l all.1 here
+
+set_apart : (leaves : List ScanLeaf) (i : ℕ) (l : ScanLeaf) → AreAllApart leaves → AreApart l.covered → AreAllApart (slice_set leaves i l)
+set_apart [] i l all one = tt
+set_apart (k ∷ ks) zero l all one = (one, all.1)
+set_apart (k ∷ ks) (suc i) l all one = (all.0, set_apart ks i l all.1 one)
+
+-- with a piece that covers what no piece covered
+pub covered_apart : (leaves : List ScanLeaf) (leaf : ℕ) (part : KeyRange) → AreAllApart leaves → IfSome (slice_get leaves leaf) (λ l. is_uncovered l part ≡ true) → AreAllApart (with_piece leaves leaf part)
+covered_apart leaves leaf part all = elim (slice_get leaves leaf) as (λ o. slice_get leaves leaf ≡ o
+    → IfSome o (λ l. is_uncovered l part ≡ true) → AreAllApart (if_some o leaves (λ l. slice_set leaves leaf (add_piece part l)))) [
+  | None ↦ λ e free. all
+  | Some l ↦ λ e free.
+      let both = and_parts (is_nonempty part) (not (is_covered_in_part l.covered part)) free in
+      set_apart leaves leaf (add_piece part l) all (apart_insert l.covered part (apart_at leaves leaf l all e) both.0 (not-true (is_covered_in_part l.covered part) both.1))
+] refl
+
 -- ---- what a call of `add_piece` leaves
 
 pub on_ok : {A E P Q : Type 0} (r : Result A E) → OnOk r P → (P → Q) → OnOk r Q
@@ -96,6 +123,14 @@ module _ {E : Type 0} (r : Result (Unit {0}) E) (leaves leaves' : List ScanLeaf)
       go : (s : Result (Unit {0}) E) → OnOk s ((leaves' ≡ with_piece leaves leaf part) × (pieces' ≡ with_rows_at leaves leaf part rows pieces)) → OnErr s ((leaves' ≡ leaves) × (pieces' ≡ pieces)) → AreCounted leaves' pieces'
       go (Ok u) p q = recounted (with_piece leaves leaf part) leaves' (with_rows_at leaves leaf part rows pieces) pieces' p.0 p.1 (covered_counted leaves pieces leaf part rows counted)
       go (Err e) p q = recounted leaves leaves' pieces pieces' q.0 q.1 counted
+
+  pub apart_after : AreAllApart leaves → IfSome (slice_get leaves leaf) (λ l. is_uncovered l part ≡ true)
+      → OnOk r ((leaves' ≡ with_piece leaves leaf part) × (pieces' ≡ with_rows_at leaves leaf part rows pieces)) → OnErr r ((leaves' ≡ leaves) × (pieces' ≡ pieces)) → AreAllApart leaves'
+  apart_after all free ok err = go r ok err
+    where
+      go : (s : Result (Unit {0}) E) → OnOk s ((leaves' ≡ with_piece leaves leaf part) × (pieces' ≡ with_rows_at leaves leaf part rows pieces)) → OnErr s ((leaves' ≡ leaves) × (pieces' ≡ pieces)) → AreAllApart leaves'
+      go (Ok u) p q = subst AreAllApart (sym p.0) (covered_apart leaves leaf part all free)
+      go (Err e) p q = subst AreAllApart (sym q.0) all
 
 -- a leaf and the rows of its pieces, put at their place
 pub put_piece : (leaves : List ScanLeaf) (pieces : List (List (List Row))) (leaf : ℕ) (part : KeyRange) (rows : List Row) (l l' : ScanLeaf) (ps ps' : List (List Row))

@@ -1,4 +1,5 @@
 pub mod PreparedOnce
+pub mod Choosing
 pub mod Counted
 pub mod Preparing
 pub mod Stepping
