@@ -163,6 +163,12 @@ fn add_piece_at(
     add_piece(alloc, &mut leaves[leaf], &mut pieces[leaf], range, rows)
 }
 
+fn leaf_at(leaves: &[ScanLeaf], leaf: usize) -> Option<&ScanLeaf>
+    ensures { option_copied result ≡ slice_get leaves.now leaf }
+{
+    leaves.get(leaf)
+}
+
 impl KeptQuery {
     /// A query whose leaves no piece covers.
     pub(crate) fn new(
@@ -216,7 +222,7 @@ impl KeptQuery {
         ensures leaf { option_copied result ≡ slice_get self.now.query.leaves leaf }
         ensures apart { IfSome result (λ l. AreApart l.now.covered) }
     {
-        self.open.leaves.as_slice().get(leaf)
+        leaf_at(self.open.leaves.as_slice(), leaf)
     }
 
     /// Whether pieces cover all of its leaves.
