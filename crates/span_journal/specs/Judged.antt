@@ -91,7 +91,7 @@ pub record IsApplied (old : Machine) (owner txn slot : ℕ) (interval : Interval
   pub decision : transaction.decision ≡ decision_of committed
   pub after : new ≡ (applied_at (decision_of committed) old owner txn slot transaction).1
 
--- this range is the lowest uncovered part of the query's leaf in the slot, the query's timestamp s is not below the slot's horizon, and
+-- this range is the lowest uncovered part of the query's leaf in the slot, a piece of it may be taken, the query's timestamp s is not below the slot's horizon, and
 -- safe time reaches it once the floor has risen; the leaf is of this table
 pub record MayScan (m : Machine) (query leaf slot : ℕ) (interval : Interval) (table : ℕ) (range : KeyRange) (s : ℕ) : Type 0 where
   pub question : OpenQuery
@@ -102,6 +102,7 @@ pub record MayScan (m : Machine) (query leaf slot : ℕ) (interval : Interval) (
   pub there : slice_get question.leaves leaf ≡ Some gap
   pub here : slice_get m.slots slot ≡ Some slot_state
   pub uncovered : gap_in slot_state gap ≡ Some part
+  pub free : is_free slot_state gap part ≡ true
   pub of_part : range ≡ part
   pub of_table : table ≡ gap.table
   pub at : s ≡ question.s

@@ -2,7 +2,7 @@
 use Rattle.std.specs.Prelude.{◌≡◌, ℕ, Bool, true, not, ◌&&◌, nat_lt, List, [], ◌∷◌, find, slice_get, slice_set, Option, Some, None}
 use Rattle.std.specs.Ordering.{is_lt}
 use Rattle.span_keycode.specs.Order.{byte_order}
-use Rattle.span_keycode.specs.Parts.{is_from, is_nonempty, is_covered_in_part}
+use Rattle.span_keycode.specs.Parts.{is_from, AreApart}
 use Rattle.span_keycode.specs.declared.range.KeyRange.{KeyRange}
 use Rattle.span_value.specs.declared.refusal.Refusal.{Refusal}
 use Rattle.span_value.specs.declared.refusal.Refusal.TheVariants.{UnknownQuery, NoSlot, Incomplete, Trimmed, NotYet}
@@ -14,6 +14,7 @@ use Rattle.span_machine.specs.declared.query.OpenQuery.{OpenQuery}
 use Rattle.span_machine.specs.Place.{IsPlace}
 use Rattle.span_machine.specs.Machine.{Machine, if_some, is_query, is_safe, with_risen_floor}
 use Rattle.span_machine.specs.Pieces.{Pieced, Journaled}
+use Rattle.span_journal.specs.Counts.{is_uncovered}
 use Rattle.span_journal.specs.declared.taken.Taken.{Taken}
 
 -- ---- what is scanned
@@ -24,10 +25,11 @@ target_refusal queries slots query leaf slot =
     if_some (find (λ p. is_query query p.query) queries) (Some UnknownQuery)
     (λ p. if_some (slice_get p.query.leaves leaf) (Some UnknownQuery) (λ l. if_some (slice_get slots slot) (Some NoSlot) (λ b. None)))
 
--- the query of this number, at its place, its leaf and the state of the slot
+-- the query of this number, at its place, its leaf, whose pieces are in order, and the state of the slot
 pub record IsTarget (queries : List Pieced) (slots : List SlotState) (query leaf slot at : ℕ) (question : Pieced) (part : ScanLeaf) (slot_state : SlotState) : Type 0 where
   pub place : IsPlace (λ p. is_query query p.query) queries at question
   pub there : slice_get question.query.leaves leaf ≡ Some part
+  pub apart : AreApart part.covered
   pub here : slice_get slots slot ≡ Some slot_state
 
 -- ---- which pieces are taken
@@ -42,9 +44,9 @@ abbrev pub is_inside : SlotState → ScanLeaf → KeyRange → Bool
 is_inside slot_state l range =
     is_from slot_state.lo range.low && ends_by slot_state.hi range.high && is_from (Some l.range.low) range.low && ends_by (Some l.range.high) range.high
 
--- the range has keys, lies in the slot's range and in the leaf's, and no piece covers any of it
+-- the range lies in the slot's range and in the leaf's, has keys, and no piece covers any of it
 abbrev pub is_free : SlotState → ScanLeaf → KeyRange → Bool
-is_free slot_state l range = is_nonempty range && is_inside slot_state l range && not (is_covered_in_part l.covered range)
+is_free slot_state l range = is_inside slot_state l range && is_uncovered l range
 
 -- why a piece of this range, read at s, is not taken: the range is not free; s is below the slot's horizon; safe time has not reached s
 abbrev pub piece_refusal : Machine → ℕ → Interval → KeyRange → ℕ → ScanLeaf → SlotState → Option Refusal

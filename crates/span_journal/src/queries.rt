@@ -1,8 +1,9 @@
 //! Finding open queries.
-ghost use Rattle.std.specs.Prelude.{◌≡◌, ◌<◌, None, Some, length, slice_get, slice_set, remove, position, find, IfErr, IfOk, IfSome, IfNone, OnOk, OnErr};
+ghost use Rattle.std.specs.Prelude.{◌≡◌, ◌<◌, None, Some, true, length, slice_get, slice_set, remove, position, find, IfErr, IfOk, IfSome, IfNone, OnOk, OnErr};
 ghost use Rattle.span_machine.specs.Machine.{is_query};
 ghost use Rattle.span_machine.specs.Place.{IsPlace};
 ghost use Rattle.span_machine.specs.Pieces.{covered_by};
+ghost use Rattle.span_journal.specs.Counts.{is_uncovered};
 ghost use Rattle.span_journal.specs.Scans.{target_refusal, IsTarget};
 
 use super::query::KeptQuery;
@@ -67,6 +68,8 @@ pub(crate) fn cover_at(
 ) -> Result<(), AllocError>
     requires within { at < length queries.old.items }
     requires leaf { IfSome (slice_get queries.old.items at) (λ p. leaf < length p.query.leaves) }
+    requires uncovered { IfSome (slice_get queries.old.items at)
+        (λ p. IfSome (slice_get p.query.leaves leaf) (λ l. is_uncovered l range ≡ true)) }
     ensures ok { OnOk result
         (IfSome (slice_get queries.old.items at)
         (λ p. queries.new.items ≡ slice_set queries.old.items at (covered_by leaf range rows p))) }

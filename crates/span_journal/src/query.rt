@@ -1,12 +1,12 @@
 //! An open query with its pieces.
-ghost use Rattle.std.specs.Prelude.{◌≡◌, ◌<◌, ◌≤◌, IfOk, OnOk, OnErr, IfSome, Some, length, map, slice_get, slice_set};
+ghost use Rattle.std.specs.Prelude.{◌≡◌, ◌<◌, ◌≤◌, IfOk, OnOk, OnErr, IfSome, Some, true, length, map, slice_get, slice_set};
 ghost use Rattle.std.specs.List.{list_all, AllByRecursion};
 ghost use Rattle.std.specs.Option.{option_copied};
 ghost use Rattle.span_schema.specs.Numbers.{IsTable};
-ghost use Rattle.span_keycode.specs.Parts.{family};
+ghost use Rattle.span_keycode.specs.Parts.{family, AreApart};
 ghost use Rattle.span_machine.specs.Machine.{add_piece, is_covered, uncovered, with_piece};
 ghost use Rattle.span_machine.specs.Pieces.{covered_by, no_pieces, unread, with_rows, with_rows_at};
-ghost use Rattle.span_journal.specs.Counts.{AreCounted};
+ghost use Rattle.span_journal.specs.Counts.{AreCounted, is_uncovered};
 ghost use Rattle.span_journal.specs.Scans.{taken_of};
 
 use super::owned::{insert_in_both, pair_with};
@@ -36,7 +36,7 @@ impl Model for KeptQuery {
     ghost use Rattle.span_machine.specs.Pieces.{Pieced};
     ghost use Rattle.span_query.specs.contracts.query.BoundQuery as bound_query;
     ghost use Rattle.std.specs.Coded.{codes};
-    ghost use Rattle.span_journal.specs.Counts.{AreCounted};
+    ghost use Rattle.span_journal.specs.Counts.{AreCounted, AreAllApart};
 
     ghost Value = { Pieced };
 
@@ -44,7 +44,10 @@ impl Model for KeptQuery {
 
     ghost view = { λ a. record { query = a.open; pieces = a.pieces } };
 
-    ghost invariant = { λ a. AreCounted a.open.leaves a.pieces };
+    ghost invariant = { λ a. record {
+      counted : AreCounted a.open.leaves a.pieces;
+      apart : AreAllApart a.open.leaves;
+    } };
 }
 
 /// The range of the keys of a family, by the number of its root table. It takes no memory.
@@ -160,6 +163,12 @@ fn add_piece_at(
     add_piece(alloc, &mut leaves[leaf], &mut pieces[leaf], range, rows)
 }
 
+fn leaf_at(leaves: &[ScanLeaf], leaf: usize) -> Option<&ScanLeaf>
+    ensures { option_copied result ≡ slice_get leaves.now leaf }
+{
+    leaves.get(leaf)
+}
+
 impl KeptQuery {
     /// A query whose leaves no piece covers.
     pub(crate) fn new(
@@ -210,9 +219,10 @@ impl KeptQuery {
 
     /// The leaf at a place, if there is one. The first is at 0.
     pub(crate) fn leaf(&self, leaf: usize) -> Option<&ScanLeaf>
-        ensures { option_copied result ≡ slice_get self.now.query.leaves leaf }
+        ensures leaf { option_copied result ≡ slice_get self.now.query.leaves leaf }
+        ensures apart { IfSome result (λ l. AreApart l.now.covered) }
     {
-        self.open.leaves.as_slice().get(leaf)
+        leaf_at(self.open.leaves.as_slice(), leaf)
     }
 
     /// Whether pieces cover all of its leaves.
@@ -237,7 +247,8 @@ impl KeptQuery {
         range: KeyRange,
         rows: Seq<Row>,
     ) -> Result<(), AllocError>
-        requires { leaf < length self.old.query.leaves }
+        requires within { leaf < length self.old.query.leaves }
+        requires uncovered { IfSome (slice_get self.old.query.leaves leaf) (λ l. is_uncovered l range ≡ true) }
         ensures ok { OnOk result (self.new ≡ covered_by leaf range rows self.old) }
         ensures err { OnErr result (self.new ≡ self.old) }
     {

@@ -3,6 +3,7 @@ ghost use Rattle.std.specs.Prelude.{◌≡◌};
 ghost use Rattle.std.specs.Ordering.{is_lt};
 ghost use Rattle.span_keycode.specs.Order.{byte_order};
 ghost use Rattle.span_keycode.specs.Parts.{is_from, is_nonempty};
+ghost use Rattle.span_journal.specs.Counts.{is_uncovered};
 ghost use Rattle.span_journal.specs.Scans.{ends_by, is_free, is_inside};
 
 use span_keycode::compare::order_of_bytes;
@@ -60,15 +61,22 @@ fn is_inside(slot_state: &SlotState, leaf: &ScanLeaf, range: &KeyRange) -> bool
     !is_before(leaf.range.high.as_slice(), high)
 }
 
-/// Whether the range has keys, lies in the slot's range and in the leaf's, and no piece covers any of it.
-pub(crate) fn is_free(slot_state: &SlotState, leaf: &ScanLeaf, range: &KeyRange) -> bool
-    ensures { result ≡ is_free slot_state.now leaf.now range.now }
+/// Whether the range has keys, and no piece of the leaf covers any of it.
+fn is_uncovered(leaf: &ScanLeaf, range: &KeyRange) -> bool
+    ensures { result ≡ is_uncovered leaf.now range.now }
 {
     if !is_nonempty(range) {
         return false;
     }
+    !is_covered_in_part(leaf.covered.as_slice(), range)
+}
+
+/// Whether the range lies in the slot's range and in the leaf's, has keys, and no piece covers any of it.
+pub(crate) fn is_free(slot_state: &SlotState, leaf: &ScanLeaf, range: &KeyRange) -> bool
+    ensures { result ≡ is_free slot_state.now leaf.now range.now }
+{
     if !is_inside(slot_state, leaf, range) {
         return false;
     }
-    !is_covered_in_part(leaf.covered.as_slice(), range)
+    is_uncovered(leaf, range)
 }

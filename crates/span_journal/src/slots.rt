@@ -5,9 +5,6 @@ ghost use Rattle.std.specs.Option.{option_copied};
 ghost use Rattle.span_journal.specs.Places.{slot_has};
 ghost use Rattle.span_machine.specs.Machine.{root_at, holds, slot_of, begins_at, gap_in, greatest, if_some, lowest_slot, coordinator_slot, with_last, prepare_timestamp, with_risen_floor};
 ghost use Rattle.span_truetime.specs.Limits.{timestamp_end};
-ghost use Rattle.span_keycode.specs.Parts.{is_between};
-ghost use Rattle.span_keycode.specs.Keys.{key_code};
-ghost use Rattle.span_mutate.specs.Directories.{root_row};
 
 use super::transaction::KeptTransaction;
 use span_keycode::key::Key;
@@ -17,6 +14,7 @@ use span_machine::query::ScanLeaf;
 use span_machine::slot::SlotState;
 use span_machine::transaction::Prepared;
 use span_mutate::mutation::CheckedMutation;
+use span_mutate::root_key::is_in_range;
 use span_schema::schema::Schema;
 use span_truetime::interval::{Interval, TIMESTAMP_END};
 use std::alloc::{AllocError, Global};
@@ -347,11 +345,4 @@ fn set_hi(slots: &mut Vec<SlotState>, slot: usize, hi: Key)
     ensures capacity { vec_capacity slots.new ≡ vec_capacity slots.old }
 {
     slots[slot].hi = Some(hi);
-}
-
-// STUB
-fn is_in_range(schema: &Schema, mutation: &CheckedMutation, lo: &Option<Key>, hi: &Option<Key>) -> bool
-    ensures { result ≡ is_between lo.now hi.now (key_code schema.now (root_row schema.now mutation.now.table mutation.now.key).table (root_row schema.now mutation.now.table mutation.now.key).key) }
-{
-    false
 }
