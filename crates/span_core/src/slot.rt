@@ -3,7 +3,7 @@ use span_keycode::key::Key;
 use span_shard::shard::Shard;
 
 /// A slot in use.
-#[derive(Debug)]
+#[derive(Clone, Copy, Debug)]
 pub struct SlotView<'a> {
     /// The first coded root key of its range. None: there is no key before the range.
     pub lo: &'a Option<Key>,
