@@ -10,10 +10,11 @@ pub mod Applying
 pub mod Preparing
 pub mod Trims
 pub mod Parts
+pub mod Splitting
+pub mod AllKept
 pub mod Sorted
 pub mod KeyOrders
 pub mod Snapshots
-pub mod FirstSlot
 pub mod Covers
 pub mod Counting
 pub mod Changes
