@@ -14,6 +14,7 @@ pub mod Splitting
 pub mod AllKept
 pub mod Sorted
 pub mod KeyOrders
+pub mod TableOrder
 pub mod Snapshots
 pub mod Covers
 pub mod Counting
