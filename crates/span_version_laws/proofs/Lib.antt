@@ -16,6 +16,7 @@ pub mod Sorted
 pub mod KeyOrders
 pub mod TableOrder
 pub mod Snapshots
+pub mod RangeRows
 pub mod Covers
 pub mod Counting
 pub mod Changes
