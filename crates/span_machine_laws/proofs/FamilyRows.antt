@@ -107,7 +107,7 @@ tiles_have Q range (c ∷ cs) key e within all =
 abbrev of_family : List Table → ℕ → TableRow → Bool
 of_family schema t r = root_of schema r.table == t
 
-filter_none : (p q : TableRow → Bool) → ((x : TableRow) → q x ≡ true → p x ≡ false) → (xs : List TableRow) → filter p (filter q xs) ≡ []
+pub filter_none : (p q : TableRow → Bool) → ((x : TableRow) → q x ≡ true → p x ≡ false) → (xs : List TableRow) → filter p (filter q xs) ≡ []
 filter_none p q apart [] = refl
 filter_none p q apart (x ∷ xs) = elim (q x) as (λ b. q x ≡ b → filter p (cond b (x ∷ filter q xs) (filter q xs)) ≡ []) [
   | true ↦ λ e. ap (λ b. cond b (x ∷ filter p (filter q xs)) (filter p (filter q xs))) (apart x e) ∙ filter_none p q apart xs

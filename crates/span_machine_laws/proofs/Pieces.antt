@@ -142,7 +142,7 @@ leaf_covered schema m ranges slot slot_state l part here is gap = record {
   ends = all_insert (AreEnds schema) l.covered (place_among l.covered part) part is.ends (part_ends schema m ranges slot slot_state l part here is gap);
 }
 
-opened_leaves : (schema : List Table) (ns : List ℕ) → AllByRecursion (IsOpenLeaf schema) (map (uncovered schema) ns) × (tables_of (map (uncovered schema) ns) ≡ ns)
+pub opened_leaves : (schema : List Table) (ns : List ℕ) → AllByRecursion (IsOpenLeaf schema) (map (uncovered schema) ns) × (tables_of (map (uncovered schema) ns) ≡ ns)
 opened_leaves schema [] = (tt, refl)
 opened_leaves schema (n ∷ ns) =
     let rest = opened_leaves schema ns in

@@ -6,6 +6,8 @@ use Rattle.span_value.specs.declared.refusal.Refusal.{Refusal}
 use Rattle.span_query.specs.declared.query.Statement.{Statement}
 use Rattle.span_mutate.specs.Directories.{Root}
 use Rattle.span_mutate.specs.RootKeys.{root_key}
+use Rattle.span_mutate.proofs.RootKeyLaws.{root_key_coded}
+use Rattle.span_schema.specs.Lineages.{MeetsRules}
 use Rattle.span_truetime.specs.declared.interval.Interval.{Interval}
 use Rattle.span_machine.specs.declared.slot.SlotState.{SlotState}
 use Rattle.span_machine.specs.declared.step.Step.{Step}
@@ -18,7 +20,7 @@ use Rattle.span_machine.specs.Slots.{SlotRange, is_between, has_key, holds, root
 use Rattle.span_machine.specs.Run.{Run, IsOfSchema}
 use Rattle.span_machine.specs.Machine.{Machine, Understanding, Steps, answer, start, if_some, with_last, with_risen_floor, with_horizon, coordinator_slot, commit_timestamp, applied_at}
 use Rattle.span_machine_laws.proofs.Walks.{Ends, answer_by}
-use Rattle.span_machine_laws.proofs.Splits.{part_below, part_from, below_parts, from_parts, below_has, from_has, found_has, split_place, split_here, split_new, split_other, IsRootKey, root_key_is}
+use Rattle.span_machine_laws.proofs.Splits.{part_below, part_from, below_parts, from_parts, below_has, from_has, found_has, split_place, split_here, split_new, split_other}
 use Rattle.span_keycode.specs.Coding.{AreValues}
 use Rattle.span_keycode.proofs.Befores.{IsBefore, IsUpto, before_or_not, not_both}
 use Rattle.span_value.specs.declared.value.Value.{Value}
@@ -197,9 +199,11 @@ module _ (schema : List Table) where
   cut_set (c ∷ cs) (suc i) b cut ends = (cut.0, cut_set cs i b cut.1 ends)
 
   -- a root key is a cut
-  pub root_key_cut : (key : List Value) (code : List ℕ) → IsRootKey schema key code → IsCut schema (Some code)
+  pub split_cut : MeetsRules schema → (table : List ℕ) (key : List Value) (code : List ℕ) → AreValues key → root_key schema table key ≡ Some code → IsCut schema (Some code)
   unfolding root_code
-  root_key_cut key code is = (record { table = is.table; key = key }, (is.root, is.coded), is.same)
+  split_cut rules table key code values coded =
+      let is = root_key_coded schema rules table key code values coded in
+      (record { table = is.0; key = key }, (is.1, is.2), is.3)
 
   cut_split : (slots : List SlotState) (slot : ℕ) (slot_state : SlotState) (code : List ℕ) → slice_get slots slot ≡ Some slot_state → IsCut schema (Some code) → AreCut schema (ranges_of slots)
       → AreCut schema (ranges_of (slice_set slots slot (part_below code slot_state) ++ part_from code slot_state ∷ []))
@@ -272,13 +276,13 @@ answer_tiles schema m u tiles step = elim (answer_ranges schema m u step) [
 ]
 
 -- and cuts them at root keys, where a key is of values
-pub answer_has_ranges : (schema : List Table) (m : Machine) (u : Result Statement Refusal) → HasRanges schema m → (step : Step) → IsOfSchema schema step → HasRanges schema (answer schema m u step).1
-answer_has_ranges schema m u has step of = record {
+pub answer_has_ranges : (schema : List Table) → MeetsRules schema → (m : Machine) (u : Result Statement Refusal) → HasRanges schema m → (step : Step) → IsOfSchema schema step → HasRanges schema (answer schema m u step).1
+answer_has_ranges schema rules m u has step of = record {
   tiles = answer_tiles schema m u has.tiles step;
   cut = elim (answer_ranges schema m u step) [
     | inl same ↦ subst (AreCut schema) (sym same) has.cut
     | inr is ↦ (let values : AreValues is.key = subst (IsOfSchema schema) is.is of in
-        let root : IsCut schema (Some is.code) = root_key_cut schema is.key is.code (root_key_is schema is.table is.key is.code values is.coded) in
+        let root : IsCut schema (Some is.code) = split_cut schema rules is.table is.key is.code values is.coded in
         subst (λ slots. AreCut schema (ranges_of slots)) (sym is.cut) (cut_split schema m.slots is.slot is.state is.code is.here root has.cut))
   ];
 }

@@ -55,7 +55,7 @@ start_reached schema = record {
 module _ (schema : List Table) (rules : MeetsRules schema) where
   pub answer_reached : (m : Machine) → IsReached schema m → (u : Result Statement Refusal) (step : Step) → IsOfSchema schema step → IsReached schema (answer schema m u step).1
   answer_reached m reached u step of = record {
-    ranges = answer_has_ranges schema m u reached.ranges step of;
+    ranges = answer_has_ranges schema rules m u reached.ranges step of;
     by_schema = answer_by_schema schema m u reached.by_schema step of;
     numbered = answer_numbered schema m u reached.numbered step;
     holding = answer_holding schema m u reached.holding step;

@@ -1,24 +1,14 @@
 -- A slot that is cut in two at a key: the keys of the two parts, and the list of slots.
-use Rattle.std.proofs.Common.{◌≡◌, ◌≢◌, ℕ, zero, suc, ◌+◌, ◌-◌, ◌≤◌, Bool, true, false, not, ◌==◌, nat_lt, List, [], ◌∷◌, ◌++◌, length, Option, Some, None, is_none, if◌then◌else◌, refl, ap, subst, inl, inr, ◌⊎◌, arith}
+use Rattle.std.proofs.Common.{◌≡◌, ◌≢◌, ℕ, zero, suc, Bool, true, false, not, List, [], ◌∷◌, ◌++◌, length, Option, Some, None, refl, ap, subst, inl, inr, ◌⊎◌}
 use Rattle.std.specs.Prelude.{slice_get, slice_set}
 use Rattle.std.specs.Ordering.{is_lt}
-use Rattle.std.proofs.lemmas.Bool.Decides.{nat_tests}
 use Rattle.std.proofs.lemmas.Bool.{not-true, not_from_false}
-use Rattle.std.proofs.lemmas.Option.{get_or_from_slice_get, slice_get_within}
+use Rattle.std.proofs.lemmas.Option.{get_or_from_slice_get}
 use Rattle.std.proofs.lemmas.List.Quantifiers.{position-Some}
 use Rattle.span_value.specs.Results.{first_cause}
 use Rattle.span_value.specs.declared.refusal.Refusal.TheVariants as refusal
-use Rattle.span_value.specs.declared.value.Value.{Value}
-use Rattle.span_schema.specs.declared.table.Table.{Table}
-use Rattle.span_schema.specs.Numbers.{number_of, table_at, root_of, key_columns}
-use Rattle.span_schema.specs.Tables.{table_place}
-use Rattle.span_keycode.specs.Coding.{AreValues, are_of_kinds}
-use Rattle.span_keycode.specs.Keys.{IsCodedKey, key_code}
-use Rattle.span_keycode.specs.Limits.{longest_key}
 use Rattle.span_keycode.specs.Order.{byte_order}
 use Rattle.span_keycode.proofs.Befores.{IsBefore, IsUpto, upto_upto, lt_lt}
-use Rattle.span_mutate.specs.Checking.{key_causes}
-use Rattle.span_mutate.specs.RootKeys.{root_key, root_key_at, root_key_in, is_root_key}
 use Rattle.span_machine.specs.declared.slot.SlotState.{SlotState}
 use Rattle.span_machine.specs.Machine.{slot_of}
 use Rattle.span_machine.specs.Slots.{is_from, is_upto, is_between, has_key}
@@ -143,58 +133,6 @@ split_length (c ∷ cs) zero lower upper = ap suc (pushed cs)
     pushed [] = refl
     pushed (b ∷ bs) = ap suc (pushed bs)
 split_length (c ∷ cs) (suc slot) lower upper = ap suc (split_length cs slot lower upper)
-
--- ---- root keys
-
--- a key of a root table that has a coding
-pub record IsRootKey (schema : List Table) (key : List Value) (code : List ℕ) : Type 0 where
-  pub table : ℕ
-  pub root : root_of schema table ≡ table
-  pub coded : IsCodedKey schema table key
-  pub same : code ≡ key_code schema table key
-
-not_refused : (kinds null long high : Bool) → is_none (first_cause ((not kinds, refusal.WrongType) ∷ (null, refusal.NullNotAllowed) ∷ (long, refusal.ValueTooLong) ∷ (high, refusal.KeyTooLong) ∷ [])) ≡ true → (kinds ≡ true) × (high ≡ false)
-not_refused true false false false e = (refl, refl)
-not_refused true false false true e = absurd (cc)
-not_refused true false true high e = absurd (cc)
-not_refused true true long high e = absurd (cc)
-not_refused false null long high e = absurd (cc)
-
-within_limit : (n : ℕ) → nat_lt longest_key n ≡ false → n ≤ longest_key
-within_limit n e = grind (arith, nat_tests)
-
-same_numbers : (a b : ℕ) → (a == b) ≡ true → a ≡ b
-same_numbers a b e = grind (arith, nat_tests)
-
-root_key_of : (schema : List Table) (key : List Value) (code : List ℕ) (p : ℕ) (t : Table) → AreValues key → slice_get schema (p + 1 - 1) ≡ Some t → root_key_at schema (p + 1) (Some t) key ≡ Some code → IsRootKey schema key code
-root_key_of schema key code p t values here = elim (is_root_key schema (p + 1) t key) as (λ v. is_root_key schema (p + 1) t key ≡ v → (if v then Some (key_code schema (p + 1) key) else None) ≡ Some code → IsRootKey schema key code) [
-  | false ↦ λ e f. absurd (cc)
-  | true ↦ λ e f.
-      let root : root_of schema (p + 1) ≡ p + 1 = same_numbers (root_of schema (p + 1)) (p + 1) (first_true (root_of schema (p + 1) == p + 1) (is_none (first_cause (key_causes schema (p + 1) t key))) e) in
-      let none = second_true (root_of schema (p + 1) == p + 1) (is_none (first_cause (key_causes schema (p + 1) t key))) e in
-      let may = not_refused (are_of_kinds (key_columns schema (p + 1)) key) _ _ (nat_lt longest_key (length (key_code schema (p + 1) key))) none in
-      let place : p + 1 - 1 ≡ p = omega arith in
-      let within : p + 1 - 1 ≤ length schema = (let h = slice_get_within schema (p + 1 - 1) t here in omega arith) in
-      let high = slice_get_within schema (p + 1 - 1) t here in
-      record {
-        table = p + 1;
-        root = root;
-        coded = (((omega arith, omega arith), values (key_columns schema (p + 1)) may.0), within_limit (length (key_code schema (p + 1) key)) may.1);
-        same = cc;
-      }
-] refl
-
-root_key_named : (schema : List Table) (key : List Value) (code : List ℕ) (o : Option ℕ) → AreValues key → root_key_in schema (number_of o) key ≡ Some code → IsRootKey schema key code
-root_key_named schema key code None values e = absurd (cc)
-root_key_named schema key code (Some p) values e = by_table (table_at schema (p + 1)) refl e
-  where
-    by_table : (o : Option Table) → slice_get schema (p + 1 - 1) ≡ o → root_key_at schema (p + 1) o key ≡ Some code → IsRootKey schema key code
-    by_table None here f = absurd (cc)
-    by_table (Some t) here f = root_key_of schema key code p t values here f
-
--- what has a coding as a root key is a key of a root table
-pub root_key_is : (schema : List Table) (name : List ℕ) (key : List Value) (code : List ℕ) → AreValues key → root_key schema name key ≡ Some code → IsRootKey schema key code
-root_key_is schema name key code values e = root_key_named schema key code (table_place schema name) values e
 
 -- ---- what is not refused
 

@@ -130,9 +130,13 @@ pub record AreAllKept (schema : List Table) (m : Machine) (shards : List (List K
 
 -- ---- the pieces of open queries
 
+-- the range has the coded key of the row
+abbrev pub row_within : List Table → KeyRange → TableRow → Bool
+row_within schema range r = is_within range (code_of schema r)
+
 -- the rows of a table whose coded keys are in the range, each with its values in the order of declaration
 abbrev pub rows_within : List Table → List TableRow → ℕ → KeyRange → List Row
-rows_within schema db table range = map (declared_row schema) (filter (λ (r : TableRow). is_within range (code_of schema r)) (rows_of table db))
+rows_within schema db table range = map (declared_row schema) (filter (row_within schema range) (rows_of table db))
 
 -- the rows are those of a table of the schema in the range, at s
 pub record HasRowsIn (schema : List Table) (log : List Commit) (s table : ℕ) (range : KeyRange) (rows : List Row) : Type 0 where
@@ -176,12 +180,12 @@ key_row schema r = record { key = code_of schema r; row = row_code r.cells }
 abbrev pub has_row : List Table → SlotState → TableRow → Bool
 has_row schema slot_state r = has_key slot_state (code_of schema r)
 
--- entries that are rows of a family in the slot's range, those of table n being all that the database has there, in its order
-pub record HasRowsOf (schema : List Table) (slot_state : SlotState) (n : ℕ) (db : List TableRow) (entries : List KeyRow) : Type 0 where
+-- entries that are rows of a range in the slot's range, those of table n being all that the database has there, in its order
+pub record HasRowsOf (schema : List Table) (slot_state : SlotState) (range : KeyRange) (n : ℕ) (db : List TableRow) (entries : List KeyRow) : Type 0 where
   pub rows : List TableRow
   pub typed : AreTyped schema rows
   pub entries_are : entries ≡ map (key_row schema) rows
-  pub of_table : rows_of n rows ≡ filter (has_row schema slot_state) (rows_of n db)
+  pub of_table : rows_of n rows ≡ filter (row_within schema range) (filter (has_row schema slot_state) (rows_of n db))
 
 -- the rows that are read of entries: those of table n, in the order in which its columns are declared
 abbrev pub IsReading : List Table → ℕ → List KeyRow → List (List Value) → Type 0
