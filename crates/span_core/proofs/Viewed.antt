@@ -17,7 +17,7 @@ module _ (schema : List Table) (j : Journaled) (shards : Shards) (d : IsDatabase
   -- a slot in use has a shard
   pub has_shard : (slot_state : SlotState) → slice_get (machine_of j).slots slot ≡ Some slot_state → slice_get shards slot ≡ None → ⊥
   has_shard slot_state here none =
-      let there = there_is shards slot (within schema (machine_of j) (machine_of j) shards d.whole.kept slot slot_state here) in
+      let there = there_is shards slot (within schema (machine_of j) shards d.whole.kept slot slot_state here) in
       let both : Some there.0 ≡ None = sym there.1 ∙ none in cc
 
   pub kept_here : (cs : List KeyVersions) → slice_get shards slot ≡ Some cs → AreKept schema (machine_of j) slot cs

@@ -24,13 +24,13 @@ use Rattle.span_machine_laws.proofs.Reached.{IsReached, answer_reached}
 use Rattle.span_version_laws.specs.Kept.{AreKept}
 use Rattle.span_version_laws.proofs.Trims.{kept_trimmed}
 use Rattle.span_version_laws.proofs.Live.{live_is_kept}
+use Rattle.span_version_laws.proofs.AllKept.{slots_stay, all_kept_set}
 use Rattle.span_version_laws.proofs.Steps.{kept_apply_elsewhere, kept_trim_elsewhere}
 use Rattle.span_version_laws.proofs.Applying.{kept_committed, kept_aborted}
 use Rattle.span_version_laws.proofs.Later.{later_committed}
 use Rattle.span_journal.specs.Judged.{IsApplied, IsRaised, decision_of}
 use Rattle.span_parts.specs.Whole.{Shards, IsWhole}
-use Rattle.span_parts.proofs.Counts.{counted}
-use Rattle.span_parts.proofs.Shards.{all_set, set_there}
+use Rattle.span_parts.proofs.Shards.{set_there}
 use Rattle.span_parts.proofs.Wholes.{no_text, goes_to, pieces_same}
 
 -- ---- apply
@@ -79,8 +79,8 @@ module _ (schema : List Table) (j : Journaled) (shards : Shards) (w : IsWhole sc
         let after : AreKept schema (apply_step m owner txn slot interval).1 slot (shard.applied txn committed before) =
         subst (λ (a : Answer). AreKept schema a.1 slot (shard.applied txn committed before)) (sym e) (kept_applied schema m before owner txn slot committed d.transaction w.reached here_kept d.found d.decision) in
         goes_to schema j k no_text (step.Apply owner txn slot interval) tt is (pieces_same schema j.queries k.queries queries) shards (slice_set shards slot (shard.applied txn committed before)) w
-        (all_set schema m (apply_step m owner txn slot interval).1 shards w.kept (counted schema m no_text (step.Apply owner txn slot interval)) slot (shard.applied txn committed before) after
-        (λ i cs off kept. kept_apply_elsewhere schema m w.reached cs kept owner txn slot interval off))
+        (all_kept_set schema m (apply_step m owner txn slot interval).1 shards slot (shard.applied txn committed before) (slots_stay schema m no_text (step.Apply owner txn slot interval) (λ table key f. cc)) after
+        (λ i cs off kept. kept_apply_elsewhere schema m w.reached cs kept owner txn slot interval off) w.kept)
 
   -- ---- trim
 
@@ -105,8 +105,8 @@ module _ (schema : List Table) (j : Journaled) (shards : Shards) (w : IsWhole sc
         let m = machine_of j in
         let is : machine_of k ≡ (trim schema m slot h).1 = same ∙ d.after ∙ sym (ap (λ (a : Answer). a.1) trim_is) in
         goes_to schema j k no_text (step.Trim slot h) tt is (pieces_same schema j.queries k.queries queries) shards (slice_set shards slot (shard.trimmed h before)) w
-        (all_set schema m (trim schema m slot h).1 shards w.kept (counted schema m no_text (step.Trim slot h)) slot (shard.trimmed h before) after_trim
-        (λ i cs off kept. kept_trim_elsewhere schema m w.reached cs kept slot h off))
+        (all_kept_set schema m (trim schema m slot h).1 shards slot (shard.trimmed h before) (slots_stay schema m no_text (step.Trim slot h) (λ table key f. cc)) after_trim
+        (λ i cs off kept. kept_trim_elsewhere schema m w.reached cs kept slot h off) w.kept)
 
     -- what is left in the shard is what the machine answers
     pub trimmed_answer : IsAnswer (trim schema (machine_of j) slot h) (reply.Trimmed (shard.live (shard.trimmed h before))) n

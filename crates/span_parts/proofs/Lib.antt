@@ -1,7 +1,6 @@
 pub mod Entries
 pub mod Values
 pub mod Shards
-pub mod Counts
 pub mod Wholes
 pub mod Applying
 pub mod Preparing

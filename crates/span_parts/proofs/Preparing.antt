@@ -28,13 +28,13 @@ use Rattle.span_machine.specs.Kept.{most_versions, live_with}
 use Rattle.span_machine.specs.Pieces.{Journaled, machine_of}
 use Rattle.span_machine_laws.proofs.Causes.{may_prepare}
 use Rattle.span_version_laws.specs.Kept.{AreKept}
+use Rattle.span_version_laws.proofs.AllKept.{slots_stay, all_kept_set}
 use Rattle.span_version_laws.proofs.Steps.{kept_prepare_elsewhere}
 use Rattle.span_version_laws.proofs.Preparing.{its_typed, prepare_free, prepare_new, prepare_fault, prepare_well, kept_prepared, live_prepared}
 use Rattle.span_journal.specs.Judged.{MayPrepare, IsNoted, IsUnnoted, has_wrong_state, note_cause}
 use Rattle.span_journal.proofs.Preparing.{timestamp_refusal, note_stamp}
 use Rattle.span_parts.specs.Whole.{Shards, IsWhole}
-use Rattle.span_parts.proofs.Counts.{counted}
-use Rattle.span_parts.proofs.Shards.{some_same, all_set}
+use Rattle.span_parts.proofs.Shards.{some_same}
 use Rattle.span_parts.proofs.Wholes.{no_text, goes_to, pieces_same}
 
 above : (n k : ℕ) → n ≡ k → most_versions < n → nat_lt most_versions k ≡ true
@@ -153,8 +153,8 @@ module _ (schema : List Table) (j : Journaled) (shards : Shards) (w : IsWhole sc
         let after : AreKept schema (prepare schema m owner txn slot).1 slot (with_writes txn ws cs) =
         subst (λ (a : Answer). AreKept schema a.1 slot (with_writes txn ws cs)) (sym e) (subst (λ (b : SlotState). AreKept schema (prepared m owner txn slot b).1 slot (with_writes txn ws cs)) same kept) in
         goes_to schema j k no_text (step.Prepare owner txn slot) tt is (pieces_same schema j.queries k.queries queries) shards (slice_set shards slot (with_writes txn ws cs)) w
-        (all_set schema m (prepare schema m owner txn slot).1 shards w.kept (counted schema m no_text (step.Prepare owner txn slot)) slot (with_writes txn ws cs) after
-        (λ i c off kept_there. kept_prepare_elsewhere schema m w.reached c kept_there owner txn slot off))
+        (all_kept_set schema m (prepare schema m owner txn slot).1 shards slot (with_writes txn ws cs) (slots_stay schema m no_text (step.Prepare owner txn slot) (λ table key f. cc)) after
+        (λ i c off kept_there. kept_prepare_elsewhere schema m w.reached c kept_there owner txn slot off) w.kept)
 
     -- why it is not noted is the reply: no timestamp is left
     pub unnoted_answer : (why : Refusal) → IsUnnoted m owner txn slot why → IsAnswer (prepare schema m owner txn slot) (reply.Refused why) m

@@ -18,14 +18,14 @@ use Rattle.span_machine.specs.declared.query.ScanLeaf.{ScanLeaf}
 use Rattle.span_machine.specs.declared.query.OpenQuery.{OpenQuery}
 use Rattle.span_machine.specs.Machine.{Machine, Answer, IsAnswer, refused, if_some, for_slot, is_query, is_safe, with_risen_floor, with_slot_state, cover, changed_first, gap_in, scan, scan_query, scan_leaf, scan_gap, scanned}
 use Rattle.span_machine.specs.Pieces.{Pieced, Journaled, covered_by, machine_of, queries_of}
-use Rattle.span_machine_laws.proofs.Reached.{answer_reached}
+use Rattle.span_machine_laws.proofs.Reached.{IsReached, answer_reached, reached_tables}
 use Rattle.span_version_laws.specs.Kept.{AreKept, AreAllKept, ArePieced, IsReading}
-use Rattle.span_version_laws.proofs.Steps.{kept_scan}
+use Rattle.span_version_laws.proofs.AllKept.{all_kept_by_step}
+use Rattle.span_version_laws.proofs.Snapshots.{snapshot_when_safe}
 use Rattle.span_version_laws.proofs.Covers.{pieced_table, pieced_scanned, covered-queries, find-queries, found_query}
 use Rattle.span_journal.specs.Judged.{MayScan, IsRegistered}
 use Rattle.span_parts.specs.Whole.{Shards, IsWhole, IsRead, IsUnread}
-use Rattle.span_parts.proofs.Counts.{counted}
-use Rattle.span_parts.proofs.Shards.{some_same, all_same}
+use Rattle.span_parts.proofs.Shards.{some_same}
 use Rattle.span_parts.proofs.Wholes.{no_text}
 
 -- the answer of a scan that covers a part of a leaf
@@ -74,6 +74,14 @@ module _ (schema : List Table) (j : Journaled) (shards : Shards) (w : IsWhole sc
       let there : slice_get p.0.query.leaves leaf ≡ Some d.gap = ap (λ (q : OpenQuery). slice_get q.leaves leaf) p.2 ∙ d.there in
       subst (IsTable schema) (sym d.of_table) (pieced_table schema m j.queries query p.0 leaf d.gap w.pieced p.1 there)
 
+  -- where a leaf may be scanned, memory alone may run out
+  pub reads : (cs : List KeyVersions) → slice_get shards slot ≡ Some cs → (why : Refusal) → IsUnread schema cs table range s why → why ≡ refusal.OutOfMemory
+  reads cs there why (inl memory) = memory
+  reads cs there why (inr none) =
+      let made = reached_tables schema w.rules m d.question.s w.reached in
+      let seen = snapshot_when_safe schema w.rules m slot d.slot_state risen cs d.question.s w.reached (w.kept.each slot cs there) d.here d.safe (not_below d.question.s d.slot_state.horizon d.above) made.0 made.1 table range in
+      absurd (none seen.rows seen.typed (ap (λ i. snapshot range i cs) d.at ∙ seen.entries_are))
+
   module _ (shown : List Row) (k : Journaled) (g : IsRegistered j query leaf slot interval range shown k) where
     same : g.question.query ≡ d.question
     same = some_same _ _ (sym (found_query query j.queries g.question g.found) ∙ d.found)
@@ -109,6 +117,6 @@ module _ (schema : List Table) (j : Journaled) (shards : Shards) (w : IsWhole sc
           rules = w.rules;
           reached = subst (IsReached schema) (sym registered_is) (answer_reached schema w.rules m w.reached no_text (step.Scan query leaf slot interval) tt);
           kept = subst (λ (n : Machine). AreAllKept schema n shards) (sym registered_is)
-              (all_same schema m (scan m query leaf slot interval).1 shards w.kept (counted schema m no_text (step.Scan query leaf slot interval)) (λ i c kept. kept_scan schema m w.reached c kept query leaf slot interval));
+              (all_kept_by_step schema m w.reached shards no_text (step.Scan query leaf slot interval) tt w.kept);
           pieced = subst (λ (l : Journaled). ArePieced schema (machine_of l) l.queries) (sym g.after) pieced;
         }

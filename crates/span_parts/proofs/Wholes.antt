@@ -9,18 +9,16 @@ use Rattle.span_schema.specs.Lineages.{MeetsRules}
 use Rattle.span_schema.specs.Numbers.{IsTable}
 use Rattle.span_params.specs.declared.params.Parameter.{Parameter}
 use Rattle.span_query.specs.declared.query.Statement.{Statement}
-use Rattle.span_shard.specs.KeyVersions.{KeyVersions}
 use Rattle.span_machine.specs.declared.step.Step.{Step}
 use Rattle.span_machine.specs.declared.step.Reply.{Reply}
 use Rattle.span_machine.specs.Run.{IsOfSchema}
 use Rattle.span_machine.specs.Machine.{Machine, Answers, IsAnswer, answer, start, is_query, without_first}
 use Rattle.span_machine.specs.Pieces.{Pieced, Journaled, unread, machine_of, queries_of}
 use Rattle.span_machine_laws.proofs.Reached.{IsReached, start_reached, answer_reached}
-use Rattle.span_version_laws.specs.Kept.{AreKept, AreAllKept, ArePieced}
-use Rattle.span_version_laws.proofs.Steps.{start_kept}
+use Rattle.span_version_laws.specs.Kept.{AreAllKept, ArePieced}
+use Rattle.span_version_laws.proofs.AllKept.{LeavesShards, start_all_kept, all_kept_by_step}
 use Rattle.span_version_laws.proofs.Covers.{no_pieces, pieced_push, pieced_without, pieced_by_step}
 use Rattle.span_parts.specs.Whole.{Shards, IsWhole, GoesWith}
-use Rattle.span_parts.proofs.Shards.{all_same, all_set}
 
 -- what is understood of a query text where a step has none
 abbrev pub no_text : Result Statement Refusal
@@ -28,15 +26,11 @@ no_text = Err refusal.Syntax
 
 -- ---- an empty database
 
-only_shard : (slot : ℕ) (cs : List KeyVersions) (schema : List Table) → slice_get ([] ∷ []) slot ≡ Some cs → AreKept schema start slot cs
-only_shard 0 cs schema here = let same : [] ≡ cs = cc here in subst (λ (c : List KeyVersions). AreKept schema start 0 c) same (start_kept schema)
-only_shard (suc slot) cs schema here = absurd (cc here)
-
 pub start_whole : (schema : List Table) → MeetsRules schema → (j : Journaled) (shards : Shards) → machine_of j ≡ start → j.queries ≡ [] → shards ≡ [] ∷ [] → IsWhole schema j shards
 start_whole schema rules j shards is none same = record {
   rules = rules;
   reached = subst (IsReached schema) (sym is) (start_reached schema);
-  kept = subst (λ (m : Machine). AreAllKept schema m shards) (sym is) (subst (AreAllKept schema start) (sym same) (record { count = refl; each = λ slot cs here. only_shard slot cs schema here }));
+  kept = subst (λ (m : Machine). AreAllKept schema m shards) (sym is) (subst (AreAllKept schema start) (sym same) (start_all_kept schema));
   pieced = subst (ArePieced schema (machine_of j)) (sym none) (no_pieces schema (machine_of j));
 }
 
@@ -63,12 +57,10 @@ module _ (schema : List Table) (j k : Journaled) where
       pieced = pieces (machine_of k) (subst (λ (m : Machine). ArePieced schema m j.queries) (sym is) (pieced_by_step schema w.rules (machine_of j) w.reached j.queries refl w.pieced u s of));
     }
 
-    -- a step that keeps each slot's shard
-    pub goes_by : (r : Reply) → Answers (machine_of j) (answer schema (machine_of j) u s) r (machine_of k) → length (answer schema (machine_of j) u s).1.slots ≡ length (machine_of j).slots
-        → ((slot : ℕ) (cs : List KeyVersions) → IsReached schema (machine_of j) → AreKept schema (machine_of j) slot cs → AreKept schema (answer schema (machine_of j) u s).1 slot cs)
-        → ((n : Machine) → ArePieced schema n j.queries → ArePieced schema n k.queries) → GoesWith schema j k
-    goes_by r (inl e) counted keeps pieces = λ shards w. goes_to e.1 pieces shards shards w (all_same schema (machine_of j) (answer schema (machine_of j) u s).1 shards w.kept counted (λ slot cs. keeps slot cs w.reached))
-    goes_by r (inr e) counted keeps pieces = λ shards w. record {
+    -- a step that leaves all shards
+    pub goes_by : (r : Reply) → Answers (machine_of j) (answer schema (machine_of j) u s) r (machine_of k) → LeavesShards s → ((n : Machine) → ArePieced schema n j.queries → ArePieced schema n k.queries) → GoesWith schema j k
+    goes_by r (inl e) leaves pieces = λ shards w. goes_to e.1 pieces shards shards w (all_kept_by_step schema (machine_of j) w.reached shards u s leaves w.kept)
+    goes_by r (inr e) leaves pieces = λ shards w. record {
       rules = w.rules;
       reached = subst (IsReached schema) (sym e.1) w.reached;
       kept = subst (λ (m : Machine). AreAllKept schema m shards) (sym e.1) w.kept;

@@ -1,9 +1,10 @@
 //! Splits: a slot is cut in two at a root key.
-ghost use Rattle.std.specs.Prelude.{◌≡◌, Some};
+ghost use Rattle.std.specs.Prelude.{◌≡◌, ℕ, List, Some};
 ghost use Rattle.span_keycode.specs.Coding.{AreValues};
 ghost use Rattle.span_machine.specs.Machine.{Answers, split, split_at};
 ghost use Rattle.span_machine.specs.Pieces.{machine_of};
-ghost use Rattle.span_machine.specs.Slots.{IsCut};
+ghost use Rattle.span_mutate.specs.RootKeys.{root_key};
+ghost use Rattle.span_value.specs.declared.value.Value.{Value};
 ghost use Rattle.span_machine.specs.declared.step.Reply.TheVariants as reply_of;
 ghost use Rattle.span_parts.specs.Replies.{as_reply};
 ghost use Rattle.span_parts.specs.Whole.{IsWhole};
@@ -51,7 +52,7 @@ fn split_at(
     key: Key,
 ) -> Result<usize, Refusal>
     requires whole { IsWhole schema.now journal.old shards.old.items }
-    requires cut { IsCut schema.now (Some key) }
+    requires coded { (name : List ℕ) × (values : List Value) × AreValues values × (root_key schema.now name values ≡ Some key) }
     ensures step { Answers (machine_of journal.old)
         (split_at (machine_of journal.old) key)
         (as_reply reply_of.Split result)
