@@ -25,7 +25,7 @@ use Rattle.span_core.proofs.Runs.{run_more, whole_consistent}
 
 -- ---- the run goes on
 
-of_schema_more : (schema : List Table) (steps : List Step) (step : Step) → AreOfSchema schema steps → IsOfSchema schema step → AreOfSchema schema (steps ++ step ∷ [])
+pub of_schema_more : (schema : List Table) (steps : List Step) (step : Step) → AreOfSchema schema steps → IsOfSchema schema step → AreOfSchema schema (steps ++ step ∷ [])
 of_schema_more schema [] step all one = (one, tt)
 of_schema_more schema (s ∷ ss) step all one = (all.0, of_schema_more schema ss step all.1 one)
 

@@ -1,9 +1,10 @@
-use Rattle.std.specs.Prelude.{ℕ, List, [], ◌∷◌, ◌++◌, map, insert, slice_get, slice_set}
+use Rattle.std.specs.Prelude.{ℕ, List, [], map, insert, slice_get, slice_set}
 use Rattle.span_schema.specs.declared.table.Table.{Table}
 use Rattle.span_keycode.specs.declared.range.KeyRange.{KeyRange}
 use Rattle.span_keycode.specs.Parts.{place_among}
 use Rattle.span_params.specs.declared.params.Parameter.{Parameter}
 use Rattle.span_query.specs.Rows.{Row}
+pub use Rattle.span_query.specs.Rows.{joined}
 use Rattle.span_query.specs.declared.query.Statement.{Statement}
 use Rattle.span_machine.specs.declared.slot.SlotState.{SlotState}
 use Rattle.span_machine.specs.declared.transaction.OpenTransaction.{OpenTransaction}
@@ -45,11 +46,6 @@ with_rows_at leaves leaf part rows pieces =
 -- the open query, with these rows as a piece of the leaf at a place
 abbrev pub covered_by : ℕ → KeyRange → List Row → Pieced → Pieced
 covered_by leaf part rows p = record { query = cover leaf part p.query; pieces = with_rows_at p.query.leaves leaf part rows p.pieces }
-
--- the rows of a leaf's pieces, one after another
-abbrev pub joined : List (List Row) → List Row
-joined [] = []
-joined (rows ∷ pieces) = rows ++ joined pieces
 
 -- the open queries alone
 abbrev pub queries_of : List Pieced → List OpenQuery

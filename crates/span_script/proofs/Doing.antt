@@ -80,6 +80,7 @@ numbered schema (command.Clock earliest latest) state m answer next last s is x 
 numbered schema (command.Param name kind cell) state m answer next last s is x = cc
 numbered schema (command.Write kind table columns row) state m answer next last s is x = cc
 numbered schema (command.Delete table row) state m answer next last s is x = cc
+numbered schema (command.Split table row) state m answer next last s is x = cc
 numbered schema (command.Load table columns) state m answer next last s is x = cc
 numbered schema command.Begin state m answer next last s is x = cc
 numbered schema (command.Open bound text) state m answer next last s is x = cc

@@ -1,12 +1,14 @@
 //! What a script has set and gathered, and its commands done one after another.
-ghost use Rattle.std.specs.Prelude.{◌≡◌, ◌++◌, List, None, Some, is_some, IfErr, IfOk, IfSome, IsOkUnless, MatchResult, [], Err, length, take};
+ghost use Rattle.std.specs.Prelude.{◌≡◌, ◌++◌, List, None, Some, is_some, IfErr, IfOk, IfSome, IsOkUnless, MatchResult, ◌⊎◌, ◌×◌, [], Err, length, take};
 ghost use Rattle.span_schema.specs.declared.table.Table.{Table};
-ghost use Rattle.span_machine.specs.Run.{IsOfSchema};
+ghost use Rattle.span_machine.specs.Run.{IsChecked};
 ghost use Rattle.span_machine.specs.declared.step.Step.TheVariants as step_of_kind;
 ghost use Rattle.span_script.specs.Lines.{Begins};
 ghost use Rattle.span_script.specs.Reports.{AreAnswered};
 ghost use Rattle.span_script.specs.Steps.{Takes, AreTaken, AreRefused, IsRead, IsQueried, IsBegun, scans, scans_of_leaf};
-ghost use Rattle.span_script.specs.Scripts.{BeginsLoad, Deletes, EndsLoad, Gathers, IsAnswered, IsCommandLine, IsDone, IsDoneIfRead, IsFirst, IsLoadLine, IsReplied, LoadsRecord, RefusesClock, RefusesDelete, RefusesParam, RefusesRecord, RefusesWrite, SetsClock, SetsParam, Writes, end_answer, is_passed_over, numbered_step, refused_load};
+ghost use Rattle.span_script.specs.Scripts.{BeginsLoad, Deletes, EndsLoad, Gathers, IsAnswered, IsCommandLine, IsDeletion, IsDone, IsDoneIfRead, IsFirst, IsLoadLine, IsReplied, IsSplit, LoadsRecord, RefusesClock, RefusesDelete, RefusesParam, RefusesRecord, RefusesWrite, SetsClock, SetsParam, Writes, end_answer, is_passed_over, numbered_step, refused_load};
+ghost use Rattle.span_command.specs.Layouts.{IsOfRecord};
+ghost use Rattle.span_command.specs.Record.{record_fields};
 ghost use Rattle.span_script.specs.Sessions.{Adds, AddsAt, AddsLine, Changes, load_of, state_of, text_of};
 
 use super::answer::Answers;
@@ -252,6 +254,10 @@ impl Session {
                 let reply = self.query(alloc, core, bound, text);
                 add_reply(alloc, &reply, answers)
             }
+            Command::Split { table, record } => {
+                let reply = self.split(alloc, core, table, record);
+                add_reply(alloc, &reply, answers)
+            }
             Command::Shards => answers.slots(core),
             command => match step_of(command, self.clock) {
                 Some(step) => {
@@ -333,10 +339,41 @@ impl Session {
             (Gathers layout.now kind text.now (state_of self.old))
             (RefusesRecord layout.now kind text.now) self.old self.new result }
     {
-        read_fields(alloc, text, &mut self.fields)?;
-        let mutation = layout.mutation(alloc, kind, &self.fields)?;
+        let mutation = self.read_record(alloc, layout, kind, text)?;
         self.gathered.push(mutation)?;
         Ok(())
+    }
+
+    /// The mutation of a record. `WrongType`: a wrong number of fields, or a field that is no cell of its column's type.
+    fn read_record(
+        &mut self,
+        alloc: Global,
+        layout: &Layout,
+        kind: MutationKind,
+        text: &str,
+    ) -> Result<Mutation, Refusal>
+        ensures read { IfOk result (λ m. IsOfRecord layout.now kind (record_fields text.now) m) }
+        ensures refused { IfErr result (λ why. (why ≡ Refusal.OutOfMemory) ⊎ RefusesRecord layout.now kind text.now why) }
+        ensures kept { state_of self.new ≡ state_of self.old }
+    {
+        read_fields(alloc, text, &mut self.fields)?;
+        layout.mutation(alloc, kind, &self.fields)
+    }
+
+    /// The deletion of the row whose key a record has. `NoTable` and `WrongType` as `Layout::of_key` and `read_record`.
+    fn read_deletion(
+        &mut self,
+        alloc: Global,
+        schema: &Schema,
+        table: &str,
+        text: &str,
+    ) -> Result<Mutation, Refusal>
+        ensures read { IfOk result (λ m. IsDeletion schema.now table.now text.now m) }
+        ensures refused { IfErr result (λ why. (why ≡ Refusal.OutOfMemory) ⊎ RefusesDelete schema.now table.now text.now why) }
+        ensures kept { state_of self.new ≡ state_of self.old }
+    {
+        let layout = Layout::of_key(alloc, schema, table)?;
+        self.read_record(alloc, &layout, MutationKind::Delete, text)
     }
 
     /// Begins the load of this line.
@@ -481,6 +518,18 @@ impl Session {
         }
     }
 
+    /// Splits a slot at the key that a record has. A record that has no key of the table is `BadSplit`.
+    fn split(&mut self, alloc: Global, core: &mut Core, table: &str, text: &str) -> Reply
+        ensures split { IsSplit core.old.schema core.old.machine table.now text.now result core.new.machine }
+        ensures kept { state_of self.new ≡ state_of self.old }
+        ensures schema { core.new.schema ≡ core.old.schema }
+    {
+        match self.read_deletion(alloc, core.schema(), table, text) {
+            Ok(Mutation { table, key, .. }) => take_step(alloc, core, Step::Split { table, key }),
+            Err(why) => Reply::Refused(split_refusal(why)),
+        }
+    }
+
     /// Opens a query with the parameters that are set.
     fn open(&self, alloc: Global, core: &mut Core, bound: Bound, text: &str) -> Reply
         ensures taken { Takes core.old.schema core.old.machine
@@ -589,9 +638,20 @@ fn scan_leaf(
     Ok(())
 }
 
+/// Why a record has no key to split at, or that memory ran out.
+fn split_refusal(why: Refusal) -> Refusal
+    ensures which { (result ≡ Refusal.BadSplit) ⊎ ((result ≡ Refusal.OutOfMemory) × (why ≡ Refusal.OutOfMemory)) }
+    ensures memory { why ≡ Refusal.OutOfMemory → result ≡ Refusal.OutOfMemory }
+{
+    match why {
+        Refusal::OutOfMemory => Refusal::OutOfMemory,
+        _ => Refusal::BadSplit,
+    }
+}
+
 /// Takes a step. A transaction that is begun was checked against the database's schema.
 fn take_step(alloc: Global, core: &mut Core, step: Step) -> Reply
-    requires { IsOfSchema core.old.schema step }
+    requires { IsChecked core.old.schema step }
     ensures taken { Takes core.old.schema core.old.machine step result core.new.machine }
     ensures schema { core.new.schema ≡ core.old.schema }
 {
@@ -624,7 +684,7 @@ fn add_reply(alloc: Global, reply: &Reply, answers: &mut Answers) -> Result<(), 
 /// The step of a command that is one step of numbers alone.
 fn step_of(command: Command<'_>, clock: Interval) -> Option<Step>
     ensures step { result ≡ numbered_step command.entry clock }
-    ensures of_schema { IfSome result (λ step. (schema : List Table) → IsOfSchema schema step) }
+    ensures of_schema { IfSome result (λ step. (schema : List Table) → IsChecked schema step) }
 {
     match command {
         Command::Prepare { txn, slot } => Some(Step::Prepare {
@@ -663,7 +723,7 @@ fn step_of(command: Command<'_>, clock: Interval) -> Option<Step>
 /// The step that decides a transaction.
 fn decision(txn: u64, verdict: Verdict, clock: Interval) -> Step
     ensures step { result ≡ step_of_kind.Decide 0 txn verdict clock }
-    ensures of_schema { (schema : List Table) → IsOfSchema schema result }
+    ensures of_schema { (schema : List Table) → IsChecked schema result }
 {
     Step::Decide {
         owner: OWNER,

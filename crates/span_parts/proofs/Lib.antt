@@ -1,0 +1,10 @@
+pub mod Entries
+pub mod Values
+pub mod Shards
+pub mod Counts
+pub mod Wholes
+pub mod Applying
+pub mod Preparing
+pub mod Scanning
+pub mod Finishing
+pub mod Splitting

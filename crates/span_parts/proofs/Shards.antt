@@ -1,0 +1,68 @@
+-- The shards of all slots, where one is changed.
+use Rattle.std.proofs.Common.{◌≡◌, ◌≢◌, ◌⊎◌, ℕ, zero, suc, ◌<◌, List, [], ◌∷◌, Option, Some, None, length, refl, ap, sym, ◌∙◌, subst, inl, inr, arith}
+use Rattle.std.specs.Prelude.{slice_get, slice_set}
+use Rattle.std.proofs.lemmas.List.{length-set}
+use Rattle.std.proofs.lemmas.Option.{slice_get_within}
+use Rattle.span_schema.specs.declared.table.Table.{Table}
+use Rattle.span_shard.specs.KeyVersions.{KeyVersions}
+use Rattle.span_machine.specs.declared.slot.SlotState.{SlotState}
+use Rattle.span_machine.specs.Machine.{Machine}
+use Rattle.span_version_laws.specs.Kept.{AreKept, AreAllKept}
+use Rattle.span_parts.specs.Whole.{Shards}
+
+pub some_same : {A : Type 0} (x y : A) → Some x ≡ Some y → x ≡ y
+some_same x y e = cc
+
+-- what is at a place once another is set: the one that was set, or what was there
+get_set : {A : Type 0} (xs : List A) (i k : ℕ) (x y : A) → slice_get (slice_set xs i x) k ≡ Some y → ((k ≡ i) × (x ≡ y)) ⊎ ((k ≢ i) × (slice_get xs k ≡ Some y))
+get_set [] i k x y e = absurd (cc e)
+get_set (a ∷ xs) zero zero x y e = inl (refl, some_same x y e)
+get_set (a ∷ xs) zero (suc k) x y e = inr ((λ f. absurd (omega (arith, f))), e)
+get_set (a ∷ xs) (suc i) zero x y e = inr ((λ f. absurd (omega (arith, f))), e)
+get_set (a ∷ xs) (suc i) (suc k) x y e = elim (get_set xs i k x y e) [
+  | inl same ↦ inl (ap suc same.0, same.1)
+  | inr other ↦ inr ((λ f. other.0 (omega (arith, f))), other.1)
+]
+
+-- what is set at a place in use is there
+pub set_there : {A : Type 0} (xs : List A) (i : ℕ) (old new : A) → slice_get xs i ≡ Some old → slice_get (slice_set xs i new) i ≡ Some new
+set_there [] i old new here = absurd (cc here)
+set_there (x ∷ xs) zero old new here = refl
+set_there (x ∷ xs) (suc i) old new here = set_there xs i old new here
+
+-- the last that is set is there, and what was there may be set again
+pub set_twice : {A : Type 0} (xs : List A) (i : ℕ) (x y : A) → slice_set (slice_set xs i x) i y ≡ slice_set xs i y
+set_twice [] i x y = refl
+set_twice (a ∷ xs) zero x y = refl
+set_twice (a ∷ xs) (suc i) x y = ap (λ l. a ∷ l) (set_twice xs i x y)
+
+pub set_again : {A : Type 0} (xs : List A) (i : ℕ) (x : A) → slice_get xs i ≡ Some x → slice_set xs i x ≡ xs
+set_again [] i x here = refl
+set_again (a ∷ xs) zero x here = let same : a ≡ x = some_same a x here in ap (λ b. b ∷ xs) (sym same)
+set_again (a ∷ xs) (suc i) x here = ap (λ l. a ∷ l) (set_again xs i x here)
+
+-- there is something at each place within
+pub there_is : {A : Type 0} (xs : List A) (i : ℕ) → i < length xs → (x : A) × (slice_get xs i ≡ Some x)
+there_is [] i within = absurd (omega (arith, within))
+there_is (x ∷ xs) zero within = (x, refl)
+there_is (x ∷ xs) (suc i) within = there_is xs i (omega (arith, within))
+
+module _ (schema : List Table) (m n : Machine) (shards : Shards) (all : AreAllKept schema m shards) where
+  -- a slot in use has a shard
+  pub within : (slot : ℕ) (slot_state : SlotState) → slice_get m.slots slot ≡ Some slot_state → slot < length shards
+  within slot slot_state here = let w = slice_get_within m.slots slot slot_state here in let c = all.count in omega (arith, w, c)
+
+  -- where no shard changes
+  pub all_same : length n.slots ≡ length m.slots → ((slot : ℕ) (cs : List KeyVersions) → AreKept schema m slot cs → AreKept schema n slot cs) → AreAllKept schema n shards
+  all_same counted each = record { count = all.count ∙ sym counted; each = λ slot cs here. each slot cs (all.each slot cs here) }
+
+  -- where that of one slot changes
+  pub all_set : length n.slots ≡ length m.slots → (slot : ℕ) (after : List KeyVersions) → AreKept schema n slot after → ((i : ℕ) (cs : List KeyVersions) → i ≢ slot → AreKept schema m i cs → AreKept schema n i cs)
+      → AreAllKept schema n (slice_set shards slot after)
+  all_set counted slot after here others = record {
+    count = length-set shards slot after ∙ all.count ∙ sym counted;
+    each = λ i cs e. elim (get_set shards slot i after cs e) [
+      | inl same ↦ subst (λ k. AreKept schema n k cs) (sym same.0) (subst (λ (c : List KeyVersions). AreKept schema n slot c) same.1 here)
+      | inr other ↦ others i cs other.0 (all.each i cs other.1)
+    ];
+  }
