@@ -1,6 +1,6 @@
 -- The shards of all slots.
-use Rattle.std.proofs.Common.{◌≡◌, ◌≢◌, ℕ, zero, suc, ◌<◌, Bool, true, false, ◌==◌, List, [], ◌∷◌, ◌++◌, length, Option, Some, None, Result, refl, ap, sym, ◌∙◌, subst, inl, inr, ◌⊎◌, arith}
-use Rattle.std.specs.Prelude.{slice_get, slice_set, map}
+use Rattle.std.proofs.Common.{◌≡◌, ◌≢◌, ℕ, zero, suc, ◌<◌, true, false, List, [], ◌∷◌, ◌++◌, length, Some, Result, refl, ap, sym, ◌∙◌, subst, inl, inr, ◌⊎◌, arith}
+use Rattle.std.specs.Prelude.{slice_get, slice_set}
 use Rattle.std.specs.List.{list_any}
 use Rattle.std.proofs.lemmas.List.{length-set}
 use Rattle.std.proofs.lemmas.Option.{slice_get_within}
@@ -13,10 +13,9 @@ use Rattle.span_shard.specs.Shard.{keys_before, keys_from}
 use Rattle.span_machine.specs.declared.slot.SlotState.{SlotState}
 use Rattle.span_machine.specs.declared.step.Step.{Step}
 use Rattle.span_machine.specs.declared.step.Step.TheVariants.{Begin, Prepare, Decide, Apply, Advance, Trim, Open, Scan, Finish, Close, Split}
-use Rattle.span_machine.specs.Slots.{SlotRange, IsCut, has_key, range_of, ranges_of}
+use Rattle.span_machine.specs.Slots.{SlotRange, IsCut, has_key, ranges_of}
 use Rattle.span_machine.specs.Machine.{Machine, answer, start, is_prepared_at, split_in_two}
-use Rattle.span_machine_laws.proofs.Lists.{slice_get-set, set_here}
-use Rattle.span_machine_laws.proofs.Ranges.{KeepsRanges, answer_ranges}
+use Rattle.span_machine_laws.proofs.Ranges.{answer_ranges}
 use Rattle.span_machine_laws.proofs.Reached.{IsReached}
 use Rattle.span_machine_laws.proofs.Splits.{part_below, part_from, split_length}
 use Rattle.span_version_laws.specs.Kept.{AreKept, AreAllKept}

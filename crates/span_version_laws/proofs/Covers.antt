@@ -1,15 +1,13 @@
 -- The pieces of open queries: what is read of them stays right, and together they are the tables.
-use Rattle.std.proofs.Common.{◌≡◌, ◌≤◌, ℕ, zero, suc, Bool, true, false, cond, ◌||◌, List, [], ◌∷◌, ◌++◌, length, Option, Some, None, Result, Ok, refl, ap, sym, ◌∙◌, subst}
+use Rattle.std.proofs.Common.{◌≡◌, ◌≤◌, ℕ, zero, suc, Bool, true, false, cond, ◌||◌, List, [], ◌∷◌, ◌++◌, length, Option, Some, Result, Ok, refl, ap, sym, ◌∙◌, subst}
 use Rattle.std.specs.Prelude.{find, filter, map, insert, option_map, slice_get, slice_set}
 use Rattle.std.specs.List.{AllByRecursion, list_all}
-use Rattle.std.specs.Ordering.{is_lt}
-use Rattle.std.specs.declared.cmp.Ordering.TheVariants.{Less}
 use Rattle.span_value.specs.declared.refusal.Refusal.{Refusal}
 use Rattle.span_schema.specs.declared.table.Table.{Table}
 use Rattle.span_schema.specs.Lineages.{MeetsRules}
-use Rattle.span_schema.specs.Numbers.{IsTable, root_of}
+use Rattle.span_schema.specs.Numbers.{IsTable}
 use Rattle.span_keycode.specs.declared.range.KeyRange.{KeyRange}
-use Rattle.span_keycode.specs.Parts.{is_within, family, tiles, place_among, part_between}
+use Rattle.span_keycode.specs.Parts.{is_within, tiles, place_among, part_between}
 use Rattle.span_keycode.proofs.Befores.{before_upto}
 use Rattle.span_keycode.proofs.PartLaws.{rest_after, tiles_none, tiles_split, part_within, gap_within}
 use Rattle.span_mutate.specs.declared.row.TableRow.{TableRow}
@@ -37,7 +35,7 @@ use Rattle.span_machine.specs.Tables.{tables, upto, mutations_of}
 use Rattle.span_machine.specs.Machine.{Machine, answer, answer_on, rows_or_refusal, if_some, is_query, is_safe, is_covered, uncovered, add_piece, with_piece, gap_in, cover, changed_first, without_first}
 use Rattle.span_machine.specs.Pieces.{Pieced, no_pieces as unread_pieces, unread, with_rows, with_rows_at, covered_by, joined, queries_of}
 use Rattle.span_machine.proofs.PiecedLists.{map-append}
-use Rattle.span_machine_laws.proofs.Lists.{all_push, all_without, all_changed_found, all_found, all_both, all_weaker}
+use Rattle.span_machine_laws.proofs.Lists.{all_push, all_without, all_changed_found, all_found, all_both}
 use Rattle.span_machine_laws.proofs.Locality.{apply-database, empty_database, ok_same}
 use Rattle.span_machine_laws.proofs.Pieces.{AllCovered, AreEnds, IsOpenLeaf, HasLeaves, tables_of, opened_leaves, piece_at, tables_covered}
 use Rattle.span_machine_laws.proofs.Reached.{IsReached, reached_tables, answer_reached, finish_meant}
@@ -45,10 +43,10 @@ use Rattle.span_machine_laws.proofs.Schemas.{keyed_upto, typed_upto}
 use Rattle.span_machine_laws.proofs.Sealed.{answer_keeps}
 use Rattle.span_machine_laws.proofs.Sound.{IsPartSealed, IsCoveredSealed}
 use Rattle.span_machine_laws.proofs.Tests.{first_true, second_true}
-use Rattle.span_version_laws.specs.Kept.{AreKept, IsReading, HasRowsIn, HasRowsOf, AreRead, IsLeafPieced, AreLeafPieces, IsPieced, ArePieced, has_row, row_within, rows_within}
+use Rattle.span_version_laws.specs.Kept.{AreKept, IsReading, HasRowsIn, AreRead, IsLeafPieced, AreLeafPieces, IsPieced, ArePieced, has_row, row_within, rows_within}
 use Rattle.span_version_laws.proofs.RangeRows.{rows_alike_within}
 use Rattle.span_version_laws.proofs.Snapshots.{snapshot_when_safe}
-use Rattle.span_version_laws.proofs.TableOrder.{code_cmp, table_rises, all_in_family, parts_joined}
+use Rattle.span_version_laws.proofs.TableOrder.{table_rises, all_in_family, parts_joined}
 
 -- ---- the queries of pieces
 
@@ -178,7 +176,7 @@ module _ (schema : List Table) (rules : MeetsRules schema) (log : List Commit) (
       let whole : filter (row_within schema range) (rows_of table db) ≡ filter (row_within schema c) (rows_of table db) ++ filter (row_within schema rest) (rows_of table db) =
       filter_alike (row_within schema range) (λ (r : TableRow). row_within schema c r || row_within schema rest r) (λ r. parts.0.within (code_of schema r)) (rows_of table db)
       ∙ parts_joined schema (row_within schema c) (row_within schema rest) (λ r. parts.0.apart (code_of schema r))
-          (λ x y in_first in_rest. before_upto (code_of schema x) (code_of schema y) (parts.0.before (code_of schema x) (code_of schema y) in_first in_rest)) (rows_of table db) (table_rises schema rules db is_db typed table) in
+      (λ x y in_first in_rest. before_upto (code_of schema x) (code_of schema y) (parts.0.before (code_of schema x) (code_of schema y) in_first in_rest)) (rows_of table db) (table_rises schema rules db is_db typed table) in
       ap (map (declared_row schema)) whole ∙ map-append (declared_row schema) (filter (row_within schema c) (rows_of table db)) (filter (row_within schema rest) (rows_of table db))
 
   -- the pieces that tile a range, one after another, are its rows

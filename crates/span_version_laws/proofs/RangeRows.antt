@@ -1,7 +1,6 @@
 -- The rows of a range depend on the directories whose root rows are within it alone.
-use Rattle.std.proofs.Common.{◌≡◌, ℕ, Bool, true, false, cond, ◌&&◌, ◌==◌, List, [], ◌∷◌, ◌++◌, Ok, refl, ap, sym, ◌∙◌, subst}
+use Rattle.std.proofs.Common.{◌≡◌, ℕ, Bool, true, false, cond, ◌==◌, List, [], ◌∷◌, Ok, refl, ap, sym, ◌∙◌, subst}
 use Rattle.std.specs.Prelude.{filter}
-use Rattle.std.specs.List.{AllByRecursion}
 use Rattle.std.proofs.lemmas.Bool.{false_from_ne_true}
 use Rattle.span_schema.specs.declared.table.Table.{Table}
 use Rattle.span_schema.specs.Lineages.{MeetsRules}
@@ -23,7 +22,7 @@ use Rattle.span_machine.specs.Slots.{root_code}
 use Rattle.span_machine_laws.proofs.FamilyRows.{filter_none}
 use Rattle.span_machine_laws.proofs.Locality.{IsRoot, own_root, apply-directory, apply-database, empty_database, ok_same}
 use Rattle.span_machine_laws.proofs.Pieces.{AreEnds}
-use Rattle.span_version_laws.specs.Kept.{is_under, row_within, IsCodedRoot}
+use Rattle.span_version_laws.specs.Kept.{is_under, row_within}
 use Rattle.span_version_laws.proofs.Cuts.{within_as_root}
 use Rattle.span_version_laws.proofs.Roots.{coded_root_of}
 use Rattle.span_keycode.specs.Keys.{key_code}

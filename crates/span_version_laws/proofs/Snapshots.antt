@@ -1,9 +1,8 @@
 -- A snapshot at a sealed timestamp has the rows of the tables.
-use Rattle.std.proofs.Common.{◌≡◌, ◌≢◌, ℕ, suc, ◌+◌, ◌-◌, ◌<◌, ◌≤◌, Bool, true, false, cond, not, ◌||◌, ◌==◌, nat_lt, nat_le, List, [], ◌∷◌, ◌++◌, map, Option, Some, None, Ok, refl, ap, sym, ◌∙◌, subst, inl, inr, ◌⊎◌, arith}
+use Rattle.std.proofs.Common.{◌≡◌, ◌≢◌, ℕ, suc, ◌<◌, ◌≤◌, Bool, true, false, cond, not, ◌||◌, ◌==◌, nat_lt, nat_le, List, [], ◌∷◌, ◌++◌, map, Option, Some, None, Ok, refl, ap, sym, ◌∙◌, subst, inl, inr, ◌⊎◌, arith}
 use Rattle.std.specs.Prelude.{slice_get, find, filter, option_map}
 use Rattle.std.specs.List.{AllByRecursion, list_all, filter_map, cons_option}
-use Rattle.std.specs.Ordering.{nat_cmp, ordering_then, is_lt}
-use Rattle.std.specs.declared.cmp.Ordering.{Ordering}
+use Rattle.std.specs.Ordering.{nat_cmp, ordering_then}
 use Rattle.std.specs.declared.cmp.Ordering.TheVariants.{Less, Equal}
 use Rattle.std.specs.Cmp.{tied_itself}
 use Rattle.std.proofs.lemmas.Bool.Decides.{nat_tests}
@@ -11,22 +10,17 @@ use Rattle.std.proofs.lemmas.List.{append-nil}
 use Rattle.std.proofs.lemmas.List.Elements.{filter-append}
 use Rattle.span_schema.specs.declared.table.Table.{Table}
 use Rattle.span_schema.specs.Lineages.{MeetsRules}
-use Rattle.span_schema.specs.Numbers.{key_columns, root_of, path_of}
-use Rattle.span_schema.proofs.Numbered.{path_has}
+use Rattle.span_schema.specs.Numbers.{key_columns}
 use Rattle.span_keycode.specs.Order.{byte_order}
-use Rattle.span_keycode.specs.Keys.{level_of}
-use Rattle.span_keycode.specs.Keys as keys
 use Rattle.span_keycode.proofs.KeyLaws.{one_key}
 use Rattle.span_rowcode.specs.Rows.{row_code}
 use Rattle.span_mutate.specs.declared.row.TableRow.{TableRow}
 use Rattle.span_mutate.specs.Database.{apply, rows_of}
 use Rattle.span_mutate.specs.Rows.{key_order}
-use Rattle.span_mutate.specs.Directories.{Root, rows_cmp, IsRising, IsDatabase, by_key}
+use Rattle.span_mutate.specs.Directories.{Root, rows_cmp, IsRising, IsDatabase}
 use Rattle.span_mutate.specs.Typed.{IsTyped, AreTyped}
-use Rattle.span_mutate.proofs.Begins.{same_number}
 use Rattle.span_mutate.proofs.Orders.{rows_total}
 use Rattle.span_mutate.proofs.Placing.{rising_filter}
-use Rattle.span_mutate.proofs.TableLists.{rows_in_order}
 use Rattle.span_shard.specs.KeyVersions.{KeyVersions}
 use Rattle.span_shard.specs.Rows.{code_of, is_coded, row_coded}
 use Rattle.span_shard.specs.Versions.{row_at}
@@ -42,7 +36,7 @@ use Rattle.span_mutate.proofs.TypedRows.{typed_stay}
 use Rattle.span_machine_laws.proofs.Locality.{apply-database, empty_database}
 use Rattle.span_machine_laws.proofs.Schemas.{keyed_upto, typed_upto}
 use Rattle.span_machine.specs.Machine.{Machine, has_key, holds, is_prepared_at, is_safe, commit_of}
-use Rattle.span_machine_laws.proofs.Tests.{first_true, second_true, both_of}
+use Rattle.span_machine_laws.proofs.Tests.{first_true, second_true}
 use Rattle.span_machine_laws.proofs.Lists.{IsIn, found_in, found_passes, kept_in, all_in, all_found, all_true}
 use Rattle.span_machine_laws.proofs.Stability.{changes_at, is_some_of}
 use Rattle.span_machine_laws.proofs.InPlace.{commits_at, claims}

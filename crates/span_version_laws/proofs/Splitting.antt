@@ -1,21 +1,19 @@
 -- A slot that is cut in two: each part keeps its part of the shard.
-use Rattle.std.proofs.Common.{◌≡◌, ◌≢◌, ℕ, Bool, true, false, not, ◌&&◌, ◌||◌, ◌==◌, cond, List, [], ◌∷◌, ◌++◌, length, Option, Some, None, refl, ap, sym, ◌∙◌, subst, inl, inr, ◌⊎◌}
-use Rattle.std.specs.Prelude.{find, filter, slice_get, slice_set}
-use Rattle.std.specs.List.{AllByRecursion, list_any}
+use Rattle.std.proofs.Common.{◌≡◌, ℕ, true, false, not, List, [], ◌∷◌, length, Option, Some, None, refl, sym, subst}
+use Rattle.std.specs.Prelude.{filter, slice_get}
+use Rattle.std.specs.List.{list_any}
 use Rattle.std.specs.Ordering.{is_lt}
 use Rattle.std.specs.Cmp.{both_ways as same_tests}
 use Rattle.std.proofs.lemmas.Bool.{not-true, not_from_false}
 use Rattle.span_schema.specs.declared.table.Table.{Table}
 use Rattle.span_schema.specs.Lineages.{MeetsRules}
 use Rattle.span_keycode.specs.Order.{byte_order}
-use Rattle.span_mutate.specs.Directories.{Root}
 use Rattle.span_shard.specs.KeyVersions.{KeyVersions}
-use Rattle.span_shard.specs.Shard.{is_key, versions_of, prepared_of, versions_at, prepared_at, keys_before, keys_from, IsIdle}
-use Rattle.span_shard.specs.declared.chain.PreparedWrite.{PreparedWrite}
+use Rattle.span_shard.specs.Shard.{is_key, prepared_of, versions_at, prepared_at, keys_before, keys_from, IsIdle}
 use Rattle.span_machine.specs.declared.slot.SlotState.{SlotState}
 use Rattle.span_machine.specs.declared.transaction.OpenTransaction.{OpenTransaction}
 use Rattle.span_machine.specs.Slots.{IsCut}
-use Rattle.span_machine.specs.Machine.{Machine, has_key, holds, is_prepared_at, split_in_two}
+use Rattle.span_machine.specs.Machine.{Machine, has_key, is_prepared_at, split_in_two}
 use Rattle.span_machine_laws.proofs.Claims.{unclaimed_idle}
 use Rattle.span_machine_laws.proofs.Holdings.{none_beyond}
 use Rattle.span_machine_laws.proofs.InPlace.{commits_at, claims}
@@ -23,7 +21,7 @@ use Rattle.span_machine_laws.proofs.Lists.{all_found}
 use Rattle.span_machine_laws.proofs.Ranges.{cut_at}
 use Rattle.span_machine_laws.proofs.Reached.{IsReached}
 use Rattle.span_machine_laws.proofs.Splits.{part_below, part_from, below_parts, from_parts, below_has, from_has, split_here, split_new}
-use Rattle.span_version_laws.specs.Kept.{IsCodedRoot, IsCodedCoding, IsKeptBy, AreKept}
+use Rattle.span_version_laws.specs.Kept.{IsCodedCoding, IsKeptBy, AreKept}
 use Rattle.span_version_laws.proofs.Cuts.{held_by_key}
 use Rattle.span_version_laws.proofs.Keys.{all_by_key}
 use Rattle.span_version_laws.proofs.Parts.{AreMoved, IsPart, kept_part}

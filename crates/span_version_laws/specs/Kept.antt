@@ -1,6 +1,6 @@
 -- A shard has of each key the versions that the log's commits made there, trimmed at the horizon, one that is not applied yet left out,
 -- and the write that the transaction prepared there is to leave.
-use Rattle.std.proofs.Common.{◌≡◌, ◌≢◌, ℕ, Bool, true, nat_le, if◌then◌else◌, List, [], ◌∷◌, ◌++◌, length, ◌≤◌, ◌+◌, Option, Some, None, Ok}
+use Rattle.std.proofs.Common.{◌≡◌, ◌≢◌, ℕ, Bool, true, nat_le, if◌then◌else◌, List, [], ◌∷◌, ◌++◌, length, ◌≤◌, Option, Some, None, Ok}
 use Rattle.std.specs.Prelude.{filter, map, slice_get}
 use Rattle.std.specs.List.{AllByRecursion}
 use Rattle.span_value.specs.declared.value.Value.{Value}
@@ -31,7 +31,7 @@ use Rattle.span_machine.specs.declared.transaction.Commit.{Commit}
 use Rattle.span_machine.specs.declared.transaction.OpenTransaction.{OpenTransaction}
 use Rattle.span_machine.specs.declared.transaction.Decision.{Decision}
 use Rattle.span_machine.specs.declared.transaction.Decision.TheVariants as decision
-use Rattle.span_machine.specs.Meaning.{declared_row, whole_table}
+use Rattle.span_machine.specs.Meaning.{declared_row}
 use Rattle.span_machine.specs.Tables.{tables}
 use Rattle.span_machine.specs.Kept.{after_mutations}
 use Rattle.span_machine.specs.Machine.{Machine, is_at, has_key, holds, commit_of}

@@ -2,9 +2,10 @@
 //!
 //! `specs/Kept.antt` says what the shard of a slot keeps of each key in the slot's range (`AreKept`) and what the pieces of open queries
 //! are (`ArePieced`). `proofs/` shows that every step of the machine goes with a change of the shard of its slot that keeps it so, and
-//! leaves the shards of other slots: Steps (the steps that leave the versions, and those at other slots), Preparing, Applying, Trims;
-//! that a snapshot at a safe timestamp then has the rows of the tables there (Snapshots); and that the pieces stay right (Covers, for the
-//! first slot while it is the only one: FirstSlot). The crates with code cite these laws.
+//! leaves the shards of other slots: Steps (the steps that leave the versions, and those at other slots), Preparing, Applying, Trims,
+//! Splitting (a slot that is cut in two), AllKept (the shards of all slots); that a snapshot of any range at a safe timestamp then has the
+//! rows of the tables there (Snapshots); and that the pieces of ranges stay right, and together are the tables (Covers). The crates with
+//! code cite these laws.
 #![tactic(auto)]
 
 ghost use Rattle.std.specs.Prelude.{◌≡◌, ◌≤◌, ℕ, List, Ok, Some, true, slice_get};
