@@ -1,9 +1,12 @@
 //! The core and its steps.
-ghost use Rattle.std.specs.Prelude.{◌≡◌, IfOk, IfErr, None, MatchOption, length, slice_get};
+ghost use Rattle.std.specs.Prelude.{◌≡◌, IfOk, IfErr, Ok, None, MatchOption, length, slice_get};
+ghost use Rattle.std.specs.List.{AllByRecursion};
 ghost use Rattle.span_core.specs.Histories.{Steps};
 ghost use Rattle.span_core.specs.Promises.{IsRunTo, Promises, IsConsistent};
 ghost use Rattle.span_core.specs.Views.{IsView};
+ghost use Rattle.span_binder.specs.Understands.{Understands};
 ghost use Rattle.span_schema.specs.Lineages.{MeetsRules};
+ghost use Rattle.span_schema.specs.Numbers.{IsTable};
 ghost use Rattle.span_machine.specs.Machine.{start};
 ghost use Rattle.span_machine.specs.Run.{IsChecked, IsOfSchema};
 ghost use Rattle.span_keycode.specs.Coding.{AreValues};
@@ -22,6 +25,7 @@ use span_machine::step::{Reply, Step, Verdict};
 use span_mutate::transaction::Transaction;
 use span_params::params::Params;
 use span_parts::{cut, steps};
+use span_query::query::Statement;
 use span_schema::schema::Schema;
 use span_shard::shard::Shard;
 use span_truetime::bound::Bound;
@@ -108,7 +112,7 @@ impl Core {
 
     /// A slot with its shard, lent; None where it is not in use. It takes no memory.
     pub fn slot(&self, slot: usize) -> Option<SlotView<'_>>
-        ensures { MatchOption result.entry
+        ensures { MatchOption result
             (slice_get self.now.machine.slots slot ≡ None)
             (IsView self.now.schema self.now.machine slot) }
     {
@@ -297,21 +301,40 @@ impl Core {
         ensures schema { self.new.schema ≡ self.old.schema }
     {
         match understand(alloc, &self.schema, text.as_str(), &params) {
-            Ok(statement) => open_reply(
-                statement.leaves.len(),
-                steps::open(
-                    alloc,
-                    &self.schema,
-                    &mut self.journal,
-                    text,
-                    params,
-                    statement,
-                    bound,
-                    interval,
-                ),
-            ),
+            Ok(statement) => self.open_statement(alloc, text, params, statement, bound, interval),
             Err(why) => Reply::Refused(why),
         }
+    }
+
+    /// Opens a query whose text is understood as this statement.
+    fn open_statement(
+        &mut self,
+        alloc: Global,
+        text: Text,
+        params: Params,
+        statement: Statement,
+        bound: Bound,
+        interval: Interval,
+    ) -> Reply
+        requires understood { Understands self.old.schema text params (Ok statement) }
+        requires leaves { AllByRecursion (IsTable self.old.schema) statement.leaves }
+        ensures steps { Steps self.old.schema self.old.machine (step_of.Open text params bound interval) result self.new.machine }
+        ensures schema { self.new.schema ≡ self.old.schema }
+    {
+        let leaves = statement.leaves.len();
+        open_reply(
+            leaves,
+            steps::open(
+                alloc,
+                &self.schema,
+                &mut self.journal,
+                text,
+                params,
+                statement,
+                bound,
+                interval,
+            ),
+        )
     }
 
     fn scan(
