@@ -10,7 +10,7 @@ use Rattle.span_machine.specs.Machine.{Machine}
 use Rattle.span_machine.specs.Pieces.{Journaled, machine_of}
 use Rattle.span_version_laws.specs.Kept.{AreKept}
 use Rattle.span_parts.proofs.Applying.{live_here}
-use Rattle.span_parts.proofs.Shards.{there_is, within}
+use Rattle.span_parts.proofs.Changes.{there_is, within}
 use Rattle.span_core.specs.Whole.{Shards, IsDatabase}
 
 module _ (schema : List Table) (j : Journaled) (shards : Shards) (d : IsDatabase schema j shards) (slot : ℕ) where

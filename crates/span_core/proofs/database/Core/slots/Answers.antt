@@ -1,0 +1,1 @@
+use Rattle.span_core.proofs.database.Core.slots.Goals as goal
