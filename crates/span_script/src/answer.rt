@@ -249,6 +249,16 @@ impl Answers {
     {
         self.word_number("shard", slot as u64)?;
         self.text(" [")?;
+        self.ends(lo, hi)
+    }
+
+    /// The ends of a range.
+    #[tactic(auto, using(crate::proofs::Begun::begins_on))]
+    fn ends(&mut self, lo: &Option<Key>, hi: &Option<Key>) -> Result<(), Refusal>
+        ensures added { OnOk result (self.new ≡ self.old ++ end_text lo.now ++ codes "," ++ end_text hi.now ++ codes ")") }
+        ensures grows { Begins self.old self.new }
+        ensures memory { IsOkUnless result Refusal.OutOfMemory }
+    {
         self.end(lo)?;
         self.text(",")?;
         self.end(hi)?;
