@@ -16,13 +16,13 @@ use Rattle.span_journal.proofs.journal.Journal.check_prepare.Goals as goal
 abbrev conflict_among : List Table → ℕ → SlotState → List CheckedMutation → List OpenTransaction → Bool
 conflict_among schema slot slot_state ms ts = list_any (λ t. is_prepared_at slot t && share_directory_in schema slot_state ms t.mutations) ts
 
-on_accepted : {A E : Type 0} {P Q : A → Type 0} {R : E → Type 0} (r : Result A E) → ((x : A) → P x → Q x) → MatchResult r P R → IfOk r Q
-on_accepted (Ok x) f m = f x m
-on_accepted (Err e) f m = tt
+on_accepted : {A E : Type 0} (P Q : A → Type 0) (R : E → Type 0) (r : Result A E) → ((x : A) → P x → Q x) → MatchResult r P R → IfOk r Q
+on_accepted P Q R (Ok x) f m = f x m
+on_accepted P Q R (Err e) f m = tt
 
-on_refused : {A E : Type 0} {P : A → Type 0} {R S : E → Type 0} (r : Result A E) → ((e : E) → R e → S e) → MatchResult r P R → IfErr r S
-on_refused (Ok x) f m = tt
-on_refused (Err e) f m = f e m
+on_refused : {A E : Type 0} (P : A → Type 0) (R S : E → Type 0) (r : Result A E) → ((e : E) → R e → S e) → MatchResult r P R → IfErr r S
+on_refused P R S (Ok x) f m = tt
+on_refused P R S (Err e) f m = f e m
 
 pub returns-in_default-clause-refused : goal.returns-in_default-clause-refused
 returns-in_default-clause-refused c =
@@ -89,6 +89,6 @@ returns c =
         (sym c.may_prepare.ensures ∙ c.if-not-may_prepare.false) (sym any ∙ c.if-not-has_any.false) (sym conflict ∙ c.if-has_conflict.false) in
     let all = c.mutations-mutations.ensures in
     record {
-      accepted = on_accepted c.mutations_in.result (λ chosen is. may (chosen_mutations chosen) (is ∙ ap (mutations_in c.args.schema.now slot_state) all)) c.mutations_in.ensures;
-      refused = on_refused c.mutations_in.result (λ why is. inl is) c.mutations_in.ensures;
+      accepted = on_accepted _ _ _ c.mutations_in.result (λ chosen is. may (chosen_mutations chosen) (is ∙ ap (mutations_in c.args.schema.now slot_state) all)) c.mutations_in.ensures;
+      refused = on_refused _ _ _ c.mutations_in.result (λ why is. inl is) c.mutations_in.ensures;
     }
