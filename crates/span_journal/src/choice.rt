@@ -32,7 +32,11 @@ impl Chosen<'_> {
 }
 
 /// Whether the directory of a mutation lies in the slot.
-pub(crate) fn has_any(schema: &Schema, slot_state: &SlotState, mutations: &[CheckedMutation]) -> bool
+pub(crate) fn has_any(
+    schema: &Schema,
+    slot_state: &SlotState,
+    mutations: &[CheckedMutation],
+) -> bool
     ensures { result ≡ list_any (λ m. holds schema.now slot_state.now (root_at schema.now m)) mutations.now }
 {
     mutations.iter().any(|m| holds(schema, slot_state, m))

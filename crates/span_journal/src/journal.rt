@@ -238,8 +238,7 @@ impl Journal {
         let entry = transaction.copy(alloc)?.into_mutations();
         self.log.reserve(undecided + 1)?;
         let number = self.next_transaction;
-        let kept =
-            KeptTransaction::new(alloc, owner, number, transaction.into_mutations(), entry)?;
+        let kept = KeptTransaction::new(alloc, owner, number, transaction.into_mutations(), entry)?;
         self.transactions.push(kept)?;
         self.next_transaction += 1;
         Ok(number)
@@ -604,8 +603,9 @@ impl Journal {
         ensures err { IfErr result (λ why. IsUnchanged self.old query slot interval why self.new) }
     {
         let (queries, slots) = (self.queries.as_slice(), self.slots.as_slice());
-        let (at, question, part, slot_state) = match find_target(queries, slots, query, leaf, slot)
-        {
+        let (at, question, part, slot_state) = match find_target(
+            queries, slots, query, leaf, slot,
+        ) {
             Ok(target) => target,
             Err(why) => return Err(why),
         };

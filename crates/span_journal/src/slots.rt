@@ -276,9 +276,7 @@ pub(crate) fn gap_in(
 pub(crate) fn slot_of(slots: &[SlotState], key: &[u8]) -> Option<usize>
     ensures { result ≡ slot_of slots.now key.now }
 {
-    slots
-        .iter()
-        .position(|slot_state| is_between(&slot_state.lo, &slot_state.hi, key))
+    slots.iter().position(|slot_state| is_between(&slot_state.lo, &slot_state.hi, key))
 }
 
 /// Whether the slot's range begins at the key.
@@ -319,12 +317,7 @@ pub(crate) fn upper_part(
 }
 
 /// Cuts the slot at a place: the keys from `upper_bound` on go to the slot of this state, which joins at the end. It takes no memory.
-pub(crate) fn cut_at(
-    slots: &mut Vec<SlotState>,
-    slot: usize,
-    upper_bound: Key,
-    upper: SlotState,
-)
+pub(crate) fn cut_at(slots: &mut Vec<SlotState>, slot: usize, upper_bound: Key, upper: SlotState)
     requires within { slot < length slots.old.items }
     requires room { vec_len slots.old < vec_capacity slots.old }
     ensures after { IfSome (slice_get slots.old.items slot)

@@ -1,4 +1,4 @@
-use Rattle.std.proofs.Common.{◌≡◌, ℕ, Bool, List, Some, None, sym, ap, ◌∙◌, subst, ◌&&◌, inl, inr, false, true}
+use Rattle.std.proofs.Common.{◌≡◌, ℕ, Bool, List, Some, None, sym, ap, ◌∙◌, subst, ◌&&◌, inl, inr}
 use Rattle.std.specs.Prelude.{find, slice_get, Result, Ok, Err, MatchResult, IfOk, IfErr}
 use Rattle.std.specs.List.{list_any}
 use Rattle.span_machine.specs.declared.transaction.OpenTransaction.{OpenTransaction}
@@ -70,7 +70,7 @@ returns-then-has_conflict-clause-refused c =
     subst (λ (l : List SlotState). slice_get l c.args.slot ≡ Some slot_state) (c.as_slice-2.ensures.value ∙ ap (λ (j : Journaled). j.slots) c.self.view_is) (sym c.in-Some-slot_at.ensures) in
     let any = c.has_any.ensures ∙ ap (λ (ms : List CheckedMutation). list_any (λ m. holds c.args.schema.now slot_state (root_at c.args.schema.now m)) ms) c.mutations-mutations.ensures in
     let conflict = c.has_conflict.ensures ∙ ap (conflict_among c.args.schema.now c.args.slot slot_state c.mutations-mutations.result.now) (c.as_slice-transactions.ensures.value ∙ ap (λ (j : Journaled). j.transactions) c.self.view_is)
-        ∙ ap (λ (ms : List CheckedMutation). conflict_among c.args.schema.now c.args.slot slot_state ms c.args.self.now.transactions) c.mutations-mutations.ensures in
+    ∙ ap (λ (ms : List CheckedMutation). conflict_among c.args.schema.now c.args.slot slot_state ms c.args.self.now.transactions) c.mutations-mutations.ensures in
     inr (refused_conflict c.args.schema.now (machine_of c.args.self.now) c.args.owner c.args.txn c.args.slot t slot_state found here
     (sym c.may_prepare.ensures ∙ c.if-not-may_prepare.false) (sym any ∙ c.if-not-has_any.false) (sym conflict ∙ c.if-has_conflict.true))
 
@@ -84,9 +84,9 @@ returns c =
     subst (λ (l : List SlotState). slice_get l c.args.slot ≡ Some slot_state) (c.as_slice-2.ensures.value ∙ ap (λ (j : Journaled). j.slots) c.self.view_is) (sym c.in-Some-slot_at.ensures) in
     let any = c.has_any.ensures ∙ ap (λ (ms : List CheckedMutation). list_any (λ m. holds c.args.schema.now slot_state (root_at c.args.schema.now m)) ms) c.mutations-mutations.ensures in
     let conflict = c.has_conflict.ensures ∙ ap (conflict_among c.args.schema.now c.args.slot slot_state c.mutations-mutations.result.now) (c.as_slice-transactions.ensures.value ∙ ap (λ (j : Journaled). j.transactions) c.self.view_is)
-        ∙ ap (λ (ms : List CheckedMutation). conflict_among c.args.schema.now c.args.slot slot_state ms c.args.self.now.transactions) c.mutations-mutations.ensures in
+    ∙ ap (λ (ms : List CheckedMutation). conflict_among c.args.schema.now c.args.slot slot_state ms c.args.self.now.transactions) c.mutations-mutations.ensures in
     let may = may_prepare c.args.schema.now (machine_of c.args.self.now) c.args.owner c.args.txn c.args.slot t slot_state found here
-        (sym c.may_prepare.ensures ∙ c.if-not-may_prepare.false) (sym any ∙ c.if-not-has_any.false) (sym conflict ∙ c.if-has_conflict.false) in
+    (sym c.may_prepare.ensures ∙ c.if-not-may_prepare.false) (sym any ∙ c.if-not-has_any.false) (sym conflict ∙ c.if-has_conflict.false) in
     let all = c.mutations-mutations.ensures in
     record {
       accepted = on_accepted _ _ _ c.mutations_in.result (λ chosen is. may (chosen_mutations chosen) (is ∙ ap (mutations_in c.args.schema.now slot_state) all)) c.mutations_in.ensures;

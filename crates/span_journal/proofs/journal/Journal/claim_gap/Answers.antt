@@ -1,5 +1,5 @@
 use Rattle.std.proofs.Common.{◌≡◌, sym, ◌∙◌, subst, inr}
-use Rattle.span_machine.specs.Machine.{scan, refused}
+use Rattle.span_machine.specs.Machine.{scan}
 use Rattle.span_machine.specs.Pieces.{Journaled, machine_of}
 use Rattle.span_machine.specs.declared.step.Reply.TheVariants as reply
 use Rattle.span_value.specs.declared.refusal.Refusal.TheVariants as refusal

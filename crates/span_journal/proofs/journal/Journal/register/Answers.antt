@@ -1,4 +1,4 @@
-use Rattle.std.proofs.Common.{◌≡◌, refl, sym, ◌∙◌, subst, inr}
+use Rattle.std.proofs.Common.{refl, sym, ◌∙◌, subst, inr}
 use Rattle.span_machine.specs.Pieces.{Journaled}
 use Rattle.span_value.specs.declared.refusal.Refusal.TheVariants as refusal
 use Rattle.span_journal.specs.Judged.{IsRegistered, IsUnregistered, IsUnchanged}
