@@ -49,7 +49,8 @@ fn has_all(schema: &Schema, slot_state: &SlotState, mutations: &[CheckedMutation
     mutations.iter().all(|m| holds(schema, slot_state, m))
 }
 
-/// The mutations whose directories lie in the slot. They are copied where there are others, which may run out of memory.
+/// The mutations whose directories lie in the slot. They are copied where there are others, which may run out of
+/// memory.
 pub(crate) fn mutations_in<'a>(
     alloc: Global,
     schema: &Schema,
