@@ -1,6 +1,6 @@
 -- The shards of all slots, where one is changed.
-use Rattle.std.proofs.Common.{◌≡◌, ℕ, zero, suc, ◌<◌, List, [], ◌∷◌, Some, length, refl, ap, sym, arith}
-use Rattle.std.specs.Prelude.{slice_get, slice_set}
+use Rattle.std.proofs.Common.{◌≡◌, ℕ, zero, suc, ◌<◌, List, [], ◌∷◌, Option, Some, None, Result, Ok, Err, length, refl, ap, sym, subst, arith}
+use Rattle.std.specs.Prelude.{slice_get, slice_set, IfSome, IfErr, OnOk}
 use Rattle.std.proofs.lemmas.Option.{slice_get_within}
 use Rattle.span_schema.specs.declared.table.Table.{Table}
 use Rattle.span_machine.specs.declared.slot.SlotState.{SlotState}
@@ -38,3 +38,25 @@ module _ (schema : List Table) (m : Machine) (shards : Shards) (all : AreAllKept
   -- a slot in use has a shard
   pub within : (slot : ℕ) (slot_state : SlotState) → slice_get m.slots slot ≡ Some slot_state → slot < length shards
   within slot slot_state here = let w = slice_get_within m.slots slot slot_state here in let c = all.count in omega (arith, w, c)
+
+-- ---- what is found at a place
+
+pub at_some : {A : Type 0} (P : A → Type 0) (o : Option A) (x : A) → o ≡ Some x → P x → IfSome o P
+at_some P o x e p = subst (λ q. IfSome q P) (sym e) p
+
+pub of_some : {A : Type 0} (P : A → Type 0) (o : Option A) (x : A) → o ≡ Some x → IfSome o P → P x
+of_some P o x e p = subst (λ q. IfSome q P) e p
+
+pub all_some : {A : Type 0} (P : A → Type 0) (o : Option A) → ((x : A) → o ≡ Some x → P x) → IfSome o P
+all_some P None each = tt
+all_some P (Some x) each = each x refl
+
+-- ---- what holds of a result
+
+pub on_ok : {A : Type 0} {E : Type 0} (r : Result A E) {P : Type 0} {Q : Type 0} → OnOk r P → (P → Q) → OnOk r Q
+on_ok (Ok x) p f = f p
+on_ok (Err why) p f = p
+
+pub on_err : {A : Type 0} {E : Type 0} (r : Result A E) (P : E → Type 0) (Q : E → Type 0) → IfErr r P → ((why : E) → P why → Q why) → IfErr r Q
+on_err (Ok x) P Q p f = p
+on_err (Err why) P Q p f = f why p
