@@ -1,6 +1,6 @@
 -- The leaves of an open query beside the rows of their pieces.
-use Rattle.std.proofs.Common.{◌≡◌, ℕ, ◌<◌, ◌≤◌, ◌+◌, zero, suc, List, [], ◌∷◌, length, map, Option, Some, None, refl, ap, sym, ◌∙◌, subst, arith}
-use Rattle.std.specs.Prelude.{true, not, insert, slice_get, slice_set, IfSome, Result, Ok, Err, OnOk, OnErr}
+use Rattle.std.proofs.Common.{◌≡◌, ℕ, ◌≤◌, ◌+◌, zero, suc, List, [], ◌∷◌, length, map, Option, Some, None, refl, ap, sym, ◌∙◌, subst, arith}
+use Rattle.std.specs.Prelude.{true, not, slice_get, slice_set, IfSome, Result, Ok, Err, OnOk, OnErr}
 use Rattle.std.proofs.lemmas.Bool.{and_parts, not-true}
 use Rattle.std.proofs.lemmas.List.{length-map}
 use Rattle.std.proofs.lemmas.List.Edits.{length-insert}
@@ -74,13 +74,13 @@ pub covered_counted : (leaves : List ScanLeaf) (pieces : List (List (List Row)))
     → AreCounted (with_piece leaves leaf part) (with_rows_at leaves leaf part rows pieces)
 covered_counted leaves pieces leaf part rows counted = elim (slice_get leaves leaf) as (λ o. slice_get leaves leaf ≡ o
     → AreCounted (if_some o leaves (λ l. slice_set leaves leaf (add_piece part l))) (if_some o pieces (λ l. if_some (slice_get pieces leaf) pieces (λ ps. slice_set pieces leaf (with_rows l part rows ps))))) [
-  | None ↦ λ e. counted
-  | Some l ↦ λ e. elim (slice_get pieces leaf) as (λ o. slice_get pieces leaf ≡ o
-      → AreCounted (slice_set leaves leaf (add_piece part l)) (if_some o pieces (λ ps. slice_set pieces leaf (with_rows l part rows ps)))) [
-    | None ↦ λ f. absurd (missing leaves pieces leaf l (sym (counted_length leaves pieces counted)) e f)
-    | Some ps ↦ λ f. set_counted leaves pieces leaf (add_piece part l) (with_rows l part rows ps) counted (one_more l part rows ps (counted_at leaves pieces leaf l ps counted e f))
-  ] refl
-] refl
+      | None ↦ λ e. counted
+      | Some l ↦ λ e. elim (slice_get pieces leaf) as (λ o. slice_get pieces leaf ≡ o
+          → AreCounted (slice_set leaves leaf (add_piece part l)) (if_some o pieces (λ ps. slice_set pieces leaf (with_rows l part rows ps)))) [
+            | None ↦ λ f. absurd (missing leaves pieces leaf l (sym (counted_length leaves pieces counted)) e f)
+            | Some ps ↦ λ f. set_counted leaves pieces leaf (add_piece part l) (with_rows l part rows ps) counted (one_more l part rows ps (counted_at leaves pieces leaf l ps counted e f))
+          ] refl
+    ] refl
 
 -- ---- pieces that are apart
 
@@ -102,11 +102,11 @@ set_apart (k ∷ ks) (suc i) l all one = (all.0, set_apart ks i l all.1 one)
 pub covered_apart : (leaves : List ScanLeaf) (leaf : ℕ) (part : KeyRange) → AreAllApart leaves → IfSome (slice_get leaves leaf) (λ l. is_uncovered l part ≡ true) → AreAllApart (with_piece leaves leaf part)
 covered_apart leaves leaf part all = elim (slice_get leaves leaf) as (λ o. slice_get leaves leaf ≡ o
     → IfSome o (λ l. is_uncovered l part ≡ true) → AreAllApart (if_some o leaves (λ l. slice_set leaves leaf (add_piece part l)))) [
-  | None ↦ λ e free. all
-  | Some l ↦ λ e free.
-      let both = and_parts (is_nonempty part) (not (is_covered_in_part l.covered part)) free in
-      set_apart leaves leaf (add_piece part l) all (apart_insert l.covered part (apart_at leaves leaf l all e) both.0 (not-true (is_covered_in_part l.covered part) both.1))
-] refl
+      | None ↦ λ e free. all
+      | Some l ↦ λ e free.
+          let both = and_parts (is_nonempty part) (not (is_covered_in_part l.covered part)) free in
+          set_apart leaves leaf (add_piece part l) all (apart_insert l.covered part (apart_at leaves leaf l all e) both.0 (not-true (is_covered_in_part l.covered part) both.1))
+    ] refl
 
 -- ---- what a call of `add_piece` leaves
 

@@ -1,5 +1,5 @@
 -- The lowest uncovered part of a leaf's range in a slot may be covered.
-use Rattle.std.proofs.Common.{◌≡◌, ℕ, Bool, true, false, not, ◌&&◌, List, Option, Some, None, refl}
+use Rattle.std.proofs.Common.{◌≡◌, ℕ, Bool, true, not, ◌&&◌, List, Option, Some, None, refl}
 use Rattle.std.specs.Ordering.{is_lt}
 use Rattle.std.proofs.lemmas.Bool.{and_from, not_from_false}
 use Rattle.span_keycode.specs.Order.{byte_order}

@@ -4,4 +4,5 @@ pub mod Counted
 pub mod Preparing
 pub mod Gaps
 pub mod Stepping
+pub mod Claimed
 pub mod Committing

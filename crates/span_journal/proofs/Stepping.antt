@@ -19,7 +19,7 @@ use Rattle.span_value.specs.declared.refusal.Refusal.TheVariants as refusal
 use Rattle.span_machine.specs.declared.query.ScanLeaf.{ScanLeaf}
 use Rattle.span_machine.specs.declared.query.OpenQuery.{OpenQuery}
 use Rattle.span_machine.specs.declared.step.Reply.TheVariants as reply
-use Rattle.span_machine.specs.Machine.{Machine, Answer, refused, if_some, is_query, is_transaction, without_first, closed, close, add_prepared, without_prepared, prepare_timestamp, with_last, apply_refusal, applied, applied_at, scan, scan_query, scan_leaf, scan_gap, scanned, is_safe, with_risen_floor, with_slot_state, changed_first, cover, gap_in, finish, finish_query, for_slot, is_covered, answer_on, meaning}
+use Rattle.span_machine.specs.Machine.{Machine, refused, if_some, is_query, is_transaction, without_first, closed, close, add_prepared, without_prepared, prepare_timestamp, with_last, apply_refusal, applied, applied_at, scan, scan_leaf, scan_gap, scanned, is_safe, with_risen_floor, with_slot_state, changed_first, cover, gap_in, finish, finish_query, is_covered, answer_on, meaning}
 use Rattle.span_machine.specs.Pieces.{Pieced, Journaled, machine_of, queries_of, covered_by}
 use Rattle.span_machine.proofs.PiecedLists.{find-map, without_first-map}
 
@@ -139,19 +139,19 @@ module _ {A : Type 0} (j : Journaled) (query leaf slot : ℕ) (miss : Refusal �
   looked_missing why = elim (find (λ (p : Pieced). is_query query p.query) j.queries) as (λ o. find (λ (p : Pieced). is_query query p.query) j.queries ≡ o
       → if_some o (Some refusal.UnknownQuery) (λ p. if_some (slice_get p.query.leaves leaf) (Some refusal.UnknownQuery) (λ l. if_some (slice_get j.slots slot) (Some refusal.NoSlot) (λ b. None))) ≡ Some why
       → looked (machine_of j) query leaf slot miss make ≡ miss why) [
-    | None ↦ λ e w. looked_query None e ∙ ap miss (some_why refusal.UnknownQuery why w)
-    | Some p ↦ λ e. elim (slice_get p.query.leaves leaf) as (λ o. slice_get p.query.leaves leaf ≡ o
-        → if_some o (Some refusal.UnknownQuery) (λ l. if_some (slice_get j.slots slot) (Some refusal.NoSlot) (λ b. None)) ≡ Some why
-        → looked (machine_of j) query leaf slot miss make ≡ miss why) [
-      | None ↦ λ f w. looked_leaf p e None f ∙ ap miss (some_why refusal.UnknownQuery why w)
-      | Some l ↦ λ f. elim (slice_get j.slots slot) as (λ o. slice_get j.slots slot ≡ o
-          → if_some o (Some refusal.NoSlot) (λ b. None) ≡ Some why
-          → looked (machine_of j) query leaf slot miss make ≡ miss why) [
-        | None ↦ λ g w. looked_slot p e l f None g ∙ ap miss (some_why refusal.NoSlot why w)
-        | Some b ↦ λ g w. absurd (let w : None ≡ Some why = w in cc)
+        | None ↦ λ e w. looked_query None e ∙ ap miss (some_why refusal.UnknownQuery why w)
+        | Some p ↦ λ e. elim (slice_get p.query.leaves leaf) as (λ o. slice_get p.query.leaves leaf ≡ o
+            → if_some o (Some refusal.UnknownQuery) (λ l. if_some (slice_get j.slots slot) (Some refusal.NoSlot) (λ b. None)) ≡ Some why
+            → looked (machine_of j) query leaf slot miss make ≡ miss why) [
+              | None ↦ λ f w. looked_leaf p e None f ∙ ap miss (some_why refusal.UnknownQuery why w)
+              | Some l ↦ λ f. elim (slice_get j.slots slot) as (λ o. slice_get j.slots slot ≡ o
+                  → if_some o (Some refusal.NoSlot) (λ b. None) ≡ Some why
+                  → looked (machine_of j) query leaf slot miss make ≡ miss why) [
+                    | None ↦ λ g w. looked_slot p e l f None g ∙ ap miss (some_why refusal.NoSlot why w)
+                    | Some b ↦ λ g w. absurd (let w : None ≡ Some why = w in cc)
+                  ] refl
+            ] refl
       ] refl
-    ] refl
-  ] refl
 
 -- ---- a scan
 

@@ -10,7 +10,6 @@ use Rattle.span_value.specs.Results.{first_cause}
 use Rattle.span_truetime.specs.declared.interval.Interval.{Interval}
 use Rattle.span_machine.specs.declared.slot.SlotState.{SlotState}
 use Rattle.span_machine.specs.declared.query.ScanLeaf.{ScanLeaf}
-use Rattle.span_machine.specs.declared.query.OpenQuery.{OpenQuery}
 use Rattle.span_machine.specs.Place.{IsPlace}
 use Rattle.span_machine.specs.Machine.{Machine, if_some, is_query, is_safe, with_risen_floor}
 use Rattle.span_machine.specs.Pieces.{Pieced, Journaled}

@@ -32,7 +32,11 @@ impl Chosen<'_> {
 }
 
 /// Whether the directory of a mutation lies in the slot.
-pub(crate) fn has_any(schema: &Schema, slot_state: &SlotState, mutations: &[CheckedMutation]) -> bool
+pub(crate) fn has_any(
+    schema: &Schema,
+    slot_state: &SlotState,
+    mutations: &[CheckedMutation],
+) -> bool
     ensures { result ≡ list_any (λ m. holds schema.now slot_state.now (root_at schema.now m)) mutations.now }
 {
     mutations.iter().any(|m| holds(schema, slot_state, m))
@@ -45,7 +49,8 @@ fn has_all(schema: &Schema, slot_state: &SlotState, mutations: &[CheckedMutation
     mutations.iter().all(|m| holds(schema, slot_state, m))
 }
 
-/// The mutations whose directories lie in the slot. They are copied where there are others, which may run out of memory.
+/// The mutations whose directories lie in the slot. They are copied where there are others, which may run out of
+/// memory.
 pub(crate) fn mutations_in<'a>(
     alloc: Global,
     schema: &Schema,

@@ -195,8 +195,9 @@ impl Journal {
         count_prepared(self.transactions.as_slice(), slot)
     }
 
-    /// Begins a transaction, and returns its number. It reserves the capacity that its prepares and its commit take, and makes the
-    /// mutations of the log's entry. `TransactionTableFull`, then `LogFull`, then `OutOfMemory`; a refusal leaves all as it was.
+    /// Begins a transaction, and returns its number. It reserves the capacity that its prepares and its commit take,
+    /// and makes the mutations of the log's entry. `TransactionTableFull`, then `LogFull`, then `OutOfMemory`; a
+    /// refusal leaves all as it was.
     pub fn begin(
         &mut self,
         alloc: Global,
@@ -238,15 +239,14 @@ impl Journal {
         let entry = transaction.copy(alloc)?.into_mutations();
         self.log.reserve(undecided + 1)?;
         let number = self.next_transaction;
-        let kept =
-            KeptTransaction::new(alloc, owner, number, transaction.into_mutations(), entry)?;
+        let kept = KeptTransaction::new(alloc, owner, number, transaction.into_mutations(), entry)?;
         self.transactions.push(kept)?;
         self.next_transaction += 1;
         Ok(number)
     }
 
-    /// Decides a transaction: returns its commit timestamp, or None for an abort. It takes no memory: `begin` reserved the capacity.
-    /// `UnknownTransaction`, then `WrongState`, then `TimestampRange`; a refusal leaves all as it was.
+    /// Decides a transaction: returns its commit timestamp, or None for an abort. It takes no memory: `begin` reserved
+    /// the capacity. `UnknownTransaction`, then `WrongState`, then `TimestampRange`; a refusal leaves all as it was.
     pub fn decide(
         &mut self,
         alloc: Global,
@@ -278,7 +278,8 @@ impl Journal {
         transaction: &KeptTransaction,
         interval: Interval,
     ) -> Result<u64, Refusal>
-        ensures refused { IfErr result (λ why. commit_refusal schema.now (machine_of self.now) transaction.now interval ≡ Some why) }
+        ensures refused { IfErr result
+            (λ why. commit_refusal schema.now (machine_of self.now) transaction.now interval ≡ Some why) }
         ensures accepted { IfOk result
             (λ ts.
             (commit_refusal schema.now (machine_of self.now) transaction.now interval ≡ None)
@@ -359,9 +360,9 @@ impl Journal {
         Ok(())
     }
 
-    /// The mutations of a transaction that lie in the slot, where nothing but they may keep it from being prepared there.
-    /// `UnknownTransaction`, then `NoSlot`, then `WrongState`, also where no mutation lies in the slot, then `Conflict`, then
-    /// `OutOfMemory`: they are copied where others lie elsewhere.
+    /// The mutations of a transaction that lie in the slot, where nothing but they may keep it from being prepared
+    /// there. `UnknownTransaction`, then `NoSlot`, then `WrongState`, also where no mutation lies in the slot, then
+    /// `Conflict`, then `OutOfMemory`: they are copied where others lie elsewhere.
     pub fn check_prepare(
         &self,
         alloc: Global,
@@ -395,8 +396,9 @@ impl Journal {
         mutations_in(alloc, schema, slot_state, mutations)
     }
 
-    /// Notes that a transaction is prepared at the slot, and returns its prepare timestamp. It takes no memory. `UnknownTransaction`,
-    /// then `NoSlot`, then `WrongState` where it is decided or prepared there, then `TimestampRange`; a refusal leaves all as it was.
+    /// Notes that a transaction is prepared at the slot, and returns its prepare timestamp. It takes no memory.
+    /// `UnknownTransaction`, then `NoSlot`, then `WrongState` where it is decided or prepared there, then
+    /// `TimestampRange`; a refusal leaves all as it was.
     pub fn note_prepared(&mut self, owner: u64, txn: u64, slot: usize) -> Result<u64, Refusal>
         ensures ok { IfOk result (λ ts. IsNoted (machine_of self.old) owner txn slot ts (machine_of self.new)) }
         ensures why { IfErr result (λ why. IsUnnoted (machine_of self.old) owner txn slot why) }
@@ -420,8 +422,9 @@ impl Journal {
         Ok(timestamp)
     }
 
-    /// Notes that a decided transaction is applied at the slot, and returns its commit timestamp, or None for an aborted one. It
-    /// takes no memory. `UnknownTransaction`, then `NoSlot`, then `WrongState`, then `TooEarly`; a refusal leaves all as it was.
+    /// Notes that a decided transaction is applied at the slot, and returns its commit timestamp, or None for an
+    /// aborted one. It takes no memory. `UnknownTransaction`, then `NoSlot`, then `WrongState`, then `TooEarly`; a
+    /// refusal leaves all as it was.
     pub fn note_applied(
         &mut self,
         owner: u64,
@@ -451,7 +454,8 @@ impl Journal {
         Ok(committed)
     }
 
-    /// Raises the floor of the slot to the latest time that it may be now, and returns it. It takes no memory. `NoSlot`.
+    /// Raises the floor of the slot to the latest time that it may be now, and returns it. It takes no memory.
+    /// `NoSlot`.
     pub fn advance(&mut self, slot: usize, interval: Interval) -> Result<u64, Refusal>
         ensures step { IsAnswer
             (advance (machine_of self.old) slot interval)
@@ -481,8 +485,8 @@ impl Journal {
         Ok(())
     }
 
-    /// Raises the horizon of the slot to h, a timestamp: no scan reads below it there from now on. It takes no memory. `NoSlot`, then
-    /// `TrimBackward`, then `TrimTooNew` where h is above safe time; a refusal leaves all as it was.
+    /// Raises the horizon of the slot to h, a timestamp: no scan reads below it there from now on. It takes no memory.
+    /// `NoSlot`, then `TrimBackward`, then `TrimTooNew` where h is above safe time; a refusal leaves all as it was.
     pub fn raise_horizon(&mut self, slot: usize, h: u64) -> Result<(), Refusal>
         ensures ok { OnOk result (IsRaised (machine_of self.old) slot h (machine_of self.new)) }
         ensures why { IfErr result
@@ -502,7 +506,8 @@ impl Journal {
 
     /// The timestamp that a query is to read at, or why it is not opened.
     fn check_open(&self, bound: Bound, interval: Interval) -> Result<u64, Refusal>
-        ensures accepted { IfOk result (λ s. (open_refusal (machine_of self.now) bound interval ≡ None) × (s ≡ timestamp_of bound interval)) }
+        ensures accepted { IfOk result
+            (λ s. (open_refusal (machine_of self.now) bound interval ≡ None) × (s ≡ timestamp_of bound interval)) }
         ensures refused { IfErr result (λ why. open_refusal (machine_of self.now) bound interval ≡ Some why) }
         ensures few { OnOk result (self.now.next_query < number_end) }
     {
@@ -517,8 +522,8 @@ impl Journal {
         }
     }
 
-    /// Opens a query, and returns its number and the timestamp that it reads at. `TimestampRange`, then `QueryTableFull`, then
-    /// `OutOfMemory`; a refusal leaves all as it was.
+    /// Opens a query, and returns its number and the timestamp that it reads at. `TimestampRange`, then
+    /// `QueryTableFull`, then `OutOfMemory`; a refusal leaves all as it was.
     pub fn open(
         &mut self,
         alloc: Global,
@@ -546,10 +551,10 @@ impl Journal {
         Ok((number, s))
     }
 
-    /// Checks a scan of a leaf of the query in the slot: what may be read where a part of the leaf's range is uncovered there and safe
-    /// time has reached the query's timestamp, or None where nothing is uncovered. `UnknownQuery`, also where the query has no such
-    /// leaf, then `NoSlot`, then `OutOfMemory`, then `Trimmed` below the horizon, then `NotYet`, after which alone the slot's floor may
-    /// have risen.
+    /// Checks a scan of a leaf of the query in the slot: what may be read where a part of the leaf's range is uncovered
+    /// there and safe time has reached the query's timestamp, or None where nothing is uncovered. `UnknownQuery`, also
+    /// where the query has no such leaf, then `NoSlot`, then `OutOfMemory`, then `Trimmed` below the horizon, then
+    /// `NotYet`, after which alone the slot's floor may have risen.
     pub fn claim_gap(
         &mut self,
         alloc: Global,
@@ -585,10 +590,11 @@ impl Journal {
         Err(Refusal::NotYet)
     }
 
-    /// Covers a part of a leaf of the query by a piece with these rows, and raises the slot's floor to its timestamp where the clock has
-    /// passed it. `UnknownQuery`, also where the query has no such leaf, then `NoSlot`, then `Incomplete` where the range has no keys,
-    /// does not lie in the leaf's range and the slot's, or is covered in part, then `Trimmed` below the horizon, then `NotYet`, after
-    /// which alone the slot's floor may have risen, then `OutOfMemory`.
+    /// Covers a part of a leaf of the query by a piece with these rows, and raises the slot's floor to its timestamp
+    /// where the clock has passed it. `UnknownQuery`, also where the query has no such leaf, then `NoSlot`, then
+    /// `Incomplete` where the range has no keys, does not lie in the leaf's range and the slot's, or is covered in
+    /// part, then `Trimmed` below the horizon, then `NotYet`, after which alone the slot's floor may have risen, then
+    /// `OutOfMemory`.
     pub fn register(
         &mut self,
         alloc: Global,
@@ -604,8 +610,9 @@ impl Journal {
         ensures err { IfErr result (λ why. IsUnchanged self.old query slot interval why self.new) }
     {
         let (queries, slots) = (self.queries.as_slice(), self.slots.as_slice());
-        let (at, question, part, slot_state) = match find_target(queries, slots, query, leaf, slot)
-        {
+        let (at, question, part, slot_state) = match find_target(
+            queries, slots, query, leaf, slot,
+        ) {
             Ok(target) => target,
             Err(why) => return Err(why),
         };
@@ -626,8 +633,8 @@ impl Journal {
         Ok(())
     }
 
-    /// The timestamp that the query reads at, what it asks of its leaves, and for each of them the rows of its pieces, in the order of
-    /// their ranges. `UnknownQuery`, then `Incomplete` where the pieces do not tile a leaf's range.
+    /// The timestamp that the query reads at, what it asks of its leaves, and for each of them the rows of its pieces,
+    /// in the order of their ranges. `UnknownQuery`, then `Incomplete` where the pieces do not tile a leaf's range.
     pub fn pieces(&self, query: u64) -> Result<(u64, &BoundQuery, &[Seq<Seq<Row>>]), Refusal>
         ensures ok { IfOk result (λ r. IsCovered self.now query r.0 r.1.now r.2.now) }
         ensures refused { IfErr result
@@ -644,8 +651,8 @@ impl Journal {
         Ok((question.timestamp(), question.query(), question.pieces()))
     }
 
-    /// Closes a query whose leaves pieces cover, and returns what it is answered by. It takes no memory. `UnknownQuery`, then
-    /// `Incomplete` where the pieces do not tile a leaf's range; a refusal leaves all as it was.
+    /// Closes a query whose leaves pieces cover, and returns what it is answered by. It takes no memory.
+    /// `UnknownQuery`, then `Incomplete` where the pieces do not tile a leaf's range; a refusal leaves all as it was.
     pub fn take_pieces(&mut self, query: u64) -> Result<Taken, Refusal>
         ensures ok { IfOk result (λ taken. IsTaken self.old query taken self.new) }
         ensures refused { IfErr result
@@ -665,7 +672,10 @@ impl Journal {
 
     /// Closes a query. It takes no memory. `UnknownQuery`.
     pub fn close(&mut self, query: u64) -> Result<(), Refusal>
-        ensures step { IsAnswer (close (machine_of self.old) query) (as_reply (λ _. reply_of.Closed) result) (machine_of self.new) }
+        ensures step { IsAnswer
+            (close (machine_of self.old) query)
+            (as_reply (λ _. reply_of.Closed) result)
+            (machine_of self.new) }
         ensures pieces { OnOk result (self.new.queries ≡ without_first (λ p. is_query query p.query) self.old.queries) }
         ensures err { OnErr result (self.new.queries ≡ self.old.queries) }
     {
@@ -676,11 +686,13 @@ impl Journal {
         Ok(())
     }
 
-    /// The slot that has the coded root key, where it may be cut there. `BadSplit` where no slot has the key or the slot's range begins at
-    /// it, then `SplitBusy` where a transaction is prepared in the slot, then `NoSlot` where no slot is left.
+    /// The slot that has the coded root key, where it may be cut there. `BadSplit` where no slot has the key or the
+    /// slot's range begins at it, then `SplitBusy` where a transaction is prepared in the slot, then `NoSlot` where no
+    /// slot is left.
     pub fn check_split(&self, key: &Key) -> Result<usize, Refusal>
         ensures accepted { IfOk result (λ slot. MaySplit (machine_of self.now) slot key.now) }
-        ensures refused { IfErr result (λ why. split_at (machine_of self.now) key.now ≡ refused (machine_of self.now) why) }
+        ensures refused { IfErr result
+            (λ why. split_at (machine_of self.now) key.now ≡ refused (machine_of self.now) why) }
     {
         let Some(slot) = slot_of(self.slots.as_slice(), key.as_slice()) else {
             return Err(Refusal::BadSplit);
@@ -698,7 +710,8 @@ impl Journal {
         Ok(slot)
     }
 
-    /// Makes what a slot is cut by at the coded root key, so that `finish_split` takes no memory. It changes nothing. `OutOfMemory`.
+    /// Makes what a slot is cut by at the coded root key, so that `finish_split` takes no memory. It changes nothing.
+    /// `OutOfMemory`.
     pub fn reserve_split(&self, alloc: Global, slot: usize, key: &Key) -> Result<Cut, Refusal>
         requires { MaySplit (machine_of self.now) slot key.now }
         ensures cut { IfOk result (λ cut. IsCutOf (machine_of self.now) slot cut) }
@@ -711,12 +724,14 @@ impl Journal {
         Ok(Cut { upper, upper_bound })
     }
 
-    /// Cuts a slot in two, and returns the number of the new slot, which has the keys from the cut on. It takes no memory.
+    /// Cuts a slot in two, and returns the number of the new slot, which has the keys from the cut on. It takes no
+    /// memory.
     pub fn finish_split(&mut self, slot: usize, cut: Cut) -> usize
         requires { IsCutOf (machine_of self.old) slot cut }
         ensures number { result ≡ length self.old.slots }
         ensures after { IfSome (slice_get self.old.slots slot)
-            (λ slot_state. machine_of self.new ≡ (split_in_two (machine_of self.old) slot cut.upper_bound slot_state).1) }
+            (λ slot_state.
+            machine_of self.new ≡ (split_in_two (machine_of self.old) slot cut.upper_bound slot_state).1) }
         ensures pieces { self.new.queries ≡ self.old.queries }
     {
         let number = self.slots.len();

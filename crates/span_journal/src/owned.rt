@@ -1,7 +1,7 @@
 //! Steps of functions that own trees.
 //!
-//! To prove that a tree is dropped safely takes seconds to minutes at each place where one may be dropped. What may drop one is
-//! here, for values of any type, and is proved once.
+//! To prove that a tree is dropped safely takes seconds to minutes at each place where one may be dropped. What may
+//! drop one is here, for values of any type, and is proved once.
 ghost use Rattle.std.specs.Prelude.{◌≡◌, ◌<◌, ◌≤◌, ◌++◌, ◌∷◌, [], IfOk, MatchResult, Ok, Err, OnOk, OnErr, length, insert, remove};
 
 use span_value::seq::Seq;
@@ -37,8 +37,8 @@ pub(crate) fn drop_at<T: Drop>(items: &mut Vec<T>, at: usize)
     let _ = items.remove(at);
 }
 
-/// Inserts an item in each of two lists, at the same place. Without memory for both the items are dropped, and the lists stay as they
-/// were.
+/// Inserts an item in each of two lists, at the same place. Without memory for both the items are dropped, and the
+/// lists stay as they were.
 pub(crate) fn insert_in_both<A: Drop, B: Drop>(
     alloc: Global,
     firsts: &mut Seq<A>,
@@ -49,7 +49,8 @@ pub(crate) fn insert_in_both<A: Drop, B: Drop>(
 ) -> Result<(), AllocError>
     requires firsts { at ≤ length firsts.old }
     requires seconds { at ≤ length seconds.old }
-    ensures ok { OnOk result ((firsts.new ≡ insert firsts.old at first) × (seconds.new ≡ insert seconds.old at second)) }
+    ensures ok { OnOk result
+        ((firsts.new ≡ insert firsts.old at first) × (seconds.new ≡ insert seconds.old at second)) }
     ensures err { OnErr result ((firsts.new ≡ firsts.old) × (seconds.new ≡ seconds.old)) }
 {
     let mut left = mem::replace(firsts, Seq::new(alloc)).into_vec();

@@ -33,8 +33,8 @@ pub(crate) fn find_query(queries: &[KeptQuery], number: u64) -> Option<(usize, &
     }
 }
 
-/// What is scanned: a query and its place, a leaf of the query, and the state of a slot. `UnknownQuery`, also where the query has no
-/// such leaf, then `NoSlot`.
+/// What is scanned: a query and its place, a leaf of the query, and the state of a slot. `UnknownQuery`, also where the
+/// query has no such leaf, then `NoSlot`.
 pub(crate) fn find_target<'a>(
     queries: &'a [KeptQuery],
     slots: &'a [SlotState],

@@ -137,7 +137,8 @@ fn add_piece(
     rows: Seq<Row>,
 ) -> Result<(), AllocError>
     requires { length pieces.old ≡ length leaf.old.covered }
-    ensures ok { OnOk result ((leaf.new ≡ add_piece range leaf.old) × (pieces.new ≡ with_rows leaf.old range rows pieces.old)) }
+    ensures ok { OnOk result
+        ((leaf.new ≡ add_piece range leaf.old) × (pieces.new ≡ with_rows leaf.old range rows pieces.old)) }
     ensures err { OnErr result ((leaf.new ≡ leaf.old) × (pieces.new ≡ pieces.old)) }
 {
     let at = place_among(leaf.covered.as_slice(), &range);

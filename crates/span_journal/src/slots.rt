@@ -143,7 +143,10 @@ pub(crate) fn commit_timestamp(
         (if_some (slice_get slots.now (coordinator_slot prepared.now)) 0 (λ slot_state. slot_state.last) + 1)))
         × (ts < timestamp_end)) }
     ensures none { IfNone result
-        (timestamp_end ≤ max (greatest prepared.now) (max (latest + 1) (if_some (slice_get slots.now (coordinator_slot prepared.now)) 0 (λ slot_state. slot_state.last) + 1))) }
+        (timestamp_end
+        ≤ max (greatest prepared.now)
+        (max (latest + 1)
+        (if_some (slice_get slots.now (coordinator_slot prepared.now)) 0 (λ slot_state. slot_state.last) + 1))) }
 {
     let last = last_timestamp(slots, coordinator_slot(prepared));
     let greatest = greatest_timestamp(prepared);
@@ -276,9 +279,7 @@ pub(crate) fn gap_in(
 pub(crate) fn slot_of(slots: &[SlotState], key: &[u8]) -> Option<usize>
     ensures { result ≡ slot_of slots.now key.now }
 {
-    slots
-        .iter()
-        .position(|slot_state| is_between(&slot_state.lo, &slot_state.hi, key))
+    slots.iter().position(|slot_state| is_between(&slot_state.lo, &slot_state.hi, key))
 }
 
 /// Whether the slot's range begins at the key.
@@ -318,13 +319,9 @@ pub(crate) fn upper_part(
     })
 }
 
-/// Cuts the slot at a place: the keys from `upper_bound` on go to the slot of this state, which joins at the end. It takes no memory.
-pub(crate) fn cut_at(
-    slots: &mut Vec<SlotState>,
-    slot: usize,
-    upper_bound: Key,
-    upper: SlotState,
-)
+/// Cuts the slot at a place: the keys from `upper_bound` on go to the slot of this state, which joins at the end. It
+/// takes no memory.
+pub(crate) fn cut_at(slots: &mut Vec<SlotState>, slot: usize, upper_bound: Key, upper: SlotState)
     requires within { slot < length slots.old.items }
     requires room { vec_len slots.old < vec_capacity slots.old }
     ensures after { IfSome (slice_get slots.old.items slot)

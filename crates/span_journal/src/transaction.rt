@@ -59,7 +59,15 @@ impl KeptTransaction {
     ) -> Result<KeptTransaction, AllocError>
         requires { entry ≡ mutations }
         ensures { IfOk result
-            (λ t. t ≡ record { owner = owner; number = number; mutations = mutations; decision = Decision.Undecided; prepared = [] }) }
+            (λ t.
+            t
+            ≡ record {
+              owner = owner;
+              number = number;
+              mutations = mutations;
+              decision = Decision.Undecided;
+              prepared = [];
+            }) }
     {
         let prepared = Vec::with_capacity(alloc, MOST_SLOTS)?;
         Ok(KeptTransaction {

@@ -101,7 +101,8 @@ pub(crate) fn commit_at(
     transactions[at].commit(alloc, timestamp)
 }
 
-/// Whether a transaction that is prepared at the slot has a mutation in a directory of those of these mutations that lie in the slot.
+/// Whether a transaction that is prepared at the slot has a mutation in a directory of those of these mutations that
+/// lie in the slot.
 pub(crate) fn has_conflict(
     schema: &Schema,
     transactions: &[KeptTransaction],
@@ -197,11 +198,16 @@ fn remove_prepared_at(transactions: &mut Vec<KeptTransaction>, at: usize, slot: 
     transactions[at].remove_prepared(slot);
 }
 
-/// Ends what the transaction at a place has at the slot: it is prepared there no more, and leaves once it is prepared nowhere.
+/// Ends what the transaction at a place has at the slot: it is prepared there no more, and leaves once it is prepared
+/// nowhere.
 pub(crate) fn end_prepared_at(transactions: &mut Vec<KeptTransaction>, at: usize, slot: usize)
     requires { at < length transactions.old.items }
-    ensures after { IfSome (slice_get transactions.old.items at) (λ t. transactions.new.items ≡
-        (if length (without_prepared slot t).prepared == 0 then remove transactions.old.items at else slice_set transactions.old.items at (without_prepared slot t))) }
+    ensures after { IfSome (slice_get transactions.old.items at)
+        (λ t.
+        transactions.new.items
+        ≡ (if length (without_prepared slot t).prepared == 0
+        then remove transactions.old.items at
+        else slice_set transactions.old.items at (without_prepared slot t))) }
     ensures fewer { count_by is_undecided transactions.new.items ≤ count_by is_undecided transactions.old.items }
 {
     if is_prepared_elsewhere(&transactions[at], slot) {
@@ -222,7 +228,8 @@ pub(crate) fn add_prepared_at(
     requires apart { IfSome (slice_get transactions.old.items at) (λ t. is_prepared_at prepared.slot t ≡ false) }
     ensures after { IfSome (slice_get transactions.old.items at)
         (λ t.
-        transactions.new.items ≡ slice_set transactions.old.items at (add_prepared prepared.slot prepared.timestamp t)) }
+        transactions.new.items
+        ≡ slice_set transactions.old.items at (add_prepared prepared.slot prepared.timestamp t)) }
     ensures fewer { count_by is_undecided transactions.new.items ≤ count_by is_undecided transactions.old.items }
 {
     transactions[at].add_prepared(prepared);
@@ -254,7 +261,8 @@ fn is_prepared_elsewhere(transaction: &KeptTransaction, slot: usize) -> bool
     has_other_slot(transaction.prepared(), slot)
 }
 
-/// The commit timestamp of a transaction that may be applied at the slot, or None for an aborted one, or why it may not.
+/// The commit timestamp of a transaction that may be applied at the slot, or None for an aborted one, or why it may
+/// not.
 pub(crate) fn check_apply(
     transaction: &KeptTransaction,
     slot: usize,

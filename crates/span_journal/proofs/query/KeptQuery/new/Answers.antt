@@ -1,6 +1,4 @@
-use Rattle.std.proofs.Common.{◌≡◌, List, map, ap, sym, ◌∙◌, subst}
-use Rattle.span_query.specs.Rows.{Row}
-use Rattle.span_machine.specs.declared.query.ScanLeaf.{ScanLeaf}
+use Rattle.std.proofs.Common.{map, sym, subst}
 use Rattle.span_machine.specs.Machine.{uncovered}
 use Rattle.span_machine.specs.Pieces.{no_pieces}
 use Rattle.span_journal.specs.Counts.{AreAllApart}

@@ -1,6 +1,4 @@
-use Rattle.std.proofs.Common.{◌≡◌, ◌≤◌, sym, subst, arith}
-use Rattle.std.specs.Prelude.{vec_capacity}
-use Rattle.span_machine.specs.Limits.{most_slots}
+use Rattle.std.proofs.Common.{sym, subst, arith}
 use Rattle.span_journal.specs.Places.{AreOfSlots}
 use Rattle.span_journal.proofs.transaction.KeptTransaction.new.Goals as goal
 

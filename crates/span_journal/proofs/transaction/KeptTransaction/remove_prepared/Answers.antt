@@ -1,4 +1,4 @@
-use Rattle.std.proofs.Common.{◌≡◌, ◌==◌, not, sym, subst, arith}
+use Rattle.std.proofs.Common.{◌==◌, not, sym, subst, arith}
 use Rattle.span_machine.specs.declared.transaction.Prepared.{Prepared}
 use Rattle.span_journal.specs.Places.{AreOfSlots}
 use Rattle.span_journal.proofs.PreparedOnce.{once_fewer}
