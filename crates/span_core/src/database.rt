@@ -173,32 +173,15 @@ impl Core {
         }
     }
 
-    fn begin(
-        &mut self,
-        alloc: Global,
-        owner: u64,
-        transaction: Transaction,
-    ) -> Reply
+    fn begin(&mut self, alloc: Global, owner: u64, transaction: Transaction) -> Reply
         requires { AreTypedMutations self.old.schema transaction }
         ensures steps { Steps self.old.schema self.old.machine (step_of.Begin owner transaction) result self.new.machine }
         ensures schema { self.new.schema ≡ self.old.schema }
     {
-        begin_reply(steps::begin(
-            alloc,
-            &self.schema,
-            &mut self.journal,
-            owner,
-            transaction,
-        ))
+        begin_reply(steps::begin(alloc, &self.schema, &mut self.journal, owner, transaction))
     }
 
-    fn prepare(
-        &mut self,
-        alloc: Global,
-        owner: u64,
-        txn: u64,
-        slot: usize,
-    ) -> Reply
+    fn prepare(&mut self, alloc: Global, owner: u64, txn: u64, slot: usize) -> Reply
         ensures steps { Steps self.old.schema self.old.machine (step_of.Prepare owner txn slot) result self.new.machine }
         ensures schema { self.new.schema ≡ self.old.schema }
     {
@@ -235,13 +218,7 @@ impl Core {
         ))
     }
 
-    fn apply(
-        &mut self,
-        owner: u64,
-        txn: u64,
-        slot: usize,
-        interval: Interval,
-    ) -> Reply
+    fn apply(&mut self, owner: u64, txn: u64, slot: usize, interval: Interval) -> Reply
         ensures steps { Steps self.old.schema self.old.machine (step_of.Apply owner txn slot interval) result self.new.machine }
         ensures schema { self.new.schema ≡ self.old.schema }
     {
@@ -256,37 +233,18 @@ impl Core {
         ))
     }
 
-    fn advance(
-        &mut self,
-        slot: usize,
-        interval: Interval,
-    ) -> Reply
+    fn advance(&mut self, slot: usize, interval: Interval) -> Reply
         ensures steps { Steps self.old.schema self.old.machine (step_of.Advance slot interval) result self.new.machine }
         ensures schema { self.new.schema ≡ self.old.schema }
     {
-        advance_reply(steps::advance(
-            &self.schema,
-            &mut self.journal,
-            slot,
-            interval,
-        ))
+        advance_reply(steps::advance(&self.schema, &mut self.journal, slot, interval))
     }
 
-    fn trim(
-        &mut self,
-        slot: usize,
-        h: u64,
-    ) -> Reply
+    fn trim(&mut self, slot: usize, h: u64) -> Reply
         ensures steps { Steps self.old.schema self.old.machine (step_of.Trim slot h) result self.new.machine }
         ensures schema { self.new.schema ≡ self.old.schema }
     {
-        trim_reply(steps::trim(
-            &self.schema,
-            &mut self.journal,
-            &mut self.shards,
-            slot,
-            h,
-        ))
+        trim_reply(steps::trim(&self.schema, &mut self.journal, &mut self.shards, slot, h))
     }
 
     fn open(
@@ -360,21 +318,14 @@ impl Core {
         ))
     }
 
-    fn finish(
-        &mut self,
-        alloc: Global,
-        query: u64,
-    ) -> Reply
+    fn finish(&mut self, alloc: Global, query: u64) -> Reply
         ensures steps { Steps self.old.schema self.old.machine (step_of.Finish query) result self.new.machine }
         ensures schema { self.new.schema ≡ self.old.schema }
     {
         finish_reply(steps::finish(alloc, &self.schema, &self.journal, query))
     }
 
-    fn close(
-        &mut self,
-        query: u64,
-    ) -> Reply
+    fn close(&mut self, query: u64) -> Reply
         ensures steps { Steps self.old.schema self.old.machine (step_of.Close query) result self.new.machine }
         ensures schema { self.new.schema ≡ self.old.schema }
     {
