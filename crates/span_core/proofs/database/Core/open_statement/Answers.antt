@@ -1,6 +1,5 @@
-use Rattle.std.proofs.Common.{ℕ, List, Ok, length, sym, subst}
+use Rattle.std.proofs.Common.{ℕ, Ok, length, sym, subst}
 use Rattle.span_machine.specs.Pieces.{machine_of}
-use Rattle.span_machine.specs.Machine.{Machine}
 use Rattle.span_machine.specs.declared.step.Step.{Step}
 use Rattle.span_machine.specs.declared.step.Step.TheVariants as step
 use Rattle.span_machine.specs.declared.step.Reply.{Reply}

@@ -1,1 +1,0 @@
-use Rattle.span_core.proofs.database.Core.slots.Goals as goal
