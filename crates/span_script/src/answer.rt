@@ -237,12 +237,7 @@ impl Answers {
 
     /// A slot's number, and its range.
     #[tactic(auto, using(crate::proofs::Begun::begins_on))]
-    fn slot_range(
-        &mut self,
-        slot: usize,
-        lo: &Option<Key>,
-        hi: &Option<Key>,
-    ) -> Result<(), Refusal>
+    fn slot_range(&mut self, slot: usize, lo: &Option<Key>, hi: &Option<Key>) -> Result<(), Refusal>
         ensures added { OnOk result (self.new ≡ self.old ++ slot_range slot lo.now hi.now) }
         ensures grows { Begins self.old self.new }
         ensures memory { IsOkUnless result Refusal.OutOfMemory }
@@ -255,7 +250,8 @@ impl Answers {
     /// The ends of a range.
     #[tactic(auto, using(crate::proofs::Begun::begins_on))]
     fn ends(&mut self, lo: &Option<Key>, hi: &Option<Key>) -> Result<(), Refusal>
-        ensures added { OnOk result (self.new ≡ self.old ++ end_text lo.now ++ codes "," ++ end_text hi.now ++ codes ")") }
+        ensures added { OnOk result
+            (self.new ≡ self.old ++ end_text lo.now ++ codes "," ++ end_text hi.now ++ codes ")") }
         ensures grows { Begins self.old self.new }
         ensures memory { IsOkUnless result Refusal.OutOfMemory }
     {

@@ -1,4 +1,4 @@
-use Rattle.std.proofs.Common.{◌≡◌, ◌++◌, ◌+◌, ◌<◌, ◌∙◌, ℕ, zero, suc, List, [], ◌∷◌, length, slice_get, arith, None}
+use Rattle.std.proofs.Common.{◌≡◌, ◌<◌, ℕ, zero, suc, List, [], ◌∷◌, length, slice_get, arith, None}
 use Rattle.span_script.proofs.Shards.{one_more}
 use Rattle.span_script.proofs.answer.Answers.slot_lines.Goals.{in-Some+in_ok-slot, in_default}
 use Rattle.span_script.proofs.answer.Answers.slot_lines.Goals as goal
