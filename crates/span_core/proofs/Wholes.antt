@@ -1,5 +1,5 @@
 -- Databases before a step and after it.
-use Rattle.std.proofs.Common.{◌≡◌, ◌⊎◌, ℕ, true, List, [], ◌∷◌, Result, Ok, Err, refl, ap, sym, subst, inl, inr}
+use Rattle.std.proofs.Common.{◌≡◌, ◌⊎◌, ℕ, true, List, Ok, Err, refl, ap, sym, subst, inl, inr}
 use Rattle.span_value.specs.declared.refusal.Refusal.{Refusal}
 use Rattle.span_value.specs.declared.refusal.Refusal.TheVariants as refusal
 use Rattle.span_params.specs.declared.params.Parameter.{Parameter}
@@ -14,15 +14,12 @@ use Rattle.span_machine.specs.declared.step.Reply.TheVariants as reply
 use Rattle.span_machine.specs.Run.{IsOfSchema}
 use Rattle.span_machine.specs.Machine.{Machine, IsUnderstood, Answers, IsAnswer, answer, start, may_take_memory, open_query}
 use Rattle.span_machine.specs.Pieces.{Journaled, machine_of}
+use Rattle.span_parts.proofs.Wholes.{no_text}
 use Rattle.span_binder.specs.Understands.{Understands}
 use Rattle.span_core.specs.Whole.{Shards, IsWhole, IsDatabase}
 use Rattle.span_core.specs.Histories.{Steps}
 use Rattle.span_core.specs.Promises.{IsRunTo}
 use Rattle.span_core.proofs.Promised.{no_steps, one_more}
-
--- what is understood of a query text where a step has none
-abbrev pub no_text : Result Statement Refusal
-no_text = Err refusal.Syntax
 
 -- an empty database
 pub start_database : (schema : List Table) (j : Journaled) (shards : Shards) → machine_of j ≡ start → IsWhole schema j shards → IsDatabase schema j shards

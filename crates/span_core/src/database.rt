@@ -1,9 +1,12 @@
 //! The core and its steps.
-ghost use Rattle.std.specs.Prelude.{◌≡◌, IfOk, IfErr, None, MatchOption, length, slice_get};
+ghost use Rattle.std.specs.Prelude.{◌≡◌, IfOk, IfErr, Ok, None, MatchOption, length, slice_get};
+ghost use Rattle.std.specs.List.{AllByRecursion};
 ghost use Rattle.span_core.specs.Histories.{Steps};
 ghost use Rattle.span_core.specs.Promises.{IsRunTo, Promises, IsConsistent};
 ghost use Rattle.span_core.specs.Views.{IsView};
+ghost use Rattle.span_binder.specs.Understands.{Understands};
 ghost use Rattle.span_schema.specs.Lineages.{MeetsRules};
+ghost use Rattle.span_schema.specs.Numbers.{IsTable};
 ghost use Rattle.span_machine.specs.Machine.{start};
 ghost use Rattle.span_machine.specs.Run.{IsChecked, IsOfSchema};
 ghost use Rattle.span_keycode.specs.Coding.{AreValues};
@@ -22,6 +25,7 @@ use span_machine::step::{Reply, Step, Verdict};
 use span_mutate::transaction::Transaction;
 use span_params::params::Params;
 use span_parts::{cut, steps};
+use span_query::query::Statement;
 use span_schema::schema::Schema;
 use span_shard::shard::Shard;
 use span_truetime::bound::Bound;
@@ -108,7 +112,7 @@ impl Core {
 
     /// A slot with its shard, lent; None where it is not in use. It takes no memory.
     pub fn slot(&self, slot: usize) -> Option<SlotView<'_>>
-        ensures { MatchOption result.entry
+        ensures { MatchOption result
             (slice_get self.now.machine.slots slot ≡ None)
             (IsView self.now.schema self.now.machine slot) }
     {
@@ -169,32 +173,15 @@ impl Core {
         }
     }
 
-    fn begin(
-        &mut self,
-        alloc: Global,
-        owner: u64,
-        transaction: Transaction,
-    ) -> Reply
+    fn begin(&mut self, alloc: Global, owner: u64, transaction: Transaction) -> Reply
         requires { AreTypedMutations self.old.schema transaction }
         ensures steps { Steps self.old.schema self.old.machine (step_of.Begin owner transaction) result self.new.machine }
         ensures schema { self.new.schema ≡ self.old.schema }
     {
-        begin_reply(steps::begin(
-            alloc,
-            &self.schema,
-            &mut self.journal,
-            owner,
-            transaction,
-        ))
+        begin_reply(steps::begin(alloc, &self.schema, &mut self.journal, owner, transaction))
     }
 
-    fn prepare(
-        &mut self,
-        alloc: Global,
-        owner: u64,
-        txn: u64,
-        slot: usize,
-    ) -> Reply
+    fn prepare(&mut self, alloc: Global, owner: u64, txn: u64, slot: usize) -> Reply
         ensures steps { Steps self.old.schema self.old.machine (step_of.Prepare owner txn slot) result self.new.machine }
         ensures schema { self.new.schema ≡ self.old.schema }
     {
@@ -231,13 +218,7 @@ impl Core {
         ))
     }
 
-    fn apply(
-        &mut self,
-        owner: u64,
-        txn: u64,
-        slot: usize,
-        interval: Interval,
-    ) -> Reply
+    fn apply(&mut self, owner: u64, txn: u64, slot: usize, interval: Interval) -> Reply
         ensures steps { Steps self.old.schema self.old.machine (step_of.Apply owner txn slot interval) result self.new.machine }
         ensures schema { self.new.schema ≡ self.old.schema }
     {
@@ -252,37 +233,18 @@ impl Core {
         ))
     }
 
-    fn advance(
-        &mut self,
-        slot: usize,
-        interval: Interval,
-    ) -> Reply
+    fn advance(&mut self, slot: usize, interval: Interval) -> Reply
         ensures steps { Steps self.old.schema self.old.machine (step_of.Advance slot interval) result self.new.machine }
         ensures schema { self.new.schema ≡ self.old.schema }
     {
-        advance_reply(steps::advance(
-            &self.schema,
-            &mut self.journal,
-            slot,
-            interval,
-        ))
+        advance_reply(steps::advance(&self.schema, &mut self.journal, slot, interval))
     }
 
-    fn trim(
-        &mut self,
-        slot: usize,
-        h: u64,
-    ) -> Reply
+    fn trim(&mut self, slot: usize, h: u64) -> Reply
         ensures steps { Steps self.old.schema self.old.machine (step_of.Trim slot h) result self.new.machine }
         ensures schema { self.new.schema ≡ self.old.schema }
     {
-        trim_reply(steps::trim(
-            &self.schema,
-            &mut self.journal,
-            &mut self.shards,
-            slot,
-            h,
-        ))
+        trim_reply(steps::trim(&self.schema, &mut self.journal, &mut self.shards, slot, h))
     }
 
     fn open(
@@ -297,21 +259,40 @@ impl Core {
         ensures schema { self.new.schema ≡ self.old.schema }
     {
         match understand(alloc, &self.schema, text.as_str(), &params) {
-            Ok(statement) => open_reply(
-                statement.leaves.len(),
-                steps::open(
-                    alloc,
-                    &self.schema,
-                    &mut self.journal,
-                    text,
-                    params,
-                    statement,
-                    bound,
-                    interval,
-                ),
-            ),
+            Ok(statement) => self.open_statement(alloc, text, params, statement, bound, interval),
             Err(why) => Reply::Refused(why),
         }
+    }
+
+    /// Opens a query whose text is understood as this statement.
+    fn open_statement(
+        &mut self,
+        alloc: Global,
+        text: Text,
+        params: Params,
+        statement: Statement,
+        bound: Bound,
+        interval: Interval,
+    ) -> Reply
+        requires understood { Understands self.old.schema text params (Ok statement) }
+        requires leaves { AllByRecursion (IsTable self.old.schema) statement.leaves }
+        ensures steps { Steps self.old.schema self.old.machine (step_of.Open text params bound interval) result self.new.machine }
+        ensures schema { self.new.schema ≡ self.old.schema }
+    {
+        let leaves = statement.leaves.len();
+        open_reply(
+            leaves,
+            steps::open(
+                alloc,
+                &self.schema,
+                &mut self.journal,
+                text,
+                params,
+                statement,
+                bound,
+                interval,
+            ),
+        )
     }
 
     fn scan(
@@ -337,21 +318,14 @@ impl Core {
         ))
     }
 
-    fn finish(
-        &mut self,
-        alloc: Global,
-        query: u64,
-    ) -> Reply
+    fn finish(&mut self, alloc: Global, query: u64) -> Reply
         ensures steps { Steps self.old.schema self.old.machine (step_of.Finish query) result self.new.machine }
         ensures schema { self.new.schema ≡ self.old.schema }
     {
         finish_reply(steps::finish(alloc, &self.schema, &self.journal, query))
     }
 
-    fn close(
-        &mut self,
-        query: u64,
-    ) -> Reply
+    fn close(&mut self, query: u64) -> Reply
         ensures steps { Steps self.old.schema self.old.machine (step_of.Close query) result self.new.machine }
         ensures schema { self.new.schema ≡ self.old.schema }
     {

@@ -1,6 +1,7 @@
-use Rattle.std.proofs.Common.{◌≡◌, [], ◌∷◌, ◌++◌, length, sym, ◌∙◌, ap, subst, append_assoc, arith}
+use Rattle.std.proofs.Common.{◌≡◌, List, [], ◌∷◌, ◌++◌, length, sym, ◌∙◌, ap, subst, append_assoc, arith}
 use Rattle.std.specs.Vec.Iter.{into_iter_items}
 use Rattle.std.proofs.lemmas.List.{append-nil, nil_from_length}
+use Rattle.span_machine.specs.declared.step.Reply.{Reply}
 use Rattle.span_machine.specs.Machine.{start}
 use Rattle.span_core.specs.Histories.{Steps, Run}
 use Rattle.span_machine.specs.Run.{AreChecked, AreOfSchema, IsChecked, IsOfSchema}
@@ -21,7 +22,7 @@ loop-step-preserved c =
     let one : Steps c.args.schema c.loop-step.core.machine c.in-Some.step c.step-reply.result c.step-reply.new.self.machine = subst (λ schema. Steps schema c.loop-step.core.machine c.in-Some.step c.step-reply.result c.step-reply.new.self.machine) c.loop-step.invariant.schema c.step-reply.ensures.steps in
     record {
       schema = c.step-reply.ensures.schema ∙ c.loop-step.invariant.schema;
-      ran = subst (λ l. Run c.args.schema start (c.loop-step.yielded ++ c.in-Some.step ∷ []) l c.step-reply.new.self.machine) (sym c.push_reserved.ensures.items) (run_more c.args.schema start c.loop-step.yielded c.loop-step.replies.items _ _ c.in-Some.step c.step-reply.result c.loop-step.invariant.ran one);
+      ran = subst (λ l. Run c.args.schema start (c.loop-step.yielded ++ c.in-Some.step ∷ []) l c.step-reply.new.self.machine) (sym {A = List Reply} c.push_reserved.ensures.items) (run_more c.args.schema start c.loop-step.yielded c.loop-step.replies.items _ _ c.in-Some.step c.step-reply.result c.loop-step.invariant.ran one);
       of_schema = of_schema_more c.args.schema c.loop-step.yielded c.in-Some.step c.loop-step.invariant.of_schema (subst (λ schema. IsOfSchema schema c.in-Some.step) c.loop-step.invariant.schema c.step-reply.ensures.of_schema);
       checked = checked.1;
       rest = append_assoc c.loop-step.yielded (c.in-Some.step ∷ []) (into_iter_items c.next.new.self) ∙ ap (λ l. c.loop-step.yielded ++ l) (sym next.0) ∙ c.loop-step.invariant.rest;

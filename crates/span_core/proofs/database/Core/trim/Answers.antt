@@ -1,14 +1,13 @@
-use Rattle.std.proofs.Common.{List, sym, subst, refl}
+use Rattle.std.proofs.Common.{sym, subst}
 use Rattle.span_machine.specs.Pieces.{machine_of}
-use Rattle.span_machine.specs.Machine.{Machine}
 use Rattle.span_machine.specs.declared.step.Step.{Step}
 use Rattle.span_machine.specs.declared.step.Step.TheVariants as step
 use Rattle.span_machine.specs.declared.step.Reply.{Reply}
 use Rattle.span_machine.specs.declared.step.Reply.TheVariants as reply
-use Rattle.span_parts.specs.Replies.{as_reply, decision_reply, scan_reply, rows_reply}
+use Rattle.span_parts.specs.Replies.{as_reply}
 use Rattle.span_core.specs.Whole.{State}
 use Rattle.span_core.specs.Histories.{Steps}
-use Rattle.span_core.proofs.Wholes.{goes_on, plain_steps, memory_steps}
+use Rattle.span_core.proofs.Wholes.{goes_on, plain_steps}
 use Rattle.span_core.proofs.database.Core.trim.Goals as goal
 
 pub invariant_of-self : goal.invariant_of-self
