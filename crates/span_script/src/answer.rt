@@ -72,9 +72,11 @@ impl Answers {
 
     /// Writes the answers out. `OutputFault` where the device failed: then a beginning of them was written.
     pub fn write_to<O: Output>(&mut self, output: &mut O) -> Result<(), Refusal>
-        ensures written { OnOk result ((self.new ≡ []) × Appends (O.written output.old) (O.written output.new) self.old) }
+        ensures written { OnOk result
+            ((self.new ≡ []) × Appends (O.written output.old) (O.written output.new) self.old) }
         ensures ok { OnOk result (O.failures output.new ≡ O.failures output.old) }
-        ensures err { IfErr result (λ why. (why ≡ Refusal.OutputFault) × (O.failures output.new ≡ risen (O.failures output.old))) }
+        ensures err { IfErr result
+            (λ why. (why ≡ Refusal.OutputFault) × (O.failures output.new ≡ risen (O.failures output.old))) }
     {
         write_all(self.bytes.as_slice(), output)?;
         self.bytes.clear();
@@ -208,7 +210,8 @@ impl Answers {
     /// A line for each slot in use.
     #[tactic(auto, using(crate::proofs::Begun::begins_itself, crate::proofs::Begun::begins_on))]
     fn slot_lines(&mut self, core: &Core) -> Result<(), Refusal>
-        ensures added { OnOk result (self.new ≡ self.old ++ slot_lines core.now.schema core.now.machine 0 core.now.machine.slots) }
+        ensures added { OnOk result
+            (self.new ≡ self.old ++ slot_lines core.now.schema core.now.machine 0 core.now.machine.slots) }
         ensures grows { Begins self.old self.new }
         ensures memory { IsOkUnless result Refusal.OutOfMemory }
     {
@@ -237,18 +240,24 @@ impl Answers {
 
     /// A slot's number, and its range.
     #[tactic(auto, using(crate::proofs::Begun::begins_on))]
-    fn slot_range(
-        &mut self,
-        slot: usize,
-        lo: &Option<Key>,
-        hi: &Option<Key>,
-    ) -> Result<(), Refusal>
+    fn slot_range(&mut self, slot: usize, lo: &Option<Key>, hi: &Option<Key>) -> Result<(), Refusal>
         ensures added { OnOk result (self.new ≡ self.old ++ slot_range slot lo.now hi.now) }
         ensures grows { Begins self.old self.new }
         ensures memory { IsOkUnless result Refusal.OutOfMemory }
     {
         self.word_number("shard", slot as u64)?;
         self.text(" [")?;
+        self.ends(lo, hi)
+    }
+
+    /// The ends of a range.
+    #[tactic(auto, using(crate::proofs::Begun::begins_on))]
+    fn ends(&mut self, lo: &Option<Key>, hi: &Option<Key>) -> Result<(), Refusal>
+        ensures added { OnOk result
+            (self.new ≡ self.old ++ end_text lo.now ++ codes "," ++ end_text hi.now ++ codes ")") }
+        ensures grows { Begins self.old self.new }
+        ensures memory { IsOkUnless result Refusal.OutOfMemory }
+    {
         self.end(lo)?;
         self.text(",")?;
         self.end(hi)?;
@@ -330,7 +339,8 @@ fn hex_digit(half: u8) -> u8
 fn write_all<O: Output>(bytes: &[u8], output: &mut O) -> Result<(), Refusal>
     ensures written { OnOk result (Appends (O.written output.old) (O.written output.new) bytes.now) }
     ensures ok { OnOk result (O.failures output.new ≡ O.failures output.old) }
-    ensures err { IfErr result (λ why. (why ≡ Refusal.OutputFault) × (O.failures output.new ≡ risen (O.failures output.old))) }
+    ensures err { IfErr result
+        (λ why. (why ≡ Refusal.OutputFault) × (O.failures output.new ≡ risen (O.failures output.old))) }
 {
     let mut rest = bytes;
     while !rest.is_empty() {

@@ -1,5 +1,5 @@
 //! What a script has set and gathered, and its commands done one after another.
-ghost use Rattle.std.specs.Prelude.{◌≡◌, ◌++◌, List, None, Some, is_some, IfErr, IfOk, IfSome, IsOkUnless, MatchResult, ◌⊎◌, ◌×◌, [], Err, length, take};
+ghost use Rattle.std.specs.Prelude.{◌≡◌, ◌++◌, List, None, Some, is_some, IfErr, IfOk, IfSome, IsOkUnless, MatchResult, ◌⊎◌, [], Err, length, take};
 ghost use Rattle.span_schema.specs.declared.table.Table.{Table};
 ghost use Rattle.span_machine.specs.Run.{IsChecked};
 ghost use Rattle.span_machine.specs.declared.step.Step.TheVariants as step_of_kind;
@@ -69,8 +69,8 @@ impl Session {
         }
     }
 
-    /// Does what a line of this number asks for, and adds its answer. Returns the refused command that was answered so, if one was.
-    /// `OutOfMemory` where memory runs out for the answer.
+    /// Does what a line of this number asks for, and adds its answer. Returns the refused command that was answered so,
+    /// if one was. `OutOfMemory` where memory runs out for the answer.
     #[tactic(auto, using(crate::proofs::Begun::front_taken))]
     pub fn take_line(
         &mut self,
@@ -84,7 +84,8 @@ impl Session {
             (state_of self.old) core.old.machine (state_of self.new) core.new.machine answers.old answers.new) }
         ensures schema { core.new.schema ≡ core.old.schema }
         ensures answered { IfOk result (AreAnswered answers.old answers.new) }
-        ensures here { self.old.load ≡ None → IfOk result (λ refused. IfSome refused (λ refused. refused.line ≡ number)) }
+        ensures here { self.old.load ≡ None
+            → IfOk result (λ refused. IfSome refused (λ refused. refused.line ≡ number)) }
         ensures memory { IsOkUnless result Refusal.OutOfMemory }
     {
         let before = answers.len();
@@ -103,7 +104,8 @@ impl Session {
     pub fn finish(&mut self, number: u64, answers: &mut Answers) -> Result<Option<Refused>, Refusal>
         ensures exact { IfOk result (λ _. answers.new ≡ answers.old ++ end_answer (state_of self.old)) }
         ensures answered { IfOk result (AreAnswered answers.old answers.new) }
-        ensures last { IfOk result (λ refused. IfSome refused (λ refused. (refused.why ≡ Refusal.BadCommand) × (refused.line ≡ number))) }
+        ensures last { IfOk result (λ refused. IfSome refused
+            (λ refused. (refused.why ≡ Refusal.BadCommand) × (refused.line ≡ number))) }
         ensures unread { IfOk result (λ refused. is_some refused ≡ is_some self.old.load) }
         ensures memory { IsOkUnless result Refusal.OutOfMemory }
     {
@@ -198,8 +200,8 @@ impl Session {
 
     /// Does a command, and adds its answer.
     ///
-    /// Where a command changes what a script has set, its answer goes first: nothing has changed then where memory runs out for it, and
-    /// `take_line` takes it back where the change is refused.
+    /// Where a command changes what a script has set, its answer goes first: nothing has changed then where memory runs
+    /// out for it, and `take_line` takes it back where the change is refused.
     #[tactic(auto, using(crate::proofs::Begun::begins_itself, crate::proofs::Begun::begins_on))]
     fn answer(
         &mut self,
@@ -271,7 +273,9 @@ impl Session {
 
     /// Sets the clock. `BadInterval` and `TimestampRange` as `Interval::new`.
     fn set_clock(&mut self, earliest: u64, latest: u64) -> Result<(), Refusal>
-        ensures { Changes (SetsClock earliest latest (state_of self.old)) (RefusesClock earliest latest) self.old self.new result }
+        ensures { Changes
+            (SetsClock earliest latest (state_of self.old))
+            (RefusesClock earliest latest) self.old self.new result }
     {
         self.clock = Interval::new(earliest, latest)?;
         Ok(())
@@ -327,7 +331,8 @@ impl Session {
         self.gather(alloc, &layout, MutationKind::Delete, text)
     }
 
-    /// Gathers the mutation of a record. `WrongType`: a wrong number of fields, or a field that is no cell of its column's type.
+    /// Gathers the mutation of a record. `WrongType`: a wrong number of fields, or a field that is no cell of its
+    /// column's type.
     fn gather(
         &mut self,
         alloc: Global,
@@ -344,7 +349,8 @@ impl Session {
         Ok(())
     }
 
-    /// The mutation of a record. `WrongType`: a wrong number of fields, or a field that is no cell of its column's type.
+    /// The mutation of a record. `WrongType`: a wrong number of fields, or a field that is no cell of its column's
+    /// type.
     fn read_record(
         &mut self,
         alloc: Global,
@@ -353,7 +359,8 @@ impl Session {
         text: &str,
     ) -> Result<Mutation, Refusal>
         ensures read { IfOk result (λ m. IsOfRecord layout.now kind (record_fields text.now) m) }
-        ensures refused { IfErr result (λ why. (why ≡ Refusal.OutOfMemory) ⊎ RefusesRecord layout.now kind text.now why) }
+        ensures refused { IfErr result
+            (λ why. (why ≡ Refusal.OutOfMemory) ⊎ RefusesRecord layout.now kind text.now why) }
         ensures kept { state_of self.new ≡ state_of self.old }
     {
         read_fields(alloc, text, &mut self.fields)?;
@@ -369,7 +376,8 @@ impl Session {
         text: &str,
     ) -> Result<Mutation, Refusal>
         ensures read { IfOk result (λ m. IsDeletion schema.now table.now text.now m) }
-        ensures refused { IfErr result (λ why. (why ≡ Refusal.OutOfMemory) ⊎ RefusesDelete schema.now table.now text.now why) }
+        ensures refused { IfErr result
+            (λ why. (why ≡ Refusal.OutOfMemory) ⊎ RefusesDelete schema.now table.now text.now why) }
         ensures kept { state_of self.new ≡ state_of self.old }
     {
         let layout = Layout::of_key(alloc, schema, table)?;
@@ -474,7 +482,8 @@ impl Session {
         });
     }
 
-    /// Answers a load at its `end`, the line of this number. Where memory runs out for the answer the load has gathered nothing.
+    /// Answers a load at its `end`, the line of this number. Where memory runs out for the answer the load has gathered
+    /// nothing.
     #[tactic(auto, using(crate::proofs::Begun::begins_itself, crate::proofs::Begun::begins_on))]
     fn end_load(&mut self, load: Load, number: u64, answers: &mut Answers) -> Result<(), Refused>
         ensures exact { self.old.load ≡ None → AddsAt
@@ -533,7 +542,8 @@ impl Session {
     /// Opens a query with the parameters that are set.
     fn open(&self, alloc: Global, core: &mut Core, bound: Bound, text: &str) -> Reply
         ensures taken { Takes core.old.schema core.old.machine
-            (step_of_kind.Open text.now (state_of self.now).params bound (state_of self.now).clock) result core.new.machine }
+            (step_of_kind.Open text.now (state_of self.now).params bound (state_of self.now).clock)
+            result core.new.machine }
         ensures schema { core.new.schema ≡ core.old.schema }
     {
         match self.opening(alloc, bound, text) {
@@ -547,7 +557,8 @@ impl Session {
 
     /// The step that opens a query. `OutOfMemory` is the only refusal.
     fn opening(&self, alloc: Global, bound: Bound, text: &str) -> Result<Step, Refusal>
-        ensures step { IfOk result (λ step. step ≡ step_of_kind.Open text.now (state_of self.now).params bound (state_of self.now).clock) }
+        ensures step { IfOk result (λ step. step
+            ≡ step_of_kind.Open text.now (state_of self.now).params bound (state_of self.now).clock) }
         ensures memory { IsOkUnless result Refusal.OutOfMemory }
     {
         Ok(Step::Open {
@@ -558,10 +569,12 @@ impl Session {
         })
     }
 
-    /// Opens a query, scans its leaves, finishes and closes it: the reply of the first step that is refused, else the rows.
+    /// Opens a query, scans its leaves, finishes and closes it: the reply of the first step that is refused, else the
+    /// rows.
     fn query(&self, alloc: Global, core: &mut Core, bound: Bound, text: &str) -> Reply
         ensures queried { IsQueried core.old.schema core.old.machine (state_of self.now).clock
-            (step_of_kind.Open text.now (state_of self.now).params bound (state_of self.now).clock) result core.new.machine }
+            (step_of_kind.Open text.now (state_of self.now).params bound (state_of self.now).clock)
+            result core.new.machine }
         ensures schema { core.new.schema ≡ core.old.schema }
     {
         match self.open(alloc, core, bound, text) {
@@ -595,8 +608,10 @@ fn scan(
     leaves: usize,
 ) -> Result<(), Refusal>
     ensures scanned { MatchResult result
-        (λ _. AreTaken core.old.schema core.old.machine (scans clock query (length core.old.machine.slots) leaves) core.new.machine)
-        (λ why. AreRefused core.old.schema core.old.machine (scans clock query (length core.old.machine.slots) leaves) why core.new.machine) }
+        (λ _. AreTaken core.old.schema core.old.machine
+        (scans clock query (length core.old.machine.slots) leaves) core.new.machine)
+        (λ why. AreRefused core.old.schema core.old.machine
+        (scans clock query (length core.old.machine.slots) leaves) why core.new.machine) }
     ensures schema { core.new.schema ≡ core.old.schema }
 {
     let slots = core.slots();
@@ -620,7 +635,8 @@ fn scan_leaf(
 ) -> Result<(), Refusal>
     ensures scanned { MatchResult result
         (λ _. AreTaken core.old.schema core.old.machine (scans_of_leaf clock query slots leaf) core.new.machine)
-        (λ why. AreRefused core.old.schema core.old.machine (scans_of_leaf clock query slots leaf) why core.new.machine) }
+        (λ why. AreRefused core.old.schema core.old.machine
+        (scans_of_leaf clock query slots leaf) why core.new.machine) }
     ensures schema { core.new.schema ≡ core.old.schema }
 {
     for slot in 0..slots {

@@ -1,4 +1,4 @@
-use Rattle.std.proofs.Common.{◌≡◌, ◌++◌, ◌+◌, ◌<◌, ◌∙◌, ℕ, zero, suc, List, [], ◌∷◌, length, slice_get, arith, None, refl}
+use Rattle.std.proofs.Common.{◌≡◌, ◌<◌, ℕ, zero, suc, List, [], ◌∷◌, length, slice_get, arith, None}
 use Rattle.span_script.proofs.Shards.{one_more}
 use Rattle.span_script.proofs.answer.Answers.slot_lines.Goals.{in-Some+in_ok-slot, in_default}
 use Rattle.span_script.proofs.answer.Answers.slot_lines.Goals as goal
@@ -14,6 +14,6 @@ loop-slot-preserved c =
     let m = c.args.core.now.machine in
     elim c.match-slot.branch [
       | in-Some+in_ok-slot w ↦
-          rw (w.self-is) (one_more schema m c.args.self.now c.loop-slot.self _ _ c.loop-slot.slot w.in-Some.view c.loop-slot.invariant w.in-Some.ensures refl w.in_ok-slot.ensures.added)
+          rw (w.self-is) (one_more schema m c.args.self.now c.loop-slot.self _ c.loop-slot.slot w.in-Some.view c.loop-slot.invariant w.in-Some.ensures w.in_ok-slot.ensures.added)
       | in_default w ↦ absurd (missing m.slots c.loop-slot.slot (omega (arith, c.loop-slot-test.true, c.slots-slot-end.ensures)) w.in_default.ensures)
     ]

@@ -1,4 +1,4 @@
-use Rattle.std.proofs.Common.{◌≡◌, ◌×◌, ◌++◌, take}
+use Rattle.std.proofs.Common.{◌≡◌, ◌++◌, take}
 use Rattle.span_script.specs.Lines.{slot_lines, Begins}
 use Rattle.span_script.proofs.answer.Answers.slot_lines.Given as goal
 
