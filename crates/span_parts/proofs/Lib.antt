@@ -1,6 +1,6 @@
 pub mod Entries
 pub mod Values
-pub mod Shards
+pub mod Changes
 pub mod Wholes
 pub mod Applying
 pub mod Preparing

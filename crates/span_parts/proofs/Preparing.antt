@@ -34,7 +34,7 @@ use Rattle.span_version_laws.proofs.Preparing.{its_typed, prepare_free, prepare_
 use Rattle.span_journal.specs.Judged.{MayPrepare, IsNoted, IsUnnoted, has_wrong_state, note_cause}
 use Rattle.span_journal.proofs.Preparing.{timestamp_refusal, note_stamp}
 use Rattle.span_parts.specs.Whole.{Shards, IsWhole}
-use Rattle.span_parts.proofs.Shards.{some_same}
+use Rattle.span_parts.proofs.Changes.{some_same}
 use Rattle.span_parts.proofs.Wholes.{no_text, goes_to, pieces_same}
 
 above : (n k : ℕ) → n ≡ k → most_versions < n → nat_lt most_versions k ≡ true

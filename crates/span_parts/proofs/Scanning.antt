@@ -25,7 +25,7 @@ use Rattle.span_version_laws.proofs.Snapshots.{snapshot_when_safe}
 use Rattle.span_version_laws.proofs.Covers.{pieced_table, pieced_scanned, covered-queries, find-queries, found_query}
 use Rattle.span_journal.specs.Judged.{MayScan, IsRegistered}
 use Rattle.span_parts.specs.Whole.{Shards, IsWhole, IsRead, IsUnread}
-use Rattle.span_parts.proofs.Shards.{some_same}
+use Rattle.span_parts.proofs.Changes.{some_same}
 use Rattle.span_parts.proofs.Wholes.{no_text}
 
 -- the answer of a scan that covers a part of a leaf

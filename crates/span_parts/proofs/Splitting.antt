@@ -14,23 +14,16 @@ use Rattle.span_machine.specs.Limits.{most_slots}
 use Rattle.span_machine.specs.declared.slot.SlotState.{SlotState}
 use Rattle.span_machine.specs.declared.step.Step.TheVariants as step
 use Rattle.span_machine.specs.declared.step.Reply.TheVariants as reply
-use Rattle.span_machine.specs.Slots.{root_code, IsCut}
 use Rattle.span_machine.specs.Machine.{Machine, Answer, IsAnswer, refused, unless_refused, if_some, for_slot, is_prepared_at, begins_at, split, split_at, split_slot, split_in_two}
 use Rattle.span_machine.specs.Pieces.{Journaled, machine_of}
-use Rattle.span_machine_laws.proofs.Splits.{root_key_is, may_split, found_has}
+use Rattle.span_machine_laws.proofs.Ranges.{split_cut}
+use Rattle.span_machine_laws.proofs.Splits.{may_split, found_has}
 use Rattle.span_version_laws.specs.Kept.{AreAllKept}
 use Rattle.span_version_laws.proofs.AllKept.{all_kept_split}
 use Rattle.span_version_laws.proofs.Splitting.{idle_when_free}
 use Rattle.span_journal.specs.Judged.{MaySplit}
 use Rattle.span_parts.specs.Whole.{Shards, IsWhole}
 use Rattle.span_parts.proofs.Wholes.{no_text, goes_to, pieces_same}
-
--- the coding of a key of a root table is a place to cut at
-cut_of : (schema : List Table) (name : List ℕ) (values : List Value) (key : List ℕ) → AreValues values → root_key schema name values ≡ Some key → IsCut schema (Some key)
-unfolding root_code
-cut_of schema name values key are coded =
-    let is = root_key_is schema name values key are coded in
-    (record { table = is.table; key = values }, (is.root, is.coded), is.same)
 
 module _ (schema : List Table) (j : Journaled) (shards : Shards) (w : IsWhole schema j shards) (slot : ℕ) (key : List ℕ) (d : MaySplit (machine_of j) slot key) where
   abbrev m : Machine
@@ -62,4 +55,4 @@ module _ (schema : List Table) (j : Journaled) (shards : Shards) (w : IsWhole sc
       let after : Shards = slice_set shards slot (keys_before key cs) ++ keys_from key cs ∷ [] in
       goes_to schema j k no_text (step.Split name values) are is (pieces_same schema j.queries k.queries queries) shards after w
       (subst (λ (a : Answer). AreAllKept schema a.1 after) (sym whole)
-      (all_kept_split schema w.rules m w.reached shards w.kept slot cs there key d.slot_state d.here (found_has m.slots key slot d.slot_state d.found d.here) (cut_of schema name values key are coded) unprepared))
+      (all_kept_split schema w.rules m w.reached shards w.kept slot cs there key d.slot_state d.here (found_has m.slots key slot d.slot_state d.found d.here) (split_cut schema w.rules name values key are coded) unprepared))

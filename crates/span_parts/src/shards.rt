@@ -1,5 +1,5 @@
 //! Changes of the shard of one slot among those of all slots.
-ghost use Rattle.std.specs.Prelude.{◌≡◌, ◌×◌, ◌⊎◌, ◌≤◌, ◌<◌, IfOk, IfErr, IfSome, OnOk, OnErr, Some, length, slice_get, slice_set};
+ghost use Rattle.std.specs.Prelude.{◌≡◌, ◌⊎◌, ◌≤◌, ◌<◌, ◌++◌, ◌∷◌, [], List, IfOk, IfErr, IfSome, OnOk, OnErr, Some, length, slice_get, slice_set};
 ghost use Rattle.span_arena.specs.Limits.{most_nodes};
 ghost use Rattle.span_mutate.specs.Typed.{AreTypedMutations};
 ghost use Rattle.span_shard.specs.Reading.{AreWrites, IsFault, IsFull, IsPrepareRefusal};
