@@ -1,5 +1,5 @@
 -- Apply and Trim of a slot, in the journal and in the slot's shard.
-use Rattle.std.proofs.Common.{◌≡◌, ◌≢◌, ℕ, ◌≤◌, nat_lt, false, List, length, Option, Some, None, refl, ap, sym, ◌∙◌, subst, inl, inr, arith}
+use Rattle.std.proofs.Common.{◌≡◌, ℕ, ◌≤◌, nat_lt, false, List, Option, Some, None, refl, ap, sym, ◌∙◌, subst, arith}
 use Rattle.std.specs.Prelude.{find, slice_get, slice_set}
 use Rattle.std.proofs.lemmas.Bool.Decides.{nat_tests}
 use Rattle.span_value.specs.declared.refusal.Refusal.{Refusal}
@@ -13,10 +13,8 @@ use Rattle.span_machine.specs.declared.step.Step.TheVariants as step
 use Rattle.span_machine.specs.declared.step.Reply.TheVariants as reply
 use Rattle.span_machine.specs.declared.slot.SlotState.{SlotState}
 use Rattle.span_machine.specs.declared.transaction.Decision.{Decision}
-use Rattle.span_machine.specs.declared.transaction.Decision.TheVariants as decision
 use Rattle.span_machine.specs.declared.transaction.OpenTransaction.{OpenTransaction}
-use Rattle.span_machine.specs.declared.transaction.Commit.{Commit}
-use Rattle.span_machine.specs.Machine.{Machine, Answer, IsAnswer, answer, refused, unless_refused, if_some, for_slot, is_transaction, is_safe, trim, trim_slot, trimmed, with_horizon, applied_at, apply_step, apply_transaction}
+use Rattle.span_machine.specs.Machine.{Machine, Answer, IsAnswer, refused, unless_refused, if_some, for_slot, is_transaction, is_safe, trim, trim_slot, trimmed, with_horizon, applied_at, apply_step, apply_transaction}
 use Rattle.span_machine.specs.Kept as kept
 use Rattle.span_machine.specs.Pieces.{Journaled, machine_of}
 use Rattle.span_machine_laws.proofs.Causes.{may_trim}

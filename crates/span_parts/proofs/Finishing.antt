@@ -7,9 +7,8 @@ use Rattle.span_schema.specs.declared.table.Table.{Table}
 use Rattle.span_query.specs.declared.query.BoundQuery.{BoundQuery}
 use Rattle.span_query.specs.Rows.{Row, Rows, joined}
 use Rattle.span_query.specs.Meaning as meant
-use Rattle.span_machine.specs.declared.step.Step.TheVariants as step
 use Rattle.span_machine.specs.declared.step.Reply.TheVariants as reply
-use Rattle.span_machine.specs.Machine.{Answer, Answers, answer, answer_on, rows_or_refusal, finish}
+use Rattle.span_machine.specs.Machine.{Answer, Answers, answer_on, rows_or_refusal, finish}
 use Rattle.span_machine.specs.Pieces.{Journaled, machine_of}
 use Rattle.span_version_laws.proofs.Covers.{pieced_finish}
 use Rattle.span_journal.specs.Judged.{IsCovered}

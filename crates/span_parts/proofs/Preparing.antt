@@ -1,5 +1,5 @@
 -- Prepare at a slot, in the slot's shard and in the journal.
-use Rattle.std.proofs.Common.{◌≡◌, ◌≢◌, ℕ, ◌<◌, ◌≤◌, ◌==◌, ◌||◌, Bool, true, false, not, length, nat_lt, nat_le, arith, [], ◌∷◌, List, Option, Some, None, refl, ap, sym, ◌∙◌, subst, inl, inr}
+use Rattle.std.proofs.Common.{◌≡◌, ℕ, ◌<◌, ◌≤◌, ◌==◌, Bool, true, false, length, nat_lt, nat_le, arith, [], ◌∷◌, List, Option, Some, None, refl, ap, sym, ◌∙◌, subst, inl, inr}
 use Rattle.std.specs.Prelude.{slice_get, slice_set, Ok, Err, ◌⊎◌}
 use Rattle.std.specs.List.{AllByRecursion}
 use Rattle.std.proofs.lemmas.Bool.Decides.{nat_tests}
@@ -23,7 +23,7 @@ use Rattle.span_machine.specs.declared.step.Step.TheVariants as step
 use Rattle.span_machine.specs.declared.step.Reply.TheVariants as reply
 use Rattle.span_machine.specs.declared.slot.SlotState.{SlotState}
 use Rattle.span_machine.specs.declared.transaction.OpenTransaction.{OpenTransaction}
-use Rattle.span_machine.specs.Machine.{Machine, Answer, Answers, IsAnswer, refused, unless_refused, if_some, for_slot, mutations_in, mutations_refusal, prepare, prepare_transaction, prepare_refusal, prepare_timestamp, capacity_refusal, prepared, is_undecided, is_prepared_at, has_conflict}
+use Rattle.span_machine.specs.Machine.{Machine, Answer, Answers, IsAnswer, refused, unless_refused, if_some, for_slot, mutations_in, mutations_refusal, prepare, prepare_transaction, prepare_timestamp, capacity_refusal, prepared, is_undecided, is_prepared_at, has_conflict}
 use Rattle.span_machine.specs.Kept.{most_versions, live_with}
 use Rattle.span_machine.specs.Pieces.{Journaled, machine_of}
 use Rattle.span_machine_laws.proofs.Causes.{may_prepare}

@@ -1,6 +1,6 @@
 -- Scan of a leaf in a slot.
 use Rattle.std.proofs.Common.{◌≡◌, ℕ, ◌≤◌, arith, nat_lt, cond, true, false, List, Option, Some, None, refl, ap, sym, ◌∙◌, subst, inl, inr}
-use Rattle.std.specs.Prelude.{find, slice_get, option_map, ◌⊎◌}
+use Rattle.std.specs.Prelude.{find, slice_get, option_map}
 use Rattle.std.proofs.lemmas.Bool.Decides.{nat_tests}
 use Rattle.span_value.specs.declared.refusal.Refusal.{Refusal}
 use Rattle.span_value.specs.declared.refusal.Refusal.TheVariants as refusal
@@ -19,7 +19,7 @@ use Rattle.span_machine.specs.declared.query.OpenQuery.{OpenQuery}
 use Rattle.span_machine.specs.Machine.{Machine, Answer, IsAnswer, refused, if_some, for_slot, is_query, is_safe, with_risen_floor, with_slot_state, cover, changed_first, gap_in, scan, scan_query, scan_leaf, scan_gap, scanned}
 use Rattle.span_machine.specs.Pieces.{Pieced, Journaled, covered_by, machine_of, queries_of}
 use Rattle.span_machine_laws.proofs.Reached.{IsReached, answer_reached, reached_tables}
-use Rattle.span_version_laws.specs.Kept.{AreKept, AreAllKept, ArePieced, IsReading}
+use Rattle.span_version_laws.specs.Kept.{AreAllKept, ArePieced, IsReading}
 use Rattle.span_version_laws.proofs.AllKept.{all_kept_by_step}
 use Rattle.span_version_laws.proofs.Snapshots.{snapshot_when_safe}
 use Rattle.span_version_laws.proofs.Covers.{pieced_table, pieced_scanned, covered-queries, find-queries, found_query}

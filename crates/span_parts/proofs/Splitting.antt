@@ -1,5 +1,5 @@
 -- Splits of a slot, in the journal and in the slot's shard.
-use Rattle.std.proofs.Common.{◌≡◌, ℕ, false, nat_le, List, [], ◌∷◌, ◌++◌, length, Option, Some, refl, ap, sym, ◌∙◌, subst}
+use Rattle.std.proofs.Common.{◌≡◌, ℕ, false, nat_le, List, [], ◌∷◌, ◌++◌, length, Option, Some, ap, sym, ◌∙◌, subst}
 use Rattle.std.specs.Prelude.{slice_get, slice_set}
 use Rattle.std.specs.List.{list_any}
 use Rattle.span_value.specs.declared.refusal.Refusal.{Refusal}

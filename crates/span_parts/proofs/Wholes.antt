@@ -1,6 +1,6 @@
 -- Journals and shards that belong together, before a step and after it.
-use Rattle.std.proofs.Common.{◌≡◌, ◌≢◌, ℕ, ◌≤◌, ◌⊎◌, nat_lt, false, List, [], ◌∷◌, ◌++◌, length, Option, Some, None, Result, Ok, Err, refl, ap, sym, ◌∙◌, subst, inl, inr}
-use Rattle.std.specs.Prelude.{find, slice_get, slice_set, IfOk, OnOk, OnErr}
+use Rattle.std.proofs.Common.{◌≡◌, ℕ, List, [], ◌∷◌, ◌++◌, Result, Ok, Err, refl, sym, subst, inl, inr}
+use Rattle.std.specs.Prelude.{IfOk, OnOk, OnErr}
 use Rattle.std.specs.List.{AllByRecursion}
 use Rattle.span_value.specs.declared.refusal.Refusal.{Refusal}
 use Rattle.span_value.specs.declared.refusal.Refusal.TheVariants as refusal
@@ -12,8 +12,8 @@ use Rattle.span_query.specs.declared.query.Statement.{Statement}
 use Rattle.span_machine.specs.declared.step.Step.{Step}
 use Rattle.span_machine.specs.declared.step.Reply.{Reply}
 use Rattle.span_machine.specs.Run.{IsOfSchema}
-use Rattle.span_machine.specs.Machine.{Machine, Answers, IsAnswer, answer, start, is_query, without_first}
-use Rattle.span_machine.specs.Pieces.{Pieced, Journaled, unread, machine_of, queries_of}
+use Rattle.span_machine.specs.Machine.{Machine, Answers, answer, start, is_query, without_first}
+use Rattle.span_machine.specs.Pieces.{Pieced, Journaled, unread, machine_of}
 use Rattle.span_machine_laws.proofs.Reached.{IsReached, start_reached, answer_reached}
 use Rattle.span_version_laws.specs.Kept.{AreAllKept, ArePieced}
 use Rattle.span_version_laws.proofs.AllKept.{LeavesShards, start_all_kept, all_kept_by_step}

@@ -3,7 +3,6 @@ use Rattle.std.specs.Prelude.{ℕ, List, Bool, true, false}
 use Rattle.span_query.specs.Rows.{Row}
 use Rattle.span_machine.specs.declared.step.Reply.{Reply}
 use Rattle.span_machine.specs.declared.step.Reply.TheVariants as reply
-use Rattle.span_truetime.specs.declared.interval.Interval.{Interval}
 pub use Rattle.span_journal.specs.Judged.{as_reply, decision_reply}
 
 -- the reply to a scan: whether there was something to scan

@@ -2,7 +2,7 @@
 ghost use Rattle.std.specs.Prelude.{◌≡◌, ◌⊎◌, ◌≤◌, ◌<◌, ◌++◌, ◌∷◌, [], List, IfOk, IfErr, IfSome, OnOk, OnErr, Some, length, slice_get, slice_set};
 ghost use Rattle.span_arena.specs.Limits.{most_nodes};
 ghost use Rattle.span_mutate.specs.Typed.{AreTypedMutations};
-ghost use Rattle.span_shard.specs.Reading.{AreWrites, IsFault, IsFull, IsPrepareRefusal};
+ghost use Rattle.span_shard.specs.Reading.{AreWrites, IsFault, IsFull};
 ghost use Rattle.span_shard.specs.Shard.{with_writes, applied, trimmed, live, IsFree, IsIdle, HasNoneOf, IsLaterCommit, keys_before, keys_from};
 ghost use Rattle.span_shard.specs.declared.write.Write.{Write};
 

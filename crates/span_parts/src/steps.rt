@@ -252,7 +252,9 @@ pub fn scan(
     schema.meets_rules();
     match journal.claim_gap(alloc, query, leaf, slot, interval) {
         Ok(Some(gap)) => match read(alloc, schema, &shards[slot], gap.table, &gap.range, gap.s) {
-            Ok(rows) => match journal.register(alloc, query, leaf, slot, interval, gap.range, rows) {
+            Ok(rows) => match journal.register(
+                alloc, query, leaf, slot, interval, gap.range, rows,
+            ) {
                 Ok(()) => Ok(true),
                 Err(why) => Err(why),
             },
@@ -264,7 +266,12 @@ pub fn scan(
 }
 
 /// The timestamp that a query reads at, and its rows, once pieces cover its leaves.
-pub fn finish(alloc: Global, schema: &Schema, journal: &Journal, query: u64) -> Result<(u64, Seq<Row>), Refusal>
+pub fn finish(
+    alloc: Global,
+    schema: &Schema,
+    journal: &Journal,
+    query: u64,
+) -> Result<(u64, Seq<Row>), Refusal>
     ensures { (shards : Shards)
         → IsWhole schema.now journal.now shards
         → Answers (machine_of journal.now)

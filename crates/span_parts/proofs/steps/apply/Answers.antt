@@ -1,6 +1,6 @@
 use Rattle.std.proofs.Common.{refl, sym, subst}
-use Rattle.span_shard.specs.Shard.{applied, IsLaterCommit}
-use Rattle.span_parts.specs.Whole.{Shards, IsWhole}
+use Rattle.span_shard.specs.Shard.{IsLaterCommit}
+use Rattle.span_parts.specs.Whole.{IsWhole}
 use Rattle.span_parts.proofs.Changes.{all_some, of_some, shard_there}
 use Rattle.span_parts.proofs.Applying.{later_applied, whole_applied}
 use Rattle.span_parts.proofs.steps.apply.Goals as goal

@@ -45,9 +45,9 @@ returns-in-Err-clause-whole c =
     let written = with_writes a.txn r.writes r.before in
     let there = ap (λ (l : Shards). slice_get l a.slot) r.put ∙ set_there before a.slot r.before written r.here in
     let back =
-        of_some _ _ written there c.apply_at.ensures
-        ∙ ap (λ (l : Shards). slice_set l a.slot (applied a.txn None written)) r.put
-        ∙ set_twice before a.slot written (applied a.txn None written)
-        ∙ ap (slice_set before a.slot) (taken_back a.schema.now a.journal.now before w a.owner a.txn a.slot r.mutations r.may r.before r.here r.writes r.are.touched)
-        ∙ set_again before a.slot r.before r.here in
+    of_some _ _ written there c.apply_at.ensures
+    ∙ ap (λ (l : Shards). slice_set l a.slot (applied a.txn None written)) r.put
+    ∙ set_twice before a.slot written (applied a.txn None written)
+    ∙ ap (slice_set before a.slot) (taken_back a.schema.now a.journal.now before w a.owner a.txn a.slot r.mutations r.may r.before r.here r.writes r.are.touched)
+    ∙ set_again before a.slot r.before r.here in
     subst (IsWhole a.schema.now k) (sym back) (goes_same a.schema.now a.journal.now k c.in-Err.ensures.err c.in-Err.ensures.pieces before w)

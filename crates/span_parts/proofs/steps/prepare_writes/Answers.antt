@@ -1,6 +1,4 @@
-use Rattle.std.proofs.Common.{List, sym, subst}
-use Rattle.std.specs.Prelude.{slice_get, IfSome}
-use Rattle.span_mutate.specs.declared.mutation.CheckedMutation.{CheckedMutation}
+use Rattle.std.proofs.Common.{sym, subst}
 use Rattle.span_shard.specs.Shard.{IsFree, HasNoneOf}
 use Rattle.span_machine.specs.Pieces.{machine_of}
 use Rattle.span_journal.specs.Judged.{MayPrepare}

@@ -1,11 +1,9 @@
-use Rattle.std.proofs.Common.{List, ◌∙◌, sym, ap, subst, inl, inr}
-use Rattle.std.specs.Prelude.{slice_get, Some}
-use Rattle.span_value.specs.declared.refusal.Refusal.{Refusal}
+use Rattle.std.proofs.Common.{◌∙◌, sym, ap, subst, inl, inr}
+use Rattle.std.specs.Prelude.{Some}
 use Rattle.span_machine.specs.declared.step.Step.TheVariants as step
 use Rattle.span_machine.specs.declared.step.Reply.TheVariants as reply_of
 use Rattle.span_machine.specs.Machine.{Machine, Answer, Answers, scan}
 use Rattle.span_machine.specs.Pieces.{machine_of}
-use Rattle.span_shard.specs.KeyVersions.{KeyVersions}
 use Rattle.span_journal.specs.Judged.{IsGap, MayScan}
 use Rattle.span_parts.proofs.Changes.{shard_there, at_index}
 use Rattle.span_parts.proofs.Scanning.{scanned_table, reads, scanned_answer, scanned_whole}
