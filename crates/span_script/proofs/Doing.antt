@@ -1,6 +1,6 @@
 -- What a command has added to the answers.
 use Rattle.std.proofs.Common.{◌≡◌, ◌⊎◌, ℕ, List, ◌++◌, Result, Ok, Err, inl, inr, refl, sym, ap, subst, codes, false, ⊎_elim}
-use Rattle.std.specs.Prelude.{MatchOption, MatchResult, Option, None, Some}
+use Rattle.std.specs.Prelude.{MatchOption, MatchResult, Option, Some}
 use Rattle.span_value.specs.declared.refusal.Refusal.{Refusal}
 use Rattle.span_value.specs.declared.refusal.Refusal.TheVariants.{OutOfMemory, BadCommand, BadSplit}
 use Rattle.span_schema.specs.declared.table.Table.{Table}

@@ -1,5 +1,5 @@
 -- Answer text: what a script is answered.
-use Rattle.std.specs.Prelude.{◌≡◌, ◌≢◌, ◌⊎◌, ℕ, ◌+◌, ◌-◌, ◌<◌, ◌≤◌, ◌==◌, Bool, true, false, List, [], ◌∷◌, ◌++◌, take, length, codes, Option, Some, None, Result, Ok, Err, MatchOption, MatchResult, IsUtf8, is_some, if◌then◌else◌}
+use Rattle.std.specs.Prelude.{◌≡◌, ◌≢◌, ◌⊎◌, ℕ, ◌-◌, ◌<◌, ◌≤◌, ◌==◌, Bool, true, false, List, [], ◌∷◌, ◌++◌, take, length, codes, Option, Some, None, Result, Err, MatchOption, MatchResult, IsUtf8, is_some, if◌then◌else◌}
 use Rattle.span_value.specs.declared.refusal.Refusal.{Refusal}
 use Rattle.span_value.specs.declared.refusal.Refusal.TheVariants.{OutOfMemory, BadCommand, BadInterval, BadSplit, TimestampRange, WrongType, NoTable}
 use Rattle.span_value.specs.declared.value.Kind.{Kind}

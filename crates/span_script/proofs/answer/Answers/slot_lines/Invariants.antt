@@ -1,5 +1,5 @@
 use Rattle.std.proofs.Common.{◌≡◌, ◌++◌, take}
-use Rattle.span_script.specs.Lines.{slot_lines, Begins}
+use Rattle.span_script.specs.Lines.{slot_lines}
 use Rattle.span_script.proofs.answer.Answers.slot_lines.Given as goal
 
 -- the lines of the slots before the next one
