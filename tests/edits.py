@@ -349,7 +349,7 @@ def try_all(rt, crates, edits, jobs, is_gate):
         for crate in crates:
             batches, others = batches_of(crate, edits[crate.name])
             calls = [lambda kept, it=it: try_batch(rt, it, kept) for it in batches]
-            calls += [lambda kept, it=it, crate=crate: [rt.must_fail(crate, it, FLAGS, kept)] for it in others]
+            calls += [lambda kept, it=it, crate=crate: [try_alone(rt, crate, it, kept)] for it in others]
             running.update({pool.submit(try_over, rt, crate, call, not is_gate): crate.name for call in calls})
         for future in concurrent.futures.as_completed(running):
             name = running[future]

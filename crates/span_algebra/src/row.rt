@@ -63,7 +63,7 @@ pub(crate) fn extend_row(
 }
 
 /// A copy of the row.
-pub(crate) fn copy_row(alloc: Global, row: &[Value]) -> Result<Row, AllocError>
+pub fn copy_row(alloc: Global, row: &[Value]) -> Result<Row, AllocError>
     ensures { IfOk result (λ copy. copy ≡ row.now) }
 {
     let room = Vec::with_capacity(alloc, row.len())?;

@@ -1,7 +1,7 @@
 //! A whole run of a list of steps.
 ghost use Rattle.std.specs.Prelude.{IfOk, List};
 ghost use Rattle.span_schema.specs.declared.table.Table.{Table};
-ghost use Rattle.span_machine.specs.Run.{AreOfSchema};
+ghost use Rattle.span_machine.specs.Run.{AreChecked};
 ghost use Rattle.span_mutate.specs.Typed.{AreTypedMutations};
 
 use super::schema::users_and_albums;
@@ -20,7 +20,7 @@ pub fn replies_of_run(alloc: Global) -> Result<Vec<Reply>, ProgramError> {
 
 fn committing(alloc: Global, transaction: Transaction) -> Result<Vec<Step>, ProgramError>
     ensures { IfOk result
-        (λ steps. (schema : List Table) → AreTypedMutations schema transaction → AreOfSchema schema steps.items) }
+        (λ steps. (schema : List Table) → AreTypedMutations schema transaction → AreChecked schema steps.items) }
 {
     let interval = Interval::new(100, 110)?;
     let mut steps = Vec::new(alloc);

@@ -204,6 +204,7 @@ no_lone line whole begin shards (command.Write kind table columns row) is = whol
 no_lone line whole begin shards (command.Clock a b) is = whole (codes "clock") _ (word_of (codes "clock") (omega arith) refl) is.1
 no_lone line whole begin shards (command.Param name k cell) is = whole (codes "param") _ (word_of (codes "param") (omega arith) refl) is.1
 no_lone line whole begin shards (command.Delete table row) is = whole (codes "delete") _ (word_of (codes "delete") (omega arith) refl) is.1
+no_lone line whole begin shards (command.Split table row) is = whole (codes "split") _ (word_of (codes "split") (omega arith) refl) is.1
 no_lone line whole begin shards (command.Load table columns) is = whole (codes "load") _ (word_of (codes "load") (omega arith) refl) is.1
 no_lone line whole begin shards (command.Prepare a b) is = whole (codes "prepare") _ (word_of (codes "prepare") (omega arith) refl) is.1
 no_lone line whole begin shards (command.Decide a) is = whole (codes "decide") _ (word_of (codes "decide") (omega arith) refl) is.1
@@ -250,6 +251,7 @@ pub record IsNumbered (word : List ℕ) : Type 0 where
   pub update : word ≢ codes "update"
   pub upsert : word ≢ codes "upsert"
   pub delete : word ≢ codes "delete"
+  pub split : word ≢ codes "split"
   pub load : word ≢ codes "load"
   pub opens : word ≢ codes "open"
   pub query : word ≢ codes "query"
@@ -275,6 +277,7 @@ numbered line word rest good split other None none = λ c is. refuse c (subst (�
     refuse (command.Param name k cell) is = other.param (first (codes "param") _ (spaceless (codes "param") refl) is.1)
     refuse (command.Write k table columns row) is = write k is.0.0 (first (write_word k) _ (write_word_word k).1 is.1)
     refuse (command.Delete table row) is = other.delete (first (codes "delete") _ (spaceless (codes "delete") refl) is.1)
+    refuse (command.Split table row) is = other.split (first (codes "split") _ (spaceless (codes "split") refl) is.1)
     refuse (command.Load table columns) is = other.load (first (codes "load") _ (spaceless (codes "load") refl) is.1)
     refuse (command.Open bound text) is = other.opens (first (codes "open") _ (spaceless (codes "open") refl) is.1)
     refuse (command.Query bound text) is = other.query (first (codes "query") _ (spaceless (codes "query") refl) is.1)

@@ -34,6 +34,11 @@ pub enum Command<'a> {
         table: &'a str,
         record: &'a str,
     },
+    /// Cuts a slot in two at the key that the record has.
+    Split {
+        table: &'a str,
+        record: &'a str,
+    },
     Load {
         table: &'a str,
         columns: &'a str,
@@ -94,6 +99,7 @@ pub fn read_command(line: &str) -> Option<Command<'_>>
             "update" => read_write(MutationKind::Update, rest),
             "upsert" => read_write(MutationKind::InsertOrUpdate, rest),
             "delete" => read_delete(rest),
+            "split" => read_split(rest),
             "load" => read_load(rest),
             "open" => read_open(rest),
             "query" => read_query(rest),
@@ -172,6 +178,13 @@ fn read_delete(words: &str) -> Option<Command<'_>>
 {
     let (table, record) = word_and_rest(words)?;
     Some(Command::Delete { table, record })
+}
+
+fn read_split(words: &str) -> Option<Command<'_>>
+    ensures { IsReadAs (spaced (codes "split") words.now) result }
+{
+    let (table, record) = word_and_rest(words)?;
+    Some(Command::Split { table, record })
 }
 
 fn read_load(words: &str) -> Option<Command<'_>>

@@ -1,6 +1,4 @@
 pub mod Promised
 pub mod Wholes
-pub mod Preparing
 pub mod Runs
-pub mod Values
-pub mod Entries
+pub mod Viewed

@@ -1,6 +1,6 @@
 -- Every step from a machine that a run reaches is as promised.
-use Rattle.std.proofs.Common.{◌≡◌, ℕ, zero, suc, List, [], ◌∷◌, ◌++◌, Option, Some, None, refl, ap, sym, ◌∙◌, inl, inr}
-use Rattle.std.specs.Prelude.{slice_get, slice_set}
+use Rattle.std.proofs.Common.{◌≡◌, ℕ, List, [], ◌∷◌, ◌++◌, Option, Some, None, refl, ap, sym, ◌∙◌, inl, inr}
+use Rattle.std.specs.Prelude.{slice_get}
 use Rattle.span_value.specs.declared.refusal.Refusal.{Refusal}
 use Rattle.span_value.specs.declared.refusal.Refusal.TheVariants as refusal
 use Rattle.span_schema.specs.declared.table.Table.{Table}
@@ -18,6 +18,7 @@ use Rattle.span_machine.specs.Run.{IsOfSchema, AreOfSchema, IsRight, AreRight}
 use Rattle.span_machine_laws.proofs.Reached.{reached_tables, run_reached, start_reached}
 use Rattle.span_machine_laws.proofs.History.{run_right}
 use Rattle.span_machine_laws.proofs.Known.{start_known}
+use Rattle.span_parts.proofs.Changes.{set_there}
 use Rattle.span_binder.specs.Understands.{Understands}
 use Rattle.span_core.specs.Histories.{Steps, Run}
 use Rattle.span_core.specs.Promises.{IsRunTo, IsCounted, Promises, IsConsistent, asked_after}
@@ -25,7 +26,7 @@ use Rattle.span_core.proofs.Runs.{run_more, whole_consistent}
 
 -- ---- the run goes on
 
-of_schema_more : (schema : List Table) (steps : List Step) (step : Step) → AreOfSchema schema steps → IsOfSchema schema step → AreOfSchema schema (steps ++ step ∷ [])
+pub of_schema_more : (schema : List Table) (steps : List Step) (step : Step) → AreOfSchema schema steps → IsOfSchema schema step → AreOfSchema schema (steps ++ step ∷ [])
 of_schema_more schema [] step all one = (one, tt)
 of_schema_more schema (s ∷ ss) step all one = (all.0, of_schema_more schema ss step all.1 one)
 
@@ -49,12 +50,6 @@ last_right schema commits asked m [] [] last step reply run right = right.0
 last_right schema commits asked m [] (r ∷ rs) last step reply run right = absurd run
 last_right schema commits asked m (s ∷ ss) [] last step reply run right = absurd run
 last_right schema commits asked m (s ∷ ss) (r ∷ rs) last step reply run right = last_right schema commits (opened_by s r ++ asked) run.0 ss rs last step reply run.2 right.1
-
--- what is set at a place in use is there
-pub set_there : (slots : List SlotState) (slot : ℕ) (old new : SlotState) → slice_get slots slot ≡ Some old → slice_get (slice_set slots slot new) slot ≡ Some new
-set_there [] slot old new here = absurd (cc)
-set_there (b ∷ slots) zero old new here = refl
-set_there (b ∷ slots) (suc slot) old new here = set_there slots slot old new here
 
 -- a Trim that is not refused is answered how many versions are kept
 module _ (schema : List Table) (m : Machine) (slot h kept : ℕ) (next : Machine) where

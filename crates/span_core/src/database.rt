@@ -1,40 +1,50 @@
 //! The core and its steps.
-ghost use Rattle.std.specs.Prelude.{◌≡◌, IfOk, IfErr, None, MatchOption, length, slice_get};
+ghost use Rattle.std.specs.Prelude.{◌≡◌, IfOk, IfErr, Ok, None, MatchOption, length, slice_get};
+ghost use Rattle.std.specs.List.{AllByRecursion};
 ghost use Rattle.span_core.specs.Histories.{Steps};
 ghost use Rattle.span_core.specs.Promises.{IsRunTo, Promises, IsConsistent};
-ghost use Rattle.span_core.specs.Reports.{IsReport};
+ghost use Rattle.span_core.specs.Views.{IsView};
+ghost use Rattle.span_binder.specs.Understands.{Understands};
 ghost use Rattle.span_schema.specs.Lineages.{MeetsRules};
+ghost use Rattle.span_schema.specs.Numbers.{IsTable};
 ghost use Rattle.span_machine.specs.Machine.{start};
-ghost use Rattle.span_machine.specs.Run.{IsOfSchema};
+ghost use Rattle.span_machine.specs.Run.{IsChecked, IsOfSchema};
+ghost use Rattle.span_keycode.specs.Coding.{AreValues};
 ghost use Rattle.span_mutate.specs.Typed.{AreTypedMutations};
 ghost use Rattle.span_machine.specs.declared.step.Step.TheVariants as step_of;
-ghost use Rattle.span_machine.specs.declared.step.Reply.TheVariants as reply_of;
-ghost use Rattle.span_journal.specs.Judged.{as_reply};
 
-use super::reading::read;
-use super::slot::SlotReport;
-use span_algebra::plain::eval_plain;
+use super::replies::{
+    advance_reply, apply_reply, begin_reply, close_reply, decide_reply, finish_reply, open_reply,
+    prepare_reply, scan_reply, split_reply, trim_reply,
+};
+use super::slot::SlotView;
 use span_binder::understand::understand;
 use span_journal::journal::Journal;
+use span_keycode::laws::are_values;
 use span_machine::step::{Reply, Step, Verdict};
 use span_mutate::transaction::Transaction;
 use span_params::params::Params;
+use span_parts::{cut, steps};
+use span_query::query::Statement;
 use span_schema::schema::Schema;
 use span_shard::shard::Shard;
 use span_truetime::bound::Bound;
 use span_truetime::interval::Interval;
 use span_value::refusal::Refusal;
+use span_value::seq::Seq;
 use span_value::text::Text;
+use span_value::value::Value;
 use std::alloc::Global;
 use std::marker::Model;
 
-/// A database in memory. Contracts see it as its schema and the machine; that the versions in its shard are those of the machine's
+/// A database in memory. Contracts see it as its schema and the machine; that the versions in its shards are those of the machine's
 /// commits is its invariant.
 #[derive(Debug, Drop)]
 pub struct Core {
     schema: Schema,
     journal: Journal,
-    shard: Shard,
+    /// The shards of the slots in use, by number.
+    shards: Vec<Shard>,
 }
 
 impl Model for Core {
@@ -50,9 +60,9 @@ impl Model for Core {
 
     ghost view = { λ a. record { schema = a.schema; machine = machine_of a.journal } };
 
-    ghost use Rattle.span_core.specs.Whole.{IsWhole};
+    ghost use Rattle.span_core.specs.Whole.{IsDatabase};
 
-    ghost invariant = { λ a. IsWhole a.schema a.journal a.shard };
+    ghost invariant = { λ a. IsDatabase a.schema a.journal a.shards.items };
 }
 
 impl Core {
@@ -62,10 +72,14 @@ impl Core {
         ensures memory { IfErr result (λ why. why ≡ Refusal.OutOfMemory) }
     {
         schema.meets_rules();
+        let mut shards = Vec::new(alloc);
+        shards.push(Shard::new(alloc))?;
+        let journal = Journal::new(alloc)?;
+        steps::start(&schema, &journal, &shards);
         Ok(Core {
             schema,
-            journal: Journal::new(alloc)?,
-            shard: Shard::new(alloc),
+            journal,
+            shards,
         })
     }
 
@@ -96,28 +110,33 @@ impl Core {
         self.journal.slots().len()
     }
 
-    /// The report of a slot; None where it is not in use.
-    pub fn slot_report(&self, slot: usize) -> Option<SlotReport>
+    /// A slot with its shard, lent; None where it is not in use. It takes no memory.
+    pub fn slot(&self, slot: usize) -> Option<SlotView<'_>>
         ensures { MatchOption result
             (slice_get self.now.machine.slots slot ≡ None)
-            (IsReport self.now.schema self.now.machine slot) }
+            (IsView self.now.schema self.now.machine slot) }
     {
         let slot_state = self.journal.slots().get(slot)?;
-        Some(SlotReport {
+        let shard = self.shards.get(slot)?;
+        Some(SlotView {
+            lo: &slot_state.lo,
+            hi: &slot_state.hi,
             last: slot_state.last,
             floor: slot_state.floor,
             horizon: slot_state.horizon,
-            live: self.shard.live(),
+            live: shard.live(),
             prepared: self.journal.count_prepared(slot),
+            shard,
         })
     }
 
     /// Takes one step, and returns the machine's reply. `Refused(OutOfMemory)` may take its place for a step that may take memory,
     /// and then nothing has changed. A transaction that is begun was checked against the database's schema.
     pub fn step(&mut self, alloc: Global, step: Step) -> Reply
-        requires { IsOfSchema self.old.schema step }
+        requires { IsChecked self.old.schema step }
         ensures steps { Steps self.old.schema self.old.machine step result self.new.machine }
         ensures schema { self.new.schema ≡ self.old.schema }
+        ensures of_schema { IsOfSchema self.old.schema step }
     {
         match step {
             Step::Begin { owner, transaction } => self.begin(alloc, owner, transaction),
@@ -133,7 +152,7 @@ impl Core {
                 txn,
                 slot,
                 interval,
-            } => self.apply(alloc, owner, txn, slot, interval),
+            } => self.apply(owner, txn, slot, interval),
             Step::Advance { slot, interval } => self.advance(slot, interval),
             Step::Trim { slot, h } => self.trim(slot, h),
             Step::Open {
@@ -150,6 +169,7 @@ impl Core {
             } => self.scan(alloc, query, leaf, slot, interval),
             Step::Finish { query } => self.finish(alloc, query),
             Step::Close { query } => self.close(query),
+            Step::Split { table, key } => self.split(alloc, table, key),
         }
     }
 
@@ -158,51 +178,22 @@ impl Core {
         ensures steps { Steps self.old.schema self.old.machine (step_of.Begin owner transaction) result self.new.machine }
         ensures schema { self.new.schema ≡ self.old.schema }
     {
-        match self.journal.begin(alloc, owner, transaction) {
-            Ok(number) => Reply::Began(number),
-            Err(why) => Reply::Refused(why),
-        }
+        begin_reply(steps::begin(alloc, &self.schema, &mut self.journal, owner, transaction))
     }
 
     fn prepare(&mut self, alloc: Global, owner: u64, txn: u64, slot: usize) -> Reply
         ensures steps { Steps self.old.schema self.old.machine (step_of.Prepare owner txn slot) result self.new.machine }
         ensures schema { self.new.schema ≡ self.old.schema }
     {
-        match self.try_prepare(alloc, owner, txn, slot) {
-            Ok(timestamp) => Reply::Prepared(timestamp),
-            Err(why) => Reply::Refused(why),
-        }
-    }
-
-    fn try_prepare(
-        &mut self,
-        alloc: Global,
-        owner: u64,
-        txn: u64,
-        slot: usize,
-    ) -> Result<u64, Refusal>
-        ensures steps { Steps self.old.schema self.old.machine
-            (step_of.Prepare owner txn slot)
-            (as_reply reply_of.Prepared result)
-            self.new.machine }
-        ensures schema { self.new.schema ≡ self.old.schema }
-    {
-        match self.journal.check_prepare(&self.schema, owner, txn, slot) {
-            Ok(mutations) => match self.shard.prepare(alloc, &self.schema, txn, mutations) {
-                Ok(()) => {
-                    self.shard.keeps_at_most();
-                    match self.journal.note_prepared(owner, txn, slot) {
-                        Ok(timestamp) => Ok(timestamp),
-                        Err(why) => {
-                            self.shard.apply(txn, None);
-                            Err(why)
-                        }
-                    }
-                }
-                Err(why) => Err(why),
-            },
-            Err(why) => Err(why),
-        }
+        prepare_reply(steps::prepare(
+            alloc,
+            &self.schema,
+            &mut self.journal,
+            &mut self.shards,
+            owner,
+            txn,
+            slot,
+        ))
     }
 
     fn decide(
@@ -216,57 +207,44 @@ impl Core {
         ensures steps { Steps self.old.schema self.old.machine (step_of.Decide owner txn verdict interval) result self.new.machine }
         ensures schema { self.new.schema ≡ self.old.schema }
     {
-        match self
-            .journal
-            .decide(alloc, &self.schema, owner, txn, verdict, interval)
-        {
-            Ok(Some(timestamp)) => Reply::Decided(timestamp),
-            Ok(None) => Reply::Aborted,
-            Err(why) => Reply::Refused(why),
-        }
+        decide_reply(steps::decide(
+            alloc,
+            &self.schema,
+            &mut self.journal,
+            owner,
+            txn,
+            verdict,
+            interval,
+        ))
     }
 
-    fn apply(
-        &mut self,
-        alloc: Global,
-        owner: u64,
-        txn: u64,
-        slot: usize,
-        interval: Interval,
-    ) -> Reply
+    fn apply(&mut self, owner: u64, txn: u64, slot: usize, interval: Interval) -> Reply
         ensures steps { Steps self.old.schema self.old.machine (step_of.Apply owner txn slot interval) result self.new.machine }
         ensures schema { self.new.schema ≡ self.old.schema }
     {
-        match self.journal.note_applied(alloc, owner, txn, slot, interval) {
-            Ok(committed) => {
-                self.shard.apply(txn, committed);
-                Reply::Applied
-            }
-            Err(why) => Reply::Refused(why),
-        }
+        apply_reply(steps::apply(
+            &self.schema,
+            &mut self.journal,
+            &mut self.shards,
+            owner,
+            txn,
+            slot,
+            interval,
+        ))
     }
 
     fn advance(&mut self, slot: usize, interval: Interval) -> Reply
         ensures steps { Steps self.old.schema self.old.machine (step_of.Advance slot interval) result self.new.machine }
         ensures schema { self.new.schema ≡ self.old.schema }
     {
-        match self.journal.advance(slot, interval) {
-            Ok(floor) => Reply::Floor(floor),
-            Err(why) => Reply::Refused(why),
-        }
+        advance_reply(steps::advance(&self.schema, &mut self.journal, slot, interval))
     }
 
     fn trim(&mut self, slot: usize, h: u64) -> Reply
         ensures steps { Steps self.old.schema self.old.machine (step_of.Trim slot h) result self.new.machine }
         ensures schema { self.new.schema ≡ self.old.schema }
     {
-        match self.journal.raise_horizon(slot, h) {
-            Ok(()) => {
-                self.shard.trim(h);
-                Reply::Trimmed(self.shard.live())
-            }
-            Err(why) => Reply::Refused(why),
-        }
+        trim_reply(steps::trim(&self.schema, &mut self.journal, &mut self.shards, slot, h))
     }
 
     fn open(
@@ -281,15 +259,40 @@ impl Core {
         ensures schema { self.new.schema ≡ self.old.schema }
     {
         match understand(alloc, &self.schema, text.as_str(), &params) {
-            Ok(statement) => {
-                let leaves = statement.leaves.len();
-                match self.journal.open(alloc, statement, bound, interval) {
-                    Ok((query, s)) => Reply::Opened { query, s, leaves },
-                    Err(why) => Reply::Refused(why),
-                }
-            }
+            Ok(statement) => self.open_statement(alloc, text, params, statement, bound, interval),
             Err(why) => Reply::Refused(why),
         }
+    }
+
+    /// Opens a query whose text is understood as this statement.
+    fn open_statement(
+        &mut self,
+        alloc: Global,
+        text: Text,
+        params: Params,
+        statement: Statement,
+        bound: Bound,
+        interval: Interval,
+    ) -> Reply
+        requires understood { Understands self.old.schema text params (Ok statement) }
+        requires leaves { AllByRecursion (IsTable self.old.schema) statement.leaves }
+        ensures steps { Steps self.old.schema self.old.machine (step_of.Open text params bound interval) result self.new.machine }
+        ensures schema { self.new.schema ≡ self.old.schema }
+    {
+        let leaves = statement.leaves.len();
+        open_reply(
+            leaves,
+            steps::open(
+                alloc,
+                &self.schema,
+                &mut self.journal,
+                text,
+                params,
+                statement,
+                bound,
+                interval,
+            ),
+        )
     }
 
     fn scan(
@@ -303,39 +306,45 @@ impl Core {
         ensures steps { Steps self.old.schema self.old.machine (step_of.Scan query leaf slot interval) result self.new.machine }
         ensures schema { self.new.schema ≡ self.old.schema }
     {
-        match self.journal.claim_gap(query, leaf, slot, interval) {
-            Ok(Some(gap)) => match read(alloc, &self.schema, &self.shard, gap.table, gap.s) {
-                Ok(rows) => match self.journal.register(query, leaf, slot, interval, rows) {
-                    Ok(()) => Reply::Scanned,
-                    Err(why) => Reply::Refused(why),
-                },
-                Err(why) => Reply::Refused(why),
-            },
-            Ok(None) => Reply::Nothing,
-            Err(why) => Reply::Refused(why),
-        }
+        scan_reply(steps::scan(
+            alloc,
+            &self.schema,
+            &mut self.journal,
+            self.shards.as_slice(),
+            query,
+            leaf,
+            slot,
+            interval,
+        ))
     }
 
     fn finish(&mut self, alloc: Global, query: u64) -> Reply
         ensures steps { Steps self.old.schema self.old.machine (step_of.Finish query) result self.new.machine }
         ensures schema { self.new.schema ≡ self.old.schema }
     {
-        match self.journal.pieces(query) {
-            Ok((s, asked, pieces)) => match eval_plain(alloc, asked, pieces) {
-                Ok(rows) => Reply::Rows { s, rows },
-                Err(why) => Reply::Refused(why),
-            },
-            Err(why) => Reply::Refused(why),
-        }
+        finish_reply(steps::finish(alloc, &self.schema, &self.journal, query))
     }
 
     fn close(&mut self, query: u64) -> Reply
         ensures steps { Steps self.old.schema self.old.machine (step_of.Close query) result self.new.machine }
         ensures schema { self.new.schema ≡ self.old.schema }
     {
-        match self.journal.close(query) {
-            Ok(()) => Reply::Closed,
-            Err(why) => Reply::Refused(why),
-        }
+        close_reply(steps::close(&self.schema, &mut self.journal, query))
+    }
+
+    fn split(&mut self, alloc: Global, table: Text, key: Seq<Value>) -> Reply
+        ensures steps { Steps self.old.schema self.old.machine (step_of.Split table key) result self.new.machine }
+        ensures schema { self.new.schema ≡ self.old.schema }
+        ensures values { AreValues key }
+    {
+        are_values(key.as_slice());
+        split_reply(cut::split(
+            alloc,
+            &self.schema,
+            &mut self.journal,
+            &mut self.shards,
+            table.as_str(),
+            key.as_slice(),
+        ))
     }
 }

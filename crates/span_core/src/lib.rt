@@ -1,11 +1,11 @@
-//! The core: every step of the machine, taken by a journal and the shard of slot 0, and whole runs of steps.
+//! The core: every step of the machine, taken by a journal and the shards of the slots, and whole runs of steps.
 //!
 //! The contract of [`run::run`] is the headline: whatever the steps, the replies are the machine's, and every answer has exactly the
 //! rows that its query text means on the tables of all the commits of the run at its timestamp or earlier.
 #![tactic(auto)]
 
 pub mod database;
-mod reading;
+mod replies;
 pub mod run;
 pub mod slot;
 

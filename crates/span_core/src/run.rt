@@ -2,7 +2,7 @@
 ghost use Rattle.std.specs.Prelude.{◌≡◌, IfOk, IfErr};
 ghost use Rattle.span_core.specs.Histories.{IsHistory};
 ghost use Rattle.span_machine.specs.Consistency.{HonestClock, IsExternallyConsistent};
-ghost use Rattle.span_machine.specs.Run.{AreOfSchema};
+ghost use Rattle.span_machine.specs.Run.{AreChecked};
 
 use super::database::Core;
 use span_machine::step::{Reply, Step};
@@ -18,7 +18,7 @@ use std::alloc::Global;
 /// timestamp, and what is applied before a strong query is opened is among what that query sees. The transactions that are begun were
 /// checked against the schema. `OutOfMemory`, before the first step, is the only refusal.
 pub fn run(alloc: Global, schema: Schema, steps: Vec<Step>) -> Result<Vec<Reply>, Refusal>
-    requires { AreOfSchema schema steps.items }
+    requires { AreChecked schema steps.items }
     ensures history { IfOk result (λ replies. IsHistory schema steps.items replies.items) }
     ensures consistent { IfOk result
         (λ replies. HonestClock steps.items → IsExternallyConsistent steps.items replies.items) }

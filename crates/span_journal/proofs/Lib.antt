@@ -1,4 +1,8 @@
+pub mod PreparedOnce
+pub mod Choosing
+pub mod Counted
 pub mod Preparing
+pub mod Gaps
 pub mod Stepping
-pub mod Ready
+pub mod Claimed
 pub mod Committing

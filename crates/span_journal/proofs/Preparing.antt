@@ -1,4 +1,4 @@
-use Rattle.std.proofs.Common.{◌≡◌, ℕ, ◌<◌, ◌≤◌, ◌^◌, Bool, true, false, cond, not, ◌||◌, ◌==◌, nat_le, List, [], ◌∷◌, length, Option, Some, None, refl, ap, sym, ◌∙◌, arith}
+use Rattle.std.proofs.Common.{◌≡◌, ℕ, ◌<◌, ◌≤◌, ◌^◌, Bool, true, false, cond, not, ◌&&◌, ◌||◌, ◌==◌, nat_le, List, [], ◌∷◌, length, Option, Some, None, refl, ap, sym, ◌∙◌, arith}
 use Rattle.std.specs.Prelude.{filter, find, slice_get}
 use Rattle.std.specs.List.{list_any}
 use Rattle.std.proofs.lemmas.Bool.Decides.{nat_tests}
@@ -11,9 +11,9 @@ use Rattle.span_machine.specs.declared.slot.SlotState.{SlotState}
 use Rattle.span_machine.specs.declared.transaction.Prepared.{Prepared}
 use Rattle.span_machine.specs.declared.transaction.OpenTransaction.{OpenTransaction}
 use Rattle.span_value.specs.Results.{first_cause}
-use Rattle.span_machine.specs.Machine.{Machine, refused, unless_refused, if_some, is_transaction, is_undecided, is_prepared_at, has_conflict, mutations_in, mutations_refusal, prepare, prepare_transaction, prepare_refusal, prepare_timestamp, prepared, for_slot, capacity_refusal}
-use Rattle.span_machine.specs.Slots.{range_of, whole_range}
-use Rattle.span_machine.proofs.WholeRanges.{whole_mutations}
+use Rattle.span_machine.specs.Machine.{Machine, refused, unless_refused, if_some, is_transaction, is_undecided, is_prepared_at, has_conflict, have_common_root, mutations_in, mutations_refusal, prepare, prepare_transaction, prepare_refusal, prepare_timestamp, prepared, for_slot, capacity_refusal}
+use Rattle.span_machine.specs.Slots.{holds, root_at, is_at}
+use Rattle.span_journal.specs.Places.{share_directory_in}
 use Rattle.span_journal.specs.Judged.{MayPrepare, has_wrong_state, note_cause, note_refusal}
 
 -- a list has an element that passes, or none is left of it
@@ -31,9 +31,6 @@ any_left slot (p ∷ ps) = elim (not (p.slot == slot)) as (λ b. (b || list_any 
 abbrev pub timestamp_refusal : SlotState → Option Refusal
 timestamp_refusal slot_state = first_cause ((nat_le timestamp_end (prepare_timestamp slot_state), refusal.TimestampRange) ∷ [])
 
-refusal_is : (schema : List Table) (m : Machine) (slot : ℕ) (t : OpenTransaction) (slot_state : SlotState) → range_of slot_state ≡ whole_range → prepare_refusal schema m slot t slot_state ≡ first_cause ((has_wrong_state slot t, refusal.WrongState) ∷ (has_conflict schema m slot t.mutations, refusal.Conflict) ∷ [])
-refusal_is schema m slot t slot_state whole = ap (λ (ms : List CheckedMutation). first_cause ((not (is_undecided t) || is_prepared_at slot t || (length ms == 0), refusal.WrongState) ∷ (has_conflict schema m slot ms, refusal.Conflict) ∷ [])) (whole_mutations schema slot_state whole t.mutations)
-
 pub not_true : (b : Bool) → not b ≡ true → b ≡ false
 not_true true e = cc
 not_true false e = refl
@@ -42,7 +39,51 @@ pub not_false : (b : Bool) → not b ≡ false → b ≡ true
 not_false true e = refl
 not_false false e = cc
 
-module _ (schema : List Table) (m : Machine) (owner txn slot : ℕ) (t : OpenTransaction) (slot_state : SlotState) (found : find (is_transaction owner txn) m.transactions ≡ Some t) (here : slice_get m.slots slot ≡ Some slot_state) (whole : range_of slot_state ≡ whole_range) where
+-- ---- lists that are filtered
+
+module _ {A : Type 0} (h g : A → Bool) where
+  -- what passes both tests is among what passes the first
+  any_filter : (xs : List A) → list_any (λ x. h x && g x) xs ≡ list_any g (filter h xs)
+  any_filter [] = refl
+  any_filter (x ∷ xs) = elim (h x) as (λ b. ((b && g x) || list_any (λ y. h y && g y) xs) ≡ list_any g (cond b (x ∷ filter h xs) (filter h xs))) [
+    | true ↦ ap (λ b. g x || b) (any_filter xs)
+    | false ↦ any_filter xs
+  ]
+
+  -- two tests that agree
+  any_same : ((x : A) → h x ≡ g x) → (xs : List A) → list_any h xs ≡ list_any g xs
+  any_same same [] = refl
+  any_same same (x ∷ xs) = ap (λ b. b || list_any h xs) (same x) ∙ ap (λ b. g x || b) (any_same same xs)
+
+  -- nothing passes just where nothing is left
+  none_left : (xs : List A) → (length (filter h xs) == 0) ≡ not (list_any h xs)
+  none_left [] = refl
+  none_left (x ∷ xs) = elim (h x) as (λ b. (length (cond b (x ∷ filter h xs) (filter h xs)) == 0) ≡ not (b || list_any h xs)) [
+    | true ↦ some_length (filter h xs)
+    | false ↦ none_left xs
+  ]
+    where
+      some_length : (ys : List A) → (length (x ∷ ys) == 0) ≡ false
+      some_length ys = grind (arith, nat_tests)
+
+-- the mutations of two lists share a directory that lies in the slot
+shared : (schema : List Table) (slot_state : SlotState) (ms ns : List CheckedMutation) → share_directory_in schema slot_state ms ns ≡ have_common_root schema (mutations_in schema slot_state ms) ns
+shared schema slot_state ms ns = any_filter (λ m. holds schema slot_state (root_at schema m)) (λ m. list_any (is_at schema (root_at schema m)) ns) ms
+
+-- a transaction that is prepared at the slot shares a directory there
+pub conflict_is : (schema : List Table) (m : Machine) (slot : ℕ) (slot_state : SlotState) (ms : List CheckedMutation)
+    → list_any (λ t. is_prepared_at slot t && share_directory_in schema slot_state ms t.mutations) m.transactions ≡ has_conflict schema m slot (mutations_in schema slot_state ms)
+conflict_is schema m slot slot_state ms =
+    any_same (λ (t : OpenTransaction). is_prepared_at slot t && share_directory_in schema slot_state ms t.mutations) (λ (t : OpenTransaction). is_prepared_at slot t && have_common_root schema (mutations_in schema slot_state ms) t.mutations)
+    (λ t. ap (λ b. is_prepared_at slot t && b) (shared schema slot_state ms t.mutations)) m.transactions
+
+-- ---- what keeps a transaction from being prepared
+
+regrouped : (a b c : Bool) → (a || b || c) ≡ ((a || b) || c)
+regrouped true b c = refl
+regrouped false b c = refl
+
+module _ (schema : List Table) (m : Machine) (owner txn slot : ℕ) (t : OpenTransaction) (slot_state : SlotState) (found : find (is_transaction owner txn) m.transactions ≡ Some t) (here : slice_get m.slots slot ≡ Some slot_state) where
   prepare_is : prepare schema m owner txn slot ≡ prepare_transaction schema m owner txn slot t slot_state
   prepare_is = ap (λ (o : Option OpenTransaction). if_some o (refused m refusal.UnknownTransaction) (λ t. for_slot m slot (prepare_transaction schema m owner txn slot t))) found
       ∙ ap (λ (o : Option SlotState). if_some o (refused m refusal.NoSlot) (prepare_transaction schema m owner txn slot t)) here
@@ -51,25 +92,50 @@ module _ (schema : List Table) (m : Machine) (owner txn slot : ℕ) (t : OpenTra
   refused_by why e = prepare_is ∙ ap (λ (o : Option Refusal). unless_refused m o
       (unless_refused m (mutations_refusal schema m (mutations_in schema slot_state t.mutations)) (unless_refused m (capacity_refusal schema m slot slot_state (mutations_in schema slot_state t.mutations)) (unless_refused m (timestamp_refusal slot_state) (prepared m owner txn slot slot_state))))) e
 
+  -- some mutation lies in the slot
+  abbrev has_some : Bool
+  has_some = list_any (λ u. holds schema slot_state (root_at schema u)) t.mutations
+
+  abbrev in_conflict : Bool
+  in_conflict = list_any (λ u. is_prepared_at slot u && share_directory_in schema slot_state t.mutations u.mutations) m.transactions
+
+  -- the refusal by what was looked at
+  refusal_is : (wrong some conflict : Bool) → has_wrong_state slot t ≡ wrong → has_some ≡ some → in_conflict ≡ conflict
+      → prepare_refusal schema m slot t slot_state ≡ first_cause ((wrong || not some, refusal.WrongState) ∷ (conflict, refusal.Conflict) ∷ [])
+  refusal_is wrong some conflict is_wrong is_some is_conflict =
+      ap (λ b. first_cause ((b, refusal.WrongState) ∷ (has_conflict schema m slot (mutations_in schema slot_state t.mutations), refusal.Conflict) ∷ []))
+      (regrouped (not (is_undecided t)) (is_prepared_at slot t) (length (mutations_in schema slot_state t.mutations) == 0)
+      ∙ ap (λ b. b || (length (mutations_in schema slot_state t.mutations) == 0)) is_wrong
+      ∙ ap (λ b. wrong || b) (none_left (λ u. holds schema slot_state (root_at schema u)) (λ u. true) t.mutations ∙ ap not is_some))
+      ∙ ap (λ b. first_cause ((wrong || not some, refusal.WrongState) ∷ (b, refusal.Conflict) ∷ [])) (sym (conflict_is schema m slot slot_state t.mutations) ∙ is_conflict)
+
   pub refused_wrong : not (has_wrong_state slot t) ≡ false → prepare schema m owner txn slot ≡ refused m refusal.WrongState
-  refused_wrong e = refused_by refusal.WrongState (refusal_is schema m slot t slot_state whole ∙ ap (λ b. first_cause ((b, refusal.WrongState) ∷ (has_conflict schema m slot t.mutations, refusal.Conflict) ∷ [])) (not_false (has_wrong_state slot t) e))
+  refused_wrong wrong = refused_by refusal.WrongState (refusal_is true has_some in_conflict (not_false (has_wrong_state slot t) wrong) refl refl)
 
-  pub refused_conflict : not (has_wrong_state slot t) ≡ true → has_conflict schema m slot t.mutations ≡ true → prepare schema m owner txn slot ≡ refused m refusal.Conflict
-  refused_conflict e f = refused_by refusal.Conflict (refusal_is schema m slot t slot_state whole
-      ∙ ap (λ b. first_cause ((b, refusal.WrongState) ∷ (has_conflict schema m slot t.mutations, refusal.Conflict) ∷ [])) (not_true (has_wrong_state slot t) e)
-      ∙ ap (λ b. first_cause ((b, refusal.Conflict) ∷ [])) f)
+  pub refused_none : not (has_wrong_state slot t) ≡ true → has_some ≡ false → prepare schema m owner txn slot ≡ refused m refusal.WrongState
+  refused_none right none = refused_by refusal.WrongState (refusal_is false false in_conflict (not_true (has_wrong_state slot t) right) none refl)
 
-  pub may_prepare : not (has_wrong_state slot t) ≡ true → has_conflict schema m slot t.mutations ≡ false → MayPrepare schema m owner txn slot t.mutations
-  may_prepare e f = record {
+  pub refused_conflict : not (has_wrong_state slot t) ≡ true → has_some ≡ true → in_conflict ≡ true → prepare schema m owner txn slot ≡ refused m refusal.Conflict
+  refused_conflict right some conflict = refused_by refusal.Conflict (refusal_is false true true (not_true (has_wrong_state slot t) right) some conflict)
+
+  pub may_prepare : not (has_wrong_state slot t) ≡ true → has_some ≡ true → in_conflict ≡ false → (ms : List CheckedMutation) → ms ≡ mutations_in schema slot_state t.mutations → MayPrepare schema m owner txn slot ms
+  may_prepare right some apart ms are = record {
     transaction = t;
     slot_state = slot_state;
     found = found;
     here = here;
-    accepted = refusal_is schema m slot t slot_state whole
-        ∙ ap (λ b. first_cause ((b, refusal.WrongState) ∷ (has_conflict schema m slot t.mutations, refusal.Conflict) ∷ [])) (not_true (has_wrong_state slot t) e)
-        ∙ ap (λ b. first_cause ((b, refusal.Conflict) ∷ [])) f;
-    mutations = sym (whole_mutations schema slot_state whole t.mutations);
+    accepted = refusal_is false true false (not_true (has_wrong_state slot t) right) some apart;
+    mutations = are;
   }
+
+-- a transaction that is not there, or a slot that is not there
+pub refused_unknown : (schema : List Table) (m : Machine) (owner txn slot : ℕ) → find (is_transaction owner txn) m.transactions ≡ None → prepare schema m owner txn slot ≡ refused m refusal.UnknownTransaction
+refused_unknown schema m owner txn slot none = ap (λ (o : Option OpenTransaction). if_some o (refused m refusal.UnknownTransaction) (λ t. for_slot m slot (prepare_transaction schema m owner txn slot t))) none
+
+pub refused_slot : (schema : List Table) (m : Machine) (owner txn slot : ℕ) (t : OpenTransaction) → find (is_transaction owner txn) m.transactions ≡ Some t → slice_get m.slots slot ≡ None → prepare schema m owner txn slot ≡ refused m refusal.NoSlot
+refused_slot schema m owner txn slot t found none =
+    ap (λ (o : Option OpenTransaction). if_some o (refused m refusal.UnknownTransaction) (λ t. for_slot m slot (prepare_transaction schema m owner txn slot t))) found
+    ∙ ap (λ (o : Option SlotState). if_some o (refused m refusal.NoSlot) (prepare_transaction schema m owner txn slot t)) none
 
 late_test : (n : ℕ) → 2 ^ 62 ≤ n → nat_le timestamp_end n ≡ true
 late_test n h = grind (arith, nat_tests)

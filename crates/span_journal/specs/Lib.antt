@@ -1,2 +1,5 @@
 pub mod Judged
 pub mod Places
+pub mod Counts
+pub mod Scans
+pub mod Choices

@@ -1,37 +1,49 @@
 //! The journal and its calls.
-ghost use Rattle.std.specs.Prelude.{◌≡◌, ℕ, List, ◌<◌, ◌+◌, ◌^◌, [], ◌∷◌, ◌++◌, length, count_by, IfOk, IfErr, OnOk, OnErr, Some, None, Ok, true};
-ghost use Rattle.span_machine.specs.Machine.{Answers, IsAnswer, start, is_undecided, is_query, commit_refusal, commit_timestamp, begin, begun, prepare, decide, apply_step, advance, trim, trim_refusal, open_query, open_refusal, scan, finish, close, refused, without_first, is_prepared_at};
-ghost use Rattle.span_journal.specs.declared.journal.TheConstants.{MOST_TRANSACTIONS, MOST_COMMITS, MOST_QUERIES, NUMBER_END};
-ghost use Rattle.span_machine.specs.Limits.{most_transactions, most_commits, most_queries, number_end};
+ghost use Rattle.std.specs.Prelude.{◌≡◌, ℕ, List, ◌<◌, ◌+◌, ◌^◌, [], ◌∷◌, ◌++◌, length, count_by, find, slice_get, IfOk, IfErr, IfSome, IfNone, MatchOption, OnOk, OnErr, Some, None, Ok, true};
+ghost use Rattle.std.specs.List.{AllByRecursion};
+ghost use Rattle.span_machine.specs.Machine.{Answers, IsAnswer, start, is_transaction, is_undecided, is_query, commit_refusal, commit_timestamp, begin, begun, decide, apply_step, advance, trim, trim_refusal, open_query, open_refusal, finish, close, refused, without_first, is_prepared_at, split_at, split_in_two};
+ghost use Rattle.span_journal.specs.declared.journal.TheConstants.{MOST_TRANSACTIONS, MOST_COMMITS, MOST_QUERIES, MOST_SLOTS, NUMBER_END};
+ghost use Rattle.span_machine.specs.Limits.{most_transactions, most_commits, most_queries, most_slots, number_end};
 ghost use Rattle.span_truetime.specs.Time.{timestamp_of};
 ghost use Rattle.span_schema.specs.declared.table.Table.{Table};
+ghost use Rattle.span_schema.specs.Numbers.{IsTable};
 ghost use Rattle.span_machine.specs.Pieces.{machine_of, unread};
+ghost use Rattle.span_machine.specs.declared.transaction.OpenTransaction.{OpenTransaction};
 ghost use Rattle.span_machine.specs.declared.step.Reply.TheVariants as reply_of;
-ghost use Rattle.span_journal.specs.Judged.{as_reply, decision_reply, MayPrepare, IsNoted, IsUnnoted, IsApplied, IsGap, IsRaised, IsRegistered, IsUnregistered, IsCovered};
+ghost use Rattle.span_journal.specs.Choices.{chosen_mutations};
+ghost use Rattle.span_journal.specs.Judged.{as_reply, decision_reply, MayPrepare, IsUnprepared, IsNoted, IsUnnoted, IsApplied, IsGap, IsUnclaimed, IsRaised, IsRegistered, IsUnregistered, IsUnchanged, IsCovered, IsTaken, MaySplit, IsCutOf};
 
+use super::choice::{Chosen, has_any, mutations_in};
 use super::owned::{append, drop_at, pair_with};
-use super::queries::{cover_at, find_query};
+use super::queries::{cover_at, find_query, find_target, take_at};
 use super::query::KeptQuery;
+use super::ranges::is_free;
 use super::slots::{
-    commit_timestamp, coordinator_slot, is_ready, is_safe_at, prepare_timestamp, raise_last,
-    risen_floor, set_floor, set_horizon, set_last, slot_at,
+    begins_at, commit_timestamp, coordinator_slot, cut_at, gap_in, is_ready, is_safe_at,
+    prepare_timestamp, raise_last, risen_floor, set_floor, set_horizon, set_last, slot_at, slot_of,
+    upper_part,
 };
+use super::taken::Taken;
 use super::transaction::KeptTransaction;
 use super::transactions::{
     abort_at, add_prepared_at, check_apply, commit_at, count_prepared, count_undecided,
-    end_prepared_at, find_transaction, has_conflict, may_prepare, remove_at,
+    end_prepared_at, find_transaction, has_conflict, is_any_prepared, may_prepare, remove_at,
 };
+use span_keycode::key::Key;
+use span_keycode::range::KeyRange;
 use span_machine::slot::SlotState;
 use span_machine::step::Verdict;
-use span_machine::transaction::{Commit, Decision, OpenTransaction, Prepared};
+use span_machine::transaction::{Commit, Prepared};
 use span_mutate::mutation::CheckedMutation;
 use span_mutate::transaction::Transaction;
+use span_params::params::Params;
 use span_query::query::{BoundQuery, Statement};
 use span_schema::schema::Schema;
 use span_truetime::bound::{Bound, choose};
-use span_truetime::interval::{Interval, TIMESTAMP_END};
+use span_truetime::interval::Interval;
 use span_value::refusal::Refusal;
 use span_value::seq::Seq;
+use span_value::text::Text;
 use span_value::value::Row;
 use std::alloc::{AllocError, Global};
 use std::marker::Model;
@@ -45,6 +57,9 @@ pub const MOST_COMMITS: usize = 65536;
 /// How many queries may be open at once.
 pub const MOST_QUERIES: usize = 64;
 
+/// How many slots there may be.
+pub const MOST_SLOTS: usize = 16;
+
 /// Numbers of transactions and of queries are below this.
 pub const NUMBER_END: u64 = 1 << 63;
 
@@ -53,22 +68,34 @@ pub fn limits_are_stated()
     ensures transactions { MOST_TRANSACTIONS ≡ most_transactions }
     ensures commits { MOST_COMMITS ≡ most_commits }
     ensures queries { MOST_QUERIES ≡ most_queries }
+    ensures slots { MOST_SLOTS ≡ most_slots }
     ensures numbers { NUMBER_END ≡ number_end }
 {}
 
 /// What is to be read for a leaf of a query.
-#[derive(Clone, Copy, Debug, PartialEq, Eq)]
+#[derive(Debug, Drop)]
 pub struct Gap {
     /// The number of the leaf's table.
     pub table: usize,
+    /// The keys that are read.
+    pub range: KeyRange,
     /// The timestamp that the query reads at.
     pub s: u64,
+}
+
+/// What a slot is cut by, made before it is cut.
+#[derive(Debug, Drop)]
+pub struct Cut {
+    /// The state of the new slot, which has the keys from the cut on.
+    upper: SlotState,
+    /// The first key of the new slot.
+    upper_bound: Key,
 }
 
 /// The state of slots, transactions and queries.
 #[derive(Debug, Drop)]
 pub struct Journal {
-    /// There is one, with every key.
+    /// It has reserved capacity for every slot that there may be.
     slots: Vec<SlotState>,
     transactions: Vec<KeptTransaction>,
     /// It has reserved capacity for each undecided transaction.
@@ -79,10 +106,9 @@ pub struct Journal {
 }
 
 impl Model for Journal {
-    ghost use Rattle.std.specs.Prelude.{◌≡◌, ◌+◌, ◌≤◌, [], ◌∷◌, count_by, vec_len, vec_capacity};
-    ghost use Rattle.span_machine.specs.Limits.{most_commits};
+    ghost use Rattle.std.specs.Prelude.{◌+◌, ◌≤◌, count_by, vec_len, vec_capacity};
+    ghost use Rattle.span_machine.specs.Limits.{most_commits, most_slots};
     ghost use Rattle.span_machine.specs.Machine.{is_undecided};
-    ghost use Rattle.span_machine.specs.Slots.{ranges_of, whole_range};
     ghost use Rattle.span_machine.specs.Pieces.{Journaled};
     ghost use Rattle.span_query.specs.contracts.query.BoundQuery as bound_query;
     ghost use Rattle.std.specs.Coded.{codes};
@@ -103,7 +129,8 @@ impl Model for Journal {
     ghost invariant = { λ a. record {
       few : vec_len a.log + count_by is_undecided a.transactions.items ≤ most_commits;
       room : vec_len a.log + count_by is_undecided a.transactions.items ≤ vec_capacity a.log;
-      whole : ranges_of a.slots.items ≡ whole_range ∷ [];
+      few_slots : vec_len a.slots ≤ most_slots;
+      room_for_slots : most_slots ≤ vec_capacity a.slots;
     } };
 }
 
@@ -113,7 +140,7 @@ impl Journal {
         ensures start { IfOk result (λ journal. machine_of journal ≡ start) }
         ensures pieces { IfOk result (λ journal. journal.queries ≡ []) }
     {
-        let mut slots = Vec::new(alloc);
+        let mut slots = Vec::with_capacity(alloc, MOST_SLOTS)?;
         slots.push(SlotState {
             lo: None,
             hi: None,
@@ -138,6 +165,29 @@ impl Journal {
         self.slots.as_slice()
     }
 
+    /// The commits, in the order in which they joined.
+    pub fn log(&self) -> &[Commit]
+        ensures { result.now ≡ self.now.log }
+    {
+        self.log.as_slice()
+    }
+
+    /// The mutations of an open transaction. None where there is none of this owner and number.
+    pub fn mutations(&self, owner: u64, txn: u64) -> Option<&[CheckedMutation]>
+        ensures { MatchOption result
+            (find (is_transaction owner txn) (machine_of self.now).transactions ≡ None)
+            (λ ms.
+            (t : OpenTransaction)
+            × (find (is_transaction owner txn) (machine_of self.now).transactions ≡ Some t)
+            × (ms.now ≡ t.mutations)) }
+    {
+        let Some((_, transaction)) = find_transaction(self.transactions.as_slice(), owner, txn)
+        else {
+            return None;
+        };
+        Some(transaction.mutations())
+    }
+
     /// How many transactions are prepared at the slot. A decided one is prepared until it is applied there.
     pub fn count_prepared(&self, slot: usize) -> usize
         ensures { result ≡ count_by (is_prepared_at slot) (machine_of self.now).transactions }
@@ -145,8 +195,9 @@ impl Journal {
         count_prepared(self.transactions.as_slice(), slot)
     }
 
-    /// Begins a transaction, and returns its number. It reserves the log's capacity and makes the mutations of the log's entry, which the
-    /// commit takes. `TransactionTableFull`, then `LogFull`, then `OutOfMemory`; a refusal leaves all as it was.
+    /// Begins a transaction, and returns its number. It reserves the capacity that its prepares and its commit take,
+    /// and makes the mutations of the log's entry. `TransactionTableFull`, then `LogFull`, then `OutOfMemory`; a
+    /// refusal leaves all as it was.
     pub fn begin(
         &mut self,
         alloc: Global,
@@ -188,20 +239,14 @@ impl Journal {
         let entry = transaction.copy(alloc)?.into_mutations();
         self.log.reserve(undecided + 1)?;
         let number = self.next_transaction;
-        let opened = OpenTransaction {
-            owner,
-            number,
-            mutations: transaction.into_mutations(),
-            decision: Decision::Undecided,
-            prepared: Seq::new(alloc),
-        };
-        self.transactions.push(KeptTransaction::new(opened, entry))?;
+        let kept = KeptTransaction::new(alloc, owner, number, transaction.into_mutations(), entry)?;
+        self.transactions.push(kept)?;
         self.next_transaction += 1;
         Ok(number)
     }
 
-    /// Decides a transaction: returns its commit timestamp, or None for an abort. It takes no memory: `begin` reserved the capacity.
-    /// `UnknownTransaction`, then `WrongState`, then `TimestampRange`; a refusal leaves all as it was.
+    /// Decides a transaction: returns its commit timestamp, or None for an abort. It takes no memory: `begin` reserved
+    /// the capacity. `UnknownTransaction`, then `WrongState`, then `TimestampRange`; a refusal leaves all as it was.
     pub fn decide(
         &mut self,
         alloc: Global,
@@ -233,7 +278,8 @@ impl Journal {
         transaction: &KeptTransaction,
         interval: Interval,
     ) -> Result<u64, Refusal>
-        ensures refused { IfErr result (λ why. commit_refusal schema.now (machine_of self.now) transaction.now interval ≡ Some why) }
+        ensures refused { IfErr result
+            (λ why. commit_refusal schema.now (machine_of self.now) transaction.now interval ≡ Some why) }
         ensures accepted { IfOk result
             (λ ts.
             (commit_refusal schema.now (machine_of self.now) transaction.now interval ≡ None)
@@ -256,7 +302,6 @@ impl Journal {
         }
     }
 
-    #[tactic(auto, using(crate::proofs::Ready::whole_raised))]
     fn commit(
         &mut self,
         alloc: Global,
@@ -315,39 +360,45 @@ impl Journal {
         Ok(())
     }
 
-    /// The mutations of a transaction that lie in the slot, where nothing but they may keep it from being prepared there.
-    /// `UnknownTransaction`, then `NoSlot`, then `WrongState`, then `Conflict`.
+    /// The mutations of a transaction that lie in the slot, where nothing but they may keep it from being prepared
+    /// there. `UnknownTransaction`, then `NoSlot`, then `WrongState`, also where no mutation lies in the slot, then
+    /// `Conflict`, then `OutOfMemory`: they are copied where others lie elsewhere.
     pub fn check_prepare(
         &self,
+        alloc: Global,
         schema: &Schema,
         owner: u64,
         txn: u64,
         slot: usize,
-    ) -> Result<&[CheckedMutation], Refusal>
-        ensures accepted { IfOk result (λ ms. MayPrepare schema.now (machine_of self.now) owner txn slot ms.now) }
-        ensures refused { IfErr result
-            (λ why. prepare schema.now (machine_of self.now) owner txn slot ≡ refused (machine_of self.now) why) }
+    ) -> Result<Chosen<'_>, Refusal>
+        ensures accepted { IfOk result
+            (λ chosen. MayPrepare schema.now (machine_of self.now) owner txn slot (chosen_mutations chosen)) }
+        ensures refused { IfErr result (λ why. IsUnprepared schema.now (machine_of self.now) owner txn slot why) }
     {
         let Some((_, transaction)) = find_transaction(self.transactions.as_slice(), owner, txn)
         else {
             return Err(Refusal::UnknownTransaction);
         };
-        let Some(_) = slot_at(self.slots.as_slice(), slot) else {
+        let Some(slot_state) = slot_at(self.slots.as_slice(), slot) else {
             return Err(Refusal::NoSlot);
         };
+        let mutations = transaction.mutations();
         if !may_prepare(transaction, slot) {
             return Err(Refusal::WrongState);
         }
-        let mutations = transaction.mutations();
-        if has_conflict(schema, self.transactions.as_slice(), slot, mutations) {
+        if !has_any(schema, slot_state, mutations) {
+            return Err(Refusal::WrongState);
+        }
+        let transactions = self.transactions.as_slice();
+        if has_conflict(schema, transactions, slot, slot_state, mutations) {
             return Err(Refusal::Conflict);
         }
-        Ok(mutations)
+        mutations_in(alloc, schema, slot_state, mutations)
     }
 
-    /// Notes that a transaction is prepared at the slot, and returns its prepare timestamp. `UnknownTransaction`, then `NoSlot`, then
-    /// `WrongState` where it is decided, prepared there or without mutations, then `TimestampRange`, then `OutOfMemory`; a refusal leaves
-    /// all as it was.
+    /// Notes that a transaction is prepared at the slot, and returns its prepare timestamp. It takes no memory.
+    /// `UnknownTransaction`, then `NoSlot`, then `WrongState` where it is decided or prepared there, then
+    /// `TimestampRange`; a refusal leaves all as it was.
     pub fn note_prepared(&mut self, owner: u64, txn: u64, slot: usize) -> Result<u64, Refusal>
         ensures ok { IfOk result (λ ts. IsNoted (machine_of self.old) owner txn slot ts (machine_of self.new)) }
         ensures why { IfErr result (λ why. IsUnnoted (machine_of self.old) owner txn slot why) }
@@ -366,17 +417,16 @@ impl Journal {
         let Some(timestamp) = prepare_timestamp(slot_state) else {
             return Err(Refusal::TimestampRange);
         };
-        add_prepared_at(&mut self.transactions, at, Prepared { slot, timestamp })?;
+        add_prepared_at(&mut self.transactions, at, Prepared { slot, timestamp });
         set_last(&mut self.slots, slot, timestamp);
         Ok(timestamp)
     }
 
-    /// Notes that a decided transaction is applied at the slot, and returns its commit timestamp, or None for an aborted one. It
-    /// takes no memory. `UnknownTransaction`, then `NoSlot`, then `WrongState`, then `TooEarly`; a refusal leaves all as it was.
-    #[tactic(auto, using(crate::proofs::Ready::whole_raised))]
+    /// Notes that a decided transaction is applied at the slot, and returns its commit timestamp, or None for an
+    /// aborted one. It takes no memory. `UnknownTransaction`, then `NoSlot`, then `WrongState`, then `TooEarly`; a
+    /// refusal leaves all as it was.
     pub fn note_applied(
         &mut self,
-        alloc: Global,
         owner: u64,
         txn: u64,
         slot: usize,
@@ -397,14 +447,15 @@ impl Journal {
             return Err(Refusal::NoSlot);
         };
         let committed = check_apply(transaction, slot, interval)?;
-        end_prepared_at(alloc, &mut self.transactions, at, slot);
+        end_prepared_at(&mut self.transactions, at, slot);
         if let Some(timestamp) = committed {
             raise_last(&mut self.slots, slot, timestamp);
         }
         Ok(committed)
     }
 
-    /// Raises the floor of the slot to the latest time that it may be now, and returns it. It takes no memory. `NoSlot`.
+    /// Raises the floor of the slot to the latest time that it may be now, and returns it. It takes no memory.
+    /// `NoSlot`.
     pub fn advance(&mut self, slot: usize, interval: Interval) -> Result<u64, Refusal>
         ensures step { IsAnswer
             (advance (machine_of self.old) slot interval)
@@ -434,8 +485,8 @@ impl Journal {
         Ok(())
     }
 
-    /// Raises the horizon of the slot to h, a timestamp: no scan reads below it there from now on. It takes no memory. `NoSlot`, then
-    /// `TrimBackward`, then `TrimTooNew` where h is above safe time; a refusal leaves all as it was.
+    /// Raises the horizon of the slot to h, a timestamp: no scan reads below it there from now on. It takes no memory.
+    /// `NoSlot`, then `TrimBackward`, then `TrimTooNew` where h is above safe time; a refusal leaves all as it was.
     pub fn raise_horizon(&mut self, slot: usize, h: u64) -> Result<(), Refusal>
         ensures ok { OnOk result (IsRaised (machine_of self.old) slot h (machine_of self.new)) }
         ensures why { IfErr result
@@ -455,7 +506,8 @@ impl Journal {
 
     /// The timestamp that a query is to read at, or why it is not opened.
     fn check_open(&self, bound: Bound, interval: Interval) -> Result<u64, Refusal>
-        ensures accepted { IfOk result (λ s. (open_refusal (machine_of self.now) bound interval ≡ None) × (s ≡ timestamp_of bound interval)) }
+        ensures accepted { IfOk result
+            (λ s. (open_refusal (machine_of self.now) bound interval ≡ None) × (s ≡ timestamp_of bound interval)) }
         ensures refused { IfErr result (λ why. open_refusal (machine_of self.now) bound interval ≡ Some why) }
         ensures few { OnOk result (self.now.next_query < number_end) }
     {
@@ -470,35 +522,42 @@ impl Journal {
         }
     }
 
-    /// Opens a query, and returns its number and the timestamp that it reads at. `TimestampRange`, then `QueryTableFull`, then
-    /// `OutOfMemory`; a refusal leaves all as it was.
+    /// Opens a query, and returns its number and the timestamp that it reads at. `TimestampRange`, then
+    /// `QueryTableFull`, then `OutOfMemory`; a refusal leaves all as it was.
     pub fn open(
         &mut self,
         alloc: Global,
+        schema: &Schema,
+        text: Text,
+        params: Params,
         statement: Statement,
         bound: Bound,
         interval: Interval,
     ) -> Result<(u64, u64), Refusal>
+        requires { AllByRecursion (IsTable schema.now) statement.leaves }
         ensures step { Answers (machine_of self.old)
-            (open_query (machine_of self.old) (Ok statement) bound interval)
+            (open_query schema.now (machine_of self.old) (Ok statement) text params bound interval)
             (as_reply (λ r. reply_of.Opened r.0 r.1 (length statement.leaves)) result)
             (machine_of self.new) }
-        ensures pieces { IfOk result (λ r. self.new.queries ≡ self.old.queries ++ unread r.0 r.1 statement ∷ []) }
+        ensures pieces { IfOk result
+            (λ r. self.new.queries ≡ self.old.queries ++ unread schema.now r.0 r.1 text params statement ∷ []) }
         ensures err { OnErr result (self.new.queries ≡ self.old.queries) }
     {
         let (statement, s) = pair_with(statement, self.check_open(bound, interval))?;
         let number = self.next_query;
-        let query = KeptQuery::new(alloc, number, s, statement)?;
+        let query = KeptQuery::new(alloc, schema, number, s, text, params, statement)?;
         append(&mut self.queries, query)?;
         self.next_query += 1;
         Ok((number, s))
     }
 
-    /// Checks a scan of a leaf of the query in the slot: what may be read where the leaf's range is uncovered there and safe time has
-    /// reached the query's timestamp, or None where nothing is uncovered. `UnknownQuery`, also where the query has no such leaf, then
-    /// `NoSlot`, then `Trimmed` below the horizon, then `NotYet`, after which alone the slot's floor may have risen.
+    /// Checks a scan of a leaf of the query in the slot: what may be read where a part of the leaf's range is uncovered
+    /// there and safe time has reached the query's timestamp, or None where nothing is uncovered. `UnknownQuery`, also
+    /// where the query has no such leaf, then `NoSlot`, then `OutOfMemory`, then `Trimmed` below the horizon, then
+    /// `NotYet`, after which alone the slot's floor may have risen.
     pub fn claim_gap(
         &mut self,
+        alloc: Global,
         query: u64,
         leaf: usize,
         slot: usize,
@@ -506,74 +565,77 @@ impl Journal {
     ) -> Result<Option<Gap>, Refusal>
         ensures gap { IfOk result (λ gap. IsGap (machine_of self.old) query leaf slot interval gap) }
         ensures refused { IfErr result
-            (λ why.
-            scan (machine_of self.old) query leaf slot interval ≡ (reply_of.Refused why, machine_of self.new)) }
+            (λ why. IsUnclaimed (machine_of self.old) query leaf slot interval why (machine_of self.new)) }
         ensures ok { OnOk result (machine_of self.new ≡ machine_of self.old) }
         ensures pieces { self.new.queries ≡ self.old.queries }
     {
-        let Some((_, question)) = find_query(self.queries.as_slice(), query) else {
-            return Err(Refusal::UnknownQuery);
+        let (queries, slots) = (self.queries.as_slice(), self.slots.as_slice());
+        let (_, question, part, slot_state) = match find_target(queries, slots, query, leaf, slot) {
+            Ok(target) => target,
+            Err(why) => return Err(why),
         };
-        let Some(part) = question.leaf(leaf) else {
-            return Err(Refusal::UnknownQuery);
-        };
-        let Some(slot_state) = slot_at(self.slots.as_slice(), slot) else {
-            return Err(Refusal::NoSlot);
-        };
-        if part.covered {
+        let Some(range) = gap_in(alloc, slot_state, part)? else {
             return Ok(None);
+        };
+        let s = question.timestamp();
+        if s < slot_state.horizon {
+            return Err(Refusal::Trimmed);
+        }
+        let table = part.table;
+        let floor = risen_floor(slot_state, s, interval);
+        if is_safe_at(self.transactions.as_slice(), floor, slot, s) {
+            return Ok(Some(Gap { table, range, s }));
+        }
+        set_floor(&mut self.slots, slot, floor);
+        Err(Refusal::NotYet)
+    }
+
+    /// Covers a part of a leaf of the query by a piece with these rows, and raises the slot's floor to its timestamp
+    /// where the clock has passed it. `UnknownQuery`, also where the query has no such leaf, then `NoSlot`, then
+    /// `Incomplete` where the range has no keys, does not lie in the leaf's range and the slot's, or is covered in
+    /// part, then `Trimmed` below the horizon, then `NotYet`, after which alone the slot's floor may have risen, then
+    /// `OutOfMemory`.
+    pub fn register(
+        &mut self,
+        alloc: Global,
+        query: u64,
+        leaf: usize,
+        slot: usize,
+        interval: Interval,
+        range: KeyRange,
+        rows: Seq<Row>,
+    ) -> Result<(), Refusal>
+        ensures ok { OnOk result (IsRegistered self.old query leaf slot interval range rows self.new) }
+        ensures why { IfErr result (λ why. IsUnregistered self.old query leaf slot interval range why) }
+        ensures err { IfErr result (λ why. IsUnchanged self.old query slot interval why self.new) }
+    {
+        let (queries, slots) = (self.queries.as_slice(), self.slots.as_slice());
+        let (at, question, part, slot_state) = match find_target(
+            queries, slots, query, leaf, slot,
+        ) {
+            Ok(target) => target,
+            Err(why) => return Err(why),
+        };
+        if !is_free(slot_state, part, &range) {
+            return Err(Refusal::Incomplete);
         }
         let s = question.timestamp();
         if s < slot_state.horizon {
             return Err(Refusal::Trimmed);
         }
         let floor = risen_floor(slot_state, s, interval);
-        if is_safe_at(self.transactions.as_slice(), floor, slot, s) {
-            return Ok(Some(Gap {
-                table: part.table,
-                s,
-            }));
+        if !is_safe_at(self.transactions.as_slice(), floor, slot, s) {
+            set_floor(&mut self.slots, slot, floor);
+            return Err(Refusal::NotYet);
         }
+        cover_at(alloc, &mut self.queries, at, leaf, range, rows)?;
         set_floor(&mut self.slots, slot, floor);
-        Err(Refusal::NotYet)
-    }
-
-    /// Covers a leaf of the query by a piece with these rows, and raises the slot's floor to its timestamp where the clock has passed
-    /// it. It takes no memory. `UnknownQuery`, also where the query has no such leaf, then `NoSlot`, then `Incomplete` where the leaf
-    /// is covered; a refusal leaves all as it was.
-    pub fn register(
-        &mut self,
-        query: u64,
-        leaf: usize,
-        slot: usize,
-        interval: Interval,
-        rows: Seq<Row>,
-    ) -> Result<(), Refusal>
-        ensures ok { OnOk result (IsRegistered self.old query leaf slot interval rows self.new) }
-        ensures why { IfErr result (λ why. IsUnregistered self.old query leaf slot why) }
-        ensures err { OnErr result (self.new ≡ self.old) }
-    {
-        let Some((at, question)) = find_query(self.queries.as_slice(), query) else {
-            return Err(Refusal::UnknownQuery);
-        };
-        let Some(part) = question.leaf(leaf) else {
-            return Err(Refusal::UnknownQuery);
-        };
-        let Some(slot_state) = slot_at(self.slots.as_slice(), slot) else {
-            return Err(Refusal::NoSlot);
-        };
-        if part.covered {
-            return Err(Refusal::Incomplete);
-        }
-        let floor = risen_floor(slot_state, question.timestamp(), interval);
-        set_floor(&mut self.slots, slot, floor);
-        cover_at(&mut self.queries, at, leaf, rows);
         Ok(())
     }
 
-    /// The timestamp that the query reads at, what it asks of its leaves, and the rows of the pieces that cover them, in their order.
-    /// `UnknownQuery`, then `Incomplete` where no piece covers a leaf.
-    pub fn pieces(&self, query: u64) -> Result<(u64, &BoundQuery, &[Seq<Row>]), Refusal>
+    /// The timestamp that the query reads at, what it asks of its leaves, and for each of them the rows of its pieces,
+    /// in the order of their ranges. `UnknownQuery`, then `Incomplete` where the pieces do not tile a leaf's range.
+    pub fn pieces(&self, query: u64) -> Result<(u64, &BoundQuery, &[Seq<Seq<Row>>]), Refusal>
         ensures ok { IfOk result (λ r. IsCovered self.now query r.0 r.1.now r.2.now) }
         ensures refused { IfErr result
             (λ why.
@@ -589,9 +651,31 @@ impl Journal {
         Ok((question.timestamp(), question.query(), question.pieces()))
     }
 
+    /// Closes a query whose leaves pieces cover, and returns what it is answered by. It takes no memory.
+    /// `UnknownQuery`, then `Incomplete` where the pieces do not tile a leaf's range; a refusal leaves all as it was.
+    pub fn take_pieces(&mut self, query: u64) -> Result<Taken, Refusal>
+        ensures ok { IfOk result (λ taken. IsTaken self.old query taken self.new) }
+        ensures refused { IfErr result
+            (λ why.
+            (schema : List Table)
+            → finish schema (machine_of self.old) query ≡ refused (machine_of self.old) why) }
+        ensures err { OnErr result (self.new ≡ self.old) }
+    {
+        let Some((at, question)) = find_query(self.queries.as_slice(), query) else {
+            return Err(Refusal::UnknownQuery);
+        };
+        if !question.is_covered() {
+            return Err(Refusal::Incomplete);
+        }
+        Ok(take_at(&mut self.queries, at).into_parts())
+    }
+
     /// Closes a query. It takes no memory. `UnknownQuery`.
     pub fn close(&mut self, query: u64) -> Result<(), Refusal>
-        ensures step { IsAnswer (close (machine_of self.old) query) (as_reply (λ _. reply_of.Closed) result) (machine_of self.new) }
+        ensures step { IsAnswer
+            (close (machine_of self.old) query)
+            (as_reply (λ _. reply_of.Closed) result)
+            (machine_of self.new) }
         ensures pieces { OnOk result (self.new.queries ≡ without_first (λ p. is_query query p.query) self.old.queries) }
         ensures err { OnErr result (self.new.queries ≡ self.old.queries) }
     {
@@ -600,5 +684,59 @@ impl Journal {
         };
         drop_at(&mut self.queries, at);
         Ok(())
+    }
+
+    /// The slot that has the coded root key, where it may be cut there. `BadSplit` where no slot has the key or the
+    /// slot's range begins at it, then `SplitBusy` where a transaction is prepared in the slot, then `NoSlot` where no
+    /// slot is left.
+    pub fn check_split(&self, key: &Key) -> Result<usize, Refusal>
+        ensures accepted { IfOk result (λ slot. MaySplit (machine_of self.now) slot key.now) }
+        ensures refused { IfErr result
+            (λ why. split_at (machine_of self.now) key.now ≡ refused (machine_of self.now) why) }
+    {
+        let Some(slot) = slot_of(self.slots.as_slice(), key.as_slice()) else {
+            return Err(Refusal::BadSplit);
+        };
+        let slot_state = &self.slots[slot];
+        if begins_at(key.as_slice(), slot_state) {
+            return Err(Refusal::BadSplit);
+        }
+        if is_any_prepared(self.transactions.as_slice(), slot) {
+            return Err(Refusal::SplitBusy);
+        }
+        if self.slots.len() >= MOST_SLOTS {
+            return Err(Refusal::NoSlot);
+        }
+        Ok(slot)
+    }
+
+    /// Makes what a slot is cut by at the coded root key, so that `finish_split` takes no memory. It changes nothing.
+    /// `OutOfMemory`.
+    pub fn reserve_split(&self, alloc: Global, slot: usize, key: &Key) -> Result<Cut, Refusal>
+        requires { MaySplit (machine_of self.now) slot key.now }
+        ensures cut { IfOk result (λ cut. IsCutOf (machine_of self.now) slot cut) }
+        ensures bound { IfOk result (λ cut. cut.upper_bound ≡ key.now) }
+        ensures memory { IfErr result (λ why. why ≡ Refusal.OutOfMemory) }
+    {
+        let slot_state = &self.slots[slot];
+        let upper = upper_part(alloc, slot_state, key.as_slice())?;
+        let upper_bound = Key::from_slice(alloc, key.as_slice())?;
+        Ok(Cut { upper, upper_bound })
+    }
+
+    /// Cuts a slot in two, and returns the number of the new slot, which has the keys from the cut on. It takes no
+    /// memory.
+    pub fn finish_split(&mut self, slot: usize, cut: Cut) -> usize
+        requires { IsCutOf (machine_of self.old) slot cut }
+        ensures number { result ≡ length self.old.slots }
+        ensures after { IfSome (slice_get self.old.slots slot)
+            (λ slot_state.
+            machine_of self.new ≡ (split_in_two (machine_of self.old) slot cut.upper_bound slot_state).1) }
+        ensures pieces { self.new.queries ≡ self.old.queries }
+    {
+        let number = self.slots.len();
+        let Cut { upper, upper_bound } = cut;
+        cut_at(&mut self.slots, slot, upper_bound, upper);
+        number
     }
 }

@@ -1,12 +1,16 @@
 //! The journal: transactions, the log of commits, the state of each slot, and open queries with their pieces.
 //!
-//! Each call takes the machine's step as far as that needs no versions: `span_core` puts the journal and the shard together.
+//! Each call takes the machine's step as far as that needs no versions: `span_parts` puts the journal and the shards
+//! together.
 #![tactic(auto)]
 
+pub mod choice;
 pub mod journal;
 mod owned;
 mod queries;
 mod query;
+mod ranges;
 mod slots;
+pub mod taken;
 mod transaction;
 mod transactions;

@@ -1,12 +1,20 @@
 //! Finding open queries.
-ghost use Rattle.std.specs.Prelude.{◌≡◌, ◌<◌, None, length, slice_get, slice_set, position, find, IfSome, IfNone};
+ghost use Rattle.std.specs.Prelude.{◌≡◌, ◌<◌, None, Some, true, length, slice_get, slice_set, remove, position, find, IfErr, IfOk, IfSome, IfNone, OnOk, OnErr};
 ghost use Rattle.span_machine.specs.Machine.{is_query};
 ghost use Rattle.span_machine.specs.Place.{IsPlace};
 ghost use Rattle.span_machine.specs.Pieces.{covered_by};
+ghost use Rattle.span_journal.specs.Counts.{is_uncovered};
+ghost use Rattle.span_journal.specs.Scans.{target_refusal, IsTarget};
 
 use super::query::KeptQuery;
+use super::slots::slot_at;
+use span_keycode::range::KeyRange;
+use span_machine::query::ScanLeaf;
+use span_machine::slot::SlotState;
+use span_value::refusal::Refusal;
 use span_value::seq::Seq;
 use span_value::value::Row;
+use std::alloc::{AllocError, Global};
 
 fn query_index(queries: &[KeptQuery], number: u64) -> Option<usize>
     ensures { result ≡ position (λ p. is_query number p.query) queries.now }
@@ -25,12 +33,56 @@ pub(crate) fn find_query(queries: &[KeptQuery], number: u64) -> Option<(usize, &
     }
 }
 
-/// Covers a leaf of the query at a place by a piece with these rows.
-pub(crate) fn cover_at(queries: &mut Vec<KeptQuery>, at: usize, leaf: usize, rows: Seq<Row>)
+/// What is scanned: a query and its place, a leaf of the query, and the state of a slot. `UnknownQuery`, also where the
+/// query has no such leaf, then `NoSlot`.
+pub(crate) fn find_target<'a>(
+    queries: &'a [KeptQuery],
+    slots: &'a [SlotState],
+    query: u64,
+    leaf: usize,
+    slot: usize,
+) -> Result<(usize, &'a KeptQuery, &'a ScanLeaf, &'a SlotState), Refusal>
+    ensures found { IfOk result (λ t. IsTarget queries.now slots.now query leaf slot t.0 t.1.now t.2.now t.3.now) }
+    ensures refused { IfErr result (λ why. target_refusal queries.now slots.now query leaf slot ≡ Some why) }
+{
+    let Some((at, question)) = find_query(queries, query) else {
+        return Err(Refusal::UnknownQuery);
+    };
+    let Some(part) = question.leaf(leaf) else {
+        return Err(Refusal::UnknownQuery);
+    };
+    let Some(slot_state) = slot_at(slots, slot) else {
+        return Err(Refusal::NoSlot);
+    };
+    Ok((at, question, part, slot_state))
+}
+
+/// Covers a part of a leaf of the query at a place by a piece with these rows. An error leaves all as it was.
+pub(crate) fn cover_at(
+    alloc: Global,
+    queries: &mut Vec<KeptQuery>,
+    at: usize,
+    leaf: usize,
+    range: KeyRange,
+    rows: Seq<Row>,
+) -> Result<(), AllocError>
     requires within { at < length queries.old.items }
     requires leaf { IfSome (slice_get queries.old.items at) (λ p. leaf < length p.query.leaves) }
-    ensures { IfSome (slice_get queries.old.items at)
-        (λ p. queries.new.items ≡ slice_set queries.old.items at (covered_by leaf rows p)) }
+    requires uncovered { IfSome (slice_get queries.old.items at)
+        (λ p. IfSome (slice_get p.query.leaves leaf) (λ l. is_uncovered l range ≡ true)) }
+    ensures ok { OnOk result
+        (IfSome (slice_get queries.old.items at)
+        (λ p. queries.new.items ≡ slice_set queries.old.items at (covered_by leaf range rows p))) }
+    ensures err { OnErr result (queries.new.items ≡ queries.old.items) }
 {
-    queries[at].cover(leaf, rows);
+    queries[at].cover(alloc, leaf, range, rows)
+}
+
+/// Removes the query at a place, and returns it.
+pub(crate) fn take_at(queries: &mut Vec<KeptQuery>, at: usize) -> KeptQuery
+    requires { at < length queries.old.items }
+    ensures query { Some result ≡ slice_get queries.old.items at }
+    ensures after { queries.new.items ≡ remove queries.old.items at }
+{
+    queries.remove(at)
 }

@@ -1,17 +1,23 @@
 //! The states of the slots, and the timestamps that they allow.
-ghost use Rattle.std.specs.Prelude.{◌≡◌, ◌<◌, ◌≤◌, ◌+◌, ◌^◌, ◌==◌, ◌&&◌, ◌||◌, [], ◌∷◌, not, false, max, length, nat_le, nat_lt, slice_get, slice_set, IfSome, IfNone};
+ghost use Rattle.std.specs.Prelude.{◌≡◌, ◌<◌, ◌≤◌, ◌+◌, ◌^◌, ◌==◌, ◌&&◌, ◌||◌, [], ◌∷◌, not, false, max, length, nat_le, nat_lt, slice_get, slice_set, vec_len, vec_capacity, Some, ◌++◌, IfSome, IfNone, IfOk};
 ghost use Rattle.std.specs.List.{list_any, list_all};
 ghost use Rattle.std.specs.Option.{option_copied};
-ghost use Rattle.span_journal.specs.Places.{has_all, slot_has, slot_has_all};
-ghost use Rattle.span_machine.specs.Machine.{greatest, if_some, lowest_slot, coordinator_slot, with_last, prepare_timestamp, with_risen_floor};
-ghost use Rattle.span_machine.specs.Slots.{ranges_of, whole_range};
+ghost use Rattle.span_journal.specs.Places.{slot_has};
+ghost use Rattle.span_machine.specs.Machine.{root_at, holds, slot_of, begins_at, gap_in, greatest, if_some, lowest_slot, coordinator_slot, with_last, prepare_timestamp, with_risen_floor};
 ghost use Rattle.span_truetime.specs.Limits.{timestamp_end};
 
 use super::transaction::KeptTransaction;
+use span_keycode::key::Key;
+use span_keycode::parts::{is_between, lowest_gap};
+use span_keycode::range::KeyRange;
+use span_machine::query::ScanLeaf;
 use span_machine::slot::SlotState;
 use span_machine::transaction::Prepared;
+use span_mutate::mutation::CheckedMutation;
+use span_mutate::root_key::is_in_range;
 use span_schema::schema::Schema;
 use span_truetime::interval::{Interval, TIMESTAMP_END};
+use std::alloc::{AllocError, Global};
 
 /// The greatest prepare timestamp.
 pub(crate) fn greatest_timestamp(prepared: &[Prepared]) -> u64
@@ -24,33 +30,55 @@ pub(crate) fn greatest_timestamp(prepared: &[Prepared]) -> u64
     most
 }
 
-/// Whether the slot's range has every key.
-fn has_all(slot_state: &SlotState) -> bool
-    ensures { result ≡ has_all slot_state.now }
+/// Whether the directory of the mutation lies in the slot.
+#[tactic(auto, unfolding(span_machine::specs::Slots::root_code))]
+pub(crate) fn holds(schema: &Schema, slot_state: &SlotState, mutation: &CheckedMutation) -> bool
+    ensures { result ≡ holds schema.now slot_state.now (root_at schema.now mutation.now) }
 {
-    slot_state.lo.is_none() && slot_state.hi.is_none()
+    is_in_range(schema, mutation, &slot_state.lo, &slot_state.hi)
 }
 
-/// Whether the slot is used and its range has every key.
-fn slot_has_all(slots: &[SlotState], slot: usize) -> bool
-    ensures { result ≡ slot_has_all slots.now slot }
+/// Whether the slot is in use and the directory of the mutation lies in it.
+fn slot_has(schema: &Schema, slots: &[SlotState], mutation: &CheckedMutation, slot: usize) -> bool
+    ensures { result ≡ slot_has schema.now slots.now mutation.now slot }
 {
     match slots.get(slot) {
-        Some(slot_state) => has_all(slot_state),
+        Some(slot_state) => holds(schema, slot_state, mutation),
         None => false,
     }
 }
 
-/// Whether the transaction is prepared where every directory is.
-fn is_ready_for_all(slots: &[SlotState], prepared: &[Prepared]) -> bool
-    ensures { result ≡ list_any (λ p. slot_has_all slots.now p.slot) prepared.now }
+/// Whether the directory of the mutation lies in one of the slots where its transaction is prepared.
+fn is_prepared_for(
+    schema: &Schema,
+    slots: &[SlotState],
+    prepared: &[Prepared],
+    mutation: &CheckedMutation,
+) -> bool
+    ensures { result ≡ list_any (λ p. slot_has schema.now slots.now mutation.now p.slot) prepared.now }
 {
-    prepared.iter().any(|p| slot_has_all(slots, p.slot))
+    prepared
+        .iter()
+        .any(|p| slot_has(schema, slots, mutation, p.slot))
 }
 
-/// Whether every mutation is of a slot where the transaction is prepared. There is one slot, with every key.
+/// Whether these slots have the directories of all mutations.
+fn are_prepared_for(
+    schema: &Schema,
+    slots: &[SlotState],
+    prepared: &[Prepared],
+    mutations: &[CheckedMutation],
+) -> bool
+    ensures { result
+        ≡ list_all (λ m. list_any (λ p. slot_has schema.now slots.now m p.slot) prepared.now) mutations.now }
+{
+    mutations
+        .iter()
+        .all(|m| is_prepared_for(schema, slots, prepared, m))
+}
+
+/// Whether the transaction is prepared, and for each of its mutations in the slot that has its directory.
 pub(crate) fn is_ready(slots: &[SlotState], schema: &Schema, transaction: &KeptTransaction) -> bool
-    requires { ranges_of slots.now ≡ whole_range ∷ [] }
     ensures { result
         ≡ (not (length transaction.now.prepared == 0)
         && list_all
@@ -60,7 +88,12 @@ pub(crate) fn is_ready(slots: &[SlotState], schema: &Schema, transaction: &KeptT
     if transaction.prepared().len() == 0 {
         return false;
     }
-    transaction.mutations().is_empty() || is_ready_for_all(slots, transaction.prepared())
+    are_prepared_for(
+        schema,
+        slots,
+        transaction.prepared(),
+        transaction.mutations(),
+    )
 }
 
 /// The lowest of the slots.
@@ -110,7 +143,10 @@ pub(crate) fn commit_timestamp(
         (if_some (slice_get slots.now (coordinator_slot prepared.now)) 0 (λ slot_state. slot_state.last) + 1)))
         × (ts < timestamp_end)) }
     ensures none { IfNone result
-        (timestamp_end ≤ max (greatest prepared.now) (max (latest + 1) (if_some (slice_get slots.now (coordinator_slot prepared.now)) 0 (λ slot_state. slot_state.last) + 1))) }
+        (timestamp_end
+        ≤ max (greatest prepared.now)
+        (max (latest + 1)
+        (if_some (slice_get slots.now (coordinator_slot prepared.now)) 0 (λ slot_state. slot_state.last) + 1))) }
 {
     let last = last_timestamp(slots, coordinator_slot(prepared));
     let greatest = greatest_timestamp(prepared);
@@ -122,7 +158,9 @@ pub(crate) fn commit_timestamp(
 
 /// Raises the last timestamp of the slot.
 pub(crate) fn raise_last(slots: &mut Vec<SlotState>, slot: usize, timestamp: u64)
-    ensures { slots.new.items ≡ with_last slots.old.items slot timestamp }
+    ensures after { slots.new.items ≡ with_last slots.old.items slot timestamp }
+    ensures len { vec_len slots.new ≡ vec_len slots.old }
+    ensures capacity { vec_capacity slots.new ≡ vec_capacity slots.old }
 {
     if slot < slots.len() {
         let last = slots[slot].last.max(timestamp);
@@ -172,8 +210,10 @@ pub(crate) fn prepare_timestamp(slot_state: &SlotState) -> Option<u64>
 /// Sets the last timestamp of the slot.
 pub(crate) fn set_last(slots: &mut Vec<SlotState>, slot: usize, timestamp: u64)
     requires { slot < length slots.old.items }
-    ensures { IfSome (slice_get slots.old.items slot)
+    ensures after { IfSome (slice_get slots.old.items slot)
         (λ slot_state. slots.new.items ≡ slice_set slots.old.items slot (record slot_state { last = timestamp })) }
+    ensures len { vec_len slots.new ≡ vec_len slots.old }
+    ensures capacity { vec_capacity slots.new ≡ vec_capacity slots.old }
 {
     slots[slot].last = timestamp;
 }
@@ -181,8 +221,10 @@ pub(crate) fn set_last(slots: &mut Vec<SlotState>, slot: usize, timestamp: u64)
 /// Sets the floor of the slot.
 pub(crate) fn set_floor(slots: &mut Vec<SlotState>, slot: usize, floor: u64)
     requires { slot < length slots.old.items }
-    ensures { IfSome (slice_get slots.old.items slot)
+    ensures after { IfSome (slice_get slots.old.items slot)
         (λ slot_state. slots.new.items ≡ slice_set slots.old.items slot (record slot_state { floor = floor })) }
+    ensures len { vec_len slots.new ≡ vec_len slots.old }
+    ensures capacity { vec_capacity slots.new ≡ vec_capacity slots.old }
 {
     slots[slot].floor = floor;
 }
@@ -190,8 +232,10 @@ pub(crate) fn set_floor(slots: &mut Vec<SlotState>, slot: usize, floor: u64)
 /// Sets the horizon of the slot.
 pub(crate) fn set_horizon(slots: &mut Vec<SlotState>, slot: usize, h: u64)
     requires { slot < length slots.old.items }
-    ensures { IfSome (slice_get slots.old.items slot)
+    ensures after { IfSome (slice_get slots.old.items slot)
         (λ slot_state. slots.new.items ≡ slice_set slots.old.items slot (record slot_state { horizon = h })) }
+    ensures len { vec_len slots.new ≡ vec_len slots.old }
+    ensures capacity { vec_capacity slots.new ≡ vec_capacity slots.old }
 {
     slots[slot].horizon = h;
 }
@@ -212,4 +256,90 @@ pub(crate) fn risen_floor(slot_state: &SlotState, s: u64, interval: Interval) ->
     } else {
         slot_state.floor
     }
+}
+
+/// The lowest uncovered part of a leaf's range in the slot, if there is one.
+pub(crate) fn gap_in(
+    alloc: Global,
+    slot_state: &SlotState,
+    leaf: &ScanLeaf,
+) -> Result<Option<KeyRange>, AllocError>
+    ensures { IfOk result (λ gap. gap ≡ gap_in slot_state.now leaf.now) }
+{
+    lowest_gap(
+        alloc,
+        &slot_state.lo,
+        &slot_state.hi,
+        &leaf.range,
+        leaf.covered.as_slice(),
+    )
+}
+
+/// The number of the slot whose range has the coded key.
+pub(crate) fn slot_of(slots: &[SlotState], key: &[u8]) -> Option<usize>
+    ensures { result ≡ slot_of slots.now key.now }
+{
+    slots.iter().position(|slot_state| is_between(&slot_state.lo, &slot_state.hi, key))
+}
+
+/// Whether the slot's range begins at the key.
+pub(crate) fn begins_at(key: &[u8], slot_state: &SlotState) -> bool
+    ensures { result ≡ begins_at key.now slot_state.now }
+{
+    match &slot_state.lo {
+        Some(low) => key == low.as_slice(),
+        None => false,
+    }
+}
+
+/// A copy of an end of a range.
+fn copy_end(alloc: Global, end: &Option<Key>) -> Result<Option<Key>, AllocError>
+    ensures { IfOk result (λ copy. copy ≡ end.now) }
+{
+    match end {
+        Some(key) => Ok(Some(Key::from_slice(alloc, key.as_slice())?)),
+        None => Ok(None),
+    }
+}
+
+/// The state of a slot that has the keys of another one from this key on.
+pub(crate) fn upper_part(
+    alloc: Global,
+    slot_state: &SlotState,
+    key: &[u8],
+) -> Result<SlotState, AllocError>
+    ensures { IfOk result (λ upper. upper ≡ record slot_state.now { lo = Some key.now }) }
+{
+    Ok(SlotState {
+        lo: Some(Key::from_slice(alloc, key)?),
+        hi: copy_end(alloc, &slot_state.hi)?,
+        last: slot_state.last,
+        floor: slot_state.floor,
+        horizon: slot_state.horizon,
+    })
+}
+
+/// Cuts the slot at a place: the keys from `upper_bound` on go to the slot of this state, which joins at the end. It
+/// takes no memory.
+pub(crate) fn cut_at(slots: &mut Vec<SlotState>, slot: usize, upper_bound: Key, upper: SlotState)
+    requires within { slot < length slots.old.items }
+    requires room { vec_len slots.old < vec_capacity slots.old }
+    ensures after { IfSome (slice_get slots.old.items slot)
+        (λ slot_state.
+        slots.new.items ≡ slice_set slots.old.items slot (record slot_state { hi = Some upper_bound }) ++ upper ∷ []) }
+    ensures len { vec_len slots.new ≡ vec_len slots.old + 1 }
+    ensures capacity { vec_capacity slots.old ≤ vec_capacity slots.new }
+{
+    set_hi(slots, slot, upper_bound);
+    slots.push(upper).unwrap();
+}
+
+fn set_hi(slots: &mut Vec<SlotState>, slot: usize, hi: Key)
+    requires { slot < length slots.old.items }
+    ensures after { IfSome (slice_get slots.old.items slot)
+        (λ slot_state. slots.new.items ≡ slice_set slots.old.items slot (record slot_state { hi = Some hi })) }
+    ensures len { vec_len slots.new ≡ vec_len slots.old }
+    ensures capacity { vec_capacity slots.new ≡ vec_capacity slots.old }
+{
+    slots[slot].hi = Some(hi);
 }

@@ -1,8 +1,10 @@
-//! An open transaction that can be committed without memory.
-ghost use Rattle.std.specs.Prelude.{◌≡◌, true, filter, not, ◌==◌, IfOk, OnOk, OnErr};
-ghost use Rattle.span_machine.specs.Machine.{with_decision, is_undecided, commit_of, add_prepared, without_prepared};
+//! An open transaction that can be prepared and committed without memory.
+ghost use Rattle.std.specs.Prelude.{◌≡◌, ◌<◌, [], true, false, filter, not, ◌==◌, IfOk, vec_capacity};
+ghost use Rattle.span_machine.specs.Limits.{most_slots};
+ghost use Rattle.span_machine.specs.Machine.{with_decision, is_undecided, is_prepared_at, commit_of, add_prepared, without_prepared};
 
-use span_machine::transaction::{Commit, Decision, OpenTransaction, Prepared};
+use super::journal::MOST_SLOTS;
+use span_machine::transaction::{Commit, Decision, Prepared};
 use span_mutate::mutation::CheckedMutation;
 use span_value::seq::Seq;
 use std::alloc::{AllocError, Global};
@@ -12,33 +14,70 @@ use std::mem;
 /// An open transaction, with the mutations that its log entry takes over.
 #[derive(Debug, Drop)]
 pub struct KeptTransaction {
-    open: OpenTransaction,
+    owner: u64,
+    number: u64,
+    mutations: Seq<CheckedMutation>,
+    decision: Decision,
+    /// Where it is prepared. It has reserved capacity for every slot that there may be.
+    prepared: Vec<Prepared>,
     /// The same mutations once more, until the transaction is committed.
     entry: Seq<CheckedMutation>,
 }
 
 impl Model for KeptTransaction {
-    ghost use Rattle.std.specs.Prelude.{◌≡◌, true};
+    ghost use Rattle.std.specs.Prelude.{◌≡◌, ◌≤◌, true, vec_capacity};
+    ghost use Rattle.span_machine.specs.Limits.{most_slots};
     ghost use Rattle.span_machine.specs.declared.transaction.OpenTransaction.{OpenTransaction};
-    ghost use Rattle.span_machine.specs.Machine.{is_undecided};
+    ghost use Rattle.span_machine.specs.Machine.{undecided};
+    ghost use Rattle.span_journal.specs.Places.{AreOfSlots};
 
     ghost Value = { OpenTransaction };
 
-    ghost view = { λ a. a.open };
+    ghost view = { λ a. record {
+      owner = a.owner;
+      number = a.number;
+      mutations = a.mutations;
+      decision = a.decision;
+      prepared = a.prepared.items;
+    } };
 
-    ghost invariant = { λ a. is_undecided a.open ≡ true → a.entry ≡ a.open.mutations };
+    ghost invariant = { λ a. record {
+      entry : undecided a.decision ≡ true → a.entry ≡ a.mutations;
+      room : most_slots ≤ vec_capacity a.prepared;
+      slots : AreOfSlots a.prepared.items;
+    } };
 }
 
 impl KeptTransaction {
-    /// A transaction, and a copy of its mutations for the log.
-    pub(crate) fn new(transaction: OpenTransaction, entry: Seq<CheckedMutation>) -> KeptTransaction
-        requires { entry ≡ transaction.mutations }
-        ensures { result ≡ transaction }
+    /// A transaction that is begun, with a copy of its mutations for the log.
+    pub(crate) fn new(
+        alloc: Global,
+        owner: u64,
+        number: u64,
+        mutations: Seq<CheckedMutation>,
+        entry: Seq<CheckedMutation>,
+    ) -> Result<KeptTransaction, AllocError>
+        requires { entry ≡ mutations }
+        ensures { IfOk result
+            (λ t.
+            t
+            ≡ record {
+              owner = owner;
+              number = number;
+              mutations = mutations;
+              decision = Decision.Undecided;
+              prepared = [];
+            }) }
     {
-        KeptTransaction {
-            open: transaction,
+        let prepared = Vec::with_capacity(alloc, MOST_SLOTS)?;
+        Ok(KeptTransaction {
+            owner,
+            number,
+            mutations,
+            decision: Decision::Undecided,
+            prepared,
             entry,
-        }
+        })
     }
 
     /// Commits at the timestamp, and gives the log's entry. It takes no memory.
@@ -47,11 +86,11 @@ impl KeptTransaction {
         ensures commit { result ≡ commit_of timestamp self.old }
         ensures after { self.new ≡ with_decision (Decision.Committed timestamp) self.old }
     {
-        self.open.decision = Decision::Committed(timestamp);
+        self.decision = Decision::Committed(timestamp);
         Commit {
             timestamp,
-            number: self.open.number,
-            owner: self.open.owner,
+            number: self.number,
+            owner: self.owner,
             mutations: mem::replace(&mut self.entry, Seq::new(alloc)),
         }
     }
@@ -60,73 +99,72 @@ impl KeptTransaction {
     pub(crate) fn abort(&mut self)
         ensures { self.new ≡ with_decision Decision.Aborted self.old }
     {
-        self.open.decision = Decision::Aborted;
+        self.decision = Decision::Aborted;
     }
 
     /// The owner that began it.
     pub(crate) fn owner(&self) -> u64
         ensures { result ≡ self.now.owner }
     {
-        self.open.owner
+        self.owner
     }
 
     /// Its number.
     pub(crate) fn number(&self) -> u64
         ensures { result ≡ self.now.number }
     {
-        self.open.number
+        self.number
     }
 
     /// The decision on it.
     pub(crate) fn decision(&self) -> Decision
         ensures { result ≡ self.now.decision }
     {
-        self.open.decision
+        self.decision
     }
 
     /// Whether nothing is decided yet.
     pub(crate) fn is_undecided(&self) -> bool
         ensures { result ≡ is_undecided self.now }
     {
-        matches!(self.open.decision, Decision::Undecided)
+        matches!(self.decision, Decision::Undecided)
     }
 
     /// Where it is prepared.
     pub(crate) fn prepared(&self) -> &[Prepared]
         ensures { result.now ≡ self.now.prepared }
     {
-        self.open.prepared.as_slice()
+        self.prepared.as_slice()
     }
 
     /// Its mutations.
     pub(crate) fn mutations(&self) -> &[CheckedMutation]
         ensures { result.now ≡ self.now.mutations }
     {
-        self.open.mutations.as_slice()
+        self.mutations.as_slice()
     }
 
-    /// Notes where it is prepared. An error leaves all as it was.
-    pub(crate) fn add_prepared(&mut self, prepared: Prepared) -> Result<(), AllocError>
-        ensures ok { OnOk result (self.new ≡ add_prepared prepared.slot prepared.timestamp self.old) }
-        ensures err { OnErr result (self.new ≡ self.old) }
+    /// Notes where it is prepared. It takes no memory.
+    pub(crate) fn add_prepared(&mut self, prepared: Prepared)
+        requires slot { prepared.slot < most_slots }
+        requires apart { is_prepared_at prepared.slot self.old ≡ false }
+        ensures { self.new ≡ add_prepared prepared.slot prepared.timestamp self.old }
     {
-        self.open.prepared.push(prepared)?;
-        Ok(())
+        self.prepared.push(prepared).unwrap();
     }
 
     /// Notes that it is prepared at the slot no more. It takes no memory.
-    pub(crate) fn remove_prepared(&mut self, alloc: Global, slot: usize)
+    pub(crate) fn remove_prepared(&mut self, slot: usize)
         ensures { self.new ≡ without_prepared slot self.old }
     {
-        let mut prepared = mem::replace(&mut self.open.prepared, Seq::new(alloc)).into_vec();
-        keep_other_slots(&mut prepared, slot);
-        self.open.prepared = Seq::from_vec(prepared);
+        keep_other_slots(&mut self.prepared, slot);
     }
 }
 
 /// Keeps what is prepared at other slots.
 fn keep_other_slots(prepared: &mut Vec<Prepared>, slot: usize)
-    ensures { prepared.new.items ≡ filter (λ p. not (p.slot == slot)) prepared.old.items }
+    ensures items { prepared.new.items ≡ filter (λ p. not (p.slot == slot)) prepared.old.items }
+    ensures capacity { vec_capacity prepared.new ≡ vec_capacity prepared.old }
 {
     prepared.retain(|p| p.slot != slot);
 }

@@ -1,18 +1,22 @@
 //! Finding open transactions, and what they share.
-ghost use Rattle.std.specs.Prelude.{◌≡◌, ◌<◌, ◌+◌, ◌≤◌, ◌&&◌, ◌||◌, ◌==◌, not, true, length, position, None, Some, IfOk, IfErr, remove, OnOk, OnErr, if◌then◌else◌, count_by, find, slice_get, slice_set, IfSome, IfNone};
+ghost use Rattle.std.specs.Prelude.{◌≡◌, ◌<◌, ◌+◌, ◌≤◌, ◌&&◌, ◌||◌, ◌==◌, not, true, false, length, position, None, Some, IfOk, IfErr, remove, if◌then◌else◌, count_by, find, slice_get, slice_set, IfSome, IfNone};
 ghost use Rattle.std.specs.List.{list_any};
-ghost use Rattle.span_machine.specs.Machine.{is_at, root_at, is_undecided, is_transaction, is_prepared_at, with_decision, commit_of, add_prepared, without_prepared, have_common_root, apply_refusal};
+ghost use Rattle.span_machine.specs.Machine.{is_at, root_at, is_undecided, is_transaction, is_prepared_at, with_decision, commit_of, add_prepared, without_prepared, apply_refusal, holds};
+ghost use Rattle.span_machine.specs.Limits.{most_slots};
 ghost use Rattle.span_machine.specs.Place.{IsPlace};
 ghost use Rattle.span_journal.specs.Judged.{decision_of, has_wrong_state};
+ghost use Rattle.span_journal.specs.Places.{share_directory_in};
 
+use super::slots::holds;
 use super::transaction::KeptTransaction;
+use span_machine::slot::SlotState;
 use span_machine::transaction::{Commit, Decision, Prepared};
 use span_mutate::directory::is_in_directory_of;
 use span_mutate::mutation::CheckedMutation;
 use span_schema::schema::Schema;
 use span_truetime::interval::Interval;
 use span_value::refusal::Refusal;
-use std::alloc::{AllocError, Global};
+use std::alloc::Global;
 
 /// How many transactions are undecided.
 #[tactic(auto, using(std::proofs::lemmas::List::Sums::count_by_more_yes, std::proofs::lemmas::List::Sums::count_by_more_no))]
@@ -72,6 +76,13 @@ pub(crate) fn count_prepared(transactions: &[KeptTransaction], slot: usize) -> u
     prepared
 }
 
+/// Whether a transaction is prepared at the slot.
+pub(crate) fn is_any_prepared(transactions: &[KeptTransaction], slot: usize) -> bool
+    ensures { result ≡ list_any (is_prepared_at slot) transactions.now }
+{
+    transactions.iter().any(|t| is_prepared(t, slot))
+}
+
 /// Commits the transaction at a place.
 pub(crate) fn commit_at(
     alloc: Global,
@@ -90,44 +101,69 @@ pub(crate) fn commit_at(
     transactions[at].commit(alloc, timestamp)
 }
 
-/// Whether a transaction that is prepared at the slot has a mutation in a directory of these.
+/// Whether a transaction that is prepared at the slot has a mutation in a directory of those of these mutations that
+/// lie in the slot.
 pub(crate) fn has_conflict(
     schema: &Schema,
     transactions: &[KeptTransaction],
     slot: usize,
+    slot_state: &SlotState,
     mutations: &[CheckedMutation],
 ) -> bool
-    ensures { result ≡ list_any (λ t. is_prepared_at slot t && have_common_root schema.now mutations.now t.mutations) transactions.now }
+    ensures { result
+        ≡ list_any
+        (λ t. is_prepared_at slot t && share_directory_in schema.now slot_state.now mutations.now t.mutations)
+        transactions.now }
 {
     transactions
         .iter()
-        .any(|t| is_in_conflict(schema, t, slot, mutations))
+        .any(|t| is_in_conflict(schema, t, slot, slot_state, mutations))
 }
 
 fn is_in_conflict(
     schema: &Schema,
     transaction: &KeptTransaction,
     slot: usize,
+    slot_state: &SlotState,
     mutations: &[CheckedMutation],
 ) -> bool
-    ensures { result ≡ (is_prepared_at slot transaction.now && have_common_root schema.now mutations.now transaction.now.mutations) }
+    ensures { result
+        ≡ (is_prepared_at slot transaction.now
+        && share_directory_in schema.now slot_state.now mutations.now transaction.now.mutations) }
 {
     if !is_prepared(transaction, slot) {
         return false;
     }
-    share_directory(schema, mutations, transaction.mutations())
+    share_directory(schema, slot_state, mutations, transaction.mutations())
 }
 
-/// Whether a directory has mutations of both lists.
-pub(crate) fn share_directory(
+/// Whether a directory that lies in the slot has mutations of both lists.
+fn share_directory(
     schema: &Schema,
+    slot_state: &SlotState,
     left: &[CheckedMutation],
     right: &[CheckedMutation],
 ) -> bool
-    ensures { result ≡ have_common_root schema.now left.now right.now }
+    ensures { result ≡ share_directory_in schema.now slot_state.now left.now right.now }
 {
     left.iter()
-        .any(|m| is_any_in_directory_of(schema, m, right))
+        .any(|m| is_in_shared_directory(schema, slot_state, m, right))
+}
+
+fn is_in_shared_directory(
+    schema: &Schema,
+    slot_state: &SlotState,
+    mutation: &CheckedMutation,
+    others: &[CheckedMutation],
+) -> bool
+    ensures { result
+        ≡ (holds schema.now slot_state.now (root_at schema.now mutation.now)
+        && list_any (is_at schema.now (root_at schema.now mutation.now)) others.now) }
+{
+    if !holds(schema, slot_state, mutation) {
+        return false;
+    }
+    is_any_in_directory_of(schema, mutation, others)
 }
 
 fn is_any_in_directory_of(
@@ -153,54 +189,50 @@ pub(crate) fn abort_at(transactions: &mut Vec<KeptTransaction>, at: usize)
 }
 
 /// Notes that the transaction at a place is prepared at the slot no more.
-fn remove_prepared_at(
-    alloc: Global,
-    transactions: &mut Vec<KeptTransaction>,
-    at: usize,
-    slot: usize,
-)
+fn remove_prepared_at(transactions: &mut Vec<KeptTransaction>, at: usize, slot: usize)
     requires { at < length transactions.old.items }
     ensures after { IfSome (slice_get transactions.old.items at)
         (λ t. transactions.new.items ≡ slice_set transactions.old.items at (without_prepared slot t)) }
     ensures fewer { count_by is_undecided transactions.new.items ≤ count_by is_undecided transactions.old.items }
 {
-    transactions[at].remove_prepared(alloc, slot);
+    transactions[at].remove_prepared(slot);
 }
 
-/// Ends what the transaction at a place has at the slot: it is prepared there no more, and leaves once it is prepared nowhere.
-pub(crate) fn end_prepared_at(
-    alloc: Global,
-    transactions: &mut Vec<KeptTransaction>,
-    at: usize,
-    slot: usize,
-)
+/// Ends what the transaction at a place has at the slot: it is prepared there no more, and leaves once it is prepared
+/// nowhere.
+pub(crate) fn end_prepared_at(transactions: &mut Vec<KeptTransaction>, at: usize, slot: usize)
     requires { at < length transactions.old.items }
-    ensures after { IfSome (slice_get transactions.old.items at) (λ t. transactions.new.items ≡
-        (if length (without_prepared slot t).prepared == 0 then remove transactions.old.items at else slice_set transactions.old.items at (without_prepared slot t))) }
+    ensures after { IfSome (slice_get transactions.old.items at)
+        (λ t.
+        transactions.new.items
+        ≡ (if length (without_prepared slot t).prepared == 0
+        then remove transactions.old.items at
+        else slice_set transactions.old.items at (without_prepared slot t))) }
     ensures fewer { count_by is_undecided transactions.new.items ≤ count_by is_undecided transactions.old.items }
 {
     if is_prepared_elsewhere(&transactions[at], slot) {
-        remove_prepared_at(alloc, transactions, at, slot);
+        remove_prepared_at(transactions, at, slot);
     } else {
         remove_at(transactions, at);
     }
 }
 
-/// Notes where the transaction at a place is prepared. An error leaves all as it was.
+/// Notes where the transaction at a place is prepared. It takes no memory.
 pub(crate) fn add_prepared_at(
     transactions: &mut Vec<KeptTransaction>,
     at: usize,
     prepared: Prepared,
-) -> Result<(), AllocError>
-    requires { at < length transactions.old.items }
-    ensures ok { OnOk result
-        (IfSome (slice_get transactions.old.items at)
+)
+    requires within { at < length transactions.old.items }
+    requires slot { prepared.slot < most_slots }
+    requires apart { IfSome (slice_get transactions.old.items at) (λ t. is_prepared_at prepared.slot t ≡ false) }
+    ensures after { IfSome (slice_get transactions.old.items at)
         (λ t.
-        transactions.new.items ≡ slice_set transactions.old.items at (add_prepared prepared.slot prepared.timestamp t))) }
-    ensures err { OnErr result (transactions.new.items ≡ transactions.old.items) }
+        transactions.new.items
+        ≡ slice_set transactions.old.items at (add_prepared prepared.slot prepared.timestamp t)) }
     ensures fewer { count_by is_undecided transactions.new.items ≤ count_by is_undecided transactions.old.items }
 {
-    transactions[at].add_prepared(prepared)
+    transactions[at].add_prepared(prepared);
 }
 
 /// Takes the transaction at a place away.
@@ -212,17 +244,14 @@ pub(crate) fn remove_at(transactions: &mut Vec<KeptTransaction>, at: usize)
     let _ = transactions.remove(at);
 }
 
-/// Whether the transaction is in a state to be prepared at the slot, where all of its directories lie.
+/// Whether the transaction is in a state to be prepared at the slot: undecided, and not prepared there.
 pub(crate) fn may_prepare(transaction: &KeptTransaction, slot: usize) -> bool
     ensures { result ≡ not (has_wrong_state slot transaction.now) }
 {
     if !transaction.is_undecided() {
         return false;
     }
-    if is_prepared(transaction, slot) {
-        return false;
-    }
-    !transaction.mutations().is_empty()
+    !is_prepared(transaction, slot)
 }
 
 /// Whether the transaction is prepared at another slot.
@@ -232,7 +261,8 @@ fn is_prepared_elsewhere(transaction: &KeptTransaction, slot: usize) -> bool
     has_other_slot(transaction.prepared(), slot)
 }
 
-/// The commit timestamp of a transaction that may be applied at the slot, or None for an aborted one, or why it may not.
+/// The commit timestamp of a transaction that may be applied at the slot, or None for an aborted one, or why it may
+/// not.
 pub(crate) fn check_apply(
     transaction: &KeptTransaction,
     slot: usize,

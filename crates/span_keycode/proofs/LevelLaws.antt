@@ -18,7 +18,7 @@ use Rattle.span_keycode.proofs.Order.{then_assoc, decides-append, decides-less, 
 use Rattle.span_keycode.proofs.Codes.{decides-cons, decides-tuple, less_is, greater_is, equal_is}
 use Rattle.span_keycode.proofs.Levels.{by_parents, key_split, key_root, levels_at, keys_short, back, IsShort}
 
-take_short : {X : Type 0} (k n : ℕ) (xs : List X) → k ≤ n → take k (take n xs) ≡ take k xs
+pub take_short : {X : Type 0} (k n : ℕ) (xs : List X) → k ≤ n → take k (take n xs) ≡ take k xs
 take_short zero n xs h = refl
 take_short (suc k) zero xs h = absurd (omega arith)
 take_short (suc k) (suc n) [] h = refl
@@ -224,7 +224,7 @@ append_nothing : (xs : List ℕ) → xs ++ [] ≡ xs
 append_nothing [] = refl
 append_nothing (x ∷ xs) = ap (λ (ys : List ℕ). x ∷ ys) (append_nothing xs)
 
-own_level : (tables : List Table) (i : ℕ) (vs : List Value) → code_of tables (level_of tables vs (i + 1) ∷ []) ≡ (i + 1) ∷ tuple_code (own_key_at tables i) (own_values_at tables i vs)
+pub own_level : (tables : List Table) (i : ℕ) (vs : List Value) → code_of tables (level_of tables vs (i + 1) ∷ []) ≡ (i + 1) ∷ tuple_code (own_key_at tables i) (own_values_at tables i vs)
 own_level tables i vs = append_nothing (level_code tables (level_of tables vs (i + 1))) ∙ level_here tables i vs
 
 -- the coding of a root row's key

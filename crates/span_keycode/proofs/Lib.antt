@@ -20,3 +20,8 @@ pub mod Bounds
 pub mod RangeLaws
 pub mod FamilyRanges
 pub mod Words
+pub mod Befores
+pub mod PartLaws
+pub mod Comparing
+pub mod RootCodes
+pub mod ValueLaws

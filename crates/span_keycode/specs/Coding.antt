@@ -1,9 +1,10 @@
 -- The coding of one column's value, and of a tuple of them.
-use Rattle.std.specs.Prelude.{ℕ, ℤ, pos, negsuc, zero, suc, ◌+◌, ◌-◌, ◌^◌, List, [], ◌∷◌, ◌++◌, Bool, true, false, ◌&&◌}
+use Rattle.std.specs.Prelude.{◌≡◌, ℕ, ℤ, pos, negsuc, zero, suc, ◌+◌, ◌-◌, ◌^◌, List, [], ◌∷◌, ◌++◌, Bool, true, false, ◌&&◌}
 use Rattle.std.specs.Ordering.{nat_cmp, int_cmp, ordering_then, ordering_reverse}
 use Rattle.std.specs.Int.{to_be_bytes, w64}
 use Rattle.std.specs.declared.cmp.Ordering.{Ordering}
 use Rattle.std.specs.declared.cmp.Ordering.TheVariants.{Less, Equal, Greater}
+use Rattle.span_value.specs.declared.value.Kind.{Kind}
 use Rattle.span_value.specs.declared.value.Value.{Value}
 use Rattle.span_value.specs.declared.value.Value.TheVariants.{Null, Int, Str, Bytes, Bool as Flag}
 use Rattle.span_schema.specs.declared.layout.KeyPart.{KeyPart}
@@ -74,6 +75,14 @@ are_of_kinds [] [] = true
 are_of_kinds [] (v ∷ vs) = false
 are_of_kinds (c ∷ cs) [] = false
 are_of_kinds (c ∷ cs) (v ∷ vs) = is_of_kind c.kind v && are_of_kinds cs vs
+
+-- a value that is of a kind fits it, as those of a running program do
+abbrev pub IsValue : Value → Type 0
+IsValue v = (k : Kind) → is_of_kind k v ≡ true → Fits k v
+
+-- values that are of the kinds of columns fit them, as those of a running program do
+abbrev pub AreValues : List Value → Type 0
+AreValues vs = (cs : List KeyPart) → are_of_kinds cs vs ≡ true → AreFit cs vs
 
 -- the codings of the columns, one after another
 abbrev pub tuple_code : List KeyPart → List Value → List ℕ

@@ -6,4 +6,6 @@ pub mod Reads
 pub mod Laws
 pub mod Roots
 pub mod Ranges
+pub mod Parts
+pub mod RootOrder
 pub mod Limits

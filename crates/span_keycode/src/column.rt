@@ -30,7 +30,7 @@ pub fn have_kinds(columns: &[KeyPart], values: &[Value]) -> bool
     true
 }
 
-fn to_unsigned(number: i64) -> u64
+pub(crate) fn to_unsigned(number: i64) -> u64
     ensures { result ≡ to_unsigned number }
 {
     if number < 0 {

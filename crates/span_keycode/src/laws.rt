@@ -1,5 +1,9 @@
 //! The laws of key codings, each as the contract of a function that does nothing.
 ghost use Rattle.span_keycode.specs.Laws.{OrderOfKeys, OrderInTable, BeginsOwnRows, OneKey, OrderOfTexts, RangeOfComparison};
+ghost use Rattle.span_keycode.specs.Coding.{IsValue, AreValues};
+
+use span_schema::fitting::is_of_kind;
+use span_value::value::{Kind, Value};
 
 /// Byte order of coded keys is the order of keys.
 pub fn order_of_keys()
@@ -30,3 +34,21 @@ pub fn order_of_texts()
 pub fn range_of_comparison()
     ensures { RangeOfComparison }
 {}
+
+/// Values of a running program fit the columns whose kinds they have. No memory is taken.
+pub fn are_values(values: &[Value])
+    ensures { AreValues values.now }
+{
+    for value in values {
+        is_value(value);
+    }
+}
+
+fn is_value(value: &Value)
+    ensures { IsValue value.now }
+{
+    let _int = is_of_kind(Kind::Int, value);
+    let _str = is_of_kind(Kind::Str, value);
+    let _bytes = is_of_kind(Kind::Bytes, value);
+    let _bool = is_of_kind(Kind::Bool, value);
+}

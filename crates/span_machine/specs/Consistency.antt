@@ -7,7 +7,7 @@ use Rattle.span_params.specs.declared.params.Parameter.{Parameter}
 use Rattle.span_machine.specs.declared.transaction.Commit.{Commit}
 use Rattle.span_machine.specs.declared.step.Verdict.{Verdict}
 use Rattle.span_machine.specs.declared.step.Step.{Step}
-use Rattle.span_machine.specs.declared.step.Step.TheVariants.{Begin, Prepare, Decide, Apply, Advance, Trim, Open, Scan, Finish, Close}
+use Rattle.span_machine.specs.declared.step.Step.TheVariants.{Begin, Prepare, Decide, Apply, Advance, Trim, Open, Scan, Finish, Close, Split}
 use Rattle.span_machine.specs.declared.step.Reply.{Reply}
 use Rattle.span_machine.specs.declared.step.Reply.TheVariants.{Decided, Applied, Opened}
 use Rattle.span_machine.specs.Tables.{upto}
@@ -31,6 +31,7 @@ MayBeTakenAt (Open text params bound interval) time = IsWithin interval time
 MayBeTakenAt (Scan query leaf slot interval) time = IsWithin interval time
 MayBeTakenAt (Finish query) time = Unit {0}
 MayBeTakenAt (Close query) time = Unit {0}
+MayBeTakenAt (Split table key) time = Unit {0}
 
 -- the steps may be taken at these true times, one for each: from this time on, and none before the one that precedes it
 abbrev pub AreTrueTimes : ℕ → List Step → List ℕ → Type 0

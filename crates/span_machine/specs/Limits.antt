@@ -16,3 +16,7 @@ most_queries = 64
 -- numbers of transactions and of queries are below this
 abbrev pub number_end : ℕ
 number_end = 2 ^ 63
+
+-- how many slots there may be
+abbrev pub most_slots : ℕ
+most_slots = 16

@@ -1,13 +1,19 @@
-use Rattle.std.specs.Prelude.{◌≡◌, ℕ, ◌+◌, ◌-◌, max, Bool, true, false, ◌==◌, ◌&&◌, ◌||◌, not, nat_lt, nat_le, List, [], ◌∷◌, ◌++◌, length, map, filter, find, count_by, slice_get, slice_set, Option, Some, None, Result, Ok, Err, if◌then◌else◌, ◌⊎◌}
+use Rattle.std.specs.Prelude.{◌≡◌, ℕ, ◌+◌, ◌-◌, max, Bool, true, false, ◌==◌, ◌&&◌, ◌||◌, not, nat_lt, nat_le, List, [], ◌∷◌, ◌++◌, length, map, filter, find, insert, count_by, slice_get, slice_set, Option, Some, None, Result, Ok, Err, if◌then◌else◌, ◌⊎◌}
 use Rattle.std.specs.List.{list_any, list_all}
+use Rattle.std.specs.Str.{bytes_eq}
 use Rattle.span_schema.specs.declared.table.Table.{Table}
+use Rattle.span_schema.specs.Numbers.{root_of}
+use Rattle.span_keycode.specs.declared.range.KeyRange.{KeyRange}
+use Rattle.span_keycode.specs.Parts.{family, part_between, lowest_gap, tiles, place_among}
 use Rattle.span_mutate.specs.declared.mutation.CheckedMutation.{CheckedMutation}
+use Rattle.span_mutate.specs.RootKeys.{root_key}
+use Rattle.span_value.specs.declared.value.Value.{Value}
 use Rattle.span_machine.specs.declared.transaction.Commit.{Commit}
 use Rattle.span_value.specs.Results.{first_cause, and_then}
 use Rattle.span_value.specs.declared.refusal.Refusal.{Refusal}
 use Rattle.span_value.specs.declared.refusal.Refusal.TheVariants as refusal
 use Rattle.span_machine.specs.declared.step.Step.{Step}
-use Rattle.span_machine.specs.declared.step.Step.TheVariants.{Begin, Prepare, Decide, Apply, Advance, Trim, Open, Scan, Finish, Close}
+use Rattle.span_machine.specs.declared.step.Step.TheVariants.{Begin, Prepare, Decide, Apply, Advance, Trim, Open, Scan, Finish, Close, Split}
 use Rattle.span_machine.specs.declared.step.Reply.{Reply}
 use Rattle.span_machine.specs.declared.step.Reply.TheVariants as reply
 use Rattle.span_machine.specs.declared.step.Reply.TheVariants.{Refused}
@@ -17,7 +23,7 @@ use Rattle.span_truetime.specs.declared.bound.Bound.{Bound}
 use Rattle.span_params.specs.declared.params.Parameter.{Parameter}
 use Rattle.span_query.specs.declared.query.Statement.{Statement}
 use Rattle.span_query.specs.Rows.{Row, Rows}
-use Rattle.span_machine.specs.Limits.{most_transactions, most_commits, most_queries, number_end}
+use Rattle.span_machine.specs.Limits.{most_transactions, most_commits, most_queries, most_slots, number_end}
 use Rattle.span_truetime.specs.Limits.{timestamp_end}
 use Rattle.span_truetime.specs.Time.{timestamp_of, is_out_of_range}
 use Rattle.span_truetime.specs.declared.interval.Interval.{Interval}
@@ -27,10 +33,10 @@ use Rattle.span_machine.specs.declared.transaction.Decision.TheVariants as decis
 use Rattle.span_machine.specs.declared.transaction.Decision.TheVariants.{Undecided, Committed}
 use Rattle.span_machine.specs.declared.transaction.OpenTransaction.{OpenTransaction}
 use Rattle.span_machine.specs.declared.slot.SlotState.{SlotState}
-use Rattle.span_machine.specs.declared.query.Leaf.{Leaf}
+use Rattle.span_machine.specs.declared.query.ScanLeaf.{ScanLeaf}
 use Rattle.span_machine.specs.declared.query.OpenQuery.{OpenQuery}
 use Rattle.span_mutate.specs.Database.{apply}
-pub use Rattle.span_machine.specs.Slots.{root_at, is_at, has_key, holds, mutations_in}
+pub use Rattle.span_machine.specs.Slots.{root_at, is_at, has_key, holds, slot_of, mutations_in}
 use Rattle.span_machine.specs.Tables.{tables}
 use Rattle.span_machine.specs.Meaning.{means}
 use Rattle.span_machine.specs.Kept as kept
@@ -322,27 +328,27 @@ open_refusal m bound interval = first_cause (
     (is_out_of_range bound interval, refusal.TimestampRange)
     ∷ (nat_le most_queries (length m.queries) || nat_le number_end m.next_query, refusal.QueryTableFull) ∷ [])
 
--- a leaf that no piece covers
-abbrev pub uncovered : ℕ → Leaf
-uncovered table = record { table = table; covered = false }
+-- a leaf that no piece covers: the whole family of a table
+abbrev pub uncovered : List Table → ℕ → ScanLeaf
+uncovered schema table = record { table = table; range = family (root_of schema table); covered = [] }
 
--- a statement as an open query
-abbrev pub as_opened : ℕ → ℕ → Statement → OpenQuery
-as_opened number s q = record { number = number; query = q.query; s = s; leaves = map uncovered q.leaves }
+-- a query text with its parameters, understood as a statement, as an open query
+abbrev pub as_opened : List Table → ℕ → ℕ → List ℕ → List Parameter → Statement → OpenQuery
+as_opened schema number s text params q = record { number = number; text = text; params = params; statement = q; s = s; leaves = map (uncovered schema) q.leaves }
 
-abbrev pub opened : Machine → Statement → ℕ → Answer
-opened m q s = (
+abbrev pub opened : List Table → Machine → List ℕ → List Parameter → Statement → ℕ → Answer
+opened schema m text params q s = (
   reply.Opened m.next_query s (length q.leaves),
   record m {
-    queries = m.queries ++ as_opened m.next_query s q ∷ [];
+    queries = m.queries ++ as_opened schema m.next_query s text params q ∷ [];
     next_query = m.next_query + 1;
   },
 )
 
 -- where the query text is understood as this; the refusal of a query text comes first
-abbrev pub open_query : Machine → Result Statement Refusal → Bound → Interval → Answer
-open_query m (Err why) bound interval = refused m why
-open_query m (Ok q) bound interval = unless_refused m (open_refusal m bound interval) (opened m q (timestamp_of bound interval))
+abbrev pub open_query : List Table → Machine → Result Statement Refusal → List ℕ → List Parameter → Bound → Interval → Answer
+open_query schema m (Err why) text params bound interval = refused m why
+open_query schema m (Ok q) text params bound interval = unless_refused m (open_refusal m bound interval) (opened schema m text params q (timestamp_of bound interval))
 
 -- the floor rises to s where the clock has passed it
 abbrev pub with_risen_floor : SlotState → ℕ → Interval → SlotState
@@ -351,31 +357,40 @@ with_risen_floor slot_state s interval = if nat_lt slot_state.floor s && nat_le 
 abbrev pub with_slot_state : Machine → ℕ → SlotState → Machine
 with_slot_state m slot slot_state = record m { slots = slice_set m.slots slot slot_state }
 
-abbrev pub is_covered : Leaf → Bool
-is_covered l = l.covered
+-- pieces tile the leaf's range
+abbrev pub is_covered : ScanLeaf → Bool
+is_covered l = tiles l.range l.covered
 
-abbrev pub with_covered : List Leaf → ℕ → List Leaf
-with_covered leaves leaf = if_some (slice_get leaves leaf) leaves (λ l. slice_set leaves leaf (record l { covered = true }))
+-- with a piece at its place among the others
+abbrev pub add_piece : KeyRange → ScanLeaf → ScanLeaf
+add_piece part l = record l { covered = insert l.covered (place_among l.covered part) part }
 
--- with the leaf at a place covered, and no other
-abbrev pub cover : ℕ → OpenQuery → OpenQuery
-cover leaf q = record q { leaves = with_covered q.leaves leaf }
+abbrev pub with_piece : List ScanLeaf → ℕ → KeyRange → List ScanLeaf
+with_piece leaves leaf part = if_some (slice_get leaves leaf) leaves (λ l. slice_set leaves leaf (add_piece part l))
+
+-- with a piece of the leaf at a place, and no other change
+abbrev pub cover : ℕ → KeyRange → OpenQuery → OpenQuery
+cover leaf part q = record q { leaves = with_piece q.leaves leaf part }
+
+-- the lowest uncovered part of a leaf's range in the slot
+abbrev pub gap_in : SlotState → ScanLeaf → Option KeyRange
+gap_in slot_state l = lowest_gap (part_between slot_state.lo slot_state.hi l.range) l.covered
 
 -- with the floor risen
-abbrev pub scanned : Machine → ℕ → ℕ → ℕ → SlotState → ℕ → Answer
-scanned m query leaf slot slot_state s =
+abbrev pub scanned : Machine → ℕ → ℕ → KeyRange → ℕ → SlotState → ℕ → Answer
+scanned m query leaf part slot slot_state s =
     if is_safe m slot slot_state s
-    then (reply.Scanned, record (with_slot_state m slot slot_state) { queries = changed_first (is_query query) (cover leaf) m.queries })
+    then (reply.Scanned, record (with_slot_state m slot slot_state) { queries = changed_first (is_query query) (cover leaf part) m.queries })
     else (Refused refusal.NotYet, with_slot_state m slot slot_state)
 
 -- below the horizon nothing is read, and the floor stays
-abbrev pub scan_gap : Machine → ℕ → ℕ → ℕ → Interval → OpenQuery → SlotState → Answer
-scan_gap m query leaf slot interval q slot_state =
-    if nat_lt q.s slot_state.horizon then refused m refusal.Trimmed else scanned m query leaf slot (with_risen_floor slot_state q.s interval) q.s
+abbrev pub scan_gap : Machine → ℕ → ℕ → ℕ → Interval → OpenQuery → SlotState → KeyRange → Answer
+scan_gap m query leaf slot interval q slot_state part =
+    if nat_lt q.s slot_state.horizon then refused m refusal.Trimmed else scanned m query leaf part slot (with_risen_floor slot_state q.s interval) q.s
 
-abbrev pub scan_leaf : Machine → ℕ → ℕ → ℕ → Interval → OpenQuery → Leaf → SlotState → Answer
+abbrev pub scan_leaf : Machine → ℕ → ℕ → ℕ → Interval → OpenQuery → ScanLeaf → SlotState → Answer
 scan_leaf m query leaf slot interval q l slot_state =
-    if l.covered then (reply.Nothing, m) else scan_gap m query leaf slot interval q slot_state
+    if_some (gap_in slot_state l) (reply.Nothing, m) (scan_gap m query leaf slot interval q slot_state)
 
 -- leaves are counted from 0
 abbrev pub scan_query : Machine → ℕ → ℕ → ℕ → Interval → OpenQuery → Answer
@@ -395,13 +410,9 @@ abbrev pub rows_or_refusal : Rows → Result (List Row) Refusal
 rows_or_refusal None = Err refusal.ArithmeticFault
 rows_or_refusal (Some rows) = Ok rows
 
--- the tables of leaves, by their numbers
-abbrev pub tables_of : List Leaf → List ℕ
-tables_of leaves = map (λ (l : Leaf). l.table) leaves
-
 -- what the query means on the tables at its timestamp, by the log so far
 abbrev pub meaning : List Table → Machine → OpenQuery → Result (List Row) Refusal
-meaning schema m q = and_then (tables schema m.log q.s) (λ db. rows_or_refusal (means schema q.query (tables_of q.leaves) db))
+meaning schema m q = and_then (tables schema m.log q.s) (λ db. rows_or_refusal (means schema q.statement.query q.statement.leaves db))
 
 abbrev pub finish_query : List Table → Machine → OpenQuery → Answer
 finish_query schema m q = if list_all is_covered q.leaves then (answer_on q.s (meaning schema m q), m) else refused m refusal.Incomplete
@@ -415,6 +426,37 @@ closed m query q = (reply.Closed, record m { queries = without_first (is_query q
 abbrev pub close : Machine → ℕ → Answer
 close m query = for_query m query (closed m query)
 
+-- ---- splits
+
+-- the slot's range begins at the key
+abbrev pub begins_at : List ℕ → SlotState → Bool
+begins_at key slot_state = if_some slot_state.lo false (bytes_eq key)
+
+-- why the slot is not cut: at the key it begins already, something is prepared in it, or no slot is left
+abbrev pub split_refusal : Machine → ℕ → List ℕ → SlotState → Option Refusal
+split_refusal m slot key slot_state = first_cause (
+    (begins_at key slot_state, refusal.BadSplit)
+    ∷ (list_any (is_prepared_at slot) m.transactions, refusal.SplitBusy)
+    ∷ (nat_le most_slots (length m.slots), refusal.NoSlot) ∷ [])
+
+-- the keys from this one on go to a new slot, with the same timestamps
+abbrev pub split_in_two : Machine → ℕ → List ℕ → SlotState → Answer
+split_in_two m slot key slot_state = (
+  reply.Split (length m.slots),
+  record m { slots = slice_set m.slots slot (record slot_state { hi = Some key }) ++ (record slot_state { lo = Some key }) ∷ [] },
+)
+
+abbrev pub split_slot : Machine → ℕ → List ℕ → SlotState → Answer
+split_slot m slot key slot_state = unless_refused m (split_refusal m slot key slot_state) (split_in_two m slot key slot_state)
+
+-- in the slot whose range has the key
+abbrev pub split_at : Machine → List ℕ → Answer
+split_at m key = if_some (slot_of m.slots key) (refused m refusal.BadSplit) (λ slot. for_slot m slot (split_slot m slot key))
+
+-- at the key of a root table with these values
+abbrev pub split : List Table → Machine → List ℕ → List Value → Answer
+split schema m table key = if_some (root_key schema table key) (refused m refusal.BadSplit) (split_at m)
+
 -- the reply where memory suffices, and the machine after it, where an Open's query text is understood as u
 abbrev pub answer : List Table → Machine → Result Statement Refusal → Step → Answer
 answer schema m u (Begin owner transaction) = begin m owner transaction
@@ -423,10 +465,11 @@ answer schema m u (Decide owner txn v interval) = decide schema m owner txn v in
 answer schema m u (Apply owner txn slot interval) = apply_step m owner txn slot interval
 answer schema m u (Advance slot interval) = advance m slot interval
 answer schema m u (Trim slot h) = trim schema m slot h
-answer schema m u (Open text params bound interval) = open_query m u bound interval
+answer schema m u (Open text params bound interval) = open_query schema m u text params bound interval
 answer schema m u (Scan query leaf slot interval) = scan m query leaf slot interval
 answer schema m u (Finish query) = finish schema m query
 answer schema m u (Close query) = close m query
+answer schema m u (Split table key) = split schema m table key
 
 -- the step may run out of memory
 abbrev pub may_take_memory : Step → Bool
@@ -440,6 +483,7 @@ may_take_memory (Open text params bound interval) = true
 may_take_memory (Scan query leaf slot interval) = true
 may_take_memory (Finish query) = true
 may_take_memory (Close query) = false
+may_take_memory (Split table key) = true
 
 -- Which query texts, with which parameters, are understood as which statements, and which are refused why. The definitions below are for
 -- any such relation.

@@ -1,16 +1,22 @@
-use Rattle.std.specs.Prelude.{ℕ, List, [], map, slice_set}
+use Rattle.std.specs.Prelude.{ℕ, List, [], map, insert, slice_get, slice_set}
+use Rattle.span_schema.specs.declared.table.Table.{Table}
+use Rattle.span_keycode.specs.declared.range.KeyRange.{KeyRange}
+use Rattle.span_keycode.specs.Parts.{place_among}
+use Rattle.span_params.specs.declared.params.Parameter.{Parameter}
 use Rattle.span_query.specs.Rows.{Row}
+pub use Rattle.span_query.specs.Rows.{joined}
 use Rattle.span_query.specs.declared.query.Statement.{Statement}
 use Rattle.span_machine.specs.declared.slot.SlotState.{SlotState}
 use Rattle.span_machine.specs.declared.transaction.OpenTransaction.{OpenTransaction}
 use Rattle.span_machine.specs.declared.transaction.Commit.{Commit}
 use Rattle.span_machine.specs.declared.query.OpenQuery.{OpenQuery}
-use Rattle.span_machine.specs.Machine.{Machine, as_opened, cover}
+use Rattle.span_machine.specs.declared.query.ScanLeaf.{ScanLeaf}
+use Rattle.span_machine.specs.Machine.{Machine, if_some, as_opened, cover}
 
--- an open query, and the rows of its pieces: for each leaf those of the piece that covers it, none before
+-- an open query, and for each of its leaves the rows of the pieces that cover it, in the order of their ranges
 pub record Pieced : Type 0 where
   pub query : OpenQuery
-  pub pieces : List (List Row)
+  pub pieces : List (List (List Row))
 
 -- what a journal keeps: the machine's state, with the pieces of each open query
 pub record Journaled : Type 0 where
@@ -21,17 +27,25 @@ pub record Journaled : Type 0 where
   pub next_transaction : ℕ
   pub next_query : ℕ
 
--- what is read of a leaf before a piece covers it
-abbrev pub no_rows : ℕ → List Row
-no_rows table = []
+-- what is read of a leaf before a piece covers any of it
+abbrev pub no_pieces : ℕ → List (List Row)
+no_pieces table = []
 
--- a statement as an open query that has no piece yet
-abbrev pub unread : ℕ → ℕ → Statement → Pieced
-unread number s q = record { query = as_opened number s q; pieces = map no_rows q.leaves }
+-- a query text with its parameters, understood as a statement, as an open query that has no piece yet
+abbrev pub unread : List Table → ℕ → ℕ → List ℕ → List Parameter → Statement → Pieced
+unread schema number s text params q = record { query = as_opened schema number s text params q; pieces = map no_pieces q.leaves }
 
--- the open query, with these rows as the piece of the leaf at a place
-abbrev pub covered_by : ℕ → List Row → Pieced → Pieced
-covered_by leaf rows p = record { query = cover leaf p.query; pieces = slice_set p.pieces leaf rows }
+-- the rows of a leaf's pieces, with those of a piece of this range at its place among them
+abbrev pub with_rows : ScanLeaf → KeyRange → List Row → List (List Row) → List (List Row)
+with_rows l part rows pieces = insert pieces (place_among l.covered part) rows
+
+abbrev pub with_rows_at : List ScanLeaf → ℕ → KeyRange → List Row → List (List (List Row)) → List (List (List Row))
+with_rows_at leaves leaf part rows pieces =
+    if_some (slice_get leaves leaf) pieces (λ l. if_some (slice_get pieces leaf) pieces (λ ps. slice_set pieces leaf (with_rows l part rows ps)))
+
+-- the open query, with these rows as a piece of the leaf at a place
+abbrev pub covered_by : ℕ → KeyRange → List Row → Pieced → Pieced
+covered_by leaf part rows p = record { query = cover leaf part p.query; pieces = with_rows_at p.query.leaves leaf part rows p.pieces }
 
 -- the open queries alone
 abbrev pub queries_of : List Pieced → List OpenQuery

@@ -4,12 +4,13 @@ use Rattle.span_value.specs.declared.refusal.Refusal.TheVariants.{ArithmeticFaul
 use Rattle.span_query.specs.declared.query.Statement.{Statement}
 use Rattle.span_query.specs.Rows as rows
 use Rattle.span_machine.specs.declared.step.Step.{Step}
-use Rattle.span_machine.specs.declared.step.Step.TheVariants.{Begin, Finish}
+use Rattle.span_machine.specs.declared.step.Step.TheVariants.{Begin, Finish, Split}
 use Rattle.span_machine.specs.declared.step.Reply.{Reply}
 use Rattle.span_machine.specs.declared.step.Reply.TheVariants.{Rows, Refused}
 use Rattle.span_machine.specs.declared.transaction.Commit.{Commit}
 use Rattle.span_schema.specs.declared.table.Table.{Table}
 use Rattle.span_mutate.specs.declared.row.TableRow.{TableRow}
+use Rattle.span_keycode.specs.Coding.{AreValues}
 use Rattle.span_mutate.specs.Typed.{AreTypedMutations}
 use Rattle.span_machine.specs.Tables.{tables}
 use Rattle.span_machine.specs.Meaning.{means}
@@ -17,8 +18,17 @@ use Rattle.span_machine.specs.Commits.{OpenedQuery, opened_by, commits_of}
 use Rattle.span_machine.specs.Machine.{Machine, Understanding, Steps, start}
 
 -- the mutations of a transaction that is begun were checked against the schema
+abbrev pub IsChecked : List Table → Step → Type 0
+IsChecked schema (Begin owner transaction) = AreTypedMutations schema transaction
+IsChecked schema _ = Unit {0}
+
+abbrev pub AreChecked : List Table → List Step → Type 0
+AreChecked schema steps = AllByRecursion (IsChecked schema) steps
+
+-- the step is of the schema: what is begun was checked against it, and a key is of values
 abbrev pub IsOfSchema : List Table → Step → Type 0
 IsOfSchema schema (Begin owner transaction) = AreTypedMutations schema transaction
+IsOfSchema schema (Split table key) = AreValues key
 IsOfSchema schema _ = Unit {0}
 
 abbrev pub AreOfSchema : List Table → List Step → Type 0

@@ -2,13 +2,13 @@
 --
 -- A range is cut at coded root keys alone, so that a directory, whose keys all begin with the coding of its root row, is in one slot as a
 -- whole.
-use Rattle.std.specs.Prelude.{◌≡◌, ℕ, Bool, true, not, ◌&&◌, List, map, filter, slice_get, Option, Some, None}
+use Rattle.std.specs.Prelude.{◌≡◌, ℕ, Bool, true, List, map, filter, position, slice_get, Option, Some, None}
 use Rattle.std.specs.List.{AllByRecursion}
-use Rattle.std.specs.Ordering.{is_lt}
 use Rattle.span_schema.specs.declared.table.Table.{Table}
 use Rattle.span_schema.specs.Numbers.{root_of}
-use Rattle.span_keycode.specs.Order.{byte_order}
 use Rattle.span_keycode.specs.Keys.{IsCodedKey, key_code}
+pub use Rattle.span_keycode.specs.Parts.{is_from, is_upto}
+unfoldable pub use Rattle.span_keycode.specs.Parts.{is_between}
 use Rattle.span_mutate.specs.declared.mutation.CheckedMutation.{CheckedMutation}
 use Rattle.span_mutate.specs.Directories.{Root, is_in_directory, root_row}
 use Rattle.span_machine.specs.declared.slot.SlotState.{SlotState}
@@ -29,23 +29,13 @@ root_code schema root = key_code schema root.table root.key
 
 -- ---- ranges
 
--- the key is not before the range
-abbrev pub is_from : Option (List ℕ) → List ℕ → Bool
-is_from None key = true
-is_from (Some low) key = not (is_lt (byte_order key low))
-
--- the key is not after the range
-abbrev pub is_upto : Option (List ℕ) → List ℕ → Bool
-is_upto None key = true
-is_upto (Some high) key = is_lt (byte_order key high)
-
--- the key is from the one end on, and before the other
-unfoldable pub is_between : Option (List ℕ) → Option (List ℕ) → List ℕ → Bool
-is_between lo hi key = is_from lo key && is_upto hi key
-
 -- the slot's range has the coded key
 abbrev pub has_key : SlotState → List ℕ → Bool
 has_key slot_state key = is_between slot_state.lo slot_state.hi key
+
+-- the number of the slot whose range has the coded key
+abbrev pub slot_of : List SlotState → List ℕ → Option ℕ
+slot_of slots key = position (λ slot_state. has_key slot_state key) slots
 
 -- the slot's range has the directory of the root row
 abbrev pub holds : List Table → SlotState → Root → Bool

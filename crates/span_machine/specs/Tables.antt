@@ -19,6 +19,14 @@ abbrev pub mutations_of : List Commit → List CheckedMutation
 mutations_of [] = []
 mutations_of (c ∷ cs) = c.mutations ++ mutations_of cs
 
--- the tables at s: every commit at s or earlier, in order of timestamps, from empty tables
+-- the database that commits begin from: no rows
+abbrev pub base : List TableRow
+base = []
+
+-- a base database with every commit at s or earlier, in order of timestamps
+abbrev pub tables_from : List Table → List TableRow → List Commit → ℕ → Result (List TableRow) Refusal
+tables_from schema db log s = apply schema db (mutations_of (upto log s))
+
+-- the tables at s
 abbrev pub tables : List Table → List Commit → ℕ → Result (List TableRow) Refusal
-tables schema log s = apply schema [] (mutations_of (upto log s))
+tables schema log s = tables_from schema base log s

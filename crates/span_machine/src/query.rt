@@ -1,24 +1,32 @@
 //! Open queries.
-use span_query::query::BoundQuery;
+use span_keycode::range::KeyRange;
+use span_params::params::Params;
+use span_query::query::Statement;
 use span_value::seq::Seq;
+use span_value::text::Text;
 
-/// A leaf of an open query: a table of one of its FROMs.
-#[derive(Clone, Copy, Debug, PartialEq, Eq)]
-pub struct Leaf {
+/// A leaf that an open query scans: a table of one of its FROMs, and a range of coded keys.
+#[derive(Debug, Drop)]
+pub struct ScanLeaf {
     /// The number of its table.
     pub table: usize,
-    /// Whether a piece covers its range.
-    pub covered: bool,
+    /// The keys that are scanned.
+    pub range: KeyRange,
+    /// The parts of the range that pieces cover, in the order of their low ends.
+    pub covered: Seq<KeyRange>,
 }
 
 /// A query from its Open to its Close.
 #[derive(Debug, Drop)]
 pub struct OpenQuery {
     pub number: u64,
-    /// What the query asks of its leaves.
-    pub query: BoundQuery,
+    /// The query text and the parameters that it was opened with.
+    pub text: Text,
+    pub params: Params,
+    /// What the query text is understood as.
+    pub statement: Statement,
     /// The timestamp that it reads at.
     pub s: u64,
-    /// Its leaves, in the order of the query text.
-    pub leaves: Seq<Leaf>,
+    /// What it scans, in the order of the query text.
+    pub leaves: Seq<ScanLeaf>,
 }

@@ -6,7 +6,7 @@ use span_truetime::interval::Interval;
 use span_value::refusal::Refusal;
 use span_value::seq::Seq;
 use span_value::text::Text;
-use span_value::value::Row;
+use span_value::value::{Row, Value};
 
 /// What an owner decides of its transaction.
 #[derive(Clone, Copy, Debug, PartialEq, Eq)]
@@ -66,6 +66,13 @@ pub enum Step {
     Close {
         query: u64,
     },
+    /// Cuts a slot in two at a root key.
+    Split {
+        /// The name of a root table.
+        table: Text,
+        /// A value for each column of its key.
+        key: Seq<Value>,
+    },
 }
 
 /// The reply to a step.
@@ -91,5 +98,7 @@ pub enum Reply {
     /// The timestamp that was read at, and the rows in order.
     Rows { s: u64, rows: Seq<Row> },
     Closed,
+    /// The slot that has the keys from the cut on.
+    Split(usize),
     Refused(Refusal),
 }

@@ -158,6 +158,13 @@ unclaimed schema root is slot ms (t ∷ ts) some e =
       | false ↦ λ no_claim. unclaimed schema root is slot ms ts some (second_none (is_prepared_at slot t && have_common_root schema ms t.mutations) _ e)
     ] refl
 
+-- where nothing is prepared at the slot, nothing claims the directory there
+pub unclaimed_idle : (schema : List Table) (root : Root) (slot : ℕ) (ts : List OpenTransaction) → list_any (is_prepared_at slot) ts ≡ false → filter (claims schema root slot) ts ≡ []
+unclaimed_idle schema root slot [] e = refl
+unclaimed_idle schema root slot (t ∷ ts) e =
+    ap (λ b. cond (b && is_some_of (filter (is_at schema root) t.mutations)) (t ∷ filter (claims schema root slot) ts) (filter (claims schema root slot) ts)) (first_none (is_prepared_at slot t) (list_any (is_prepared_at slot) ts) e)
+    ∙ unclaimed_idle schema root slot ts (second_none (is_prepared_at slot t) (list_any (is_prepared_at slot) ts) e)
+
 -- the mutations in the range of a slot that holds the root have all of the directory's
 pub all_held : (schema : List Table) (root : Root) (is : IsRoot schema root) (slot_state : SlotState) (ms : List CheckedMutation) → holds schema slot_state root ≡ true → filter (is_at schema root) (mutations_in schema slot_state ms) ≡ filter (is_at schema root) ms
 all_held schema root is slot_state [] held = refl

@@ -17,7 +17,7 @@ use Rattle.span_truetime.specs.declared.interval.Interval.{Interval}
 use Rattle.span_truetime.specs.Limits.{timestamp_end}
 use Rattle.span_truetime.specs.Time.{timestamp_of}
 use Rattle.span_machine.specs.declared.step.Step.{Step}
-use Rattle.span_machine.specs.declared.step.Step.TheVariants.{Begin, Prepare, Decide, Apply, Advance, Trim, Open, Scan, Finish, Close}
+use Rattle.span_machine.specs.declared.step.Step.TheVariants.{Begin, Prepare, Decide, Apply, Advance, Trim, Open, Scan, Finish, Close, Split}
 use Rattle.span_machine.specs.declared.step.Reply.{Reply}
 use Rattle.span_machine.specs.declared.step.Reply.TheVariants.{Refused, Decided, Applied, Opened}
 use Rattle.span_machine.specs.declared.transaction.Commit.{Commit}
@@ -96,10 +96,11 @@ module _ (schema : List Table) (number ts : ℕ) (m : Machine) (past : IsPast nu
     trims = λ slot h slot_state here accepted. past_with _ past.decided refl refl;
     opens = λ text params bound interval asked is accepted. past_with _ past.decided refl refl;
     finds_nothing = λ query leaf slot interval. past;
-    scans = λ query leaf slot interval q slot_state found here above safe. past_with _ past.decided refl refl;
+    scans = λ query leaf slot interval q slot_state l part found here at gap above safe. past_with _ past.decided refl refl;
     waits = λ query leaf slot interval q slot_state found here. past_with _ past.decided refl refl;
     finishes = λ query q found covered. past;
     closes = λ query q found. past_with _ past.decided refl refl;
+    splits = λ table key code slot slot_state keyed home here accepted. past_with _ past.decided refl refl;
   }
 
 -- what has passed stays so to the end of a run
@@ -136,6 +137,7 @@ refusal_timely (Open text params (bound_of.Staleness d) interval) why n = tt
 refusal_timely (Scan query leaf slot interval) why n = tt
 refusal_timely (Finish query) why n = tt
 refusal_timely (Close query) why n = tt
+refusal_timely (Split table key) why n = tt
 
 -- the commit of a transaction that is not early has passed
 decided_past : (o : Decision) (interval : Interval) (c : Commit) → is_early interval o ≡ false → o ≡ Committed c.timestamp → c.timestamp < interval.earliest
@@ -172,7 +174,7 @@ module _ (schema : List Table) (m : Machine) (has : HasDecisions m) where
     timely_applied (Committed ts) owner txn slot interval t found past = past_applied schema txn interval.earliest m past (Committed ts) owner txn slot t
 
     timely_opened : (text : List ℕ) (params : List Parameter) (bound : Bound) (interval : Interval) (asked : Statement)
-        → IsTimely (Open text params bound interval) (opened m asked (timestamp_of bound interval)).0 (opened m asked (timestamp_of bound interval)).1
+        → IsTimely (Open text params bound interval) (opened schema m text params asked (timestamp_of bound interval)).0 (opened schema m text params asked (timestamp_of bound interval)).1
     timely_opened text params bound_of.Strong interval asked = refl
     timely_opened text params (bound_of.At s) interval asked = tt
     timely_opened text params (bound_of.Staleness d) interval asked = tt
@@ -194,10 +196,11 @@ module _ (schema : List Table) (m : Machine) (has : HasDecisions m) where
       trims = λ slot h slot_state here accepted. tt;
       opens = λ text params bound interval asked is accepted. timely_opened text params bound interval asked;
       finds_nothing = λ query leaf slot interval. tt;
-      scans = λ query leaf slot interval q slot_state found here above safe. tt;
+      scans = λ query leaf slot interval q slot_state l part found here at gap above safe. tt;
       waits = λ query leaf slot interval q slot_state found here. tt;
       finishes = λ query q found covered. timely_answer query q.s (meaning schema m q);
       closes = λ query q found. tt;
+      splits = λ table key code slot slot_state keyed home here accepted. tt;
     }
 
 -- one step, out of memory included

@@ -128,10 +128,11 @@ module _ (schema : List Table) (m : Machine) (numbered : IsNumbered m) (has : Ha
     trims = λ slot h slot_state here accepted. decisions_same _ refl refl refl;
     opens = λ text params bound interval asked is accepted. decisions_same _ refl refl refl;
     finds_nothing = λ query leaf slot interval. has;
-    scans = λ query leaf slot interval q slot_state found here above safe. decisions_same _ refl refl refl;
+    scans = λ query leaf slot interval q slot_state l part found here at gap above safe. decisions_same _ refl refl refl;
     waits = λ query leaf slot interval q slot_state found here. decisions_same _ refl refl refl;
     finishes = λ query q found covered. has;
     closes = λ query q found. decisions_same _ refl refl refl;
+    splits = λ table key code slot slot_state keyed home here accepted. decisions_same _ refl refl refl;
   }
 
 -- every step keeps the decisions

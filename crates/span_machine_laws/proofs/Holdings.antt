@@ -1,4 +1,4 @@
-use Rattle.std.proofs.Common.{◌≡◌, ℕ, ◌<◌, ◌≤◌, max, zero, Bool, true, false, cond, not, ◌==◌, List, [], ◌∷◌, ◌++◌, length, Some, None, refl, sym, subst, arith}
+use Rattle.std.proofs.Common.{◌≡◌, ℕ, ◌<◌, ◌≤◌, max, suc, Bool, true, false, cond, not, ◌==◌, ◌||◌, List, [], ◌∷◌, ◌++◌, length, Some, None, refl, sym, subst, arith}
 use Rattle.std.specs.Prelude.{slice_get, slice_set, filter}
 use Rattle.std.specs.List.{AllByRecursion, list_any}
 use Rattle.std.proofs.lemmas.Bool.Decides.{nat_tests}
@@ -13,7 +13,8 @@ use Rattle.span_machine.specs.declared.transaction.Prepared.{Prepared}
 use Rattle.span_machine.specs.Machine.{Machine, Answer, answer, start, if_some, is_transaction, is_undecided, is_prepared_at, has_conflict, mutations_in, changed_first, without_first, with_last, with_decision, add_prepared, prepare_timestamp, greatest, commit_timestamp, coordinator_slot, without_prepared, applied_at}
 use Rattle.span_machine_laws.proofs.Causes.{may_prepare, undecided_is}
 use Rattle.span_machine_laws.proofs.Tests.{first_none, second_none}
-use Rattle.span_machine_laws.proofs.Lists.{IsIn, all_push, all_changed, all_without, all_found, all_in, all_weaker, all_changed_found, all_filtered}
+use Rattle.span_machine_laws.proofs.Lists.{all_push, all_changed, all_without, all_found, all_weaker, all_changed_found, all_filtered}
+use Rattle.span_machine_laws.proofs.Splits.{split_length}
 use Rattle.span_machine_laws.proofs.Walks.{Ends, answer_by}
 use Rattle.span_schema.specs.declared.table.Table.{Table}
 use Rattle.span_value.specs.declared.refusal.Refusal.{Refusal}
@@ -33,27 +34,34 @@ slots_applied m decision.Undecided owner txn slot t = refl
 slots_applied m decision.Aborted owner txn slot t = refl
 slots_applied m (decision.Committed ts) owner txn slot t = last_length m.slots slot ts
 
-slots_ends : (schema : List Table) (m : Machine) (u : Result Statement Refusal) → Ends schema m u (λ step a. length a.1.slots ≡ length m.slots)
+slots_ends : (schema : List Table) (m : Machine) (u : Result Statement Refusal) → Ends schema m u (λ step a. length m.slots ≤ length a.1.slots)
 slots_ends schema m u = record {
-  refuses = λ step why may. refl;
-  begins = λ owner ms accepted. refl;
-  prepares = λ owner txn slot t slot_state found here accepted well room low. length-set m.slots slot _;
-  commits = λ owner txn interval t found accepted. last_length m.slots (coordinator_slot t.prepared) (commit_timestamp m t interval);
-  aborts = λ owner txn interval t found open_still. refl;
-  applies = λ owner txn slot interval t slot_state found here accepted. slots_applied m t.decision owner txn slot t;
-  advances = λ slot interval slot_state here. length-set m.slots slot _;
-  trims = λ slot h slot_state here accepted. length-set m.slots slot _;
-  opens = λ text params bound interval asked is accepted. refl;
-  finds_nothing = λ query leaf slot interval. refl;
-  scans = λ query leaf slot interval q slot_state found here above safe. length-set m.slots slot _;
-  waits = λ query leaf slot interval q slot_state found here. length-set m.slots slot _;
-  finishes = λ query q found covered. refl;
-  closes = λ query q found. refl;
+  refuses = λ step why may. omega arith;
+  begins = λ owner ms accepted. omega arith;
+  prepares = λ owner txn slot t slot_state found here accepted well room low. as_many (length-set m.slots slot _);
+  commits = λ owner txn interval t found accepted. as_many (last_length m.slots (coordinator_slot t.prepared) (commit_timestamp m t interval));
+  aborts = λ owner txn interval t found open_still. omega arith;
+  applies = λ owner txn slot interval t slot_state found here accepted. as_many (slots_applied m t.decision owner txn slot t);
+  advances = λ slot interval slot_state here. as_many (length-set m.slots slot _);
+  trims = λ slot h slot_state here accepted. as_many (length-set m.slots slot _);
+  opens = λ text params bound interval asked is accepted. omega arith;
+  finds_nothing = λ query leaf slot interval. omega arith;
+  scans = λ query leaf slot interval q slot_state l part found here at gap above safe. as_many (length-set m.slots slot _);
+  waits = λ query leaf slot interval q slot_state found here. as_many (length-set m.slots slot _);
+  finishes = λ query q found covered. omega arith;
+  closes = λ query q found. omega arith;
+  splits = λ table key code slot slot_state keyed home here accepted. one_more (split_length m.slots slot _ _);
 }
+  where
+    as_many : {n k : ℕ} → k ≡ n → n ≤ k
+    as_many e = omega (arith, e)
 
--- no step makes or removes a slot
-pub answer_slots : (schema : List Table) (m : Machine) (u : Result Statement Refusal) (step : Step) → length (answer schema m u step).1.slots ≡ length m.slots
-answer_slots schema m u step = answer_by schema m u (λ s a. length a.1.slots ≡ length m.slots) (slots_ends schema m u) step
+    one_more : {n k : ℕ} → k ≡ suc n → n ≤ k
+    one_more e = omega (arith, e)
+
+-- no step removes a slot
+pub answer_slots : (schema : List Table) (m : Machine) (u : Result Statement Refusal) (step : Step) → length m.slots ≤ length (answer schema m u step).1.slots
+answer_slots schema m u step = answer_by schema m u (λ s a. length m.slots ≤ length a.1.slots) (slots_ends schema m u) step
 
 -- ---- where a transaction is prepared
 
@@ -103,17 +111,29 @@ upto_filtered decision.Undecided test ps low = tt
 upto_filtered decision.Aborted test ps low = tt
 upto_filtered (decision.Committed ts) test ps low = all_filtered (λ p. p.timestamp ≤ ts) test ps low
 
-not_apart : (n k slots : ℕ) → (n == k) ≡ false → slots ≡ 1 → n < slots → k < slots → zero ≡ 1
-not_apart n k slots off one low high = grind (arith, nat_tests)
+-- where there are more slots
+holding_more : (n k : ℕ) → n ≤ k → (t : OpenTransaction) → IsHolding n t → IsHolding k t
+holding_more n k low t h = record {
+  timely = h.timely;
+  apart = h.apart;
+  within = all_weaker (λ (p : Prepared). p.slot < n) (λ (p : Prepared). p.slot < k) (λ p within. omega arith) t.prepared h.within;
+}
 
-pub at_most_one : (slots : ℕ) (ps : List Prepared) → slots ≡ 1 → AreApart ps → AllByRecursion (λ p. p.slot < slots) ps → length ps ≤ 1
-at_most_one slots [] one apart within = omega arith
-at_most_one slots (p ∷ []) one apart within = omega arith
-at_most_one slots (p ∷ q ∷ qs) one apart within = let bad : zero ≡ 1 = not_apart p.slot q.slot slots apart.0.0 one within.0 within.1.0 in absurd (omega arith)
+-- nothing is prepared at a slot that there is not
+pub none_beyond : (n : ℕ) (ts : List OpenTransaction) → AllByRecursion (IsHolding n) ts → list_any (is_prepared_at n) ts ≡ false
+none_beyond n [] all = refl
+none_beyond n (t ∷ ts) all = none_of (is_prepared_at n t) (list_any (is_prepared_at n) ts) (not_there t.prepared all.0.within) (none_beyond n ts all.1)
+  where
+    none_of : (a b : Bool) → a ≡ false → b ≡ false → (a || b) ≡ false
+    none_of false b e f = f
+    none_of true b e f = absurd (cc)
 
--- with one slot, a transaction is prepared at most once
-pub once_prepared : (m : Machine) (t : OpenTransaction) → length m.slots ≡ 1 → AreHolding m → IsIn t m.transactions → length t.prepared ≤ 1
-once_prepared m t one holding is = let h = all_in (IsHolding (length m.slots)) m.transactions t is holding in at_most_one (length m.slots) t.prepared one h.apart h.within
+    not_there : (ps : List Prepared) → AllByRecursion (λ (p : Prepared). p.slot < n) ps → list_any (λ p. p.slot == n) ps ≡ false
+    not_there [] low = refl
+    not_there (p ∷ ps) low = none_of (p.slot == n) (list_any (λ p. p.slot == n) ps) (other p.slot low.0) (not_there ps low.1)
+      where
+        other : (k : ℕ) → k < n → (k == n) ≡ false
+        other k less = grind (arith, nat_tests)
 
 -- ---- the steps
 
@@ -164,16 +184,18 @@ module _ (schema : List Table) (m : Machine) (holding : AreHolding m) where
     trims = λ slot h slot_state here accepted. holding;
     opens = λ text params bound interval asked is accepted. holding;
     finds_nothing = λ query leaf slot interval. holding;
-    scans = λ query leaf slot interval q slot_state found here above safe. holding;
+    scans = λ query leaf slot interval q slot_state l part found here at gap above safe. holding;
     waits = λ query leaf slot interval q slot_state found here. holding;
     finishes = λ query q found covered. holding;
     closes = λ query q found. holding;
+    splits = λ table key code slot slot_state keyed home here accepted. holding;
   }
 
 -- every step keeps where transactions are prepared
 pub answer_holding : (schema : List Table) (m : Machine) (u : Result Statement Refusal) → AreHolding m → (step : Step) → AreHolding (answer schema m u step).1
 answer_holding schema m u holding step =
-    subst (λ n. AllByRecursion (IsHolding n) (answer schema m u step).1.transactions) (sym (answer_slots schema m u step)) (answer_by schema m u (λ s a. AllByRecursion (IsHolding (length m.slots)) a.1.transactions) (holding_ends schema m holding u) step)
+    all_weaker (IsHolding (length m.slots)) (IsHolding (length (answer schema m u step).1.slots)) (holding_more (length m.slots) (length (answer schema m u step).1.slots) (answer_slots schema m u step)) (answer schema m u step).1.transactions
+    (answer_by schema m u (λ s a. AllByRecursion (IsHolding (length m.slots)) a.1.transactions) (holding_ends schema m holding u) step)
 
 pub start_holding : AreHolding start
 start_holding = tt

@@ -1,5 +1,5 @@
 -- What is at or below a slot's horizon is sealed.
-use Rattle.std.proofs.Common.{◌≡◌, ℕ, max, true, false, cond, ◌&&◌, nat_lt, nat_le, List, Option, Some, None, zero, suc, refl, ap, sym, subst, inl, inr, ◌⊎◌, arith}
+use Rattle.std.proofs.Common.{◌≡◌, ℕ, max, true, false, cond, ◌&&◌, nat_lt, nat_le, List, [], ◌∷◌, ◌++◌, Option, Some, None, zero, suc, refl, ap, sym, subst, inl, inr, ◌⊎◌, arith}
 use Rattle.std.specs.Prelude.{slice_get, slice_set}
 use Rattle.span_machine.specs.declared.slot.SlotState.{SlotState}
 use Rattle.span_machine.specs.declared.transaction.OpenTransaction.{OpenTransaction}
@@ -13,6 +13,8 @@ use Rattle.span_machine.specs.Slots.{root_code}
 use Rattle.span_machine.specs.Machine.{Machine, answer, start, has_key, holds, with_horizon, is_safe, commit_timestamp, applied_at, with_risen_floor, with_last, coordinator_slot, if_some}
 use Rattle.span_machine_laws.proofs.Causes.{may_trim}
 use Rattle.span_machine_laws.proofs.Lists.{slice_get-set}
+use Rattle.span_machine_laws.proofs.Splits.{part_below, part_from, below_parts, from_parts, found_has, split_place}
+use Rattle.span_machine_laws.proofs.Holdings.{AreHolding}
 use Rattle.span_machine_laws.proofs.Ranges.{HasRanges, home_only}
 use Rattle.span_machine_laws.proofs.Sealed.{IsSealed, answer_keeps}
 use Rattle.span_machine_laws.proofs.Sound.{IsSound, sealed_when_safe}
@@ -63,6 +65,16 @@ horizons_applied m decision.Undecided owner txn slot t = horizons_same m
 horizons_applied m decision.Aborted owner txn slot t = horizons_same m
 horizons_applied m (decision.Committed ts) owner txn slot t = horizons_last m slot ts
 
+-- both parts of a slot that is cut have its horizon
+horizons_split : (m : Machine) (slot : ℕ) (old : SlotState) (code : List ℕ) → slice_get m.slots slot ≡ Some old → has_key old code ≡ true → KeepsHorizons m (slice_set m.slots slot (part_below code old) ++ part_from code old ∷ [])
+horizons_split m slot old code here inside i c h = elim (split_place m.slots slot (part_below code old) (part_from code old) c i h) [
+  | inl e ↦ subst (IsLeftFrom m) (sym e.1) (record { slot = slot; old = old; here = here; inside = λ key k. (below_parts code old key inside k).0; left = inl refl })
+  | inr other ↦ (elim other [
+    | inl e ↦ subst (IsLeftFrom m) (sym e.1) (record { slot = slot; old = old; here = here; inside = λ key k. (from_parts code old key inside k).0; left = inl refl })
+    | inr e ↦ record { slot = i; old = c; here = e.0; inside = λ key k. k; left = inl refl }
+  ])
+]
+
 horizon_ends : (schema : List Table) (m : Machine) (u : Result Statement Refusal) → Ends schema m u (λ step a. KeepsHorizons m a.1.slots)
 horizon_ends schema m u = record {
   refuses = λ step why may. horizons_same m;
@@ -75,18 +87,19 @@ horizon_ends schema m u = record {
   trims = λ slot h slot_state here accepted. horizons_set m slot slot_state (with_horizon h slot_state) here (λ key k. k) (inr (may_trim (nat_lt h slot_state.horizon) (is_safe m slot slot_state h) accepted).1);
   opens = λ text params bound interval asked is accepted. horizons_same m;
   finds_nothing = λ query leaf slot interval. horizons_same m;
-  scans = λ query leaf slot interval q slot_state found here above safe. horizons_risen m slot q.s interval slot_state here;
+  scans = λ query leaf slot interval q slot_state l part found here at gap above safe. horizons_risen m slot q.s interval slot_state here;
   waits = λ query leaf slot interval q slot_state found here. horizons_risen m slot q.s interval slot_state here;
   finishes = λ query q found covered. horizons_same m;
   closes = λ query q found. horizons_same m;
+  splits = λ table key code slot slot_state keyed home here accepted. horizons_split m slot slot_state code here (found_has m.slots code slot slot_state home here);
 }
 
 -- the directories that a slot has are sealed at its horizon
 pub record HasHorizons (schema : List Table) (m : Machine) : Type 0 where
   pub sealed : (i : ℕ) (b : SlotState) → slice_get m.slots i ≡ Some b → (root : Root) → IsRoot schema root → holds schema b root ≡ true → IsSealed schema root b.horizon m
 
-pub answer_horizons : (schema : List Table) (m : Machine) (u : Result Statement Refusal) → IsSound schema m → HasRanges schema m → HasHorizons schema m → (step : Step) → HasHorizons schema (answer schema m u step).1
-answer_horizons schema m u sound ranges has step = record {
+pub answer_horizons : (schema : List Table) (m : Machine) (u : Result Statement Refusal) → IsSound schema m → HasRanges schema m → AreHolding m → HasHorizons schema m → (step : Step) → HasHorizons schema (answer schema m u step).1
+answer_horizons schema m u sound ranges holding has step = record {
   sealed = λ i b h root is held.
       let from : IsLeftFrom m b = answer_by schema m u (λ x a. KeepsHorizons m a.1.slots) (horizon_ends schema m u) step i b h in
       let held_before : holds schema from.old root ≡ true = from.inside (root_code schema root) held in
@@ -94,7 +107,7 @@ answer_horizons schema m u sound ranges has step = record {
         | inl e ↦ subst (λ (s : ℕ). IsSealed schema root s m) (sym e) (has.sealed from.slot from.old from.here root is held_before)
         | inr e ↦ sealed_when_safe schema m sound from.slot b.horizon from.old root from.here (home_only schema m ranges root from.slot from.old from.here held_before) e
       ] in
-      (answer_keeps schema root is b.horizon m sealed u step).seal;
+      (answer_keeps schema root is b.horizon m holding sealed u step).seal;
 }
 
 abbrev horizon_or : Option SlotState → ℕ

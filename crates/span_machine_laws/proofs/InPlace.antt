@@ -81,6 +81,10 @@ pub record IsInPlace (schema : List Table) (root : Root) (slot : ℕ) (m : Machi
   pub through : Succeeds schema (changes_at schema root (commits_at schema root m.log))
   pub claim : (b : SlotState) → slice_get m.slots slot ≡ Some b → IsClaim schema root b.last (commits_at schema root m.log) (filter (claims schema root slot) m.transactions)
 
+-- a directory is in place in the slot that has it
+abbrev pub IsPlaced : List Table → Root → Machine → Type 0
+IsPlaced schema root m = (slot : ℕ) × IsInPlace schema root slot m
+
 -- ---- lists
 
 pub later : (s n t : ℕ) → nat_le n s ≡ false → n < t → nat_le t s ≡ false

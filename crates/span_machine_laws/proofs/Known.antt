@@ -1,4 +1,4 @@
-use Rattle.std.proofs.Common.{◌≡◌, ℕ, ◌<◌, ◌+◌, Bool, true, false, cond, ◌==◌, List, [], ◌∷◌, ◌++◌, length, Some, None, Result, Ok, Err, refl, ap, sym, ◌∙◌, subst, inl, inr, ◌⊎◌, arith}
+use Rattle.std.proofs.Common.{◌≡◌, ℕ, ◌<◌, ◌+◌, Bool, true, false, cond, ◌==◌, List, [], ◌∷◌, ◌++◌, length, Some, None, Result, Ok, Err, refl, ap, sym, ◌∙◌, subst, inl, inr, arith}
 use Rattle.std.specs.Prelude.{find}
 use Rattle.std.proofs.lemmas.Bool.Decides.{nat_tests}
 use Rattle.std.proofs.lemmas.List.{append-nil}
@@ -18,7 +18,7 @@ use Rattle.span_params.specs.declared.params.Parameter.{Parameter}
 use Rattle.span_query.specs.declared.query.Statement.{Statement}
 use Rattle.span_query.specs.Rows as rows
 use Rattle.span_machine.specs.declared.step.Step.{Step}
-use Rattle.span_machine.specs.declared.step.Step.TheVariants.{Begin, Prepare, Decide, Apply, Advance, Trim, Open, Scan, Finish, Close}
+use Rattle.span_machine.specs.declared.step.Step.TheVariants.{Begin, Prepare, Decide, Apply, Advance, Trim, Open, Scan, Finish, Close, Split}
 use Rattle.span_machine.specs.declared.step.Reply.{Reply}
 use Rattle.span_machine.specs.declared.step.Reply.TheVariants as reply
 use Rattle.span_machine.specs.declared.step.Reply.TheVariants.{Rows, Refused}
@@ -31,14 +31,20 @@ use Rattle.span_machine.specs.Meaning.{means}
 use Rattle.span_machine.specs.Commits.{BegunTransaction, begun_by, commit_by, committed_by, OpenedQuery, opened_by}
 use Rattle.span_machine.specs.Run.{IsMeant}
 use Rattle.span_machine.specs.Machine as machine
-use Rattle.span_machine.specs.Machine.{Machine, Understanding, IsUnderstood, committed, opened, as_opened, is_covered, tables_of, rows_or_refusal, Answer, Steps, answer, start, is_transaction, is_query, changed_first, without_first, add_prepared, prepare_timestamp, commit_timestamp, commit_of, with_decision, without_prepared, applied_at, cover, answer_on, meaning}
+use Rattle.span_machine.specs.Machine.{Machine, Understanding, IsUnderstood, committed, opened, as_opened, is_covered, rows_or_refusal, Answer, Steps, answer, start, is_transaction, is_query, changed_first, without_first, add_prepared, prepare_timestamp, commit_timestamp, commit_of, with_decision, without_prepared, applied_at, cover, answer_on, meaning}
 use Rattle.span_machine_laws.proofs.Tests.{first_true, second_true, number_same}
 use Rattle.span_machine_laws.proofs.Lists.{found_passes, all_push, all_changed, all_without, all_found, all_weaker}
 use Rattle.span_machine_laws.proofs.Sealed.{IsSealed}
 use Rattle.span_machine_laws.proofs.Walks.{MayRefuse, Ends, answer_by}
-use Rattle.span_machine_laws.proofs.Sound.{IsSound, IsCoveredSealed}
+use Rattle.span_machine_laws.proofs.Sound.{IsSound, IsPartSealed, IsCoveredSealed}
 use Rattle.span_machine_laws.proofs.Locality.{IsRoot}
-use Rattle.span_machine.proofs.Leaves.{tables_covered, tables_opened, covered_or_none}
+use Rattle.span_keycode.specs.Parts.{is_within}
+use Rattle.span_keycode.specs.declared.range.KeyRange.{KeyRange}
+use Rattle.span_machine.specs.Slots.{root_code}
+use Rattle.span_machine.specs.declared.query.ScanLeaf.{ScanLeaf}
+use Rattle.span_schema.specs.Numbers.{root_of}
+use Rattle.span_machine_laws.proofs.FamilyRows.{family_has, tiles_have}
+use Rattle.span_machine_laws.proofs.Pieces.{AllCovered, IsOpenLeaf, HasLeaves, AreOpenQueries, tables_of}
 
 -- ---- the invariant
 
@@ -46,16 +52,15 @@ use Rattle.span_machine.proofs.Leaves.{tables_covered, tables_opened, covered_or
 abbrev pub IsBegun : List BegunTransaction → OpenTransaction → Type 0
 IsBegun begun t = find (λ b. b.number == t.number) begun ≡ Some (record { number = t.number; mutations = t.mutations })
 
--- the query as it was asked: its query text is understood as a statement with its query and its leaves
+-- the query as it was asked: its query text is understood as its statement
 pub record IsAsked (understands : Understanding) (asked : List OpenedQuery) (q : OpenQuery) : Type 0 where
   pub question : OpenedQuery
   pub found : find (λ a. a.number == q.number) asked ≡ Some question
   pub number : question.number ≡ q.number
   pub at : question.s ≡ q.s
-  pub statement : Statement
-  pub understood : understands question.text question.params (Ok statement)
-  pub query : statement.query ≡ q.query
-  pub leaves : statement.leaves ≡ tables_of q.leaves
+  pub text : question.text ≡ q.text
+  pub params : question.params ≡ q.params
+  pub understood : understands question.text question.params (Ok q.statement)
 
 -- the open transactions are as they were begun and the open queries as they were asked, and later ones get higher numbers
 pub record IsKnown (understands : Understanding) (begun : List BegunTransaction) (asked : List OpenedQuery) (m : Machine) : Type 0 where
@@ -64,11 +69,15 @@ pub record IsKnown (understands : Understanding) (begun : List BegunTransaction)
   pub queries : AllByRecursion (IsAsked understands asked) m.queries
   pub asked_below : AllByRecursion (λ a. a.number < m.next_query) asked
 
--- What is answered of a query is what it means by the log so far, and no later step changes that: what it is to see is sealed, or it
--- has no leaf.
+-- the directories of a table's family are sealed at s
+abbrev pub IsFamilySealed : List Table → Machine → ℕ → ℕ → Type 0
+IsFamilySealed schema m s n = (root : Root) → IsRoot schema root → root.table ≡ root_of schema n → IsSealed schema root s m
+
+-- What is answered of a query is what it means by the log so far, and no later step changes that: the families of the tables that it
+-- reads are sealed.
 pub record IsMeantNow (understands : Understanding) (schema : List Table) (m : Machine) (asked : List OpenedQuery) (query s : ℕ) (meant : rows.Rows) : Type 0 where
   pub now : IsMeant understands schema m.log asked query s meant
-  pub stays : ((root : Root) → IsRoot schema root → IsSealed schema root s m) ⊎ (now.statement.leaves ≡ [])
+  pub stays : AllByRecursion (IsFamilySealed schema m s) now.statement.leaves
 
 abbrev pub IsRightNow : Understanding → List Table → Machine → List OpenedQuery → Step → Reply → Type 0
 IsRightNow understands schema m asked (Finish query) (Rows s found) = IsMeantNow understands schema m asked query s (Some found)
@@ -98,6 +107,7 @@ refusal_quiet begun (Open text params bound interval) why = record { no_begun = 
 refusal_quiet begun (Scan query leaf slot interval) why = record { no_begun = refl; no_asked = refl; no_commit = refl }
 refusal_quiet begun (Finish query) why = record { no_begun = refl; no_asked = refl; no_commit = refl }
 refusal_quiet begun (Close query) why = record { no_begun = refl; no_asked = refl; no_commit = refl }
+refusal_quiet begun (Split table key) why = record { no_begun = refl; no_asked = refl; no_commit = refl }
 
 refusal_right : (understands : Understanding) (schema : List Table) (m : Machine) (asked : List OpenedQuery) (step : Step) (why : Refusal) → MayRefuse step why → IsRightNow understands schema m asked step (Refused why)
 refusal_right understands schema m asked (Finish query) why may = λ e. absurd (may e)
@@ -110,6 +120,7 @@ refusal_right understands schema m asked (Trim slot h) why may = tt
 refusal_right understands schema m asked (Open text params bound interval) why may = tt
 refusal_right understands schema m asked (Scan query leaf slot interval) why may = tt
 refusal_right understands schema m asked (Close query) why may = tt
+refusal_right understands schema m asked (Split table key) why may = tt
 
 -- out of memory is no arithmetic fault
 memory_refused : (step : Step) → MayRefuse step refusal.OutOfMemory
@@ -123,6 +134,7 @@ memory_refused (Trim slot h) = tt
 memory_refused (Open text params bound interval) = tt
 memory_refused (Scan query leaf slot interval) = tt
 memory_refused (Close query) = tt
+memory_refused (Split table key) = tt
 
 -- ---- numbers
 
@@ -150,10 +162,9 @@ asked_still understands asked a n q e low is =
       found = found;
       number = is.number;
       at = is.at;
-      statement = is.statement;
+      text = is.text;
+      params = is.params;
       understood = is.understood;
-      query = is.query;
-      leaves = is.leaves;
     }
 
 itself : (n : ℕ) → (n == n) ≡ true
@@ -167,17 +178,27 @@ asked_now : (asked : List OpenedQuery) (a : OpenedQuery) → find (λ b. b.numbe
 asked_now asked a = rw (itself a.number) refl
 
 -- a query is asked as before once a leaf is covered
-asked_covered : (understands : Understanding) (asked : List OpenedQuery) (leaf : ℕ) (q : OpenQuery) → IsAsked understands asked q → IsAsked understands asked (cover leaf q)
-asked_covered understands asked leaf q is = record {
+asked_covered : (understands : Understanding) (asked : List OpenedQuery) (leaf : ℕ) (part : KeyRange) (q : OpenQuery) → IsAsked understands asked q → IsAsked understands asked (cover leaf part q)
+asked_covered understands asked leaf part q is = record {
   question = is.question;
   found = is.found;
   number = is.number;
   at = is.at;
-  statement = is.statement;
+  text = is.text;
+  params = is.params;
   understood = is.understood;
-  query = is.query;
-  leaves = is.leaves ∙ sym (tables_covered q.leaves leaf);
 }
+
+-- where pieces tile the range of each leaf, the families of their tables are sealed
+all_sealed : (schema : List Table) (m : Machine) (s : ℕ) (leaves : List ScanLeaf) → AllByRecursion (IsOpenLeaf schema) leaves → AllByRecursion (AllCovered (IsPartSealed schema m s)) leaves → list_all is_covered leaves ≡ true → AllByRecursion (IsFamilySealed schema m s) (tables_of leaves)
+all_sealed schema m s [] are seals covered = tt
+all_sealed schema m s (l ∷ ls) are seals covered = (
+  λ root is own.
+      let within : is_within l.range (root_code schema root) ≡ true = subst (λ (range : KeyRange). is_within range (root_code schema root) ≡ true) (sym are.0.range) (family_has schema l.table root own) in
+      tiles_have (IsSealed schema root s m) l.range l.covered (root_code schema root) (first_true (is_covered l) (list_all is_covered ls) covered) within
+      (all_weaker (IsPartSealed schema m s) (λ (c : KeyRange). is_within c (root_code schema root) ≡ true → IsSealed schema root s m) (λ c seal. seal root is) l.covered seals.0),
+  all_sealed schema m s ls are.1 seals.1 (second_true (is_covered l) (list_all is_covered ls) covered),
+)
 
 -- what is committed of a transaction that was begun
 commit_begun : (begun : List BegunTransaction) (owner txn ts : ℕ) (t : OpenTransaction) → t.owner ≡ owner → t.number ≡ txn → IsBegun begun t → commit_by ts owner txn (find (λ b. b.number == txn) begun) ≡ commit_of ts t ∷ []
@@ -188,7 +209,7 @@ commit_begun begun owner txn ts t same_owner same is =
 
 -- ---- the steps
 
-module _ (understands : Understanding) (schema : List Table) (begun : List BegunTransaction) (asked : List OpenedQuery) (m : Machine) (sound : IsSound schema m) (known : IsKnown understands begun asked m) (made : (s : ℕ) → (db : List TableRow) × (tables schema m.log s ≡ Ok db)) where
+module _ (understands : Understanding) (schema : List Table) (begun : List BegunTransaction) (asked : List OpenedQuery) (m : Machine) (sound : IsSound schema m) (leaves : AreOpenQueries schema m) (known : IsKnown understands begun asked m) (made : (s : ℕ) → (db : List TableRow) × (tables schema m.log s ≡ Ok db)) where
   -- nothing is begun, asked or committed
   tells_quiet : (step : Step) (r : Reply) (n : Machine) → IsQuiet begun step r → AllByRecursion (IsBegun begun) n.transactions → AllByRecursion (IsAsked understands asked) n.queries
       → n.next_transaction ≡ m.next_transaction → n.next_query ≡ m.next_query → n.log ≡ m.log → IsRightNow understands schema m asked step r → Tells understands schema begun asked m step r n
@@ -234,24 +255,23 @@ module _ (understands : Understanding) (schema : List Table) (begun : List Begun
     right = tt;
   }
 
-  tells_opened : (text : List ℕ) (params : List Parameter) (bound : Bound) (interval : Interval) (q : Statement) (s : ℕ) → understands text params (Ok q) → Tells understands schema begun asked m (Open text params bound interval) (opened m q s).0 (opened m q s).1
+  tells_opened : (text : List ℕ) (params : List Parameter) (bound : Bound) (interval : Interval) (q : Statement) (s : ℕ) → understands text params (Ok q) → Tells understands schema begun asked m (Open text params bound interval) (opened schema m text params q s).0 (opened schema m text params q s).1
   tells_opened text params bound interval q s understood =
       let a : OpenedQuery = record { number = m.next_query; text = text; params = params; s = s } in
       record {
         known = record {
           transactions = known.transactions;
           begun_below = known.begun_below;
-          queries = all_push (IsAsked understands (a ∷ asked)) m.queries (as_opened m.next_query s q)
+          queries = all_push (IsAsked understands (a ∷ asked)) m.queries (as_opened schema m.next_query s text params q)
               (all_weaker (IsAsked understands asked) (IsAsked understands (a ∷ asked)) (λ o is. asked_still understands asked a m.next_query o refl (asked_low understands asked m.next_query o known.asked_below is) is) m.queries known.queries)
               (record {
                 question = a;
                 found = asked_now asked a;
                 number = refl;
                 at = refl;
-                statement = q;
+                text = refl;
+                params = refl;
                 understood = understood;
-                query = refl;
-                leaves = sym (tables_opened q.leaves);
               });
           asked_below = (omega arith, all_weaker (λ a. a.number < m.next_query) (λ a. a.number < m.next_query + 1) (λ a low. omega arith) asked known.asked_below);
         };
@@ -275,28 +295,21 @@ module _ (understands : Understanding) (schema : List Table) (begun : List Begun
         right = tt;
       }
 
-  -- what a query without a leaf is to see needs no seal
-  leafless : (q : OpenQuery) (is : IsAsked understands asked q) → q.leaves ≡ [] → is.statement.leaves ≡ []
-  leafless q is none = is.leaves ∙ ap (λ ls. tables_of ls) none
-
   -- an open query, and what it means on the tables
-  meant_now : (query : ℕ) (q : OpenQuery) → q.number ≡ query → IsAsked understands asked q → IsCoveredSealed schema m q → list_all is_covered q.leaves ≡ true → (db : List TableRow) → tables schema m.log q.s ≡ Ok db
-      → IsMeantNow understands schema m asked query q.s (means schema q.query (tables_of q.leaves) db)
-  meant_now query q same is seals covered db e = record {
+  meant_now : (query : ℕ) (q : OpenQuery) → q.number ≡ query → IsAsked understands asked q → HasLeaves schema q → IsCoveredSealed schema m q → list_all is_covered q.leaves ≡ true → (db : List TableRow) → tables schema m.log q.s ≡ Ok db
+      → IsMeantNow understands schema m asked query q.s (means schema q.statement.query q.statement.leaves db)
+  meant_now query q same is has seals covered db e = record {
     now = record {
       question = is.question;
       opened = subst (λ k. find (λ a. a.number == k) asked ≡ Some is.question) same is.found;
       at = sym is.at;
-      statement = is.statement;
+      statement = q.statement;
       understood = is.understood;
       db = db;
       made = e;
-      is = ap (λ l. means schema q.query l db) (sym is.leaves) ∙ ap (λ p. means schema p is.statement.leaves db) (sym is.query);
+      is = refl;
     };
-    stays = elim (covered_or_none q.leaves covered) [
-      | inl some ↦ inl (seals some)
-      | inr none ↦ inr (leafless q is none)
-    ];
+    stays = subst (AllByRecursion (IsFamilySealed schema m q.s)) has.tables (all_sealed schema m q.s q.leaves has.leaves seals covered);
   }
 
   -- the answer to a Finish, by what the query means on the tables
@@ -304,12 +317,12 @@ module _ (understands : Understanding) (schema : List Table) (begun : List Begun
   right_answer query s (Some found) is = is
   right_answer query s None is = λ e. (s, is)
 
-  right_finish : (query : ℕ) (q : OpenQuery) → q.number ≡ query → IsAsked understands asked q → IsCoveredSealed schema m q → list_all is_covered q.leaves ≡ true → IsRightNow understands schema m asked (Finish query) (answer_on q.s (meaning schema m q))
-  right_finish query q same is seals covered =
+  right_finish : (query : ℕ) (q : OpenQuery) → q.number ≡ query → IsAsked understands asked q → HasLeaves schema q → IsCoveredSealed schema m q → list_all is_covered q.leaves ≡ true → IsRightNow understands schema m asked (Finish query) (answer_on q.s (meaning schema m q))
+  right_finish query q same is has seals covered =
       let there = made q.s in
       let is_made : tables schema m.log q.s ≡ Ok there.0 = there.1 in
-      subst (λ (r : Result (List TableRow) Refusal). IsRightNow understands schema m asked (Finish query) (answer_on q.s (and_then r (λ db. rows_or_refusal (means schema q.query (tables_of q.leaves) db))))) (sym is_made)
-      (right_answer query q.s (means schema q.query (tables_of q.leaves) there.0) (meant_now query q same is seals covered there.0 is_made))
+      subst (λ (r : Result (List TableRow) Refusal). IsRightNow understands schema m asked (Finish query) (answer_on q.s (and_then r (λ db. rows_or_refusal (means schema q.statement.query q.statement.leaves db))))) (sym is_made)
+      (right_answer query q.s (means schema q.statement.query q.statement.leaves there.0) (meant_now query q same is has seals covered there.0 is_made))
 
   quiet_answer : (query s : ℕ) (r : Result (List rows.Row) Refusal) → IsQuiet begun (Finish query) (answer_on s r)
   quiet_answer query s (Ok found) = record { no_begun = refl; no_asked = refl; no_commit = refl }
@@ -329,29 +342,31 @@ module _ (understands : Understanding) (schema : List Table) (begun : List Begun
     trims = λ slot h slot_state here accepted understood. tells_quiet _ _ _ (record { no_begun = refl; no_asked = refl; no_commit = refl }) known.transactions known.queries refl refl refl tt;
     opens = λ text params bound interval q is accepted understood. tells_opened text params bound interval q (timestamp_of bound interval) (subst (λ v. understands text params v) is understood);
     finds_nothing = λ query leaf slot interval understood. tells_same _ _ (record { no_begun = refl; no_asked = refl; no_commit = refl }) tt;
-    scans = λ query leaf slot interval q slot_state found here above safe understood. tells_quiet _ _ _ (record { no_begun = refl; no_asked = refl; no_commit = refl })
-        known.transactions (all_changed (IsAsked understands asked) (is_query query) (cover leaf) (asked_covered understands asked leaf) m.queries known.queries) refl refl refl tt;
+    scans = λ query leaf slot interval q slot_state l part found here at gap above safe understood. tells_quiet _ _ _ (record { no_begun = refl; no_asked = refl; no_commit = refl })
+        known.transactions (all_changed (IsAsked understands asked) (is_query query) (cover leaf part) (asked_covered understands asked leaf part) m.queries known.queries) refl refl refl tt;
     waits = λ query leaf slot interval q slot_state found here understood. tells_quiet _ _ _ (record { no_begun = refl; no_asked = refl; no_commit = refl }) known.transactions known.queries refl refl refl tt;
     finishes = λ query q found covered understood. tells_same (Finish query) (answer_on q.s (meaning schema m q)) (quiet_answer query q.s (meaning schema m q))
         (right_finish query q (number_same q.number query (found_passes (is_query query) m.queries q found)) (all_found (IsAsked understands asked) (is_query query) m.queries q found known.queries)
+        (all_found (HasLeaves schema) (is_query query) m.queries q found leaves)
         (all_found (IsCoveredSealed schema m) (is_query query) m.queries q found sound.queries) covered);
+    splits = λ table key code slot slot_state keyed home here accepted understood. tells_quiet _ _ _ (record { no_begun = refl; no_asked = refl; no_commit = refl }) known.transactions known.queries refl refl refl tt;
     closes = λ query q found understood. tells_quiet _ _ _ (record { no_begun = refl; no_asked = refl; no_commit = refl })
         known.transactions (all_without (IsAsked understands asked) (is_query query) m.queries known.queries) refl refl refl tt;
   }
 
 -- every step reports what it begins, asks and commits
-pub answer_tells : (understands : Understanding) (schema : List Table) (begun : List BegunTransaction) (asked : List OpenedQuery) (m : Machine) (u : Result Statement Refusal) → IsSound schema m → IsKnown understands begun asked m → ((s : ℕ) → (db : List TableRow) × (tables schema m.log s ≡ Ok db))
+pub answer_tells : (understands : Understanding) (schema : List Table) (begun : List BegunTransaction) (asked : List OpenedQuery) (m : Machine) (u : Result Statement Refusal) → IsSound schema m → AreOpenQueries schema m → IsKnown understands begun asked m → ((s : ℕ) → (db : List TableRow) × (tables schema m.log s ≡ Ok db))
     → (step : Step) → IsUnderstood understands step u → Tells understands schema begun asked m step (answer schema m u step).0 (answer schema m u step).1
-answer_tells understands schema begun asked m u sound known made step understood = answer_by schema m u (λ s a. IsUnderstood understands s u → Tells understands schema begun asked m s a.0 a.1) (tells_ends understands schema begun asked m sound known made u) step understood
+answer_tells understands schema begun asked m u sound leaves known made step understood = answer_by schema m u (λ s a. IsUnderstood understands s u → Tells understands schema begun asked m s a.0 a.1) (tells_ends understands schema begun asked m sound leaves known made u) step understood
 
 -- one step, out of memory included
-pub step_tells : (understands : Understanding) (schema : List Table) (begun : List BegunTransaction) (asked : List OpenedQuery) (m : Machine) (step : Step) (r : Reply) (next : Machine) → Steps understands schema m step r next → IsSound schema m → IsKnown understands begun asked m
+pub step_tells : (understands : Understanding) (schema : List Table) (begun : List BegunTransaction) (asked : List OpenedQuery) (m : Machine) (step : Step) (r : Reply) (next : Machine) → Steps understands schema m step r next → IsSound schema m → AreOpenQueries schema m → IsKnown understands begun asked m
     → ((s : ℕ) → (db : List TableRow) × (tables schema m.log s ≡ Ok db)) → Tells understands schema begun asked m step r next
-step_tells understands schema begun asked m step r next (inl e) sound known made =
-    subst (λ x. Tells understands schema begun asked m step x next) (sym e.2.0) (subst (λ n. Tells understands schema begun asked m step (answer schema m e.0 step).0 n) (sym e.2.1) (answer_tells understands schema begun asked m e.0 sound known made step e.1))
-step_tells understands schema begun asked m step r next (inr e) sound known made =
+step_tells understands schema begun asked m step r next (inl e) sound leaves known made =
+    subst (λ x. Tells understands schema begun asked m step x next) (sym e.2.0) (subst (λ n. Tells understands schema begun asked m step (answer schema m e.0 step).0 n) (sym e.2.1) (answer_tells understands schema begun asked m e.0 sound leaves known made step e.1))
+step_tells understands schema begun asked m step r next (inr e) sound leaves known made =
     subst (λ x. Tells understands schema begun asked m step x next) (sym e.1.0) (subst (λ n. Tells understands schema begun asked m step (Refused refusal.OutOfMemory) n) (sym e.1.1)
-    (tells_same understands schema begun asked m sound known made step (Refused refusal.OutOfMemory) (refusal_quiet begun step refusal.OutOfMemory) (refusal_right understands schema m asked step refusal.OutOfMemory (memory_refused step))))
+    (tells_same understands schema begun asked m sound leaves known made step (Refused refusal.OutOfMemory) (refusal_quiet begun step refusal.OutOfMemory) (refusal_right understands schema m asked step refusal.OutOfMemory (memory_refused step))))
 
 pub start_known : (understands : Understanding) → IsKnown understands [] [] start
 start_known understands = record { transactions = tt; begun_below = tt; queries = tt; asked_below = tt }

@@ -122,10 +122,11 @@ module _ (schema : List Table) (m : Machine) (numbered : IsNumbered m) where
     trims = λ slot h slot_state here accepted. numbered_same _ refl refl;
     opens = λ text params bound interval asked is accepted. numbered_same _ refl refl;
     finds_nothing = λ query leaf slot interval. numbered;
-    scans = λ query leaf slot interval q slot_state found here above safe. numbered_same _ refl refl;
+    scans = λ query leaf slot interval q slot_state l part found here at gap above safe. numbered_same _ refl refl;
     waits = λ query leaf slot interval q slot_state found here. numbered_same _ refl refl;
     finishes = λ query q found covered. numbered;
     closes = λ query q found. numbered_same _ refl refl;
+    splits = λ table key code slot slot_state keyed home here accepted. numbered_same _ refl refl;
   }
 
 -- every step keeps the numbers

@@ -1,8 +1,8 @@
-use Rattle.std.proofs.Common.{◌≡◌, ℕ, ◌<◌, ◌≤◌, ◌-◌, max, zero, suc, true, false, cond, not, ◌&&◌, ◌==◌, nat_lt, nat_le, List, [], ◌∷◌, ◌++◌, length, Some, None, refl, ap, sym, ◌∙◌, subst, arith}
+use Rattle.std.proofs.Common.{◌≡◌, ℕ, ◌<◌, ◌≤◌, ◌-◌, max, zero, suc, true, false, cond, not, ◌&&◌, ◌==◌, nat_lt, nat_le, List, [], ◌∷◌, ◌++◌, length, Some, None, refl, ap, sym, ◌∙◌, subst, inl, inr, arith}
 use Rattle.std.specs.Prelude.{slice_get, slice_set, find, filter}
 use Rattle.std.proofs.lemmas.List.{append-nil}
 use Rattle.std.proofs.lemmas.List.Elements.{filter-append}
-use Rattle.std.specs.List.{list_all}
+use Rattle.std.specs.List.{list_all, list_any}
 use Rattle.span_machine.specs.declared.slot.SlotState.{SlotState}
 use Rattle.span_machine.specs.declared.transaction.Commit.{Commit}
 use Rattle.span_schema.specs.declared.table.Table.{Table}
@@ -12,7 +12,8 @@ use Rattle.span_machine.specs.declared.transaction.Decision.{Decision}
 use Rattle.span_machine.specs.declared.transaction.Decision.TheVariants as decision
 use Rattle.span_mutate.specs.Directories.{Root}
 use Rattle.span_machine.specs.Slots.{is_between, has_key, root_code}
-use Rattle.span_machine.specs.Machine.{is_at}
+use Rattle.span_machine.specs.Machine.{is_at, holds, split_in_two, begins_at}
+use Rattle.span_machine.specs.Limits.{most_slots}
 use Rattle.span_machine.specs.Machine.{Machine, changed_first, without_first, is_prepared_at, greatest, with_last, mutations_in, mutations_refusal, is_undecided, is_prepared_for, answer, begun, prepare_timestamp, prepare_refusal, prepared, has_conflict, add_prepared, is_transaction, is_query, is_all_prepared, coordinator_slot, commit_timestamp, commit_of, committed, aborted, with_decision, without_prepared, applied, applied_at, advanced, opened, with_risen_floor, with_slot_state, cover, closed, start, first_slot, trimmed, with_horizon}
 use Rattle.span_truetime.specs.Limits.{timestamp_end}
 use Rattle.span_truetime.specs.Time.{timestamp_of}
@@ -22,9 +23,12 @@ use Rattle.span_machine_laws.proofs.Causes.{may_prepare, may_commit, undecided_i
 use Rattle.span_machine_laws.proofs.Tests.{first_true, second_true, not_both, both_of, number_same, not_late}
 use Rattle.span_machine_laws.proofs.Lists.{all_push}
 use Rattle.span_machine_laws.proofs.Stability.{changes_at, is_some_of}
+use Rattle.span_machine_laws.proofs.Splits.{part_below, part_from, below_parts, from_parts, found_has, split_place, may_split}
+use Rattle.span_machine_laws.proofs.Ranges.{HasRanges, home_at, home_split, some_state}
+use Rattle.span_machine_laws.proofs.Holdings.{AreHolding, none_beyond}
 use Rattle.span_machine_laws.proofs.Walks.{Ends, answer_by}
-use Rattle.span_machine_laws.proofs.InPlace.{IsBelow, IsUnder, IsRising, Succeeds, commits_at, claims, IsPromised, IsClaimed, IsClaim, IsInPlace, all_under, below_up, under_up, under_below, greatest_more, rising_push, changes_at-push}
-use Rattle.span_machine_laws.proofs.Claims.{Lifts, lifts_same, lifts_set, lifts_last, last_here, claim_up, claim_first, claim_without, unclaimed, all_held, commits_at-push, go_through, prepared_root, away_push, away_left, none_left, left_slot, claim_of, prepared_last}
+use Rattle.span_machine_laws.proofs.InPlace.{IsBelow, IsUnder, IsRising, Succeeds, commits_at, claims, IsPromised, IsClaimed, IsClaim, IsInPlace, IsPlaced, all_under, below_up, under_up, under_below, greatest_more, rising_push, changes_at-push}
+use Rattle.span_machine_laws.proofs.Claims.{Lifts, lifts_same, lifts_set, lifts_last, last_here, claim_up, claim_first, claim_without, unclaimed, unclaimed_idle, all_held, commits_at-push, go_through, prepared_root, away_push, away_left, none_left, left_slot, claim_of, prepared_last}
 use Rattle.span_schema.specs.Lineages.{MeetsRules}
 use Rattle.span_machine_laws.proofs.Locality.{IsRoot}
 use Rattle.span_machine_laws.proofs.Lists.{all_found}
@@ -35,7 +39,7 @@ use Rattle.std.specs.Prelude.{Result}
 
 -- ---- the steps
 
-module _ (schema : List Table) (rules : MeetsRules schema) (root : Root) (is : IsRoot schema root) (slot : ℕ) (m : Machine) (by : IsBySchema schema m) (o : IsInPlace schema root slot m) where
+module _ (schema : List Table) (rules : MeetsRules schema) (root : Root) (is : IsRoot schema root) (slot : ℕ) (m : Machine) (by : IsBySchema schema m) (ranges : HasRanges schema m) (holding : AreHolding m) (o : IsInPlace schema root slot m) where
   -- slot states rise, the log is the same, and the claim is kept
   pub in_place_by : (n : Machine) → Lifts m.slots n.slots → n.log ≡ m.log
       → ((a b : SlotState) → slice_get m.slots slot ≡ Some a → slice_get n.slots slot ≡ Some b → a.last ≤ b.last → IsClaim schema root a.last (commits_at schema root m.log) (filter (claims schema root slot) m.transactions) → IsClaim schema root b.last (commits_at schema root m.log) (filter (claims schema root slot) n.transactions))
@@ -246,31 +250,72 @@ module _ (schema : List Table) (rules : MeetsRules schema) (root : Root) (is : I
     | false ↦ lifts_set m.slots i slot_state slot_state here (omega arith) (λ _. refl)
   ]
 
-  placed_ends : (u : Result Statement Refusal) → Ends schema m u (λ step a. IsInPlace schema root slot a.1)
+  -- ---- Split
+  -- nothing is prepared in a slot that is cut, nor in the new one
+  claim_split : (i : ℕ) (slot_state : SlotState) (code : List ℕ) (b : SlotState) (j : ℕ) → slice_get m.slots i ≡ Some slot_state → has_key slot_state code ≡ true → list_any (is_prepared_at i) m.transactions ≡ false
+      → slice_get (slice_set m.slots i (part_below code slot_state) ++ part_from code slot_state ∷ []) j ≡ Some b → has_key b (root_code schema root) ≡ true → IsClaim schema root b.last (commits_at schema root m.log) (filter (claims schema root j) m.transactions)
+  claim_split i slot_state code b j here inside idle h has =
+      let below : holds schema slot_state root ≡ true → IsBelow slot_state.last (commits_at schema root m.log) =
+      λ held. subst (IsClaim schema root slot_state.last (commits_at schema root m.log)) (unclaimed_idle schema root slot m.transactions (subst (λ k. list_any (is_prepared_at k) m.transactions ≡ false) (o.only i slot_state here held) idle))
+      (o.claim slot_state (subst (λ k. slice_get m.slots k ≡ Some slot_state) (o.only i slot_state here held) here)) in
+      elim (split_place m.slots i (part_below code slot_state) (part_from code slot_state) b j h) [
+        | inl e ↦
+            (let held : holds schema slot_state root ≡ true = (below_parts code slot_state (root_code schema root) inside (subst (λ (c : SlotState). has_key c (root_code schema root) ≡ true) e.1 has)).0 in
+            let none : filter (claims schema root j) m.transactions ≡ [] = unclaimed_idle schema root j m.transactions (subst (λ k. list_any (is_prepared_at k) m.transactions ≡ false) (sym e.0) idle) in
+            subst (IsClaim schema root b.last (commits_at schema root m.log)) (sym none) (subst (λ (c : SlotState). IsBelow c.last (commits_at schema root m.log)) (sym e.1) (below held)))
+        | inr other ↦ (elim other [
+          | inl e ↦
+              (let held : holds schema slot_state root ≡ true = (from_parts code slot_state (root_code schema root) inside (subst (λ (c : SlotState). has_key c (root_code schema root) ≡ true) e.1 has)).0 in
+              let none : filter (claims schema root j) m.transactions ≡ [] = unclaimed_idle schema root j m.transactions (subst (λ k. list_any (is_prepared_at k) m.transactions ≡ false) (sym e.0) (none_beyond (length m.slots) m.transactions holding)) in
+              subst (IsClaim schema root b.last (commits_at schema root m.log)) (sym none) (subst (λ (c : SlotState). IsBelow c.last (commits_at schema root m.log)) (sym e.1) (below held)))
+          | inr e ↦
+              (let at : j ≡ slot = o.only j b e.0 has in
+              subst (λ k. IsClaim schema root b.last (commits_at schema root m.log) (filter (claims schema root k) m.transactions)) (sym at) (o.claim b (subst (λ k. slice_get m.slots k ≡ Some b) at e.0)))
+        ])
+      ]
+
+  -- the slot that has the directory after the cut is the lower part, the new slot, or the one that had it before
+  split_placed : (i : ℕ) (slot_state : SlotState) (code : List ℕ) → slice_get m.slots i ≡ Some slot_state → has_key slot_state code ≡ true → list_any (is_prepared_at i) m.transactions ≡ false → IsPlaced schema root (split_in_two m i code slot_state).1
+  split_placed i slot_state code here inside idle =
+      let home = home_split m.slots i slot_state code here inside (root_code schema root) (home_at schema m ranges root) in (
+        home.slot,
+        record {
+          only = home.only;
+          held = λ b h. subst (λ (c : SlotState). has_key c (root_code schema root) ≡ true) (some_state home.state b (sym home.here ∙ h)) home.has;
+          in_range = o.in_range;
+          rising = o.rising;
+          through = o.through;
+          claim = λ b h. claim_split i slot_state code b home.slot here inside idle h (subst (λ (c : SlotState). has_key c (root_code schema root) ≡ true) (some_state home.state b (sym home.here ∙ h)) home.has);
+        },
+      )
+
+  placed_ends : (u : Result Statement Refusal) → Ends schema m u (λ step a. IsPlaced schema root a.1)
   placed_ends u = record {
-    refuses = λ step why may. o;
-    begins = λ owner ms accepted. begin_placed owner ms;
-    prepares = λ owner txn i t slot_state found here accepted well room low. prepare_there owner txn i t slot_state found here accepted well;
+    refuses = λ step why may. (slot, o);
+    begins = λ owner ms accepted. (slot, begin_placed owner ms);
+    prepares = λ owner txn i t slot_state found here accepted well room low. (slot, prepare_there owner txn i t slot_state found here accepted well);
     commits = λ owner txn interval t found accepted.
         let may = may_commit (is_undecided t) (is_all_prepared schema m t) (nat_le timestamp_end (commit_timestamp m t interval)) accepted in
-        commit_here owner txn (commit_timestamp m t interval) t found may.0 may.1 (omega arith) (not_late timestamp_end (commit_timestamp m t interval) may.2);
-    aborts = λ owner txn interval t found open_still. in_place_by (aborted m owner txn t).1 (lifts_same m.slots) refl (λ a b p q low h. abort_claim owner txn t a.last b.last found open_still low h);
-    applies = λ owner txn i interval t slot_state found here accepted. apply_there owner txn i t found;
-    advances = λ i interval slot_state here. slots_placed (advanced m i interval slot_state).1 (lifts_set m.slots i slot_state (record slot_state { floor = max slot_state.floor interval.latest }) here (omega arith) (λ _. refl)) refl refl;
-    trims = λ i h slot_state here accepted. slots_placed (trimmed schema m i h slot_state).1 (lifts_set m.slots i slot_state (with_horizon h slot_state) here (omega arith) (λ _. refl)) refl refl;
-    opens = λ text params bound interval asked is accepted. slots_placed (opened m asked (timestamp_of bound interval)).1 (lifts_same m.slots) refl refl;
-    finds_nothing = λ query leaf i interval. o;
-    scans = λ query leaf i interval q slot_state found here above safe.
-        slots_placed (record (with_slot_state m i (with_risen_floor slot_state q.s interval)) { queries = changed_first (is_query query) (cover leaf) m.queries }) (lifts_risen i q.s interval slot_state here) refl refl;
-    waits = λ query leaf i interval q slot_state found here. slots_placed (with_slot_state m i (with_risen_floor slot_state q.s interval)) (lifts_risen i q.s interval slot_state here) refl refl;
-    finishes = λ query q found covered. o;
-    closes = λ query q found. slots_placed (closed m query q).1 (lifts_same m.slots) refl refl;
+        (slot, commit_here owner txn (commit_timestamp m t interval) t found may.0 may.1 (omega arith) (not_late timestamp_end (commit_timestamp m t interval) may.2));
+    aborts = λ owner txn interval t found open_still. (slot, in_place_by (aborted m owner txn t).1 (lifts_same m.slots) refl (λ a b p q low h. abort_claim owner txn t a.last b.last found open_still low h));
+    applies = λ owner txn i interval t slot_state found here accepted. (slot, apply_there owner txn i t found);
+    advances = λ i interval slot_state here. (slot, slots_placed (advanced m i interval slot_state).1 (lifts_set m.slots i slot_state (record slot_state { floor = max slot_state.floor interval.latest }) here (omega arith) (λ _. refl)) refl refl);
+    trims = λ i h slot_state here accepted. (slot, slots_placed (trimmed schema m i h slot_state).1 (lifts_set m.slots i slot_state (with_horizon h slot_state) here (omega arith) (λ _. refl)) refl refl);
+    opens = λ text params bound interval asked is accepted. (slot, slots_placed (opened schema m text params asked (timestamp_of bound interval)).1 (lifts_same m.slots) refl refl);
+    finds_nothing = λ query leaf i interval. (slot, o);
+    scans = λ query leaf i interval q slot_state l part found here at gap above safe.
+        (slot, slots_placed (record (with_slot_state m i (with_risen_floor slot_state q.s interval)) { queries = changed_first (is_query query) (cover leaf part) m.queries }) (lifts_risen i q.s interval slot_state here) refl refl);
+    waits = λ query leaf i interval q slot_state found here. (slot, slots_placed (with_slot_state m i (with_risen_floor slot_state q.s interval)) (lifts_risen i q.s interval slot_state here) refl refl);
+    finishes = λ query q found covered. (slot, o);
+    closes = λ query q found. (slot, slots_placed (closed m query q).1 (lifts_same m.slots) refl refl);
+    splits = λ table key code i slot_state keyed home here accepted.
+        split_placed i slot_state code here (found_has m.slots code i slot_state home here) (may_split (begins_at code slot_state) (list_any (is_prepared_at i) m.transactions) (nat_le most_slots (length m.slots)) accepted).1;
   }
 
 -- every step keeps the directory in place
-pub answer_placed : (schema : List Table) → MeetsRules schema → (root : Root) → IsRoot schema root → (slot : ℕ) (m : Machine) (u : Result Statement Refusal) → IsBySchema schema m → IsInPlace schema root slot m → (step : Step)
-    → IsInPlace schema root slot (answer schema m u step).1
-answer_placed schema rules root is slot m u by o step = answer_by schema m u (λ x a. IsInPlace schema root slot a.1) (placed_ends schema rules root is slot m by o u) step
+pub answer_placed : (schema : List Table) → MeetsRules schema → (root : Root) → IsRoot schema root → (slot : ℕ) (m : Machine) (u : Result Statement Refusal) → IsBySchema schema m → HasRanges schema m → AreHolding m → IsInPlace schema root slot m → (step : Step)
+    → IsPlaced schema root (answer schema m u step).1
+answer_placed schema rules root is slot m u by ranges holding o step = answer_by schema m u (λ x a. IsPlaced schema root a.1) (placed_ends schema rules root is slot m by ranges holding o u) step
 
 pub only_one : (slot_state b : SlotState) (i : ℕ) → slice_get (slot_state ∷ []) i ≡ Some b → i ≡ 0
 only_one slot_state b zero e = refl

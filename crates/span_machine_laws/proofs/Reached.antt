@@ -16,21 +16,18 @@ use Rattle.span_machine.specs.declared.step.Step.TheVariants.{Finish}
 use Rattle.span_machine.specs.declared.step.Reply.{Reply}
 use Rattle.span_machine.specs.Meaning.{means}
 use Rattle.span_machine.specs.Tables.{tables}
-use Rattle.span_machine.specs.Machine.{Machine, Understanding, Answer, Steps, answer, start, holds, is_query, is_covered, tables_of, rows_or_refusal, if_some, refused, meaning, answer_on, finish_query}
+use Rattle.span_machine.specs.Machine.{Machine, Understanding, Answer, Steps, answer, start, holds, is_query, is_covered, rows_or_refusal, if_some, refused, meaning, answer_on, finish_query}
 use Rattle.span_machine.specs.Run.{Run, IsOfSchema, AreOfSchema}
 use Rattle.span_machine_laws.proofs.Locality.{IsRoot}
-use Rattle.span_machine_laws.proofs.InPlace.{IsInPlace, tables_made}
+use Rattle.span_machine_laws.proofs.InPlace.{IsInPlace, IsPlaced, tables_made}
 use Rattle.span_machine_laws.proofs.Ranges.{HasRanges, answer_has_ranges, start_ranges}
 use Rattle.span_machine_laws.proofs.Schemas.{IsBySchema, answer_by_schema, start_by_schema, keyed_upto}
 use Rattle.span_machine_laws.proofs.Placed.{answer_placed, start_placed}
 use Rattle.span_machine_laws.proofs.Numbers.{IsNumbered, answer_numbered, start_numbered}
 use Rattle.span_machine_laws.proofs.Holdings.{AreHolding, answer_holding, start_holding}
 use Rattle.span_machine_laws.proofs.Sound.{IsSound, answer_sound, start_sound}
+use Rattle.span_machine_laws.proofs.Pieces.{AreOpenQueries, answer_open}
 use Rattle.span_machine_laws.proofs.Horizons.{HasHorizons, answer_horizons, start_horizons}
-
--- a directory is in place in the slot that has it
-abbrev pub IsPlaced : List Table → Root → Machine → Type 0
-IsPlaced schema root m = (slot : ℕ) × IsInPlace schema root slot m
 
 -- what holds of every machine that a run from the start reaches
 pub record IsReached (schema : List Table) (m : Machine) : Type 0 where
@@ -41,6 +38,7 @@ pub record IsReached (schema : List Table) (m : Machine) : Type 0 where
   pub placed : (root : Root) → IsRoot schema root → IsPlaced schema root m
   pub sound : IsSound schema m
   pub horizons : HasHorizons schema m
+  pub leaves : AreOpenQueries schema m
 
 pub start_reached : (schema : List Table) → IsReached schema start
 start_reached schema = record {
@@ -51,18 +49,20 @@ start_reached schema = record {
   placed = λ root is. (0, start_placed schema root);
   sound = start_sound schema;
   horizons = start_horizons schema;
+  leaves = tt;
 }
 
 module _ (schema : List Table) (rules : MeetsRules schema) where
   pub answer_reached : (m : Machine) → IsReached schema m → (u : Result Statement Refusal) (step : Step) → IsOfSchema schema step → IsReached schema (answer schema m u step).1
   answer_reached m reached u step of = record {
-    ranges = answer_has_ranges schema m u reached.ranges step;
+    ranges = answer_has_ranges schema rules m u reached.ranges step of;
     by_schema = answer_by_schema schema m u reached.by_schema step of;
     numbered = answer_numbered schema m u reached.numbered step;
     holding = answer_holding schema m u reached.holding step;
-    placed = λ root is. let o = reached.placed root is in (o.0, answer_placed schema rules root is o.0 m u reached.by_schema o.1 step);
-    sound = answer_sound schema m u reached.sound step;
-    horizons = answer_horizons schema m u reached.sound reached.ranges reached.horizons step;
+    placed = λ root is. let o = reached.placed root is in answer_placed schema rules root is o.0 m u reached.by_schema reached.ranges reached.holding o.1 step;
+    sound = answer_sound schema m u reached.ranges reached.holding reached.sound step;
+    horizons = answer_horizons schema m u reached.sound reached.ranges reached.holding reached.horizons step;
+    leaves = answer_open schema m u reached.ranges reached.leaves step;
   }
 
   -- one step, out of memory included
@@ -88,8 +88,8 @@ placed_at schema m reached root is i b h held =
 
 -- the Finish of a query whose leaves are all covered answers what the query means on the tables
 pub finish_meant : (schema : List Table) (m : Machine) (u : Result Statement Refusal) (number : ℕ) (q : OpenQuery) (db : List TableRow) → find (is_query number) m.queries ≡ Some q → list_all is_covered q.leaves ≡ true → tables schema m.log q.s ≡ Ok db
-    → answer schema m u (Finish number) ≡ (answer_on q.s (rows_or_refusal (means schema q.query (tables_of q.leaves) db)), m)
+    → answer schema m u (Finish number) ≡ (answer_on q.s (rows_or_refusal (means schema q.statement.query q.statement.leaves db)), m)
 finish_meant schema m u number q db found covered made =
     ap (λ o. if_some o (refused m refusal.UnknownQuery) (finish_query schema m)) found
     ∙ ap (λ (b : Bool). cond {A = Answer} b (answer_on q.s (meaning schema m q), m) (refused m refusal.Incomplete)) covered
-    ∙ ap (λ (r : Result (List TableRow) Refusal). (answer_on q.s (and_then r (λ d. rows_or_refusal (means schema q.query (tables_of q.leaves) d))), m)) made
+    ∙ ap (λ (r : Result (List TableRow) Refusal). (answer_on q.s (and_then r (λ d. rows_or_refusal (means schema q.statement.query q.statement.leaves d))), m)) made

@@ -116,10 +116,11 @@ module _ (schema : List Table) (m : Machine) (by : IsBySchema schema m) where
     trims = λ slot h slot_state here accepted of. same_by _ refl refl;
     opens = λ text params bound interval asked is accepted of. same_by _ refl refl;
     finds_nothing = λ query leaf slot interval of. by;
-    scans = λ query leaf slot interval q slot_state found here above safe of. same_by _ refl refl;
+    scans = λ query leaf slot interval q slot_state l part found here at gap above safe of. same_by _ refl refl;
     waits = λ query leaf slot interval q slot_state found here of. same_by _ refl refl;
     finishes = λ query q found covered of. by;
     closes = λ query q found of. same_by _ refl refl;
+    splits = λ table key code slot slot_state keyed home here accepted of. same_by _ refl refl;
   }
 
 -- every step keeps to the schema

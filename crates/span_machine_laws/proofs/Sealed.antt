@@ -1,4 +1,4 @@
-use Rattle.std.proofs.Common.{◌≡◌, ℕ, ◌<◌, ◌≤◌, max, Bool, true, false, cond, not, ◌&&◌, ◌||◌, ◌==◌, nat_lt, nat_le, List, [], ◌∷◌, length, Some, None, refl, ap, sym, ◌∙◌, subst, inl, inr, ◌⊎◌, arith}
+use Rattle.std.proofs.Common.{◌≡◌, ℕ, ◌<◌, ◌≤◌, max, Bool, true, false, cond, not, ◌&&◌, ◌||◌, ◌==◌, nat_lt, nat_le, List, [], ◌∷◌, ◌++◌, length, Some, None, refl, ap, sym, ◌∙◌, subst, inl, inr, ◌⊎◌, arith}
 use Rattle.std.specs.Prelude.{slice_get, slice_set, find, filter}
 use Rattle.std.proofs.lemmas.Bool.Decides.{nat_tests}
 use Rattle.std.specs.List.{AllByRecursion, list_any, list_all}
@@ -16,14 +16,17 @@ use Rattle.span_machine.specs.Slots.{root_code}
 use Rattle.span_machine.specs.Machine.{is_at, root_at}
 use Rattle.span_machine.specs.Tables.{upto}
 use Rattle.span_value.specs.declared.refusal.Refusal.TheVariants as refusal
-use Rattle.span_machine.specs.Machine.{begun, prepare_timestamp, prepared, is_query, Machine, Answer, answer, refused, has_key, holds, with_horizon, if_some, changed_first, is_transaction, is_all_prepared, is_prepared_for, greatest, commit_timestamp, commit_refusal, commit_of, committed, aborted, is_undecided, coordinator_slot, applied, applied_at, advanced, opened, with_risen_floor, with_slot_state, cover, answer_on, meaning, closed, with_last, add_prepared, with_decision, without_prepared, trimmed}
+use Rattle.span_machine.specs.Machine.{begun, prepare_timestamp, prepared, is_query, Machine, Answer, answer, refused, has_key, holds, with_horizon, if_some, changed_first, is_transaction, is_all_prepared, is_prepared_for, greatest, commit_timestamp, commit_refusal, commit_of, committed, aborted, is_undecided, coordinator_slot, applied, applied_at, advanced, opened, with_risen_floor, with_slot_state, cover, answer_on, meaning, closed, split_in_two, with_last, add_prepared, with_decision, without_prepared, trimmed}
 use Rattle.span_truetime.specs.Limits.{timestamp_end}
 use Rattle.span_truetime.specs.Time.{timestamp_of}
 use Rattle.span_machine.specs.declared.step.Reply.TheVariants as reply
 use Rattle.span_machine.specs.declared.step.Reply.TheVariants.{Refused}
 use Rattle.span_machine_laws.proofs.Causes.{may_commit}
-use Rattle.span_machine_laws.proofs.Tests.{first_true, second_true}
-use Rattle.span_machine_laws.proofs.Lists.{slice_get-set, all_push, all_changed, all_without, all_found, one_or_other, all_filtered}
+use Rattle.span_machine_laws.proofs.Tests.{first_true, second_true, equal_number, number_same}
+use Rattle.span_machine_laws.proofs.Splits.{part_below, part_from, below_parts, from_parts, found_has, split_place}
+use Rattle.span_machine_laws.proofs.Holdings.{IsHolding, AreHolding}
+use Rattle.std.proofs.lemmas.Option.{slice_get_within}
+use Rattle.span_machine_laws.proofs.Lists.{slice_get-set, all_push, all_changed, all_without, all_found, all_weaker, one_or_other, all_filtered}
 use Rattle.span_machine_laws.proofs.Walks.{Ends, answer_by}
 use Rattle.span_machine_laws.proofs.Stability.{changes_at, touches, is_some_of, changes_at-more}
 use Rattle.span_machine_laws.proofs.Locality.{IsRoot, own_root}
@@ -66,12 +69,65 @@ rises_set slots slot a b here low range = record {
   ];
 }
 
+-- ---- a slot that is cut in two
+
+-- the new slot, which has this number, comes from the one that is cut, and each other from itself
+abbrev pub from_cut : ℕ → ℕ → ℕ → ℕ
+from_cut count slot i = cond (i == count) slot i
+
+from_new : (count slot i : ℕ) → i ≡ count → from_cut count slot i ≡ slot
+from_new count slot i e = ap (λ b. cond b slot i) (equal_number i count e)
+
+from_other : (count slot i : ℕ) → i < count → from_cut count slot i ≡ i
+from_other count slot i low = ap (λ b. cond b slot i) (apart i count low)
+  where
+    apart : (a b : ℕ) → a < b → (a == b) ≡ false
+    apart a b less = grind (arith, nat_tests)
+
+pub rises_cut : (slots : List SlotState) (slot : ℕ) (a : SlotState) (code : List ℕ) → slice_get slots slot ≡ Some a → has_key a code ≡ true
+    → Rises (from_cut (length slots) slot) slots (slice_set slots slot (part_below code a) ++ part_from code a ∷ [])
+rises_cut slots slot a code here inside = record {
+  from = λ i b h. elim (split_place slots slot (part_below code a) (part_from code a) b i h) [
+    | inl e ↦ (
+      a,
+      ap (slice_get slots) (from_other (length slots) slot i (subst (λ j. j < length slots) (sym e.0) (slice_get_within slots slot a here)) ∙ e.0) ∙ here,
+      subst (λ (c : SlotState). a.floor ≤ c.floor) (sym e.1) (omega arith),
+      λ key k. (below_parts code a key inside (subst (λ (c : SlotState). has_key c key ≡ true) e.1 k)).0,
+    )
+    | inr other ↦ (elim other [
+      | inl e ↦ (
+        a,
+        ap (slice_get slots) (from_new (length slots) slot i e.0) ∙ here,
+        subst (λ (c : SlotState). a.floor ≤ c.floor) (sym e.1) (omega arith),
+        λ key k. (from_parts code a key inside (subst (λ (c : SlotState). has_key c key ≡ true) e.1 k)).0,
+      )
+      | inr e ↦ (
+        b,
+        ap (slice_get slots) (from_other (length slots) slot i (slice_get_within slots i b e.0)) ∙ e.0,
+        omega arith,
+        λ key k. k,
+      )
+    ])
+  ];
+}
+
+-- what is prepared at no slot of this number or above it is above any timestamp there
+above_beyond : (s count i : ℕ) → count ≤ i → (ts : List OpenTransaction) → AllByRecursion (IsHolding count) ts → AllByRecursion (IsAbove s i) ts
+above_beyond s count i high ts all = all_weaker (IsHolding count) (IsAbove s i)
+    (λ t h. all_weaker (λ (p : Prepared). p.slot < count) (λ (p : Prepared). p.slot ≡ i → s < p.timestamp) (λ p low e. absurd (omega arith)) t.prepared h.within) ts all
+
+above_cut : (s count slot i : ℕ) (ts : List OpenTransaction) → AllByRecursion (IsHolding count) ts → AllByRecursion (IsAbove s (from_cut count slot i)) ts → AllByRecursion (IsAbove s i) ts
+above_cut s count slot i ts holding = elim (i == count) as (λ v. (i == count) ≡ v → AllByRecursion (IsAbove s (cond v slot i)) ts → AllByRecursion (IsAbove s i) ts) [
+  | true ↦ λ e above. let at : i ≡ count = number_same i count e in above_beyond s count i (omega arith) ts holding
+  | false ↦ λ e above. above
+] refl
+
 -- a step keeps what is sealed, and the log's changes of the directory at s
 pub record Keeps (schema : List Table) (root : Root) (s : ℕ) (m : Machine) (a : Answer) : Type 0 where
   pub seal : IsSealed schema root s a.1
   pub same : changes_at schema root (upto a.1.log s) ≡ changes_at schema root (upto m.log s)
 
-module _ (schema : List Table) (root : Root) (is : IsRoot schema root) (s : ℕ) (m : Machine) (sealed : IsSealed schema root s m) where
+module _ (schema : List Table) (root : Root) (is : IsRoot schema root) (s : ℕ) (m : Machine) (holding : AreHolding m) (sealed : IsSealed schema root s m) where
   pub kept_as_is : (a : Answer) → a.1 ≡ m → Keeps schema root s m a
   kept_as_is a e = record {
     seal = subst (IsSealed schema root s) (sym e) sealed;
@@ -183,13 +239,15 @@ module _ (schema : List Table) (root : Root) (is : IsRoot schema root) (s : ℕ)
     applies = λ owner txn slot interval t slot_state found here accepted. applied_keeps t.decision owner txn slot t;
     advances = λ slot interval slot_state here. kept_by (advanced m slot interval slot_state) (rises_set m.slots slot slot_state (record slot_state { floor = max slot_state.floor interval.latest }) here (omega arith) (λ _ k. k)) (λ i b h k all. all) refl;
     trims = λ slot horizon slot_state here accepted. kept_by (trimmed schema m slot horizon slot_state) (rises_set m.slots slot slot_state (with_horizon horizon slot_state) here (omega arith) (λ _ k. k)) (λ i b h k all. all) refl;
-    opens = λ text params bound interval asked is accepted. kept_by (opened m asked (timestamp_of bound interval)) (rises_same m.slots) (λ i b h k all. all) refl;
+    opens = λ text params bound interval asked is accepted. kept_by (opened schema m text params asked (timestamp_of bound interval)) (rises_same m.slots) (λ i b h k all. all) refl;
     finds_nothing = λ query leaf slot interval. kept_as_is (reply.Nothing, m) refl;
-    scans = λ query leaf slot interval q slot_state found here above safe.
-        kept_by (reply.Scanned, record (with_slot_state m slot (with_risen_floor slot_state q.s interval)) { queries = changed_first (is_query query) (cover leaf) m.queries }) (rises_risen slot q.s interval slot_state here) (λ i b h k all. all) refl;
+    scans = λ query leaf slot interval q slot_state l part found here at gap above safe.
+        kept_by (reply.Scanned, record (with_slot_state m slot (with_risen_floor slot_state q.s interval)) { queries = changed_first (is_query query) (cover leaf part) m.queries }) (rises_risen slot q.s interval slot_state here) (λ i b h k all. all) refl;
     waits = λ query leaf slot interval q slot_state found here. kept_by (Refused refusal.NotYet, with_slot_state m slot (with_risen_floor slot_state q.s interval)) (rises_risen slot q.s interval slot_state here) (λ i b h k all. all) refl;
     finishes = λ query q found covered. kept_as_is (answer_on q.s (meaning schema m q), m) refl;
     closes = λ query q found. kept_by (closed m query q) (rises_same m.slots) (λ i b h k all. all) refl;
+    splits = λ table key code slot slot_state keyed home here accepted. kept_from (from_cut (length m.slots) slot) (split_in_two m slot code slot_state) (rises_cut m.slots slot slot_state code here (found_has m.slots code slot slot_state home here))
+        (λ i b h k above. above_cut s (length m.slots) slot i m.transactions holding above) refl;
   }
 
   -- no step changes what is sealed

@@ -1,9 +1,7 @@
-use Rattle.std.proofs.Common.{◌≡◌, ℕ, ◌<◌, ◌≤◌, true, not, ◌||◌, ◌==◌, nat_lt, nat_le, List, [], ◌∷◌, length, Some, refl, ap, sym, ◌∙◌, subst, inl, inr, arith}
+use Rattle.std.proofs.Common.{◌≡◌, ℕ, ◌<◌, ◌≤◌, true, not, ◌||◌, ◌==◌, nat_lt, nat_le, List, [], ◌∷◌, Some, refl, ap, sym, ◌∙◌, subst, inl, inr, arith}
 use Rattle.std.specs.Prelude.{slice_get, slice_set}
 use Rattle.std.proofs.lemmas.Bool.Decides.{nat_tests}
-use Rattle.std.proofs.lemmas.Option.{slice_get_within}
-use Rattle.std.proofs.lemmas.List.{length-set}
-use Rattle.std.specs.List.{AllByRecursion, list_all, list_any}
+use Rattle.std.specs.List.{AllByRecursion, list_all}
 use Rattle.span_truetime.specs.Time.{timestamp_of}
 use Rattle.span_machine.specs.declared.slot.SlotState.{SlotState}
 use Rattle.span_machine.specs.declared.query.OpenQuery.{OpenQuery}
@@ -13,15 +11,21 @@ use Rattle.span_machine.specs.declared.transaction.Decision.TheVariants as decis
 use Rattle.span_machine.specs.declared.step.Step.{Step}
 use Rattle.span_machine.specs.declared.step.Reply.{Reply}
 use Rattle.span_machine.specs.Tables.{upto}
-use Rattle.span_machine.specs.Machine.{Machine, Understanding, Steps, answer, start, holds, with_risen_floor, with_slot_state, is_covered, as_opened, cover, changed_first, is_query, is_safe, applied_at}
+use Rattle.span_keycode.specs.declared.range.KeyRange.{KeyRange}
+use Rattle.span_keycode.specs.Parts.{is_within, part_between}
+use Rattle.span_keycode.proofs.PartLaws.{part_within, gap_within}
+use Rattle.span_machine.specs.declared.query.ScanLeaf.{ScanLeaf}
+use Rattle.span_machine.specs.Slots.{has_key, root_code}
+use Rattle.span_machine.specs.Machine.{Machine, Understanding, Steps, answer, start, holds, with_risen_floor, with_slot_state, as_opened, cover, gap_in, changed_first, is_query, is_safe, applied_at}
 use Rattle.span_machine.specs.Run.{Run}
-use Rattle.span_machine.proofs.Leaves.{none_covered}
 use Rattle.span_machine_laws.proofs.Tests.{first_true, second_true}
-use Rattle.span_machine_laws.proofs.Lists.{set_here, all_push, all_without, all_true, all_weaker, all_changed_found}
+use Rattle.span_machine_laws.proofs.Lists.{slice_get-set, set_here, all_push, all_without, all_true, all_weaker, all_found, all_changed_found}
+use Rattle.span_machine_laws.proofs.Pieces.{AllCovered, none_covered, all_covered_piece}
+use Rattle.span_machine_laws.proofs.Ranges.{HasRanges, home_only}
 use Rattle.span_machine_laws.proofs.Stability.{changes_at}
 use Rattle.span_machine_laws.proofs.Sealed.{IsSealed, IsAbove, answer_keeps}
 use Rattle.span_machine_laws.proofs.Walks.{Ends, answer_by}
-use Rattle.span_machine_laws.proofs.Holdings.{answer_slots}
+use Rattle.span_machine_laws.proofs.Holdings.{AreHolding, answer_holding}
 use Rattle.span_schema.specs.declared.table.Table.{Table}
 use Rattle.span_mutate.specs.Directories.{Root}
 use Rattle.span_machine_laws.proofs.Locality.{IsRoot}
@@ -31,12 +35,15 @@ use Rattle.std.specs.Prelude.{Result}
 
 -- ---- the invariant
 
--- what a query with a covered leaf is to see is sealed
+-- the directories whose root rows are within a range of keys are sealed at s
+abbrev pub IsPartSealed : List Table → Machine → ℕ → KeyRange → Type 0
+IsPartSealed schema m s part = (root : Root) → IsRoot schema root → is_within part (root_code schema root) ≡ true → IsSealed schema root s m
+
+-- what a query is to see in the pieces that cover its leaves is sealed
 abbrev pub IsCoveredSealed : List Table → Machine → OpenQuery → Type 0
-IsCoveredSealed schema m q = list_any is_covered q.leaves ≡ true → (root : Root) → IsRoot schema root → IsSealed schema root q.s m
+IsCoveredSealed schema m q = AllByRecursion (AllCovered (IsPartSealed schema m q.s)) q.leaves
 
 pub record IsSound (schema : List Table) (m : Machine) : Type 0 where
-  pub one_slot : length m.slots ≡ 1
   pub queries : AllByRecursion (IsCoveredSealed schema m) m.queries
 
 -- what the step leaves sealed for each query, where it keeps what was sealed
@@ -64,20 +71,26 @@ module _ (schema : List Table) (m : Machine) (sound : IsSound schema m) where
             m.transactions (second_true (nat_le s slot_state.floor) _ safe),
       )
 
-  -- there is one slot
-  only_slot : (slot i : ℕ) (before b : SlotState) (slots : List SlotState) → length slots ≡ length m.slots → slice_get m.slots slot ≡ Some before → slice_get slots i ≡ Some b → i ≡ slot
-  only_slot slot i before b slots len here h = let within = slice_get_within slots i b h in let slot_within = slice_get_within m.slots slot before here in let one = sound.one_slot in omega arith
-
-  -- a slot that is safe is sealed
-  pub sealed_by_scan : (slot s : ℕ) (before slot_state : SlotState) (queries : List OpenQuery) (root : Root) → slice_get m.slots slot ≡ Some before → is_safe m slot slot_state s ≡ true → IsSealed schema root s (record (with_slot_state m slot slot_state) { queries = queries })
-  sealed_by_scan slot s before slot_state queries root here safe =
-      let same_slot : (i : ℕ) (b : SlotState) → slice_get (slice_set m.slots slot slot_state) i ≡ Some b → i ≡ slot = λ i b h. only_slot slot i before b (slice_set m.slots slot slot_state) (length-set m.slots slot slot_state) here h in
+  -- the directories of a slot that is safe are sealed
+  pub sealed_by_scan : HasRanges schema m → (slot s : ℕ) (before slot_state : SlotState) (queries : List OpenQuery) (root : Root) → slice_get m.slots slot ≡ Some before → holds schema before root ≡ true → is_safe m slot slot_state s ≡ true
+      → IsSealed schema root s (record (with_slot_state m slot slot_state) { queries = queries })
+  sealed_by_scan ranges slot s before slot_state queries root here held safe =
+      let only : (i : ℕ) (b : SlotState) → slice_get (slice_set m.slots slot slot_state) i ≡ Some b → holds schema b root ≡ true → i ≡ slot =
+      λ i b h k. elim (slice_get-set m.slots slot i slot_state b h) [
+        | inl e ↦ e.0
+        | inr g ↦ home_only schema m ranges root slot before here held i b g k
+      ] in
       let above = above_of_safe slot s slot_state safe in
       record {
-        floors = λ i b h k. let is : b ≡ slot_state = set_here m.slots slot slot_state b (subst (λ j. slice_get (slice_set m.slots slot slot_state) j ≡ Some b) (same_slot i b h) h) in
+        floors = λ i b h k. let is : b ≡ slot_state = set_here m.slots slot slot_state b (subst (λ j. slice_get (slice_set m.slots slot slot_state) j ≡ Some b) (only i b h k) h) in
             subst (λ (c : SlotState). s ≤ c.floor) (sym is) above.0;
-        prepared = λ i b h k. subst (λ j. AllByRecursion (IsAbove s j) m.transactions) (sym (same_slot i b h)) above.1;
+        prepared = λ i b h k. subst (λ j. AllByRecursion (IsAbove s j) m.transactions) (sym (only i b h k)) above.1;
       }
+
+  -- what is within an uncovered part of a leaf in the slot, the slot has
+  part_held : (slot_state : SlotState) (l : ScanLeaf) (part : KeyRange) (key : List ℕ) → gap_in slot_state l ≡ Some part → is_within part key ≡ true → has_key slot_state key ≡ true
+  part_held slot_state l part key gap within =
+      (part_within slot_state.lo slot_state.hi l.range key (gap_within (part_between slot_state.lo slot_state.hi l.range) l.covered part key gap within)).0
 
   -- what is safe now in the one slot that has the directory is sealed now
   pub sealed_when_safe : (slot s : ℕ) (slot_state : SlotState) (root : Root) → slice_get m.slots slot ≡ Some slot_state
@@ -95,8 +108,8 @@ module _ (schema : List Table) (m : Machine) (sound : IsSound schema m) where
   goes_applied decision.Aborted owner txn slot t = goes_same (applied_at decision.Aborted m owner txn slot t).1 refl
   goes_applied (decision.Committed ts) owner txn slot t = goes_same (applied_at (decision.Committed ts) m owner txn slot t).1 refl
 
-  sound_ends : (u : Result Statement Refusal) → Ends schema m u (λ step a. GoesSound schema m a.1)
-  sound_ends u = record {
+  sound_ends : HasRanges schema m → (u : Result Statement Refusal) → Ends schema m u (λ step a. GoesSound schema m a.1)
+  sound_ends ranges u = record {
     refuses = λ step why may. goes_same m refl;
     begins = λ owner ms accepted. goes_same _ refl;
     prepares = λ owner txn slot t slot_state found here accepted well room low. goes_same _ refl;
@@ -105,48 +118,54 @@ module _ (schema : List Table) (m : Machine) (sound : IsSound schema m) where
     applies = λ owner txn slot interval t slot_state found here accepted. goes_applied t.decision owner txn slot t;
     advances = λ slot interval slot_state here. goes_same _ refl;
     trims = λ slot h slot_state here accepted. goes_same _ refl;
-    opens = λ text params bound interval asked is accepted w. all_push (IsCoveredSealed schema _) m.queries (as_opened m.next_query (timestamp_of bound interval) asked)
-        (all_weaker (IsCoveredSealed schema m) (IsCoveredSealed schema _) w m.queries sound.queries) (λ bad. absurd (let none = none_covered asked.leaves in cc));
+    opens = λ text params bound interval asked is accepted w. all_push (IsCoveredSealed schema _) m.queries (as_opened schema m.next_query (timestamp_of bound interval) text params asked)
+        (all_weaker (IsCoveredSealed schema m) (IsCoveredSealed schema _) w m.queries sound.queries) (none_covered (IsPartSealed schema _ (timestamp_of bound interval)) schema asked.leaves);
     finds_nothing = λ query leaf slot interval. goes_same m refl;
-    scans = λ query leaf slot interval q slot_state found here above safe w.
-        let after : Machine = record (with_slot_state m slot (with_risen_floor slot_state q.s interval)) { queries = changed_first (is_query query) (cover leaf) m.queries } in
-        all_changed_found (IsCoveredSealed schema after) (is_query query) (cover leaf) m.queries q found (λ _ root is. sealed_by_scan slot q.s slot_state (with_risen_floor slot_state q.s interval) (changed_first (is_query query) (cover leaf) m.queries) root here safe)
-        (all_weaker (IsCoveredSealed schema m) (IsCoveredSealed schema after) w m.queries sound.queries);
+    scans = λ query leaf slot interval q slot_state l part found here at gap above safe w.
+        let after : Machine = record (with_slot_state m slot (with_risen_floor slot_state q.s interval)) { queries = changed_first (is_query query) (cover leaf part) m.queries } in
+        let old : AllByRecursion (IsCoveredSealed schema after) m.queries = all_weaker (IsCoveredSealed schema m) (IsCoveredSealed schema after) w m.queries sound.queries in
+        all_changed_found (IsCoveredSealed schema after) (is_query query) (cover leaf part) m.queries q found
+        (all_covered_piece (IsPartSealed schema after q.s) q.leaves leaf l part at (all_found (IsCoveredSealed schema after) (is_query query) m.queries q found old)
+        (λ root is within. sealed_by_scan ranges slot q.s slot_state (with_risen_floor slot_state q.s interval) (changed_first (is_query query) (cover leaf part) m.queries) root here (part_held slot_state l part (root_code schema root) gap within) safe))
+        old;
     waits = λ query leaf slot interval q slot_state found here. goes_same _ refl;
     finishes = λ query q found covered. goes_same m refl;
+    splits = λ table key code slot slot_state keyed home here accepted. goes_same _ refl;
     closes = λ query q found w. all_without (IsCoveredSealed schema _) (is_query query) m.queries (all_weaker (IsCoveredSealed schema m) (IsCoveredSealed schema _) w m.queries sound.queries);
   }
 
 -- every step leaves the machine sound
-pub answer_sound : (schema : List Table) (m : Machine) (u : Result Statement Refusal) → IsSound schema m → (step : Step) → IsSound schema (answer schema m u step).1
-answer_sound schema m u sound step = record {
-  one_slot = answer_slots schema m u step ∙ sound.one_slot;
-  queries = answer_by schema m u (λ s a. GoesSound schema m a.1) (sound_ends schema m sound u) step (λ q seals covered root is. (answer_keeps schema root is q.s m (seals covered root is) u step).seal);
+pub answer_sound : (schema : List Table) (m : Machine) (u : Result Statement Refusal) → HasRanges schema m → AreHolding m → IsSound schema m → (step : Step) → IsSound schema (answer schema m u step).1
+answer_sound schema m u ranges holding sound step = record {
+  queries = answer_by schema m u (λ s a. GoesSound schema m a.1) (sound_ends schema m sound ranges u) step
+      (λ q. all_weaker (AllCovered (IsPartSealed schema m q.s)) (AllCovered (IsPartSealed schema (answer schema m u step).1 q.s))
+      (λ l. all_weaker (IsPartSealed schema m q.s) (IsPartSealed schema (answer schema m u step).1 q.s) (λ part seals root is within. (answer_keeps schema root is q.s m holding (seals root is within) u step).seal) l.covered)
+      q.leaves);
 }
 
 pub start_sound : (schema : List Table) → IsSound schema start
-start_sound schema = record { one_slot = refl; queries = tt }
+start_sound schema = record { queries = tt }
 
 -- ---- whole runs
 
 -- one step, out of memory included
-pub step_sound : (understands : Understanding) (schema : List Table) (m : Machine) (step : Step) (r : Reply) (next : Machine) → Steps understands schema m step r next → IsSound schema m → IsSound schema next
-step_sound understands schema m step r next (inl e) sound = subst (IsSound schema) (sym e.2.1) (answer_sound schema m e.0 sound step)
-step_sound understands schema m step r next (inr e) sound = subst (IsSound schema) (sym e.1.1) sound
-
-pub step_keeps : (understands : Understanding) (schema : List Table) (root : Root) → IsRoot schema root → (s : ℕ) (m : Machine) (step : Step) (r : Reply) (next : Machine) → Steps understands schema m step r next → IsSealed schema root s m
+pub step_keeps : (understands : Understanding) (schema : List Table) (root : Root) → IsRoot schema root → (s : ℕ) (m : Machine) (step : Step) (r : Reply) (next : Machine) → Steps understands schema m step r next → AreHolding m → IsSealed schema root s m
     → IsSealed schema root s next × (changes_at schema root (upto next.log s) ≡ changes_at schema root (upto m.log s))
-step_keeps understands schema root is s m step r next (inl e) sealed =
-    let k = answer_keeps schema root is s m sealed e.0 step in
+step_keeps understands schema root is s m step r next (inl e) holding sealed =
+    let k = answer_keeps schema root is s m holding sealed e.0 step in
     (subst (IsSealed schema root s) (sym e.2.1) k.seal, ap (λ (n : Machine). changes_at schema root (upto n.log s)) e.2.1 ∙ k.same)
-step_keeps understands schema root is s m step r next (inr e) sealed = (subst (IsSealed schema root s) (sym e.1.1) sealed, ap (λ (n : Machine). changes_at schema root (upto n.log s)) e.1.1)
+step_keeps understands schema root is s m step r next (inr e) holding sealed = (subst (IsSealed schema root s) (sym e.1.1) sealed, ap (λ (n : Machine). changes_at schema root (upto n.log s)) e.1.1)
+
+step_holding : (understands : Understanding) (schema : List Table) (m : Machine) (step : Step) (r : Reply) (next : Machine) → Steps understands schema m step r next → AreHolding m → AreHolding next
+step_holding understands schema m step r next (inl e) holding = subst AreHolding (sym e.2.1) (answer_holding schema m e.0 holding step)
+step_holding understands schema m step r next (inr e) holding = subst AreHolding (sym e.1.1) holding
 
 -- a run leaves the changes of a sealed directory
-pub run_keeps : (understands : Understanding) (schema : List Table) (root : Root) → IsRoot schema root → (s : ℕ) (m : Machine) (steps : List Step) (replies : List Reply) (last : Machine) → Run understands schema m steps replies last → IsSealed schema root s m
+pub run_keeps : (understands : Understanding) (schema : List Table) (root : Root) → IsRoot schema root → (s : ℕ) (m : Machine) (steps : List Step) (replies : List Reply) (last : Machine) → Run understands schema m steps replies last → AreHolding m → IsSealed schema root s m
     → changes_at schema root (upto last.log s) ≡ changes_at schema root (upto m.log s)
-run_keeps understands schema root is s m [] [] last run sealed = ap (λ (n : Machine). changes_at schema root (upto n.log s)) run
-run_keeps understands schema root is s m [] (r ∷ rs) last run sealed = absurd run
-run_keeps understands schema root is s m (x ∷ xs) [] last run sealed = absurd run
-run_keeps understands schema root is s m (x ∷ xs) (r ∷ rs) last run sealed =
-    let one = step_keeps understands schema root is s m x r run.0 run.1 sealed in
-    run_keeps understands schema root is s run.0 xs rs last run.2 one.0 ∙ one.1
+run_keeps understands schema root is s m [] [] last run holding sealed = ap (λ (n : Machine). changes_at schema root (upto n.log s)) run
+run_keeps understands schema root is s m [] (r ∷ rs) last run holding sealed = absurd run
+run_keeps understands schema root is s m (x ∷ xs) [] last run holding sealed = absurd run
+run_keeps understands schema root is s m (x ∷ xs) (r ∷ rs) last run holding sealed =
+    let one = step_keeps understands schema root is s m x r run.0 run.1 holding sealed in
+    run_keeps understands schema root is s run.0 xs rs last run.2 (step_holding understands schema m x r run.0 run.1 holding) one.0 ∙ one.1

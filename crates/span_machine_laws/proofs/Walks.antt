@@ -12,17 +12,20 @@ use Rattle.span_truetime.specs.Time.{timestamp_of}
 use Rattle.span_params.specs.declared.params.Parameter.{Parameter}
 use Rattle.span_query.specs.declared.query.Statement.{Statement}
 use Rattle.span_machine.specs.declared.query.OpenQuery.{OpenQuery}
-use Rattle.span_machine.specs.declared.query.Leaf.{Leaf}
+use Rattle.span_machine.specs.declared.query.ScanLeaf.{ScanLeaf}
+use Rattle.span_keycode.specs.declared.range.KeyRange.{KeyRange}
+use Rattle.span_value.specs.declared.value.Value.{Value}
+use Rattle.span_mutate.specs.RootKeys.{root_key}
 use Rattle.span_machine.specs.declared.slot.SlotState.{SlotState}
 use Rattle.span_machine.specs.declared.step.Step.{Step}
-use Rattle.span_machine.specs.declared.step.Step.TheVariants.{Begin, Prepare, Decide, Apply, Advance, Trim, Open, Scan, Finish, Close}
+use Rattle.span_machine.specs.declared.step.Step.TheVariants.{Begin, Prepare, Decide, Apply, Advance, Trim, Open, Scan, Finish, Close, Split}
 use Rattle.span_machine.specs.declared.step.Reply.TheVariants as reply
 use Rattle.span_machine.specs.declared.step.Reply.TheVariants.{Refused}
 use Rattle.span_machine.specs.declared.step.Verdict.{Verdict}
 use Rattle.span_machine.specs.declared.step.Verdict.TheVariants as verdict
 use Rattle.span_machine.specs.declared.transaction.OpenTransaction.{OpenTransaction}
 use Rattle.span_value.specs.Results.{first_cause}
-use Rattle.span_machine.specs.Machine.{Machine, Answer, answer, refused, if_some, unless_refused, for_transaction, for_slot, for_query, is_transaction, is_query, is_safe, is_undecided, begin_refusal, begun, mutations_refusal, capacity_refusal, prepare_timestamp, prepare_refusal, prepared, prepare_transaction, prepare, mutations_in, commit_timestamp, commit_refusal, committed, aborted, decide_transaction, decide, applied_at, apply_refusal, apply_transaction, apply_step, advanced, trim_refusal, trimmed, trim_slot, open_refusal, opened, open_query, with_risen_floor, with_slot_state, is_covered, cover, changed_first, scanned, scan_gap, scan_leaf, scan_query, scan, answer_on, meaning, finish_query, finish, closed}
+use Rattle.span_machine.specs.Machine.{Machine, Answer, answer, refused, if_some, unless_refused, for_transaction, for_slot, for_query, is_transaction, is_query, is_safe, is_undecided, begin_refusal, begun, mutations_refusal, capacity_refusal, prepare_timestamp, prepare_refusal, prepared, prepare_transaction, prepare, mutations_in, commit_timestamp, commit_refusal, committed, aborted, decide_transaction, decide, applied_at, apply_refusal, apply_transaction, apply_step, advanced, trim_refusal, trimmed, trim_slot, open_refusal, opened, open_query, with_risen_floor, with_slot_state, is_covered, cover, gap_in, changed_first, scanned, scan_gap, scan_leaf, scan_query, scan, answer_on, meaning, finish_query, finish, closed, slot_of, split_refusal, split_in_two, split_slot, split_at, split}
 use Rattle.span_machine_laws.proofs.Causes.{may_abort}
 
 -- a Finish is refused for an arithmetic fault only by what its query means
@@ -46,14 +49,17 @@ pub record Ends (schema : List Table) (m : Machine) (u : Result Statement Refusa
   pub advances : (slot : ℕ) (interval : Interval) (slot_state : SlotState) → slice_get m.slots slot ≡ Some slot_state → P (Advance slot interval) (advanced m slot interval slot_state)
   pub trims : (slot h : ℕ) (slot_state : SlotState) → slice_get m.slots slot ≡ Some slot_state → trim_refusal m slot h slot_state ≡ None → P (Trim slot h) (trimmed schema m slot h slot_state)
   pub opens : (text : List ℕ) (params : List Parameter) (bound : Bound) (interval : Interval) (asked : Statement) → u ≡ Ok asked → open_refusal m bound interval ≡ None
-      → P (Open text params bound interval) (opened m asked (timestamp_of bound interval))
+      → P (Open text params bound interval) (opened schema m text params asked (timestamp_of bound interval))
   pub finds_nothing : (query leaf slot : ℕ) (interval : Interval) → P (Scan query leaf slot interval) (reply.Nothing, m)
-  pub scans : (query leaf slot : ℕ) (interval : Interval) (q : OpenQuery) (slot_state : SlotState) → find (is_query query) m.queries ≡ Some q → slice_get m.slots slot ≡ Some slot_state → nat_lt q.s slot_state.horizon ≡ false → is_safe m slot (with_risen_floor slot_state q.s interval) q.s ≡ true
-      → P (Scan query leaf slot interval) (reply.Scanned, record (with_slot_state m slot (with_risen_floor slot_state q.s interval)) { queries = changed_first (is_query query) (cover leaf) m.queries })
+  pub scans : (query leaf slot : ℕ) (interval : Interval) (q : OpenQuery) (slot_state : SlotState) (l : ScanLeaf) (part : KeyRange) → find (is_query query) m.queries ≡ Some q → slice_get m.slots slot ≡ Some slot_state
+      → slice_get q.leaves leaf ≡ Some l → gap_in slot_state l ≡ Some part → nat_lt q.s slot_state.horizon ≡ false → is_safe m slot (with_risen_floor slot_state q.s interval) q.s ≡ true
+      → P (Scan query leaf slot interval) (reply.Scanned, record (with_slot_state m slot (with_risen_floor slot_state q.s interval)) { queries = changed_first (is_query query) (cover leaf part) m.queries })
   pub waits : (query leaf slot : ℕ) (interval : Interval) (q : OpenQuery) (slot_state : SlotState) → find (is_query query) m.queries ≡ Some q → slice_get m.slots slot ≡ Some slot_state
       → P (Scan query leaf slot interval) (Refused refusal.NotYet, with_slot_state m slot (with_risen_floor slot_state q.s interval))
   pub finishes : (query : ℕ) (q : OpenQuery) → find (is_query query) m.queries ≡ Some q → list_all is_covered q.leaves ≡ true → P (Finish query) (answer_on q.s (meaning schema m q), m)
   pub closes : (query : ℕ) (q : OpenQuery) → find (is_query query) m.queries ≡ Some q → P (Close query) (closed m query q)
+  pub splits : (table : List ℕ) (key : List Value) (code : List ℕ) (slot : ℕ) (slot_state : SlotState) → root_key schema table key ≡ Some code → slot_of m.slots code ≡ Some slot → slice_get m.slots slot ≡ Some slot_state
+      → split_refusal m slot code slot_state ≡ None → P (Split table key) (split_in_two m slot code slot_state)
 
 module _ (schema : List Table) (m : Machine) (u : Result Statement Refusal) (P : Step → Answer → Type 0) (ends : Ends schema m u P) where
   by_cond : (step : Step) (b : Bool) (x y : Answer) → (b ≡ true → P step x) → (b ≡ false → P step y) → P step (cond b x y)
@@ -106,28 +112,44 @@ module _ (schema : List Table) (m : Machine) (u : Result Statement Refusal) (P :
       by_slot (Apply owner txn slot interval) tt slot (apply_transaction m owner txn slot interval t) (λ slot_state here.
       by_refusal (Apply owner txn slot interval) (λ why. tt) (apply_refusal slot t interval) (applied_at t.decision m owner txn slot t) (λ accepted. ends.applies owner txn slot interval t slot_state found here accepted)))
 
+  -- what is left of a Scan whose leaf has an uncovered part in the slot
+  scan_gap_by : (query leaf slot : ℕ) (interval : Interval) (q : OpenQuery) (l : ScanLeaf) (slot_state : SlotState) (part : KeyRange) → find (is_query query) m.queries ≡ Some q → slice_get q.leaves leaf ≡ Some l → slice_get m.slots slot ≡ Some slot_state
+      → gap_in slot_state l ≡ Some part → P (Scan query leaf slot interval) (scan_gap m query leaf slot interval q slot_state part)
+  scan_gap_by query leaf slot interval q l slot_state part found at here gap =
+      by_cond (Scan query leaf slot interval) (nat_lt q.s slot_state.horizon) (refused m refusal.Trimmed) (scanned m query leaf part slot (with_risen_floor slot_state q.s interval) q.s) (λ _. ends.refuses (Scan query leaf slot interval) refusal.Trimmed tt) (λ above.
+      by_cond (Scan query leaf slot interval) (is_safe m slot (with_risen_floor slot_state q.s interval) q.s) (reply.Scanned, record (with_slot_state m slot (with_risen_floor slot_state q.s interval)) { queries = changed_first (is_query query) (cover leaf part) m.queries }) (Refused refusal.NotYet, with_slot_state m slot (with_risen_floor slot_state q.s interval))
+      (λ safe. ends.scans query leaf slot interval q slot_state l part found here at gap above safe)
+      (λ _. ends.waits query leaf slot interval q slot_state found here))
+
   -- what is left of a Scan whose query is found
-  scan_leaf_by : (query leaf slot : ℕ) (interval : Interval) (q : OpenQuery) (l : Leaf) → find (is_query query) m.queries ≡ Some q → P (Scan query leaf slot interval) (for_slot m slot (scan_leaf m query leaf slot interval q l))
-  scan_leaf_by query leaf slot interval q l found = by_slot (Scan query leaf slot interval) tt slot (scan_leaf m query leaf slot interval q l) (λ slot_state here.
-      by_cond (Scan query leaf slot interval) l.covered (reply.Nothing, m) (scan_gap m query leaf slot interval q slot_state) (λ _. ends.finds_nothing query leaf slot interval) (λ _.
-      by_cond (Scan query leaf slot interval) (nat_lt q.s slot_state.horizon) (refused m refusal.Trimmed) (scanned m query leaf slot (with_risen_floor slot_state q.s interval) q.s) (λ _. ends.refuses (Scan query leaf slot interval) refusal.Trimmed tt) (λ above.
-      by_cond (Scan query leaf slot interval) (is_safe m slot (with_risen_floor slot_state q.s interval) q.s) (reply.Scanned, record (with_slot_state m slot (with_risen_floor slot_state q.s interval)) { queries = changed_first (is_query query) (cover leaf) m.queries }) (Refused refusal.NotYet, with_slot_state m slot (with_risen_floor slot_state q.s interval))
-      (λ safe. ends.scans query leaf slot interval q slot_state found here above safe)
-      (λ _. ends.waits query leaf slot interval q slot_state found here))))
+  scan_leaf_by : (query leaf slot : ℕ) (interval : Interval) (q : OpenQuery) (l : ScanLeaf) → find (is_query query) m.queries ≡ Some q → slice_get q.leaves leaf ≡ Some l → P (Scan query leaf slot interval) (for_slot m slot (scan_leaf m query leaf slot interval q l))
+  scan_leaf_by query leaf slot interval q l found at = by_slot (Scan query leaf slot interval) tt slot (scan_leaf m query leaf slot interval q l) (λ slot_state here.
+      by_part (gap_in slot_state l) (reply.Nothing, m) (scan_gap m query leaf slot interval q slot_state) (λ _. ends.finds_nothing query leaf slot interval) (λ part gap. scan_gap_by query leaf slot interval q l slot_state part found at here gap))
+    where
+      by_part : (o : Option KeyRange) (miss : Answer) (make : KeyRange → Answer) → (o ≡ None → P (Scan query leaf slot interval) miss) → ((part : KeyRange) → o ≡ Some part → P (Scan query leaf slot interval) (make part)) → P (Scan query leaf slot interval) (if_some o miss make)
+      by_part None miss make p r = p refl
+      by_part (Some part) miss make p r = r part refl
 
   scan_by : (query leaf slot : ℕ) (interval : Interval) → P (Scan query leaf slot interval) (scan m query leaf slot interval)
   scan_by query leaf slot interval = by_query (Scan query leaf slot interval) tt query (scan_query m query leaf slot interval) (λ q found.
-      by_some (Scan query leaf slot interval) (slice_get q.leaves leaf) refusal.UnknownQuery tt (λ (l : Leaf). for_slot m slot (scan_leaf m query leaf slot interval q l)) (λ l _. scan_leaf_by query leaf slot interval q l found))
+      by_some (Scan query leaf slot interval) (slice_get q.leaves leaf) refusal.UnknownQuery tt (λ (l : ScanLeaf). for_slot m slot (scan_leaf m query leaf slot interval q l)) (λ l at. scan_leaf_by query leaf slot interval q l found at))
 
   finish_by : (query : ℕ) → P (Finish query) (finish schema m query)
   finish_by query = by_query (Finish query) (λ e. cc) query (finish_query schema m) (λ q found.
       by_cond (Finish query) (list_all is_covered q.leaves) (answer_on q.s (meaning schema m q), m) (refused m refusal.Incomplete) (λ covered. ends.finishes query q found covered) (λ _. ends.refuses (Finish query) refusal.Incomplete (λ e. cc)))
 
-  open_by : (text : List ℕ) (params : List Parameter) (bound : Bound) (interval : Interval) → P (Open text params bound interval) (open_query m u bound interval)
-  open_by text params bound interval = elim u as (λ v. u ≡ v → P (Open text params bound interval) (open_query m v bound interval)) [
+  open_by : (text : List ℕ) (params : List Parameter) (bound : Bound) (interval : Interval) → P (Open text params bound interval) (open_query schema m u text params bound interval)
+  open_by text params bound interval = elim u as (λ v. u ≡ v → P (Open text params bound interval) (open_query schema m v text params bound interval)) [
     | Err why ↦ λ e. ends.refuses (Open text params bound interval) why tt
-    | Ok asked ↦ λ e. by_refusal (Open text params bound interval) (λ why. tt) (open_refusal m bound interval) (opened m asked (timestamp_of bound interval)) (λ accepted. ends.opens text params bound interval asked e accepted)
+    | Ok asked ↦ λ e. by_refusal (Open text params bound interval) (λ why. tt) (open_refusal m bound interval) (opened schema m text params asked (timestamp_of bound interval)) (λ accepted. ends.opens text params bound interval asked e accepted)
   ] refl
+
+  split_by : (table : List ℕ) (key : List Value) → P (Split table key) (split schema m table key)
+  split_by table key =
+      by_some (Split table key) (root_key schema table key) refusal.BadSplit tt (split_at m) (λ code is.
+      by_some (Split table key) (slot_of m.slots code) refusal.BadSplit tt (λ slot. for_slot m slot (split_slot m slot code)) (λ slot home.
+      by_slot (Split table key) tt slot (split_slot m slot code) (λ slot_state here.
+      by_refusal (Split table key) (λ why. tt) (split_refusal m slot code slot_state) (split_in_two m slot code slot_state) (λ accepted. ends.splits table key code slot slot_state is home here accepted))))
 
   -- what holds at each end of a step holds of the step
   pub answer_by : (step : Step) → P step (answer schema m u step)
@@ -142,3 +164,4 @@ module _ (schema : List Table) (m : Machine) (u : Result Statement Refusal) (P :
   answer_by (Scan query leaf slot interval) = scan_by query leaf slot interval
   answer_by (Finish query) = finish_by query
   answer_by (Close query) = by_query (Close query) tt query (closed m query) (λ q found. ends.closes query q found)
+  answer_by (Split table key) = split_by table key

@@ -1,10 +1,11 @@
 //! The laws of the machine, on lists alone: no code runs here.
 //!
 //! `proofs/` shows, step by step, that a commit touches only the directories of its mutations (Locality), that the ranges of slots tile
-//! the keys (Ranges), that what is at or below a slot's safe time is final (Sealed), that the commits of a directory rise along the log
-//! (InPlace, Claims, Placed), that the log is just what the replies commit (Known), and so that every run of the machine is a history;
-//! that each transaction is decided once (Decisions), and so that a history is externally consistent under an honest clock (Consistent).
-//! The crates with code cite these laws.
+//! the keys, also after a Split (Splits, Ranges), that what is at or below a slot's safe time is final (Sealed), that the commits of a
+//! directory rise along the log, in whichever slot has it (InPlace, Claims, Placed), that what a query is to see in the pieces that cover
+//! its leaves is final (Pieces, Sound, FamilyRows), that the log is just what the replies commit (Known), and so that every run of the
+//! machine is a history; that each transaction is decided once (Decisions), and so that a history is externally consistent under an
+//! honest clock (Consistent). The crates with code cite these laws.
 #![tactic(auto)]
 
 ghost use Rattle.std.specs.Prelude.{List};
@@ -30,7 +31,8 @@ pub trait Understanding {
 
 /// The theorem of the headline, for any language: whatever the machine may reply to steps from its start is a history. Its log
 /// holds just the commits that were answered, each applies at its place, and every answer has exactly the rows that its query means on
-/// the tables of all of them. The schema meets its rules, and the transactions that are begun were checked against it.
+/// the tables of all of them. The schema meets its rules, the transactions that are begun were checked against it, and the keys at which
+/// slots are cut are of values.
 pub fn runs_are_histories<U: Understanding>()
     ensures { (schema : List Table)
         → MeetsRules schema
@@ -40,7 +42,8 @@ pub fn runs_are_histories<U: Understanding>()
         → IsHistory U.understands schema steps replies }
 {}
 
-/// In every machine that a run reaches, for any language, each coded key is in the range of one slot in use, and of no other.
+/// In every machine that a run reaches, with whatever splits, for any language, each coded key is in the range of one slot in use, and of no
+/// other.
 pub fn slots_tile_the_keys<U: Understanding>()
     ensures { (schema : List Table) (steps : List Step) (replies : List Reply) (last : Machine)
         → Run U.understands schema start steps replies last

@@ -21,7 +21,7 @@ front_stays : (ms ns : List ℕ) → 0 < length ms → get_or (ms ++ ns) 0 0 ≡
 front_stays [] ns h = absurd (let less : 0 < 0 = h in omega arith)
 front_stays (m ∷ ms) ns h = refl
 
-root_child : (tables : List Table) (i p : ℕ) → parent_at tables i ≡ Some p → root_at tables i ≡ root_at tables p
+pub root_child : (tables : List Table) (i p : ℕ) → parent_at tables i ≡ Some p → root_at tables i ≡ root_at tables p
 root_child tables i p e = ap (λ (ns : List ℕ). get_or ns 0 0) (path_child tables i p e) ∙ front_stays (path_at tables p) ((i + 1) ∷ []) (path_has tables p)
 
 pub number_here : (o : Option ℕ) (q : ℕ) → number_of o ≡ Some q → (p : ℕ) × (o ≡ Some p) × (q ≡ p + 1)

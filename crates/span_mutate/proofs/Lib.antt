@@ -14,6 +14,7 @@ pub mod NamedKinds
 pub mod Orders
 pub mod Parents
 pub mod Placing
+pub mod RootKeyLaws
 pub mod Runs
 pub mod TableLists
 pub mod Taking

@@ -1,5 +1,6 @@
 pub mod Columns
 pub mod Checking
+pub mod RootKeys
 pub mod Rows
 pub mod Database
 pub mod Faults

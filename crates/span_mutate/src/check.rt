@@ -2,7 +2,7 @@
 ghost use Rattle.std.specs.Prelude.{◌≡◌, ◌⊎◌, [], IfOk, MatchResult, None, Some, Ok, Err, take};
 ghost use Rattle.span_value.specs.Results.{first_cause};
 ghost use Rattle.span_schema.specs.Numbers.{IsTable, table_at};
-ghost use Rattle.span_keycode.specs.Keys.{IsCodedKey};
+ghost use Rattle.span_keycode.specs.Keys.{IsCodedKey, key_code};
 ghost use Rattle.span_mutate.specs.Typed.{IsTypedMutation};
 ghost use Rattle.span_mutate.specs.Checking.{key_causes, cell_causes, cells_cause, lack_causes, mutation_cause, checked, checked_at};
 
@@ -13,6 +13,7 @@ use super::column::{
 use super::mutation::{CheckedMutation, Mutation, MutationKind, NamedValue, is_delete, may_insert};
 use span_keycode::column::have_kinds;
 use span_keycode::encode::encode_key;
+use span_keycode::key::Key;
 use span_schema::schema::Schema;
 use span_schema::table::Table;
 use span_value::refusal::Refusal;
@@ -20,20 +21,21 @@ use span_value::seq::Seq;
 use span_value::value::Value;
 use std::alloc::Global;
 
-// Whether the key may be one of the table with this number.
-fn check_key(
+/// The coded key of the table with this number that has these values, if they may be a key of it.
+pub(crate) fn check_key(
     alloc: Global,
     schema: &Schema,
     number: usize,
     table: &Table,
     key: &[Value],
-) -> Result<(), Refusal>
+) -> Result<Key, Refusal>
     requires { IsTable schema.now number }
     ensures cause { MatchResult result
         (λ _. first_cause (key_causes schema.now number table.now key.now) ≡ None)
         (λ why.
         (first_cause (key_causes schema.now number table.now key.now) ≡ Some why) ⊎ (why ≡ Refusal.OutOfMemory)) }
     ensures coded { IfOk result (λ _. IsCodedKey schema.now number key.now) }
+    ensures code { IfOk result (λ coded. coded ≡ key_code schema.now number key.now) }
 {
     if !have_kinds(schema.key_columns(number), key) {
         return Err(Refusal::WrongType);
@@ -44,8 +46,7 @@ fn check_key(
     if has_long(table.columns.as_slice(), table.key.as_slice(), key) {
         return Err(Refusal::ValueTooLong);
     }
-    let _coded = encode_key(alloc, schema, number, key)?;
-    Ok(())
+    encode_key(alloc, schema, number, key)
 }
 
 // Whether a cell may follow those before it.
@@ -117,7 +118,7 @@ fn check_rules(
         (λ why. (mutation_cause schema.now number table.now mutation.now ≡ Some why) ⊎ (why ≡ Refusal.OutOfMemory)) }
     ensures coded { IfOk result (λ _. IsCodedKey schema.now number mutation.now.key) }
 {
-    check_key(alloc, schema, number, table, mutation.key.as_slice())?;
+    let _coded = check_key(alloc, schema, number, table, mutation.key.as_slice())?;
     check_cells(table, mutation.kind, mutation.cells.as_slice())?;
     check_required(table, mutation)?;
     Ok(())

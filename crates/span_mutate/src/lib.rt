@@ -8,5 +8,6 @@ pub mod directory;
 pub mod laws;
 pub mod mutation;
 pub mod root;
+pub mod root_key;
 pub mod row;
 pub mod transaction;

@@ -50,6 +50,11 @@ concat_map f (x ∷ xs) = append_results (f x) (concat_map f xs)
 abbrev pub singleton : {A : Type 0} → A → List A
 singleton x = x ∷ []
 
+-- the lists one after another
+abbrev pub joined : {A : Type 0} → List (List A) → List A
+joined [] = []
+joined (xs ∷ rest) = xs ++ joined rest
+
 -- what each gives, in order
 abbrev pub each : {A B : Type 0} → (A → OrFault B) → List A → OrFault (List B)
 each f xs = concat_map (λ x. option_map singleton (f x)) xs

@@ -1,8 +1,8 @@
 -- What a command has added to the answers.
 use Rattle.std.proofs.Common.{◌≡◌, ◌⊎◌, ℕ, List, ◌++◌, Result, Ok, Err, inl, inr, refl, sym, ap, subst, codes, false, ⊎_elim}
-use Rattle.std.specs.Prelude.{MatchOption, MatchResult, Option, None, Some}
+use Rattle.std.specs.Prelude.{MatchOption, MatchResult, Option, Some}
 use Rattle.span_value.specs.declared.refusal.Refusal.{Refusal}
-use Rattle.span_value.specs.declared.refusal.Refusal.TheVariants.{OutOfMemory, BadCommand}
+use Rattle.span_value.specs.declared.refusal.Refusal.TheVariants.{OutOfMemory, BadCommand, BadSplit}
 use Rattle.span_schema.specs.declared.table.Table.{Table}
 use Rattle.span_mutate.specs.declared.mutation.Mutation.{Mutation}
 use Rattle.span_mutate.specs.declared.mutation.CheckedMutation.{CheckedMutation}
@@ -16,7 +16,7 @@ use Rattle.span_script.specs.Lines.{refused_line, word_line}
 use Rattle.span_command.specs.declared.command.Command.{Command}
 use Rattle.span_command.specs.declared.command.Command.TheVariants as command
 use Rattle.span_machine.specs.declared.step.Step.{Step}
-use Rattle.span_script.specs.Scripts.{ScriptState, IsChanged, IsDone, IsRefused, IsReplied, numbered_step}
+use Rattle.span_script.specs.Scripts.{ScriptState, IsChanged, IsDone, IsRefused, IsReplied, IsSplit, RefusesDelete, numbered_step}
 use Rattle.span_script.specs.Sessions.{Adds, Changes}
 use Rattle.span_script.specs.Steps.{Takes, IsBegun, is_refused}
 
@@ -80,8 +80,16 @@ numbered schema (command.Clock earliest latest) state m answer next last s is x 
 numbered schema (command.Param name kind cell) state m answer next last s is x = cc
 numbered schema (command.Write kind table columns row) state m answer next last s is x = cc
 numbered schema (command.Delete table row) state m answer next last s is x = cc
+numbered schema (command.Split table row) state m answer next last s is x = cc
 numbered schema (command.Load table columns) state m answer next last s is x = cc
 numbered schema command.Begin state m answer next last s is x = cc
 numbered schema (command.Open bound text) state m answer next last s is x = cc
 numbered schema (command.Query bound text) state m answer next last s is x = cc
 numbered schema command.Shards state m answer next last s is x = cc
+
+-- a record that has no key to split at, or no memory to read it with
+pub split_refused : (schema : List Table) (m : Machine) (table row : List ℕ) (why answered : Refusal) → (why ≡ OutOfMemory) ⊎ RefusesDelete schema table row why
+    → (answered ≡ BadSplit) ⊎ ((answered ≡ OutOfMemory) × (why ≡ OutOfMemory)) → (why ≡ OutOfMemory → answered ≡ OutOfMemory) → IsSplit schema m table row (reply.Refused answered) m
+split_refused schema m table row why answered (inl memory) which on = inr (inr (ap (λ w. reply.Refused w) (on memory), refl))
+split_refused schema m table row why answered (inr refuses) (inl bad) on = inr (inl (ap (λ w. reply.Refused w) bad, refl, (why, refuses)))
+split_refused schema m table row why answered (inr refuses) (inr out) on = inr (inr (ap (λ w. reply.Refused w) out.0, refl))

@@ -7,7 +7,7 @@ use Rattle.span_command.specs.declared.line.Line.{Line}
 use Rattle.span_command.specs.declared.line.Line.TheVariants.{Text, Unreadable}
 use Rattle.span_command.specs.declared.line.Lines.{Lines}
 use Rattle.span_command.specs.Unread.{IsTaken, ReadsAs, Stands, TakesNext}
-use Rattle.span_script.specs.Scripts.{ScriptState, IsAnswered, HasText, AreLines, AreAnswers, IsAnswerText, IsFirst, end_answer}
+use Rattle.span_script.specs.Scripts.{ScriptState, HasText, AreLines, AreAnswers, IsAnswerText, IsFirst, end_answer}
 use Rattle.span_script.specs.Sessions.{AddsLine, text_of}
 use Rattle.span_script.proofs.Written.{wrote_all, wrote_none, wrote_pending, keeps_on, more_pending}
 

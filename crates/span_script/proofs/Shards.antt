@@ -1,62 +1,46 @@
 -- The lines of slots, one after another.
-use Rattle.std.proofs.Common.{◌≡◌, ◌∙◌, ◌+◌, ℕ, List, [], ◌∷◌, ◌++◌, refl, sym, ap, subst, length, append_assoc, arith, codes}
-use Rattle.std.proofs.lemmas.List.{append-nil, length-append}
+use Rattle.std.proofs.Common.{◌≡◌, ◌∙◌, ◌+◌, ℕ, zero, suc, List, [], ◌∷◌, ◌++◌, Some, refl, sym, ap, take, append_assoc, arith}
+use Rattle.std.proofs.lemmas.List.{append-nil}
+use Rattle.std.specs.Prelude.{slice_get}
 use Rattle.span_schema.specs.declared.table.Table.{Table}
+use Rattle.span_machine.specs.declared.slot.SlotState.{SlotState}
 use Rattle.span_machine.specs.Machine.{Machine}
-use Rattle.span_core.specs.declared.slot.SlotReport.{SlotReport}
-use Rattle.span_core.specs.Reports.{IsReport}
-use Rattle.span_script.specs.Lines.{AreStates, AreShards, Begins, slot_line, slot_lines, number_line}
+use Rattle.span_core.specs.declared.slot.SlotView.{SlotView}
+use Rattle.span_core.specs.Views.{IsView}
+use Rattle.span_script.specs.Lines.{line_of, slot_lines, slot_range, slot_times, slot_counts}
 
--- the lines after those before report the first slots
-abbrev pub AreReported : List Table → Machine → List ℕ → ℕ → List ℕ → Type 0
-AreReported schema m before slot lines = (states : List SlotReport) × (length states ≡ slot) × AreStates schema m 0 states × (lines ≡ before ++ slot_lines 0 states)
+-- the lines of the first slots, and of one more
+pub lines_push : (schema : List Table) (m : Machine) (from i : ℕ) (states : List SlotState) (state : SlotState) → slice_get states i ≡ Some state
+    → slot_lines schema m from (take (i + 1) states) ≡ slot_lines schema m from (take i states) ++ line_of schema m (from + i) state
+lines_push schema m from i [] state here = absurd (cc)
+lines_push schema m from zero (first ∷ states) state here =
+    let same : first ≡ state = cc in
+    let at : from + 0 ≡ from = omega arith in
+    append-nil (line_of schema m from first) ∙ ap (line_of schema m from) same ∙ ap (λ k. line_of schema m k state) (sym at)
+lines_push schema m from (suc i) (first ∷ states) state here =
+    let at : from + 1 + i ≡ from + suc i = omega arith in
+    let up : suc i + 1 ≡ suc (i + 1) = omega arith in
+    ap (λ k. slot_lines schema m from (take k (first ∷ states))) up
+    ∙ ap (λ (w : List ℕ). line_of schema m from first ++ w) (lines_push schema m (from + 1) i states state here ∙ ap (λ k. slot_lines schema m (from + 1) (take i states) ++ line_of schema m k state) at)
+    ∙ sym (append_assoc (line_of schema m from first) (slot_lines schema m (from + 1) (take i states)) (line_of schema m (from + suc i) state))
 
-pub none_reported : (schema : List Table) (m : Machine) (before : List ℕ) → AreReported schema m before 0 before
-none_reported schema m before = ([], refl, tt, sym (append-nil before))
+-- what is shown of a slot is its line
+pub line_shown : (schema : List Table) (m : Machine) (slot : ℕ) (view : SlotView) → (is : IsView schema m slot view)
+    → slot_range slot view.lo.now view.hi.now ++ slot_times view.last view.floor view.horizon ++ slot_counts view.live view.prepared ≡ line_of schema m slot is.slot_state
+line_shown schema m slot view is = rw (is.lo, is.hi, is.last, is.floor, is.horizon, is.live, is.prepared) refl
 
-states_push : (schema : List Table) (m : Machine) (slot : ℕ) (states : List SlotReport) (state : SlotReport) → AreStates schema m slot states → IsReport schema m (slot + length states) state
-    → AreStates schema m slot (states ++ state ∷ [])
-states_push schema m slot [] state are is =
-    let same : slot + 0 ≡ slot = omega arith in
-    (subst (λ k. IsReport schema m k state) same is, tt)
-states_push schema m slot (first ∷ states) state are is =
-    let same : slot + length (first ∷ states) ≡ slot + 1 + length states = omega arith in
-    (are.0, states_push schema m (slot + 1) states state are.1 (subst (λ k. IsReport schema m k state) same is))
-
-lines_push : (slot : ℕ) (states : List SlotReport) (state : SlotReport)
-    → slot_lines slot (states ++ state ∷ []) ≡ slot_lines slot states ++ slot_line (slot + length states) state
-lines_push slot [] state =
-    let same : slot + 0 ≡ slot = omega arith in
-    append-nil (slot_line slot state) ∙ ap (λ k. slot_line k state) (sym same)
-lines_push slot (first ∷ states) state =
-    let same : slot + length (first ∷ states) ≡ slot + 1 + length states = omega arith in
-    ap (λ (w : List ℕ). slot_line slot first ++ w) (lines_push (slot + 1) states state ∙ ap (λ k. slot_lines (slot + 1) states ++ slot_line k state) (sym same))
-    ∙ sym (append_assoc (slot_line slot first) (slot_lines (slot + 1) states) (slot_line (slot + length (first ∷ states)) state))
-
-pub one_more : (schema : List Table) (m : Machine) (before : List ℕ) (slot : ℕ) (lines : List ℕ) (state : SlotReport)
-    → AreReported schema m before slot lines → IsReport schema m slot state → AreReported schema m before (slot + 1) (lines ++ slot_line slot state)
-one_more schema m before slot lines state known is =
-    let states = known.0 in
-    let here : length states ≡ slot = known.1 in
-    let at : 0 + length states ≡ slot = omega (arith, here) in (
-      states ++ state ∷ [],
-      length-append states (state ∷ []) ∙ ap (λ k. k + 1) here,
-      states_push schema m 0 states state known.2 (subst (λ k. IsReport schema m k state) (sym at) is),
-      ap (λ (w : List ℕ). w ++ slot_line slot state) known.3
-          ∙ append_assoc before (slot_lines 0 states) (slot_line slot state)
-          ∙ ap (λ k. before ++ (slot_lines 0 states ++ slot_line k state)) (sym at)
-          ∙ ap (λ (w : List ℕ). before ++ w) (sym (lines_push 0 states state)),
-    )
-
-pub all_reported : (schema : List Table) (m : Machine) (old header lines : List ℕ) (n : ℕ) → n ≡ length m.slots
-    → header ≡ number_line (codes "shards") (length m.slots)
-    → AreReported schema m (old ++ header) n lines → (known : List ℕ) × AreShards schema m known × (lines ≡ old ++ known)
-all_reported schema m old header lines n all is known = (
-  header ++ slot_lines 0 known.0,
-  (known.0, known.1 ∙ all, known.2, ap (λ (w : List ℕ). w ++ slot_lines 0 known.0) is),
-  known.3 ∙ append_assoc old header (slot_lines 0 known.0),
-)
-
--- what was reported comes after what was there
-pub reported_after : (schema : List Table) (m : Machine) (old header lines : List ℕ) (n : ℕ) → AreReported schema m (old ++ header) n lines → Begins old lines
-reported_after schema m old header lines n known = (header ++ slot_lines 0 known.0, known.3 ∙ append_assoc old header (slot_lines 0 known.0))
+-- with one more slot shown
+pub one_more : (schema : List Table) (m : Machine) (before text after : List ℕ) (slot : ℕ) (view : SlotView) → text ≡ before ++ slot_lines schema m 0 (take slot m.slots) → IsView schema m slot view
+    → after ≡ text ++ slot_range slot view.lo.now view.hi.now ++ slot_times view.last view.floor view.horizon ++ slot_counts view.live view.prepared
+    → after ≡ before ++ slot_lines schema m 0 (take (slot + 1) m.slots)
+one_more schema m before text after slot view so_far is added =
+    let range : List ℕ = slot_range slot view.lo.now view.hi.now in
+    let times : List ℕ = slot_times view.last view.floor view.horizon in
+    let counts : List ℕ = slot_counts view.live view.prepared in
+    let shown : List ℕ = range ++ times ++ counts in
+    let at : 0 + slot ≡ slot = omega arith in
+    let line : shown ≡ line_of schema m (0 + slot) is.slot_state = line_shown schema m slot view is ∙ ap (λ k. line_of schema m k is.slot_state) (sym at) in
+    added ∙ ap (λ (w : List ℕ). w ++ counts) (append_assoc text range times) ∙ append_assoc text (range ++ times) counts
+    ∙ ap (λ (w : List ℕ). w ++ shown) so_far ∙ append_assoc before (slot_lines schema m 0 (take slot m.slots)) shown
+    ∙ ap (λ (w : List ℕ). before ++ (slot_lines schema m 0 (take slot m.slots) ++ w)) line
+    ∙ ap (λ (w : List ℕ). before ++ w) (sym (lines_push schema m 0 slot m.slots is.slot_state is.here))

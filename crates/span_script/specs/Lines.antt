@@ -1,16 +1,17 @@
 -- The lines of answers.
-use Rattle.std.specs.Prelude.{◌≡◌, ◌+◌, ⊤, ℕ, List, [], ◌∷◌, ◌++◌, codes, length}
+use Rattle.std.specs.Prelude.{◌≡◌, ◌+◌, ℕ, List, [], ◌∷◌, ◌++◌, Option, Some, None, codes, count_by, length}
 use Rattle.std.specs.Fmt.{decimal}
 use Rattle.span_schema.specs.declared.table.Table.{Table}
-use Rattle.span_machine.specs.Machine.{Machine}
+use Rattle.span_machine.specs.Machine.{Machine, is_prepared_at}
 use Rattle.span_value.specs.declared.refusal.Refusal.{Refusal}
 use Rattle.span_value.specs.Refusals.{number_of}
+use Rattle.span_value.specs.Cells.{hex_pairs}
 use Rattle.span_machine.specs.declared.step.Reply.{Reply}
 use Rattle.span_machine.specs.declared.step.Reply.TheVariants as reply
 use Rattle.span_value.specs.declared.value.Value.{Value}
 use Rattle.span_command.specs.Record.{row_records}
-use Rattle.span_core.specs.Reports.{IsReport}
-use Rattle.span_core.specs.declared.slot.SlotReport.{SlotReport}
+use Rattle.span_machine.specs.declared.slot.SlotState.{SlotState}
+use Rattle.span_machine.specs.Kept.{live}
 
 -- a word and a number
 abbrev pub word_number : List ℕ → ℕ → List ℕ
@@ -32,19 +33,25 @@ refused_line why = number_line (codes "refused") (number_of why)
 abbrev pub opened_line : ℕ → ℕ → ℕ → List ℕ
 opened_line query s leaves = word_number (codes "query") query ++ word_number (codes " at") s ++ number_line (codes " leaves") leaves
 
+-- an end of a range: the key in lower-case hexadecimal; there may be none
+abbrev pub end_text : Option (List ℕ) → List ℕ
+end_text None = codes "-"
+end_text (Some key) = hex_pairs key
+
 -- a slot's number and range
-abbrev pub slot_range : ℕ → List ℕ
-slot_range slot = word_number (codes "shard") slot ++ codes " [-,-)"
+abbrev pub slot_range : ℕ → Option (List ℕ) → Option (List ℕ) → List ℕ
+slot_range slot lo hi = word_number (codes "shard") slot ++ codes " [" ++ end_text lo ++ codes "," ++ end_text hi ++ codes ")"
 
-abbrev pub slot_times : SlotReport → List ℕ
-slot_times state = word_number (codes " last") state.last ++ word_number (codes " floor") state.floor ++ word_number (codes " horizon") state.horizon
+abbrev pub slot_times : ℕ → ℕ → ℕ → List ℕ
+slot_times last floor horizon = word_number (codes " last") last ++ word_number (codes " floor") floor ++ word_number (codes " horizon") horizon
 
-abbrev pub slot_counts : SlotReport → List ℕ
-slot_counts state = word_number (codes " live") state.live ++ number_line (codes " prepared") state.prepared
+abbrev pub slot_counts : ℕ → ℕ → List ℕ
+slot_counts live prepared = word_number (codes " live") live ++ number_line (codes " prepared") prepared
 
--- the line of a slot
-abbrev pub slot_line : ℕ → SlotReport → List ℕ
-slot_line slot state = slot_range slot ++ slot_times state ++ slot_counts state
+-- the line of a slot: its state, how many versions it keeps, and how many transactions are prepared there
+abbrev pub slot_line : ℕ → SlotState → ℕ → ℕ → List ℕ
+slot_line slot state live prepared =
+    slot_range slot state.lo state.hi ++ slot_times state.last state.floor state.horizon ++ slot_counts live prepared
 
 -- how many rows there are, and their records
 abbrev pub rows_lines : ℕ → List (List Value) → List ℕ
@@ -64,23 +71,21 @@ reply_text reply.Scanned = word_line (codes "scanned")
 reply_text reply.Nothing = word_line (codes "nothing")
 reply_text (reply.Rows s rows) = rows_lines s rows
 reply_text reply.Closed = word_line (codes "closed")
+reply_text (reply.Split slot) = number_line (codes "split") slot
 reply_text (reply.Refused why) = refused_line why
 
--- the states are those of the slots from this one on, in order
-abbrev pub AreStates : List Table → Machine → ℕ → List SlotReport → Type 0
-AreStates schema m slot [] = ⊤
-AreStates schema m slot (state ∷ states) = IsReport schema m slot state × AreStates schema m (slot + 1) states
+-- the line of a slot in this state
+abbrev pub line_of : List Table → Machine → ℕ → SlotState → List ℕ
+line_of schema m slot state = slot_line slot state (live schema m.log m.transactions slot state) (count_by (is_prepared_at slot) m.transactions)
 
 -- the lines of the slots from this one on
-abbrev pub slot_lines : ℕ → List SlotReport → List ℕ
-slot_lines slot [] = []
-slot_lines slot (state ∷ states) = slot_line slot state ++ slot_lines (slot + 1) states
+abbrev pub slot_lines : List Table → Machine → ℕ → List SlotState → List ℕ
+slot_lines schema m slot [] = []
+slot_lines schema m slot (state ∷ states) = line_of schema m slot state ++ slot_lines schema m (slot + 1) states
 
 -- how many slots are in use, and the line of each
-abbrev pub AreShards : List Table → Machine → List ℕ → Type 0
-AreShards schema m lines =
-    (states : List SlotReport) × (length states ≡ length m.slots) × AreStates schema m 0 states
-    × (lines ≡ number_line (codes "shards") (length m.slots) ++ slot_lines 0 states)
+abbrev pub shards_text : List Table → Machine → List ℕ
+shards_text schema m = number_line (codes "shards") (length m.slots) ++ slot_lines schema m 0 m.slots
 
 -- the first answers are these
 abbrev pub Begins : List ℕ → List ℕ → Type 0

@@ -1,7 +1,7 @@
 -- Answer text: what a script is answered.
-use Rattle.std.specs.Prelude.{◌≡◌, ◌≢◌, ◌⊎◌, ℕ, ◌+◌, ◌-◌, ◌<◌, ◌≤◌, ◌==◌, Bool, true, false, List, [], ◌∷◌, ◌++◌, take, length, codes, Option, Some, None, Result, Ok, Err, MatchOption, MatchResult, IsUtf8, is_some, if◌then◌else◌}
+use Rattle.std.specs.Prelude.{◌≡◌, ◌≢◌, ◌⊎◌, ℕ, ◌-◌, ◌<◌, ◌≤◌, ◌==◌, Bool, true, false, List, [], ◌∷◌, ◌++◌, take, length, codes, Option, Some, None, Result, Err, MatchOption, MatchResult, IsUtf8, is_some, if◌then◌else◌}
 use Rattle.span_value.specs.declared.refusal.Refusal.{Refusal}
-use Rattle.span_value.specs.declared.refusal.Refusal.TheVariants.{OutOfMemory, BadCommand, BadInterval, TimestampRange, WrongType, NoTable}
+use Rattle.span_value.specs.declared.refusal.Refusal.TheVariants.{OutOfMemory, BadCommand, BadInterval, BadSplit, TimestampRange, WrongType, NoTable}
 use Rattle.span_value.specs.declared.value.Kind.{Kind}
 use Rattle.span_value.specs.declared.value.Value.{Value}
 use Rattle.span_value.specs.Cells.{IsCell}
@@ -18,6 +18,7 @@ use Rattle.span_machine.specs.declared.step.Step.{Step}
 use Rattle.span_machine.specs.declared.step.Step.TheVariants as step
 use Rattle.span_machine.specs.declared.step.Verdict.TheVariants.{Commit, Abort}
 use Rattle.span_machine.specs.declared.step.Reply.{Reply}
+use Rattle.span_machine.specs.declared.step.Reply.TheVariants as reply
 use Rattle.span_machine.specs.Machine.{Machine}
 use Rattle.span_command.specs.declared.command.Command.{Command}
 use Rattle.span_command.specs.declared.command.Command.TheVariants as command
@@ -27,7 +28,7 @@ use Rattle.span_command.specs.Layouts.{IsOfRecord, IsLayoutOf, IsKeyLayoutOf, Ha
 use Rattle.span_command.specs.Limits.{longest_line}
 use Rattle.span_command.specs.Record.{record_fields}
 use Rattle.span_command.specs.Texts.{NextLine}
-use Rattle.span_script.specs.Lines.{AreShards, number_line, word_line, refused_line, reply_text}
+use Rattle.span_script.specs.Lines.{shards_text, number_line, word_line, refused_line, reply_text}
 use Rattle.span_script.specs.Steps.{Takes, IsBegun, IsQueried}
 
 -- a load whose lines are read: how its records are read, or why it is refused; and how many mutations were gathered before it
@@ -83,6 +84,17 @@ abbrev pub RefusesDelete : List Table → List ℕ → List ℕ → Refusal → 
 RefusesDelete schema table row why =
     ((why ≡ NoTable) × (number_named schema table ≡ None))
     ⊎ ((layout : Layout) × IsKeyLayoutOf schema table layout × RefusesRecord layout mutation.Delete row why)
+
+-- the record is that of a key of the table, and this is the deletion of its row
+abbrev pub IsDeletion : List Table → List ℕ → List ℕ → Mutation → Type 0
+IsDeletion schema table row m = (layout : Layout) × IsKeyLayoutOf schema table layout × IsOfRecord layout mutation.Delete (record_fields row) m
+
+-- A slot is split at the key that a record has. It is no step where the record has no key, or where memory runs out before it.
+abbrev pub IsSplit : List Table → Machine → List ℕ → List ℕ → Reply → Machine → Type 0
+IsSplit schema m table row answered last =
+    ((d : Mutation) × IsDeletion schema table row d × Takes schema m (step.Split d.table d.key) answered last)
+    ⊎ (((answered ≡ reply.Refused BadSplit) × (last ≡ m) × ((why : Refusal) × RefusesDelete schema table row why))
+    ⊎ ((answered ≡ reply.Refused OutOfMemory) × (last ≡ m)))
 
 -- A change is made and answered `ok`; or it is refused, and nothing is changed. Memory may run out for any.
 abbrev pub IsChanged : (ScriptState → Type 0) → (Refusal → Type 0) → ScriptState → List ℕ → ScriptState → Type 0
@@ -160,6 +172,8 @@ IsDone schema (command.Write kind table columns row) state m answer next last =
     × (last ≡ m)
 IsDone schema (command.Delete table row) state m answer next last =
     IsChanged (Deletes schema table.now row.now state) (RefusesDelete schema table.now row.now) state answer next × (last ≡ m)
+IsDone schema (command.Split table row) state m answer next last =
+    (answered : Reply) × IsSplit schema m table.now row.now answered last × IsReplied answered answer × (next ≡ state)
 IsDone schema (command.Load table columns) state m answer next last =
     BeginsLoad schema table.now columns.now state next × (answer ≡ []) × (last ≡ m)
 IsDone schema command.Begin state m answer next last =
@@ -170,7 +184,7 @@ IsDone schema (command.Query bound text) state m answer next last =
     (answered : Reply) × IsQueried schema m state.clock (step.Open text.now state.params bound state.clock) answered last
     × IsReplied answered answer × (next ≡ state)
 IsDone schema command.Shards state m answer next last =
-    (AreShards schema m answer ⊎ (answer ≡ refused_line OutOfMemory)) × (next ≡ state) × (last ≡ m)
+    ((answer ≡ shards_text schema m) ⊎ (answer ≡ refused_line OutOfMemory)) × (next ≡ state) × (last ≡ m)
 IsDone schema c state m answer next last =
     MatchOption (numbered_step c state.clock)
     (IsRefused BadCommand state m answer next last)

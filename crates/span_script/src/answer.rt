@@ -1,8 +1,10 @@
 //! Answers, as they are written in a script's output.
-ghost use Rattle.std.specs.Prelude.{◌≡◌, ◌++◌, ℕ, List, [], codes, length, nat_le, take, IfErr, OnOk, IfOk, IsOkUnless};
+ghost use Rattle.std.specs.Prelude.{◌≡◌, ◌++◌, ◌∷◌, ◌<◌, ◌/◌, ◌%◌, ℕ, List, [], codes, length, nat_le, take, IfErr, OnOk, IfOk, IsOkUnless};
 ghost use Rattle.std.specs.Fmt.{decimal};
 ghost use Rattle.std.specs.Io.KnownBytes.{Appends};
-ghost use Rattle.span_script.specs.Lines.{word_number, number_line, word_line, opened_line, slot_range, slot_times, slot_counts, slot_line, rows_lines, refused_line, reply_text, AreShards, Begins};
+ghost use Rattle.span_script.specs.Lines.{word_number, number_line, word_line, opened_line, end_text, slot_range, slot_times, slot_counts, slot_lines, shards_text, rows_lines, refused_line, reply_text, Begins};
+ghost use Rattle.std.specs.Char.{digit_char};
+ghost use Rattle.span_value.specs.Cells.{hex_pairs};
 ghost use Rattle.span_command.specs.Device.{risen};
 ghost use Rattle.span_script.specs.declared.answer.TheConstants.{MOST_KEPT};
 
@@ -10,8 +12,9 @@ use itoa::Buffer;
 use span_command::device::Output;
 use span_command::record_writer::rows_text;
 use span_core::database::Core;
-use span_core::slot::SlotReport;
+use span_core::slot::SlotView;
 use span_core::{Refusal, Reply, Row};
+use span_keycode::key::Key;
 use std::alloc::Global;
 use std::marker::Model;
 
@@ -69,9 +72,11 @@ impl Answers {
 
     /// Writes the answers out. `OutputFault` where the device failed: then a beginning of them was written.
     pub fn write_to<O: Output>(&mut self, output: &mut O) -> Result<(), Refusal>
-        ensures written { OnOk result ((self.new ≡ []) × Appends (O.written output.old) (O.written output.new) self.old) }
+        ensures written { OnOk result
+            ((self.new ≡ []) × Appends (O.written output.old) (O.written output.new) self.old) }
         ensures ok { OnOk result (O.failures output.new ≡ O.failures output.old) }
-        ensures err { IfErr result (λ why. (why ≡ Refusal.OutputFault) × (O.failures output.new ≡ risen (O.failures output.old))) }
+        ensures err { IfErr result
+            (λ why. (why ≡ Refusal.OutputFault) × (O.failures output.new ≡ risen (O.failures output.old))) }
     {
         write_all(self.bytes.as_slice(), output)?;
         self.bytes.clear();
@@ -161,6 +166,7 @@ impl Answers {
             Reply::Nothing => self.word_line("nothing"),
             Reply::Rows { s, rows } => self.rows(alloc, *s, rows.as_slice()),
             Reply::Closed => self.word_line("closed"),
+            Reply::Split(slot) => self.number_line("split", *slot as u64),
             Reply::Refused(why) => self.refusal_line(*why),
         }
     }
@@ -191,16 +197,27 @@ impl Answers {
     }
 
     /// How many slots are in use, and a line for each.
-    #[tactic(auto, using(crate::proofs::Begun::begins_on, crate::proofs::Shards::reported_after))]
+    #[tactic(auto, using(crate::proofs::Begun::begins_on))]
     pub fn slots(&mut self, core: &Core) -> Result<(), Refusal>
-        ensures added { OnOk result ((lines : List ℕ) × AreShards core.now.schema core.now.machine lines × (self.new ≡ self.old ++ lines)) }
+        ensures added { OnOk result (self.new ≡ self.old ++ shards_text core.now.schema core.now.machine) }
         ensures grows { Begins self.old self.new }
         ensures memory { IsOkUnless result Refusal.OutOfMemory }
     {
         self.number_line("shards", core.slots() as u64)?;
+        self.slot_lines(core)
+    }
+
+    /// A line for each slot in use.
+    #[tactic(auto, using(crate::proofs::Begun::begins_itself, crate::proofs::Begun::begins_on))]
+    fn slot_lines(&mut self, core: &Core) -> Result<(), Refusal>
+        ensures added { OnOk result
+            (self.new ≡ self.old ++ slot_lines core.now.schema core.now.machine 0 core.now.machine.slots) }
+        ensures grows { Begins self.old self.new }
+        ensures memory { IsOkUnless result Refusal.OutOfMemory }
+    {
         for slot in 0..core.slots() {
-            if let Some(state) = core.slot_report(slot) {
-                self.slot(slot, state)?;
+            if let Some(view) = core.slot(slot) {
+                self.slot(slot, &view)?;
             }
         }
         Ok(())
@@ -208,46 +225,112 @@ impl Answers {
 
     /// The line of a slot.
     #[tactic(auto, using(crate::proofs::Begun::begins_on))]
-    fn slot(&mut self, slot: usize, state: SlotReport) -> Result<(), Refusal>
-        ensures added { OnOk result (self.new ≡ self.old ++ slot_line slot state) }
+    fn slot(&mut self, slot: usize, view: &SlotView<'_>) -> Result<(), Refusal>
+        ensures added { OnOk result (self.new ≡ self.old
+            ++ slot_range slot view.now.lo.now view.now.hi.now
+            ++ slot_times view.now.last view.now.floor view.now.horizon
+            ++ slot_counts view.now.live view.now.prepared) }
         ensures grows { Begins self.old self.new }
         ensures memory { IsOkUnless result Refusal.OutOfMemory }
     {
-        self.slot_range(slot)?;
-        self.slot_times(state)?;
-        self.slot_counts(state)
+        self.slot_range(slot, view.lo, view.hi)?;
+        self.slot_times(view.last, view.floor, view.horizon)?;
+        self.slot_counts(view.live, view.prepared)
     }
 
-    /// A slot's number, and its range: the whole one.
+    /// A slot's number, and its range.
     #[tactic(auto, using(crate::proofs::Begun::begins_on))]
-    fn slot_range(&mut self, slot: usize) -> Result<(), Refusal>
-        ensures added { OnOk result (self.new ≡ self.old ++ slot_range slot) }
+    fn slot_range(&mut self, slot: usize, lo: &Option<Key>, hi: &Option<Key>) -> Result<(), Refusal>
+        ensures added { OnOk result (self.new ≡ self.old ++ slot_range slot lo.now hi.now) }
         ensures grows { Begins self.old self.new }
         ensures memory { IsOkUnless result Refusal.OutOfMemory }
     {
         self.word_number("shard", slot as u64)?;
-        self.text(" [-,-)")
+        self.text(" [")?;
+        self.ends(lo, hi)
     }
 
+    /// The ends of a range.
     #[tactic(auto, using(crate::proofs::Begun::begins_on))]
-    fn slot_times(&mut self, state: SlotReport) -> Result<(), Refusal>
-        ensures added { OnOk result (self.new ≡ self.old ++ slot_times state) }
+    fn ends(&mut self, lo: &Option<Key>, hi: &Option<Key>) -> Result<(), Refusal>
+        ensures added { OnOk result
+            (self.new ≡ self.old ++ end_text lo.now ++ codes "," ++ end_text hi.now ++ codes ")") }
         ensures grows { Begins self.old self.new }
         ensures memory { IsOkUnless result Refusal.OutOfMemory }
     {
-        self.word_number(" last", state.last)?;
-        self.word_number(" floor", state.floor)?;
-        self.word_number(" horizon", state.horizon)
+        self.end(lo)?;
+        self.text(",")?;
+        self.end(hi)?;
+        self.text(")")
     }
 
-    #[tactic(auto, using(crate::proofs::Begun::begins_on))]
-    fn slot_counts(&mut self, state: SlotReport) -> Result<(), Refusal>
-        ensures added { OnOk result (self.new ≡ self.old ++ slot_counts state) }
+    /// An end of a range: the key in lower-case hexadecimal, or `-` where there is none.
+    fn end(&mut self, end: &Option<Key>) -> Result<(), Refusal>
+        ensures added { OnOk result (self.new ≡ self.old ++ end_text end.now) }
         ensures grows { Begins self.old self.new }
         ensures memory { IsOkUnless result Refusal.OutOfMemory }
     {
-        self.word_number(" live", state.live as u64)?;
-        self.number_line(" prepared", state.prepared as u64)
+        match end {
+            None => self.text("-"),
+            Some(key) => self.hex(key.as_slice()),
+        }
+    }
+
+    /// The bytes, each as two hexadecimal digits in lower case.
+    #[tactic(auto, using(crate::proofs::Begun::begins_itself, crate::proofs::Begun::begins_on))]
+    fn hex(&mut self, bytes: &[u8]) -> Result<(), Refusal>
+        ensures added { OnOk result (self.new ≡ self.old ++ hex_pairs bytes.now) }
+        ensures grows { Begins self.old self.new }
+        ensures memory { IsOkUnless result Refusal.OutOfMemory }
+    {
+        for byte in bytes {
+            self.hex_byte(*byte)?;
+        }
+        Ok(())
+    }
+
+    #[tactic(auto, using(crate::proofs::Begun::begins_either))]
+    fn hex_byte(&mut self, byte: u8) -> Result<(), Refusal>
+        ensures added { OnOk result (self.new ≡ self.old ++ digit_char (byte / 16) ∷ digit_char (byte % 16) ∷ []) }
+        ensures grows { Begins self.old self.new }
+        ensures memory { IsOkUnless result Refusal.OutOfMemory }
+    {
+        let digits = [hex_digit(byte / 16), hex_digit(byte % 16)];
+        self.bytes.extend_from_slice(&digits)?;
+        Ok(())
+    }
+
+    #[tactic(auto, using(crate::proofs::Begun::begins_on))]
+    fn slot_times(&mut self, last: u64, floor: u64, horizon: u64) -> Result<(), Refusal>
+        ensures added { OnOk result (self.new ≡ self.old ++ slot_times last floor horizon) }
+        ensures grows { Begins self.old self.new }
+        ensures memory { IsOkUnless result Refusal.OutOfMemory }
+    {
+        self.word_number(" last", last)?;
+        self.word_number(" floor", floor)?;
+        self.word_number(" horizon", horizon)
+    }
+
+    #[tactic(auto, using(crate::proofs::Begun::begins_on))]
+    fn slot_counts(&mut self, live: usize, prepared: usize) -> Result<(), Refusal>
+        ensures added { OnOk result (self.new ≡ self.old ++ slot_counts live prepared) }
+        ensures grows { Begins self.old self.new }
+        ensures memory { IsOkUnless result Refusal.OutOfMemory }
+    {
+        self.word_number(" live", live as u64)?;
+        self.number_line(" prepared", prepared as u64)
+    }
+}
+
+/// The hexadecimal digit of half a byte, in lower case.
+fn hex_digit(half: u8) -> u8
+    requires { half < 16 }
+    ensures { result ≡ digit_char half }
+{
+    if half < 10 {
+        b'0' + half
+    } else {
+        b'a' + (half - 10)
     }
 }
 
@@ -256,7 +339,8 @@ impl Answers {
 fn write_all<O: Output>(bytes: &[u8], output: &mut O) -> Result<(), Refusal>
     ensures written { OnOk result (Appends (O.written output.old) (O.written output.new) bytes.now) }
     ensures ok { OnOk result (O.failures output.new ≡ O.failures output.old) }
-    ensures err { IfErr result (λ why. (why ≡ Refusal.OutputFault) × (O.failures output.new ≡ risen (O.failures output.old))) }
+    ensures err { IfErr result
+        (λ why. (why ≡ Refusal.OutputFault) × (O.failures output.new ≡ risen (O.failures output.old))) }
 {
     let mut rest = bytes;
     while !rest.is_empty() {

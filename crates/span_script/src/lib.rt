@@ -1,7 +1,8 @@
 //! Scripts: commands done one after another, and the answer to each.
 //!
-//! [`run::run`] reads a script from an [`Input`], does its commands on a core, writes the answers to an [`Output`], and reports refused
-//! commands to [`Reports`]. How a line is read as a command is `span_command`'s. `docs/FORMATS.md` has the commands and their answers.
+//! [`run::run`] reads a script from an [`Input`], does its commands on a core, writes the answers to an [`Output`], and
+//! reports refused commands to [`Reports`]. How a line is read as a command is `span_command`'s. `docs/FORMATS.md` has
+//! the commands and their answers.
 #![tactic(auto)]
 
 pub mod answer;

@@ -24,8 +24,8 @@ pub struct QueryText<'a> {
 
 /// Where the refused commands of a script are reported.
 pub trait Reports {
-    /// A command was refused; `query` is the query text of the line that is wrong, where that has one. A report that is lost changes no
-    /// answer, so none of its failures is returned.
+    /// A command was refused; `query` is the query text of the line that is wrong, where that has one. A report that
+    /// is lost changes no answer, so none of its failures is returned.
     fn report(&mut self, refused: Refused, query: Option<QueryText<'_>>);
 }
 

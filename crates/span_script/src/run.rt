@@ -14,11 +14,12 @@ use span_core::database::Core;
 use span_value::refusal::Refusal;
 use std::alloc::Global;
 
-/// Does the commands of a script on a core, one line after another, and writes the answer to each. What was answered is written before
-/// more of the script is read.
+/// Does the commands of a script on a core, one line after another, and writes the answer to each. What was answered
+/// is written before more of the script is read.
 ///
-/// A refused command is answered `refused N` and reported, and the script goes on. `InputFault` and `OutputFault` where a device failed, `OutOfMemory`
-/// where memory runs out for a line or an answer: what was written is then a beginning of the answers to the lines that were read.
+/// A refused command is answered `refused N` and reported, and the script goes on. `InputFault` and `OutputFault` where
+/// a device failed, `OutOfMemory` where memory runs out for a line or an answer: what was written is then a beginning
+/// of the answers to the lines that were read.
 pub fn run<I: Input, O: Output, R: Reports>(
     alloc: Global,
     input: &mut I,
@@ -31,7 +32,8 @@ pub fn run<I: Input, O: Output, R: Reports>(
         → (answers : List ℕ) × IsAnswerText core.old.schema core.old.machine script answers core.new.machine
         × Appends (O.written output.old) (O.written output.new) answers) }
     ensures schema { core.new.schema ≡ core.old.schema }
-    ensures ok { OnOk result ((I.failures input.new ≡ I.failures input.old) × (O.failures output.new ≡ O.failures output.old)) }
+    ensures ok { OnOk result
+        ((I.failures input.new ≡ I.failures input.old) × (O.failures output.new ≡ O.failures output.old)) }
     ensures err { IfErr result (λ why. (why ≡ Refusal.OutOfMemory)
         ⊎ ((why ≡ Refusal.InputFault) × (I.failures input.new ≡ risen (I.failures input.old)))
         ⊎ ((why ≡ Refusal.OutputFault) × (O.failures output.new ≡ risen (O.failures output.old)))) }
@@ -56,8 +58,8 @@ pub fn run<I: Input, O: Output, R: Reports>(
     Err(Refusal::OutOfMemory)
 }
 
-/// Takes the next line, for which more of the script is read where none is ready; what was answered is written before. False where the script has
-/// ended.
+/// Takes the next line, for which more of the script is read where none is ready; what was answered is written before.
+/// False where the script has ended.
 fn take_next<I: Input, O: Output>(
     lines: &mut Lines,
     input: &mut I,
@@ -66,8 +68,11 @@ fn take_next<I: Input, O: Output>(
 ) -> Result<bool, Refusal>
     ensures next { IfOk result (λ more. (text : List ℕ) → Stands lines.old (I.remaining input.old) text
         → MatchBool more (TakesNext lines.new (I.remaining input.new) text) (text ≡ [])) }
-    ensures written { OnOk result (Keeps (append_known (O.written output.old) answers.old) (append_known (O.written output.new) answers.new)) }
-    ensures ok { OnOk result ((I.failures input.new ≡ I.failures input.old) × (O.failures output.new ≡ O.failures output.old)) }
+    ensures written { OnOk result (Keeps
+        (append_known (O.written output.old) answers.old)
+        (append_known (O.written output.new) answers.new)) }
+    ensures ok { OnOk result
+        ((I.failures input.new ≡ I.failures input.old) × (O.failures output.new ≡ O.failures output.old)) }
     ensures err { IfErr result (λ why. (why ≡ Refusal.OutOfMemory)
         ⊎ ((why ≡ Refusal.InputFault) × (I.failures input.new ≡ risen (I.failures input.old)))
         ⊎ ((why ≡ Refusal.OutputFault) × (O.failures output.new ≡ risen (O.failures output.old)))) }
@@ -96,9 +101,12 @@ fn report_refused<R: Reports>(reports: &mut R, refused: Option<Refused>, line: O
 
 /// Writes what was answered, where it is time to.
 fn write_many<O: Output>(answers: &mut Answers, output: &mut O) -> Result<(), Refusal>
-    ensures written { OnOk result (Keeps (append_known (O.written output.old) answers.old) (append_known (O.written output.new) answers.new)) }
+    ensures written { OnOk result (Keeps
+        (append_known (O.written output.old) answers.old)
+        (append_known (O.written output.new) answers.new)) }
     ensures ok { OnOk result (O.failures output.new ≡ O.failures output.old) }
-    ensures err { IfErr result (λ why. (why ≡ Refusal.OutputFault) × (O.failures output.new ≡ risen (O.failures output.old))) }
+    ensures err { IfErr result
+        (λ why. (why ≡ Refusal.OutputFault) × (O.failures output.new ≡ risen (O.failures output.old))) }
 {
     if answers.are_many() {
         answers.write_to(output)?;

@@ -1,12 +1,14 @@
 //! What a script has set and gathered, and its commands done one after another.
-ghost use Rattle.std.specs.Prelude.{◌≡◌, ◌++◌, List, None, Some, is_some, IfErr, IfOk, IfSome, IsOkUnless, MatchResult, [], Err, length, take};
+ghost use Rattle.std.specs.Prelude.{◌≡◌, ◌++◌, List, None, Some, is_some, IfErr, IfOk, IfSome, IsOkUnless, MatchResult, ◌⊎◌, [], Err, length, take};
 ghost use Rattle.span_schema.specs.declared.table.Table.{Table};
-ghost use Rattle.span_machine.specs.Run.{IsOfSchema};
+ghost use Rattle.span_machine.specs.Run.{IsChecked};
 ghost use Rattle.span_machine.specs.declared.step.Step.TheVariants as step_of_kind;
 ghost use Rattle.span_script.specs.Lines.{Begins};
 ghost use Rattle.span_script.specs.Reports.{AreAnswered};
 ghost use Rattle.span_script.specs.Steps.{Takes, AreTaken, AreRefused, IsRead, IsQueried, IsBegun, scans, scans_of_leaf};
-ghost use Rattle.span_script.specs.Scripts.{BeginsLoad, Deletes, EndsLoad, Gathers, IsAnswered, IsCommandLine, IsDone, IsDoneIfRead, IsFirst, IsLoadLine, IsReplied, LoadsRecord, RefusesClock, RefusesDelete, RefusesParam, RefusesRecord, RefusesWrite, SetsClock, SetsParam, Writes, end_answer, is_passed_over, numbered_step, refused_load};
+ghost use Rattle.span_script.specs.Scripts.{BeginsLoad, Deletes, EndsLoad, Gathers, IsAnswered, IsCommandLine, IsDeletion, IsDone, IsDoneIfRead, IsFirst, IsLoadLine, IsReplied, IsSplit, LoadsRecord, RefusesClock, RefusesDelete, RefusesParam, RefusesRecord, RefusesWrite, SetsClock, SetsParam, Writes, end_answer, is_passed_over, numbered_step, refused_load};
+ghost use Rattle.span_command.specs.Layouts.{IsOfRecord};
+ghost use Rattle.span_command.specs.Record.{record_fields};
 ghost use Rattle.span_script.specs.Sessions.{Adds, AddsAt, AddsLine, Changes, load_of, state_of, text_of};
 
 use super::answer::Answers;
@@ -67,8 +69,8 @@ impl Session {
         }
     }
 
-    /// Does what a line of this number asks for, and adds its answer. Returns the refused command that was answered so, if one was.
-    /// `OutOfMemory` where memory runs out for the answer.
+    /// Does what a line of this number asks for, and adds its answer. Returns the refused command that was answered so,
+    /// if one was. `OutOfMemory` where memory runs out for the answer.
     #[tactic(auto, using(crate::proofs::Begun::front_taken))]
     pub fn take_line(
         &mut self,
@@ -82,7 +84,8 @@ impl Session {
             (state_of self.old) core.old.machine (state_of self.new) core.new.machine answers.old answers.new) }
         ensures schema { core.new.schema ≡ core.old.schema }
         ensures answered { IfOk result (AreAnswered answers.old answers.new) }
-        ensures here { self.old.load ≡ None → IfOk result (λ refused. IfSome refused (λ refused. refused.line ≡ number)) }
+        ensures here { self.old.load ≡ None
+            → IfOk result (λ refused. IfSome refused (λ refused. refused.line ≡ number)) }
         ensures memory { IsOkUnless result Refusal.OutOfMemory }
     {
         let before = answers.len();
@@ -101,7 +104,8 @@ impl Session {
     pub fn finish(&mut self, number: u64, answers: &mut Answers) -> Result<Option<Refused>, Refusal>
         ensures exact { IfOk result (λ _. answers.new ≡ answers.old ++ end_answer (state_of self.old)) }
         ensures answered { IfOk result (AreAnswered answers.old answers.new) }
-        ensures last { IfOk result (λ refused. IfSome refused (λ refused. (refused.why ≡ Refusal.BadCommand) × (refused.line ≡ number))) }
+        ensures last { IfOk result (λ refused. IfSome refused
+            (λ refused. (refused.why ≡ Refusal.BadCommand) × (refused.line ≡ number))) }
         ensures unread { IfOk result (λ refused. is_some refused ≡ is_some self.old.load) }
         ensures memory { IsOkUnless result Refusal.OutOfMemory }
     {
@@ -196,8 +200,8 @@ impl Session {
 
     /// Does a command, and adds its answer.
     ///
-    /// Where a command changes what a script has set, its answer goes first: nothing has changed then where memory runs out for it, and
-    /// `take_line` takes it back where the change is refused.
+    /// Where a command changes what a script has set, its answer goes first: nothing has changed then where memory runs
+    /// out for it, and `take_line` takes it back where the change is refused.
     #[tactic(auto, using(crate::proofs::Begun::begins_itself, crate::proofs::Begun::begins_on))]
     fn answer(
         &mut self,
@@ -252,6 +256,10 @@ impl Session {
                 let reply = self.query(alloc, core, bound, text);
                 add_reply(alloc, &reply, answers)
             }
+            Command::Split { table, record } => {
+                let reply = self.split(alloc, core, table, record);
+                add_reply(alloc, &reply, answers)
+            }
             Command::Shards => answers.slots(core),
             command => match step_of(command, self.clock) {
                 Some(step) => {
@@ -265,7 +273,9 @@ impl Session {
 
     /// Sets the clock. `BadInterval` and `TimestampRange` as `Interval::new`.
     fn set_clock(&mut self, earliest: u64, latest: u64) -> Result<(), Refusal>
-        ensures { Changes (SetsClock earliest latest (state_of self.old)) (RefusesClock earliest latest) self.old self.new result }
+        ensures { Changes
+            (SetsClock earliest latest (state_of self.old))
+            (RefusesClock earliest latest) self.old self.new result }
     {
         self.clock = Interval::new(earliest, latest)?;
         Ok(())
@@ -321,7 +331,8 @@ impl Session {
         self.gather(alloc, &layout, MutationKind::Delete, text)
     }
 
-    /// Gathers the mutation of a record. `WrongType`: a wrong number of fields, or a field that is no cell of its column's type.
+    /// Gathers the mutation of a record. `WrongType`: a wrong number of fields, or a field that is no cell of its
+    /// column's type.
     fn gather(
         &mut self,
         alloc: Global,
@@ -333,10 +344,44 @@ impl Session {
             (Gathers layout.now kind text.now (state_of self.old))
             (RefusesRecord layout.now kind text.now) self.old self.new result }
     {
-        read_fields(alloc, text, &mut self.fields)?;
-        let mutation = layout.mutation(alloc, kind, &self.fields)?;
+        let mutation = self.read_record(alloc, layout, kind, text)?;
         self.gathered.push(mutation)?;
         Ok(())
+    }
+
+    /// The mutation of a record. `WrongType`: a wrong number of fields, or a field that is no cell of its column's
+    /// type.
+    fn read_record(
+        &mut self,
+        alloc: Global,
+        layout: &Layout,
+        kind: MutationKind,
+        text: &str,
+    ) -> Result<Mutation, Refusal>
+        ensures read { IfOk result (λ m. IsOfRecord layout.now kind (record_fields text.now) m) }
+        ensures refused { IfErr result
+            (λ why. (why ≡ Refusal.OutOfMemory) ⊎ RefusesRecord layout.now kind text.now why) }
+        ensures kept { state_of self.new ≡ state_of self.old }
+    {
+        read_fields(alloc, text, &mut self.fields)?;
+        layout.mutation(alloc, kind, &self.fields)
+    }
+
+    /// The deletion of the row whose key a record has. `NoTable` and `WrongType` as `Layout::of_key` and `read_record`.
+    fn read_deletion(
+        &mut self,
+        alloc: Global,
+        schema: &Schema,
+        table: &str,
+        text: &str,
+    ) -> Result<Mutation, Refusal>
+        ensures read { IfOk result (λ m. IsDeletion schema.now table.now text.now m) }
+        ensures refused { IfErr result
+            (λ why. (why ≡ Refusal.OutOfMemory) ⊎ RefusesDelete schema.now table.now text.now why) }
+        ensures kept { state_of self.new ≡ state_of self.old }
+    {
+        let layout = Layout::of_key(alloc, schema, table)?;
+        self.read_record(alloc, &layout, MutationKind::Delete, text)
     }
 
     /// Begins the load of this line.
@@ -437,7 +482,8 @@ impl Session {
         });
     }
 
-    /// Answers a load at its `end`, the line of this number. Where memory runs out for the answer the load has gathered nothing.
+    /// Answers a load at its `end`, the line of this number. Where memory runs out for the answer the load has gathered
+    /// nothing.
     #[tactic(auto, using(crate::proofs::Begun::begins_itself, crate::proofs::Begun::begins_on))]
     fn end_load(&mut self, load: Load, number: u64, answers: &mut Answers) -> Result<(), Refused>
         ensures exact { self.old.load ≡ None → AddsAt
@@ -481,10 +527,23 @@ impl Session {
         }
     }
 
+    /// Splits a slot at the key that a record has. A record that has no key of the table is `BadSplit`.
+    fn split(&mut self, alloc: Global, core: &mut Core, table: &str, text: &str) -> Reply
+        ensures split { IsSplit core.old.schema core.old.machine table.now text.now result core.new.machine }
+        ensures kept { state_of self.new ≡ state_of self.old }
+        ensures schema { core.new.schema ≡ core.old.schema }
+    {
+        match self.read_deletion(alloc, core.schema(), table, text) {
+            Ok(Mutation { table, key, .. }) => take_step(alloc, core, Step::Split { table, key }),
+            Err(why) => Reply::Refused(split_refusal(why)),
+        }
+    }
+
     /// Opens a query with the parameters that are set.
     fn open(&self, alloc: Global, core: &mut Core, bound: Bound, text: &str) -> Reply
         ensures taken { Takes core.old.schema core.old.machine
-            (step_of_kind.Open text.now (state_of self.now).params bound (state_of self.now).clock) result core.new.machine }
+            (step_of_kind.Open text.now (state_of self.now).params bound (state_of self.now).clock)
+            result core.new.machine }
         ensures schema { core.new.schema ≡ core.old.schema }
     {
         match self.opening(alloc, bound, text) {
@@ -498,7 +557,8 @@ impl Session {
 
     /// The step that opens a query. `OutOfMemory` is the only refusal.
     fn opening(&self, alloc: Global, bound: Bound, text: &str) -> Result<Step, Refusal>
-        ensures step { IfOk result (λ step. step ≡ step_of_kind.Open text.now (state_of self.now).params bound (state_of self.now).clock) }
+        ensures step { IfOk result (λ step. step
+            ≡ step_of_kind.Open text.now (state_of self.now).params bound (state_of self.now).clock) }
         ensures memory { IsOkUnless result Refusal.OutOfMemory }
     {
         Ok(Step::Open {
@@ -509,10 +569,12 @@ impl Session {
         })
     }
 
-    /// Opens a query, scans its leaves, finishes and closes it: the reply of the first step that is refused, else the rows.
+    /// Opens a query, scans its leaves, finishes and closes it: the reply of the first step that is refused, else the
+    /// rows.
     fn query(&self, alloc: Global, core: &mut Core, bound: Bound, text: &str) -> Reply
         ensures queried { IsQueried core.old.schema core.old.machine (state_of self.now).clock
-            (step_of_kind.Open text.now (state_of self.now).params bound (state_of self.now).clock) result core.new.machine }
+            (step_of_kind.Open text.now (state_of self.now).params bound (state_of self.now).clock)
+            result core.new.machine }
         ensures schema { core.new.schema ≡ core.old.schema }
     {
         match self.open(alloc, core, bound, text) {
@@ -546,8 +608,10 @@ fn scan(
     leaves: usize,
 ) -> Result<(), Refusal>
     ensures scanned { MatchResult result
-        (λ _. AreTaken core.old.schema core.old.machine (scans clock query (length core.old.machine.slots) leaves) core.new.machine)
-        (λ why. AreRefused core.old.schema core.old.machine (scans clock query (length core.old.machine.slots) leaves) why core.new.machine) }
+        (λ _. AreTaken core.old.schema core.old.machine
+        (scans clock query (length core.old.machine.slots) leaves) core.new.machine)
+        (λ why. AreRefused core.old.schema core.old.machine
+        (scans clock query (length core.old.machine.slots) leaves) why core.new.machine) }
     ensures schema { core.new.schema ≡ core.old.schema }
 {
     let slots = core.slots();
@@ -571,7 +635,8 @@ fn scan_leaf(
 ) -> Result<(), Refusal>
     ensures scanned { MatchResult result
         (λ _. AreTaken core.old.schema core.old.machine (scans_of_leaf clock query slots leaf) core.new.machine)
-        (λ why. AreRefused core.old.schema core.old.machine (scans_of_leaf clock query slots leaf) why core.new.machine) }
+        (λ why. AreRefused core.old.schema core.old.machine
+        (scans_of_leaf clock query slots leaf) why core.new.machine) }
     ensures schema { core.new.schema ≡ core.old.schema }
 {
     for slot in 0..slots {
@@ -589,9 +654,20 @@ fn scan_leaf(
     Ok(())
 }
 
+/// Why a record has no key to split at, or that memory ran out.
+fn split_refusal(why: Refusal) -> Refusal
+    ensures which { (result ≡ Refusal.BadSplit) ⊎ ((result ≡ Refusal.OutOfMemory) × (why ≡ Refusal.OutOfMemory)) }
+    ensures memory { why ≡ Refusal.OutOfMemory → result ≡ Refusal.OutOfMemory }
+{
+    match why {
+        Refusal::OutOfMemory => Refusal::OutOfMemory,
+        _ => Refusal::BadSplit,
+    }
+}
+
 /// Takes a step. A transaction that is begun was checked against the database's schema.
 fn take_step(alloc: Global, core: &mut Core, step: Step) -> Reply
-    requires { IsOfSchema core.old.schema step }
+    requires { IsChecked core.old.schema step }
     ensures taken { Takes core.old.schema core.old.machine step result core.new.machine }
     ensures schema { core.new.schema ≡ core.old.schema }
 {
@@ -624,7 +700,7 @@ fn add_reply(alloc: Global, reply: &Reply, answers: &mut Answers) -> Result<(), 
 /// The step of a command that is one step of numbers alone.
 fn step_of(command: Command<'_>, clock: Interval) -> Option<Step>
     ensures step { result ≡ numbered_step command.entry clock }
-    ensures of_schema { IfSome result (λ step. (schema : List Table) → IsOfSchema schema step) }
+    ensures of_schema { IfSome result (λ step. (schema : List Table) → IsChecked schema step) }
 {
     match command {
         Command::Prepare { txn, slot } => Some(Step::Prepare {
@@ -663,7 +739,7 @@ fn step_of(command: Command<'_>, clock: Interval) -> Option<Step>
 /// The step that decides a transaction.
 fn decision(txn: u64, verdict: Verdict, clock: Interval) -> Step
     ensures step { result ≡ step_of_kind.Decide 0 txn verdict clock }
-    ensures of_schema { (schema : List Table) → IsOfSchema schema result }
+    ensures of_schema { (schema : List Table) → IsChecked schema result }
 {
     Step::Decide {
         owner: OWNER,

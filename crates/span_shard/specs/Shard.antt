@@ -10,6 +10,7 @@ use Rattle.span_arena.specs.Order.{AreFalling}
 use Rattle.span_schema.specs.declared.table.Table.{Table}
 use Rattle.span_keycode.specs.Order.{byte_order}
 use Rattle.span_keycode.specs.declared.range.KeyRange.{KeyRange}
+pub use Rattle.span_keycode.specs.Parts.{is_within}
 use Rattle.span_mutate.specs.declared.mutation.CheckedMutation.{CheckedMutation}
 use Rattle.span_mutate.specs.declared.row.TableRow.{TableRow}
 use Rattle.span_mutate.specs.Directories.{IsRising}
@@ -161,10 +162,6 @@ pub record KeyRow : Type 0 where
 -- the row that is seen of a key at s, if there is one
 abbrev pub seen_at : ℕ → KeyVersions → Option KeyRow
 seen_at s c = option_map (λ (row : List ℕ). record { key = c.key; row = row }) (row_at c.versions s)
-
--- the key is from the first bytes of the range on, and before the first after it
-abbrev pub is_within : KeyRange → List ℕ → Bool
-is_within range key = not (is_lt (byte_order key range.low)) && is_lt (byte_order key range.high)
 
 -- the rows in the range at s: of every key there the newest version at or below s, without deletions, in order of the keys
 abbrev pub snapshot : KeyRange → ℕ → List KeyVersions → List KeyRow

@@ -1,5 +1,5 @@
 -- A key is in the range of a slot just where the directory that it lies in is: ranges are cut at root keys.
-use Rattle.std.proofs.Common.{◌≡◌, ◌≢◌, ℕ, zero, suc, true, not, ◌&&◌, Bool, List, [], ◌∷◌, ◌++◌, Option, Some, None, length, map, drop, refl, ap, sym, ◌∙◌, subst}
+use Rattle.std.proofs.Common.{◌≡◌, ◌≢◌, ℕ, zero, suc, true, not, ◌&&◌, Bool, List, [], ◌∷◌, ◌++◌, Option, Some, None, length, map, drop, refl, ap, sym, ◌∙◌, subst, inl, inr}
 use Rattle.std.specs.Prelude.{slice_get}
 use Rattle.std.specs.Ordering.{is_lt, nat_cmp, ordering_then}
 use Rattle.std.specs.declared.cmp.Ordering.{Ordering}
@@ -18,6 +18,9 @@ use Rattle.span_shard.proofs.Bytes.{begins_front}
 use Rattle.span_machine.specs.declared.slot.SlotState.{SlotState}
 use Rattle.span_machine.specs.Slots.{IsCodedRoot, IsCut, AreCut, is_from, is_upto, is_between, has_key, holds, root_code, ranges_of}
 use Rattle.span_machine.specs.Machine.{Machine}
+use Rattle.span_keycode.specs.Parts.{is_within}
+use Rattle.span_keycode.specs.declared.range.KeyRange.{KeyRange}
+use Rattle.span_machine_laws.proofs.Pieces.{IsEnd, AreEnds}
 use Rattle.span_machine_laws.proofs.Reached.{IsReached}
 use Rattle.span_version_laws.specs.Kept.{is_under}
 use Rattle.span_version_laws.proofs.Roots.{first_and_rest}
@@ -109,6 +112,27 @@ module _ (schema : List Table) (rules : MeetsRules schema) where
     pub has_under : (slot_state : SlotState) → IsCut schema slot_state.lo → IsCut schema slot_state.hi → has_key slot_state k ≡ holds schema slot_state root
     unfolding is_between
     has_under slot_state lo hi = ap (λ (b : Bool). b && is_upto slot_state.hi k) (from_cut slot_state.lo lo) ∙ ap (λ (b : Bool). is_from slot_state.lo (root_code schema root) && b) (upto_cut slot_state.hi hi)
+
+    -- also below an end that is the number of a table alone
+    less_number : (n : ℕ) → is_lt (byte_order k (n ∷ [])) ≡ is_lt (byte_order (key_code schema root.table root.key) (n ∷ []))
+    less_number n =
+        let front = code_front root is in
+        let rest : List ℕ = drop (length (key_code schema root.table root.key)) k in
+        let code : k ≡ root.table ∷ (front.0 ++ rest) = sym whole ∙ ap (λ (l : List ℕ). l ++ rest) front.1 in
+        ap (λ (l : List ℕ). is_lt (byte_order l (n ∷ []))) code
+        ∙ then_less (nat_cmp root.table n) (front.0 ++ rest) ∙ sym (then_less (nat_cmp root.table n) front.0)
+        ∙ sym (ap (λ (l : List ℕ). is_lt (byte_order l (n ∷ []))) front.1)
+
+    less_end : (key : List ℕ) → IsEnd schema key → is_lt (byte_order k key) ≡ is_lt (byte_order (root_code schema root) key)
+    unfolding root_code
+    less_end key (inl cut) = ap (λ (l : List ℕ). is_lt (byte_order k l)) cut.2 ∙ less_cut cut.0 cut.1 ∙ ap (λ (l : List ℕ). is_lt (byte_order (key_code schema root.table root.key) l)) (sym cut.2)
+    less_end key (inr number) = ap (λ (l : List ℕ). is_lt (byte_order k l)) number.1 ∙ less_number number.0 ∙ ap (λ (l : List ℕ). is_lt (byte_order (key_code schema root.table root.key) l)) (sym number.1)
+
+    -- a range with such ends has the key just where it has the root row's
+    pub within_as_root : (range : KeyRange) → AreEnds schema range → is_within range k ≡ is_within range (root_code schema root)
+    within_as_root range ends =
+        ap (λ (b : Bool). not b && is_lt (byte_order k range.high)) (less_end range.low ends.0)
+        ∙ ap (λ (b : Bool). not (is_lt (byte_order (root_code schema root) range.low)) && b) (less_end range.high ends.1)
 
 -- ---- the slots of a machine
 

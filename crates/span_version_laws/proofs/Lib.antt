@@ -10,10 +10,13 @@ pub mod Applying
 pub mod Preparing
 pub mod Trims
 pub mod Parts
+pub mod Splitting
+pub mod AllKept
 pub mod Sorted
 pub mod KeyOrders
+pub mod TableOrder
 pub mod Snapshots
-pub mod FirstSlot
+pub mod RangeRows
 pub mod Covers
 pub mod Counting
 pub mod Changes

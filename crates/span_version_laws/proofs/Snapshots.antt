@@ -1,9 +1,8 @@
 -- A snapshot at a sealed timestamp has the rows of the tables.
-use Rattle.std.proofs.Common.{◌≡◌, ◌≢◌, ℕ, suc, ◌+◌, ◌-◌, ◌<◌, ◌≤◌, Bool, true, false, cond, not, ◌||◌, ◌==◌, nat_lt, nat_le, List, [], ◌∷◌, ◌++◌, map, Option, Some, None, Ok, refl, ap, sym, ◌∙◌, subst, inl, inr, ◌⊎◌, arith}
+use Rattle.std.proofs.Common.{◌≡◌, ◌≢◌, ℕ, suc, ◌<◌, ◌≤◌, Bool, true, false, cond, not, ◌||◌, ◌==◌, nat_lt, nat_le, List, [], ◌∷◌, ◌++◌, map, Option, Some, None, Ok, refl, ap, sym, ◌∙◌, subst, inl, inr, ◌⊎◌, arith}
 use Rattle.std.specs.Prelude.{slice_get, find, filter, option_map}
 use Rattle.std.specs.List.{AllByRecursion, list_all, filter_map, cons_option}
-use Rattle.std.specs.Ordering.{nat_cmp, ordering_then, is_lt}
-use Rattle.std.specs.declared.cmp.Ordering.{Ordering}
+use Rattle.std.specs.Ordering.{nat_cmp, ordering_then}
 use Rattle.std.specs.declared.cmp.Ordering.TheVariants.{Less, Equal}
 use Rattle.std.specs.Cmp.{tied_itself}
 use Rattle.std.proofs.lemmas.Bool.Decides.{nat_tests}
@@ -11,22 +10,17 @@ use Rattle.std.proofs.lemmas.List.{append-nil}
 use Rattle.std.proofs.lemmas.List.Elements.{filter-append}
 use Rattle.span_schema.specs.declared.table.Table.{Table}
 use Rattle.span_schema.specs.Lineages.{MeetsRules}
-use Rattle.span_schema.specs.Numbers.{key_columns, root_of, path_of}
-use Rattle.span_schema.proofs.Numbered.{path_has}
+use Rattle.span_schema.specs.Numbers.{key_columns}
 use Rattle.span_keycode.specs.Order.{byte_order}
-use Rattle.span_keycode.specs.Keys.{level_of}
-use Rattle.span_keycode.specs.Keys as keys
 use Rattle.span_keycode.proofs.KeyLaws.{one_key}
 use Rattle.span_rowcode.specs.Rows.{row_code}
 use Rattle.span_mutate.specs.declared.row.TableRow.{TableRow}
 use Rattle.span_mutate.specs.Database.{apply, rows_of}
 use Rattle.span_mutate.specs.Rows.{key_order}
-use Rattle.span_mutate.specs.Directories.{Root, rows_cmp, IsRising, IsDatabase, by_key}
+use Rattle.span_mutate.specs.Directories.{Root, rows_cmp, IsRising, IsDatabase}
 use Rattle.span_mutate.specs.Typed.{IsTyped, AreTyped}
-use Rattle.span_mutate.proofs.Begins.{same_number}
 use Rattle.span_mutate.proofs.Orders.{rows_total}
 use Rattle.span_mutate.proofs.Placing.{rising_filter}
-use Rattle.span_mutate.proofs.TableLists.{rows_in_order}
 use Rattle.span_shard.specs.KeyVersions.{KeyVersions}
 use Rattle.span_shard.specs.Rows.{code_of, is_coded, row_coded}
 use Rattle.span_shard.specs.Versions.{row_at}
@@ -42,14 +36,14 @@ use Rattle.span_mutate.proofs.TypedRows.{typed_stay}
 use Rattle.span_machine_laws.proofs.Locality.{apply-database, empty_database}
 use Rattle.span_machine_laws.proofs.Schemas.{keyed_upto, typed_upto}
 use Rattle.span_machine.specs.Machine.{Machine, has_key, holds, is_prepared_at, is_safe, commit_of}
-use Rattle.span_machine_laws.proofs.Tests.{first_true, second_true, both_of}
+use Rattle.span_machine_laws.proofs.Tests.{first_true, second_true}
 use Rattle.span_machine_laws.proofs.Lists.{IsIn, found_in, found_passes, kept_in, all_in, all_found, all_true}
 use Rattle.span_machine_laws.proofs.Stability.{changes_at, is_some_of}
 use Rattle.span_machine_laws.proofs.InPlace.{commits_at, claims}
 use Rattle.span_machine_laws.proofs.Sealed.{IsAbove}
 use Rattle.span_machine_laws.proofs.Holdings.{IsHolding, IsUpto}
 use Rattle.span_machine_laws.proofs.Reached.{IsReached}
-use Rattle.span_version_laws.specs.Kept.{IsCodedRoot, IsCodedCoding, is_under, IsKeptUnder, IsKeptBy, AreKept, key_row, family, HasRowsOf, HasRows, has_row}
+use Rattle.span_version_laws.specs.Kept.{IsCodedRoot, IsCodedCoding, is_under, IsKeptUnder, IsKeptBy, AreKept, key_row, HasRowsOf, HasRows, has_row, row_within}
 use Rattle.span_version_laws.specs.Kept as versions
 use Rattle.span_machine.specs.declared.transaction.Commit.{Commit}
 use Rattle.span_shard.specs.declared.chain.Version.{Version}
@@ -58,8 +52,9 @@ use Rattle.span_version_laws.proofs.Cuts.{held_by_key}
 use Rattle.span_version_laws.proofs.Trimming.{row_kept_above}
 use Rattle.span_version_laws.proofs.Claimers.{late}
 use Rattle.span_version_laws.proofs.Keys.{IsUnderAll, all_by_key}
-use Rattle.span_version_laws.proofs.KeyOrders.{code_order}
-use Rattle.span_version_laws.proofs.Roots.{coding_of_row, root_of_coding, first_and_rest}
+use Rattle.span_version_laws.proofs.TableOrder.{code_cmp, IsOfTable, of_table, table_rises}
+use Rattle.span_keycode.specs.declared.range.KeyRange.{KeyRange}
+use Rattle.span_version_laws.proofs.Roots.{coding_of_row, root_of_coding}
 use Rattle.span_version_laws.proofs.Rows.{all_pass, row_of_tables}
 use Rattle.span_version_laws.proofs.Sorted.{in_cons, same_rising}
 
@@ -97,18 +92,7 @@ in_filter_map {A} {B} f (z ∷ zs) x y at e = by_place (in_cons x z zs at) (λ r
     by_place (inl same) again = subst (λ (o : Option B). IsIn y (cons_option o (filter_map f zs))) (sym (ap f (sym same) ∙ e)) (0, refl)
     by_place (inr rest) again = later (f z) (again rest)
 
-rising_as : {X : Type 0} (P : X → Type 0) (R S : X → X → Ordering) → ((x y : X) → P x → P y → R x y ≡ Less → S x y ≡ Less) → (xs : List X) → AllByRecursion P xs → IsRising R xs → IsRising S xs
-rising_as P R S turn [] all up = tt
-rising_as {X} P R S turn (x ∷ xs) all up = (rest xs all.1 up.0, rising_as P R S turn xs all.1 up.1)
-  where
-    rest : (ys : List X) → AllByRecursion P ys → AllByRecursion (λ y. R x y ≡ Less) ys → AllByRecursion (λ y. S x y ≡ Less) ys
-    rest [] each low = tt
-    rest (y ∷ ys) each low = (turn x y all.0 each.0 low.0, rest ys each.1 low.1)
-
 -- ---- rows by their codings
-
-abbrev code_cmp : List Table → TableRow → TableRow → Ordering
-code_cmp schema q r = byte_order (code_of schema q) (code_of schema r)
 
 never_less : (schema : List Table) (r : TableRow) → code_cmp schema r r ≢ Less
 never_less schema r e = let same : byte_order (code_of schema r) (code_of schema r) ≡ Equal = tied_itself bytes_total (code_of schema r) in cc
@@ -135,30 +119,6 @@ found_itself schema rules (x ∷ xs) up typed r is_typed at = by_place (in_cons 
     by_place (inl same) again =
         ap (λ (b : Bool). cond b (Some x) (find (is_coded schema (code_of schema r)) xs)) (bytes_same (code_of schema r) (code_of schema x) (ap (code_of schema) same)) ∙ ap Some (sym same)
     by_place (inr rest) again = by_test (is_coded schema (code_of schema r) x) refl (all_in (λ (y : TableRow). rows_cmp schema x y ≡ Less) xs r rest up.0) (again rest)
-
--- the coding of a key begins with the number of its root table
-code_first : (schema : List Table) (r : TableRow) → (rest : List ℕ) × (code_of schema r ≡ root_of schema r.table ∷ rest)
-code_first schema r =
-    (_, ap (λ (path : List ℕ). keys.code_of schema (map (level_of schema r.key) path)) (first_and_rest (path_of schema r.table) (path_has schema (r.table - 1))))
-
-within_family : (t : ℕ) (k rest : List ℕ) → k ≡ t ∷ rest → is_within (family t) k ≡ true
-within_family t k rest e = subst (λ (l : List ℕ). is_within (family t) l ≡ true) (sym e) (both_of (not (is_lt (byte_order (t ∷ rest) (t ∷ [])))) (is_lt (byte_order (t ∷ rest) ((t + 1) ∷ []))) from below)
-  where
-    equal_first : nat_cmp t t ≡ Equal
-    equal_first = grind (arith, nat_tests)
-
-    less_next : nat_cmp t (t + 1) ≡ Less
-    less_next = grind (arith, nat_tests)
-
-    not_less : (l : List ℕ) → not (is_lt (byte_order l [])) ≡ true
-    not_less [] = refl
-    not_less (x ∷ xs) = refl
-
-    from : not (is_lt (byte_order (t ∷ rest) (t ∷ []))) ≡ true
-    from = ap (λ (o : Ordering). not (is_lt (ordering_then o (byte_order rest [])))) equal_first ∙ not_less rest
-
-    below : is_lt (byte_order (t ∷ rest) ((t + 1) ∷ [])) ≡ true
-    below = ap (λ (o : Ordering). is_lt (ordering_then o (byte_order rest []))) less_next
 
 -- ---- the tables
 
@@ -210,22 +170,22 @@ module _ (schema : List Table) (rules : MeetsRules schema) (m : Machine) {slot :
   all_seen = all_by_key IsSeen cs kept.keys (λ c at.
       sym (ap (λ o. row_at (versions_of o) s) at) ∙ row_is_tables c.key (all_found (λ (d : KeyVersions). IsCodedCoding schema d.key) (is_key c.key) cs c at kept.coded) (inside_found c.key c at))
 
-  -- ---- the rows of a family
+  -- ---- the rows of a range
 
-  module _ (t : ℕ) where
+  module _ (range : KeyRange) where
     row_if : List ℕ → Option (List ℕ) → Option TableRow
     row_if k None = None
     row_if k (Some row) = find (is_coded schema k) db
 
-    -- the row of the tables at a key of the family
+    -- the row of the tables at a key of the range
     abbrev row_from : KeyVersions → Option TableRow
-    row_from c = cond (is_within (family t) c.key) (row_if c.key (row_at c.versions s)) None
+    row_from c = cond (is_within range c.key) (row_if c.key (row_at c.versions s)) None
 
     abbrev rows_from : List KeyVersions → List TableRow
     rows_from ds = filter_map row_from ds
 
     abbrev entries_from : List KeyVersions → List KeyRow
-    entries_from ds = filter_map (seen_at s) (filter (λ (c : KeyVersions). is_within (family t) c.key) ds)
+    entries_from ds = filter_map (seen_at s) (filter (λ (c : KeyVersions). is_within range c.key) ds)
 
     -- what is found at a key with a row
     found_at : (k row : List ℕ) → row_coded schema db k ≡ Some row → (r : TableRow) × (find (is_coded schema k) db ≡ Some r) × (k ≡ code_of schema r) × (row ≡ row_code r.cells)
@@ -239,7 +199,7 @@ module _ (schema : List Table) (rules : MeetsRules schema) (m : Machine) {slot :
 
     entry_of : (c : KeyVersions) (ds : List KeyVersions) → IsSeen c → entries_from ds ≡ map (key_row schema) (rows_from ds) → entries_from (c ∷ ds) ≡ map (key_row schema) (rows_from (c ∷ ds))
     unfolding row_if
-    entry_of c ds seen again = elim (is_within (family t) c.key) as (λ b. filter_map (seen_at s) (cond b (c ∷ filter (λ (d : KeyVersions). is_within (family t) d.key) ds) (filter (λ (d : KeyVersions). is_within (family t) d.key) ds))
+    entry_of c ds seen again = elim (is_within range c.key) as (λ b. filter_map (seen_at s) (cond b (c ∷ filter (λ (d : KeyVersions). is_within range d.key) ds) (filter (λ (d : KeyVersions). is_within range d.key) ds))
         ≡ map (key_row schema) (cons_option (cond b (row_if c.key (row_at c.versions s)) None) (rows_from ds))) [
           | false ↦ again
           | true ↦ by_row (row_at c.versions s) refl
@@ -257,15 +217,15 @@ module _ (schema : List Table) (rules : MeetsRules schema) (m : Machine) {slot :
     entries_are (c ∷ ds) all = entry_of c ds all.0 (entries_are ds all.1)
 
     -- a row that is there is one of the database, at that key
-    row_from_is : (c : KeyVersions) (r : TableRow) → row_from c ≡ Some r → (find (is_coded schema c.key) db ≡ Some r) × (is_within (family t) c.key ≡ true)
+    row_from_is : (c : KeyVersions) (r : TableRow) → row_from c ≡ Some r → (find (is_coded schema c.key) db ≡ Some r) × (is_within range c.key ≡ true)
     unfolding row_if
-    row_from_is c r e = by_range (is_within (family t) c.key) refl e
+    row_from_is c r e = by_range (is_within range c.key) refl e
       where
         by_row : (o : Option (List ℕ)) → row_if c.key o ≡ Some r → find (is_coded schema c.key) db ≡ Some r
         by_row None f = absurd cc
         by_row (Some row) f = f
 
-        by_range : (b : Bool) → is_within (family t) c.key ≡ b → cond b (row_if c.key (row_at c.versions s)) None ≡ Some r → (find (is_coded schema c.key) db ≡ Some r) × (is_within (family t) c.key ≡ true)
+        by_range : (b : Bool) → is_within range c.key ≡ b → cond b (row_if c.key (row_at c.versions s)) None ≡ Some r → (find (is_coded schema c.key) db ≡ Some r) × (is_within range c.key ≡ true)
         by_range false f g = absurd cc
         by_range true f g = (by_row (row_at c.versions s) g, f)
 
@@ -295,6 +255,9 @@ module _ (schema : List Table) (rules : MeetsRules schema) (m : Machine) {slot :
         by_row None e all = all
         by_row (Some r) e all = (ap (has_key kept.slot_state) (sym (code_is c r e)) ∙ inside.0, all)
 
+    rows_in_range : (ds : List KeyVersions) → AllByRecursion (λ r. row_within schema range r ≡ true) (rows_from ds)
+    rows_in_range ds = all_from (λ r. row_within schema range r ≡ true) ds (λ c r e. ap (is_within range) (sym (code_is c r e)) ∙ (row_from_is c r e).1)
+
     rows_under : (k : List ℕ) (ds : List KeyVersions) → IsUnderAll k ds → AllByRecursion (λ r. byte_order k (code_of schema r) ≡ Less) (rows_from ds)
     rows_under k [] under = tt
     rows_under k (c ∷ ds) under = by_row (row_from c) refl (rows_under k ds under.1)
@@ -311,10 +274,10 @@ module _ (schema : List Table) (rules : MeetsRules schema) (m : Machine) {slot :
         by_row None e rest = rest
         by_row (Some r) e rest = (subst (λ (k : List ℕ). AllByRecursion (λ q. byte_order k (code_of schema q) ≡ Less) (rows_from ds)) (code_is c r e) (rows_under c.key ds up.0), rest)
 
-    -- every row of a table of the family in the slot's range is there
-    row_is_there : (r : TableRow) → IsTyped schema r → has_row schema kept.slot_state r ≡ true → IsIn r db → root_of schema r.table ≡ t → IsIn r (rows_from cs)
+    -- every row of the range in the slot's range is there
+    row_is_there : (r : TableRow) → IsTyped schema r → has_row schema kept.slot_state r ≡ true → IsIn r db → row_within schema range r ≡ true → IsIn r (rows_from cs)
     unfolding row_if
-    row_is_there r is_typed has at family_is =
+    row_is_there r is_typed has at within =
         let found : find (is_coded schema (code_of schema r)) db ≡ Some r = found_itself schema rules db is_db.0 typed r is_typed at in
         let coded : row_coded schema db (code_of schema r) ≡ Some (row_code r.cells) = ap (option_map (λ (q : TableRow). row_code q.cells)) found in
         let seen : row_at (versions_at cs (code_of schema r)) s ≡ Some (row_code r.cells) =
@@ -324,62 +287,44 @@ module _ (schema : List Table) (rules : MeetsRules schema) (m : Machine) {slot :
         none_seen : row_at [] s ≡ None
         none_seen = refl
 
-        within : is_within (family t) (code_of schema r) ≡ true
-        within = let first = code_first schema r in within_family t (code_of schema r) first.0 (first.1 ∙ ap (λ (n : ℕ). n ∷ first.0) family_is)
-
         by_find : find (is_coded schema (code_of schema r)) db ≡ Some r → (o : Option KeyVersions) → find (is_key (code_of schema r)) cs ≡ o → row_at (versions_of o) s ≡ Some (row_code r.cells) → IsIn r (rows_from cs)
         by_find found None e seen = absurd (let bad : None ≡ Some (row_code r.cells) = sym none_seen ∙ seen in cc)
         by_find found (Some c) e seen =
             let same : code_of schema r ≡ c.key = same_bytes (code_of schema r) c.key (found_passes (is_key (code_of schema r)) cs c e) in
             in_filter_map row_from cs c r (found_in (is_key (code_of schema r)) cs c e)
-            (ap (λ (b : Bool). cond b (row_if c.key (row_at c.versions s)) None) (ap (is_within (family t)) (sym same) ∙ within)
+            (ap (λ (b : Bool). cond b (row_if c.key (row_at c.versions s)) None) (ap (is_within range) (sym same) ∙ within)
             ∙ ap (row_if c.key) seen ∙ ap (λ (k : List ℕ). find (is_coded schema k) db) (sym same) ∙ found)
 
     -- of one table they are the database's, in its order
-    abbrev IsOfTable : ℕ → TableRow → Type 0
-    IsOfTable n r = IsTyped schema r × (r.table ≡ n)
-
-    of_table : (n : ℕ) (rows : List TableRow) → AreTyped schema rows → AllByRecursion (IsOfTable n) (rows_of n rows)
-    of_table n [] all = tt
-    of_table n (r ∷ rows) all = by_test (r.table == n) refl (of_table n rows all.1)
-      where
-        by_test : (b : Bool) → (r.table == n) ≡ b → AllByRecursion (IsOfTable n) (rows_of n rows) → AllByRecursion (IsOfTable n) (cond b (r ∷ rows_of n rows) (rows_of n rows))
-        by_test true e rest = ((all.0, same_number r.table n e), rest)
-        by_test false e rest = rest
-
-    by_code : (n : ℕ) (q r : TableRow) → IsOfTable n q → IsOfTable n r → by_key schema n q r ≡ Less → code_cmp schema q r ≡ Less
-    by_code n q r of_q of_r e =
-        let one : q.table ≡ r.table = of_q.1 ∙ sym of_r.1 in
-        ap (λ (j : ℕ). byte_order (keys.key_code schema j q.key) (code_of schema r)) one
-        ∙ code_order schema rules r.table q.key r.key (subst (λ (j : ℕ). keys.IsKey schema j q.key) one of_q.0.0.0) of_r.0.0.0
-        ∙ ap (λ (j : ℕ). key_order (key_columns schema j) q.key r.key) of_r.1 ∙ e
-
-    family_rows : (n : ℕ) → root_of schema n ≡ t → rows_of n (rows_from cs) ≡ filter (has_row schema kept.slot_state) (rows_of n db)
-    family_rows n family_is = same_rising (code_cmp schema) (never_less schema) (λ x y z e f. bytes_total.trans (code_of schema x) (code_of schema y) (code_of schema z) e f) (rows_of n (rows_from cs)) (filter (has_row schema kept.slot_state) (rows_of n db))
+    rows_there : (n : ℕ) → rows_of n (rows_from cs) ≡ filter (row_within schema range) (filter (has_row schema kept.slot_state) (rows_of n db))
+    rows_there n = same_rising (code_cmp schema) (never_less schema) (λ x y z e f. bytes_total.trans (code_of schema x) (code_of schema y) (code_of schema z) e f) (rows_of n (rows_from cs)) (filter (row_within schema range) (filter (has_row schema kept.slot_state) (rows_of n db)))
         (rising_filter (code_cmp schema) (λ (r : TableRow). r.table == n) (rows_from cs) (rows_rise cs kept.keys))
-        (rising_filter (code_cmp schema) (has_row schema kept.slot_state) (rows_of n db) (rising_as (IsOfTable n) (by_key schema n) (code_cmp schema) (by_code n) (rows_of n db) (of_table n db typed) (rows_in_order schema db is_db n)))
+        (rising_filter (code_cmp schema) (row_within schema range) (filter (has_row schema kept.slot_state) (rows_of n db)) (rising_filter (code_cmp schema) (has_row schema kept.slot_state) (rows_of n db) (table_rises schema rules db is_db typed n)))
         (λ r at.
         let from : IsIn r (rows_from cs) = kept_in (λ (q : TableRow). q.table == n) (rows_from cs) r at in
-        in_filter (has_row schema kept.slot_state) (rows_of n db) r
-        (in_filter (λ (q : TableRow). q.table == n) db r (all_in (λ q. IsIn q db) (rows_from cs) r from (rows_of_database cs))
-        (all_in (λ (q : TableRow). (q.table == n) ≡ true) (rows_of n (rows_from cs)) r at (all_pass (λ (q : TableRow). q.table == n) (rows_from cs))))
-        (all_in (λ (q : TableRow). has_row schema kept.slot_state q ≡ true) (rows_from cs) r from (rows_inside cs kept.inside)))
+        let of_n : IsIn r (rows_of n db) = in_filter (λ (q : TableRow). q.table == n) db r (all_in (λ q. IsIn q db) (rows_from cs) r from (rows_of_database cs))
+        (all_in (λ (q : TableRow). (q.table == n) ≡ true) (rows_of n (rows_from cs)) r at (all_pass (λ (q : TableRow). q.table == n) (rows_from cs))) in
+        in_filter (row_within schema range) (filter (has_row schema kept.slot_state) (rows_of n db)) r
+        (in_filter (has_row schema kept.slot_state) (rows_of n db) r of_n (all_in (λ (q : TableRow). has_row schema kept.slot_state q ≡ true) (rows_from cs) r from (rows_inside cs kept.inside)))
+        (all_in (λ (q : TableRow). row_within schema range q ≡ true) (rows_from cs) r from (rows_in_range cs)))
         (λ r at.
-        let there : IsIn r (rows_of n db) = kept_in (has_row schema kept.slot_state) (rows_of n db) r at in
-        let has : has_row schema kept.slot_state r ≡ true = all_in (λ (q : TableRow). has_row schema kept.slot_state q ≡ true) (filter (has_row schema kept.slot_state) (rows_of n db)) r at (all_pass (has_row schema kept.slot_state) (rows_of n db)) in
-        let is = all_in (IsOfTable n) (rows_of n db) r there (of_table n db typed) in
-        in_filter (λ (q : TableRow). q.table == n) (rows_from cs) r (row_is_there r is.0 has (kept_in (λ (q : TableRow). q.table == n) db r there) (ap (root_of schema) is.1 ∙ family_is))
+        let held : IsIn r (filter (has_row schema kept.slot_state) (rows_of n db)) = kept_in (row_within schema range) (filter (has_row schema kept.slot_state) (rows_of n db)) r at in
+        let there : IsIn r (rows_of n db) = kept_in (has_row schema kept.slot_state) (rows_of n db) r held in
+        let within : row_within schema range r ≡ true = all_in (λ (q : TableRow). row_within schema range q ≡ true) (filter (row_within schema range) (filter (has_row schema kept.slot_state) (rows_of n db))) r at (all_pass (row_within schema range) (filter (has_row schema kept.slot_state) (rows_of n db))) in
+        let has : has_row schema kept.slot_state r ≡ true = all_in (λ (q : TableRow). has_row schema kept.slot_state q ≡ true) (filter (has_row schema kept.slot_state) (rows_of n db)) r held (all_pass (has_row schema kept.slot_state) (rows_of n db)) in
+        let is = all_in (IsOfTable schema n) (rows_of n db) r there (of_table schema n db typed) in
+        in_filter (λ (q : TableRow). q.table == n) (rows_from cs) r (row_is_there r is.0 has (kept_in (λ (q : TableRow). q.table == n) db r there) within)
         (all_in (λ (q : TableRow). (q.table == n) ≡ true) (rows_of n db) r there (all_pass (λ (q : TableRow). q.table == n) db)))
 
-    -- what a snapshot of the family has
-    pub snapshot_rows : (n : ℕ) → root_of schema n ≡ t → HasRowsOf schema kept.slot_state n db (snapshot (family t) s cs)
-    snapshot_rows n family_is = record { rows = rows_from cs; typed = rows_typed cs; entries_are = entries_are cs all_seen; of_table = family_rows n family_is }
+    -- what a snapshot of the range has
+    pub snapshot_rows : (n : ℕ) → HasRowsOf schema kept.slot_state range n db (snapshot range s cs)
+    snapshot_rows n = record { rows = rows_from cs; typed = rows_typed cs; entries_are = entries_are cs all_seen; of_table = rows_there n }
 
--- A snapshot that a scan makes at a safe timestamp, not below the horizon, has the rows of the tables that the slot's range has. The floor may
--- have risen before.
+-- A snapshot that a scan makes at a safe timestamp, not below the horizon, has the rows of the tables that the range and the slot's range
+-- have. The floor may have risen before.
 pub snapshot_when_safe : (schema : List Table) → MeetsRules schema → (m : Machine) (slot : ℕ) (slot_state risen : SlotState) (cs : List KeyVersions) (s : ℕ) → IsReached schema m → AreKept schema m slot cs → slice_get m.slots slot ≡ Some slot_state
-    → is_safe m slot risen s ≡ true → slot_state.horizon ≤ s → (db : List TableRow) → tables schema m.log s ≡ Ok db → (n : ℕ) → HasRowsOf schema slot_state n db (snapshot (family (root_of schema n)) s cs)
-snapshot_when_safe schema rules m slot slot_state risen cs s reached kept here safe high db made n =
+    → is_safe m slot risen s ≡ true → slot_state.horizon ≤ s → (db : List TableRow) → tables schema m.log s ≡ Ok db → (n : ℕ) (range : KeyRange) → HasRowsOf schema slot_state range n db (snapshot range s cs)
+snapshot_when_safe schema rules m slot slot_state risen cs s reached kept here safe high db made n range =
     let same : kept.slot_state ≡ slot_state = state_is schema m cs kept slot_state here in
     let above : AllByRecursion (IsAbove s slot) m.transactions =
     all_true (IsAbove s slot) (λ t. list_all (λ p. not (p.slot == slot) || nat_lt s p.timestamp) t.prepared)
@@ -387,5 +332,5 @@ snapshot_when_safe schema rules m slot slot_state risen cs s reached kept here s
     m.transactions (second_true (nat_le s risen.floor) _ safe) in
     let is_db : IsDatabase schema db = apply-database schema rules (mutations_of (upto m.log s)) [] db (empty_database schema) (keyed_upto schema m.log s reached.by_schema.log) made in
     let typed : AreTyped schema db = typed_stay schema [] (mutations_of (upto m.log s)) db tt (typed_upto schema m.log s reached.by_schema.log) made in
-    subst (λ (b : SlotState). HasRowsOf schema b n db (snapshot (family (root_of schema n)) s cs)) same
-    (snapshot_rows schema rules m cs s reached kept above (subst (λ (b : SlotState). b.horizon ≤ s) (sym same) high) db is_db typed made (root_of schema n) n refl)
+    subst (λ (b : SlotState). HasRowsOf schema b range n db (snapshot range s cs)) same
+    (snapshot_rows schema rules m cs s reached kept above (subst (λ (b : SlotState). b.horizon ≤ s) (sym same) high) db is_db typed made range n)

@@ -18,15 +18,18 @@ use Rattle.span_shard.proofs.Undo.{IsOpenFor}
 use Rattle.span_query.specs.declared.query.Statement.{Statement}
 use Rattle.span_machine.specs.declared.slot.SlotState.{SlotState}
 use Rattle.span_machine.specs.declared.step.Step.{Step}
-use Rattle.span_machine.specs.declared.step.Step.TheVariants.{Begin, Prepare, Decide, Apply, Advance, Trim, Open, Scan, Finish, Close}
+use Rattle.span_machine.specs.declared.step.Step.TheVariants.{Begin, Prepare, Decide, Apply, Advance, Trim, Open, Scan, Finish, Close, Split}
 use Rattle.span_machine.specs.declared.step.Verdict.{Verdict}
 use Rattle.span_machine.specs.declared.transaction.Commit.{Commit}
 use Rattle.span_machine.specs.declared.transaction.OpenTransaction.{OpenTransaction}
 use Rattle.span_machine.specs.declared.transaction.Decision.{Decision}
 use Rattle.span_machine.specs.declared.transaction.Decision.TheVariants as decision
 use Rattle.span_machine.specs.declared.transaction.Prepared.{Prepared}
-use Rattle.span_machine.specs.Slots.{root_code}
-use Rattle.span_machine.specs.Machine.{Machine, Answer, answer, start, first_slot, has_key, holds, begin, begun, prepare, prepared, add_prepared, prepare_timestamp, decide, apply_step, applied, applied_at, without_prepared, advance, trim, trimmed, with_horizon, open_query, scan, finish, close, is_transaction, is_undecided, is_prepared_at, is_all_prepared, is_prepared_for, commit_timestamp, commit_of, committed, aborted, with_decision, coordinator_slot, changed_first, without_first, refused}
+use Rattle.span_machine.specs.Slots.{root_code, slot_of}
+use Rattle.span_mutate.specs.RootKeys.{root_key}
+use Rattle.span_params.specs.declared.params.Parameter.{Parameter}
+use Rattle.span_machine_laws.proofs.Splits.{part_below, part_from, split_other}
+use Rattle.span_machine.specs.Machine.{Machine, Answer, answer, start, first_slot, has_key, holds, begin, begun, prepare, prepared, add_prepared, prepare_timestamp, decide, apply_step, applied, applied_at, without_prepared, advance, trim, trimmed, with_horizon, open_query, scan, finish, close, split_in_two, is_transaction, is_undecided, is_prepared_at, is_all_prepared, is_prepared_for, commit_timestamp, commit_of, committed, aborted, with_decision, coordinator_slot, changed_first, without_first, refused}
 use Rattle.span_machine_laws.proofs.Causes.{may_commit, undecided_is}
 use Rattle.span_machine_laws.proofs.Tests.{second_true, both_of}
 use Rattle.span_machine_laws.proofs.Stability.{is_some_of}
@@ -91,18 +94,19 @@ kept_same schema m n slot cs kept log ts still = kept_still schema n slot kept.s
     subst (λ l. IsKeptBy schema root k kept.slot_state.horizon (commits_at schema root l) (versions_at cs k) (prepared_at cs k) (filter (claims schema root slot) n.transactions)) (sym log)
     (subst (λ us. IsKeptBy schema root k kept.slot_state.horizon (commits_at schema root m.log) (versions_at cs k) (prepared_at cs k) (filter (claims schema root slot) us)) (sym ts) (kept.kept root is held k under)))
 
--- after a step that leaves the slot's versions, they are kept; a Prepare, an Apply and a Trim leave those of other slots
-abbrev pub KeepsVersions : List Table → ℕ → List KeyVersions → Step → Answer → Type 0
-KeepsVersions schema slot cs (Prepare owner txn i) a = slot ≢ i → AreKept schema a.1 slot cs
-KeepsVersions schema slot cs (Apply owner txn i interval) a = slot ≢ i → AreKept schema a.1 slot cs
-KeepsVersions schema slot cs (Begin owner ms) a = AreKept schema a.1 slot cs
-KeepsVersions schema slot cs (Decide owner txn v interval) a = AreKept schema a.1 slot cs
-KeepsVersions schema slot cs (Advance i interval) a = AreKept schema a.1 slot cs
-KeepsVersions schema slot cs (Trim i h) a = slot ≢ i → AreKept schema a.1 slot cs
-KeepsVersions schema slot cs (Open text params bound interval) a = AreKept schema a.1 slot cs
-KeepsVersions schema slot cs (Scan query leaf i interval) a = AreKept schema a.1 slot cs
-KeepsVersions schema slot cs (Finish query) a = AreKept schema a.1 slot cs
-KeepsVersions schema slot cs (Close query) a = AreKept schema a.1 slot cs
+-- after a step that leaves the slot's versions, they are kept; a Prepare, an Apply, a Trim and a Split leave those of other slots
+abbrev pub KeepsVersions : List Table → Machine → ℕ → List KeyVersions → Step → Answer → Type 0
+KeepsVersions schema m slot cs (Prepare owner txn i) a = slot ≢ i → AreKept schema a.1 slot cs
+KeepsVersions schema m slot cs (Apply owner txn i interval) a = slot ≢ i → AreKept schema a.1 slot cs
+KeepsVersions schema m slot cs (Begin owner ms) a = AreKept schema a.1 slot cs
+KeepsVersions schema m slot cs (Decide owner txn v interval) a = AreKept schema a.1 slot cs
+KeepsVersions schema m slot cs (Advance i interval) a = AreKept schema a.1 slot cs
+KeepsVersions schema m slot cs (Trim i h) a = slot ≢ i → AreKept schema a.1 slot cs
+KeepsVersions schema m slot cs (Open text params bound interval) a = AreKept schema a.1 slot cs
+KeepsVersions schema m slot cs (Scan query leaf i interval) a = AreKept schema a.1 slot cs
+KeepsVersions schema m slot cs (Finish query) a = AreKept schema a.1 slot cs
+KeepsVersions schema m slot cs (Close query) a = AreKept schema a.1 slot cs
+KeepsVersions schema m slot cs (Split table key) a = ((code : List ℕ) → root_key schema table key ≡ Some code → slot_of m.slots code ≢ Some slot) → AreKept schema a.1 slot cs
 
 module _ (schema : List Table) (m : Machine) (reached : IsReached schema m) {slot : ℕ} (cs : List KeyVersions) (kept : AreKept schema m slot cs) where
   -- the transactions that claim a directory of the slot
@@ -231,9 +235,14 @@ module _ (schema : List Table) (m : Machine) (reached : IsReached schema m) {slo
   kept_trimmed_away : (i h : ℕ) (slot_state : SlotState) → slot ≢ i → AreKept schema (trimmed schema m i h slot_state).1 slot cs
   kept_trimmed_away i h slot_state off = kept_same schema m (trimmed schema m i h slot_state).1 slot cs kept refl refl (still_same (slice_set m.slots i (with_horizon h slot_state)) slot kept.slot_state (other_set m.slots slot i (with_horizon h slot_state) off ∙ kept.here))
 
+  -- the slot's state stays where another slot is cut in two
+  pub kept_split_elsewhere : (code : List ℕ) (i : ℕ) (slot_state : SlotState) → slot ≢ i → AreKept schema (split_in_two m i code slot_state).1 slot cs
+  kept_split_elsewhere code i slot_state off = kept_same schema m (split_in_two m i code slot_state).1 slot cs kept refl refl
+      (still_same (slice_set m.slots i (part_below code slot_state) ++ part_from code slot_state ∷ []) slot kept.slot_state (split_other m.slots i (part_below code slot_state) (part_from code slot_state) kept.slot_state slot off kept.here))
+
   -- ---- all steps
 
-  kept_refused : (step : Step) (why : Refusal) → MayRefuse step why → KeepsVersions schema slot cs step (refused m why)
+  kept_refused : (step : Step) (why : Refusal) → MayRefuse step why → KeepsVersions schema m slot cs step (refused m why)
   kept_refused (Prepare owner txn i) why may = λ off. kept
   kept_refused (Apply owner txn i interval) why may = λ off. kept
   kept_refused (Begin owner ms) why may = kept
@@ -244,8 +253,9 @@ module _ (schema : List Table) (m : Machine) (reached : IsReached schema m) {slo
   kept_refused (Scan query leaf i interval) why may = kept
   kept_refused (Finish query) why may = kept
   kept_refused (Close query) why may = kept
+  kept_refused (Split table key) why may = λ off. kept
 
-  kept_ends : (u : Result Statement Refusal) → Ends schema m u (KeepsVersions schema slot cs)
+  kept_ends : (u : Result Statement Refusal) → Ends schema m u (KeepsVersions schema m slot cs)
   kept_ends u = record {
     refuses = kept_refused;
     begins = λ owner ms accepted. kept_begun owner ms;
@@ -259,15 +269,16 @@ module _ (schema : List Table) (m : Machine) (reached : IsReached schema m) {slo
     trims = λ i h slot_state here accepted off. kept_trimmed_away i h slot_state off;
     opens = λ text params bound interval asked is accepted. kept_same schema m _ slot cs kept refl refl still_here;
     finds_nothing = λ query leaf i interval. kept;
-    scans = λ query leaf i interval q slot_state found here above safe. kept_same schema m _ slot cs kept refl refl (still_risen m.slots slot i q.s interval kept.slot_state slot_state kept.here here);
+    scans = λ query leaf i interval q slot_state l part found here at gap above safe. kept_same schema m _ slot cs kept refl refl (still_risen m.slots slot i q.s interval kept.slot_state slot_state kept.here here);
     waits = λ query leaf i interval q slot_state found here. kept_same schema m _ slot cs kept refl refl (still_risen m.slots slot i q.s interval kept.slot_state slot_state kept.here here);
     finishes = λ query q found covered. kept;
     closes = λ query q found. kept_same schema m _ slot cs kept refl refl still_here;
+    splits = λ table key code i slot_state keyed home here accepted off. kept_split_elsewhere code i slot_state (λ e. off code keyed (home ∙ ap Some (sym e)));
   }
 
-  -- every step keeps what is kept, its refusals included, but a Prepare, an Apply and a Trim of the slot itself
-  pub kept_by_step : (u : Result Statement Refusal) (step : Step) → KeepsVersions schema slot cs step (answer schema m u step)
-  kept_by_step u step = answer_by schema m u (KeepsVersions schema slot cs) (kept_ends u) step
+  -- every step keeps what is kept, its refusals included, but a Prepare, an Apply, a Trim and a Split of the slot itself
+  pub kept_by_step : (u : Result Statement Refusal) (step : Step) → KeepsVersions schema m slot cs step (answer schema m u step)
+  kept_by_step u step = answer_by schema m u (KeepsVersions schema m slot cs) (kept_ends u) step
 
   -- what is understood of a query text where there is none
   abbrev no_text : Result Statement Refusal
@@ -283,8 +294,8 @@ module _ (schema : List Table) (m : Machine) (reached : IsReached schema m) {slo
   pub kept_advance : (i : ℕ) (interval : Interval) → AreKept schema (advance m i interval).1 slot cs
   kept_advance i interval = kept_by_step no_text (Advance i interval)
 
-  pub kept_open : (u : Result Statement Refusal) (bound : Bound) (interval : Interval) → AreKept schema (open_query m u bound interval).1 slot cs
-  kept_open u bound interval = kept_by_step u (Open [] [] bound interval)
+  pub kept_open : (u : Result Statement Refusal) (text : List ℕ) (params : List Parameter) (bound : Bound) (interval : Interval) → AreKept schema (open_query schema m u text params bound interval).1 slot cs
+  kept_open u text params bound interval = kept_by_step u (Open text params bound interval)
 
   pub kept_scan : (query leaf i : ℕ) (interval : Interval) → AreKept schema (scan m query leaf i interval).1 slot cs
   kept_scan query leaf i interval = kept_by_step no_text (Scan query leaf i interval)

@@ -1,11 +1,12 @@
 -- A shard has of each key the versions that the log's commits made there, trimmed at the horizon, one that is not applied yet left out,
 -- and the write that the transaction prepared there is to leave.
-use Rattle.std.proofs.Common.{◌≡◌, ◌≢◌, ℕ, Bool, true, nat_le, if◌then◌else◌, List, [], ◌∷◌, ◌++◌, length, ◌≤◌, ◌+◌, Option, Some, None, Ok}
+use Rattle.std.proofs.Common.{◌≡◌, ◌≢◌, ℕ, Bool, true, nat_le, if◌then◌else◌, List, [], ◌∷◌, ◌++◌, length, ◌≤◌, Option, Some, None, Ok}
 use Rattle.std.specs.Prelude.{filter, map, slice_get}
 use Rattle.std.specs.List.{AllByRecursion}
 use Rattle.span_value.specs.declared.value.Value.{Value}
 use Rattle.span_schema.specs.declared.table.Table.{Table}
-use Rattle.span_schema.specs.Numbers.{IsTable}
+use Rattle.span_schema.specs.Numbers.{IsTable, root_of}
+pub use Rattle.span_keycode.specs.Parts.{is_within, family}
 use Rattle.span_keycode.specs.Keys.{key_code}
 use Rattle.span_keycode.specs.Roots.{IsCoding}
 use Rattle.span_keycode.specs.Limits.{longest_key}
@@ -24,13 +25,13 @@ use Rattle.span_shard.specs.Reading.{is_same_row}
 use Rattle.span_shard.specs.Versions.{row_at, kept_upto}
 use Rattle.span_shard.specs.Shard.{KeyRow, versions_at, prepared_at, AreInOrder, IsInUse}
 use Rattle.span_query.specs.Rows.{Row}
-use Rattle.span_machine.specs.declared.query.Leaf.{Leaf}
+use Rattle.span_machine.specs.declared.query.ScanLeaf.{ScanLeaf}
 use Rattle.span_machine.specs.declared.slot.SlotState.{SlotState}
 use Rattle.span_machine.specs.declared.transaction.Commit.{Commit}
 use Rattle.span_machine.specs.declared.transaction.OpenTransaction.{OpenTransaction}
 use Rattle.span_machine.specs.declared.transaction.Decision.{Decision}
 use Rattle.span_machine.specs.declared.transaction.Decision.TheVariants as decision
-use Rattle.span_machine.specs.Meaning.{declared_row, whole_table}
+use Rattle.span_machine.specs.Meaning.{declared_row}
 use Rattle.span_machine.specs.Tables.{tables}
 use Rattle.span_machine.specs.Kept.{after_mutations}
 use Rattle.span_machine.specs.Machine.{Machine, is_at, has_key, holds, commit_of}
@@ -122,26 +123,51 @@ pub record AreKept (schema : List Table) (m : Machine) (slot : ℕ) (cs : List K
   pub inside : AllByRecursion (λ c. has_key slot_state c.key ≡ true) cs
   pub kept : (root : Root) → IsCodedRoot schema root → holds schema slot_state root ≡ true → (k : List ℕ) → is_under schema root k ≡ true → IsKeptAt schema m slot slot_state.horizon cs root k
 
--- the rows are those of a table of the schema, at s
-pub record HasTable (schema : List Table) (log : List Commit) (s table : ℕ) (rows : List Row) : Type 0 where
+-- the shards of all slots in use are what the log and the open transactions make them
+pub record AreAllKept (schema : List Table) (m : Machine) (shards : List (List KeyVersions)) : Type 0 where
+  pub count : length shards ≡ length m.slots
+  pub each : (slot : ℕ) (cs : List KeyVersions) → slice_get shards slot ≡ Some cs → AreKept schema m slot cs
+
+-- ---- the pieces of open queries
+
+-- the range has the coded key of the row
+abbrev pub row_within : List Table → KeyRange → TableRow → Bool
+row_within schema range r = is_within range (code_of schema r)
+
+-- the rows of a table whose coded keys are in the range, each with its values in the order of declaration
+abbrev pub rows_within : List Table → List TableRow → ℕ → KeyRange → List Row
+rows_within schema db table range = map (declared_row schema) (filter (row_within schema range) (rows_of table db))
+
+-- the rows are those of a table of the schema in the range, at s
+pub record HasRowsIn (schema : List Table) (log : List Commit) (s table : ℕ) (range : KeyRange) (rows : List Row) : Type 0 where
   pub db : List TableRow
   pub made : tables schema log s ≡ Ok db
-  pub whole : rows ≡ whole_table schema db table
+  pub whole : rows ≡ rows_within schema db table range
 
--- a leaf is of a table of the schema, and where a piece covers it, the piece has the rows of that table
-pub record IsLeafPiece (schema : List Table) (log : List Commit) (s : ℕ) (leaf : Leaf) (rows : List Row) : Type 0 where
+-- each piece of a leaf has the rows of its range
+abbrev pub AreRead : List Table → List Commit → ℕ → ℕ → List KeyRange → List (List Row) → Type 0
+AreRead schema log s table [] [] = Unit {0}
+AreRead schema log s table [] (rows ∷ ps) = ⊥
+AreRead schema log s table (c ∷ cs) [] = ⊥
+AreRead schema log s table (c ∷ cs) (rows ∷ ps) = HasRowsIn schema log s table c rows × AreRead schema log s table cs ps
+
+-- a leaf is of a table of the schema and scans its whole family, and its pieces have the rows of their ranges
+pub record IsLeafPieced (schema : List Table) (log : List Commit) (s : ℕ) (leaf : ScanLeaf) (pieces : List (List Row)) : Type 0 where
   pub of_schema : IsTable schema leaf.table
-  pub read : leaf.covered ≡ true → HasTable schema log s leaf.table rows
+  pub whole : leaf.range ≡ family (root_of schema leaf.table)
+  pub read : AreRead schema log s leaf.table leaf.covered pieces
 
--- each leaf and its piece
-abbrev pub AreLeafPieces : List Table → List Commit → ℕ → List Leaf → List (List Row) → Type 0
+-- each leaf and its pieces
+abbrev pub AreLeafPieces : List Table → List Commit → ℕ → List ScanLeaf → List (List (List Row)) → Type 0
 AreLeafPieces schema log s [] [] = Unit {0}
-AreLeafPieces schema log s [] (rows ∷ ps) = ⊥
+AreLeafPieces schema log s [] (pieces ∷ ps) = ⊥
 AreLeafPieces schema log s (l ∷ ls) [] = ⊥
-AreLeafPieces schema log s (l ∷ ls) (rows ∷ ps) = IsLeafPiece schema log s l rows × AreLeafPieces schema log s ls ps
+AreLeafPieces schema log s (l ∷ ls) (pieces ∷ ps) = IsLeafPieced schema log s l pieces × AreLeafPieces schema log s ls ps
 
-abbrev pub IsPieced : List Table → List Commit → Pieced → Type 0
-IsPieced schema log p = AreLeafPieces schema log p.query.s p.query.leaves p.pieces
+-- the leaves are of the tables that the statement reads, and each has its pieces
+pub record IsPieced (schema : List Table) (log : List Commit) (p : Pieced) : Type 0 where
+  pub of_statement : map (λ (l : ScanLeaf). l.table) p.query.leaves ≡ p.query.statement.leaves
+  pub leaves : AreLeafPieces schema log p.query.s p.query.leaves p.pieces
 
 abbrev pub ArePieced : List Table → Machine → List Pieced → Type 0
 ArePieced schema m ps = AllByRecursion (IsPieced schema m.log) ps
@@ -150,20 +176,16 @@ ArePieced schema m ps = AllByRecursion (IsPieced schema m.log) ps
 abbrev pub key_row : List Table → TableRow → KeyRow
 key_row schema r = record { key = code_of schema r; row = row_code r.cells }
 
--- the keys of a family: all that begin with the number of its root table
-abbrev pub family : ℕ → KeyRange
-family root = record { low = root ∷ []; high = (root + 1) ∷ [] }
-
 -- the slot's range has the key of the row
 abbrev pub has_row : List Table → SlotState → TableRow → Bool
 has_row schema slot_state r = has_key slot_state (code_of schema r)
 
--- entries that are rows of a family in the slot's range, those of table n being all that the database has there, in its order
-pub record HasRowsOf (schema : List Table) (slot_state : SlotState) (n : ℕ) (db : List TableRow) (entries : List KeyRow) : Type 0 where
+-- entries that are rows of a range in the slot's range, those of table n being all that the database has there, in its order
+pub record HasRowsOf (schema : List Table) (slot_state : SlotState) (range : KeyRange) (n : ℕ) (db : List TableRow) (entries : List KeyRow) : Type 0 where
   pub rows : List TableRow
   pub typed : AreTyped schema rows
   pub entries_are : entries ≡ map (key_row schema) rows
-  pub of_table : rows_of n rows ≡ filter (has_row schema slot_state) (rows_of n db)
+  pub of_table : rows_of n rows ≡ filter (row_within schema range) (filter (has_row schema slot_state) (rows_of n db))
 
 -- the rows that are read of entries: those of table n, in the order in which its columns are declared
 abbrev pub IsReading : List Table → ℕ → List KeyRow → List (List Value) → Type 0

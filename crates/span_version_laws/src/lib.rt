@@ -2,14 +2,15 @@
 //!
 //! `specs/Kept.antt` says what the shard of a slot keeps of each key in the slot's range (`AreKept`) and what the pieces of open queries
 //! are (`ArePieced`). `proofs/` shows that every step of the machine goes with a change of the shard of its slot that keeps it so, and
-//! leaves the shards of other slots: Steps (the steps that leave the versions, and those at other slots), Preparing, Applying, Trims;
-//! that a snapshot at a safe timestamp then has the rows of the tables there (Snapshots); and that the pieces stay right (Covers, for the
-//! first slot while it is the only one: FirstSlot). The crates with code cite these laws.
+//! leaves the shards of other slots: Steps (the steps that leave the versions, and those at other slots), Preparing, Applying, Trims,
+//! Splitting (a slot that is cut in two), AllKept (the shards of all slots); that a snapshot of any range at a safe timestamp then has the
+//! rows of the tables there (Snapshots); and that the pieces of ranges stay right, and together are the tables (Covers). The crates with
+//! code cite these laws.
 #![tactic(auto)]
 
 ghost use Rattle.std.specs.Prelude.{◌≡◌, ◌≤◌, ℕ, List, Ok, Some, true, slice_get};
 ghost use Rattle.span_schema.specs.Lineages.{MeetsRules};
-ghost use Rattle.span_schema.specs.Numbers.{root_of};
+ghost use Rattle.span_keycode.specs.declared.range.KeyRange.{KeyRange};
 ghost use Rattle.span_schema.specs.declared.table.Table.{Table};
 ghost use Rattle.span_mutate.specs.declared.row.TableRow.{TableRow};
 ghost use Rattle.span_shard.specs.KeyVersions.{KeyVersions};
@@ -19,11 +20,11 @@ ghost use Rattle.span_machine.specs.Kept as kept;
 ghost use Rattle.span_machine.specs.Tables.{tables};
 ghost use Rattle.span_machine.specs.declared.slot.SlotState.{SlotState};
 ghost use Rattle.span_machine_laws.proofs.Reached.{IsReached};
-ghost use Rattle.span_version_laws.specs.Kept.{AreKept, HasRowsOf, family};
+ghost use Rattle.span_version_laws.specs.Kept.{AreKept, HasRowsOf};
 
-/// In every machine that a run reaches, a snapshot that the shard kept for a slot gives of a table's family, at a timestamp that is safe
-/// there and not below the slot's horizon, has of that table just the rows of the tables at that timestamp whose keys are in the slot's
-/// range, in order. A scan may raise the slot's floor first.
+/// In every machine that a run reaches, a snapshot that the shard kept for a slot gives of a range of keys, at a timestamp that is safe
+/// there and not below the slot's horizon, has of each table just the rows of the tables at that timestamp whose keys are in the range
+/// and in the slot's range, in order. A scan may raise the slot's floor first.
 pub fn snapshots_are_tables()
     ensures { (schema : List Table)
         → MeetsRules schema
@@ -35,8 +36,8 @@ pub fn snapshots_are_tables()
         → slot_state.horizon ≤ s
         → (db : List TableRow)
         → tables schema m.log s ≡ Ok db
-        → (n : ℕ)
-        → HasRowsOf schema slot_state n db (snapshot (family (root_of schema n)) s cs) }
+        → (n : ℕ) (range : KeyRange)
+        → HasRowsOf schema slot_state range n db (snapshot range s cs) }
 {}
 
 /// In every machine that a run reaches, the shard that is kept for a slot has just as many versions, prepared ones included, as changes

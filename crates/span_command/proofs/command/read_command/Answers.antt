@@ -8,6 +8,7 @@ returns-in_default c = numbered c.args.line.now c.in-Some.word.now c.in-Some.res
   update = c.in_default.not-update;
   upsert = c.in_default.not-upsert;
   delete = c.in_default.not-delete;
+  split = c.in_default.not-split;
   load = c.in_default.not-load;
   opens = c.in_default.not-open;
   query = c.in_default.not-query;

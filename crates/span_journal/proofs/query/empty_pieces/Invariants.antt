@@ -1,7 +1,7 @@
 use Rattle.std.proofs.Common.{◌≡◌, map, take}
-use Rattle.span_machine.specs.Pieces.{no_rows}
+use Rattle.span_machine.specs.Pieces.{no_pieces}
 use Rattle.span_journal.proofs.query.empty_pieces.Given as goal
 
 -- the pieces so far
 abbrev pub invariant-loop-table : goal.invariant-loop-table
-invariant-loop-table l = l.pieces ≡ map no_rows (take l._table-index l.tables)
+invariant-loop-table l = l.pieces ≡ map no_pieces (take l._table-index l.tables)

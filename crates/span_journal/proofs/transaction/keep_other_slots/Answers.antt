@@ -3,5 +3,5 @@ use Rattle.std.proofs.lemmas.Fn.{filter_same}
 use Rattle.span_machine.specs.declared.transaction.Prepared.{Prepared}
 use Rattle.span_journal.proofs.transaction.keep_other_slots.Goals as goal
 
-pub returns : goal.returns
-returns c = filter_same _ (λ (p : Prepared). not (p.slot == c.args.slot)) _ (λ x b f' k. search rules) _ _ c.retain.ensures.filtered
+pub returns-clause-items : goal.returns-clause-items
+returns-clause-items c = filter_same _ (λ (p : Prepared). not (p.slot == c.args.slot)) _ (λ x b f' k. search rules) _ _ c.retain.ensures.filtered

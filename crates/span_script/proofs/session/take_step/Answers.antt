@@ -3,6 +3,6 @@ use Rattle.span_script.proofs.session.take_step.Goals as goal
 
 pub returns : goal.returns
 returns c = record {
-  taken = step_taken _ _ _ _ _ c.is_reached.ensures.promises c.requires c.step.ensures.steps;
+  taken = step_taken _ _ _ _ _ c.is_reached.ensures.promises c.step.ensures.of_schema c.step.ensures.steps;
   schema = c.step.ensures.schema;
 }

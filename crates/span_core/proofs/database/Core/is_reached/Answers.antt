@@ -7,13 +7,13 @@ use Rattle.span_core.proofs.Promised.{promised, runs_consistent}
 use Rattle.span_core.proofs.database.Core.is_reached.Goals as goal
 
 pub returns-clause-rules : goal.returns-clause-rules
-returns-clause-rules c = subst (λ (st : State). MeetsRules st.schema) c.self.view_is c.self.invariant.rules
+returns-clause-rules c = subst (λ (st : State). MeetsRules st.schema) c.self.view_is c.self.invariant.whole.rules
 
 pub returns-clause-reached : goal.returns-clause-reached
 returns-clause-reached c = subst (λ (st : State). IsRunTo st.schema st.machine) c.self.view_is c.self.invariant.past
 
 pub returns-clause-promises : goal.returns-clause-promises
-returns-clause-promises c = subst (λ (st : State). Promises st.schema st.machine) c.self.view_is (promised c.self.inside.schema c.self.invariant.rules (machine_of c.self.inside.journal))
+returns-clause-promises c = subst (λ (st : State). Promises st.schema st.machine) c.self.view_is (promised c.self.inside.schema c.self.invariant.whole.rules (machine_of c.self.inside.journal))
 
 pub returns-clause-consistent : goal.returns-clause-consistent
-returns-clause-consistent c = subst (λ (st : State). IsConsistent st.schema st.machine) c.self.view_is (runs_consistent c.self.inside.schema c.self.invariant.rules (machine_of c.self.inside.journal))
+returns-clause-consistent c = subst (λ (st : State). IsConsistent st.schema st.machine) c.self.view_is (runs_consistent c.self.inside.schema c.self.invariant.whole.rules (machine_of c.self.inside.journal))

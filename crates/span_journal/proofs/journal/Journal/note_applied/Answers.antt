@@ -22,7 +22,7 @@ returns-in-Some-committed-clause-ok c =
     let txs_are = subst (λ (o : Option OpenTransaction). IfSome o (λ u. c.end_prepared_at.new.transactions.items ≡ cond (length (without_prepared c.args.slot u).prepared == 0) (remove j.transactions c.in-Some.at) (slice_set j.transactions c.in-Some.at (without_prepared c.args.slot u)))) place.here c.end_prepared_at.ensures.after in
     let decision_reply : t.decision ≡ decision_of committed = judged.1 ∙ ap decision_of c.in-Some-committed.is in
     subst (λ (k : Journaled). IsApplied (machine_of k) c.args.owner c.args.txn c.args.slot c.args.interval committed (machine_of (record j { slots = c.raise_last.new.slots.items; transactions = c.end_prepared_at.new.transactions.items }))) c.self.view_is
-    (applied_noted j c.args.owner c.args.txn c.args.slot c.in-Some.at c.args.interval t slot_state committed c.raise_last.new.slots.items c.end_prepared_at.new.transactions.items place here judged.0 decision_reply c.raise_last.ensures txs_are)
+    (applied_noted j c.args.owner c.args.txn c.args.slot c.in-Some.at c.args.interval t slot_state committed c.raise_last.new.slots.items c.end_prepared_at.new.transactions.items place here judged.0 decision_reply c.raise_last.ensures.after txs_are)
 
 pub returns-in_default-committed-clause-ok : goal.returns-in_default-committed-clause-ok
 returns-in_default-committed-clause-ok c =

@@ -1,108 +1,121 @@
-use Rattle.std.proofs.Common.{◌≡◌, ◌<◌, length, List, Some, None, Option, refl, sym, ap, ◌∙◌, subst, inl, inr}
-use Rattle.std.specs.Prelude.{find, slice_get, slice_set, IfSome}
-use Rattle.std.proofs.lemmas.Option.{slice_get_within}
-use Rattle.span_machine.specs.declared.slot.SlotState.{SlotState}
-use Rattle.span_machine.specs.Machine.{is_query, with_risen_floor}
-use Rattle.span_machine.specs.Place.{IsPlace}
-use Rattle.span_machine.specs.Pieces.{Pieced, Journaled, covered_by}
+use Rattle.std.proofs.Common.{refl, sym, ◌∙◌, subst, inr}
+use Rattle.span_machine.specs.Pieces.{Journaled}
 use Rattle.span_value.specs.declared.refusal.Refusal.TheVariants as refusal
-use Rattle.span_journal.specs.Judged.{IsRegistered, IsUnregistered}
-use Rattle.span_journal.proofs.Stepping.{not_none}
-use Rattle.span_journal.proofs.Ready.{whole_floor}
+use Rattle.span_journal.specs.Judged.{IsRegistered, IsUnregistered, IsUnchanged}
+use Rattle.span_journal.proofs.Claimed.{refusal_among, target_among, safe_is, risen_slots, within_slots, has_leaf, has_uncovered, covered_queries}
+use Rattle.span_journal.proofs.Stepping.{is_below, is_not_below, register_missing, piece_taken, piece_trimmed, piece_waits, is_risen, is_registered}
 use Rattle.span_journal.proofs.journal.Journal.register.Goals as goal
 
-pub returns-in_default-clause-why : goal.returns-in_default-clause-why
-returns-in_default-clause-why c =
-    let none : find (λ (p : Pieced). is_query c.args.query p.query) c.args.self.now.queries ≡ None =
-    subst (λ (l : List Pieced). find (λ (p : Pieced). is_query c.args.query p.query) l ≡ None) (c.as_slice.ensures.value ∙ ap (λ (j : Journaled). j.queries) c.self.view_is) c.in_default.ensures.none in
-    inl (none, refl)
-
-pub returns-in_default-leaf-clause-why : goal.returns-in_default-leaf-clause-why
-returns-in_default-leaf-clause-why c =
+pub returns-in-Err-clause-why : goal.returns-in-Err-clause-why
+returns-in-Err-clause-why c =
     let j : Journaled = record { slots = c.self.inside.slots.items; transactions = c.self.inside.transactions.items; log = c.self.inside.log.items; queries = c.self.inside.queries.items; next_transaction = c.self.inside.next_transaction; next_query = c.self.inside.next_query } in
-    let p = c.in-Some.question.now in
-    let place : IsPlace (λ (p : Pieced). is_query c.args.query p.query) j.queries c.in-Some.at p =
-    subst (λ (l : List Pieced). IsPlace (λ (p : Pieced). is_query c.args.query p.query) l c.in-Some.at p) c.as_slice.ensures.value c.in-Some.ensures.some in
-    let none : slice_get p.query.leaves c.args.leaf ≡ None = sym c.leaf.ensures ∙ c.in_default-leaf.is in
-    subst (λ (k : Journaled). IsUnregistered k c.args.query c.args.leaf c.args.slot refusal.UnknownQuery) c.self.view_is
-    (inr (inl (p, place.found, none, refl)))
+    let none = refusal_among c.as_slice-queries.result.now j.queries c.as_slice-slots.result.now j.slots c.args.query c.args.leaf c.args.slot c.in-Err.why c.as_slice-queries.ensures.value c.as_slice-slots.ensures.value c.in-Err.ensures.refused in
+    subst (λ (k : Journaled). IsUnregistered k c.args.query c.args.leaf c.args.slot c.args.interval c.args.range c.in-Err.why) c.self.view_is
+    (inr (register_missing j c.args.query c.args.leaf c.args.slot c.args.interval c.args.range c.in-Err.why none))
 
-pub returns-in_default-slot_at-clause-why : goal.returns-in_default-slot_at-clause-why
-returns-in_default-slot_at-clause-why c =
+pub returns-then-not-is_free-clause-why : goal.returns-then-not-is_free-clause-why
+returns-then-not-is_free-clause-why c =
     let j : Journaled = record { slots = c.self.inside.slots.items; transactions = c.self.inside.transactions.items; log = c.self.inside.log.items; queries = c.self.inside.queries.items; next_transaction = c.self.inside.next_transaction; next_query = c.self.inside.next_query } in
-    let p = c.in-Some.question.now in
-    let place : IsPlace (λ (p : Pieced). is_query c.args.query p.query) j.queries c.in-Some.at p =
-    subst (λ (l : List Pieced). IsPlace (λ (p : Pieced). is_query c.args.query p.query) l c.in-Some.at p) c.as_slice.ensures.value c.in-Some.ensures.some in
-    let part = c.in-Some-leaf.part in
-    let there : slice_get p.query.leaves c.args.leaf ≡ Some part = sym c.leaf.ensures ∙ c.in-Some-leaf.is in
-    let none : slice_get j.slots c.args.slot ≡ None = subst (λ (l : List SlotState). slice_get l c.args.slot ≡ None) c.as_slice-2.ensures.value (sym c.in_default-slot_at.ensures) in
-    subst (λ (k : Journaled). IsUnregistered k c.args.query c.args.leaf c.args.slot refusal.NoSlot) c.self.view_is
-    (inr (inr (inl (p, place.found, not_none (slice_get p.query.leaves c.args.leaf) part there, none, refl))))
+    let at = c.in-Ok.target.0 in
+    let p = c.in-Ok.target.1.now in
+    let l = c.in-Ok.target.2.now in
+    let b = c.in-Ok.target.3.now in
+    let t = target_among c.as_slice-queries.result.now j.queries c.as_slice-slots.result.now j.slots c.args.query c.args.leaf c.args.slot at p l b c.as_slice-queries.ensures.value c.as_slice-slots.ensures.value c.in-Ok.ensures.found in
+    subst (λ (k : Journaled). IsUnregistered k c.args.query c.args.leaf c.args.slot c.args.interval c.args.range refusal.Incomplete) c.self.view_is
+    (inr (piece_taken j c.args.query c.args.leaf c.args.slot c.args.interval at p l b t c.args.range (sym c.is_free.ensures ∙ c.if-not-is_free.true)))
 
-pub returns-then-part-clause-why : goal.returns-then-part-clause-why
-returns-then-part-clause-why c =
+pub returns-then-s-slot_state-clause-why : goal.returns-then-s-slot_state-clause-why
+returns-then-s-slot_state-clause-why c =
     let j : Journaled = record { slots = c.self.inside.slots.items; transactions = c.self.inside.transactions.items; log = c.self.inside.log.items; queries = c.self.inside.queries.items; next_transaction = c.self.inside.next_transaction; next_query = c.self.inside.next_query } in
-    let p = c.in-Some.question.now in
-    let place : IsPlace (λ (p : Pieced). is_query c.args.query p.query) j.queries c.in-Some.at p =
-    subst (λ (l : List Pieced). IsPlace (λ (p : Pieced). is_query c.args.query p.query) l c.in-Some.at p) c.as_slice.ensures.value c.in-Some.ensures.some in
-    let part = c.in-Some-leaf.part in
-    let there : slice_get p.query.leaves c.args.leaf ≡ Some part = sym c.leaf.ensures ∙ c.in-Some-leaf.is in
-    let slot_state = c.in-Some-slot_at.slot_state.now in
-    let here : slice_get j.slots c.args.slot ≡ Some slot_state = subst (λ (l : List SlotState). slice_get l c.args.slot ≡ Some slot_state) c.as_slice-2.ensures.value (sym c.in-Some-slot_at.ensures) in
-    subst (λ (k : Journaled). IsUnregistered k c.args.query c.args.leaf c.args.slot refusal.Incomplete) c.self.view_is
-    (inr (inr (inr (p, part, place.found, there, not_none (slice_get j.slots c.args.slot) slot_state here, c.if-part.true, refl))))
+    let at = c.in-Ok.target.0 in
+    let p = c.in-Ok.target.1.now in
+    let l = c.in-Ok.target.2.now in
+    let b = c.in-Ok.target.3.now in
+    let t = target_among c.as_slice-queries.result.now j.queries c.as_slice-slots.result.now j.slots c.args.query c.args.leaf c.args.slot at p l b c.as_slice-queries.ensures.value c.as_slice-slots.ensures.value c.in-Ok.ensures.found in
+    let free = sym c.is_free.ensures ∙ c.if-not-is_free.false in
+    let below = is_below c.timestamp-s.result p.query.s b.horizon c.timestamp-s.ensures c.if-s-slot_state.true in
+    subst (λ (k : Journaled). IsUnregistered k c.args.query c.args.leaf c.args.slot c.args.interval c.args.range refusal.Trimmed) c.self.view_is
+    (inr (piece_trimmed j c.args.query c.args.leaf c.args.slot c.args.interval at p l b t c.args.range free below))
 
 pub set_floor-requires : goal.set_floor-requires
 set_floor-requires c =
     let j : Journaled = record { slots = c.self.inside.slots.items; transactions = c.self.inside.transactions.items; log = c.self.inside.log.items; queries = c.self.inside.queries.items; next_transaction = c.self.inside.next_transaction; next_query = c.self.inside.next_query } in
-    let slot_state = c.in-Some-slot_at.slot_state.now in
-    let here : slice_get j.slots c.args.slot ≡ Some slot_state = subst (λ (l : List SlotState). slice_get l c.args.slot ≡ Some slot_state) c.as_slice-2.ensures.value (sym c.in-Some-slot_at.ensures) in
-    slice_get_within j.slots c.args.slot slot_state here
+    let at = c.in-Ok.target.0 in
+    let p = c.in-Ok.target.1.now in
+    let l = c.in-Ok.target.2.now in
+    let b = c.in-Ok.target.3.now in
+    let t = target_among c.as_slice-queries.result.now j.queries c.as_slice-slots.result.now j.slots c.args.query c.args.leaf c.args.slot at p l b c.as_slice-queries.ensures.value c.as_slice-slots.ensures.value c.in-Ok.ensures.found in
+    within_slots j.queries j.slots c.args.query c.args.leaf c.args.slot at p l b t
+
+pub returns-then-not-is_safe_at-clause-why : goal.returns-then-not-is_safe_at-clause-why
+returns-then-not-is_safe_at-clause-why c =
+    let j : Journaled = record { slots = c.self.inside.slots.items; transactions = c.self.inside.transactions.items; log = c.self.inside.log.items; queries = c.self.inside.queries.items; next_transaction = c.self.inside.next_transaction; next_query = c.self.inside.next_query } in
+    let at = c.in-Ok.target.0 in
+    let p = c.in-Ok.target.1.now in
+    let l = c.in-Ok.target.2.now in
+    let b = c.in-Ok.target.3.now in
+    let t = target_among c.as_slice-queries.result.now j.queries c.as_slice-slots.result.now j.slots c.args.query c.args.leaf c.args.slot at p l b c.as_slice-queries.ensures.value c.as_slice-slots.ensures.value c.in-Ok.ensures.found in
+    let free = sym c.is_free.ensures ∙ c.if-not-is_free.false in
+    let above = is_not_below c.timestamp-s.result p.query.s b.horizon c.timestamp-s.ensures c.if-s-slot_state.false in
+    let safe = safe_is j c.args.slot c.risen_floor-floor.result c.timestamp-s.result p.query.s c.as_slice.result.now b c.args.interval c.is_safe_at.result c.is_safe_at.ensures c.timestamp-s.ensures c.as_slice.ensures.value c.risen_floor-floor.ensures in
+    subst (λ (k : Journaled). IsUnregistered k c.args.query c.args.leaf c.args.slot c.args.interval c.args.range refusal.NotYet) c.self.view_is
+    (inr (piece_waits j c.args.query c.args.leaf c.args.slot c.args.interval at p l b t c.args.range free above (sym safe ∙ c.if-not-is_safe_at.true)))
+
+pub returns-then-not-is_safe_at-clause-err : goal.returns-then-not-is_safe_at-clause-err
+returns-then-not-is_safe_at-clause-err c =
+    let j : Journaled = record { slots = c.self.inside.slots.items; transactions = c.self.inside.transactions.items; log = c.self.inside.log.items; queries = c.self.inside.queries.items; next_transaction = c.self.inside.next_transaction; next_query = c.self.inside.next_query } in
+    let at = c.in-Ok.target.0 in
+    let p = c.in-Ok.target.1.now in
+    let l = c.in-Ok.target.2.now in
+    let b = c.in-Ok.target.3.now in
+    let t = target_among c.as_slice-queries.result.now j.queries c.as_slice-slots.result.now j.slots c.args.query c.args.leaf c.args.slot at p l b c.as_slice-queries.ensures.value c.as_slice-slots.ensures.value c.in-Ok.ensures.found in
+    let slots_are = risen_slots j.slots c.set_floor.new.slots.items c.args.slot c.risen_floor-floor.result c.timestamp-s.result p.query.s b c.args.interval t.here c.set_floor.ensures.after c.timestamp-s.ensures c.risen_floor-floor.ensures in
+    subst (λ (k : Journaled). IsUnchanged k c.args.query c.args.slot c.args.interval refusal.NotYet (record j { slots = c.set_floor.new.slots.items })) c.self.view_is
+    (inr (refl, is_risen j c.args.query c.args.leaf c.args.slot c.args.interval at p l b t c.set_floor.new.slots.items slots_are))
 
 pub cover_at-requires-clause-leaf : goal.cover_at-requires-clause-leaf
 cover_at-requires-clause-leaf c =
     let j : Journaled = record { slots = c.self.inside.slots.items; transactions = c.self.inside.transactions.items; log = c.self.inside.log.items; queries = c.self.inside.queries.items; next_transaction = c.self.inside.next_transaction; next_query = c.self.inside.next_query } in
-    let p = c.in-Some.question.now in
-    let place : IsPlace (λ (p : Pieced). is_query c.args.query p.query) j.queries c.in-Some.at p =
-    subst (λ (l : List Pieced). IsPlace (λ (p : Pieced). is_query c.args.query p.query) l c.in-Some.at p) c.as_slice.ensures.value c.in-Some.ensures.some in
-    let part = c.in-Some-leaf.part in
-    let there : slice_get p.query.leaves c.args.leaf ≡ Some part = sym c.leaf.ensures ∙ c.in-Some-leaf.is in
-    let low : c.args.leaf < length p.query.leaves = slice_get_within p.query.leaves c.args.leaf part there in
-    subst (λ (o : Option Pieced). IfSome o (λ q. c.args.leaf < length q.query.leaves)) (sym place.here) low
+    let at = c.in-Ok.target.0 in
+    let p = c.in-Ok.target.1.now in
+    let l = c.in-Ok.target.2.now in
+    let b = c.in-Ok.target.3.now in
+    let t = target_among c.as_slice-queries.result.now j.queries c.as_slice-slots.result.now j.slots c.args.query c.args.leaf c.args.slot at p l b c.as_slice-queries.ensures.value c.as_slice-slots.ensures.value c.in-Ok.ensures.found in
+    has_leaf j.queries j.slots c.args.query c.args.leaf c.args.slot at p l b t
+
+pub cover_at-requires-clause-uncovered : goal.cover_at-requires-clause-uncovered
+cover_at-requires-clause-uncovered c =
+    let j : Journaled = record { slots = c.self.inside.slots.items; transactions = c.self.inside.transactions.items; log = c.self.inside.log.items; queries = c.self.inside.queries.items; next_transaction = c.self.inside.next_transaction; next_query = c.self.inside.next_query } in
+    let at = c.in-Ok.target.0 in
+    let p = c.in-Ok.target.1.now in
+    let l = c.in-Ok.target.2.now in
+    let b = c.in-Ok.target.3.now in
+    let t = target_among c.as_slice-queries.result.now j.queries c.as_slice-slots.result.now j.slots c.args.query c.args.leaf c.args.slot at p l b c.as_slice-queries.ensures.value c.as_slice-slots.ensures.value c.in-Ok.ensures.found in
+    let free = sym c.is_free.ensures ∙ c.if-not-is_free.false in
+    has_uncovered j.queries j.slots c.args.query c.args.leaf c.args.slot at p l b t c.args.range free
+
+pub set_floor-requires-2 : goal.set_floor-requires-2
+set_floor-requires-2 c =
+    let j : Journaled = record { slots = c.self.inside.slots.items; transactions = c.self.inside.transactions.items; log = c.self.inside.log.items; queries = c.self.inside.queries.items; next_transaction = c.self.inside.next_transaction; next_query = c.self.inside.next_query } in
+    let at = c.in-Ok.target.0 in
+    let p = c.in-Ok.target.1.now in
+    let l = c.in-Ok.target.2.now in
+    let b = c.in-Ok.target.3.now in
+    let t = target_among c.as_slice-queries.result.now j.queries c.as_slice-slots.result.now j.slots c.args.query c.args.leaf c.args.slot at p l b c.as_slice-queries.ensures.value c.as_slice-slots.ensures.value c.in-Ok.ensures.found in
+    within_slots j.queries j.slots c.args.query c.args.leaf c.args.slot at p l b t
 
 pub returns-clause-ok : goal.returns-clause-ok
 returns-clause-ok c =
     let j : Journaled = record { slots = c.self.inside.slots.items; transactions = c.self.inside.transactions.items; log = c.self.inside.log.items; queries = c.self.inside.queries.items; next_transaction = c.self.inside.next_transaction; next_query = c.self.inside.next_query } in
-    let p = c.in-Some.question.now in
-    let place : IsPlace (λ (p : Pieced). is_query c.args.query p.query) j.queries c.in-Some.at p =
-    subst (λ (l : List Pieced). IsPlace (λ (p : Pieced). is_query c.args.query p.query) l c.in-Some.at p) c.as_slice.ensures.value c.in-Some.ensures.some in
-    let part = c.in-Some-leaf.part in
-    let there : slice_get p.query.leaves c.args.leaf ≡ Some part = sym c.leaf.ensures ∙ c.in-Some-leaf.is in
-    let slot_state = c.in-Some-slot_at.slot_state.now in
-    let here : slice_get j.slots c.args.slot ≡ Some slot_state = subst (λ (l : List SlotState). slice_get l c.args.slot ≡ Some slot_state) c.as_slice-2.ensures.value (sym c.in-Some-slot_at.ensures) in
-    let timely = c.timestamp.ensures in
-    let risen_is : record slot_state { floor = c.risen_floor-floor.result } ≡ with_risen_floor slot_state p.query.s c.args.interval = c.risen_floor-floor.ensures ∙ ap (λ n. with_risen_floor slot_state n c.args.interval) timely in
-    let slots_are = subst (λ (o : Option SlotState). IfSome o (λ b. c.set_floor.new.slots.items ≡ slice_set j.slots c.args.slot (record b { floor = c.risen_floor-floor.result }))) here c.set_floor.ensures ∙ ap (slice_set j.slots c.args.slot) risen_is in
-    let queries_are = subst (λ (o : Option Pieced). IfSome o (λ q. c.cover_at.new.queries.items ≡ slice_set j.queries c.in-Some.at (covered_by c.args.leaf c.args.rows q))) place.here c.cover_at.ensures in
-    subst (λ (k : Journaled). IsRegistered k c.args.query c.args.leaf c.args.slot c.args.interval c.args.rows (record j { slots = c.set_floor.new.slots.items; queries = c.cover_at.new.queries.items })) c.self.view_is
-    (record {
-      question = p;
-      gap = part;
-      slot_state = slot_state;
-      found = place.found;
-      there = there;
-      here = here;
-      uncovered = c.if-part.false;
-      after = ap (λ (l : List SlotState). record j { slots = l; queries = c.cover_at.new.queries.items }) slots_are
-          ∙ ap (λ (l : List Pieced). record j { slots = slice_set j.slots c.args.slot (with_risen_floor slot_state p.query.s c.args.interval); queries = l }) (queries_are ∙ sym (place.changed (covered_by c.args.leaf c.args.rows)));
-    })
-
-pub invariant_of-self : goal.invariant_of-self
-invariant_of-self c =
-    let slot_state = c.in-Some-slot_at.slot_state.now in
-    let here : slice_get c.self.inside.slots.items c.args.slot ≡ Some slot_state = subst (λ (l : List SlotState). slice_get l c.args.slot ≡ Some slot_state) c.as_slice-2.ensures.value (sym c.in-Some-slot_at.ensures) in
-    record {
-      few = c.self.invariant.few;
-      room = c.self.invariant.room;
-      whole = whole_floor c.self.inside.slots.items c.set_floor.new.slots.items c.args.slot c.risen_floor-floor.result slot_state here c.self.invariant.whole c.set_floor.ensures;
-    }
+    let at = c.in-Ok.target.0 in
+    let p = c.in-Ok.target.1.now in
+    let l = c.in-Ok.target.2.now in
+    let b = c.in-Ok.target.3.now in
+    let t = target_among c.as_slice-queries.result.now j.queries c.as_slice-slots.result.now j.slots c.args.query c.args.leaf c.args.slot at p l b c.as_slice-queries.ensures.value c.as_slice-slots.ensures.value c.in-Ok.ensures.found in
+    let free = sym c.is_free.ensures ∙ c.if-not-is_free.false in
+    let above = is_not_below c.timestamp-s.result p.query.s b.horizon c.timestamp-s.ensures c.if-s-slot_state.false in
+    let safe = safe_is j c.args.slot c.risen_floor-floor.result c.timestamp-s.result p.query.s c.as_slice.result.now b c.args.interval c.is_safe_at.result c.is_safe_at.ensures c.timestamp-s.ensures c.as_slice.ensures.value c.risen_floor-floor.ensures in
+    let slots_are = risen_slots j.slots c.set_floor-2.new.slots.items c.args.slot c.risen_floor-floor.result c.timestamp-s.result p.query.s b c.args.interval t.here c.set_floor-2.ensures.after c.timestamp-s.ensures c.risen_floor-floor.ensures in
+    let queries_are = covered_queries j.queries j.slots c.args.query c.args.leaf c.args.slot at p l b t c.args.range c.args.rows c.cover_at.new.queries.items c.in_ok-cover_at.ensures.ok in
+    subst (λ (k : Journaled). IsRegistered k c.args.query c.args.leaf c.args.slot c.args.interval c.args.range c.args.rows (record j { slots = c.set_floor-2.new.slots.items; queries = c.cover_at.new.queries.items })) c.self.view_is
+    (is_registered j c.args.query c.args.leaf c.args.slot c.args.interval at p l b t c.args.range c.args.rows c.set_floor-2.new.slots.items c.cover_at.new.queries.items free above (sym safe ∙ c.if-not-is_safe_at.false) slots_are queries_are)

@@ -77,6 +77,22 @@ returns-in-Open-clause-exact c =
     (λ answer replied. (reply.result, reply.ensures.taken, replied, refl))
     add.ensures.added)
 
+pub returns-in-Split-clause-exact : goal.returns-in-Split-clause-exact
+returns-in-Split-clause-exact c =
+    let a = c.args in
+    let schema = a.core.now.schema in
+    let m = a.core.now.machine in
+    let state = state_of a.self.now in
+    let reply = c.split-reply in
+    let next = state_of reply.new.self in
+    let last = reply.new.core.machine in
+    let add = c.add_reply-in-Split in
+    let i = c.in-Split in
+    done_as schema a.command (command.Split i.table i.record) state m next last a.answers.now add.new.answers add.result i.is
+    (adds_weaker (IsReplied reply.result) (λ answer. IsDone schema (command.Split i.table i.record) state m answer next last) a.answers.now add.new.answers add.result
+    (λ answer replied. (reply.result, reply.ensures.split, replied, reply.ensures.kept))
+    add.ensures.added)
+
 pub returns-in-Query-clause-exact : goal.returns-in-Query-clause-exact
 returns-in-Query-clause-exact c =
     let a = c.args in

@@ -1,0 +1,17 @@
+use Rattle.std.proofs.Common.{map, sym, subst}
+use Rattle.span_machine.specs.Machine.{uncovered}
+use Rattle.span_machine.specs.Pieces.{no_pieces}
+use Rattle.span_journal.specs.Counts.{AreAllApart}
+use Rattle.span_journal.proofs.Counted.{opened_counted, opened_apart, recounted}
+use Rattle.span_journal.proofs.query.KeptQuery.new.Goals as goal
+
+pub invariant_of-result : goal.invariant_of-result
+invariant_of-result c =
+    let tables = c.as_slice.result.now in
+    let schema = c.args.schema.now in
+    let made = c.in_ok-statement.field-0-1 in
+    let unread = rw c.in_ok-statement.ensures.1 at c.unread_leaves-unread.ensures in
+    record {
+      counted = recounted (map (uncovered schema) tables) made.leaves (map no_pieces tables) made.pieces unread.0 unread.1 (opened_counted schema tables);
+      apart = subst AreAllApart (sym unread.0) (opened_apart schema tables);
+    }

@@ -1,0 +1,99 @@
+//! Coded keys of root tables: one named by a command, and that of a mutation's root row.
+ghost use Rattle.std.specs.Prelude.{◌≡◌, ◌⊎◌, MatchResult, None, Some};
+ghost use Rattle.span_schema.specs.Numbers.{IsTable, table_at};
+ghost use Rattle.span_keycode.specs.Keys.{key_code};
+ghost use Rattle.span_keycode.specs.Parts.{is_from, is_upto, is_between};
+ghost use Rattle.span_mutate.specs.Directories.{root_row};
+ghost use Rattle.span_mutate.specs.RootKeys.{root_key, root_key_at};
+
+use super::check::check_key;
+use super::mutation::CheckedMutation;
+use span_keycode::key::Key;
+use span_keycode::root_order::compare_root;
+use span_schema::schema::Schema;
+use span_value::refusal::Refusal;
+use span_value::value::Value;
+use std::alloc::Global;
+
+/// The coded key with these values of the root table with a name.
+///
+/// `BadSplit`: there is no such root table, or the values are no key of it. `OutOfMemory`: memory ran out.
+pub fn root_key(alloc: Global, schema: &Schema, table: &str, key: &[Value]) -> Result<Key, Refusal>
+    ensures { MatchResult result
+        (λ coded. root_key schema.now table.now key.now ≡ Some coded)
+        (λ why.
+        (why ≡ Refusal.OutOfMemory)
+        ⊎ ((why ≡ Refusal.BadSplit) × (root_key schema.now table.now key.now ≡ None))) }
+{
+    match schema.find(table) {
+        None => Err(Refusal::BadSplit),
+        Some(number) => root_key_at(alloc, schema, number, key),
+    }
+}
+
+fn root_key_at(alloc: Global, schema: &Schema, number: usize, key: &[Value]) -> Result<Key, Refusal>
+    requires { IsTable schema.now number }
+    ensures { MatchResult result
+        (λ coded. root_key_at schema.now number (table_at schema.now number) key.now ≡ Some coded)
+        (λ why.
+        (why ≡ Refusal.OutOfMemory)
+        ⊎ ((why ≡ Refusal.BadSplit) × (root_key_at schema.now number (table_at schema.now number) key.now ≡ None))) }
+{
+    if schema.root_of(number) != number {
+        return Err(Refusal::BadSplit);
+    }
+    match check_key(alloc, schema, number, schema.table(number), key) {
+        Ok(coded) => Ok(coded),
+        Err(Refusal::OutOfMemory) => Err(Refusal::OutOfMemory),
+        Err(_) => Err(Refusal::BadSplit),
+    }
+}
+
+/// Whether the coded key of a mutation's root row is from `lo` on and before `hi`; None is an end that no key is outside of. No memory
+/// is taken.
+pub fn is_in_range(
+    schema: &Schema,
+    mutation: &CheckedMutation,
+    lo: &Option<Key>,
+    hi: &Option<Key>,
+) -> bool
+    ensures { result ≡ (let root = root_row schema.now mutation.now.table mutation.now.key in
+        is_between lo.now hi.now (key_code schema.now root.table root.key)) }
+{
+    if !is_from(schema, mutation, lo) {
+        return false;
+    }
+    is_upto(schema, mutation, hi)
+}
+
+fn is_from(schema: &Schema, mutation: &CheckedMutation, lo: &Option<Key>) -> bool
+    ensures { result ≡ (let root = root_row schema.now mutation.now.table mutation.now.key in
+        is_from lo.now (key_code schema.now root.table root.key)) }
+{
+    match lo {
+        None => true,
+        Some(low) => !compare_root(
+            schema,
+            mutation.table,
+            mutation.key.as_slice(),
+            low.as_slice(),
+        )
+        .is_lt(),
+    }
+}
+
+fn is_upto(schema: &Schema, mutation: &CheckedMutation, hi: &Option<Key>) -> bool
+    ensures { result ≡ (let root = root_row schema.now mutation.now.table mutation.now.key in
+        is_upto hi.now (key_code schema.now root.table root.key)) }
+{
+    match hi {
+        None => true,
+        Some(high) => compare_root(
+            schema,
+            mutation.table,
+            mutation.key.as_slice(),
+            high.as_slice(),
+        )
+        .is_lt(),
+    }
+}

@@ -1,0 +1,10 @@
+use Rattle.std.proofs.Common.{inl}
+use Rattle.span_machine.specs.declared.step.Step.TheVariants as step
+use Rattle.span_parts.proofs.Wholes.{no_text, goes_by, pieces_same}
+use Rattle.span_parts.proofs.steps.decide.Goals as goal
+
+pub returns-clause-whole : goal.returns-clause-whole
+returns-clause-whole c =
+    let j = c.args.journal.now in
+    let k = c.decide.new.self in
+    goes_by c.args.schema.now j k no_text (step.Decide c.args.owner c.args.txn c.args.verdict c.args.interval) tt _ (inl c.decide.ensures.step) tt (pieces_same c.args.schema.now j.queries k.queries c.decide.ensures.pieces)

@@ -1,0 +1,12 @@
+use Rattle.std.proofs.Common.{Ok}
+use Rattle.span_machine.specs.declared.step.Step.TheVariants as step
+use Rattle.span_parts.proofs.Wholes.{goes_by, pieces_opened}
+use Rattle.span_parts.proofs.steps.open.Goals as goal
+
+pub returns-clause-whole : goal.returns-clause-whole
+returns-clause-whole c =
+    let a = c.args in
+    let j = c.args.journal.now in
+    let k = c.open.new.self in
+    goes_by a.schema.now j k (Ok a.statement) (step.Open a.text a.params a.bound a.interval) tt _ c.open.ensures.step tt
+    (pieces_opened a.schema.now _ a.text a.params a.statement j.queries k.queries c.requires c.open.ensures.pieces c.open.ensures.err)
