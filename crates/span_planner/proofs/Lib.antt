@@ -1,0 +1,4 @@
+pub mod Joins
+pub mod Pushing
+pub mod Narrowing
+pub mod Blocks

@@ -1,0 +1,4 @@
+pub mod Conditions
+pub mod Ranges
+pub mod Leaves
+pub mod Results
