@@ -15,6 +15,7 @@ use Rattle.span_query.specs.declared.query.Join.{Join}
 use Rattle.span_query.specs.Rows.{Row, OrFault, Rows, ◌>>=◌, filter_rows, filter_where, project_rows}
 use Rattle.span_query.specs.Groups.{group_rows}
 use Rattle.span_query.specs.Meaning.{item_rows, join_rows, join_next, from, distinct_if, block_rows, meaning_over}
+use Rattle.span_query.proofs.Layers.{map_item, map_join, map_block}
 use Rattle.span_query.proofs.Results.{bind-assoc, bind-Some}
 use Rattle.span_planner.specs.declared.leaf.LeafJoin.{LeafJoin}
 use Rattle.span_planner.specs.declared.leaf.Leaf.{Leaf}
@@ -24,18 +25,6 @@ use Rattle.span_planner.specs.Results.{as_join, join_tables, leaf_rows}
 use Rattle.span_planner.proofs.Joins.{Joined, run_join, run_joins, run_where, AreGiven, AreTotal, AllGiven, all_map}
 use Rattle.span_planner.proofs.Pushing.{is_kept, AreOfWidth, filter_where-all_true, left_out_below}
 use Rattle.span_planner.proofs.Narrowing.{own, are_on, all_total, refused_by, narrowing, Further, narrow_item, narrow, joined_of, IsWide, AreWide, wide_join, wide_filter, narrowed_below, some_of}
-
--- ---- derived tables replaced
-
-abbrev pub map_item : {P Q : Type 0} → (P → Q) → Item P → Item Q
-map_item g (item.Table n) = item.Table n
-map_item g (item.Derived q) = item.Derived (g q)
-
-abbrev pub map_join : {P Q : Type 0} → (P → Q) → Join P → Join Q
-map_join g j = record { is_left = j.is_left; item = map_item g j.item; width = j.width; on = j.on }
-
-abbrev pub map_block : {P Q : Type 0} → (P → Q) → Block P → Block Q
-map_block g b = record { from = map_item g b.from; joins = map (map_join g) b.joins; filter = b.filter; grouping = b.grouping; outputs = b.outputs; is_distinct = b.is_distinct }
 
 both : (a b : Bool) → (a && b) ≡ true → (a ≡ true) × (b ≡ true)
 both true b is = (refl, is)

@@ -2,3 +2,5 @@ pub mod Joins
 pub mod Pushing
 pub mod Narrowing
 pub mod Blocks
+pub mod Widths
+pub mod Queries

@@ -2,3 +2,4 @@ pub mod Conditions
 pub mod Ranges
 pub mod Leaves
 pub mod Results
+pub mod Sizes
