@@ -4,3 +4,4 @@ pub mod Narrowing
 pub mod Blocks
 pub mod Widths
 pub mod Queries
+pub mod Cutting
