@@ -155,13 +155,13 @@ reads_only-all_true passes = test-all_true_each (reads_only passes) (reads_each 
 -- ---- refusing a row
 
 -- FALSE or NULL
-abbrev refuses : Condition → Bool
+abbrev pub refuses : Condition → Bool
 refuses (Known True) = false
 refuses (Known False) = true
 refuses (Known Unknown) = true
 refuses Faulted = false
 
-refuses-both : (c d : Condition) → refuses (both c d) ≡ (refuses c || refuses d)
+pub refuses-both : (c d : Condition) → refuses (both c d) ≡ (refuses c || refuses d)
 refuses-both (Known True) (Known True) = refl
 refuses-both (Known True) (Known False) = refl
 refuses-both (Known True) (Known Unknown) = refl
@@ -179,7 +179,7 @@ refuses-both Faulted (Known False) = refl
 refuses-both Faulted (Known Unknown) = refl
 refuses-both Faulted Faulted = refl
 
-refuses-condition_of : (o : Outcome) → refuses (condition_of o) ≡ is_refused o
+pub refuses-condition_of : (o : Outcome) → refuses (condition_of o) ≡ is_refused o
 refuses-condition_of (Val (value.Bool true)) = refl
 refuses-condition_of (Val (value.Bool false)) = refl
 refuses-condition_of (Val value.Null) = refl
@@ -188,7 +188,7 @@ refuses-condition_of (Val (value.Str s)) = refl
 refuses-condition_of (Val (value.Bytes s)) = refl
 refuses-condition_of Fault = refl
 
-is_refused-outcome_of : (c : Condition) → is_refused (outcome_of c) ≡ refuses c
+pub is_refused-outcome_of : (c : Condition) → is_refused (outcome_of c) ≡ refuses c
 is_refused-outcome_of (Known True) = refl
 is_refused-outcome_of (Known False) = refl
 is_refused-outcome_of (Known Unknown) = refl

@@ -5,3 +5,4 @@ pub mod Blocks
 pub mod Widths
 pub mod Queries
 pub mod Cutting
+pub mod Bounding

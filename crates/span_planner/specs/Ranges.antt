@@ -1,8 +1,12 @@
 -- The range of coded keys of a leaf: the family of its tables, narrowed by comparisons of the first root key column with literals.
-use Rattle.std.specs.Prelude.{ℕ, ◌+◌, ◌==◌, List, [], ◌∷◌, ◌++◌, Option, Some, None, flat_map, if◌then◌else◌}
-use Rattle.std.specs.List.{fold}
+use Rattle.std.specs.Prelude.{ℕ, ℤ, pos, negsuc, ◌+◌, ◌^◌, ◌==◌, nat_lt, Bool, true, false, ◌&&◌, List, [], ◌∷◌, ◌++◌, Option, Some, None, filter, flat_map, if◌then◌else◌}
+use Rattle.std.specs.List.{fold, list_all}
+use Rattle.std.specs.Str.{is_utf8}
 use Rattle.std.specs.Option.{option_map}
+use Rattle.span_value.specs.declared.value.Kind.{Kind}
+use Rattle.span_value.specs.declared.value.Kind.TheVariants as kind
 use Rattle.span_value.specs.declared.value.Value.{Value}
+use Rattle.span_value.specs.declared.value.Value.TheVariants as value
 use Rattle.span_schema.specs.declared.table.Table.{Table}
 use Rattle.span_schema.specs.declared.layout.KeyPart.{KeyPart}
 use Rattle.span_schema.specs.Numbers.{root_of, key_columns, key_places}
@@ -59,13 +63,42 @@ bounds_at place y = []
 abbrev pub bounds : ℕ → Expr → List Bound
 bounds place e = bounds_at place (out-Expr e)
 
+-- ---- values of a type
+
+-- the number has 64 bits
+abbrev pub is_number : ℤ → Bool
+is_number (pos n) = nat_lt n (2 ^ 63)
+is_number (negsuc n) = nat_lt n (2 ^ 63)
+
+abbrev pub are_bytes : List ℕ → Bool
+are_bytes bs = list_all (λ b. nat_lt b 256) bs
+
+-- NULL, or a value of the type
+abbrev pub is_of_type : Kind → Value → Bool
+is_of_type k value.Null = true
+is_of_type kind.Int (value.Int i) = is_number i
+is_of_type kind.Str (value.Str bs) = is_utf8 bs && are_bytes bs
+is_of_type kind.Bytes (value.Bytes bs) = are_bytes bs
+is_of_type kind.Bool (value.Bool b) = true
+is_of_type k v = false
+
+-- ---- ranges
+
+-- the bounds that conditions set to the column at a place, by values of its type
+abbrev pub bounds_by : Kind → ℕ → List Expr → List Bound
+bounds_by k place es = filter (λ (b : Bound). is_of_type k b.1) (flat_map (bounds place) es)
+
 -- the part of a range where the first column of the key is bounded so
 abbrev pub bounded : ℕ → KeyPart → KeyRange → Bound → KeyRange
 bounded root part r b = part_between (Some (range_start root part b.0 b.1)) (Some (range_end root part b.0 b.1)) r
 
+-- a family's range, narrowed by bounds of the first column of the key
+abbrev pub range_by : ℕ → KeyPart → List Bound → KeyRange
+range_by root part bs = fold (bounded root part) (family root) bs
+
 -- a family's range, narrowed by conditions on the first column of the key, whose place is counted from at
 abbrev pub narrowed : ℕ → List KeyPart → List ℕ → ℕ → List Expr → KeyRange
-narrowed root (part ∷ parts) (place ∷ places) at es = fold (bounded root part) (family root) (flat_map (bounds (at + place)) es)
+narrowed root (part ∷ parts) (place ∷ places) at es = range_by root part (bounds_by part.kind (at + place) es)
 narrowed root parts places at es = family root
 
 -- The range of a leaf: that of the family, narrowed by conditions on the first key column of its first table, whose columns begin at a place.
