@@ -6,3 +6,4 @@ pub mod Widths
 pub mod Queries
 pub mod Cutting
 pub mod Bounding
+pub mod Narrowed
