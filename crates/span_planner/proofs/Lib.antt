@@ -7,3 +7,5 @@ pub mod Queries
 pub mod Cutting
 pub mod Bounding
 pub mod Narrowed
+pub mod Planned
+pub mod Known

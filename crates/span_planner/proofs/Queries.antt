@@ -55,7 +55,7 @@ module _ {T A : Type 0} (query : T → BoundQuery) (g : BoundQuery → A) where
   blocks_twice (b ∷ bs) = ap (λ (x : Block A). x ∷ map (map_block g) (map (map_block query) bs)) (block_twice b) ∙ ap (λ (l : List (Block A)). map_block (λ t. g (query t)) b ∷ l) (blocks_twice bs)
 
   -- what a fold makes of the queries of a layer
-  layer_twice : (y : BoundQuery-F T) → map-BoundQuery BoundQuery A g (map-BoundQuery T BoundQuery query y) ≡ map_layer (λ t. g (query t)) y
+  pub layer_twice : (y : BoundQuery-F T) → map-BoundQuery BoundQuery A g (map-BoundQuery T BoundQuery query y) ≡ map_layer (λ t. g (query t)) y
   layer_twice y =
       ap (map-BoundQuery BoundQuery A g) (layer_mapped query y)
       ∙ layer_mapped g (map_layer query y)
