@@ -9,3 +9,5 @@ pub mod Bounding
 pub mod Narrowed
 pub mod Planned
 pub mod Known
+pub mod Loops
+pub mod Ranging

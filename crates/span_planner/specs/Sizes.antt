@@ -1,5 +1,5 @@
--- Queries whose joins state how many columns their items have, and whose blocks have as many columns as one another.
-use Rattle.std.specs.Prelude.{ℕ, ◌==◌, Bool, true, ◌&&◌, List, [], ◌∷◌, length}
+-- Queries whose tables are those of the statement, whose joins state how many columns their items have, and whose blocks have as many columns as one another.
+use Rattle.std.specs.Prelude.{ℕ, ◌==◌, nat_le, Bool, ◌&&◌, List, [], ◌∷◌, length}
 use Rattle.std.specs.List.{list_all}
 use Rattle.span_schema.specs.declared.table.Table.{Table}
 use Rattle.span_query.specs.declared.query.BoundQuery.{BoundQuery}
@@ -11,13 +11,17 @@ use Rattle.span_query.specs.declared.query.Item.TheVariants as item
 use Rattle.span_query.specs.declared.query.Join.{Join}
 use Rattle.span_planner.specs.Leaves.{table_of, width_of}
 
+-- the number of a table of the statement
+abbrev pub is_number : List ℕ → ℕ → Bool
+is_number tables n = nat_le 1 n && nat_le n (length tables)
+
 -- the number of columns of a query, and whether the sizes in it are right
 pub record Shape : Type 0 where
   pub width : ℕ
   pub is_sized : Bool
 
 abbrev pub item_shape : List Table → List ℕ → Item Shape → Shape
-item_shape schema tables (item.Table n) = record { width = width_of schema (table_of tables n); is_sized = true }
+item_shape schema tables (item.Table n) = record { width = width_of schema (table_of tables n); is_sized = is_number tables n }
 item_shape schema tables (item.Derived s) = s
 
 abbrev pub is_sized_join : List Table → List ℕ → Join Shape → Bool

@@ -1,4 +1,7 @@
 //! The plan of a query: the leaves that are read where rows are stored, and the query that is left above them.
 #![tactic(auto)]
 
+mod condition;
 pub mod leaf;
+mod range;
+mod table;
