@@ -11,3 +11,4 @@ pub mod Planned
 pub mod Known
 pub mod Loops
 pub mod Ranging
+pub mod Extents

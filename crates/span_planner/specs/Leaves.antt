@@ -66,12 +66,16 @@ abbrev pub widths : {Q : Type 0} → List (Join Q) → ℕ
 widths [] = 0
 widths (j ∷ joins) = j.width + widths joins
 
--- The first table and so many items after it. Where they are the whole FROM, the leaf evaluates the whole WHERE.
+-- Where so many items are the whole FROM, the leaf evaluates the whole WHERE.
+abbrev pub first_filter : {Q : Type 0} → Block Q → ℕ → ℕ → List Expr → Option Expr
+first_filter b len width es = if len == length b.joins then b.filter else all_true (conjuncts_on 0 width es)
+
+-- the first table and so many items after it
 abbrev pub first_leaf : {Q : Type 0} → List Table → List ℕ → Block Q → ℕ → ℕ → Leaf
 first_leaf schema tables b table len = record {
   tables = table ∷ map (join_table tables) (take len b.joins);
   joins = map leaf_join (take len b.joins);
-  filter = if len == length b.joins then b.filter else all_true (conjuncts_on 0 (width_of schema table + widths (take len b.joins)) (pushable b));
+  filter = first_filter b len (width_of schema table + widths (take len b.joins)) (pushable b);
   range = leaf_range schema table 0 (pushable b);
 }
 

@@ -3,3 +3,4 @@ pub mod Ranges
 pub mod Leaves
 pub mod Results
 pub mod Sizes
+pub mod Numbered

@@ -1,5 +1,5 @@
 -- Queries whose tables are those of the statement, whose joins state how many columns their items have, and whose blocks have as many columns as one another.
-use Rattle.std.specs.Prelude.{ℕ, ◌==◌, nat_le, Bool, ◌&&◌, List, [], ◌∷◌, length}
+use Rattle.std.specs.Prelude.{ℕ, ◌==◌, Bool, ◌&&◌, List, [], ◌∷◌, length}
 use Rattle.std.specs.List.{list_all}
 use Rattle.span_schema.specs.declared.table.Table.{Table}
 use Rattle.span_query.specs.declared.query.BoundQuery.{BoundQuery}
@@ -10,10 +10,7 @@ use Rattle.span_query.specs.declared.query.Item.{Item}
 use Rattle.span_query.specs.declared.query.Item.TheVariants as item
 use Rattle.span_query.specs.declared.query.Join.{Join}
 use Rattle.span_planner.specs.Leaves.{table_of, width_of}
-
--- the number of a table of the statement
-abbrev pub is_number : List ℕ → ℕ → Bool
-is_number tables n = nat_le 1 n && nat_le n (length tables)
+use Rattle.span_planner.specs.Numbered.{is_number}
 
 -- the number of columns of a query, and whether the sizes in it are right
 pub record Shape : Type 0 where

@@ -2,6 +2,8 @@
 #![tactic(auto)]
 
 mod condition;
+mod copy;
+mod first;
 pub mod leaf;
 mod range;
 mod table;

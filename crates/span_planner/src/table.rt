@@ -3,7 +3,7 @@ ghost use Rattle.std.specs.Prelude.{◌≡◌, ◌+◌, IfOk, ◌≤◌, ◌<◌
 ghost use Rattle.std.specs.List.{AllByRecursion};
 ghost use Rattle.span_schema.specs.Numbers.{IsTable, root_of};
 ghost use Rattle.span_planner.specs.Leaves as spec;
-ghost use Rattle.span_planner.specs.Sizes.{is_number};
+ghost use Rattle.span_planner.specs.Numbered.{is_number};
 
 use span_schema::schema::Schema;
 use std::alloc::AllocError;
