@@ -12,3 +12,4 @@ pub mod Known
 pub mod Loops
 pub mod Ranging
 pub mod Extents
+pub mod Mapped

@@ -139,7 +139,7 @@ top_joins before [] = []
 top_joins before (j ∷ joins) = top_join before j ∷ top_joins (before + count_leaves j.item) joins
 
 -- the block with these items and this WHERE
-abbrev pub with_from : Block Planned → Item BoundQuery → List (Join BoundQuery) → Option Expr → Block BoundQuery
+abbrev pub with_from : {Q : Type 0} → Block Q → Item BoundQuery → List (Join BoundQuery) → Option Expr → Block BoundQuery
 with_from b from joins filter = record { from = from; joins = joins; filter = filter; grouping = b.grouping; outputs = b.outputs; is_distinct = b.is_distinct }
 
 abbrev pub top_from : List Table → List ℕ → ℕ → Block Planned → Item Planned → Block BoundQuery

@@ -5,5 +5,6 @@ mod condition;
 mod copy;
 mod first;
 pub mod leaf;
+pub mod plan;
 mod range;
 mod table;
