@@ -10,6 +10,7 @@ use Rattle.span_expr.proofs.Places.{moved-same}
 use Rattle.span_query.specs.declared.query.BoundQuery.{BoundQuery}
 use Rattle.span_query.specs.declared.query.Block.{Block}
 use Rattle.span_query.specs.declared.query.Join.{Join}
+use Rattle.span_query.proofs.Sizes.{all_sizes}
 use Rattle.span_planner.specs.Conditions.{conjuncts_on}
 use Rattle.span_planner.specs.Leaves.{first_filter, is_joined, leaf_len, widths}
 use Rattle.span_planner.specs.Numbered.{is_numbered_join, are_numbered_joins}
@@ -33,6 +34,16 @@ all_taken : {A : Type 0} (p : A → Bool) (n : ℕ) (xs : List A) → list_all p
 all_taken p zero xs all = refl
 all_taken p (suc n) [] all = refl
 all_taken p (suc n) (x ∷ xs) all = let parts = and_true (p x) (list_all p xs) all in ap (λ (b : Bool). b && list_all p (take n xs)) parts.0 ∙ all_taken p n xs parts.1
+
+pub all_dropped : {A : Type 0} (p : A → Bool) (n : ℕ) (xs : List A) → list_all p xs ≡ true → list_all p (drop n xs) ≡ true
+all_dropped p zero xs all = all
+all_dropped p (suc n) [] all = refl
+all_dropped p (suc n) (x ∷ xs) all = all_dropped p n xs (and_true (p x) (list_all p xs) all).1
+
+pub all_sizes_dropped : {A B : Type 0} (size : B → ℕ) (f : A → B) (n : ℕ) (xs : List A) → all_sizes size (map f (drop n xs)) ≤ all_sizes size (map f xs)
+all_sizes_dropped size f zero xs = omega arith
+all_sizes_dropped size f (suc n) [] = omega arith
+all_sizes_dropped size f (suc n) (x ∷ xs) = let more = all_sizes_dropped size f n xs in omega arith
 
 pub numbered_taken : (tables : List ℕ) (n : ℕ) (joins : List (Join BoundQuery)) → are_numbered_joins tables joins ≡ true → are_numbered_joins tables (take n joins) ≡ true
 numbered_taken tables = all_taken (is_numbered_join tables)

@@ -13,3 +13,4 @@ pub mod Loops
 pub mod Ranging
 pub mod Extents
 pub mod Mapped
+pub mod Numbering

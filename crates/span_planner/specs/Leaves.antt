@@ -142,11 +142,15 @@ top_joins before (j ∷ joins) = top_join before j ∷ top_joins (before + count
 abbrev pub with_from : {Q : Type 0} → Block Q → Item BoundQuery → List (Join BoundQuery) → Option Expr → Block BoundQuery
 with_from b from joins filter = record { from = from; joins = joins; filter = filter; grouping = b.grouping; outputs = b.outputs; is_distinct = b.is_distinct }
 
+-- none where so many items are the whole FROM, since their leaf evaluates it
+abbrev pub filter_above : {Q : Type 0} → Block Q → ℕ → Option Expr
+filter_above b len = if len == length b.joins then None else b.filter
+
 abbrev pub top_from : List Table → List ℕ → ℕ → Block Planned → Item Planned → Block BoundQuery
 top_from schema tables before b (item.Table n) =
     let table = table_of tables n in
     let len = leaf_len schema tables table (width_of schema table) b.joins in
-    with_from b (item.Table (before + 1)) (top_joins (before + 1) (drop len b.joins)) (if len == length b.joins then None else b.filter)
+    with_from b (item.Table (before + 1)) (top_joins (before + 1) (drop len b.joins)) (filter_above b len)
 top_from schema tables before b (item.Derived p) = with_from b (item.Derived (p.top before)) (top_joins (before + length p.leaves) b.joins) b.filter
 
 abbrev pub top_block : List Table → List ℕ → ℕ → Block Planned → Block BoundQuery
