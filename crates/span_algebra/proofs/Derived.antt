@@ -11,7 +11,7 @@ use Rattle.span_query.specs.declared.query.Item.{Item}
 use Rattle.span_query.specs.declared.query.Item.TheVariants as item
 use Rattle.span_query.specs.declared.query.Join.{Join}
 use Rattle.span_query.specs.Rows.{Row, Rows, ◌>>=◌}
-use Rattle.span_query.specs.Meaning.{meaning, item_rows, join_rows, join_next, query_rows}
+use Rattle.span_query.specs.Meaning.{meaning_over, item_rows, join_rows, join_next, query_rows}
 use Rattle.span_expr.specs.declared.cell.Failure.{Failure}
 use Rattle.span_expr.specs.declared.cell.Failure.TheVariants.{Fault, OutOfMemory}
 use Rattle.span_algebra.specs.Answers.{Gives}
@@ -64,22 +64,22 @@ layer_mapped {A} f d =
     ap (λ (b : Block A). record { first = b; others = (mapped f d).others; order = d.order; limit = d.limit }) (first_mapped f d)
     ∙ ap (λ (bs : List (Block A)). record { first = map_block f d.first; others = bs; order = d.order; limit = d.limit }) (others_mapped f d d.others)
 
-pub meaning_is : (tables : List (List Row)) (q : BoundQuery) → meaning tables q ≡ query_rows tables (meant_layer (meaning tables) (out-BoundQuery q))
-meaning_is tables q = fold_out-BoundQuery Rows (query_rows tables) q ∙ ap (query_rows tables) (layer_mapped (meaning tables) (out-BoundQuery q))
+pub meaning_is : (tables : ℕ → Rows) (q : BoundQuery) → meaning_over tables q ≡ query_rows tables (meant_layer (meaning_over tables) (out-BoundQuery q))
+meaning_is tables q = fold_out-BoundQuery Rows (query_rows tables) q ∙ ap (query_rows tables) (layer_mapped (meaning_over tables) (out-BoundQuery q))
 
 -- a fault stays one along the joins
-pub joins-none : (tables : List (List Row)) (js : List (Join Rows)) → fold (join_next tables) None js ≡ None
+pub joins-none : (tables : ℕ → Rows) (js : List (Join Rows)) → fold (join_next tables) None js ≡ None
 joins-none tables [] = refl
 joins-none tables (j ∷ js) = joins-none tables js
 
 pub ruleset query_laws = (meaning_is, joins-none)
 
-pub joins-fail : (why : Failure) (tables : List (List Row)) (o : Rows) (js : List (Join Rows)) → Gives {A = List Row} (Err why) o → GivesRows (Err why) (fold (join_next tables) o js)
+pub joins-fail : (why : Failure) (tables : ℕ → Rows) (o : Rows) (js : List (Join Rows)) → Gives {A = List Row} (Err why) o → GivesRows (Err why) (fold (join_next tables) o js)
 joins-fail Fault tables o js gives = ap (λ (p : Rows). fold (join_next tables) p js) gives ∙ joins-none tables js
 joins-fail OutOfMemory tables o js gives = tt {0}
 
 -- the join at a place, and the joins after it
-pub joins_at : (tables : List (List Row)) (js : List (Join BoundQuery)) (k : ℕ) (j : Join BoundQuery) (rows seen : List Row) → k < length js → j ≡ get_or js k j → seen ≡ rows → fold (join_next tables) (Some rows) (map (map_join (meaning tables)) (drop k js)) ≡ fold (join_next tables) (item_rows tables (map_item (meaning tables) j.item) >>= join_rows j seen) (map (map_join (meaning tables)) (drop (k + 1) js))
+pub joins_at : (tables : ℕ → Rows) (js : List (Join BoundQuery)) (k : ℕ) (j : Join BoundQuery) (rows seen : List Row) → k < length js → j ≡ get_or js k j → seen ≡ rows → fold (join_next tables) (Some rows) (map (map_join (meaning_over tables)) (drop k js)) ≡ fold (join_next tables) (item_rows tables (map_item (meaning_over tables) j.item) >>= join_rows j seen) (map (map_join (meaning_over tables)) (drop (k + 1) js))
 joins_at tables js k j rows seen below is same =
-    ap (λ (l : List (Join BoundQuery)). fold (join_next tables) (Some rows) (map (map_join (meaning tables)) l)) (drop_at js k j below is)
-    ∙ ap (λ (r : List Row). fold (join_next tables) (item_rows tables (map_item (meaning tables) j.item) >>= join_rows j r) (map (map_join (meaning tables)) (drop (k + 1) js))) (sym same)
+    ap (λ (l : List (Join BoundQuery)). fold (join_next tables) (Some rows) (map (map_join (meaning_over tables)) l)) (drop_at js k j below is)
+    ∙ ap (λ (r : List Row). fold (join_next tables) (item_rows tables (map_item (meaning_over tables) j.item) >>= join_rows j r) (map (map_join (meaning_over tables)) (drop (k + 1) js))) (sym same)

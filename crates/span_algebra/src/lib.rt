@@ -4,8 +4,9 @@
 mod aggregate;
 mod block;
 mod distinct;
+pub mod filter;
 mod group;
-mod join;
+pub mod join;
 pub mod plain;
 pub mod row;
 mod select;

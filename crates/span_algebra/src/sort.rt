@@ -33,7 +33,7 @@ fn compare_by_key(key: &SortKey, left: &[Value], right: &[Value]) -> Ordering
 }
 
 /// The order of two rows, by the first key at which they differ.
-pub(crate) fn compare_rows(keys: &[SortKey], left: &[Value], right: &[Value]) -> Ordering
+pub fn compare_rows(keys: &[SortKey], left: &[Value], right: &[Value]) -> Ordering
     ensures { result ≡ spec.row_order keys.now left.now right.now }
 {
     for key in keys {

@@ -1,9 +1,10 @@
 //! The rows of an item of a FROM, and the tables that a query reads. Rows that are there already are lent and not copied.
-ghost use Rattle.std.specs.Prelude.{◌≡◌, [], ◌∷◌, ◌++◌, map, slice_get, OnOk, OnErr};
+ghost use Rattle.std.specs.Prelude.{◌≡◌, [], ◌∷◌, ◌++◌, map, Some, None, slice_get, OnOk, OnErr};
 ghost use Rattle.std.specs.Option.{option_copied};
 ghost use Rattle.span_query.specs.Meaning as spec;
-ghost use Rattle.span_algebra.specs.Sources.{source_rows};
+ghost use Rattle.span_algebra.specs.Sources.{GivesSlice, source_rows, source_result};
 
+use span_expr::cell::Failure;
 use span_value::seq::Seq;
 use span_value::value::Row;
 use std::alloc::{AllocError, Global};
@@ -28,20 +29,27 @@ impl Source<'_> {
     }
 }
 
-/// The tables that a query reads. Contracts see the rows of each.
+/// What a table of a query gives: its rows, or none where reading it was an arithmetic error.
+#[derive(Drop)]
+enum TableSource<'a> {
+    Rows(Source<'a>),
+    Fault,
+}
+
+/// The tables that a query reads. Contracts see of each its rows or the fault.
 #[derive(Drop)]
 pub struct Tables<'a> {
-    sources: Vec<Source<'a>>,
+    sources: Vec<TableSource<'a>>,
 }
 
 impl<'a> Model for Tables<'a> {
     ghost use Rattle.std.specs.Prelude.{List, map};
-    ghost use Rattle.span_query.specs.Rows.{Row};
-    ghost use Rattle.span_algebra.specs.Sources.{source_rows};
+    ghost use Rattle.span_query.specs.Rows.{Rows};
+    ghost use Rattle.span_algebra.specs.Sources.{source_result};
 
-    ghost Value = { List (List Row) };
+    ghost Value = { List Rows };
 
-    ghost view = { λ a. map source_rows a.sources.items };
+    ghost view = { λ a. map source_result a.sources.items };
 }
 
 impl<'a> Tables<'a> {
@@ -56,44 +64,63 @@ impl<'a> Tables<'a> {
 
     /// Adds a table whose rows are lent. An error leaves the tables as they were.
     pub fn lend(&mut self, rows: &'a [Row]) -> Result<(), AllocError>
-        ensures ok { OnOk result (self.new ≡ self.old ++ rows.now ∷ []) }
+        ensures ok { OnOk result (self.new ≡ self.old ++ Some rows.now ∷ []) }
         ensures err { OnErr result (self.new ≡ self.old) }
     {
-        self.sources.push(Source::Lent(rows))?;
+        self.sources.push(TableSource::Rows(Source::Lent(rows)))?;
         Ok(())
     }
 
     /// Adds a table with these rows. An error leaves the tables as they were.
     pub fn add(&mut self, rows: Seq<Row>) -> Result<(), AllocError>
-        ensures ok { OnOk result (self.new ≡ self.old ++ rows ∷ []) }
+        ensures ok { OnOk result (self.new ≡ self.old ++ Some rows ∷ []) }
         ensures err { OnErr result (self.new ≡ self.old) }
     {
-        self.sources.push(Source::Made(rows))?;
+        self.sources.push(TableSource::Rows(Source::Made(rows)))?;
         Ok(())
     }
 
-    /// The rows of the table with this number; the first has number 1.
-    pub(crate) fn rows(&self, number: usize) -> &[Row]
-        ensures { result.now ≡ spec.table_rows self.now number }
+    /// Adds a table that is a fault. An error leaves the tables as they were.
+    pub fn add_fault(&mut self) -> Result<(), AllocError>
+        ensures ok { OnOk result (self.new ≡ self.old ++ None ∷ []) }
+        ensures err { OnErr result (self.new ≡ self.old) }
+    {
+        self.sources.push(TableSource::Fault)?;
+        Ok(())
+    }
+
+    /// The rows of the table with this number; the first has number 1. `Fault` where the table is one.
+    pub(crate) fn rows(&self, number: usize) -> Result<&[Row], Failure>
+        ensures { GivesSlice result (spec.given self.now number) }
     {
         rows_at(self.sources.as_slice(), number)
     }
 }
 
-/// The rows of the table with this number; the first has number 1.
-fn rows_at<'a>(sources: &'a [Source<'_>], number: usize) -> &'a [Row]
-    ensures { result.now ≡ spec.table_rows (map source_rows sources.now) number }
+/// The rows of the table with this number; the first has number 1. `Fault` where the table is one.
+fn rows_at<'a>(sources: &'a [TableSource<'_>], number: usize) -> Result<&'a [Row], Failure>
+    ensures { GivesSlice result (spec.given (map source_result sources.now) number) }
 {
     if number == 0 {
-        return &[];
+        return Ok(&[]);
     }
     match source_at(sources, number - 1) {
-        Some(rows) => rows.as_slice(),
-        None => &[],
+        Some(source) => rows_of(source),
+        None => Ok(&[]),
     }
 }
 
-fn source_at<'a, 'b>(sources: &'a [Source<'b>], place: usize) -> Option<&'a Source<'b>>
+/// The rows that a table gives.
+fn rows_of<'a>(source: &'a TableSource<'_>) -> Result<&'a [Row], Failure>
+    ensures { GivesSlice result (source_result source.now) }
+{
+    match source {
+        TableSource::Rows(rows) => Ok(rows.as_slice()),
+        TableSource::Fault => Err(Failure::Fault),
+    }
+}
+
+fn source_at<'a, 'b>(sources: &'a [TableSource<'b>], place: usize) -> Option<&'a TableSource<'b>>
     ensures { option_copied result ≡ slice_get sources.now place }
 {
     sources.get(place)

@@ -216,6 +216,7 @@ no_lone line whole begin shards (command.Scan a b n) is = whole (codes "scan") _
 no_lone line whole begin shards (command.Finish a) is = whole (codes "finish") _ (word_of (codes "finish") (omega arith) refl) is.1
 no_lone line whole begin shards (command.Close a) is = whole (codes "close") _ (word_of (codes "close") (omega arith) refl) is.1
 no_lone line whole begin shards (command.Query bound text) is = whole (codes "query") _ (word_of (codes "query") (omega arith) refl) is.1
+no_lone line whole begin shards (command.Explain text) is = whole (codes "explain") _ (word_of (codes "explain") (omega arith) refl) is.1
 no_lone line whole begin shards (command.Trim a b) is = whole (codes "trim") _ (word_of (codes "trim") (omega arith) refl) is.1
 
 -- a first word that is none of these is that of no command of numbers
@@ -255,6 +256,7 @@ pub record IsNumbered (word : List ℕ) : Type 0 where
   pub load : word ≢ codes "load"
   pub opens : word ≢ codes "open"
   pub query : word ≢ codes "query"
+  pub explain : word ≢ codes "explain"
 
 -- so what is read of a line is what is read of it among the commands of numbers
 pub numbered : (line word rest : List ℕ) → IsWord word → line ≡ spaced word rest → IsNumbered word → (r : Option Command) → IsNumberedReadAs (spaced word rest) r → IsReadAs line r
@@ -281,6 +283,7 @@ numbered line word rest good split other None none = λ c is. refuse c (subst (�
     refuse (command.Load table columns) is = other.load (first (codes "load") _ (spaceless (codes "load") refl) is.1)
     refuse (command.Open bound text) is = other.opens (first (codes "open") _ (spaceless (codes "open") refl) is.1)
     refuse (command.Query bound text) is = other.query (first (codes "query") _ (spaceless (codes "query") refl) is.1)
+    refuse (command.Explain text) is = other.explain (first (codes "explain") _ (spaceless (codes "explain") refl) is.1)
     refuse command.Begin is = lone (codes "begin") refl is.1
     refuse command.Shards is = lone (codes "shards") refl is.1
     refuse c is = none c refl is

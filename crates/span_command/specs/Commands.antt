@@ -45,6 +45,7 @@ command_text (command.Scan query leaf slot) = three (codes "scan") query leaf sl
 command_text (command.Finish query) = one (codes "finish") query
 command_text (command.Close query) = one (codes "close") query
 command_text (command.Query bound text) = spaced (codes "query") (spaced (bound_text bound) text.now)
+command_text (command.Explain text) = spaced (codes "explain") text.now
 command_text (command.Trim slot horizon) = two (codes "trim") slot horizon
 command_text command.Shards = codes "shards"
 
@@ -67,6 +68,7 @@ IsWritable (command.Scan query leaf slot) = (query < 2 ^ 64) × (leaf < 2 ^ 64) 
 IsWritable (command.Finish query) = query < 2 ^ 64
 IsWritable (command.Close query) = query < 2 ^ 64
 IsWritable (command.Query bound text) = BoundFits bound
+IsWritable (command.Explain text) = ⊤
 IsWritable (command.Trim slot horizon) = (slot < 2 ^ 64) × (horizon < 2 ^ 64)
 IsWritable command.Shards = ⊤
 

@@ -80,6 +80,10 @@ pub enum Command<'a> {
         bound: Bound,
         text: &'a str,
     },
+    /// Tells the leaves of the plan of a query text.
+    Explain {
+        text: &'a str,
+    },
     Trim {
         slot: u64,
         horizon: u64,
@@ -103,6 +107,7 @@ pub fn read_command(line: &str) -> Option<Command<'_>>
             "load" => read_load(rest),
             "open" => read_open(rest),
             "query" => read_query(rest),
+            "explain" => Some(Command::Explain { text: rest }),
             word => read_numbered(word, rest),
         },
     }

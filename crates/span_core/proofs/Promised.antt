@@ -22,7 +22,7 @@ use Rattle.span_parts.proofs.Changes.{set_there}
 use Rattle.span_binder.specs.Understands.{Understands}
 use Rattle.span_core.specs.Histories.{Steps, Run}
 use Rattle.span_core.specs.Promises.{IsRunTo, IsCounted, Promises, IsConsistent, asked_after}
-use Rattle.span_core.proofs.Runs.{run_more, whole_consistent}
+use Rattle.span_core.proofs.Runs.{run_more, understood_plans, whole_consistent}
 
 -- ---- the run goes on
 
@@ -81,7 +81,7 @@ pub promised : (schema : List Table) → MeetsRules schema → (m : Machine) →
 unfolding one_more
 promised schema rules m past step reply next of one =
     let more = one_more schema m next step reply past of one in
-    let right = run_right (Understands schema) schema rules [] [] start more.steps more.replies next more.run more.of_schema (start_reached schema) (start_known (Understands schema)) in
+    let right = run_right (Understands schema) schema rules (understood_plans schema) [] [] start more.steps more.replies next more.run more.of_schema (start_reached schema) (start_known (Understands schema)) in
     record {
       right = last_right schema next.log [] start past.steps past.replies m step reply past.run right;
       applies = λ s. reached_tables schema rules next s (run_reached schema rules (Understands schema) start more.steps more.replies next more.run more.of_schema (start_reached schema));

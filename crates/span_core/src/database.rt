@@ -1,18 +1,18 @@
 //! The core and its steps.
-ghost use Rattle.std.specs.Prelude.{◌≡◌, IfOk, IfErr, Ok, None, MatchOption, length, slice_get};
-ghost use Rattle.std.specs.List.{AllByRecursion};
+ghost use Rattle.std.specs.Prelude.{◌≡◌, ◌⊎◌, IfOk, IfErr, Ok, Err, None, MatchOption, MatchResult, length, slice_get};
+ghost use Rattle.span_core.specs.Explanations.{IsExplanation};
 ghost use Rattle.span_core.specs.Histories.{Steps};
 ghost use Rattle.span_core.specs.Promises.{IsRunTo, Promises, IsConsistent};
 ghost use Rattle.span_core.specs.Views.{IsView};
 ghost use Rattle.span_binder.specs.Understands.{Understands};
 ghost use Rattle.span_schema.specs.Lineages.{MeetsRules};
-ghost use Rattle.span_schema.specs.Numbers.{IsTable};
 ghost use Rattle.span_machine.specs.Machine.{start};
 ghost use Rattle.span_machine.specs.Run.{IsChecked, IsOfSchema};
 ghost use Rattle.span_keycode.specs.Coding.{AreValues};
 ghost use Rattle.span_mutate.specs.Typed.{AreTypedMutations};
 ghost use Rattle.span_machine.specs.declared.step.Step.TheVariants as step_of;
 
+use super::explain::{explain_statement, give_after};
 use super::replies::{
     advance_reply, apply_reply, begin_reply, close_reply, decide_reply, finish_reply, open_reply,
     prepare_reply, scan_reply, split_reply, trim_reply,
@@ -28,6 +28,7 @@ use span_parts::{cut, steps};
 use span_query::query::Statement;
 use span_schema::schema::Schema;
 use span_shard::shard::Shard;
+use span_soundness::laws::can_be_planned;
 use span_truetime::bound::Bound;
 use span_truetime::interval::Interval;
 use span_value::refusal::Refusal;
@@ -49,12 +50,13 @@ pub struct Core {
 
 impl Model for Core {
     ghost use Rattle.span_core.specs.Whole.{State};
+    ghost use Rattle.span_expr.specs.contracts.expr.Expr as expr;
     ghost use Rattle.span_query.specs.contracts.query.BoundQuery as bound_query;
     ghost use Rattle.std.specs.Coded.{codes};
 
     ghost Value = { State };
 
-    ghost coded = { Prim.hlevel (codes, bound_query.the_row.coded) };
+    ghost coded = { Prim.hlevel (codes, expr.the_row.coded, bound_query.the_row.coded) };
 
     ghost use Rattle.span_machine.specs.Pieces.{machine_of};
 
@@ -274,25 +276,20 @@ impl Core {
         bound: Bound,
         interval: Interval,
     ) -> Reply
-        requires understood { Understands self.old.schema text params (Ok statement) }
-        requires leaves { AllByRecursion (IsTable self.old.schema) statement.leaves }
+        requires { Understands self.old.schema text params (Ok statement) }
         ensures steps { Steps self.old.schema self.old.machine (step_of.Open text params bound interval) result self.new.machine }
         ensures schema { self.new.schema ≡ self.old.schema }
     {
-        let leaves = statement.leaves.len();
-        open_reply(
-            leaves,
-            steps::open(
-                alloc,
-                &self.schema,
-                &mut self.journal,
-                text,
-                params,
-                statement,
-                bound,
-                interval,
-            ),
-        )
+        open_reply(steps::open(
+            alloc,
+            &self.schema,
+            &mut self.journal,
+            text,
+            params,
+            statement,
+            bound,
+            interval,
+        ))
     }
 
     fn scan(
@@ -323,6 +320,23 @@ impl Core {
         ensures schema { self.new.schema ≡ self.old.schema }
     {
         finish_reply(steps::finish(alloc, &self.schema, &self.journal, query))
+    }
+
+    /// The plan of a query text with these parameters, as text: how many leaves it has, and then of each a line with its
+    /// tables and its range of coded keys. The refusal of the query text, or `OutOfMemory`.
+    pub fn explain(&self, alloc: Global, text: &str, params: &Params) -> Result<Text, Refusal>
+        ensures { MatchResult result
+            (IsExplanation self.now.schema text.now params.now)
+            (λ why. (why ≡ Refusal.OutOfMemory) ⊎ Understands self.now.schema text.now params.now (Err why)) }
+    {
+        match understand(alloc, &self.schema, text, params) {
+            Ok(statement) => {
+                can_be_planned(&self.schema, text, params, &statement);
+                let plan = explain_statement(alloc, &self.schema, &statement);
+                give_after(statement, plan)
+            }
+            Err(why) => Err(why),
+        }
     }
 
     fn close(&mut self, query: u64) -> Reply

@@ -5,6 +5,7 @@
 #![tactic(auto)]
 
 pub mod database;
+mod explain;
 mod replies;
 pub mod run;
 pub mod slot;

@@ -3,10 +3,10 @@ ghost use Rattle.std.specs.Prelude.{◌≡◌};
 ghost use Rattle.span_machine.specs.declared.step.Reply.TheVariants as reply_of;
 ghost use Rattle.span_parts.specs.Replies.{as_reply, decision_reply, scan_reply, rows_reply, opened_reply};
 
+use span_gather::rows::Rows;
+use span_journal::journal::Opened;
 use span_machine::step::Reply;
 use span_value::refusal::Refusal;
-use span_value::seq::Seq;
-use span_value::value::Row;
 
 pub(crate) fn begin_reply(outcome: Result<u64, Refusal>) -> Reply
     ensures { result ≡ as_reply reply_of.Began outcome }
@@ -73,7 +73,7 @@ pub(crate) fn scan_reply(outcome: Result<bool, Refusal>) -> Reply
     }
 }
 
-pub(crate) fn finish_reply(outcome: Result<(u64, Seq<Row>), Refusal>) -> Reply
+pub(crate) fn finish_reply(outcome: Result<(u64, Rows), Refusal>) -> Reply
     ensures { result ≡ as_reply rows_reply outcome }
 {
     match outcome {
@@ -100,11 +100,11 @@ pub(crate) fn split_reply(outcome: Result<usize, Refusal>) -> Reply
     }
 }
 
-pub(crate) fn open_reply(leaves: usize, outcome: Result<(u64, u64), Refusal>) -> Reply
-    ensures { result ≡ as_reply (opened_reply leaves) outcome }
+pub(crate) fn open_reply(outcome: Result<Opened, Refusal>) -> Reply
+    ensures { result ≡ as_reply opened_reply outcome }
 {
     match outcome {
-        Ok((query, s)) => Reply::Opened { query, s, leaves },
+        Ok(Opened { query, s, leaves }) => Reply::Opened { query, s, leaves },
         Err(why) => Reply::Refused(why),
     }
 }

@@ -3,8 +3,12 @@
 
 pub mod cell;
 pub mod condition;
+pub mod conjunct;
+pub mod copy;
 pub mod eval;
 pub mod expr;
+pub mod form;
 mod operator;
 pub mod pattern;
+pub mod reads;
 pub mod total;

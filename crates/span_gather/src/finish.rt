@@ -1,58 +1,80 @@
 //! The rows of a query from the pieces of its leaves.
-ghost use Rattle.std.specs.Prelude.{◌≡◌, ◌⊎◌, ◌++◌, ◌∷◌, [], map, MatchResult, IfErr, OnOk, Some, None};
-ghost use Rattle.span_query.specs.Rows.{joined};
-ghost use Rattle.span_query.specs.Meaning.{meaning};
+ghost use Rattle.std.specs.Prelude.{◌≡◌, ◌⊎◌, ◌++◌, ◌∷◌, [], map, MatchResult, IfOk, OnOk, Some, None};
+ghost use Rattle.span_gather.specs.Gathered.{joined_pieces, gathered};
 
+use super::rows::Rows;
 use span_algebra::plain::eval_plain;
 use span_algebra::row::copy_row;
 use span_algebra::source::Tables;
+use span_fragment::piece::Piece;
 use span_query::query::BoundQuery;
 use span_value::refusal::Refusal;
 use span_value::seq::Seq;
 use span_value::value::Row;
-use std::alloc::Global;
+use std::alloc::{AllocError, Global};
 
-/// The rows of pieces, one after another, copied.
-fn join_pieces(alloc: Global, pieces: &[Seq<Row>]) -> Result<Seq<Row>, Refusal>
-    ensures { MatchResult result (λ rows. rows ≡ joined pieces.now) (λ why. why ≡ Refusal.OutOfMemory) }
+/// The rows of pieces, one after another, copied; none where one of them is a fault.
+fn join_pieces(alloc: Global, pieces: &[Piece]) -> Result<Option<Seq<Row>>, AllocError>
+    ensures { IfOk result (λ rows. rows ≡ joined_pieces pieces.now) }
 {
     let mut rows = Vec::new(alloc);
     for piece in pieces {
-        add_copies(alloc, &mut rows, piece.as_slice())?;
+        let Some(more) = piece.rows() else {
+            return Ok(None);
+        };
+        add_copies(alloc, &mut rows, more)?;
     }
-    Ok(Seq::from_vec(rows))
+    Ok(Some(Seq::from_vec(rows)))
 }
 
 /// Adds copies of the rows.
-fn add_copies(alloc: Global, rows: &mut Vec<Row>, piece: &[Row]) -> Result<(), Refusal>
-    ensures ok { OnOk result (rows.new.items ≡ rows.old.items ++ piece.now) }
-    ensures memory { IfErr result (λ why. why ≡ Refusal.OutOfMemory) }
+fn add_copies(alloc: Global, rows: &mut Vec<Row>, more: &[Row]) -> Result<(), AllocError>
+    ensures { OnOk result (rows.new.items ≡ rows.old.items ++ more.now) }
 {
-    for row in piece {
+    for row in more {
         rows.push(copy_row(alloc, row.as_slice())?)?;
     }
     Ok(())
 }
 
+/// Adds the table of a piece. Its rows are lent.
+fn lend_piece<'a>(tables: &mut Tables<'a>, piece: &'a Piece) -> Result<(), AllocError>
+    ensures { OnOk result (tables.new ≡ tables.old ++ piece.now.rows ∷ []) }
+{
+    match piece.rows() {
+        Some(rows) => tables.lend(rows),
+        None => tables.add_fault(),
+    }
+}
+
+/// Adds the table of pieces. Their rows are copied.
+fn add_pieces(alloc: Global, tables: &mut Tables<'_>, pieces: &[Piece]) -> Result<(), AllocError>
+    ensures { OnOk result (tables.new ≡ tables.old ++ joined_pieces pieces.now ∷ []) }
+{
+    match join_pieces(alloc, pieces)? {
+        Some(rows) => tables.add(rows),
+        None => tables.add_fault(),
+    }
+}
+
 /// Adds the table of a leaf. The rows of its only piece are lent.
+#[tactic(auto, using(crate::proofs::Gathering::joined_one))]
 fn add_table<'a>(
     alloc: Global,
     tables: &mut Tables<'a>,
-    pieces: &'a [Seq<Row>],
-) -> Result<(), Refusal>
-    ensures ok { OnOk result (tables.new ≡ tables.old ++ joined pieces.now ∷ []) }
-    ensures memory { IfErr result (λ why. why ≡ Refusal.OutOfMemory) }
+    pieces: &'a [Piece],
+) -> Result<(), AllocError>
+    ensures { OnOk result (tables.new ≡ tables.old ++ joined_pieces pieces.now ∷ []) }
 {
     match pieces {
-        [piece] => tables.lend(piece.as_slice())?,
-        _ => tables.add(join_pieces(alloc, pieces)?)?,
+        [piece] => lend_piece(tables, piece),
+        _ => add_pieces(alloc, tables, pieces),
     }
-    Ok(())
 }
 
 /// The tables of all leaves.
-fn tables_of<'a>(alloc: Global, leaves: &'a [Seq<Seq<Row>>]) -> Result<Tables<'a>, Refusal>
-    ensures { MatchResult result (λ tables. tables ≡ map joined leaves.now) (λ why. why ≡ Refusal.OutOfMemory) }
+fn tables_of<'a>(alloc: Global, leaves: &'a [Seq<Piece>]) -> Result<Tables<'a>, AllocError>
+    ensures { IfOk result (λ tables. tables ≡ map joined_pieces leaves.now) }
 {
     let mut tables = Tables::new(alloc);
     for pieces in leaves {
@@ -61,18 +83,16 @@ fn tables_of<'a>(alloc: Global, leaves: &'a [Seq<Seq<Row>>]) -> Result<Tables<'a
     Ok(tables)
 }
 
-/// The rows of a query, from the rows of its leaves' pieces in the order of their ranges. `ArithmeticFault`, or `OutOfMemory`.
-pub fn finish(
-    alloc: Global,
-    query: &BoundQuery,
-    leaves: &[Seq<Seq<Row>>],
-) -> Result<Seq<Row>, Refusal>
+/// The rows of a query whose tables are the leaves of its plan, from the pieces of each leaf in the order of their ranges.
+/// `ArithmeticFault`, or `OutOfMemory`.
+pub fn finish(alloc: Global, top: &BoundQuery, leaves: &[Seq<Piece>]) -> Result<Rows, Refusal>
     ensures { MatchResult result
-        (λ rows. meaning (map joined leaves.now) query.now ≡ Some rows)
-        (λ why. ((why ≡ Refusal.ArithmeticFault) × (meaning (map joined leaves.now) query.now ≡ None)) ⊎ (why ≡ Refusal.OutOfMemory)) }
+        (λ rows. gathered leaves.now top.now ≡ Some rows.rows)
+        (λ why. ((why ≡ Refusal.ArithmeticFault) × (gathered leaves.now top.now ≡ None)) ⊎ (why ≡ Refusal.OutOfMemory)) }
 {
-    match tables_of(alloc, leaves) {
-        Ok(tables) => eval_plain(alloc, query, &tables),
+    let tables = tables_of(alloc, leaves)?;
+    match eval_plain(alloc, top, &tables) {
+        Ok(rows) => Ok(Rows::new(rows)),
         Err(why) => Err(why),
     }
 }

@@ -1,4 +1,7 @@
-//! The end of a query: the pieces of its leaves become the tables that it reads, and these its rows.
+//! The end of a query: the pieces of its leaves become the tables that the query above them reads, and these its rows. And the text
+//! that explains a plan.
 #![tactic(auto)]
 
+pub mod explain;
 pub mod finish;
+pub mod rows;

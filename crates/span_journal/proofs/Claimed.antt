@@ -5,7 +5,7 @@ use Rattle.std.specs.List.{list_all}
 use Rattle.std.proofs.lemmas.Bool.{and_parts}
 use Rattle.std.proofs.lemmas.Option.{slice_get_within}
 use Rattle.span_keycode.specs.declared.range.KeyRange.{KeyRange}
-use Rattle.span_query.specs.Rows.{Row}
+use Rattle.span_fragment.specs.declared.piece.Piece.{Piece}
 use Rattle.span_truetime.specs.declared.interval.Interval.{Interval}
 use Rattle.span_value.specs.declared.refusal.Refusal.{Refusal}
 use Rattle.span_machine.specs.declared.slot.SlotState.{SlotState}
@@ -67,5 +67,5 @@ module _ (ps : List Pieced) (bs : List SlotState) (query leaf slot at : ℕ) (p 
   within_slots = slice_get_within bs slot b t.here
 
   -- the queries once the piece is kept
-  pub covered_queries : (range : KeyRange) (rows : List Row) (ps' : List Pieced) → IfSome (slice_get ps at) (λ q. ps' ≡ slice_set ps at (covered_by leaf range rows q)) → ps' ≡ slice_set ps at (covered_by leaf range rows p)
-  covered_queries range rows ps' is = subst (λ (o : Option Pieced). IfSome o (λ q. ps' ≡ slice_set ps at (covered_by leaf range rows q))) t.place.here is
+  pub covered_queries : (range : KeyRange) (piece : Piece) (ps' : List Pieced) → IfSome (slice_get ps at) (λ q. ps' ≡ slice_set ps at (covered_by leaf range piece q)) → ps' ≡ slice_set ps at (covered_by leaf range piece p)
+  covered_queries range piece ps' is = subst (λ (o : Option Pieced). IfSome o (λ q. ps' ≡ slice_set ps at (covered_by leaf range piece q))) t.place.here is

@@ -32,12 +32,12 @@ four a b c d e f g h = cc
 
 pub gap_free : (slot_state : SlotState) (l : ScanLeaf) (part : KeyRange) → AreApart l.covered → gap_in slot_state l ≡ Some part → is_free slot_state l part ≡ true
 gap_free slot_state l part apart gap =
-    let inside = gap_part (part_between slot_state.lo slot_state.hi l.range) l.covered part gap in
-    let low = from_parts slot_state.lo l.range.low part.low inside.low in
-    let high = by_parts slot_state.hi l.range.high part.high inside.high in
+    let inside = gap_part (part_between slot_state.lo slot_state.hi l.leaf.range) l.covered part gap in
+    let low = from_parts slot_state.lo l.leaf.range.low part.low inside.low in
+    let high = by_parts slot_state.hi l.leaf.range.high part.high inside.high in
     let is_in : is_inside slot_state l part ≡ true =
-    four (is_from slot_state.lo part.low) (ends_by slot_state.hi part.high) (is_from (Some l.range.low) part.low) (ends_by (Some l.range.high) part.high) low.0 high.0 low.1 high.1 in
+    four (is_from slot_state.lo part.low) (ends_by slot_state.hi part.high) (is_from (Some l.leaf.range.low) part.low) (ends_by (Some l.leaf.range.high) part.high) low.0 high.0 low.1 high.1 in
     let uncovered : is_uncovered l part ≡ true =
     and_from (is_nonempty part) (not (is_covered_in_part l.covered part)) inside.some
-    (not_from_false (is_covered_in_part l.covered part) (gap_apart (part_between slot_state.lo slot_state.hi l.range) l.covered part apart gap)) in
+    (not_from_false (is_covered_in_part l.covered part) (gap_apart (part_between slot_state.lo slot_state.hi l.leaf.range) l.covered part apart gap)) in
     and_from (is_inside slot_state l part) (is_uncovered l part) is_in uncovered

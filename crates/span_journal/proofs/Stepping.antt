@@ -10,8 +10,8 @@ use Rattle.span_machine.specs.Place.{IsPlace}
 use Rattle.span_value.specs.declared.refusal.Refusal.{Refusal}
 use Rattle.span_value.specs.Results.{first_cause}
 use Rattle.span_keycode.specs.declared.range.KeyRange.{KeyRange}
-use Rattle.span_query.specs.Rows.{Row}
-use Rattle.span_journal.specs.Judged.{has_wrong_state, IsNoted, IsApplied, MayScan, IsRegistered, decision_of}
+use Rattle.span_fragment.specs.declared.piece.Piece.{Piece}
+use Rattle.span_journal.specs.Judged.{leaf_of, has_wrong_state, IsNoted, IsApplied, MayScan, IsRegistered, decision_of}
 use Rattle.span_journal.specs.Scans.{IsTarget, target_refusal, is_free, piece_refusal, register_refusal, IsRisen}
 use Rattle.span_journal.proofs.Gaps.{gap_free}
 use Rattle.span_journal.proofs.Preparing.{may_note}
@@ -192,7 +192,7 @@ module _ (j : Journaled) (query leaf slot : ℕ) (interval : Interval) (at : ℕ
         ∙ ap (λ b. cond b (reply.Scanned, record (with_slot_state m slot risen) { queries = changed_first (is_query query) (cover leaf part) m.queries }) (reply.Refused refusal.NotYet, with_slot_state m slot risen)) unsafe
         ∙ ap (λ (bks : List SlotState). (reply.Refused refusal.NotYet, machine_of (record j { slots = bks }))) (sym slots_are)
 
-    pub may_scan : nat_lt s slot_state.horizon ≡ false → is_safe m slot risen s ≡ true → MayScan m query leaf slot interval l.table part s
+    pub may_scan : nat_lt s slot_state.horizon ≡ false → is_safe m slot risen s ≡ true → MayScan m query leaf slot interval part s
     may_scan above safe = record {
       question = p.query;
       gap = l;
@@ -204,7 +204,6 @@ module _ (j : Journaled) (query leaf slot : ℕ) (interval : Interval) (at : ℕ
       uncovered = gap;
       free = gap_free slot_state l part t.apart gap;
       of_part = refl;
-      of_table = refl;
       at = refl;
       above = above;
       safe = safe;
@@ -243,10 +242,10 @@ module _ (j : Journaled) (query leaf slot : ℕ) (interval : Interval) (at : ℕ
   }
 
   -- the piece is registered
-  pub is_registered : (range : KeyRange) (rows : List Row) (bs : List SlotState) (qs : List Pieced) → is_free slot_state l range ≡ true → nat_lt s slot_state.horizon ≡ false → is_safe m slot risen s ≡ true
-      → bs ≡ slice_set j.slots slot risen → qs ≡ slice_set j.queries at (covered_by leaf range rows p)
-      → IsRegistered j query leaf slot interval range rows (record j { slots = bs; queries = qs })
-  is_registered range rows bs qs free above safe slots_are queries_are = record {
+  pub is_registered : (range : KeyRange) (piece : Piece) (bs : List SlotState) (qs : List Pieced) → is_free slot_state l range ≡ true → nat_lt s slot_state.horizon ≡ false → is_safe m slot risen s ≡ true
+      → bs ≡ slice_set j.slots slot risen → qs ≡ slice_set j.queries at (covered_by leaf range piece p)
+      → IsRegistered j query leaf slot interval range piece (record j { slots = bs; queries = qs })
+  is_registered range piece bs qs free above safe slots_are queries_are = record {
     question = p;
     gap = l;
     slot_state = slot_state;
@@ -257,7 +256,7 @@ module _ (j : Journaled) (query leaf slot : ℕ) (interval : Interval) (at : ℕ
     above = above;
     safe = safe;
     after = ap (λ (k : List SlotState). record j { slots = k; queries = qs }) slots_are
-        ∙ ap (λ (k : List Pieced). record j { slots = slice_set j.slots slot risen; queries = k }) (queries_are ∙ sym (t.place.changed (covered_by leaf range rows)));
+        ∙ ap (λ (k : List Pieced). record j { slots = slice_set j.slots slot risen; queries = k }) (queries_are ∙ sym (t.place.changed (covered_by leaf range piece)));
   }
 
 -- why a piece is not registered: nothing to scan
@@ -278,3 +277,10 @@ finish_uncovered schema j query p found uncovered =
 
 pub not_none : {A : Type 0} (o : Option A) (x : A) → o ≡ Some x → o ≢ None
 not_none o x e f = cc
+
+-- the leaf of a query that is not there, and of one that is
+pub leaf_none : (j : Journaled) (query leaf : ℕ) → find (λ p. is_query query p.query) j.queries ≡ None → leaf_of (machine_of j) query leaf ≡ None
+leaf_none j query leaf e = ap (λ (o : Option OpenQuery). if_some o None (λ q. option_map (λ (l : ScanLeaf). l.leaf) (slice_get q.leaves leaf))) (found_query j.queries query None e)
+
+pub leaf_some : (j : Journaled) (query leaf : ℕ) (p : Pieced) → find (λ p. is_query query p.query) j.queries ≡ Some p → leaf_of (machine_of j) query leaf ≡ option_map (λ (l : ScanLeaf). l.leaf) (slice_get p.query.leaves leaf)
+leaf_some j query leaf p e = ap (λ (o : Option OpenQuery). if_some o None (λ q. option_map (λ (l : ScanLeaf). l.leaf) (slice_get q.leaves leaf))) (found_query j.queries query (Some p) e)

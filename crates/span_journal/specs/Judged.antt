@@ -1,6 +1,7 @@
 use Rattle.std.specs.List.{list_all}
-use Rattle.std.specs.Prelude.{◌≡◌, ◌<◌, ℕ, Bool, false, true, not, ◌||◌, nat_le, nat_lt, List, [], ◌∷◌, length, find, slice_get, slice_set, Option, Some, None, Result, Ok, Err, ◌⊎◌}
-use Rattle.span_query.specs.Rows.{Row}
+use Rattle.std.specs.Prelude.{◌≡◌, ◌<◌, ℕ, Bool, false, true, not, ◌||◌, nat_le, nat_lt, List, [], ◌∷◌, length, find, option_map, slice_get, slice_set, Option, Some, None, Result, Ok, Err, ◌⊎◌}
+use Rattle.span_planner.specs.declared.leaf.Leaf.{Leaf}
+use Rattle.span_fragment.specs.declared.piece.Piece.{Piece}
 use Rattle.span_query.specs.declared.query.BoundQuery.{BoundQuery}
 use Rattle.span_value.specs.declared.refusal.Refusal.{Refusal}
 use Rattle.span_value.specs.declared.refusal.Refusal.TheVariants.{OutOfMemory, TimestampRange, UnknownTransaction, WrongState, NoSlot, NotYet}
@@ -92,8 +93,8 @@ pub record IsApplied (old : Machine) (owner txn slot : ℕ) (interval : Interval
   pub after : new ≡ (applied_at (decision_of committed) old owner txn slot transaction).1
 
 -- this range is the lowest uncovered part of the query's leaf in the slot, a piece of it may be taken, the query's timestamp s is not below the slot's horizon, and
--- safe time reaches it once the floor has risen; the leaf is of this table
-pub record MayScan (m : Machine) (query leaf slot : ℕ) (interval : Interval) (table : ℕ) (range : KeyRange) (s : ℕ) : Type 0 where
+-- safe time reaches it once the floor has risen
+pub record MayScan (m : Machine) (query leaf slot : ℕ) (interval : Interval) (range : KeyRange) (s : ℕ) : Type 0 where
   pub question : OpenQuery
   pub gap : ScanLeaf
   pub slot_state : SlotState
@@ -104,7 +105,6 @@ pub record MayScan (m : Machine) (query leaf slot : ℕ) (interval : Interval) (
   pub uncovered : gap_in slot_state gap ≡ Some part
   pub free : is_free slot_state gap part ≡ true
   pub of_part : range ≡ part
-  pub of_table : table ≡ gap.table
   pub at : s ≡ question.s
   pub above : nat_lt question.s slot_state.horizon ≡ false
   pub safe : is_safe m slot (with_risen_floor slot_state question.s interval) question.s ≡ true
@@ -119,20 +119,24 @@ pub record IsRaised (old : Machine) (slot h : ℕ) (new : Machine) : Type 0 wher
 -- what a scan finds: nothing uncovered, or what may be read of which table
 abbrev pub IsGap : Machine → ℕ → ℕ → ℕ → Interval → Option Gap → Type 0
 IsGap m query leaf slot interval None = scan m query leaf slot interval ≡ (reply.Nothing, m)
-IsGap m query leaf slot interval (Some gap) = MayScan m query leaf slot interval gap.table gap.range gap.s
+IsGap m query leaf slot interval (Some gap) = MayScan m query leaf slot interval gap.range gap.s
 
 -- why nothing is claimed: out of memory, or the machine's refusal, which leads to this machine
 abbrev pub IsUnclaimed : Machine → ℕ → ℕ → ℕ → Interval → Refusal → Machine → Type 0
 IsUnclaimed m query leaf slot interval why next =
     ((why ≡ OutOfMemory) × (next ≡ m)) ⊎ (scan m query leaf slot interval ≡ (reply.Refused why, next))
 
--- what a query asks at s, with the pieces that cover its leaves
-pub record IsCovered (j : Journaled) (query s : ℕ) (asked : BoundQuery) (pieces : List (List (List Row))) : Type 0 where
+-- the leaf of a query at a place
+abbrev pub leaf_of : Machine → ℕ → ℕ → Option Leaf
+leaf_of m query leaf = if_some (find (is_query query) m.queries) None (λ q. option_map (λ (l : ScanLeaf). l.leaf) (slice_get q.leaves leaf))
+
+-- the query above the leaves at s, with the pieces that cover them
+pub record IsCovered (j : Journaled) (query s : ℕ) (top : BoundQuery) (pieces : List (List Piece)) : Type 0 where
   pub question : Pieced
   pub found : find (λ p. is_query query p.query) j.queries ≡ Some question
   pub covered : list_all is_covered question.query.leaves ≡ true
   pub at : s ≡ question.query.s
-  pub asked_is : asked ≡ question.query.statement.query
+  pub top_is : top ≡ question.query.top
   pub pieces_are : pieces ≡ question.pieces
 
 -- the query, whose leaves are covered, was taken out of the journal
@@ -143,9 +147,9 @@ pub record IsTaken (old : Journaled) (query : ℕ) (taken : Taken) (new : Journa
   pub taken_is : taken ≡ taken_of question
   pub after : new ≡ record old { queries = without_first (λ p. is_query query p.query) old.queries }
 
--- a piece of this range with these rows covers a part of the query's leaf that no piece covered, and the slot's floor has risen to the
+-- a piece of this range covers a part of the query's leaf that no piece covered, and the slot's floor has risen to the
 -- query's timestamp, which safe time has reached
-pub record IsRegistered (old : Journaled) (query leaf slot : ℕ) (interval : Interval) (range : KeyRange) (rows : List Row) (new : Journaled) : Type 0 where
+pub record IsRegistered (old : Journaled) (query leaf slot : ℕ) (interval : Interval) (range : KeyRange) (piece : Piece) (new : Journaled) : Type 0 where
   pub question : Pieced
   pub gap : ScanLeaf
   pub slot_state : SlotState
@@ -157,7 +161,7 @@ pub record IsRegistered (old : Journaled) (query leaf slot : ℕ) (interval : In
   pub safe : is_safe (machine_of old) slot (with_risen_floor slot_state question.query.s interval) question.query.s ≡ true
   pub after : new ≡ record old {
     slots = (with_slot_state (machine_of old) slot (with_risen_floor slot_state question.query.s interval)).slots;
-    queries = changed_first (λ p. is_query query p.query) (covered_by leaf range rows) old.queries;
+    queries = changed_first (λ p. is_query query p.query) (covered_by leaf range piece) old.queries;
   }
 
 -- why a piece is not registered: out of memory, or its refusal

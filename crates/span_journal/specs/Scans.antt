@@ -41,7 +41,8 @@ ends_by (Some high) end = not (is_lt (byte_order high end))
 -- the range lies in the slot's range and in the leaf's
 abbrev pub is_inside : SlotState → ScanLeaf → KeyRange → Bool
 is_inside slot_state l range =
-    is_from slot_state.lo range.low && ends_by slot_state.hi range.high && is_from (Some l.range.low) range.low && ends_by (Some l.range.high) range.high
+    is_from slot_state.lo range.low && ends_by slot_state.hi range.high && is_from (Some l.leaf.range.low) range.low
+    && ends_by (Some l.leaf.range.high) range.high
 
 -- the range lies in the slot's range and in the leaf's, has keys, and no piece covers any of it
 abbrev pub is_free : SlotState → ScanLeaf → KeyRange → Bool
@@ -71,4 +72,4 @@ pub record IsRisen (old : Journaled) (query slot : ℕ) (interval : Interval) (n
 -- ---- what is taken out of a query
 
 abbrev pub taken_of : Pieced → Taken
-taken_of p = record { text = p.query.text; params = p.query.params; statement = p.query.statement; s = p.query.s; pieces = p.pieces }
+taken_of p = record { text = p.query.text; params = p.query.params; statement = p.query.statement; s = p.query.s; top = p.query.top; pieces = p.pieces }

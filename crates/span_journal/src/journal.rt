@@ -1,17 +1,17 @@
 //! The journal and its calls.
 ghost use Rattle.std.specs.Prelude.{◌≡◌, ℕ, List, ◌<◌, ◌+◌, ◌^◌, [], ◌∷◌, ◌++◌, length, count_by, find, slice_get, IfOk, IfErr, IfSome, IfNone, MatchOption, OnOk, OnErr, Some, None, Ok, true};
-ghost use Rattle.std.specs.List.{AllByRecursion};
 ghost use Rattle.span_machine.specs.Machine.{Answers, IsAnswer, start, is_transaction, is_undecided, is_query, commit_refusal, commit_timestamp, begin, begun, decide, apply_step, advance, trim, trim_refusal, open_query, open_refusal, finish, close, refused, without_first, is_prepared_at, split_at, split_in_two};
 ghost use Rattle.span_journal.specs.declared.journal.TheConstants.{MOST_TRANSACTIONS, MOST_COMMITS, MOST_QUERIES, MOST_SLOTS, NUMBER_END};
 ghost use Rattle.span_machine.specs.Limits.{most_transactions, most_commits, most_queries, most_slots, number_end};
 ghost use Rattle.span_truetime.specs.Time.{timestamp_of};
 ghost use Rattle.span_schema.specs.declared.table.Table.{Table};
-ghost use Rattle.span_schema.specs.Numbers.{IsTable};
+ghost use Rattle.std.specs.Option.{option_copied};
+ghost use Rattle.span_planner.specs.Plannable.{IsPlannable};
 ghost use Rattle.span_machine.specs.Pieces.{machine_of, unread};
 ghost use Rattle.span_machine.specs.declared.transaction.OpenTransaction.{OpenTransaction};
 ghost use Rattle.span_machine.specs.declared.step.Reply.TheVariants as reply_of;
 ghost use Rattle.span_journal.specs.Choices.{chosen_mutations};
-ghost use Rattle.span_journal.specs.Judged.{as_reply, decision_reply, MayPrepare, IsUnprepared, IsNoted, IsUnnoted, IsApplied, IsGap, IsUnclaimed, IsRaised, IsRegistered, IsUnregistered, IsUnchanged, IsCovered, IsTaken, MaySplit, IsCutOf};
+ghost use Rattle.span_journal.specs.Judged.{as_reply, decision_reply, MayPrepare, IsUnprepared, IsNoted, IsUnnoted, IsApplied, IsGap, IsUnclaimed, IsRaised, leaf_of, IsRegistered, IsUnregistered, IsUnchanged, IsCovered, IsTaken, MaySplit, IsCutOf};
 
 use super::choice::{Chosen, has_any, mutations_in};
 use super::owned::{append, drop_at, pair_with};
@@ -29,6 +29,7 @@ use super::transactions::{
     abort_at, add_prepared_at, check_apply, commit_at, count_prepared, count_undecided,
     end_prepared_at, find_transaction, has_conflict, is_any_prepared, may_prepare, remove_at,
 };
+use span_fragment::piece::Piece;
 use span_keycode::key::Key;
 use span_keycode::range::KeyRange;
 use span_machine::slot::SlotState;
@@ -37,6 +38,7 @@ use span_machine::transaction::{Commit, Prepared};
 use span_mutate::mutation::CheckedMutation;
 use span_mutate::transaction::Transaction;
 use span_params::params::Params;
+use span_planner::leaf::Leaf;
 use span_query::query::{BoundQuery, Statement};
 use span_schema::schema::Schema;
 use span_truetime::bound::{Bound, choose};
@@ -44,7 +46,6 @@ use span_truetime::interval::Interval;
 use span_value::refusal::Refusal;
 use span_value::seq::Seq;
 use span_value::text::Text;
-use span_value::value::Row;
 use std::alloc::{AllocError, Global};
 use std::marker::Model;
 
@@ -72,11 +73,20 @@ pub fn limits_are_stated()
     ensures numbers { NUMBER_END ≡ number_end }
 {}
 
+/// A query that was opened.
+#[derive(Clone, Copy, Debug, PartialEq, Eq)]
+pub struct Opened {
+    /// Its number.
+    pub query: u64,
+    /// The timestamp that it reads at.
+    pub s: u64,
+    /// The number of its leaves.
+    pub leaves: usize,
+}
+
 /// What is to be read for a leaf of a query.
 #[derive(Debug, Drop)]
 pub struct Gap {
-    /// The number of the leaf's table.
-    pub table: usize,
     /// The keys that are read.
     pub range: KeyRange,
     /// The timestamp that the query reads at.
@@ -110,12 +120,13 @@ impl Model for Journal {
     ghost use Rattle.span_machine.specs.Limits.{most_commits, most_slots};
     ghost use Rattle.span_machine.specs.Machine.{is_undecided};
     ghost use Rattle.span_machine.specs.Pieces.{Journaled};
+    ghost use Rattle.span_expr.specs.contracts.expr.Expr as expr;
     ghost use Rattle.span_query.specs.contracts.query.BoundQuery as bound_query;
     ghost use Rattle.std.specs.Coded.{codes};
 
     ghost Value = { Journaled };
 
-    ghost coded = { Prim.hlevel (codes, bound_query.the_row.coded) };
+    ghost coded = { Prim.hlevel (codes, expr.the_row.coded, bound_query.the_row.coded) };
 
     ghost view = { λ a. record {
       slots = a.slots.items;
@@ -522,7 +533,7 @@ impl Journal {
         }
     }
 
-    /// Opens a query, and returns its number and the timestamp that it reads at. `TimestampRange`, then
+    /// Opens a query whose statement can be planned, and plans it. `TimestampRange`, then
     /// `QueryTableFull`, then `OutOfMemory`; a refusal leaves all as it was.
     pub fn open(
         &mut self,
@@ -533,22 +544,28 @@ impl Journal {
         statement: Statement,
         bound: Bound,
         interval: Interval,
-    ) -> Result<(u64, u64), Refusal>
-        requires { AllByRecursion (IsTable schema.now) statement.leaves }
+    ) -> Result<Opened, Refusal>
+        requires { IsPlannable schema.now statement }
         ensures step { Answers (machine_of self.old)
             (open_query schema.now (machine_of self.old) (Ok statement) text params bound interval)
-            (as_reply (λ r. reply_of.Opened r.0 r.1 (length statement.leaves)) result)
+            (as_reply (λ opened. reply_of.Opened opened.query opened.s opened.leaves) result)
             (machine_of self.new) }
         ensures pieces { IfOk result
-            (λ r. self.new.queries ≡ self.old.queries ++ unread schema.now r.0 r.1 text params statement ∷ []) }
+            (λ opened.
+            self.new.queries ≡ self.old.queries ++ unread schema.now opened.query opened.s text params statement ∷ []) }
         ensures err { OnErr result (self.new.queries ≡ self.old.queries) }
     {
         let (statement, s) = pair_with(statement, self.check_open(bound, interval))?;
         let number = self.next_query;
         let query = KeptQuery::new(alloc, schema, number, s, text, params, statement)?;
+        let leaves = query.count_leaves();
         append(&mut self.queries, query)?;
         self.next_query += 1;
-        Ok((number, s))
+        Ok(Opened {
+            query: number,
+            s,
+            leaves,
+        })
     }
 
     /// Checks a scan of a leaf of the query in the slot: what may be read where a part of the leaf's range is uncovered
@@ -581,16 +598,15 @@ impl Journal {
         if s < slot_state.horizon {
             return Err(Refusal::Trimmed);
         }
-        let table = part.table;
         let floor = risen_floor(slot_state, s, interval);
         if is_safe_at(self.transactions.as_slice(), floor, slot, s) {
-            return Ok(Some(Gap { table, range, s }));
+            return Ok(Some(Gap { range, s }));
         }
         set_floor(&mut self.slots, slot, floor);
         Err(Refusal::NotYet)
     }
 
-    /// Covers a part of a leaf of the query by a piece with these rows, and raises the slot's floor to its timestamp
+    /// Covers a part of a leaf of the query by a piece, and raises the slot's floor to its timestamp
     /// where the clock has passed it. `UnknownQuery`, also where the query has no such leaf, then `NoSlot`, then
     /// `Incomplete` where the range has no keys, does not lie in the leaf's range and the slot's, or is covered in
     /// part, then `Trimmed` below the horizon, then `NotYet`, after which alone the slot's floor may have risen, then
@@ -603,9 +619,9 @@ impl Journal {
         slot: usize,
         interval: Interval,
         range: KeyRange,
-        rows: Seq<Row>,
+        piece: Piece,
     ) -> Result<(), Refusal>
-        ensures ok { OnOk result (IsRegistered self.old query leaf slot interval range rows self.new) }
+        ensures ok { OnOk result (IsRegistered self.old query leaf slot interval range piece self.new) }
         ensures why { IfErr result (λ why. IsUnregistered self.old query leaf slot interval range why) }
         ensures err { IfErr result (λ why. IsUnchanged self.old query slot interval why self.new) }
     {
@@ -628,14 +644,27 @@ impl Journal {
             set_floor(&mut self.slots, slot, floor);
             return Err(Refusal::NotYet);
         }
-        cover_at(alloc, &mut self.queries, at, leaf, range, rows)?;
+        cover_at(alloc, &mut self.queries, at, leaf, range, piece)?;
         set_floor(&mut self.slots, slot, floor);
         Ok(())
     }
 
-    /// The timestamp that the query reads at, what it asks of its leaves, and for each of them the rows of its pieces,
-    /// in the order of their ranges. `UnknownQuery`, then `Incomplete` where the pieces do not tile a leaf's range.
-    pub fn pieces(&self, query: u64) -> Result<(u64, &BoundQuery, &[Seq<Seq<Row>>]), Refusal>
+    /// The leaf of an open query at a place, counted from 0, if there is one.
+    pub fn leaf(&self, query: u64, leaf: usize) -> Option<&Leaf>
+        ensures { option_copied result ≡ leaf_of (machine_of self.now) query leaf }
+    {
+        let Some((_, question)) = find_query(self.queries.as_slice(), query) else {
+            return None;
+        };
+        match question.leaf(leaf) {
+            Some(part) => Some(&part.leaf),
+            None => None,
+        }
+    }
+
+    /// The timestamp that the query reads at, the query above its leaves, and for each of them its pieces, in the
+    /// order of their ranges. `UnknownQuery`, then `Incomplete` where the pieces do not tile a leaf's range.
+    pub fn pieces(&self, query: u64) -> Result<(u64, &BoundQuery, &[Seq<Piece>]), Refusal>
         ensures ok { IfOk result (λ r. IsCovered self.now query r.0 r.1.now r.2.now) }
         ensures refused { IfErr result
             (λ why.
@@ -648,7 +677,7 @@ impl Journal {
         if !question.is_covered() {
             return Err(Refusal::Incomplete);
         }
-        Ok((question.timestamp(), question.query(), question.pieces()))
+        Ok((question.timestamp(), question.top(), question.pieces()))
     }
 
     /// Closes a query whose leaves pieces cover, and returns what it is answered by. It takes no memory.

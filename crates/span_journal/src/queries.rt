@@ -8,12 +8,11 @@ ghost use Rattle.span_journal.specs.Scans.{target_refusal, IsTarget};
 
 use super::query::KeptQuery;
 use super::slots::slot_at;
+use span_fragment::piece::Piece;
 use span_keycode::range::KeyRange;
 use span_machine::query::ScanLeaf;
 use span_machine::slot::SlotState;
 use span_value::refusal::Refusal;
-use span_value::seq::Seq;
-use span_value::value::Row;
 use std::alloc::{AllocError, Global};
 
 fn query_index(queries: &[KeptQuery], number: u64) -> Option<usize>
@@ -57,14 +56,14 @@ pub(crate) fn find_target<'a>(
     Ok((at, question, part, slot_state))
 }
 
-/// Covers a part of a leaf of the query at a place by a piece with these rows. An error leaves all as it was.
+/// Covers a part of a leaf of the query at a place by a piece. An error leaves all as it was.
 pub(crate) fn cover_at(
     alloc: Global,
     queries: &mut Vec<KeptQuery>,
     at: usize,
     leaf: usize,
     range: KeyRange,
-    rows: Seq<Row>,
+    piece: Piece,
 ) -> Result<(), AllocError>
     requires within { at < length queries.old.items }
     requires leaf { IfSome (slice_get queries.old.items at) (λ p. leaf < length p.query.leaves) }
@@ -72,10 +71,10 @@ pub(crate) fn cover_at(
         (λ p. IfSome (slice_get p.query.leaves leaf) (λ l. is_uncovered l range ≡ true)) }
     ensures ok { OnOk result
         (IfSome (slice_get queries.old.items at)
-        (λ p. queries.new.items ≡ slice_set queries.old.items at (covered_by leaf range rows p))) }
+        (λ p. queries.new.items ≡ slice_set queries.old.items at (covered_by leaf range piece p))) }
     ensures err { OnErr result (queries.new.items ≡ queries.old.items) }
 {
-    queries[at].cover(alloc, leaf, range, rows)
+    queries[at].cover(alloc, leaf, range, piece)
 }
 
 /// Removes the query at a place, and returns it.

@@ -55,10 +55,10 @@ fn is_inside(slot_state: &SlotState, leaf: &ScanLeaf, range: &KeyRange) -> bool
     if !ends_by(&slot_state.hi, high) {
         return false;
     }
-    if is_before(low, leaf.range.low.as_slice()) {
+    if is_before(low, leaf.leaf.range.low.as_slice()) {
         return false;
     }
-    !is_before(leaf.range.high.as_slice(), high)
+    !is_before(leaf.leaf.range.high.as_slice(), high)
 }
 
 /// Whether the range has keys, and no piece of the leaf covers any of it.

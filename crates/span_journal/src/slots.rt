@@ -270,7 +270,7 @@ pub(crate) fn gap_in(
         alloc,
         &slot_state.lo,
         &slot_state.hi,
-        &leaf.range,
+        &leaf.leaf.range,
         leaf.covered.as_slice(),
     )
 }

@@ -1,9 +1,9 @@
 //! A query taken out of the journal.
+use span_fragment::piece::Piece;
 use span_params::params::Params;
-use span_query::query::Statement;
+use span_query::query::{BoundQuery, Statement};
 use span_value::seq::Seq;
 use span_value::text::Text;
-use span_value::value::Row;
 
 /// What a query that pieces cover is answered by.
 #[derive(Debug, Drop)]
@@ -15,6 +15,8 @@ pub struct Taken {
     pub statement: Statement,
     /// The timestamp that it reads at.
     pub s: u64,
-    /// For each of its leaves the rows of the pieces that cover it, in the order of their ranges.
-    pub pieces: Seq<Seq<Seq<Row>>>,
+    /// The query above the leaves of its plan.
+    pub top: BoundQuery,
+    /// For each of its leaves the pieces that cover it, in the order of their ranges.
+    pub pieces: Seq<Seq<Piece>>,
 }

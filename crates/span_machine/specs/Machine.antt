@@ -2,9 +2,8 @@ use Rattle.std.specs.Prelude.{◌≡◌, ℕ, ◌+◌, ◌-◌, max, Bool, true,
 use Rattle.std.specs.List.{list_any, list_all}
 use Rattle.std.specs.Str.{bytes_eq}
 use Rattle.span_schema.specs.declared.table.Table.{Table}
-use Rattle.span_schema.specs.Numbers.{root_of}
 use Rattle.span_keycode.specs.declared.range.KeyRange.{KeyRange}
-use Rattle.span_keycode.specs.Parts.{family, part_between, lowest_gap, tiles, place_among}
+use Rattle.span_keycode.specs.Parts.{part_between, lowest_gap, tiles, place_among}
 use Rattle.span_mutate.specs.declared.mutation.CheckedMutation.{CheckedMutation}
 use Rattle.span_mutate.specs.RootKeys.{root_key}
 use Rattle.span_value.specs.declared.value.Value.{Value}
@@ -22,6 +21,9 @@ use Rattle.span_machine.specs.declared.step.Verdict.TheVariants as verdict
 use Rattle.span_truetime.specs.declared.bound.Bound.{Bound}
 use Rattle.span_params.specs.declared.params.Parameter.{Parameter}
 use Rattle.span_query.specs.declared.query.Statement.{Statement}
+use Rattle.span_planner.specs.declared.leaf.Leaf.{Leaf}
+use Rattle.span_planner.specs.declared.leaf.Plan.{Plan}
+use Rattle.span_planner.specs.Leaves.{plan_of}
 use Rattle.span_query.specs.Rows.{Row, Rows}
 use Rattle.span_machine.specs.Limits.{most_transactions, most_commits, most_queries, most_slots, number_end}
 use Rattle.span_truetime.specs.Limits.{timestamp_end}
@@ -328,17 +330,25 @@ open_refusal m bound interval = first_cause (
     (is_out_of_range bound interval, refusal.TimestampRange)
     ∷ (nat_le most_queries (length m.queries) || nat_le number_end m.next_query, refusal.QueryTableFull) ∷ [])
 
--- a leaf that no piece covers: the whole family of a table
-abbrev pub uncovered : List Table → ℕ → ScanLeaf
-uncovered schema table = record { table = table; range = family (root_of schema table); covered = [] }
+-- a leaf that no piece covers
+abbrev pub uncovered : Leaf → ScanLeaf
+uncovered leaf = record { leaf = leaf; covered = [] }
+
+-- the plan of a statement's query
+abbrev pub statement_plan : List Table → Statement → Plan
+statement_plan schema q = plan_of schema q.leaves q.query
 
 -- a query text with its parameters, understood as a statement, as an open query
 abbrev pub as_opened : List Table → ℕ → ℕ → List ℕ → List Parameter → Statement → OpenQuery
-as_opened schema number s text params q = record { number = number; text = text; params = params; statement = q; s = s; leaves = map (uncovered schema) q.leaves }
+as_opened schema number s text params q = record {
+  number = number; text = text; params = params; statement = q; s = s;
+  leaves = map uncovered (statement_plan schema q).leaves;
+  top = (statement_plan schema q).top;
+}
 
 abbrev pub opened : List Table → Machine → List ℕ → List Parameter → Statement → ℕ → Answer
 opened schema m text params q s = (
-  reply.Opened m.next_query s (length q.leaves),
+  reply.Opened m.next_query s (length (statement_plan schema q).leaves),
   record m {
     queries = m.queries ++ as_opened schema m.next_query s text params q ∷ [];
     next_query = m.next_query + 1;
@@ -359,7 +369,7 @@ with_slot_state m slot slot_state = record m { slots = slice_set m.slots slot sl
 
 -- pieces tile the leaf's range
 abbrev pub is_covered : ScanLeaf → Bool
-is_covered l = tiles l.range l.covered
+is_covered l = tiles l.leaf.range l.covered
 
 -- with a piece at its place among the others
 abbrev pub add_piece : KeyRange → ScanLeaf → ScanLeaf
@@ -374,7 +384,7 @@ cover leaf part q = record q { leaves = with_piece q.leaves leaf part }
 
 -- the lowest uncovered part of a leaf's range in the slot
 abbrev pub gap_in : SlotState → ScanLeaf → Option KeyRange
-gap_in slot_state l = lowest_gap (part_between slot_state.lo slot_state.hi l.range) l.covered
+gap_in slot_state l = lowest_gap (part_between slot_state.lo slot_state.hi l.leaf.range) l.covered
 
 -- with the floor risen
 abbrev pub scanned : Machine → ℕ → ℕ → KeyRange → ℕ → SlotState → ℕ → Answer
@@ -402,7 +412,7 @@ scan m query leaf slot interval = for_query m query (scan_query m query leaf slo
 
 -- the rows at s, or why there are none
 abbrev pub answer_on : ℕ → Result (List Row) Refusal → Reply
-answer_on s (Ok rows) = reply.Rows s rows
+answer_on s (Ok rows) = reply.Rows s (record { rows = rows })
 answer_on s (Err why) = Refused why
 
 -- rows, or the refusal that the fault is

@@ -3,20 +3,20 @@ use Rattle.span_schema.specs.declared.table.Table.{Table}
 use Rattle.span_keycode.specs.declared.range.KeyRange.{KeyRange}
 use Rattle.span_keycode.specs.Parts.{place_among}
 use Rattle.span_params.specs.declared.params.Parameter.{Parameter}
-use Rattle.span_query.specs.Rows.{Row}
-pub use Rattle.span_query.specs.Rows.{joined}
+use Rattle.span_planner.specs.declared.leaf.Leaf.{Leaf}
+use Rattle.span_fragment.specs.declared.piece.Piece.{Piece}
 use Rattle.span_query.specs.declared.query.Statement.{Statement}
 use Rattle.span_machine.specs.declared.slot.SlotState.{SlotState}
 use Rattle.span_machine.specs.declared.transaction.OpenTransaction.{OpenTransaction}
 use Rattle.span_machine.specs.declared.transaction.Commit.{Commit}
 use Rattle.span_machine.specs.declared.query.OpenQuery.{OpenQuery}
 use Rattle.span_machine.specs.declared.query.ScanLeaf.{ScanLeaf}
-use Rattle.span_machine.specs.Machine.{Machine, if_some, as_opened, cover}
+use Rattle.span_machine.specs.Machine.{Machine, if_some, statement_plan, as_opened, cover}
 
--- an open query, and for each of its leaves the rows of the pieces that cover it, in the order of their ranges
+-- an open query, and for each of its leaves the pieces that cover it, in the order of their ranges
 pub record Pieced : Type 0 where
   pub query : OpenQuery
-  pub pieces : List (List (List Row))
+  pub pieces : List (List Piece)
 
 -- what a journal keeps: the machine's state, with the pieces of each open query
 pub record Journaled : Type 0 where
@@ -28,24 +28,24 @@ pub record Journaled : Type 0 where
   pub next_query : ℕ
 
 -- what is read of a leaf before a piece covers any of it
-abbrev pub no_pieces : ℕ → List (List Row)
-no_pieces table = []
+abbrev pub no_pieces : Leaf → List Piece
+no_pieces leaf = []
 
 -- a query text with its parameters, understood as a statement, as an open query that has no piece yet
 abbrev pub unread : List Table → ℕ → ℕ → List ℕ → List Parameter → Statement → Pieced
-unread schema number s text params q = record { query = as_opened schema number s text params q; pieces = map no_pieces q.leaves }
+unread schema number s text params q = record { query = as_opened schema number s text params q; pieces = map no_pieces (statement_plan schema q).leaves }
 
--- the rows of a leaf's pieces, with those of a piece of this range at its place among them
-abbrev pub with_rows : ScanLeaf → KeyRange → List Row → List (List Row) → List (List Row)
-with_rows l part rows pieces = insert pieces (place_among l.covered part) rows
+-- a leaf's pieces, with that of this range at its place among them
+abbrev pub insert_piece : ScanLeaf → KeyRange → Piece → List Piece → List Piece
+insert_piece l part piece pieces = insert pieces (place_among l.covered part) piece
 
-abbrev pub with_rows_at : List ScanLeaf → ℕ → KeyRange → List Row → List (List (List Row)) → List (List (List Row))
-with_rows_at leaves leaf part rows pieces =
-    if_some (slice_get leaves leaf) pieces (λ l. if_some (slice_get pieces leaf) pieces (λ ps. slice_set pieces leaf (with_rows l part rows ps)))
+abbrev pub insert_piece_at : List ScanLeaf → ℕ → KeyRange → Piece → List (List Piece) → List (List Piece)
+insert_piece_at leaves leaf part piece pieces =
+    if_some (slice_get leaves leaf) pieces (λ l. if_some (slice_get pieces leaf) pieces (λ ps. slice_set pieces leaf (insert_piece l part piece ps)))
 
--- the open query, with these rows as a piece of the leaf at a place
-abbrev pub covered_by : ℕ → KeyRange → List Row → Pieced → Pieced
-covered_by leaf part rows p = record { query = cover leaf part p.query; pieces = with_rows_at p.query.leaves leaf part rows p.pieces }
+-- the open query, with this piece of the leaf at a place
+abbrev pub covered_by : ℕ → KeyRange → Piece → Pieced → Pieced
+covered_by leaf part piece p = record { query = cover leaf part p.query; pieces = insert_piece_at p.query.leaves leaf part piece p.pieces }
 
 -- the open queries alone
 abbrev pub queries_of : List Pieced → List OpenQuery

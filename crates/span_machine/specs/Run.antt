@@ -1,7 +1,9 @@
 use Rattle.std.specs.Prelude.{◌≡◌, ℕ, ◌==◌, List, [], ◌∷◌, ◌++◌, find, Some, None, Ok}
 use Rattle.std.specs.List.{AllByRecursion}
 use Rattle.span_value.specs.declared.refusal.Refusal.TheVariants.{ArithmeticFault}
+use Rattle.span_params.specs.declared.params.Parameter.{Parameter}
 use Rattle.span_query.specs.declared.query.Statement.{Statement}
+use Rattle.span_planner.specs.Plannable.{IsPlannable}
 use Rattle.span_query.specs.Rows as rows
 use Rattle.span_machine.specs.declared.step.Step.{Step}
 use Rattle.span_machine.specs.declared.step.Step.TheVariants.{Begin, Finish, Split}
@@ -34,6 +36,10 @@ IsOfSchema schema _ = Unit {0}
 abbrev pub AreOfSchema : List Table → List Step → Type 0
 AreOfSchema schema steps = AllByRecursion (IsOfSchema schema) steps
 
+-- each statement that a query text is understood as can be planned
+abbrev pub CanPlan : Understanding → List Table → Type 0
+CanPlan understands schema = (text : List ℕ) (params : List Parameter) (q : Statement) → understands text params (Ok q) → IsPlannable schema q
+
 -- the machine may give these replies to these steps, one after another
 abbrev pub Run : Understanding → List Table → Machine → List Step → List Reply → Machine → Type 0
 Run understands schema m [] [] last = last ≡ m
@@ -55,7 +61,7 @@ pub record IsMeant (understands : Understanding) (schema : List Table) (commits 
 
 -- a query that was answered with rows, or refused for an arithmetic fault, was answered rightly by these commits
 abbrev pub IsRight : Understanding → List Table → List Commit → List OpenedQuery → Step → Reply → Type 0
-IsRight understands schema commits asked (Finish query) (Rows s found) = IsMeant understands schema commits asked query s (Some found)
+IsRight understands schema commits asked (Finish query) (Rows s found) = IsMeant understands schema commits asked query s (Some found.rows)
 IsRight understands schema commits asked (Finish query) (Refused why) = why ≡ ArithmeticFault → (s : ℕ) × IsMeant understands schema commits asked query s None
 IsRight understands schema commits asked _ _ = Unit {0}
 

@@ -1,18 +1,16 @@
 //! Open queries.
 use span_keycode::range::KeyRange;
 use span_params::params::Params;
-use span_query::query::Statement;
+use span_planner::leaf::Leaf;
+use span_query::query::{BoundQuery, Statement};
 use span_value::seq::Seq;
 use span_value::text::Text;
 
-/// A leaf that an open query scans: a table of one of its FROMs, and a range of coded keys.
+/// A leaf that an open query scans.
 #[derive(Debug, Drop)]
 pub struct ScanLeaf {
-    /// The number of its table.
-    pub table: usize,
-    /// The keys that are scanned.
-    pub range: KeyRange,
-    /// The parts of the range that pieces cover, in the order of their low ends.
+    pub leaf: Leaf,
+    /// The parts of its range that pieces cover, in the order of their low ends.
     pub covered: Seq<KeyRange>,
 }
 
@@ -27,6 +25,8 @@ pub struct OpenQuery {
     pub statement: Statement,
     /// The timestamp that it reads at.
     pub s: u64,
-    /// What it scans, in the order of the query text.
+    /// The leaves of its plan, in the order of the query text.
     pub leaves: Seq<ScanLeaf>,
+    /// The query above them.
+    pub top: BoundQuery,
 }

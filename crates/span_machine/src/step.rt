@@ -1,4 +1,5 @@
 //! Steps, and the replies to them.
+use span_gather::rows::Rows;
 use span_mutate::transaction::Transaction;
 use span_params::params::Params;
 use span_truetime::bound::Bound;
@@ -6,7 +7,7 @@ use span_truetime::interval::Interval;
 use span_value::refusal::Refusal;
 use span_value::seq::Seq;
 use span_value::text::Text;
-use span_value::value::{Row, Value};
+use span_value::value::Value;
 
 /// What an owner decides of its transaction.
 #[derive(Clone, Copy, Debug, PartialEq, Eq)]
@@ -96,7 +97,7 @@ pub enum Reply {
     /// No part of the leaf's range is left in the slot.
     Nothing,
     /// The timestamp that was read at, and the rows in order.
-    Rows { s: u64, rows: Seq<Row> },
+    Rows { s: u64, rows: Rows },
     Closed,
     /// The slot that has the keys from the cut on.
     Split(usize),

@@ -31,7 +31,7 @@ use Rattle.span_machine.specs.Meaning.{means}
 use Rattle.span_machine.specs.Commits.{BegunTransaction, begun_by, commit_by, committed_by, OpenedQuery, opened_by}
 use Rattle.span_machine.specs.Run.{IsMeant}
 use Rattle.span_machine.specs.Machine as machine
-use Rattle.span_machine.specs.Machine.{Machine, Understanding, IsUnderstood, committed, opened, as_opened, is_covered, rows_or_refusal, Answer, Steps, answer, start, is_transaction, is_query, changed_first, without_first, add_prepared, prepare_timestamp, commit_timestamp, commit_of, with_decision, without_prepared, applied_at, cover, answer_on, meaning}
+use Rattle.span_machine.specs.Machine.{Machine, Understanding, IsUnderstood, committed, opened, as_opened, is_covered, rows_or_refusal, Answer, Steps, answer, start, is_transaction, is_query, changed_first, without_first, add_prepared, prepare_timestamp, commit_timestamp, commit_of, with_decision, without_prepared, applied_at, cover, answer_on, meaning, statement_plan}
 use Rattle.span_machine_laws.proofs.Tests.{first_true, second_true, number_same}
 use Rattle.span_machine_laws.proofs.Lists.{found_passes, all_push, all_changed, all_without, all_found, all_weaker}
 use Rattle.span_machine_laws.proofs.Sealed.{IsSealed}
@@ -42,9 +42,9 @@ use Rattle.span_keycode.specs.Parts.{is_within}
 use Rattle.span_keycode.specs.declared.range.KeyRange.{KeyRange}
 use Rattle.span_machine.specs.Slots.{root_code}
 use Rattle.span_machine.specs.declared.query.ScanLeaf.{ScanLeaf}
-use Rattle.span_schema.specs.Numbers.{root_of}
-use Rattle.span_machine_laws.proofs.FamilyRows.{family_has, tiles_have}
-use Rattle.span_machine_laws.proofs.Pieces.{AllCovered, IsOpenLeaf, HasLeaves, AreOpenQueries, tables_of}
+use Rattle.span_planner.specs.declared.leaf.Leaf.{Leaf}
+use Rattle.span_machine_laws.proofs.FamilyRows.{tiles_have}
+use Rattle.span_machine_laws.proofs.Pieces.{AllCovered, HasLeaves, AreOpenQueries, leaves_of}
 
 -- ---- the invariant
 
@@ -69,18 +69,18 @@ pub record IsKnown (understands : Understanding) (begun : List BegunTransaction)
   pub queries : AllByRecursion (IsAsked understands asked) m.queries
   pub asked_below : AllByRecursion (λ a. a.number < m.next_query) asked
 
--- the directories of a table's family are sealed at s
-abbrev pub IsFamilySealed : List Table → Machine → ℕ → ℕ → Type 0
-IsFamilySealed schema m s n = (root : Root) → IsRoot schema root → root.table ≡ root_of schema n → IsSealed schema root s m
+-- the directories of a leaf's range are sealed at s
+abbrev pub IsLeafSealed : List Table → Machine → ℕ → Leaf → Type 0
+IsLeafSealed schema m s leaf = IsPartSealed schema m s leaf.range
 
--- What is answered of a query is what it means by the log so far, and no later step changes that: the families of the tables that it
--- reads are sealed.
+-- What is answered of a query is what it means by the log so far, and no later step changes that: the ranges of the leaves of its plan are
+-- sealed.
 pub record IsMeantNow (understands : Understanding) (schema : List Table) (m : Machine) (asked : List OpenedQuery) (query s : ℕ) (meant : rows.Rows) : Type 0 where
   pub now : IsMeant understands schema m.log asked query s meant
-  pub stays : AllByRecursion (IsFamilySealed schema m s) now.statement.leaves
+  pub stays : AllByRecursion (IsLeafSealed schema m s) (statement_plan schema now.statement).leaves
 
 abbrev pub IsRightNow : Understanding → List Table → Machine → List OpenedQuery → Step → Reply → Type 0
-IsRightNow understands schema m asked (Finish query) (Rows s found) = IsMeantNow understands schema m asked query s (Some found)
+IsRightNow understands schema m asked (Finish query) (Rows s found) = IsMeantNow understands schema m asked query s (Some found.rows)
 IsRightNow understands schema m asked (Finish query) (Refused why) = why ≡ refusal.ArithmeticFault → (s : ℕ) × IsMeantNow understands schema m asked query s None
 IsRightNow understands schema m asked _ _ = Unit {0}
 
@@ -189,15 +189,14 @@ asked_covered understands asked leaf part q is = record {
   understood = is.understood;
 }
 
--- where pieces tile the range of each leaf, the families of their tables are sealed
-all_sealed : (schema : List Table) (m : Machine) (s : ℕ) (leaves : List ScanLeaf) → AllByRecursion (IsOpenLeaf schema) leaves → AllByRecursion (AllCovered (IsPartSealed schema m s)) leaves → list_all is_covered leaves ≡ true → AllByRecursion (IsFamilySealed schema m s) (tables_of leaves)
-all_sealed schema m s [] are seals covered = tt
-all_sealed schema m s (l ∷ ls) are seals covered = (
-  λ root is own.
-      let within : is_within l.range (root_code schema root) ≡ true = subst (λ (range : KeyRange). is_within range (root_code schema root) ≡ true) (sym are.0.range) (family_has schema l.table root own) in
-      tiles_have (IsSealed schema root s m) l.range l.covered (root_code schema root) (first_true (is_covered l) (list_all is_covered ls) covered) within
+-- where pieces tile the range of each leaf, it is sealed
+all_sealed : (schema : List Table) (m : Machine) (s : ℕ) (leaves : List ScanLeaf) → AllByRecursion (AllCovered (IsPartSealed schema m s)) leaves → list_all is_covered leaves ≡ true → AllByRecursion (IsLeafSealed schema m s) (leaves_of leaves)
+all_sealed schema m s [] seals covered = tt
+all_sealed schema m s (l ∷ ls) seals covered = (
+  λ root is within.
+      tiles_have (IsSealed schema root s m) l.leaf.range l.covered (root_code schema root) (first_true (is_covered l) (list_all is_covered ls) covered) within
       (all_weaker (IsPartSealed schema m s) (λ (c : KeyRange). is_within c (root_code schema root) ≡ true → IsSealed schema root s m) (λ c seal. seal root is) l.covered seals.0),
-  all_sealed schema m s ls are.1 seals.1 (second_true (is_covered l) (list_all is_covered ls) covered),
+  all_sealed schema m s ls seals.1 (second_true (is_covered l) (list_all is_covered ls) covered),
 )
 
 -- what is committed of a transaction that was begun
@@ -309,7 +308,7 @@ module _ (understands : Understanding) (schema : List Table) (begun : List Begun
       made = e;
       is = refl;
     };
-    stays = subst (AllByRecursion (IsFamilySealed schema m q.s)) has.tables (all_sealed schema m q.s q.leaves has.leaves seals covered);
+    stays = subst (AllByRecursion (IsLeafSealed schema m q.s)) has.of_plan (all_sealed schema m q.s q.leaves seals covered);
   }
 
   -- the answer to a Finish, by what the query means on the tables

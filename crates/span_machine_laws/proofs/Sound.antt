@@ -16,7 +16,7 @@ use Rattle.span_keycode.specs.Parts.{is_within, part_between}
 use Rattle.span_keycode.proofs.PartLaws.{part_within, gap_within}
 use Rattle.span_machine.specs.declared.query.ScanLeaf.{ScanLeaf}
 use Rattle.span_machine.specs.Slots.{has_key, root_code}
-use Rattle.span_machine.specs.Machine.{Machine, Understanding, Steps, answer, start, holds, with_risen_floor, with_slot_state, as_opened, cover, gap_in, changed_first, is_query, is_safe, applied_at}
+use Rattle.span_machine.specs.Machine.{Machine, Understanding, Steps, answer, start, holds, with_risen_floor, with_slot_state, as_opened, cover, gap_in, changed_first, is_query, is_safe, applied_at, statement_plan}
 use Rattle.span_machine.specs.Run.{Run}
 use Rattle.span_machine_laws.proofs.Tests.{first_true, second_true}
 use Rattle.span_machine_laws.proofs.Lists.{slice_get-set, set_here, all_push, all_without, all_true, all_weaker, all_found, all_changed_found}
@@ -90,7 +90,7 @@ module _ (schema : List Table) (m : Machine) (sound : IsSound schema m) where
   -- what is within an uncovered part of a leaf in the slot, the slot has
   part_held : (slot_state : SlotState) (l : ScanLeaf) (part : KeyRange) (key : List ℕ) → gap_in slot_state l ≡ Some part → is_within part key ≡ true → has_key slot_state key ≡ true
   part_held slot_state l part key gap within =
-      (part_within slot_state.lo slot_state.hi l.range key (gap_within (part_between slot_state.lo slot_state.hi l.range) l.covered part key gap within)).0
+      (part_within slot_state.lo slot_state.hi l.leaf.range key (gap_within (part_between slot_state.lo slot_state.hi l.leaf.range) l.covered part key gap within)).0
 
   -- what is safe now in the one slot that has the directory is sealed now
   pub sealed_when_safe : (slot s : ℕ) (slot_state : SlotState) (root : Root) → slice_get m.slots slot ≡ Some slot_state
@@ -119,7 +119,7 @@ module _ (schema : List Table) (m : Machine) (sound : IsSound schema m) where
     advances = λ slot interval slot_state here. goes_same _ refl;
     trims = λ slot h slot_state here accepted. goes_same _ refl;
     opens = λ text params bound interval asked is accepted w. all_push (IsCoveredSealed schema _) m.queries (as_opened schema m.next_query (timestamp_of bound interval) text params asked)
-        (all_weaker (IsCoveredSealed schema m) (IsCoveredSealed schema _) w m.queries sound.queries) (none_covered (IsPartSealed schema _ (timestamp_of bound interval)) schema asked.leaves);
+        (all_weaker (IsCoveredSealed schema m) (IsCoveredSealed schema _) w m.queries sound.queries) (none_covered (IsPartSealed schema _ (timestamp_of bound interval)) (statement_plan schema asked).leaves);
     finds_nothing = λ query leaf slot interval. goes_same m refl;
     scans = λ query leaf slot interval q slot_state l part found here at gap above safe w.
         let after : Machine = record (with_slot_state m slot (with_risen_floor slot_state q.s interval)) { queries = changed_first (is_query query) (cover leaf part) m.queries } in

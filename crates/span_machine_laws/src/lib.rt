@@ -3,8 +3,8 @@
 //! `proofs/` shows, step by step, that a commit touches only the directories of its mutations (Locality), that the ranges of slots tile
 //! the keys, also after a Split (Splits, Ranges), that what is at or below a slot's safe time is final (Sealed), that the commits of a
 //! directory rise along the log, in whichever slot has it (InPlace, Claims, Placed), that what a query is to see in the pieces that cover
-//! its leaves is final (Pieces, Sound, FamilyRows), that the log is just what the replies commit (Known), and so that every run of the
-//! machine is a history; that each transaction is decided once (Decisions), and so that a history is externally consistent under an
+//! its leaves is final (Pieces, Sound, FamilyRows, RangeRows), that the plan of a query gives what the query means, also by pieces
+//! (PlanLaws, LeafTiled), that the log is just what the replies commit (Known), and so that every run of the machine is a history; that each transaction is decided once (Decisions), and so that a history is externally consistent under an
 //! honest clock (Consistent). The crates with code cite these laws.
 #![tactic(auto)]
 
@@ -13,7 +13,7 @@ ghost use Rattle.span_machine.specs.Consistency.{HonestClock, IsExternallyConsis
 ghost use Rattle.span_machine.specs.declared.step.Reply.{Reply};
 ghost use Rattle.span_machine.specs.declared.step.Step.{Step};
 ghost use Rattle.span_machine.specs.Machine.{Machine, start};
-ghost use Rattle.span_machine.specs.Run.{AreOfSchema, IsHistory, Run};
+ghost use Rattle.span_machine.specs.Run.{AreOfSchema, CanPlan, IsHistory, Run};
 ghost use Rattle.span_machine.specs.Slots.{AreTiles, ranges_of};
 ghost use Rattle.span_schema.specs.Lineages.{MeetsRules};
 ghost use Rattle.span_schema.specs.declared.table.Table.{Table};
@@ -31,11 +31,12 @@ pub trait Understanding {
 
 /// The theorem of the headline, for any language: whatever the machine may reply to steps from its start is a history. Its log
 /// holds just the commits that were answered, each applies at its place, and every answer has exactly the rows that its query means on
-/// the tables of all of them. The schema meets its rules, the transactions that are begun were checked against it, and the keys at which
+/// the tables of all of them. The schema meets its rules, each statement that a query text is understood as can be planned, the transactions that are begun were checked against it, and the keys at which
 /// slots are cut are of values.
 pub fn runs_are_histories<U: Understanding>()
     ensures { (schema : List Table)
         → MeetsRules schema
+        → CanPlan U.understands schema
         → (steps : List Step) (replies : List Reply) (last : Machine)
         → AreOfSchema schema steps
         → Run U.understands schema start steps replies last

@@ -1,5 +1,3 @@
-pub mod Entries
-pub mod Values
 pub mod Changes
 pub mod Wholes
 pub mod Applying

@@ -1,14 +1,17 @@
 -- Scan of a leaf in a slot.
 use Rattle.std.proofs.Common.{◌≡◌, ℕ, ◌≤◌, arith, nat_lt, cond, true, false, List, Option, Some, None, refl, ap, sym, ◌∙◌, subst, inl, inr}
-use Rattle.std.specs.Prelude.{find, slice_get, option_map}
+use Rattle.std.specs.Prelude.{IfSome, find, slice_get, option_map}
+use Rattle.std.specs.List.{AllByRecursion}
+use Rattle.span_schema.specs.Numbers.{IsTable}
+use Rattle.span_planner.specs.declared.leaf.Leaf.{Leaf}
 use Rattle.std.proofs.lemmas.Bool.Decides.{nat_tests}
 use Rattle.span_value.specs.declared.refusal.Refusal.{Refusal}
 use Rattle.span_value.specs.declared.refusal.Refusal.TheVariants as refusal
 use Rattle.span_truetime.specs.declared.interval.Interval.{Interval}
 use Rattle.span_schema.specs.declared.table.Table.{Table}
-use Rattle.span_schema.specs.Numbers.{IsTable}
 use Rattle.span_keycode.specs.declared.range.KeyRange.{KeyRange}
-use Rattle.span_query.specs.Rows.{Row}
+use Rattle.span_fragment.specs.declared.piece.Piece.{Piece}
+use Rattle.span_fragment.specs.Pieces.{IsPieceOf}
 use Rattle.span_shard.specs.KeyVersions.{KeyVersions}
 use Rattle.span_shard.specs.Shard.{snapshot}
 use Rattle.span_machine.specs.declared.step.Step.TheVariants as step
@@ -19,11 +22,11 @@ use Rattle.span_machine.specs.declared.query.OpenQuery.{OpenQuery}
 use Rattle.span_machine.specs.Machine.{Machine, Answer, IsAnswer, refused, if_some, for_slot, is_query, is_safe, with_risen_floor, with_slot_state, cover, changed_first, gap_in, scan, scan_query, scan_leaf, scan_gap, scanned}
 use Rattle.span_machine.specs.Pieces.{Pieced, Journaled, covered_by, machine_of, queries_of}
 use Rattle.span_machine_laws.proofs.Reached.{IsReached, answer_reached, reached_tables}
-use Rattle.span_version_laws.specs.Kept.{AreAllKept, ArePieced, IsReading}
+use Rattle.span_version_laws.specs.Kept.{AreAllKept, ArePieced}
 use Rattle.span_version_laws.proofs.AllKept.{all_kept_by_step}
 use Rattle.span_version_laws.proofs.Snapshots.{snapshot_when_safe}
-use Rattle.span_version_laws.proofs.Covers.{pieced_table, pieced_scanned, covered-queries, find-queries, found_query}
-use Rattle.span_journal.specs.Judged.{MayScan, IsRegistered}
+use Rattle.span_version_laws.proofs.Covers.{pieced_tables, pieced_scanned, covered-queries, find-queries, found_query}
+use Rattle.span_journal.specs.Judged.{leaf_of, MayScan, IsRegistered}
 use Rattle.span_parts.specs.Whole.{Shards, IsWhole, IsRead, IsUnread}
 use Rattle.span_parts.proofs.Changes.{some_same}
 use Rattle.span_parts.proofs.Wholes.{no_text}
@@ -51,7 +54,7 @@ piece_of ps query q found = elim (find (λ (x : Pieced). is_query query x.query)
     none_found : Some q ≡ None → ⊥
     none_found e = cc
 
-module _ (schema : List Table) (j : Journaled) (shards : Shards) (w : IsWhole schema j shards) (query leaf slot : ℕ) (interval : Interval) (table : ℕ) (range : KeyRange) (s : ℕ) (d : MayScan (machine_of j) query leaf slot interval table range s) where
+module _ (schema : List Table) (j : Journaled) (shards : Shards) (w : IsWhole schema j shards) (query leaf slot : ℕ) (interval : Interval) (range : KeyRange) (s : ℕ) (d : MayScan (machine_of j) query leaf slot interval range s) where
   abbrev m : Machine
   m = machine_of j
 
@@ -67,22 +70,28 @@ module _ (schema : List Table) (j : Journaled) (shards : Shards) (w : IsWhole sc
       ∙ ap (λ b. cond b (refused m refusal.Trimmed) (scanned m query leaf d.part slot risen d.question.s)) d.above
       ∙ ap (λ b. cond b (covers m query leaf d.part slot risen) (waits m slot risen)) d.safe
 
-  -- the table of a leaf that may be scanned is one of the schema
-  pub scanned_table : IsTable schema table
-  scanned_table =
+  -- the leaf that may be scanned
+  pub scanned_leaf : leaf_of m query leaf ≡ Some d.gap.leaf
+  scanned_leaf =
+      ap (λ (o : Option OpenQuery). if_some o None (λ q. option_map (λ (l : ScanLeaf). l.leaf) (slice_get q.leaves leaf))) d.found
+      ∙ ap (option_map (λ (l : ScanLeaf). l.leaf)) d.there
+
+  -- its tables are tables of the schema
+  pub scanned_tables : IfSome (leaf_of m query leaf) (λ l. AllByRecursion (IsTable schema) l.tables)
+  scanned_tables =
       let p = piece_of j.queries query d.question d.found in
       let there : slice_get p.0.query.leaves leaf ≡ Some d.gap = ap (λ (q : OpenQuery). slice_get q.leaves leaf) p.2 ∙ d.there in
-      subst (IsTable schema) (sym d.of_table) (pieced_table schema m j.queries query p.0 leaf d.gap w.pieced p.1 there)
+      subst (λ (o : Option Leaf). IfSome o (λ l. AllByRecursion (IsTable schema) l.tables)) (sym scanned_leaf) (pieced_tables schema m j.queries query p.0 leaf d.gap w.pieced p.1 there)
 
   -- where a leaf may be scanned, memory alone may run out
-  pub reads : (cs : List KeyVersions) → slice_get shards slot ≡ Some cs → (why : Refusal) → IsUnread schema cs table range s why → why ≡ refusal.OutOfMemory
+  pub reads : (cs : List KeyVersions) → slice_get shards slot ≡ Some cs → (why : Refusal) → IsUnread schema cs range s why → why ≡ refusal.OutOfMemory
   reads cs there why (inl memory) = memory
   reads cs there why (inr none) =
       let made = reached_tables schema w.rules m d.question.s w.reached in
-      let seen = snapshot_when_safe schema w.rules m slot d.slot_state risen cs d.question.s w.reached (w.kept.each slot cs there) d.here d.safe (not_below d.question.s d.slot_state.horizon d.above) made.0 made.1 table range in
+      let seen = snapshot_when_safe schema w.rules m slot d.slot_state risen cs d.question.s w.reached (w.kept.each slot cs there) d.here d.safe (not_below d.question.s d.slot_state.horizon d.above) made.0 made.1 range in
       absurd (none seen.rows seen.typed (ap (λ i. snapshot range i cs) d.at ∙ seen.entries_are))
 
-  module _ (shown : List Row) (k : Journaled) (g : IsRegistered j query leaf slot interval range shown k) where
+  module _ (piece : Piece) (k : Journaled) (g : IsRegistered j query leaf slot interval range piece k) where
     same : g.question.query ≡ d.question
     same = some_same _ _ (sym (found_query query j.queries g.question g.found) ∙ d.found)
 
@@ -93,8 +102,8 @@ module _ (schema : List Table) (j : Journaled) (shards : Shards) (w : IsWhole sc
         let risen_same : with_risen_floor g.slot_state g.question.query.s interval ≡ risen =
         ap (λ (b : SlotState). with_risen_floor b g.question.query.s interval) slot_state_same ∙ ap (λ (q : OpenQuery). with_risen_floor d.slot_state q.s interval) same in
         ap machine_of g.after
-        ∙ ap (λ (b : SlotState). machine_of (record j { slots = (with_slot_state m slot b).slots; queries = changed_first (λ (p : Pieced). is_query query p.query) (covered_by leaf range shown) j.queries })) risen_same
-        ∙ ap (λ (qs : List OpenQuery). record (with_slot_state m slot risen) { queries = qs }) (sym (covered-queries (is_query query) leaf range shown j.queries))
+        ∙ ap (λ (b : SlotState). machine_of (record j { slots = (with_slot_state m slot b).slots; queries = changed_first (λ (p : Pieced). is_query query p.query) (covered_by leaf range piece) j.queries })) risen_same
+        ∙ ap (λ (qs : List OpenQuery). record (with_slot_state m slot risen) { queries = qs }) (sym (covered-queries (is_query query) leaf range piece j.queries))
         ∙ ap (λ (r : KeyRange). (covers m query leaf r slot risen).1) d.of_part
         ∙ sym (ap (λ (a : Answer). a.1) scan_is)
 
@@ -102,17 +111,17 @@ module _ (schema : List Table) (j : Journaled) (shards : Shards) (w : IsWhole sc
     scanned_answer = (sym (ap (λ (a : Answer). a.0) scan_is), registered_is)
 
     -- the piece has the rows of its range
-    pub scanned_whole : (cs : List KeyVersions) → slice_get shards slot ≡ Some cs → IsRead schema cs table range s shown → IsWhole schema k shards
+    pub scanned_whole : (cs : List KeyVersions) → slice_get shards slot ≡ Some cs → IsRead schema cs range s piece d.gap.leaf → IsWhole schema k shards
     scanned_whole cs there reading =
         let read_at : s ≡ g.question.query.s = d.at ∙ ap (λ (q : OpenQuery). q.s) (sym same) in
         let safe : is_safe m slot risen g.question.query.s ≡ true = ap (λ (q : OpenQuery). is_safe m slot risen q.s) same ∙ d.safe in
         let high : d.slot_state.horizon ≤ g.question.query.s = subst (λ (q : OpenQuery). d.slot_state.horizon ≤ q.s) (sym same) (not_below d.question.s d.slot_state.horizon d.above) in
         let leaf_there : slice_get g.question.query.leaves leaf ≡ Some d.gap = ap (λ (q : OpenQuery). slice_get q.leaves leaf) same ∙ d.there in
         let part : gap_in d.slot_state d.gap ≡ Some range = d.uncovered ∙ ap (λ (r : KeyRange). Some r) (sym d.of_part) in
-        let reading_there : IsReading schema d.gap.table (snapshot range g.question.query.s cs) shown =
-        subst (λ n. IsReading schema n (snapshot range g.question.query.s cs) shown) d.of_table (subst (λ i. IsReading schema table (snapshot range i cs) shown) read_at reading) in
-        let pieced : ArePieced schema m (changed_first (λ (x : Pieced). is_query query x.query) (covered_by leaf range shown) j.queries) =
-        pieced_scanned schema w.rules m cs j.queries w.reached (w.kept.each slot cs there) w.pieced query g.question d.slot_state risen g.found d.here safe high leaf d.gap range leaf_there part shown reading_there in
+        let reading_there : IsPieceOf schema d.gap.leaf (snapshot range g.question.query.s cs) piece =
+        subst (λ i. IsPieceOf schema d.gap.leaf (snapshot range i cs) piece) read_at reading in
+        let pieced : ArePieced schema m (changed_first (λ (x : Pieced). is_query query x.query) (covered_by leaf range piece) j.queries) =
+        pieced_scanned schema w.rules m cs j.queries w.reached (w.kept.each slot cs there) w.pieced query g.question d.slot_state risen g.found d.here safe high leaf d.gap range leaf_there part piece reading_there in
         record {
           rules = w.rules;
           reached = subst (IsReached schema) (sym registered_is) (answer_reached schema w.rules m w.reached no_text (step.Scan query leaf slot interval) tt);

@@ -1,12 +1,11 @@
 -- Journals and shards that belong together, before a step and after it.
 use Rattle.std.proofs.Common.{◌≡◌, ℕ, List, [], ◌∷◌, ◌++◌, Result, Ok, Err, refl, sym, subst, inl, inr}
 use Rattle.std.specs.Prelude.{IfOk, OnOk, OnErr}
-use Rattle.std.specs.List.{AllByRecursion}
 use Rattle.span_value.specs.declared.refusal.Refusal.{Refusal}
 use Rattle.span_value.specs.declared.refusal.Refusal.TheVariants as refusal
 use Rattle.span_schema.specs.declared.table.Table.{Table}
 use Rattle.span_schema.specs.Lineages.{MeetsRules}
-use Rattle.span_schema.specs.Numbers.{IsTable}
+use Rattle.span_planner.specs.Plannable.{IsPlannable}
 use Rattle.span_params.specs.declared.params.Parameter.{Parameter}
 use Rattle.span_query.specs.declared.query.Statement.{Statement}
 use Rattle.span_machine.specs.declared.step.Step.{Step}
@@ -18,6 +17,7 @@ use Rattle.span_machine_laws.proofs.Reached.{IsReached, start_reached, answer_re
 use Rattle.span_version_laws.specs.Kept.{AreAllKept, ArePieced}
 use Rattle.span_version_laws.proofs.AllKept.{LeavesShards, start_all_kept, all_kept_by_step}
 use Rattle.span_version_laws.proofs.Covers.{no_pieces, pieced_push, pieced_without, pieced_by_step}
+use Rattle.span_journal.specs.declared.journal.Opened.{Opened}
 use Rattle.span_parts.specs.Whole.{Shards, IsWhole, GoesWith}
 
 -- what is understood of a query text where a step has none
@@ -72,10 +72,10 @@ pub pieces_same : (schema : List Table) (ps qs : List Pieced) → qs ≡ ps → 
 pieces_same schema ps qs same n all = subst (ArePieced schema n) (sym same) all
 
 -- a query is opened
-pub pieces_opened : (schema : List Table) (r : Result (ℕ × ℕ) Refusal) (text : List ℕ) (params : List Parameter) (q : Statement) (ps qs : List Pieced) → AllByRecursion (IsTable schema) q.leaves
-    → IfOk r (λ n. qs ≡ ps ++ unread schema n.0 n.1 text params q ∷ []) → OnErr r (qs ≡ ps) → (n : Machine) → ArePieced schema n ps → ArePieced schema n qs
-pieces_opened schema (Ok x) text params q ps qs tables ok err n all = subst (ArePieced schema n) (sym ok) (pieced_push schema n ps x.0 x.1 text params q tables all)
-pieces_opened schema (Err why) text params q ps qs tables ok err n all = subst (ArePieced schema n) (sym err) all
+pub pieces_opened : (schema : List Table) (r : Result Opened Refusal) (text : List ℕ) (params : List Parameter) (q : Statement) (ps qs : List Pieced) → IsPlannable schema q
+    → IfOk r (λ o. qs ≡ ps ++ unread schema o.query o.s text params q ∷ []) → OnErr r (qs ≡ ps) → (n : Machine) → ArePieced schema n ps → ArePieced schema n qs
+pieces_opened schema (Ok x) text params q ps qs plannable ok err n all = subst (ArePieced schema n) (sym ok) (pieced_push schema n ps x.query x.s text params q plannable all)
+pieces_opened schema (Err why) text params q ps qs plannable ok err n all = subst (ArePieced schema n) (sym err) all
 
 -- a query is closed
 pub pieces_closed : (schema : List Table) → {A : Type 0} (r : Result A Refusal) (query : ℕ) (ps qs : List Pieced) → OnOk r (qs ≡ without_first (λ p. is_query query p.query) ps) → OnErr r (qs ≡ ps)

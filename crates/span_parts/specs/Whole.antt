@@ -13,12 +13,15 @@ use Rattle.span_shard.specs.KeyVersions.{KeyVersions}
 use Rattle.span_shard.specs.declared.write.Write.{Write}
 use Rattle.span_shard.specs.Reading.{AreWrites}
 use Rattle.span_shard.specs.Shard.{KeyRow, snapshot, with_writes, live}
-use Rattle.span_query.specs.Rows.{Row}
+use Rattle.span_planner.specs.declared.leaf.Leaf.{Leaf}
+use Rattle.span_fragment.specs.declared.piece.Piece.{Piece}
+use Rattle.span_fragment.specs.Entries.{AreNoRows}
+use Rattle.span_fragment.specs.Pieces.{IsPieceOf}
 use Rattle.span_machine.specs.Machine.{Machine}
 use Rattle.span_machine.specs.Pieces.{Journaled, machine_of}
 use Rattle.span_machine_laws.proofs.Reached.{IsReached}
 use Rattle.span_journal.specs.Judged.{MayPrepare}
-pub use Rattle.span_version_laws.specs.Kept.{AreKept, AreAllKept, ArePieced, IsReading, key_row}
+pub use Rattle.span_version_laws.specs.Kept.{AreKept, AreAllKept, ArePieced}
 
 -- the shards of all slots in use, by number
 abbrev pub Shards : Type 0
@@ -36,17 +39,13 @@ pub record IsWhole (schema : List Table) (j : Journaled) (shards : Shards) : Typ
 abbrev pub GoesWith : List Table → Journaled → Journaled → Type 0
 GoesWith schema old new = (shards : Shards) → IsWhole schema old shards → IsWhole schema new shards
 
--- the rows of a table in a range, at s
-abbrev pub IsRead : List Table → List KeyVersions → ℕ → KeyRange → ℕ → List Row → Type 0
-IsRead schema cs table range s shown = IsReading schema table (snapshot range s cs) shown
+-- the piece has what the leaf gives on a range, at s
+abbrev pub IsRead : List Table → List KeyVersions → KeyRange → ℕ → Piece → Leaf → Type 0
+IsRead schema cs range s piece leaf = IsPieceOf schema leaf (snapshot range s cs) piece
 
--- entries that are no rows
-abbrev pub AreNoRows : List Table → List KeyRow → Type 0
-AreNoRows schema entries = (rows : List TableRow) → AreTyped schema rows → entries ≡ map (key_row schema) rows → ⊥
-
--- why no rows are read: out of memory, or bytes that are no row
-abbrev pub IsUnread : List Table → List KeyVersions → ℕ → KeyRange → ℕ → Refusal → Type 0
-IsUnread schema cs table range s why = (why ≡ OutOfMemory) ⊎ AreNoRows schema (snapshot range s cs)
+-- why nothing is read: out of memory, or bytes that are no row
+abbrev pub IsUnread : List Table → List KeyVersions → KeyRange → ℕ → Refusal → Type 0
+IsUnread schema cs range s why = (why ≡ OutOfMemory) ⊎ AreNoRows schema (snapshot range s cs)
 
 -- the writes of a transaction that may be prepared at a slot are prepared in the slot's shard
 pub record IsWritten (schema : List Table) (m : Machine) (owner txn slot : ℕ) (old new : Shards) : Type 0 where

@@ -4,6 +4,6 @@
 #![tactic(auto)]
 
 pub mod cut;
-pub mod reading;
+mod read;
 mod shards;
 pub mod steps;

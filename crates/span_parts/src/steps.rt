@@ -1,7 +1,6 @@
 //! The steps of the machine but splits, each as the machine's answer (`span_machine/specs/Machine.antt`).
-ghost use Rattle.std.specs.Prelude.{◌≡◌, ◌∷◌, [], List, IfErr, OnOk, OnErr, Ok, length};
-ghost use Rattle.std.specs.List.{AllByRecursion};
-ghost use Rattle.span_schema.specs.Numbers.{IsTable};
+ghost use Rattle.std.specs.Prelude.{◌≡◌, ◌∷◌, [], List, IfErr, OnOk, OnErr, Ok};
+ghost use Rattle.span_planner.specs.Plannable.{IsPlannable};
 ghost use Rattle.span_mutate.specs.Typed.{AreTypedMutations};
 ghost use Rattle.span_machine.specs.Machine.{Answers, IsAnswer, start, begin, prepare, decide, apply_step, advance, trim, open_query, scan, finish, close};
 ghost use Rattle.span_machine.specs.Pieces.{machine_of};
@@ -9,10 +8,11 @@ ghost use Rattle.span_machine.specs.declared.step.Reply.TheVariants as reply_of;
 ghost use Rattle.span_parts.specs.Replies.{as_reply, decision_reply, scan_reply, rows_reply, opened_reply};
 ghost use Rattle.span_parts.specs.Whole.{Shards, IsWhole, GoesWith, IsWritten};
 
-use super::reading::read;
+use super::read::read_gap;
 use super::shards::{apply_at, prepare_at, trim_at};
 use span_gather::finish::finish as finish_pieces;
-use span_journal::journal::Journal;
+use span_gather::rows::Rows;
+use span_journal::journal::{Journal, Opened};
 use span_machine::step::Verdict;
 use span_mutate::transaction::Transaction;
 use span_params::params::Params;
@@ -22,9 +22,7 @@ use span_shard::shard::Shard;
 use span_truetime::bound::Bound;
 use span_truetime::interval::Interval;
 use span_value::refusal::Refusal;
-use span_value::seq::Seq;
 use span_value::text::Text;
-use span_value::value::Row;
 use std::alloc::Global;
 
 /// Begins a transaction, and returns its number.
@@ -209,7 +207,7 @@ pub fn trim(
     }
 }
 
-/// Opens a query whose text is understood as this statement, and returns its number and the timestamp that it reads at.
+/// Opens a query whose text is understood as this statement, which can be planned.
 pub fn open(
     alloc: Global,
     schema: &Schema,
@@ -219,11 +217,11 @@ pub fn open(
     statement: Statement,
     bound: Bound,
     interval: Interval,
-) -> Result<(u64, u64), Refusal>
-    requires { AllByRecursion (IsTable schema.now) statement.leaves }
+) -> Result<Opened, Refusal>
+    requires { IsPlannable schema.now statement }
     ensures step { Answers (machine_of journal.old)
         (open_query schema.now (machine_of journal.old) (Ok statement) text params bound interval)
-        (as_reply (opened_reply (length statement.leaves)) result)
+        (as_reply opened_reply result)
         (machine_of journal.new) }
     ensures whole { GoesWith schema.now journal.old journal.new }
 {
@@ -251,9 +249,9 @@ pub fn scan(
 {
     schema.meets_rules();
     match journal.claim_gap(alloc, query, leaf, slot, interval) {
-        Ok(Some(gap)) => match read(alloc, schema, &shards[slot], gap.table, &gap.range, gap.s) {
-            Ok(rows) => match journal.register(
-                alloc, query, leaf, slot, interval, gap.range, rows,
+        Ok(Some(gap)) => match read_gap(alloc, schema, journal, &shards[slot], query, leaf, &gap) {
+            Ok(piece) => match journal.register(
+                alloc, query, leaf, slot, interval, gap.range, piece,
             ) {
                 Ok(()) => Ok(true),
                 Err(why) => Err(why),
@@ -271,7 +269,7 @@ pub fn finish(
     schema: &Schema,
     journal: &Journal,
     query: u64,
-) -> Result<(u64, Seq<Row>), Refusal>
+) -> Result<(u64, Rows), Refusal>
     ensures { (shards : Shards)
         → IsWhole schema.now journal.now shards
         → Answers (machine_of journal.now)
@@ -280,7 +278,7 @@ pub fn finish(
         (machine_of journal.now) }
 {
     match journal.pieces(query) {
-        Ok((s, asked, pieces)) => match finish_pieces(alloc, asked, pieces) {
+        Ok((s, top, pieces)) => match finish_pieces(alloc, top, pieces) {
             Ok(rows) => Ok((s, rows)),
             Err(why) => Err(why),
         },

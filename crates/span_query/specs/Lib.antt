@@ -2,3 +2,4 @@ pub mod Rows
 pub mod Groups
 pub mod Sorting
 pub mod Meaning
+pub mod Layers

@@ -85,6 +85,7 @@ numbered schema (command.Load table columns) state m answer next last s is x = c
 numbered schema command.Begin state m answer next last s is x = cc
 numbered schema (command.Open bound text) state m answer next last s is x = cc
 numbered schema (command.Query bound text) state m answer next last s is x = cc
+numbered schema (command.Explain text) state m answer next last s is x = cc
 numbered schema command.Shards state m answer next last s is x = cc
 
 -- a record that has no key to split at, or no memory to read it with

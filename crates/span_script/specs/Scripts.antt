@@ -20,6 +20,8 @@ use Rattle.span_machine.specs.declared.step.Verdict.TheVariants.{Commit, Abort}
 use Rattle.span_machine.specs.declared.step.Reply.{Reply}
 use Rattle.span_machine.specs.declared.step.Reply.TheVariants as reply
 use Rattle.span_machine.specs.Machine.{Machine}
+use Rattle.span_binder.specs.Understands.{Understands}
+use Rattle.span_core.specs.Explanations.{IsExplanation}
 use Rattle.span_command.specs.declared.command.Command.{Command}
 use Rattle.span_command.specs.declared.command.Command.TheVariants as command
 use Rattle.span_command.specs.declared.layout.Layout.{Layout}
@@ -157,6 +159,12 @@ numbered_step (command.Close query) clock = Some (step.Close query)
 numbered_step (command.Trim slot horizon) clock = Some (step.Trim slot horizon)
 numbered_step _ clock = None
 
+-- the plan of a query text, or why the query text is refused
+abbrev pub IsExplained : List Table → List ℕ → List Parameter → List ℕ → Type 0
+IsExplained schema text params answer =
+    IsExplanation schema text params answer
+    ⊎ ((why : Refusal) × ((why ≡ OutOfMemory) ⊎ Understands schema text params (Err why)) × (answer ≡ refused_line why))
+
 -- nothing but the answer `refused N`
 abbrev pub IsRefused : Refusal → ScriptState → Machine → List ℕ → ScriptState → Machine → Type 0
 IsRefused why state m answer next last = (answer ≡ refused_line why) × (next ≡ state) × (last ≡ m)
@@ -183,6 +191,7 @@ IsDone schema (command.Open bound text) state m answer next last =
 IsDone schema (command.Query bound text) state m answer next last =
     (answered : Reply) × IsQueried schema m state.clock (step.Open text.now state.params bound state.clock) answered last
     × IsReplied answered answer × (next ≡ state)
+IsDone schema (command.Explain text) state m answer next last = IsExplained schema text.now state.params answer × (next ≡ state) × (last ≡ m)
 IsDone schema command.Shards state m answer next last =
     ((answer ≡ shards_text schema m) ⊎ (answer ≡ refused_line OutOfMemory)) × (next ≡ state) × (last ≡ m)
 IsDone schema c state m answer next last =

@@ -83,8 +83,9 @@ impl Answers {
         Ok(())
     }
 
+    /// Lines as they are.
     #[tactic(auto, using(crate::proofs::Begun::begins_either))]
-    fn text(&mut self, text: &str) -> Result<(), Refusal>
+    pub fn text(&mut self, text: &str) -> Result<(), Refusal>
         ensures added { OnOk result (self.new ≡ self.old ++ text.now) }
         ensures grows { Begins self.old self.new }
         ensures memory { IsOkUnless result Refusal.OutOfMemory }

@@ -37,6 +37,7 @@ pub fn query_of(line: Line<'_>) -> Option<QueryText<'_>>
         Line::Text(line) => match read_command(line) {
             Some(Command::Open { text, .. }) => Some(at_the_end(line, text)),
             Some(Command::Query { text, .. }) => Some(at_the_end(line, text)),
+            Some(Command::Explain { text }) => Some(at_the_end(line, text)),
             _ => None,
         },
         Line::Unreadable => None,

@@ -6,7 +6,7 @@ ghost use Rattle.span_machine.specs.declared.step.Step.TheVariants as step_of_ki
 ghost use Rattle.span_script.specs.Lines.{Begins};
 ghost use Rattle.span_script.specs.Reports.{AreAnswered};
 ghost use Rattle.span_script.specs.Steps.{Takes, AreTaken, AreRefused, IsRead, IsQueried, IsBegun, scans, scans_of_leaf};
-ghost use Rattle.span_script.specs.Scripts.{BeginsLoad, Deletes, EndsLoad, Gathers, IsAnswered, IsCommandLine, IsDeletion, IsDone, IsDoneIfRead, IsFirst, IsLoadLine, IsReplied, IsSplit, LoadsRecord, RefusesClock, RefusesDelete, RefusesParam, RefusesRecord, RefusesWrite, SetsClock, SetsParam, Writes, end_answer, is_passed_over, numbered_step, refused_load};
+ghost use Rattle.span_script.specs.Scripts.{BeginsLoad, Deletes, EndsLoad, Gathers, IsAnswered, IsCommandLine, IsDeletion, IsDone, IsDoneIfRead, IsExplained, IsFirst, IsLoadLine, IsReplied, IsSplit, LoadsRecord, RefusesClock, RefusesDelete, RefusesParam, RefusesRecord, RefusesWrite, SetsClock, SetsParam, Writes, end_answer, is_passed_over, numbered_step, refused_load};
 ghost use Rattle.span_command.specs.Layouts.{IsOfRecord};
 ghost use Rattle.span_command.specs.Record.{record_fields};
 ghost use Rattle.span_script.specs.Sessions.{Adds, AddsAt, AddsLine, Changes, load_of, state_of, text_of};
@@ -256,6 +256,7 @@ impl Session {
                 let reply = self.query(alloc, core, bound, text);
                 add_reply(alloc, &reply, answers)
             }
+            Command::Explain { text } => self.explain(alloc, core, text, answers),
             Command::Split { table, record } => {
                 let reply = self.split(alloc, core, table, record);
                 add_reply(alloc, &reply, answers)
@@ -552,6 +553,26 @@ impl Session {
                 core.is_reached();
                 Reply::Refused(why)
             }
+        }
+    }
+
+    /// Adds the plan of a query text with the parameters that are set. The refusal of the query text, or `OutOfMemory`.
+    #[tactic(auto, using(crate::proofs::Begun::begins_itself))]
+    fn explain(
+        &self,
+        alloc: Global,
+        core: &Core,
+        text: &str,
+        answers: &mut Answers,
+    ) -> Result<(), Refusal>
+        ensures added { Adds
+            (IsExplained core.now.schema text.now (state_of self.now).params)
+            answers.old answers.new result }
+        ensures grows { Begins answers.old answers.new }
+    {
+        match core.explain(alloc, text, &self.params) {
+            Ok(plan) => answers.text(plan.as_str()),
+            Err(why) => Err(why),
         }
     }
 

@@ -16,7 +16,7 @@ use Rattle.span_query.specs.Meaning.{query_rows, meaning}
 use Rattle.span_soundness.specs.Types.{is_of}
 use Rattle.span_soundness.specs.WellTyped.{IsItemOf, AreJoinsOf, IsFromOf, is_condition, IsGroupedOf, AreOutputsOf, IsBlockOf, AreBlocksOf, AreKeysOf, IsLayerOf, layer_of, IsQueryOf}
 use Rattle.span_soundness.specs.Results.{AreResultsOf, AreTablesOf}
-use Rattle.span_soundness.proofs.Selecting.{Gives, layer_is}
+use Rattle.span_soundness.proofs.Selecting.{Gives, table_results, layer_is}
 
 module _ {X Y : Type 0} (f : X → Y) where
   abbrev of_item : Item X → Item Y
@@ -156,7 +156,7 @@ module _ (leaves : List (List Kind)) (tables : List (List Row)) (are : AreTables
   MeansOf q types = AreResultsOf types (meaning tables q)
 
   layer_keeps : (y : BoundQuery-F Told) (types : List Kind) → IsQueryOf leaves (roll-BoundQuery (map-BoundQuery Told BoundQuery query_of y)) types
-      → AreResultsOf types (query_rows tables (map-BoundQuery BoundQuery Rows (meaning tables) (map-BoundQuery Told BoundQuery query_of y)))
+      → AreResultsOf types (query_rows (table_results tables) (map-BoundQuery BoundQuery Rows (meaning tables) (map-BoundQuery Told BoundQuery query_of y)))
   layer_keeps y types is =
       let told : IsLayerOf IsToldOf leaves y types = subst (λ (claim : List Kind → Type 0). claim types) (sym (layer_path query_of (IsQueryOf leaves) leaves y)) (layer_read leaves (map-BoundQuery Told BoundQuery query_of y) types is) in
       let means : IsLayerOf MeansOf leaves (map-BoundQuery Told BoundQuery query_of y) types = layer_moved query_of IsToldOf MeansOf (λ q ts q_is. q.1 ts q_is) leaves y types told in
@@ -164,4 +164,4 @@ module _ (leaves : List (List Kind)) (tables : List (List Row)) (are : AreTables
 
   pub keeps_types : (q : BoundQuery) → KeepsTypes q
   keeps_types = ind-BoundQuery KeepsTypes (λ x y is. subst (λ (z : BoundQuery-F BoundQuery). KeepsTypes (roll-BoundQuery z)) is (λ types q_is.
-      subst (AreResultsOf types) (sym (fold-roll-BoundQuery Rows (query_rows tables) (map-BoundQuery Told BoundQuery query_of y))) (layer_keeps y types q_is)))
+      subst (AreResultsOf types) (sym (fold-roll-BoundQuery Rows (query_rows (table_results tables)) (map-BoundQuery Told BoundQuery query_of y))) (layer_keeps y types q_is)))

@@ -10,5 +10,7 @@ pub mod Binding
 pub mod Selecting
 pub mod Blocks
 pub mod Nesting
+pub mod TypedTrees
+pub mod SizedTrees
 pub mod Layering
 pub mod Soundness

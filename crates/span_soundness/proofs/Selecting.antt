@@ -71,6 +71,10 @@ kept_where_rows types (Some e) rows are = kept_rows types e rows are
 
 -- ---- FROM
 
+-- what the tables give by their numbers
+abbrev pub table_results : List (List Row) → ℕ → Rows
+table_results tables n = Some (table_rows tables n)
+
 table_is : (leaves : List (List Kind)) (tables : List (List Row)) (n : ℕ) → AreTablesOf leaves tables → AreRowsOf (leaf_types leaves n) (table_rows tables n)
 table_is leaves tables zero are = tt {0}
 table_is [] [] (suc n) are = tt {0}
@@ -103,7 +107,7 @@ abbrev pub Gives : Rows → List Kind → Type 0
 Gives rows types = AreResultsOf types rows
 
 module _ (leaves : List (List Kind)) (tables : List (List Row)) (are : AreTablesOf leaves tables) where
-  item_is : (i : Item Rows) (types : List Kind) → IsItemOf Gives leaves i types → AreResultsOf types (item_rows tables i)
+  item_is : (i : Item Rows) (types : List Kind) → IsItemOf Gives leaves i types → AreResultsOf types (item_rows (table_results tables) i)
   item_is (item.Table n) types is = subst (λ (ts : List Kind). AreRowsOf ts (table_rows tables n)) is (table_is leaves tables n are)
   item_is (item.Derived rows) types is = is
 
@@ -115,16 +119,16 @@ module _ (leaves : List (List Kind)) (tables : List (List Row)) (are : AreTables
       (both_row left right l (replicate j.width value.Null) l_is (subst (λ (n : ℕ). IsRowOf right (replicate n value.Null)) width (nulls_are right))) pairs_are))
       ls_are
 
-  join_is : (left right : List Kind) (rows : Rows) (j : Join Rows) → IsItemOf Gives leaves j.item right → length right ≡ j.width → AreResultsOf left rows → AreResultsOf (left ++ right) (join_next tables rows j)
-  join_is left right rows j is width rows_are = then_rows left (left ++ right) rows (λ ls. item_rows tables j.item >>= join_rows j ls) rows_are
-      (λ ls ls_are. then_rows right (left ++ right) (item_rows tables j.item) (join_rows j ls) (item_is j.item right is) (λ rs rs_are. joined_is left right j ls rs width ls_are rs_are))
+  join_is : (left right : List Kind) (rows : Rows) (j : Join Rows) → IsItemOf Gives leaves j.item right → length right ≡ j.width → AreResultsOf left rows → AreResultsOf (left ++ right) (join_next (table_results tables) rows j)
+  join_is left right rows j is width rows_are = then_rows left (left ++ right) rows (λ ls. item_rows (table_results tables) j.item >>= join_rows j ls) rows_are
+      (λ ls ls_are. then_rows right (left ++ right) (item_rows (table_results tables) j.item) (join_rows j ls) (item_is j.item right is) (λ rs rs_are. joined_is left right j ls rs width ls_are rs_are))
 
-  joins_are : (left : List Kind) (rows : Rows) (joins : List (Join Rows)) (types : List Kind) → AreJoinsOf Gives leaves left joins types → AreResultsOf left rows → AreResultsOf types (fold (join_next tables) rows joins)
+  joins_are : (left : List Kind) (rows : Rows) (joins : List (Join Rows)) (types : List Kind) → AreJoinsOf Gives leaves left joins types → AreResultsOf left rows → AreResultsOf types (fold (join_next (table_results tables)) rows joins)
   joins_are left rows [] types is rows_are = subst (λ (ts : List Kind). AreResultsOf ts rows) is rows_are
-  joins_are left rows (j ∷ joins) types is rows_are = joins_are (left ++ is.0) (join_next tables rows j) joins types is.4 (join_is left is.0 rows j is.1 is.2 rows_are)
+  joins_are left rows (j ∷ joins) types is rows_are = joins_are (left ++ is.0) (join_next (table_results tables) rows j) joins types is.4 (join_is left is.0 rows j is.1 is.2 rows_are)
 
-  from_is : (first : Item Rows) (joins : List (Join Rows)) (types : List Kind) → IsFromOf Gives leaves first joins types → AreResultsOf types (from tables first joins)
-  from_is first joins types is = joins_are is.0 (item_rows tables first) joins types is.2 (item_is first is.0 is.1)
+  from_is : (first : Item Rows) (joins : List (Join Rows)) (types : List Kind) → IsFromOf Gives leaves first joins types → AreResultsOf types (from (table_results tables) first joins)
+  from_is first joins types is = joins_are is.0 (item_rows (table_results tables) first) joins types is.2 (item_is first is.0 is.1)
 
 -- ---- values
 
@@ -292,19 +296,19 @@ distinct_if_rows : (types : List Kind) (b : Bool) (rows : List Row) → AreRowsO
 distinct_if_rows types true rows are = distinct_rows types rows are
 distinct_if_rows types false rows are = are
 
-block_is : (leaves : List (List Kind)) (tables : List (List Row)) (b : Block Rows) (types : List Kind) → AreTablesOf leaves tables → IsBlockOf Gives leaves b types → AreResultsOf types (block_rows tables b)
+block_is : (leaves : List (List Kind)) (tables : List (List Row)) (b : Block Rows) (types : List Kind) → AreTablesOf leaves tables → IsBlockOf Gives leaves b types → AreResultsOf types (block_rows (table_results tables) b)
 block_is leaves tables b types are is =
-    then_rows types types (from tables b.from b.joins >>= filter_where b.filter >>= group_rows b.grouping >>= project_rows b.outputs) (λ rows. Some (distinct_if b.is_distinct rows))
-    (then_rows is.1 types (from tables b.from b.joins >>= filter_where b.filter >>= group_rows b.grouping) (project_rows b.outputs)
-    (then_rows is.0 is.1 (from tables b.from b.joins >>= filter_where b.filter) (group_rows b.grouping)
-    (then_rows is.0 is.0 (from tables b.from b.joins) (filter_where b.filter) (from_is leaves tables are b.from b.joins is.0 is.2) (λ rows rows_are. kept_where_rows is.0 b.filter rows rows_are))
+    then_rows types types (from (table_results tables) b.from b.joins >>= filter_where b.filter >>= group_rows b.grouping >>= project_rows b.outputs) (λ rows. Some (distinct_if b.is_distinct rows))
+    (then_rows is.1 types (from (table_results tables) b.from b.joins >>= filter_where b.filter >>= group_rows b.grouping) (project_rows b.outputs)
+    (then_rows is.0 is.1 (from (table_results tables) b.from b.joins >>= filter_where b.filter) (group_rows b.grouping)
+    (then_rows is.0 is.0 (from (table_results tables) b.from b.joins) (filter_where b.filter) (from_is leaves tables are b.from b.joins is.0 is.2) (λ rows rows_are. kept_where_rows is.0 b.filter rows rows_are))
     (λ rows rows_are. grouped_rows is.0 b.grouping is.1 rows is.4 rows_are))
     (λ rows rows_are. selected_rows is.1 b.outputs types rows is.5 rows_are))
     (λ rows rows_are. distinct_if_rows types b.is_distinct rows rows_are)
 
-blocks_are : (leaves : List (List Kind)) (tables : List (List Row)) (bs : List (Block Rows)) (types : List Kind) → AreTablesOf leaves tables → AreBlocksOf Gives leaves bs types → AreResultsOf types (concat_map (block_rows tables) bs)
+blocks_are : (leaves : List (List Kind)) (tables : List (List Row)) (bs : List (Block Rows)) (types : List Kind) → AreTablesOf leaves tables → AreBlocksOf Gives leaves bs types → AreResultsOf types (concat_map (block_rows (table_results tables)) bs)
 blocks_are leaves tables [] types are is = tt {0}
-blocks_are leaves tables (b ∷ bs) types are is = both_followed types (block_rows tables b) (concat_map (block_rows tables) bs) (block_is leaves tables b types are is.0) (blocks_are leaves tables bs types are is.1)
+blocks_are leaves tables (b ∷ bs) types are is = both_followed types (block_rows (table_results tables) b) (concat_map (block_rows (table_results tables)) bs) (block_is leaves tables b types are is.0) (blocks_are leaves tables bs types are is.1)
 
 placed_rows : (types : List Kind) (before : Row → Row → Bool) (row : Row) (rows : List Row) → IsRowOf types row → AreRowsOf types rows → AreRowsOf types (insert_sorted before row rows)
 placed_rows types before row [] is are = (is, tt {0})
@@ -331,7 +335,7 @@ limited_rows : (types : List Kind) (l : Option Limit) (rows : List Row) → AreR
 limited_rows types None rows are = are
 limited_rows types (Some l) rows are = taken_rows types l.rows (drop l.skip rows) (dropped_rows types l.skip rows are)
 
-pub layer_is : (leaves : List (List Kind)) (tables : List (List Row)) (q : BoundQuery-F Rows) (types : List Kind) → AreTablesOf leaves tables → IsLayerOf Gives leaves q types → AreResultsOf types (query_rows tables q)
+pub layer_is : (leaves : List (List Kind)) (tables : List (List Row)) (q : BoundQuery-F Rows) (types : List Kind) → AreTablesOf leaves tables → IsLayerOf Gives leaves q types → AreResultsOf types (query_rows (table_results tables) q)
 layer_is leaves tables q types are is =
-    then_rows types types (concat_map (block_rows tables) (q.first ∷ q.others)) (λ rows. Some (limit_rows q.limit (sorted q.order rows))) (blocks_are leaves tables (q.first ∷ q.others) types are is.0)
+    then_rows types types (concat_map (block_rows (table_results tables)) (q.first ∷ q.others)) (λ rows. Some (limit_rows q.limit (sorted q.order rows))) (blocks_are leaves tables (q.first ∷ q.others) types are is.0)
     (λ rows rows_are. limited_rows types q.limit (sorted q.order rows) (ordered_rows types (comes_before q.order) rows rows_are))

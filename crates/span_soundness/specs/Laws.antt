@@ -1,4 +1,4 @@
--- The laws of types.
+-- The laws of types and of plans.
 use Rattle.std.specs.Prelude.{◌≡◌, true, ◌||◌, ℕ, List, [], ◌++◌, map, Ok}
 use Rattle.span_value.specs.declared.value.Kind.{Kind}
 use Rattle.span_value.specs.declared.value.Kind.TheVariants as kind
@@ -31,6 +31,8 @@ use Rattle.span_typing.specs.declared.typed.Mode.{Mode}
 use Rattle.span_typing.specs.Typing.{typing}
 use Rattle.span_binder.specs.declared.bound.TypedQuery.{TypedQuery}
 use Rattle.span_binder.specs.Queries.{query_step, bound}
+use Rattle.span_binder.specs.Understands.{Understands}
+use Rattle.span_planner.specs.Plannable.{IsPlannable}
 use Rattle.span_soundness.specs.Types.{IsOutcomeOf, IsNullOnlyIf, IsRowOf, is_text, is_operand, is_of}
 use Rattle.span_soundness.specs.Bindings.{column_types, output_types, table_types, AreAggregatesOf, AreTyped, StaysTyped}
 use Rattle.span_soundness.specs.WellTyped.{IsLayerOf, IsQueryOf}
@@ -88,3 +90,9 @@ QueriesKeepTypes = (leaves : List (List Kind)) (tables : List (List Row)) (q : B
 abbrev pub ResultsAreTyped : Type 0
 ResultsAreTyped = (schema : List Table) (params : List Parameter) (q : Query) (answer : TypedQuery) (leaves : List ℕ) (tables : List (List Row))
     → AreTyped params → query_step schema params q [] ≡ Ok (answer, leaves) → AreTablesOf (types_of_leaves schema leaves) tables → AreResultsOf (output_types answer.columns) (meaning tables answer.query)
+
+-- ---- plans
+
+-- Whatever values the parameters have, of their types or not, the statement that a query text is understood as can be planned.
+abbrev pub StatementsCanBePlanned : Type 0
+StatementsCanBePlanned = (schema : List Table) (text : List ℕ) (params : List Parameter) (statement : Statement) → Understands schema text params (Ok statement) → IsPlannable schema statement

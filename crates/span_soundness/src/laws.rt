@@ -1,5 +1,12 @@
-//! The laws of types, each as the contract of a function that does nothing.
-ghost use Rattle.span_soundness.specs.Laws.{ExpressionsKeepTypes, NullComesOfNull, ParametersStayTyped, TypesAreRight, LayersAreTyped, QueriesAreTyped, StatementsAreTyped, QueriesKeepTypes, ResultsAreTyped};
+//! The laws of types and of plans, each as the contract of a function that does nothing.
+ghost use Rattle.std.specs.Prelude.{Ok};
+ghost use Rattle.span_binder.specs.Understands.{Understands};
+ghost use Rattle.span_planner.specs.Plannable.{IsPlannable};
+ghost use Rattle.span_soundness.specs.Laws.{ExpressionsKeepTypes, NullComesOfNull, ParametersStayTyped, TypesAreRight, LayersAreTyped, QueriesAreTyped, StatementsAreTyped, QueriesKeepTypes, ResultsAreTyped, StatementsCanBePlanned};
+
+use span_params::params::Params;
+use span_query::query::Statement;
+use span_schema::schema::Schema;
 
 /// Where an expression is of a type at rows of these types, its value at each such row is of that type or NULL, or the fault.
 pub fn expressions_keep_types()
@@ -46,4 +53,16 @@ pub fn queries_keep_types()
 /// What a bound query means on tables with rows of their types is rows of the types of its columns, or the fault.
 pub fn results_are_typed()
     ensures { ResultsAreTyped }
+{}
+
+/// The statement that a query text is understood as can be planned: its leaves are tables of the schema, each item of its FROMs is one of
+/// them, each join states how many columns its item has, and all blocks of a query give as many columns as the first.
+pub fn statements_can_be_planned()
+    ensures { StatementsCanBePlanned }
+{}
+
+/// The same of one statement, for a caller that goes on to plan it.
+pub fn can_be_planned(schema: &Schema, text: &str, params: &Params, statement: &Statement)
+    requires { Understands schema.now text.now params.now (Ok statement.now) }
+    ensures { IsPlannable schema.now statement.now }
 {}

@@ -13,10 +13,7 @@ pub mod Parts
 pub mod Splitting
 pub mod AllKept
 pub mod Sorted
-pub mod KeyOrders
-pub mod TableOrder
 pub mod Snapshots
-pub mod RangeRows
 pub mod Covers
 pub mod Counting
 pub mod Changes

@@ -1,33 +1,27 @@
 -- Root rows whose keys have codings, and the keys in their directories.
-use Rattle.std.proofs.Common.{◌≡◌, ℕ, zero, suc, ◌+◌, ◌-◌, ◌<◌, ◌≤◌, Bool, true, false, cond, ◌==◌, List, [], ◌∷◌, ◌++◌, Option, Some, None, length, take, drop, get_or, refl, ap, sym, ◌∙◌, subst, arith}
+use Rattle.std.proofs.Common.{◌≡◌, ℕ, ◌-◌, ◌<◌, Bool, true, false, cond, ◌==◌, List, [], ◌∷◌, ◌++◌, Option, Some, None, length, drop, get_or, refl, ap, sym, ◌∙◌, subst, arith}
 use Rattle.std.specs.Prelude.{find}
 use Rattle.std.specs.Option.{option_map}
-use Rattle.std.proofs.lemmas.List.{take-append-drop, length-append}
-use Rattle.std.proofs.Math.Seq.{take-append_seam, take-length}
+use Rattle.std.proofs.Math.Seq.{take-append_seam}
 use Rattle.span_value.specs.declared.value.Value.{Value}
 use Rattle.span_schema.specs.declared.table.Table.{Table}
-use Rattle.span_schema.specs.Lineages.{parent_at, path_at, MeetsRules}
-use Rattle.span_schema.specs.Numbers.{IsTable, key_at, own_key_at, root_of, path_of}
-use Rattle.span_schema.proofs.Paths.{parent_before}
+use Rattle.span_schema.specs.Lineages.{MeetsRules}
+use Rattle.span_schema.specs.Numbers.{root_of, path_of}
 use Rattle.span_schema.proofs.Numbered.{path_has}
-use Rattle.span_keycode.specs.Coding.{AreFit}
-use Rattle.span_keycode.specs.Keys.{IsKey, key_code}
+use Rattle.span_keycode.specs.Keys.{key_code}
 use Rattle.span_keycode.specs.Laws.{IsAtOrBelow}
-use Rattle.span_keycode.specs.Limits.{longest_key}
-use Rattle.span_keycode.proofs.Levels.{by_parents, key_split, keys_short, each_of, IsShort, back}
-use Rattle.span_keycode.proofs.LevelLaws.{fit_length, fit_split, path_child, path_root}
 use Rattle.span_keycode.proofs.KeyLaws.{begins_own_rows}
 use Rattle.span_mutate.specs.declared.mutation.CheckedMutation.{CheckedMutation}
 use Rattle.span_mutate.specs.declared.row.TableRow.{TableRow}
 use Rattle.span_mutate.specs.Rows.{begins}
-use Rattle.span_mutate.specs.Directories.{Root, is_in_directory, root_row, directory, key_len}
+use Rattle.span_mutate.specs.Directories.{Root, is_in_directory, root_row, directory}
 use Rattle.span_mutate.specs.Typed.{IsTyped, AreTyped, IsTypedMutation}
 use Rattle.span_mutate.proofs.Begins.{both_make, number_itself, taken_begins}
-use Rattle.span_mutate.proofs.Families.{root_is_table}
 use Rattle.span_mutate.proofs.Filters.{filter_yes, filter_no}
 use Rattle.span_shard.specs.Rows.{begins_with, code_of, is_coded, row_coded}
 use Rattle.span_shard.proofs.Bytes.{begins_front, front_begins, same_bytes}
 use Rattle.span_machine.specs.Machine.{root_at}
+use Rattle.span_machine_laws.proofs.CodedRoots.{coded_root_of}
 use Rattle.span_machine_laws.proofs.Locality.{IsRoot}
 use Rattle.span_rowcode.specs.Rows.{row_code}
 use Rattle.span_machine_laws.proofs.Lists.{all_found, found_passes}
@@ -79,71 +73,6 @@ pub coded_in_directory : (schema : List Table) → MeetsRules schema → (root :
 coded_in_directory schema rules root is k under db typed = ap (option_map _) (find_in_directory schema rules root is k under db typed)
 
 -- ---- the root row of a key
-
--- the root table of the table at a place
-abbrev root_place : List Table → ℕ → ℕ
-root_place schema i = get_or (path_at schema i) 0 0
-
-take_less : (xs : List Value) (j k : ℕ) → j ≤ k → take j (take k xs) ≡ take j xs
-take_less xs zero k h = refl
-take_less [] (suc j) zero h = refl
-take_less [] (suc j) (suc k) h = refl
-take_less (x ∷ xs) (suc j) zero h = absurd (omega arith)
-take_less (x ∷ xs) (suc j) (suc k) h = ap (λ (l : List Value). x ∷ l) (take_less xs j k (omega arith))
-
--- the root table has no parent, and its columns fit the front of the key
-pub root_fits : (schema : List Table) → MeetsRules schema → (i : ℕ) → i < length schema → (vs : List Value) → AreFit (key_at schema i) vs
-    → (parent_at schema (root_place schema i - 1) ≡ None) × AreFit (key_at schema (root_place schema i - 1)) (take (length (key_at schema (root_place schema i - 1))) vs)
-root_fits schema rules = by_parents schema
-    (λ i. i < length schema → (vs : List Value) → AreFit (key_at schema i) vs → (parent_at schema (root_place schema i - 1) ≡ None) × AreFit (key_at schema (root_place schema i - 1)) (take (length (key_at schema (root_place schema i - 1))) vs))
-    step
-  where
-    step : (i : ℕ)
-        → ((p : ℕ) → parent_at schema i ≡ Some p → p < length schema → (vs : List Value) → AreFit (key_at schema p) vs
-        → (parent_at schema (root_place schema p - 1) ≡ None) × AreFit (key_at schema (root_place schema p - 1)) (take (length (key_at schema (root_place schema p - 1))) vs))
-        → i < length schema → (vs : List Value) → AreFit (key_at schema i) vs
-        → (parent_at schema (root_place schema i - 1) ≡ None) × AreFit (key_at schema (root_place schema i - 1)) (take (length (key_at schema (root_place schema i - 1))) vs)
-    step i again h vs fit = by_case (parent_at schema i) refl
-      where
-        by_case : (o : Option ℕ) → parent_at schema i ≡ o
-            → (parent_at schema (root_place schema i - 1) ≡ None) × AreFit (key_at schema (root_place schema i - 1)) (take (length (key_at schema (root_place schema i - 1))) vs)
-        by_case None e =
-            let here : root_place schema i - 1 ≡ i = ap (λ (ns : List ℕ). get_or ns 0 0 - 1) (path_root schema i e) ∙ back i in
-            subst (λ (j : ℕ). (parent_at schema j ≡ None) × AreFit (key_at schema j) (take (length (key_at schema j)) vs)) (sym here)
-            (e, subst (AreFit (key_at schema i)) (sym (ap (λ (n : ℕ). take n vs) (fit_length (key_at schema i) vs fit) ∙ take-length vs)) fit)
-        by_case (Some p) e =
-            let less : p < i = parent_before schema i p e in
-            let K = length (key_at schema p) in
-            let both = fit_split (key_at schema p) (own_key_at schema i) vs (subst (λ cs. AreFit cs vs) (key_split schema rules i p h e) fit) in
-            let up = again p e (omega arith) (take K vs) both.0 in
-            let same : root_place schema i ≡ root_place schema p = ap (λ (ns : List ℕ). get_or ns 0 0) (path_child schema i p e) ∙ first_of_front (path_at schema p) ((i + 1) ∷ []) (path_has schema p) in
-            let short : length (key_at schema (root_place schema p - 1)) ≤ K = each_of (IsShort schema K) (path_at schema p) 0 0 (keys_short schema rules p (omega arith)) (path_has schema p) in
-            subst (λ (j : ℕ). (parent_at schema (j - 1) ≡ None) × AreFit (key_at schema (j - 1)) (take (length (key_at schema (j - 1))) vs)) (sym same)
-            (up.0, subst (AreFit (key_at schema (root_place schema p - 1))) (take_less vs (length (key_at schema (root_place schema p - 1))) K short) up.1)
-
-pub first_and_rest : (ns : List ℕ) → 0 < length ns → ns ≡ get_or ns 0 0 ∷ drop 1 ns
-first_and_rest [] h = absurd (let less : 0 < 0 = h in omega arith)
-first_and_rest (n ∷ ns) h = refl
-
--- the root row of a key that has a coding has one, which is the front of it
-pub coded_root_of : (schema : List Table) → MeetsRules schema → (n : ℕ) (key : List Value) → IsKey schema n key → length (key_code schema n key) ≤ longest_key
-    → IsCodedRoot schema (root_row schema n key) × ((rest : List ℕ) × (key_code schema n key ≡ key_code schema (root_row schema n key).table (root_row schema n key).key ++ rest))
-coded_root_of schema rules n key is_key most =
-    let is : IsTable schema n = is_key.0 in
-    let fits = root_fits schema rules (n - 1) (omega arith) key is_key.1 in
-    let root_is : IsTable schema (root_of schema n) = root_is_table schema n is in
-    let path : path_of schema (root_of schema n) ≡ root_of schema n ∷ [] =
-    path_root schema (root_of schema n - 1) fits.0 ∙ ap (λ (j : ℕ). j ∷ []) (let up = root_is.0 in omega arith) in
-    let root_key : IsKey schema (root_of schema n) (take (key_len schema (root_of schema n)) key) = (root_is, fits.1) in
-    let below : IsAtOrBelow schema (root_of schema n) (take (key_len schema (root_of schema n)) key) n key = record {
-      tables_below = drop 1 (path_of schema n);
-      path = first_and_rest (path_of schema n) (path_has schema (n - 1)) ∙ ap (λ (ns : List ℕ). ns ++ drop 1 (path_of schema n)) (sym path);
-      values_below = drop (key_len schema (root_of schema n)) key;
-      values = sym (take-append-drop (key_len schema (root_of schema n)) key);
-    } in
-    let more = (begins_own_rows schema rules (root_of schema n) n (take (key_len schema (root_of schema n)) key) key root_key is_key).1 below in
-    let sum : length (key_code schema n key) ≡ length (key_code schema (root_of schema n) (take (key_len schema (root_of schema n)) key)) + length more.0 = ap length more.1 ∙ length-append _ _ in
-    ((ap (λ (ns : List ℕ). get_or ns 0 0) path, (root_key, omega (arith, most, sum))), more)
 
 -- the root row of a typed mutation's directory has a coding
 pub coded_root_at : (schema : List Table) → MeetsRules schema → (m : CheckedMutation) → IsTypedMutation schema m → IsCodedRoot schema (root_at schema m)

@@ -52,7 +52,7 @@ use Rattle.span_version_laws.proofs.Cuts.{held_by_key}
 use Rattle.span_version_laws.proofs.Trimming.{row_kept_above}
 use Rattle.span_version_laws.proofs.Claimers.{late}
 use Rattle.span_version_laws.proofs.Keys.{IsUnderAll, all_by_key}
-use Rattle.span_version_laws.proofs.TableOrder.{code_cmp, IsOfTable, of_table, table_rises}
+use Rattle.span_machine_laws.proofs.TableOrder.{code_cmp, IsOfTable, of_table, table_rises}
 use Rattle.span_keycode.specs.declared.range.KeyRange.{KeyRange}
 use Rattle.span_version_laws.proofs.Roots.{coding_of_row, root_of_coding}
 use Rattle.span_version_laws.proofs.Rows.{all_pass, row_of_tables}
@@ -317,14 +317,14 @@ module _ (schema : List Table) (rules : MeetsRules schema) (m : Machine) {slot :
         (all_in (λ (q : TableRow). (q.table == n) ≡ true) (rows_of n db) r there (all_pass (λ (q : TableRow). q.table == n) db)))
 
     -- what a snapshot of the range has
-    pub snapshot_rows : (n : ℕ) → HasRowsOf schema kept.slot_state range n db (snapshot range s cs)
-    snapshot_rows n = record { rows = rows_from cs; typed = rows_typed cs; entries_are = entries_are cs all_seen; of_table = rows_there n }
+    pub snapshot_rows : HasRowsOf schema kept.slot_state range db (snapshot range s cs)
+    snapshot_rows = record { rows = rows_from cs; typed = rows_typed cs; entries_are = entries_are cs all_seen; of_table = rows_there }
 
 -- A snapshot that a scan makes at a safe timestamp, not below the horizon, has the rows of the tables that the range and the slot's range
 -- have. The floor may have risen before.
 pub snapshot_when_safe : (schema : List Table) → MeetsRules schema → (m : Machine) (slot : ℕ) (slot_state risen : SlotState) (cs : List KeyVersions) (s : ℕ) → IsReached schema m → AreKept schema m slot cs → slice_get m.slots slot ≡ Some slot_state
-    → is_safe m slot risen s ≡ true → slot_state.horizon ≤ s → (db : List TableRow) → tables schema m.log s ≡ Ok db → (n : ℕ) (range : KeyRange) → HasRowsOf schema slot_state range n db (snapshot range s cs)
-snapshot_when_safe schema rules m slot slot_state risen cs s reached kept here safe high db made n range =
+    → is_safe m slot risen s ≡ true → slot_state.horizon ≤ s → (db : List TableRow) → tables schema m.log s ≡ Ok db → (range : KeyRange) → HasRowsOf schema slot_state range db (snapshot range s cs)
+snapshot_when_safe schema rules m slot slot_state risen cs s reached kept here safe high db made range =
     let same : kept.slot_state ≡ slot_state = state_is schema m cs kept slot_state here in
     let above : AllByRecursion (IsAbove s slot) m.transactions =
     all_true (IsAbove s slot) (λ t. list_all (λ p. not (p.slot == slot) || nat_lt s p.timestamp) t.prepared)
@@ -332,5 +332,5 @@ snapshot_when_safe schema rules m slot slot_state risen cs s reached kept here s
     m.transactions (second_true (nat_le s risen.floor) _ safe) in
     let is_db : IsDatabase schema db = apply-database schema rules (mutations_of (upto m.log s)) [] db (empty_database schema) (keyed_upto schema m.log s reached.by_schema.log) made in
     let typed : AreTyped schema db = typed_stay schema [] (mutations_of (upto m.log s)) db tt (typed_upto schema m.log s reached.by_schema.log) made in
-    subst (λ (b : SlotState). HasRowsOf schema b range n db (snapshot range s cs)) same
-    (snapshot_rows schema rules m cs s reached kept above (subst (λ (b : SlotState). b.horizon ≤ s) (sym same) high) db is_db typed made range n)
+    subst (λ (b : SlotState). HasRowsOf schema b range db (snapshot range s cs)) same
+    (snapshot_rows schema rules m cs s reached kept above (subst (λ (b : SlotState). b.horizon ≤ s) (sym same) high) db is_db typed made range)

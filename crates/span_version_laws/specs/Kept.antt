@@ -5,8 +5,7 @@ use Rattle.std.specs.Prelude.{filter, map, slice_get}
 use Rattle.std.specs.List.{AllByRecursion}
 use Rattle.span_value.specs.declared.value.Value.{Value}
 use Rattle.span_schema.specs.declared.table.Table.{Table}
-use Rattle.span_schema.specs.Numbers.{IsTable, root_of}
-pub use Rattle.span_keycode.specs.Parts.{is_within, family}
+pub use Rattle.span_keycode.specs.Parts.{is_within}
 use Rattle.span_keycode.specs.Keys.{key_code}
 use Rattle.span_keycode.specs.Roots.{IsCoding}
 use Rattle.span_keycode.specs.Limits.{longest_key}
@@ -24,17 +23,21 @@ use Rattle.span_shard.specs.Rows.{begins_with, code_of, row_coded}
 use Rattle.span_shard.specs.Reading.{is_same_row}
 use Rattle.span_shard.specs.Versions.{row_at, kept_upto}
 use Rattle.span_shard.specs.Shard.{KeyRow, versions_at, prepared_at, AreInOrder, IsInUse}
-use Rattle.span_query.specs.Rows.{Row}
+use Rattle.span_planner.specs.declared.leaf.Leaf.{Leaf}
+use Rattle.span_planner.specs.Plannable.{IsPlannable}
+use Rattle.span_fragment.specs.declared.piece.Piece.{Piece}
+pub use Rattle.span_fragment.specs.Entries.{key_row}
 use Rattle.span_machine.specs.declared.query.ScanLeaf.{ScanLeaf}
 use Rattle.span_machine.specs.declared.slot.SlotState.{SlotState}
 use Rattle.span_machine.specs.declared.transaction.Commit.{Commit}
 use Rattle.span_machine.specs.declared.transaction.OpenTransaction.{OpenTransaction}
 use Rattle.span_machine.specs.declared.transaction.Decision.{Decision}
 use Rattle.span_machine.specs.declared.transaction.Decision.TheVariants as decision
-use Rattle.span_machine.specs.Meaning.{declared_row}
+use Rattle.span_machine.specs.Meaning.{declared_row, leaf_within}
+pub use Rattle.span_machine.specs.Meaning.{row_within, rows_within, tables_within}
 use Rattle.span_machine.specs.Tables.{tables}
 use Rattle.span_machine.specs.Kept.{after_mutations}
-use Rattle.span_machine.specs.Machine.{Machine, is_at, has_key, holds, commit_of}
+use Rattle.span_machine.specs.Machine.{Machine, is_at, has_key, holds, commit_of, statement_plan}
 use Rattle.span_machine.specs.Pieces.{Pieced}
 pub use Rattle.span_machine.specs.Slots.{IsCodedRoot}
 use Rattle.span_machine_laws.proofs.Stability.{changes_at}
@@ -130,63 +133,43 @@ pub record AreAllKept (schema : List Table) (m : Machine) (shards : List (List K
 
 -- ---- the pieces of open queries
 
--- the range has the coded key of the row
-abbrev pub row_within : List Table → KeyRange → TableRow → Bool
-row_within schema range r = is_within range (code_of schema r)
-
--- the rows of a table whose coded keys are in the range, each with its values in the order of declaration
-abbrev pub rows_within : List Table → List TableRow → ℕ → KeyRange → List Row
-rows_within schema db table range = map (declared_row schema) (filter (row_within schema range) (rows_of table db))
-
--- the rows are those of a table of the schema in the range, at s
-pub record HasRowsIn (schema : List Table) (log : List Commit) (s table : ℕ) (range : KeyRange) (rows : List Row) : Type 0 where
+-- the piece has what the leaf gives on the rows of the range, at s
+pub record HasRowsIn (schema : List Table) (log : List Commit) (s : ℕ) (leaf : Leaf) (range : KeyRange) (piece : Piece) : Type 0 where
   pub db : List TableRow
   pub made : tables schema log s ≡ Ok db
-  pub whole : rows ≡ rows_within schema db table range
+  pub whole : piece.rows ≡ leaf_within schema db leaf range
 
--- each piece of a leaf has the rows of its range
-abbrev pub AreRead : List Table → List Commit → ℕ → ℕ → List KeyRange → List (List Row) → Type 0
-AreRead schema log s table [] [] = Unit {0}
-AreRead schema log s table [] (rows ∷ ps) = ⊥
-AreRead schema log s table (c ∷ cs) [] = ⊥
-AreRead schema log s table (c ∷ cs) (rows ∷ ps) = HasRowsIn schema log s table c rows × AreRead schema log s table cs ps
-
--- a leaf is of a table of the schema and scans its whole family, and its pieces have the rows of their ranges
-pub record IsLeafPieced (schema : List Table) (log : List Commit) (s : ℕ) (leaf : ScanLeaf) (pieces : List (List Row)) : Type 0 where
-  pub of_schema : IsTable schema leaf.table
-  pub whole : leaf.range ≡ family (root_of schema leaf.table)
-  pub read : AreRead schema log s leaf.table leaf.covered pieces
+-- each piece of a leaf has what the leaf gives on its range
+abbrev pub AreRead : List Table → List Commit → ℕ → Leaf → List KeyRange → List Piece → Type 0
+AreRead schema log s leaf [] [] = Unit {0}
+AreRead schema log s leaf [] (piece ∷ ps) = ⊥
+AreRead schema log s leaf (c ∷ cs) [] = ⊥
+AreRead schema log s leaf (c ∷ cs) (piece ∷ ps) = HasRowsIn schema log s leaf c piece × AreRead schema log s leaf cs ps
 
 -- each leaf and its pieces
-abbrev pub AreLeafPieces : List Table → List Commit → ℕ → List ScanLeaf → List (List (List Row)) → Type 0
+abbrev pub AreLeafPieces : List Table → List Commit → ℕ → List ScanLeaf → List (List Piece) → Type 0
 AreLeafPieces schema log s [] [] = Unit {0}
 AreLeafPieces schema log s [] (pieces ∷ ps) = ⊥
 AreLeafPieces schema log s (l ∷ ls) [] = ⊥
-AreLeafPieces schema log s (l ∷ ls) (pieces ∷ ps) = IsLeafPieced schema log s l pieces × AreLeafPieces schema log s ls ps
+AreLeafPieces schema log s (l ∷ ls) (pieces ∷ ps) = AreRead schema log s l.leaf l.covered pieces × AreLeafPieces schema log s ls ps
 
--- the leaves are of the tables that the statement reads, and each has its pieces
+-- the leaves are those of the plan of a statement that can be planned, and each has its pieces
 pub record IsPieced (schema : List Table) (log : List Commit) (p : Pieced) : Type 0 where
-  pub of_statement : map (λ (l : ScanLeaf). l.table) p.query.leaves ≡ p.query.statement.leaves
+  pub plannable : IsPlannable schema p.query.statement
+  pub of_plan : map (λ (l : ScanLeaf). l.leaf) p.query.leaves ≡ (statement_plan schema p.query.statement).leaves
+  pub top : p.query.top ≡ (statement_plan schema p.query.statement).top
   pub leaves : AreLeafPieces schema log p.query.s p.query.leaves p.pieces
 
 abbrev pub ArePieced : List Table → Machine → List Pieced → Type 0
 ArePieced schema m ps = AllByRecursion (IsPieced schema m.log) ps
 
--- a row as a shard has it
-abbrev pub key_row : List Table → TableRow → KeyRow
-key_row schema r = record { key = code_of schema r; row = row_code r.cells }
-
 -- the slot's range has the key of the row
 abbrev pub has_row : List Table → SlotState → TableRow → Bool
 has_row schema slot_state r = has_key slot_state (code_of schema r)
 
--- entries that are rows of a range in the slot's range, those of table n being all that the database has there, in its order
-pub record HasRowsOf (schema : List Table) (slot_state : SlotState) (range : KeyRange) (n : ℕ) (db : List TableRow) (entries : List KeyRow) : Type 0 where
+-- entries that are rows of a range in the slot's range, those of each table being all that the database has there, in its order
+pub record HasRowsOf (schema : List Table) (slot_state : SlotState) (range : KeyRange) (db : List TableRow) (entries : List KeyRow) : Type 0 where
   pub rows : List TableRow
   pub typed : AreTyped schema rows
   pub entries_are : entries ≡ map (key_row schema) rows
-  pub of_table : rows_of n rows ≡ filter (row_within schema range) (filter (has_row schema slot_state) (rows_of n db))
-
--- the rows that are read of entries: those of table n, in the order in which its columns are declared
-abbrev pub IsReading : List Table → ℕ → List KeyRow → List (List Value) → Type 0
-IsReading schema n entries shown = (rows : List TableRow) → AreTyped schema rows → entries ≡ map (key_row schema) rows → shown ≡ map (declared_row schema) (rows_of n rows)
+  pub of_table : (n : ℕ) → rows_of n rows ≡ filter (row_within schema range) (filter (has_row schema slot_state) (rows_of n db))

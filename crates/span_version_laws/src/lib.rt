@@ -36,8 +36,8 @@ pub fn snapshots_are_tables()
         → slot_state.horizon ≤ s
         → (db : List TableRow)
         → tables schema m.log s ≡ Ok db
-        → (n : ℕ) (range : KeyRange)
-        → HasRowsOf schema slot_state range n db (snapshot range s cs) }
+        → (range : KeyRange)
+        → HasRowsOf schema slot_state range db (snapshot range s cs) }
 {}
 
 /// In every machine that a run reaches, the shard that is kept for a slot has just as many versions, prepared ones included, as changes

@@ -12,4 +12,5 @@ returns-in_default c = numbered c.args.line.now c.in-Some.word.now c.in-Some.res
   load = c.in_default.not-load;
   opens = c.in_default.not-open;
   query = c.in_default.not-query;
+  explain = c.in_default.not-explain;
 }) c.read_numbered.result c.read_numbered.ensures

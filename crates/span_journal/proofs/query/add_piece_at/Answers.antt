@@ -21,4 +21,4 @@ returns-clause-ok c =
     let here : slice_get leaves c.args.leaf ≡ Some c.index_mut.result.now = slice_get_read leaves (length leaves) c.args.leaf c.index_mut.result.now refl c.requires.within c.index_mut.ensures.value in
     let there : slice_get pieces c.args.leaf ≡ Some c.index_mut-2.result.now = slice_get_read pieces (length pieces) c.args.leaf c.index_mut-2.result.now refl within c.index_mut-2.ensures.value in
     on_ok c.add_piece.result c.add_piece.ensures.ok
-    (λ p. put_piece leaves pieces c.args.leaf c.args.range c.args.rows c.index_mut.result.now c.add_piece.new.leaf c.index_mut-2.result.now c.add_piece.new.pieces here there p.0 p.1)
+    (λ p. put_piece leaves pieces c.args.leaf c.args.range c.args.piece c.index_mut.result.now c.add_piece.new.leaf c.index_mut-2.result.now c.add_piece.new.pieces here there p.0 p.1)

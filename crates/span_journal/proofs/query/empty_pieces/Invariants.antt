@@ -3,5 +3,5 @@ use Rattle.span_machine.specs.Pieces.{no_pieces}
 use Rattle.span_journal.proofs.query.empty_pieces.Given as goal
 
 -- the pieces so far
-abbrev pub invariant-loop-table : goal.invariant-loop-table
-invariant-loop-table l = l.pieces ≡ map no_pieces (take l._table-index l.tables)
+abbrev pub invariant-loop-leaf : goal.invariant-loop-leaf
+invariant-loop-leaf l = l.pieces ≡ map no_pieces (take l._leaf-index l.leaves)

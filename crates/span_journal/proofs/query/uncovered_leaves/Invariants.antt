@@ -1,7 +1,11 @@
-use Rattle.std.proofs.Common.{◌≡◌, map, take}
+use Rattle.std.proofs.Common.{◌≡◌, ◌++◌, length, map}
+use Rattle.std.specs.Prelude.{reverse}
 use Rattle.span_machine.specs.Machine.{uncovered}
 use Rattle.span_journal.proofs.query.uncovered_leaves.Given as goal
 
--- the leaves so far
-abbrev pub invariant-loop-table : goal.invariant-loop-table
-invariant-loop-table l = l.leaves ≡ map (uncovered l.schema) (take l.table-index l.tables)
+-- the leaves that are left, and then those that were taken from the end
+abbrev pub invariant-loop-leaf : goal.invariant-loop-leaf
+invariant-loop-leaf l = map uncovered l.fn.leaves ≡ map uncovered l.left ++ reverse l.found.items
+
+abbrev pub decreases-loop-leaf : goal.decreases-loop-leaf
+decreases-loop-leaf l = length l.left

@@ -1,21 +1,27 @@
 use Rattle.std.proofs.Common.{◌∙◌, sym, ap, subst, inl, inr}
-use Rattle.std.specs.Prelude.{Some}
+use Rattle.std.specs.Prelude.{Option, Some, IfSome, MatchResult, Result}
+use Rattle.span_planner.specs.declared.leaf.Leaf.{Leaf}
 use Rattle.span_machine.specs.declared.step.Step.TheVariants as step
 use Rattle.span_machine.specs.declared.step.Reply.TheVariants as reply_of
 use Rattle.span_machine.specs.Machine.{Machine, Answer, Answers, scan}
 use Rattle.span_machine.specs.Pieces.{machine_of}
-use Rattle.span_journal.specs.Judged.{IsGap, MayScan}
+use Rattle.span_journal.specs.Judged.{IsGap, MayScan, leaf_of}
+use Rattle.span_parts.specs.Whole.{IsRead, IsUnread}
 use Rattle.span_parts.proofs.Changes.{shard_there, at_index}
-use Rattle.span_parts.proofs.Scanning.{scanned_table, reads, scanned_answer, scanned_whole}
+use Rattle.span_parts.proofs.Scanning.{scanned_leaf, scanned_tables, reads, scanned_answer, scanned_whole}
 use Rattle.span_parts.proofs.Wholes.{no_text, goes_same, goes_by, pieces_same}
 use Rattle.span_parts.proofs.steps.scan.Goals as goal
 
-pub read-requires : goal.read-requires
-read-requires c =
+pub read_gap-requires : goal.read_gap-requires
+read_gap-requires c =
     let a = c.args in
     let gap = c.in-Ok-Some.gap in
+    let k = c.claim_gap.new.self in
+    let same = c.in-Ok-Some.ensures.ok in
     let may = subst (IsGap (machine_of a.journal.now) a.query a.leaf a.slot a.interval) c.in-Ok-Some.field-0-is c.in-Ok-Some.ensures.gap in
-    scanned_table a.schema.now a.journal.now a.shards.now c.requires a.query a.leaf a.slot a.interval gap.table gap.range gap.s may
+    let may_then = subst (λ (m : Machine). MayScan m a.query a.leaf a.slot a.interval gap.range gap.s) (sym same) may in
+    let w = goes_same a.schema.now a.journal.now k same c.in-Ok-Some.ensures.pieces a.shards.now c.requires in
+    scanned_tables a.schema.now k a.shards.now w a.query a.leaf a.slot a.interval gap.range gap.s may_then
 
 pub returns-in-Ok-register-clause-step : goal.returns-in-Ok-register-clause-step
 returns-in-Ok-register-clause-step c =
@@ -24,10 +30,10 @@ returns-in-Ok-register-clause-step c =
     let k = c.claim_gap.new.self in
     let same = c.in-Ok-Some.ensures.ok in
     let may = subst (IsGap (machine_of a.journal.now) a.query a.leaf a.slot a.interval) c.in-Ok-Some.field-0-is c.in-Ok-Some.ensures.gap in
-    let may_then = subst (λ (m : Machine). MayScan m a.query a.leaf a.slot a.interval gap.table gap.range gap.s) (sym same) may in
+    let may_then = subst (λ (m : Machine). MayScan m a.query a.leaf a.slot a.interval gap.range gap.s) (sym same) may in
     let w = goes_same a.schema.now a.journal.now k same c.in-Ok-Some.ensures.pieces a.shards.now c.requires in
     subst (λ (m : Machine). Answers m (scan m a.query a.leaf a.slot a.interval) reply_of.Scanned (machine_of c.register.new.self)) same
-    (inl (scanned_answer a.schema.now k a.shards.now w a.query a.leaf a.slot a.interval gap.table gap.range gap.s may_then _ c.register.new.self c.in-Ok-register.ensures.ok))
+    (inl (scanned_answer a.schema.now k a.shards.now w a.query a.leaf a.slot a.interval gap.range gap.s may_then _ c.register.new.self c.in-Ok-register.ensures.ok))
 
 pub returns-in-Ok-register-clause-whole : goal.returns-in-Ok-register-clause-whole
 returns-in-Ok-register-clause-whole c =
@@ -36,21 +42,27 @@ returns-in-Ok-register-clause-whole c =
     let k = c.claim_gap.new.self in
     let same = c.in-Ok-Some.ensures.ok in
     let may = subst (IsGap (machine_of a.journal.now) a.query a.leaf a.slot a.interval) c.in-Ok-Some.field-0-is c.in-Ok-Some.ensures.gap in
-    let may_then = subst (λ (m : Machine). MayScan m a.query a.leaf a.slot a.interval gap.table gap.range gap.s) (sym same) may in
+    let may_then = subst (λ (m : Machine). MayScan m a.query a.leaf a.slot a.interval gap.range gap.s) (sym same) may in
     let w = goes_same a.schema.now a.journal.now k same c.in-Ok-Some.ensures.pieces a.shards.now c.requires in
     let found = shard_there a.schema.now a.journal.now a.shards.now c.requires a.slot may.slot_state may.here in
     let there = found.1 ∙ ap (λ x. Some x) (sym (c.index-shards-slot.is ∙ at_index a.shards.now a.slot c.index-shards-slot.result found.0 found.1)) in
-    scanned_whole a.schema.now k a.shards.now w a.query a.leaf a.slot a.interval gap.table gap.range gap.s may_then _ c.register.new.self c.in-Ok-register.ensures.ok c.index-shards-slot.result there c.in-Ok.ensures
+    let read = subst (λ (o : Option Leaf). IfSome o (λ l. IsRead a.schema.now c.index-shards-slot.result gap.range gap.s c.in-Ok.piece l)) (scanned_leaf a.schema.now k a.shards.now w a.query a.leaf a.slot a.interval gap.range gap.s may_then) c.in-Ok.ensures in
+    scanned_whole a.schema.now k a.shards.now w a.query a.leaf a.slot a.interval gap.range gap.s may_then _ c.register.new.self c.in-Ok-register.ensures.ok c.index-shards-slot.result there read
 
-pub returns-in-Err-read-clause-step : goal.returns-in-Err-read-clause-step
-returns-in-Err-read-clause-step c =
+pub returns-in-Err-read_gap-clause-step : goal.returns-in-Err-read_gap-clause-step
+returns-in-Err-read_gap-clause-step c =
     let a = c.args in
     let gap = c.in-Ok-Some.gap in
+    let k = c.claim_gap.new.self in
+    let same = c.in-Ok-Some.ensures.ok in
     let may = subst (IsGap (machine_of a.journal.now) a.query a.leaf a.slot a.interval) c.in-Ok-Some.field-0-is c.in-Ok-Some.ensures.gap in
+    let may_then = subst (λ (m : Machine). MayScan m a.query a.leaf a.slot a.interval gap.range gap.s) (sym same) may in
+    let w = goes_same a.schema.now a.journal.now k same c.in-Ok-Some.ensures.pieces a.shards.now c.requires in
     let found = shard_there a.schema.now a.journal.now a.shards.now c.requires a.slot may.slot_state may.here in
     let there = found.1 ∙ ap (λ x. Some x) (sym (c.index-shards-slot.is ∙ at_index a.shards.now a.slot c.index-shards-slot.result found.0 found.1)) in
-    let memory = reads a.schema.now a.journal.now a.shards.now c.requires a.query a.leaf a.slot a.interval gap.table gap.range gap.s may c.index-shards-slot.result there c.in-Err-read.why c.in-Err-read.ensures in
-    inr (ap reply_of.Refused memory, c.in-Ok-Some.ensures.ok)
+    let unread = subst (λ (o : Option Leaf). IfSome o (λ l. IsUnread a.schema.now c.index-shards-slot.result gap.range gap.s c.in-Err-read_gap.why)) (scanned_leaf a.schema.now k a.shards.now w a.query a.leaf a.slot a.interval gap.range gap.s may_then) c.in-Err-read_gap.ensures in
+    let memory = reads a.schema.now a.journal.now a.shards.now c.requires a.query a.leaf a.slot a.interval gap.range gap.s may c.index-shards-slot.result there c.in-Err-read_gap.why unread in
+    inr (ap reply_of.Refused memory, same)
 
 pub returns-in-Err-clause-whole : goal.returns-in-Err-clause-whole
 returns-in-Err-clause-whole c =

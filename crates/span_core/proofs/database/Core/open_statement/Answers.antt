@@ -1,14 +1,20 @@
-use Rattle.std.proofs.Common.{ℕ, Ok, length, sym, subst}
+use Rattle.std.proofs.Common.{Ok, sym, subst}
 use Rattle.span_machine.specs.Pieces.{machine_of}
 use Rattle.span_machine.specs.declared.step.Step.{Step}
 use Rattle.span_machine.specs.declared.step.Step.TheVariants as step
 use Rattle.span_machine.specs.declared.step.Reply.{Reply}
 use Rattle.span_parts.specs.Replies.{as_reply, opened_reply}
 use Rattle.span_binder.specs.Understands.{Understands}
+use Rattle.span_soundness.proofs.Soundness.{statements_can_be_planned}
 use Rattle.span_core.specs.Whole.{State}
 use Rattle.span_core.specs.Histories.{Steps}
 use Rattle.span_core.proofs.Wholes.{goes_on, opened_steps}
 use Rattle.span_core.proofs.database.Core.open_statement.Goals as goal
+
+pub open-requires : goal.open-requires
+open-requires c =
+    statements_can_be_planned c.self.inside.schema c.args.text c.args.params c.args.statement
+    (subst (λ (st : State). Understands st.schema c.args.text c.args.params (Ok c.args.statement)) (sym c.self.view_is) c.requires)
 
 pub invariant_of-self : goal.invariant_of-self
 invariant_of-self c =
@@ -16,8 +22,8 @@ invariant_of-self c =
     let m = machine_of c.self.inside.journal in
     let n = machine_of c.open.new.journal in
     let s : Step = step.Open c.args.text c.args.params c.args.bound c.args.interval in
-    let understood : Understands schema c.args.text c.args.params (Ok c.args.statement) = subst (λ (st : State). Understands st.schema c.args.text c.args.params (Ok c.args.statement)) (sym c.self.view_is) c.requires.understood in
-    let all : Steps schema m s (as_reply (opened_reply (length c.args.statement.leaves)) c.open.result) n = opened_steps schema m c.args.text c.args.params c.args.bound c.args.interval c.args.statement (as_reply (opened_reply (length c.args.statement.leaves)) c.open.result) n understood c.open.ensures.step in
+    let understood : Understands schema c.args.text c.args.params (Ok c.args.statement) = subst (λ (st : State). Understands st.schema c.args.text c.args.params (Ok c.args.statement)) (sym c.self.view_is) c.requires in
+    let all : Steps schema m s (as_reply opened_reply c.open.result) n = opened_steps schema m c.args.text c.args.params c.args.bound c.args.interval c.args.statement (as_reply opened_reply c.open.result) n understood c.open.ensures.step in
     goes_on schema c.self.inside.journal c.open.new.journal c.self.inside.shards.items c.self.inside.shards.items s _ c.self.invariant tt all (c.open.ensures.whole c.self.inside.shards.items c.self.invariant.whole)
 
 pub returns-clause-steps : goal.returns-clause-steps
@@ -26,7 +32,6 @@ returns-clause-steps c =
     let m = machine_of c.self.inside.journal in
     let n = machine_of c.open.new.journal in
     let s : Step = step.Open c.args.text c.args.params c.args.bound c.args.interval in
-    let understood : Understands schema c.args.text c.args.params (Ok c.args.statement) = subst (λ (st : State). Understands st.schema c.args.text c.args.params (Ok c.args.statement)) (sym c.self.view_is) c.requires.understood in
-    let all : Steps schema m s (as_reply (opened_reply (length c.args.statement.leaves)) c.open.result) n = opened_steps schema m c.args.text c.args.params c.args.bound c.args.interval c.args.statement (as_reply (opened_reply (length c.args.statement.leaves)) c.open.result) n understood c.open.ensures.step in
-    let shown : Steps schema m s (as_reply (opened_reply c.len-leaves.result) c.open.result) n = subst (λ (k : ℕ). Steps schema m s (as_reply (opened_reply k) c.open.result) n) (sym c.len-leaves.ensures) all in
-    subst (λ (st : State). Steps st.schema st.machine s c.open_reply.result n) c.self.view_is (subst (λ (r : Reply). Steps schema m s r n) (sym c.open_reply.ensures) shown)
+    let understood : Understands schema c.args.text c.args.params (Ok c.args.statement) = subst (λ (st : State). Understands st.schema c.args.text c.args.params (Ok c.args.statement)) (sym c.self.view_is) c.requires in
+    let all : Steps schema m s (as_reply opened_reply c.open.result) n = opened_steps schema m c.args.text c.args.params c.args.bound c.args.interval c.args.statement (as_reply opened_reply c.open.result) n understood c.open.ensures.step in
+    subst (λ (st : State). Steps st.schema st.machine s c.open_reply.result n) c.self.view_is (subst (λ (r : Reply). Steps schema m s r n) (sym c.open_reply.ensures) all)

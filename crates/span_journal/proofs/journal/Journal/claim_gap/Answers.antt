@@ -50,8 +50,8 @@ returns-then-is_safe_at-clause-gap c =
     let gap = sym c.in_ok-range.ensures ∙ c.in-Some.is in
     let above = is_not_below c.timestamp-s.result p.query.s b.horizon c.timestamp-s.ensures c.if-s-slot_state.false in
     let safe = safe_is j c.args.slot c.risen_floor-floor.result c.timestamp-s.result p.query.s c.as_slice.result.now b c.args.interval c.is_safe_at.result c.is_safe_at.ensures c.timestamp-s.ensures c.as_slice.ensures.value c.risen_floor-floor.ensures in
-    subst (λ (k : Journaled). MayScan (machine_of k) c.args.query c.args.leaf c.args.slot c.args.interval l.table c.in-Some.range c.timestamp-s.result) c.self.view_is
-    (subst (λ n. MayScan (machine_of j) c.args.query c.args.leaf c.args.slot c.args.interval l.table c.in-Some.range n) (sym c.timestamp-s.ensures)
+    subst (λ (k : Journaled). MayScan (machine_of k) c.args.query c.args.leaf c.args.slot c.args.interval c.in-Some.range c.timestamp-s.result) c.self.view_is
+    (subst (λ n. MayScan (machine_of j) c.args.query c.args.leaf c.args.slot c.args.interval c.in-Some.range n) (sym c.timestamp-s.ensures)
     (may_scan j c.args.query c.args.leaf c.args.slot c.args.interval at p l b t c.in-Some.range gap above (sym safe ∙ c.if-is_safe_at.true)))
 
 pub set_floor-requires : goal.set_floor-requires

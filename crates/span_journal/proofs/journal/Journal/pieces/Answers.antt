@@ -30,12 +30,12 @@ returns-clause-ok c =
     let p = c.in-Some.question.now in
     let place : IsPlace (λ (p : Pieced). is_query c.args.query p.query) j.queries c.in-Some.field-0-0 p =
     subst (λ (l : List Pieced). IsPlace (λ (p : Pieced). is_query c.args.query p.query) l c.in-Some.field-0-0 p) c.as_slice.ensures.value c.in-Some.ensures.some in
-    subst (λ (k : Journaled). IsCovered k c.args.query c.timestamp.result c.query.result.now c.pieces.result.now) c.self.view_is
+    subst (λ (k : Journaled). IsCovered k c.args.query c.timestamp.result c.top.result.now c.pieces.result.now) c.self.view_is
     (record {
       question = p;
       found = place.found;
       covered = sym c.is_covered.ensures ∙ c.if-not-is_covered.false;
       at = c.timestamp.ensures;
-      asked_is = c.query.ensures;
+      top_is = c.top.ensures;
       pieces_are = c.pieces.ensures;
     })

@@ -116,6 +116,6 @@ returns-clause-ok c =
     let above = is_not_below c.timestamp-s.result p.query.s b.horizon c.timestamp-s.ensures c.if-s-slot_state.false in
     let safe = safe_is j c.args.slot c.risen_floor-floor.result c.timestamp-s.result p.query.s c.as_slice.result.now b c.args.interval c.is_safe_at.result c.is_safe_at.ensures c.timestamp-s.ensures c.as_slice.ensures.value c.risen_floor-floor.ensures in
     let slots_are = risen_slots j.slots c.set_floor-2.new.slots.items c.args.slot c.risen_floor-floor.result c.timestamp-s.result p.query.s b c.args.interval t.here c.set_floor-2.ensures.after c.timestamp-s.ensures c.risen_floor-floor.ensures in
-    let queries_are = covered_queries j.queries j.slots c.args.query c.args.leaf c.args.slot at p l b t c.args.range c.args.rows c.cover_at.new.queries.items c.in_ok-cover_at.ensures.ok in
-    subst (λ (k : Journaled). IsRegistered k c.args.query c.args.leaf c.args.slot c.args.interval c.args.range c.args.rows (record j { slots = c.set_floor-2.new.slots.items; queries = c.cover_at.new.queries.items })) c.self.view_is
-    (is_registered j c.args.query c.args.leaf c.args.slot c.args.interval at p l b t c.args.range c.args.rows c.set_floor-2.new.slots.items c.cover_at.new.queries.items free above (sym safe ∙ c.if-not-is_safe_at.false) slots_are queries_are)
+    let queries_are = covered_queries j.queries j.slots c.args.query c.args.leaf c.args.slot at p l b t c.args.range c.args.piece c.cover_at.new.queries.items c.in_ok-cover_at.ensures.ok in
+    subst (λ (k : Journaled). IsRegistered k c.args.query c.args.leaf c.args.slot c.args.interval c.args.range c.args.piece (record j { slots = c.set_floor-2.new.slots.items; queries = c.cover_at.new.queries.items })) c.self.view_is
+    (is_registered j c.args.query c.args.leaf c.args.slot c.args.interval at p l b t c.args.range c.args.piece c.set_floor-2.new.slots.items c.cover_at.new.queries.items free above (sym safe ∙ c.if-not-is_safe_at.false) slots_are queries_are)

@@ -20,8 +20,8 @@ invariant_of-self c =
     let free = subst (λ (ls : List ScanLeaf). IfSome (slice_get ls c.args.leaf) (λ l. is_uncovered l c.args.range ≡ true)) (sym same) free_there in
     record {
       counted = recounted after.leaves.items c.from_vec.result after.pieces.items c.from_vec-2.result c.from_vec.ensures c.from_vec-2.ensures
-          (counted_after c.add_piece_at-added.result leaves after.leaves.items pieces after.pieces.items c.args.leaf c.args.range c.args.rows before c.add_piece_at-added.ensures.ok c.add_piece_at-added.ensures.err);
+          (counted_after c.add_piece_at-added.result leaves after.leaves.items pieces after.pieces.items c.args.leaf c.args.range c.args.piece before c.add_piece_at-added.ensures.ok c.add_piece_at-added.ensures.err);
       apart = subst AreAllApart (sym c.from_vec.ensures)
-          (apart_after c.add_piece_at-added.result leaves after.leaves.items pieces after.pieces.items c.args.leaf c.args.range c.args.rows
+          (apart_after c.add_piece_at-added.result leaves after.leaves.items pieces after.pieces.items c.args.leaf c.args.range c.args.piece
           (subst AreAllApart (sym same) c.self.invariant.apart) free c.add_piece_at-added.ensures.ok c.add_piece_at-added.ensures.err);
     }

@@ -1,7 +1,7 @@
 use Rattle.std.proofs.Common.{List, refl, sym, subst}
 use Rattle.span_schema.specs.declared.table.Table.{Table}
 use Rattle.span_command.specs.declared.command.Command.TheVariants as command
-use Rattle.span_script.specs.Scripts.{IsDone, IsReplied, SetsClock, RefusesClock, Writes, RefusesWrite, Deletes, RefusesDelete}
+use Rattle.span_script.specs.Scripts.{IsDone, IsExplained, IsReplied, SetsClock, RefusesClock, Writes, RefusesWrite, Deletes, RefusesDelete}
 use Rattle.span_script.specs.Sessions.{Changes, state_of}
 use Rattle.span_script.proofs.Doing.{adds_weaker, changed, done_as, numbered}
 use Rattle.span_script.proofs.session.Session.answer.Goals as goal
@@ -106,6 +106,19 @@ returns-in-Query-clause-exact c =
     done_as schema a.command (command.Query i.bound i.text) state m state last a.answers.now add.new.answers add.result i.is
     (adds_weaker (IsReplied reply.result) (λ answer. IsDone schema (command.Query i.bound i.text) state m answer state last) a.answers.now add.new.answers add.result
     (λ answer replied. (reply.result, reply.ensures.queried, replied, refl))
+    add.ensures.added)
+
+pub returns-in-Explain-clause-exact : goal.returns-in-Explain-clause-exact
+returns-in-Explain-clause-exact c =
+    let a = c.args in
+    let schema = a.core.now.schema in
+    let m = a.core.now.machine in
+    let state = state_of a.self.now in
+    let add = c.explain in
+    let i = c.in-Explain in
+    done_as schema a.command (command.Explain i.text) state m state m a.answers.now add.new.answers add.result i.is
+    (adds_weaker (IsExplained schema i.text.now state.params) (λ answer. IsDone schema (command.Explain i.text) state m answer state m) a.answers.now add.new.answers add.result
+    (λ answer explained. (explained, refl, refl))
     add.ensures.added)
 
 pub returns-in-Some-clause-exact : goal.returns-in-Some-clause-exact

@@ -1,0 +1,57 @@
+//! The plan of a statement, as text.
+ghost use Rattle.std.specs.Prelude.{◌≡◌, IfErr, IfOk};
+ghost use Rattle.span_gather.specs.Explained.{explained};
+ghost use Rattle.span_machine.specs.Machine.{statement_plan};
+ghost use Rattle.span_planner.specs.Plannable.{IsPlannable};
+
+use span_gather::explain::explain;
+use span_planner::leaf::Plan;
+use span_planner::plan::plan;
+use span_query::query::Statement;
+use span_schema::schema::Schema;
+use span_value::refusal::Refusal;
+use span_value::text::Text;
+use std::alloc::{AllocError, Global};
+
+/// Drops a value, and gives another. A tree is dropped here since a proof of its drop where its type is known takes minutes.
+pub(crate) fn give_after<A: Drop, B>(dropped: A, given: B) -> B
+    ensures { result ≡ given }
+{
+    let _ = dropped;
+    given
+}
+
+/// The plan of a statement that can be planned. The error is out of memory.
+#[tactic(auto, using(span_planner::proofs::SizedNumbers::sized_numbered))]
+fn plan_statement(
+    alloc: Global,
+    schema: &Schema,
+    statement: &Statement,
+) -> Result<Plan, AllocError>
+    requires { IsPlannable schema.now statement.now }
+    ensures { IfOk result (λ plan. plan ≡ statement_plan schema.now statement.now) }
+{
+    plan(alloc, schema, statement.leaves.as_slice(), &statement.query)
+}
+
+/// The text that explains the plan of a statement that can be planned. `OutOfMemory` is the only refusal.
+pub(crate) fn explain_statement(
+    alloc: Global,
+    schema: &Schema,
+    statement: &Statement,
+) -> Result<Text, Refusal>
+    requires { IsPlannable schema.now statement.now }
+    ensures text { IfOk result (λ text. text ≡ explained schema.now (statement_plan schema.now statement.now)) }
+    ensures memory { IfErr result (λ why. why ≡ Refusal.OutOfMemory) }
+{
+    match plan_statement(alloc, schema, statement) {
+        Ok(plan) => {
+            let text = explain(alloc, schema, &plan);
+            match give_after(plan, text) {
+                Ok(text) => Ok(text),
+                Err(_) => Err(Refusal::OutOfMemory),
+            }
+        }
+        Err(_) => Err(Refusal::OutOfMemory),
+    }
+}

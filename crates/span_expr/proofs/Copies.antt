@@ -1,0 +1,39 @@
+-- Copies of expressions, with their columns at other places.
+use Rattle.std.proofs.Common.{◌≡◌, ◌∙◌, sym, ap, ℕ, ◌<◌, ◌+◌, List, [], ◌∷◌, ◌++◌, map, take, length, get_or, Option, Some, None}
+use Rattle.std.specs.Option.{option_map}
+use Rattle.std.proofs.lemmas.List.{take_more, map-append}
+use Rattle.span_expr.specs.declared.expr.Arm.{Arm}
+use Rattle.span_expr.specs.declared.expr.Expr.{Expr}
+use Rattle.span_expr.specs.declared.expr.Expr.TheVariants as e
+use Rattle.span_expr.specs.declared.expr.Expr.TheVariants.{rolls-Between, rolls-Match}
+use Rattle.span_expr.specs.declared.expr.Expr.TheOpen.{Expr-F}
+use Rattle.span_expr.specs.declared.expr.Expr.TheFolds.{fold-roll-Expr}
+use Rattle.span_expr.specs.Places.{move_at, moved, moved_arm}
+
+-- one more item of a copied list
+pub copied_more : {A B : Type 0} (f : A → B) (all : List A) (i : ℕ) (item : A) (copies new : List B) (copy : B) → i < length all → item ≡ get_or all i item → copies ≡ map f (take i all) → new ≡ copies ++ copy ∷ [] → copy ≡ f item → new ≡ map f (take (i + 1) all)
+copied_more {A} {B} f all i item copies new copy below is so_far pushed same =
+    pushed
+    ∙ ap (λ (xs : List B). xs ++ copy ∷ []) so_far
+    ∙ ap (λ (x : B). map f (take i all) ++ x ∷ []) (same ∙ ap f is)
+    ∙ sym (map-append f (take i all) (get_or all i item ∷ []))
+    ∙ ap (map f) (sym (take_more all i item below))
+
+pub copied_between : (f : ℕ → ℕ) (expr a low high x y z p q r : Expr) → expr ≡ e.Between a low high → x ≡ a → y ≡ low → z ≡ high → p ≡ moved f x → q ≡ moved f y → r ≡ moved f z → e.Between p q r ≡ moved f expr
+copied_between f expr a low high x y z p q r is at_a at_low at_high copied_a copied_low copied_high =
+    ap (λ (w : Expr). e.Between w q r) (copied_a ∙ ap (moved f) at_a)
+    ∙ ap (λ (w : Expr). e.Between (moved f a) w r) (copied_low ∙ ap (moved f) at_low)
+    ∙ ap (λ (w : Expr). e.Between (moved f a) (moved f low) w) (copied_high ∙ ap (moved f) at_high)
+    ∙ sym (ap (moved f) (is ∙ sym (rolls-Between a low high)) ∙ fold-roll-Expr Expr (move_at f) (Expr-F.Between a low high) ∙ rolls-Between (moved f a) (moved f low) (moved f high))
+
+moved-Match : (f : ℕ → ℕ) (a : Expr) (arms : List (Arm Expr)) (otherwise : Option Expr) → moved f (e.Match a arms otherwise) ≡ e.Match (moved f a) (map (moved_arm f) arms) (option_map (moved f) otherwise)
+moved-Match f a arms None = ap (moved f) (sym (rolls-Match a arms None)) ∙ fold-roll-Expr Expr (move_at f) (Expr-F.Match a arms None) ∙ rolls-Match (moved f a) (map (moved_arm f) arms) None
+moved-Match f a arms (Some other) =
+    ap (moved f) (sym (rolls-Match a arms (Some other))) ∙ fold-roll-Expr Expr (move_at f) (Expr-F.Match a arms (Some other)) ∙ rolls-Match (moved f a) (map (moved_arm f) arms) (Some (moved f other))
+
+pub copied_match : (f : ℕ → ℕ) (expr a x p : Expr) (arms read copies : List (Arm Expr)) (otherwise copy : Option Expr) → expr ≡ e.Match a arms otherwise → x ≡ a → read ≡ arms → p ≡ moved f x → copies ≡ map (moved_arm f) read → copy ≡ option_map (moved f) otherwise → e.Match p copies copy ≡ moved f expr
+copied_match f expr a x p arms read copies otherwise copy is at_a at_arms copied_a copied_arms copied_otherwise =
+    ap (λ (w : Expr). e.Match w copies copy) (copied_a ∙ ap (moved f) at_a)
+    ∙ ap (λ (w : List (Arm Expr)). e.Match (moved f a) w copy) (copied_arms ∙ ap (map (moved_arm f)) at_arms)
+    ∙ ap (λ (w : Option Expr). e.Match (moved f a) (map (moved_arm f) arms) w) copied_otherwise
+    ∙ sym (ap (moved f) is ∙ moved-Match f a arms otherwise)

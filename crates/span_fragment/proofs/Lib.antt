@@ -1,0 +1,7 @@
+mod DeclaredRows
+mod Directories
+mod Ending
+mod Entries
+pub mod KeyPlaces
+mod Running
+mod Values

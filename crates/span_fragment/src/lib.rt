@@ -1,0 +1,10 @@
+//! What one leaf of a plan gives on a part of its range: the rows of its tables there, joined and filtered where they are stored.
+#![tactic(auto)]
+
+mod declared;
+mod decode;
+mod directory;
+mod joined;
+pub mod piece;
+mod rooted;
+pub mod run;

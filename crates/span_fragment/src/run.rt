@@ -1,0 +1,87 @@
+//! A leaf run on the rows of a part of its range.
+ghost use Rattle.std.specs.Prelude.{◌≡◌, ◌⊎◌, [], ◌∷◌, MatchResult, map};
+ghost use Rattle.std.specs.List.{AllByRecursion};
+ghost use Rattle.span_schema.specs.Numbers.{IsTable};
+ghost use Rattle.span_shard.specs.Reading.{entry_row};
+ghost use Rattle.span_query.specs.Rows.{Rows};
+ghost use Rattle.span_algebra.specs.Answers.{Gives};
+ghost use Rattle.span_fragment.specs.Entries.{AreNoRows};
+ghost use Rattle.span_fragment.specs.Pieces.{IsPieceOf};
+
+use super::decode::{decode, read_table};
+use super::directory::rows_of_leaf;
+use super::joined::join_and_filter;
+use super::piece::Piece;
+use span_expr::cell::Failure;
+use span_planner::leaf::Leaf;
+use span_schema::schema::Schema;
+use span_shard::shard::Entry;
+use span_value::refusal::Refusal;
+use span_value::seq::Seq;
+use span_value::value::Row;
+use std::alloc::Global;
+
+/// The piece of a leaf that gives these rows, or the fault. The only refusal is out of memory.
+fn piece_of(found: Result<Seq<Row>, Failure>) -> Result<Piece, Refusal>
+    ensures { MatchResult result (λ piece. (o : Rows) → Gives found o → piece.rows ≡ o) (λ why. why ≡ Refusal.OutOfMemory) }
+{
+    match found {
+        Ok(rows) => Ok(Piece::new(Some(rows))),
+        Err(Failure::Fault) => Ok(Piece::new(None)),
+        Err(Failure::OutOfMemory) => Err(Refusal::OutOfMemory),
+    }
+}
+
+/// What a leaf of one table gives.
+fn run_on_table(
+    alloc: Global,
+    schema: &Schema,
+    leaf: &Leaf,
+    table: usize,
+    entries: &[Entry],
+) -> Result<Piece, Refusal>
+    requires { leaf.now.tables ≡ table ∷ [] }
+    ensures { MatchResult result
+        (IsPieceOf schema.now leaf.now (map entry_row entries.now))
+        (λ why. (why ≡ Refusal.OutOfMemory) ⊎ AreNoRows schema.now (map entry_row entries.now)) }
+{
+    schema.meets_rules();
+    let rows = read_table(alloc, schema, table, entries)?;
+    Ok(piece_of(join_and_filter(alloc, leaf, rows, &[]))?)
+}
+
+/// What a leaf gives whose tables are joined.
+fn run_on_tables(
+    alloc: Global,
+    schema: &Schema,
+    leaf: &Leaf,
+    entries: &[Entry],
+) -> Result<Piece, Refusal>
+    requires { AllByRecursion (IsTable schema.now) leaf.now.tables }
+    ensures { MatchResult result
+        (IsPieceOf schema.now leaf.now (map entry_row entries.now))
+        (λ why. (why ≡ Refusal.OutOfMemory) ⊎ AreNoRows schema.now (map entry_row entries.now)) }
+{
+    schema.meets_rules();
+    let rows = decode(alloc, schema, entries)?;
+    Ok(piece_of(rows_of_leaf(alloc, schema, leaf, rows.as_slice()))?)
+}
+
+/// What a leaf gives on the entries of a part of its range. An arithmetic error is a piece without rows, and no refusal.
+/// `OutOfMemory`, where the entries are rows of the schema's tables.
+pub fn run_leaf(
+    alloc: Global,
+    schema: &Schema,
+    leaf: &Leaf,
+    entries: &[Entry],
+) -> Result<Piece, Refusal>
+    requires { AllByRecursion (IsTable schema.now) leaf.now.tables }
+    ensures { MatchResult result
+        (IsPieceOf schema.now leaf.now (map entry_row entries.now))
+        (λ why. (why ≡ Refusal.OutOfMemory) ⊎ AreNoRows schema.now (map entry_row entries.now)) }
+{
+    match leaf.tables.as_slice() {
+        [table] => run_on_table(alloc, schema, leaf, *table, entries),
+        _ => run_on_tables(alloc, schema, leaf, entries),
+    }
+}

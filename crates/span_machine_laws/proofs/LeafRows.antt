@@ -1,0 +1,181 @@
+-- The rows of a leaf's tables: their values at the places of the key, and whether they are in a range that bounds of the first key column narrow.
+use Rattle.std.proofs.Common.{◌≡◌, ℕ, ◌<◌, ◌==◌, Bool, true, false, not, ◌&&◌, List, [], ◌∷◌, map, take, length, Option, Some, refl, ap, sym, subst, ◌∙◌, arith}
+use Rattle.std.specs.Prelude.{slice_get, if◌then◌else◌}
+use Rattle.std.specs.Cmp.{both_ways as same_tests}
+use Rattle.std.specs.List.{AllByRecursion, fold, list_all}
+use Rattle.std.specs.Option.{unwrap_or, option_or}
+use Rattle.std.specs.Ordering.{is_lt}
+use Rattle.std.specs.declared.cmp.Ordering.{Ordering}
+use Rattle.std.specs.declared.cmp.Ordering.TheVariants.{Less, Equal, Greater}
+use Rattle.std.proofs.lemmas.Bool.{and_parts, and_from, false_from_ne_true}
+use Rattle.std.proofs.lemmas.List.{take-map}
+use Rattle.std.proofs.lemmas.List.FromFn.{length-map-range_with_len, get_or-map-range_with_len}
+use Rattle.std.proofs.lemmas.Option.{slice_get-get_or}
+use Rattle.span_value.specs.declared.value.Value.{Value}
+use Rattle.span_value.specs.declared.value.Value.TheVariants.{Null}
+use Rattle.span_schema.specs.declared.table.Table.{Table}
+use Rattle.span_schema.specs.declared.layout.KeyPart.{KeyPart}
+use Rattle.span_schema.specs.Lineages.{MeetsRules}
+use Rattle.span_schema.specs.Numbers.{root_of, columns_of, key_columns, key_places, other_places, own_key_columns}
+use Rattle.span_keycode.specs.declared.range.KeyRange.{KeyRange}
+use Rattle.span_keycode.specs.Coding.{AreFit, Fits}
+use Rattle.span_keycode.specs.Keys.{IsKey, key_code}
+use Rattle.span_keycode.specs.Order.{byte_order}
+use Rattle.span_keycode.specs.Parts.{family, is_between, is_within, part_between}
+use Rattle.span_keycode.specs.Ranges.{compares, range_start, range_end}
+use Rattle.span_keycode.proofs.FamilyRanges.{range_of_comparison}
+use Rattle.span_keycode.proofs.LevelLaws.{fit_length}
+use Rattle.span_keycode.proofs.PartLaws.{part_within, within_part}
+use Rattle.span_mutate.specs.declared.row.TableRow.{TableRow}
+use Rattle.span_mutate.specs.Typed.{IsTyped}
+use Rattle.span_expr.specs.Operators.{column_of, or_null}
+use Rattle.span_planner.specs.Ranges.{Bound, is_of_type, bounded, range_by}
+use Rattle.span_planner.specs.Leaves.{width_of, root_places}
+use Rattle.span_planner.proofs.Bounding.{fits_type, is_in_bounds}
+use Rattle.span_planner.proofs.Cutting.{columns}
+use Rattle.span_machine.specs.Meaning.{value_for, value_at, declared_row, row_within}
+use Rattle.span_machine_laws.proofs.FamilyRows.{root_first, first_within}
+use Rattle.span_machine_laws.proofs.FirstColumns.{first_place, IsOfFamily}
+use Rattle.span_machine_laws.proofs.KeyPlaces.{ArePlacesApart, has_key_columns, keyed}
+
+-- ---- values at the places of the key
+
+-- each has a value of its own
+abbrev value_among : List ℕ → List Value → (ℕ → Option Value) → ℕ → Value
+value_among ps vs other place = unwrap_or (option_or (value_for ps vs place) (other place)) Null
+
+passed_over : (p : ℕ) (v : Value) (ps : List ℕ) (vs : List Value) (other : ℕ → Option Value) (qs : List ℕ) → AllByRecursion (λ (q : ℕ). (p == q) ≡ false) qs
+    → map (value_among (p ∷ ps) (v ∷ vs) other) qs ≡ map (value_among ps vs other) qs
+passed_over p v ps vs other [] apart = refl
+passed_over p v ps vs other (q ∷ qs) apart =
+    ap (λ (b : Bool). unwrap_or (option_or (if b then Some v else value_for ps vs q) (other q)) Null ∷ map (value_among (p ∷ ps) (v ∷ vs) other) qs) apart.0
+    ∙ ap (λ (l : List Value). value_among ps vs other q ∷ l) (passed_over p v ps vs other qs apart.1)
+
+values_at_own : (ps : List ℕ) (vs : List Value) (other : ℕ → Option Value) → length ps ≡ length vs → ArePlacesApart ps → map (value_among ps vs other) ps ≡ vs
+values_at_own [] [] other long apart = refl
+values_at_own [] (v ∷ vs) other long apart = absurd (omega arith)
+values_at_own (p ∷ ps) [] other long apart = absurd (omega arith)
+values_at_own (p ∷ ps) (v ∷ vs) other long apart =
+    let itself : (p == p) ≡ true = grind arith in
+    ap (λ (b : Bool). unwrap_or (option_or (if b then Some v else value_for ps vs p) (other p)) Null ∷ map (value_among (p ∷ ps) (v ∷ vs) other) ps) itself
+    ∙ ap (λ (l : List Value). v ∷ l) (passed_over p v ps vs other ps apart.0 ∙ values_at_own ps vs other (omega arith) apart.1)
+
+-- ---- rows as they are declared
+
+module _ (schema : List Table) where
+  pub row_width : (r : TableRow) → length (declared_row schema r) ≡ width_of schema r.table
+  row_width r = length-map-range_with_len (value_at schema r) 0 (length (columns_of schema r.table))
+
+  column_at : (r : TableRow) (place : ℕ) → place < width_of schema r.table → column_of (declared_row schema r) place ≡ value_at schema r place
+  column_at r place within =
+      let long : place < length (declared_row schema r) = omega (arith, row_width r) in
+      let found : slice_get (declared_row schema r) place ≡ Some (value_at schema r place) =
+      slice_get-get_or (declared_row schema r) place Null long
+      ∙ ap (λ (v : Value). Some v) (get_or-map-range_with_len (value_at schema r) 0 (length (columns_of schema r.table)) place place Null within (omega arith)) in
+      ap or_null found
+
+  columns_at : (r : TableRow) (places : List ℕ) → AllByRecursion (λ (p : ℕ). p < width_of schema r.table) places → columns places (declared_row schema r) ≡ map (value_at schema r) places
+  columns_at r [] within = refl
+  columns_at r (p ∷ ps) within =
+      ap (λ (v : Value). v ∷ columns ps (declared_row schema r)) (column_at r p within.0) ∙ ap (λ (l : List Value). value_at schema r p ∷ l) (columns_at r ps within.1)
+
+module _ (schema : List Table) (rules : MeetsRules schema) where
+  -- the columns at the places of the key have the values of the key
+  pub key_of_columns : (r : TableRow) → IsTyped schema r → columns (key_places schema r.table) (declared_row schema r) ≡ r.key
+  key_of_columns r typed =
+      let has = has_key_columns schema rules r.table (omega (arith, typed.0.0.0.0, typed.0.0.0.1)) in
+      let long : length (key_places schema r.table) ≡ length r.key = has.placed ∙ fit_length (key_columns schema r.table) r.key typed.0.0.1 in
+      columns_at schema r (key_places schema r.table) (keyed schema r.table)
+      ∙ values_at_own (key_places schema r.table) r.key (value_for (other_places schema r.table) r.cells) long has.apart
+
+  -- those at the places of the root key have the values of the root row's key
+  pub root_of_columns : (r : TableRow) → IsTyped schema r → columns (root_places schema r.table) (declared_row schema r) ≡ take (length (key_columns schema (root_of schema r.table))) r.key
+  root_of_columns r typed =
+      let count : ℕ = length (key_columns schema (root_of schema r.table)) in
+      sym (take-map (column_of (declared_row schema r)) count (key_places schema r.table)) ∙ ap (take count) (key_of_columns r typed)
+
+  -- ---- ranges that are narrowed by bounds of the first key column
+
+  module _ (root : ℕ) (part : KeyPart) (cs : List KeyPart) (own : own_key_columns schema root ≡ part ∷ cs) where
+    less_is : (o : Ordering) → o ≡ Less → is_lt o ≡ true
+    less_is o is = ap is_lt is
+
+    is_less : (o : Ordering) → is_lt o ≡ true → o ≡ Less
+    is_less Less is = refl
+    is_less Equal is = absurd (let e : false ≡ true = is in cc)
+    is_less Greater is = absurd (let e : false ≡ true = is in cc)
+
+    -- the key is within a bound's range just where its first value passes
+    within_bound : (t : ℕ) (v : Value) (vs : List Value) → IsKey schema t (v ∷ vs) → root_of schema t ≡ root → (b : Bound) → is_of_type part.kind b.1 ≡ true
+        → is_between (Some (range_start root part b.0 b.1)) (Some (range_end root part b.0 b.1)) (key_code schema t (v ∷ vs)) ≡ compares b.0 v b.1
+    unfolding is_between
+    within_bound t v vs key root_is b typed =
+        let code : List ℕ = key_code schema t (v ∷ vs) in
+        let low : List ℕ = range_start root part b.0 b.1 in
+        let high : List ℕ = range_end root part b.0 b.1 in
+        let law = range_of_comparison schema rules t v vs key root part cs root_is own b.1 (fits_type part.kind b.1 typed) b.0 in
+        same_tests (not (is_lt (byte_order code low)) && is_lt (byte_order code high)) (compares b.0 v b.1)
+        (λ inside. let both = and_parts (not (is_lt (byte_order code low))) (is_lt (byte_order code high)) inside in
+        law.0 ((λ less. let bad : false ≡ true = sym (ap not (less_is (byte_order code low) less)) ∙ both.0 in cc), is_less (byte_order code high) both.1))
+        (λ passes. let inside = law.1 passes in
+        and_from (not (is_lt (byte_order code low))) (is_lt (byte_order code high))
+        (ap not (false_from_ne_true (is_lt (byte_order code low)) (λ less. inside.0 (is_less (byte_order code low) less)))) (less_is (byte_order code high) inside.1))
+
+    part_as_both : (lo hi : Option (List ℕ)) (r : KeyRange) (k : List ℕ) → is_within (part_between lo hi r) k ≡ (is_between lo hi k && is_within r k)
+    part_as_both lo hi r k =
+        same_tests (is_within (part_between lo hi r) k) (is_between lo hi k && is_within r k)
+        (λ inside. let both = part_within lo hi r k inside in and_from (is_between lo hi k) (is_within r k) both.0 both.1)
+        (λ both. let parts = and_parts (is_between lo hi k) (is_within r k) both in within_part lo hi r k parts.0 parts.1)
+
+    within_bounds : (t : ℕ) (v : Value) (vs : List Value) → IsKey schema t (v ∷ vs) → root_of schema t ≡ root → (bs : List Bound) → list_all (λ (b : Bound). is_of_type part.kind b.1) bs ≡ true → (r : KeyRange)
+        → is_within (fold (bounded root part) r bs) (key_code schema t (v ∷ vs)) ≡ (is_within r (key_code schema t (v ∷ vs)) && is_in_bounds bs v)
+    within_bounds t v vs key root_is [] typed r = sym (and_true (is_within r (key_code schema t (v ∷ vs))))
+      where
+        and_true : (b : Bool) → (b && true) ≡ b
+        and_true true = refl
+        and_true false = refl
+    within_bounds t v vs key root_is (b ∷ bs) typed r =
+        let both = and_parts (is_of_type part.kind b.1) (list_all (λ (b : Bound). is_of_type part.kind b.1) bs) typed in
+        let code : List ℕ = key_code schema t (v ∷ vs) in
+        within_bounds t v vs key root_is bs both.1 (bounded root part r b)
+        ∙ ap (λ (x : Bool). x && is_in_bounds bs v) (part_as_both (Some (range_start root part b.0 b.1)) (Some (range_end root part b.0 b.1)) r code)
+        ∙ ap (λ (x : Bool). (x && is_within r code) && is_in_bounds bs v) (within_bound t v vs key root_is b both.0)
+        ∙ turned (compares b.0 v b.1) (is_within r code) (is_in_bounds bs v)
+      where
+        turned : (a b c : Bool) → ((a && b) && c) ≡ (b && (a && c))
+        turned true true c = refl
+        turned true false c = refl
+        turned false true c = refl
+        turned false false c = refl
+
+    -- THE LAW OF CODED RANGES: a row is in a range that bounds narrow just where its first key column passes them
+    pub row_in_bounds : (bs : List Bound) → list_all (λ (b : Bound). is_of_type part.kind b.1) bs ≡ true → (r : TableRow) → IsTyped schema r → (of : IsOfFamily schema root part r.table)
+        → row_within schema (range_by root part bs) r ≡ is_in_bounds bs (column_of (declared_row schema r) (first_place schema r.table))
+    row_in_bounds bs typed_bounds r typed of = by_key r.key refl (subst (λ (ps : List ℕ). columns ps (declared_row schema r) ≡ r.key) of.places_are (key_of_columns r typed))
+      where
+        by_key : (vs : List Value) → r.key ≡ vs → columns (first_place schema r.table ∷ of.places) (declared_row schema r) ≡ r.key → row_within schema (range_by root part bs) r ≡ is_in_bounds bs (column_of (declared_row schema r) (first_place schema r.table))
+        by_key [] is values = absurd (let bad : column_of (declared_row schema r) (first_place schema r.table) ∷ columns of.places (declared_row schema r) ≡ [] = values ∙ is in cc)
+        by_key (v ∷ vs) is values =
+            let all : column_of (declared_row schema r) (first_place schema r.table) ∷ columns of.places (declared_row schema r) ≡ v ∷ vs = values ∙ is in
+            let first : column_of (declared_row schema r) (first_place schema r.table) ≡ v = cc in
+            let key : IsKey schema r.table (v ∷ vs) = subst (IsKey schema r.table) is typed.0.0 in
+            let code : List ℕ = key_code schema r.table (v ∷ vs) in
+            let front = root_first schema r.table (v ∷ vs) in
+            let within : is_within (family root) code ≡ true =
+            subst (λ (k : List ℕ). is_within (family root) k ≡ true) (sym (front.1 ∙ ap (λ (n : ℕ). n ∷ front.0) of.root_is)) (first_within root front.0) in
+            ap (λ (us : List Value). is_within (range_by root part bs) (key_code schema r.table us)) is
+            ∙ within_bounds r.table v vs key of.root_is bs typed_bounds (family root)
+            ∙ ap (λ (x : Bool). x && is_in_bounds bs v) within
+            ∙ ap (is_in_bounds bs) (sym first)
+
+  -- the first key column fits its kind
+  pub first_fits : (root : ℕ) (part : KeyPart) (r : TableRow) → IsTyped schema r → (of : IsOfFamily schema root part r.table) → Fits part.kind (column_of (declared_row schema r) (first_place schema r.table))
+  first_fits root part r typed of = by_key r.key refl (subst (λ (ps : List ℕ). columns ps (declared_row schema r) ≡ r.key) of.places_are (key_of_columns r typed))
+    where
+      by_key : (vs : List Value) → r.key ≡ vs → columns (first_place schema r.table ∷ of.places) (declared_row schema r) ≡ r.key → Fits part.kind (column_of (declared_row schema r) (first_place schema r.table))
+      by_key [] is values = absurd (let bad : column_of (declared_row schema r) (first_place schema r.table) ∷ columns of.places (declared_row schema r) ≡ [] = values ∙ is in cc)
+      by_key (v ∷ vs) is values =
+          let all : column_of (declared_row schema r) (first_place schema r.table) ∷ columns of.places (declared_row schema r) ≡ v ∷ vs = values ∙ is in
+          let first : v ≡ column_of (declared_row schema r) (first_place schema r.table) = cc in
+          let fit : AreFit (part ∷ of.parts) (v ∷ vs) = subst (λ (ps : List KeyPart). AreFit ps (v ∷ vs)) of.columns_are (subst (AreFit (key_columns schema r.table)) is typed.0.0.1) in
+          subst (Fits part.kind) first fit.0

@@ -1,0 +1,112 @@
+-- What a plan gives on a database is what its query means there.
+use Rattle.std.proofs.Common.{◌≡◌, ℕ, zero, suc, ◌+◌, List, [], ◌∷◌, map, drop, Option, Some, None, add-one, refl, ap, sym, ◌∙◌, arith}
+use Rattle.std.specs.Prelude.{slice_get}
+use Rattle.std.specs.List.{AllByRecursion}
+use Rattle.std.specs.Option.{unwrap_or, option_map}
+use Rattle.std.proofs.lemmas.Option.{slice_get-map}
+use Rattle.span_schema.specs.declared.table.Table.{Table}
+use Rattle.span_schema.specs.Lineages.{MeetsRules}
+use Rattle.span_mutate.specs.declared.row.TableRow.{TableRow}
+use Rattle.span_mutate.specs.Database.{rows_of}
+use Rattle.span_mutate.specs.Directories.{IsDatabase}
+use Rattle.span_mutate.specs.Typed.{AreTyped}
+use Rattle.span_query.specs.declared.query.Statement.{Statement}
+use Rattle.span_query.specs.Rows.{Row, Rows}
+use Rattle.span_query.specs.Meaning.{table_rows, meaning_over, given}
+use Rattle.span_planner.specs.declared.leaf.Leaf.{Leaf}
+use Rattle.span_planner.specs.declared.leaf.Plan.{Plan}
+use Rattle.span_planner.specs.Leaves.{table_of}
+use Rattle.span_planner.specs.Plannable.{IsPlannable}
+use Rattle.span_planner.specs.Results.{leaf_rows}
+use Rattle.span_planner.proofs.Blocks.{AgreesAt}
+use Rattle.span_planner.proofs.Known.{leaves_known}
+use Rattle.span_planner.proofs.Planned.{IsPlanned}
+use Rattle.span_planner.proofs.Queries.{query_above}
+use Rattle.span_machine.specs.Machine.{statement_plan}
+use Rattle.span_machine.specs.Meaning.{declared_row, whole_table, means, rows_within, tables_within, leaf_within, plan_means}
+use Rattle.span_machine_laws.proofs.KeyPlaces.{keyed}
+use Rattle.span_machine_laws.proofs.LeafWhole.{table_width, leaf_whole}
+use Rattle.span_machine_laws.proofs.TableOrder.{IsOfTable, of_table}
+pub use Rattle.span_machine_laws.proofs.LeafTiled.{leaf_tiled}
+
+-- the leaves of a statement that can be planned are known
+pub plan_leaves : (schema : List Table) → MeetsRules schema → (q : Statement) → IsPlannable schema q → AllByRecursion (IsPlanned schema) (statement_plan schema q).leaves
+plan_leaves schema rules q can = leaves_known schema q.leaves (keyed schema) q.query can.sized
+
+-- ---- results by their numbers
+
+given_at : (results : List Rows) (n : ℕ) (o : Rows) (os : List Rows) → drop n results ≡ o ∷ os → given results (suc n) ≡ o
+given_at [] zero o os is = absurd (let e : [] ≡ o ∷ os = is in cc)
+given_at [] (suc n) o os is = absurd (let e : [] ≡ o ∷ os = is in cc)
+given_at (r ∷ results) zero o os is = let e : r ∷ results ≡ o ∷ os = is in cc
+given_at (r ∷ results) (suc n) o os is = given_at results n o os is
+
+rest_dropped : (results : List Rows) (n : ℕ) (o : Rows) (os : List Rows) → drop n results ≡ o ∷ os → drop (suc n) results ≡ os
+rest_dropped [] zero o os is = absurd (let e : [] ≡ o ∷ os = is in cc)
+rest_dropped [] (suc n) o os is = absurd (let e : [] ≡ o ∷ os = is in cc)
+rest_dropped (r ∷ results) zero o os is = let e : r ∷ results ≡ o ∷ os = is in cc
+rest_dropped (r ∷ results) (suc n) o os is = rest_dropped results n o os is
+
+-- ---- the law
+
+module _ (schema : List Table) (rules : MeetsRules schema) (db : List TableRow) (typed : AreTyped schema db) where
+  abbrev whole : ℕ → List Row
+  whole t = whole_table schema db t
+
+  abbrev on_range : Leaf → Rows
+  on_range l = leaf_within schema db l l.range
+
+  leaves_agree : (before : ℕ) (ls : List Leaf) (results : List Rows) → drop before results ≡ map on_range ls → AllByRecursion (IsPlanned schema) ls → AgreesAt whole before ls (given results)
+  leaves_agree before [] results is known = tt {0}
+  leaves_agree before (l ∷ ls) results is known = (
+    ap (given results) (add-one before) ∙ given_at results before (on_range l) (map on_range ls) is ∙ leaf_whole schema rules db typed l known.0,
+    leaves_agree (before + 1) ls results (ap (λ (n : ℕ). drop n results) (add-one before) ∙ rest_dropped results before (on_range l) (map on_range ls) is) known.1,
+  )
+
+  -- no row is of table 0
+  none_of_zero : whole 0 ≡ []
+  none_of_zero = ap (map (declared_row schema)) (nothing (rows_of 0 db) (of_table schema 0 db typed))
+    where
+      nothing : (rows : List TableRow) → AllByRecursion (IsOfTable schema 0) rows → rows ≡ []
+      nothing [] are = refl
+      nothing (r ∷ rows) are = absurd (omega (arith, are.0.1, are.0.0.0.0.0.0))
+
+  table_given : (tables : List ℕ) (n : ℕ) → ◌≡◌ {A = Rows} (Some (table_rows (map whole tables) n)) (Some (whole (table_of tables n)))
+  table_given tables zero = ap (λ (rows : List Row). Some rows) (sym none_of_zero)
+  table_given tables (suc n) = ap (λ (o : Option (List Row)). Some (unwrap_or o [])) (slice_get-map whole tables n) ∙ of_found (slice_get tables n)
+    where
+      of_found : (o : Option ℕ) → ◌≡◌ {A = Rows} (Some (unwrap_or (option_map whole o) [])) (Some (whole (unwrap_or o 0)))
+      of_found None = ap (λ (rows : List Row). Some rows) (sym none_of_zero)
+      of_found (Some t) = refl
+
+  meaning_of_plan : (q : Statement) → IsPlannable schema q → plan_means schema (statement_plan schema q) db ≡ means schema q.query q.leaves db
+  meaning_of_plan q can =
+      let plan : Plan = statement_plan schema q in
+      let results : List Rows = map on_range plan.leaves in
+      query_above schema q.leaves whole (λ (n : ℕ). Some (table_rows (map whole q.leaves) n)) (given results) (table_given q.leaves) (table_width schema db typed) q.query can.sized 0
+      (leaves_agree 0 plan.leaves results refl (plan_leaves schema rules q can))
+
+-- THE LAW OF A PLAN: what the plan of a statement gives on a database is what its query means there
+pub planned_meaning : (schema : List Table) → MeetsRules schema → (q : Statement) → IsPlannable schema q → (db : List TableRow) → IsDatabase schema db → AreTyped schema db → plan_means schema (statement_plan schema q) db ≡ means schema q.query q.leaves db
+planned_meaning schema rules q can db is_db typed = meaning_of_plan schema rules db typed q can
+
+-- ---- plans on two databases
+
+-- the databases have the same rows of the leaf's tables in its range
+abbrev pub IsAlikeIn : List Table → List TableRow → List TableRow → Leaf → Type 0
+IsAlikeIn schema a b leaf = AllByRecursion (λ (t : ℕ). rows_within schema a t leaf.range ≡ rows_within schema b t leaf.range) leaf.tables
+
+-- what a plan gives depends on the rows of its leaves' tables in their ranges
+pub plan_alike : (schema : List Table) (plan : Plan) (a b : List TableRow) → AllByRecursion (IsAlikeIn schema a b) plan.leaves → plan_means schema plan a ≡ plan_means schema plan b
+plan_alike schema plan a b alike = ap (λ (results : List Rows). meaning_over (given results) plan.top) (leaves_alike plan.leaves alike)
+  where
+    tables_alike : (leaf : Leaf) (ts : List ℕ) → AllByRecursion (λ (t : ℕ). rows_within schema a t leaf.range ≡ rows_within schema b t leaf.range) ts → tables_within schema a ts leaf.range ≡ tables_within schema b ts leaf.range
+    tables_alike leaf [] same = refl
+    tables_alike leaf (t ∷ ts) same =
+        ap (λ (rows : List Row). rows ∷ tables_within schema a ts leaf.range) same.0 ∙ ap (λ (l : List (List Row)). rows_within schema b t leaf.range ∷ l) (tables_alike leaf ts same.1)
+
+    leaves_alike : (ls : List Leaf) → AllByRecursion (IsAlikeIn schema a b) ls → map (λ (l : Leaf). leaf_within schema a l l.range) ls ≡ map (λ (l : Leaf). leaf_within schema b l l.range) ls
+    leaves_alike [] alike = refl
+    leaves_alike (l ∷ ls) alike =
+        ap (λ (tables : List (List Row)). leaf_rows l tables ∷ map (λ (l : Leaf). leaf_within schema a l l.range) ls) (tables_alike l l.tables alike.0)
+        ∙ ap (λ (results : List Rows). leaf_within schema b l l.range ∷ results) (leaves_alike ls alike.1)

@@ -1,8 +1,0 @@
-use Rattle.std.proofs.Common.{take, map}
-use Rattle.span_shard.specs.Reading.{entry_row}
-use Rattle.span_parts.proofs.Entries.{AreReadOf}
-use Rattle.span_parts.proofs.reading.rows_of.Given as goal
-
--- the rows of the entries so far
-abbrev pub invariant-loop-entry : goal.invariant-loop-entry
-invariant-loop-entry l = AreReadOf l.schema l.table (map entry_row (take l.entry-index l.entries)) l.rows.items

@@ -1,0 +1,40 @@
+//! Reading a part of a leaf's range from a shard.
+ghost use Rattle.std.specs.Prelude.{IfSome, MatchResult};
+ghost use Rattle.std.specs.List.{AllByRecursion};
+ghost use Rattle.span_schema.specs.Numbers.{IsTable};
+ghost use Rattle.span_machine.specs.Pieces.{machine_of};
+ghost use Rattle.span_journal.specs.Judged.{leaf_of};
+ghost use Rattle.span_parts.specs.Whole.{IsRead, IsUnread};
+
+use span_fragment::piece::Piece;
+use span_fragment::run::run_leaf;
+use span_journal::journal::{Gap, Journal};
+use span_schema::schema::Schema;
+use span_shard::shard::Shard;
+use span_value::refusal::Refusal;
+use std::alloc::Global;
+
+/// What a leaf of an open query gives on a part of its range, from the shard that has it. `UnknownQuery` where there is
+/// no such leaf. `OutOfMemory`, where the shard has rows of the schema's tables.
+pub(crate) fn read_gap(
+    alloc: Global,
+    schema: &Schema,
+    journal: &Journal,
+    shard: &Shard,
+    query: u64,
+    leaf: usize,
+    gap: &Gap,
+) -> Result<Piece, Refusal>
+    requires { IfSome (leaf_of (machine_of journal.now) query leaf) (λ l. AllByRecursion (IsTable schema.now) l.tables) }
+    ensures { IfSome (leaf_of (machine_of journal.now) query leaf)
+        (λ l.
+        MatchResult result
+        (λ piece. IsRead schema.now shard.now gap.now.range gap.now.s piece l)
+        (IsUnread schema.now shard.now gap.now.range gap.now.s)) }
+{
+    let Some(leaf) = journal.leaf(query, leaf) else {
+        return Err(Refusal::UnknownQuery);
+    };
+    let entries = shard.snapshot(alloc, &gap.range, gap.s)?;
+    run_leaf(alloc, schema, leaf, entries.as_slice())
+}

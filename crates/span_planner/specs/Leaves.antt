@@ -1,0 +1,189 @@
+-- The leaves of a query, and the query above them.
+use Rattle.std.specs.Prelude.{ℕ, zero, suc, ◌+◌, ◌-◌, ◌==◌, Bool, true, false, ◌&&◌, List, [], ◌∷◌, ◌++◌, length, take, drop, map, Option, Some, None, flat_map, slice_get, if◌then◌else◌}
+use Rattle.std.specs.Option.{unwrap_or}
+use Rattle.span_schema.specs.declared.table.Table.{Table}
+use Rattle.span_schema.specs.Numbers.{root_of, columns_of, key_columns, key_places}
+use Rattle.span_expr.specs.declared.expr.Expr.{Expr}
+use Rattle.span_expr.specs.Conjuncts.{all_true}
+use Rattle.span_expr.specs.Places.{moved}
+use Rattle.span_query.specs.declared.query.BoundQuery.{BoundQuery}
+use Rattle.span_query.specs.declared.query.BoundQuery.TheOpen.{BoundQuery-F}
+use Rattle.span_query.specs.declared.query.BoundQuery.TheFolds.{fold-BoundQuery}
+use Rattle.span_query.specs.declared.query.BoundQuery.TheViews.{roll-BoundQuery}
+use Rattle.span_query.specs.declared.query.Block.{Block}
+use Rattle.span_query.specs.declared.query.Item.{Item}
+use Rattle.span_query.specs.declared.query.Item.TheVariants as item
+use Rattle.span_query.specs.declared.query.Join.{Join}
+use Rattle.span_planner.specs.declared.leaf.LeafJoin.{LeafJoin}
+use Rattle.span_planner.specs.declared.leaf.Leaf.{Leaf}
+use Rattle.span_planner.specs.declared.leaf.Plan.{Plan}
+use Rattle.span_planner.specs.Conditions.{equates_all, pushable, conjuncts_on}
+use Rattle.span_planner.specs.Ranges.{leaf_range}
+
+-- ---- tables
+
+-- the table of an item, by its number in the schema; items have the numbers of the statement's tables, the first of which is 1
+abbrev pub table_of : List ℕ → ℕ → ℕ
+table_of tables zero = 0
+table_of tables (suc n) = unwrap_or (slice_get tables n) 0
+
+abbrev pub width_of : List Table → ℕ → ℕ
+width_of schema table = length (columns_of schema table)
+
+-- the places of the root table's key columns among the columns of a table of the family
+abbrev pub root_places : List Table → ℕ → List ℕ
+root_places schema table = take (length (key_columns schema (root_of schema table))) (key_places schema table)
+
+-- ---- the first leaf of a FROM that begins with a table
+
+-- A table joins the leaf where it is of the same family as the leaf's first table, and its ON equates each column of the root table's key with the
+-- same column of that table. Its own columns begin at a place.
+abbrev pub is_joined_table : List Table → ℕ → ℕ → Expr → ℕ → Bool
+is_joined_table schema first at on table = (root_of schema first == root_of schema table) && equates_all on (root_places schema first) at (root_places schema table)
+
+abbrev pub is_joined : {Q : Type 0} → List Table → List ℕ → ℕ → ℕ → Expr → Item Q → Bool
+is_joined schema tables first at on (item.Table n) = is_joined_table schema first at on (table_of tables n)
+is_joined schema tables first at on (item.Derived q) = false
+
+-- how many of the items after the first table belong to its leaf
+abbrev pub leaf_len : {Q : Type 0} → List Table → List ℕ → ℕ → ℕ → List (Join Q) → ℕ
+leaf_len schema tables first at [] = 0
+leaf_len schema tables first at (j ∷ joins) =
+    if is_joined schema tables first at j.on j.item then suc (leaf_len schema tables first (at + j.width) joins) else 0
+
+abbrev pub leaf_join : {Q : Type 0} → Join Q → LeafJoin
+leaf_join j = record { is_left = j.is_left; width = j.width; on = j.on }
+
+abbrev pub item_table : {Q : Type 0} → List ℕ → Item Q → ℕ
+item_table tables (item.Table n) = table_of tables n
+item_table tables (item.Derived q) = 0
+
+abbrev pub join_table : {Q : Type 0} → List ℕ → Join Q → ℕ
+join_table tables j = item_table tables j.item
+
+-- the number of columns of items
+abbrev pub widths : {Q : Type 0} → List (Join Q) → ℕ
+widths [] = 0
+widths (j ∷ joins) = j.width + widths joins
+
+-- Where so many items are the whole FROM, the leaf evaluates the whole WHERE.
+abbrev pub first_filter : {Q : Type 0} → Block Q → ℕ → ℕ → List Expr → Option Expr
+first_filter b len width es = if len == length b.joins then b.filter else all_true (conjuncts_on 0 width es)
+
+-- the first table and so many items after it
+abbrev pub first_leaf : {Q : Type 0} → List Table → List ℕ → Block Q → ℕ → ℕ → Leaf
+first_leaf schema tables b table len = record {
+  tables = table ∷ map (join_table tables) (take len b.joins);
+  joins = map leaf_join (take len b.joins);
+  filter = first_filter b len (width_of schema table + widths (take len b.joins)) (pushable b);
+  range = leaf_range schema table 0 (pushable b);
+}
+
+-- ---- the other leaves
+
+-- A table alone, whose columns begin at a place: its rows are left out by the conjuncts on its columns, which are evaluated at its own row.
+abbrev pub table_leaf : List Table → ℕ → ℕ → ℕ → List Expr → Leaf
+table_leaf schema table at width es = record {
+  tables = table ∷ [];
+  joins = [];
+  filter = all_true (map (moved (λ place. place - at)) (conjuncts_on at (at + width) es));
+  range = leaf_range schema table at es;
+}
+
+-- a query with its derived tables planned: the number of its columns, its leaves, and the query above them, where so many leaves come before them
+pub record Planned : Type 0 where
+  pub width : ℕ
+  pub leaves : List Leaf
+  pub top : ℕ → BoundQuery
+
+-- no conjunct leaves out rows of the right side of a LEFT JOIN
+abbrev pub unless_left : Bool → List Expr → List Expr
+unless_left true es = []
+unless_left false es = es
+
+abbrev pub join_leaves : List Table → List ℕ → ℕ → List Expr → Bool → ℕ → Item Planned → List Leaf
+join_leaves schema tables at es is_left width (item.Table n) = table_leaf schema (table_of tables n) at width (unless_left is_left es) ∷ []
+join_leaves schema tables at es is_left width (item.Derived p) = p.leaves
+
+-- the leaves of items after a first leaf or a derived table, where their columns begin at a place
+abbrev pub rest_leaves : List Table → List ℕ → List Expr → ℕ → List (Join Planned) → List Leaf
+rest_leaves schema tables es at [] = []
+rest_leaves schema tables es at (j ∷ joins) = join_leaves schema tables at es j.is_left j.width j.item ++ rest_leaves schema tables es (at + j.width) joins
+
+abbrev pub leaves_from : List Table → List ℕ → Block Planned → Item Planned → List Leaf
+leaves_from schema tables b (item.Table n) =
+    let table = table_of tables n in
+    let len = leaf_len schema tables table (width_of schema table) b.joins in
+    first_leaf schema tables b table len ∷ rest_leaves schema tables (pushable b) (width_of schema table + widths (take len b.joins)) (drop len b.joins)
+leaves_from schema tables b (item.Derived p) = p.leaves ++ rest_leaves schema tables (pushable b) p.width b.joins
+
+abbrev pub block_leaves : List Table → List ℕ → Block Planned → List Leaf
+block_leaves schema tables b = leaves_from schema tables b b.from
+
+-- ---- the query above the leaves
+
+-- an item, where so many leaves come before its own
+abbrev pub top_item : ℕ → Item Planned → Item BoundQuery
+top_item before (item.Table n) = item.Table (before + 1)
+top_item before (item.Derived p) = item.Derived (p.top before)
+
+abbrev pub count_leaves : Item Planned → ℕ
+count_leaves (item.Table n) = 1
+count_leaves (item.Derived p) = length p.leaves
+
+abbrev pub top_join : ℕ → Join Planned → Join BoundQuery
+top_join before j = record { is_left = j.is_left; item = top_item before j.item; width = j.width; on = j.on }
+
+abbrev pub top_joins : ℕ → List (Join Planned) → List (Join BoundQuery)
+top_joins before [] = []
+top_joins before (j ∷ joins) = top_join before j ∷ top_joins (before + count_leaves j.item) joins
+
+-- the block with these items and this WHERE
+abbrev pub with_from : {Q : Type 0} → Block Q → Item BoundQuery → List (Join BoundQuery) → Option Expr → Block BoundQuery
+with_from b from joins filter = record { from = from; joins = joins; filter = filter; grouping = b.grouping; outputs = b.outputs; is_distinct = b.is_distinct }
+
+-- none where so many items are the whole FROM, since their leaf evaluates it
+abbrev pub filter_above : {Q : Type 0} → Block Q → ℕ → Option Expr
+filter_above b len = if len == length b.joins then None else b.filter
+
+abbrev pub top_from : List Table → List ℕ → ℕ → Block Planned → Item Planned → Block BoundQuery
+top_from schema tables before b (item.Table n) =
+    let table = table_of tables n in
+    let len = leaf_len schema tables table (width_of schema table) b.joins in
+    with_from b (item.Table (before + 1)) (top_joins (before + 1) (drop len b.joins)) (filter_above b len)
+top_from schema tables before b (item.Derived p) = with_from b (item.Derived (p.top before)) (top_joins (before + length p.leaves) b.joins) b.filter
+
+abbrev pub top_block : List Table → List ℕ → ℕ → Block Planned → Block BoundQuery
+top_block schema tables before b = top_from schema tables before b b.from
+
+abbrev pub top_blocks : List Table → List ℕ → ℕ → List (Block Planned) → List (Block BoundQuery)
+top_blocks schema tables before [] = []
+top_blocks schema tables before (b ∷ blocks) = top_block schema tables before b ∷ top_blocks schema tables (before + length (block_leaves schema tables b)) blocks
+
+abbrev pub top_query : List Table → List ℕ → BoundQuery-F Planned → ℕ → BoundQuery
+top_query schema tables q before = roll-BoundQuery (record {
+  first = top_block schema tables before q.first;
+  others = top_blocks schema tables (before + length (block_leaves schema tables q.first)) q.others;
+  order = q.order;
+  limit = q.limit;
+})
+
+-- ---- queries
+
+abbrev pub planned_query : List Table → List ℕ → BoundQuery-F Planned → Planned
+planned_query schema tables q = record {
+  width = length q.first.outputs;
+  leaves = flat_map (block_leaves schema tables) (q.first ∷ q.others);
+  top = top_query schema tables q;
+}
+
+-- a query on these tables of the schema, planned
+abbrev pub planned : List Table → List ℕ → BoundQuery → Planned
+planned schema tables = fold-BoundQuery Planned (planned_query schema tables)
+
+-- the leaves of a query, in the order of their first tables in the query text
+abbrev pub leaves_of : List Table → List ℕ → BoundQuery → List Leaf
+leaves_of schema tables q = (planned schema tables q).leaves
+
+abbrev pub plan_of : List Table → List ℕ → BoundQuery → Plan
+plan_of schema tables q = record { leaves = (planned schema tables q).leaves; top = (planned schema tables q).top 0 }

@@ -1,0 +1,10 @@
+//! The plan of a query: the leaves that are read where rows are stored, and the query that is left above them.
+#![tactic(auto)]
+
+mod condition;
+mod copy;
+pub mod first;
+pub mod leaf;
+pub mod plan;
+mod range;
+pub mod table;
