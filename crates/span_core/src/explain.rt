@@ -23,11 +23,7 @@ pub(crate) fn give_after<A: Drop, B>(dropped: A, given: B) -> B
 
 /// The plan of a statement that can be planned. The error is out of memory.
 #[tactic(auto, using(span_planner::proofs::SizedNumbers::sized_numbered))]
-fn plan_statement(
-    alloc: Global,
-    schema: &Schema,
-    statement: &Statement,
-) -> Result<Plan, AllocError>
+fn plan_statement(alloc: Global, schema: &Schema, statement: &Statement) -> Result<Plan, AllocError>
     requires { IsPlannable schema.now statement.now }
     ensures { IfOk result (λ plan. plan ≡ statement_plan schema.now statement.now) }
 {

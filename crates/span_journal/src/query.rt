@@ -98,7 +98,11 @@ fn unread_plan(alloc: Global, plan: Plan) -> Result<Unread, AllocError>
     let pieces = empty_pieces(alloc, leaves.as_slice());
     let (top, pieces) = pair_with(top, pieces)?;
     let ((top, pieces), leaves) = pair_with((top, pieces), uncovered_leaves(alloc, leaves))?;
-    Ok(Unread { leaves, pieces, top })
+    Ok(Unread {
+        leaves,
+        pieces,
+        top,
+    })
 }
 
 /// The plan of a statement's query, with no piece yet.
@@ -183,7 +187,14 @@ impl KeptQuery {
         ensures { IfOk result (λ kept. kept ≡ unread schema.now number s text params statement) }
     {
         let unread = unread_statement(alloc, schema, &statement);
-        let (statement, Unread { leaves, pieces, top }) = pair_with(statement, unread)?;
+        let (
+            statement,
+            Unread {
+                leaves,
+                pieces,
+                top,
+            },
+        ) = pair_with(statement, unread)?;
         let open = OpenQuery {
             number,
             text,

@@ -341,7 +341,11 @@ statement_plan schema q = plan_of schema q.leaves q.query
 -- a query text with its parameters, understood as a statement, as an open query
 abbrev pub as_opened : List Table → ℕ → ℕ → List ℕ → List Parameter → Statement → OpenQuery
 as_opened schema number s text params q = record {
-  number = number; text = text; params = params; statement = q; s = s;
+  number = number;
+  text = text;
+  params = params;
+  statement = q;
+  s = s;
   leaves = map uncovered (statement_plan schema q).leaves;
   top = (statement_plan schema q).top;
 }

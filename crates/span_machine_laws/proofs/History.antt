@@ -55,8 +55,8 @@ module _ (understands : Understanding) (schema : List Table) (rules : MeetsRules
       let typed_a = typed_stay schema [] (mutations_of (upto m.log s)) a tt (typed_upto schema m.log s reached.by_schema.log) e in
       let typed_b = typed_stay schema [] (mutations_of (upto last.log s)) b tt (typed_upto schema last.log s reached_last.by_schema.log) f in
       ap (λ (rs : List TableRow). map (declared_row schema) rs ∷ tables_within schema a ns range)
-        (rows_alike_within schema rules range ends n (mutations_of (upto m.log s)) (mutations_of (upto last.log s)) a b (keyed_upto schema m.log s reached.by_schema.log) (keyed_upto schema last.log s reached_last.by_schema.log) typed_a typed_b e f
-        (λ root is within. run_keeps understands schema root is s m steps replies last run reached.holding (sealed root is within)))
+      (rows_alike_within schema rules range ends n (mutations_of (upto m.log s)) (mutations_of (upto last.log s)) a b (keyed_upto schema m.log s reached.by_schema.log) (keyed_upto schema last.log s reached_last.by_schema.log) typed_a typed_b e f
+      (λ root is within. run_keeps understands schema root is s m steps replies last run reached.holding (sealed root is within)))
       ∙ ap (λ (l : List (List (List Value))). rows_within schema b n range ∷ l) (tables_at_end m steps replies last s run reached reached_last range sealed ends a b e f ns)
 
   -- and so is what leaves give on their ranges
@@ -66,15 +66,15 @@ module _ (understands : Understanding) (schema : List Table) (rules : MeetsRules
   leaves_at_end m steps replies last s run reached reached_last a b e f [] ranged sealed = refl
   leaves_at_end m steps replies last s run reached reached_last a b e f (l ∷ ls) ranged sealed =
       ap (λ (ts : List (List (List Value))). leaf_rows l ts ∷ map (λ (k : Leaf). leaf_within schema a k k.range) ls)
-        (tables_at_end m steps replies last s run reached reached_last l.range sealed.0 (ranged_ends schema l ranged.0) a b e f l.tables)
+      (tables_at_end m steps replies last s run reached reached_last l.range sealed.0 (ranged_ends schema l ranged.0) a b e f l.tables)
       ∙ ap (λ (os : List rows.Rows). leaf_within schema b l l.range ∷ os) (leaves_at_end m steps replies last s run reached reached_last a b e f ls ranged.1 sealed.1)
 
   -- the tables of a reached machine's log are a database of typed rows
   plan_at : (m : Machine) (s : ℕ) → IsReached schema m → (db : List TableRow) → tables schema m.log s ≡ Ok db → (q : Statement) → IsPlannable schema q → plan_means schema (statement_plan schema q) db ≡ means schema q.query q.leaves db
   plan_at m s reached db made q plannable =
       planned_meaning schema rules q plannable db
-        (apply-database schema rules (mutations_of (upto m.log s)) [] db (empty_database schema) (keyed_upto schema m.log s reached.by_schema.log) made)
-        (typed_stay schema [] (mutations_of (upto m.log s)) db tt (typed_upto schema m.log s reached.by_schema.log) made)
+      (apply-database schema rules (mutations_of (upto m.log s)) [] db (empty_database schema) (keyed_upto schema m.log s reached.by_schema.log) made)
+      (typed_stay schema [] (mutations_of (upto m.log s)) db tt (typed_upto schema m.log s reached.by_schema.log) made)
 
   -- what is meant by the log so far, where the ranges of the leaves are sealed, is meant by all that the run commits
   meant_at_end : (asked : List OpenedQuery) (m : Machine) (steps : List Step) (replies : List Reply) (last : Machine) (query s : ℕ) (meant : rows.Rows) → Run understands schema m steps replies last
@@ -85,8 +85,8 @@ module _ (understands : Understanding) (schema : List Table) (rules : MeetsRules
       let plan : Plan = statement_plan schema now.statement in
       let plannable : IsPlannable schema now.statement = plans now.question.text now.question.params now.statement now.understood in
       let same : plan_means schema plan now.db ≡ plan_means schema plan there.0 =
-        ap (λ (os : List rows.Rows). meaning_over (given os) plan.top)
-          (leaves_at_end m steps replies last s run reached reached_last now.db there.0 now.made there.1 plan.leaves (leaves_ranged schema now.statement.leaves now.statement.query) is.stays) in
+      ap (λ (os : List rows.Rows). meaning_over (given os) plan.top)
+      (leaves_at_end m steps replies last s run reached reached_last now.db there.0 now.made there.1 plan.leaves (leaves_ranged schema now.statement.leaves now.statement.query) is.stays) in
       record {
         question = now.question;
         opened = now.opened;

@@ -137,12 +137,13 @@ module _ (schema : List Table) where
         let parts_of = both (is_of_type part.kind b.1) (list_all (λ (x : Bound). is_of_type part.kind x.1) bs) typed in
         let low : List ℕ = range_start (root_of schema table) part b.0 b.1 in
         let high : List ℕ = range_end (root_of schema table) part b.0 b.1 in
-        bounded_ends bs parts_of.1 (bounded (root_of schema table) part r b)
-          (one_of (IsEnd schema) (is_lt (byte_order low r.low)) r.low low ends.0 (inr (inr (record { table = table; part = part; parts = parts; columns = columns; comparison = b.0; value = b.1; typed = parts_of.0; is = inl refl }))),
-          one_of (IsEnd schema) (is_lt (byte_order r.high high)) r.high high ends.1 (inr (inr (record { table = table; part = part; parts = parts; columns = columns; comparison = b.0; value = b.1; typed = parts_of.0; is = inr refl })))) where
-      both : (a c : Bool) → (a && c) ≡ true → (a ≡ true) × (c ≡ true)
-      both true c is = (refl, is)
-      both false c is = cc
+        bounded_ends bs parts_of.1 (bounded (root_of schema table) part r b) (
+          one_of (IsEnd schema) (is_lt (byte_order low r.low)) r.low low ends.0 (inr (inr (record { table = table; part = part; parts = parts; columns = columns; comparison = b.0; value = b.1; typed = parts_of.0; is = inl refl }))),
+          one_of (IsEnd schema) (is_lt (byte_order r.high high)) r.high high ends.1 (inr (inr (record { table = table; part = part; parts = parts; columns = columns; comparison = b.0; value = b.1; typed = parts_of.0; is = inr refl }))),
+        ) where
+          both : (a c : Bool) → (a && c) ≡ true → (a ≡ true) × (c ≡ true)
+          both true c is = (refl, is)
+          both false c is = cc
 
   all_typed : (p : Bound → Bool) (bs : List Bound) → list_all p (filter p bs) ≡ true
   all_typed p [] = refl
@@ -186,7 +187,7 @@ pub part_ends : (schema : List Table) (m : Machine) → HasRanges schema m → (
 part_ends schema m ranges slot slot_state l part here is gap =
     let cuts = cut_at schema m.slots slot slot_state here ranges.cut in
     gap_ends (IsEnd schema) (part_between slot_state.lo slot_state.hi l.leaf.range) l.covered part
-      (later_end schema slot_state.lo l.leaf.range.low cuts.0 is.range.0, earlier_end schema slot_state.hi l.leaf.range.high cuts.1 is.range.1) is.ends gap
+    (later_end schema slot_state.lo l.leaf.range.low cuts.0 is.range.0, earlier_end schema slot_state.hi l.leaf.range.high cuts.1 is.range.1) is.ends gap
 
 -- a piece more
 pub leaf_covered : (schema : List Table) (m : Machine) → HasRanges schema m → (slot : ℕ) (slot_state : SlotState) (l : ScanLeaf) (part : KeyRange) → slice_get m.slots slot ≡ Some slot_state → IsOpenLeaf schema l → gap_in slot_state l ≡ Some part → IsOpenLeaf schema (add_piece part l)

@@ -102,7 +102,7 @@ module _ (schema : List Table) (tables : List ℕ) (w : ℕ → List Row) (f0 f 
       → above (top_join before (record { is_left = is_left; item = map_item plan_q i; width = width; on = on })) ≡ narrow_item es at (joined_item f0 (record { is_left = is_left; item = map_item mean i; width = width; on = on })) (is_table i)
   one_above given es at before is_left (item.Table n) width on keeps agrees =
       ap (λ (o : Rows). record { join = record { is_left = is_left; width = width; on = on }; rows = o })
-        (agrees.0 ∙ ap (λ (o : Rows). o >>= filter_where (all_true (narrowing es at (record { is_left = is_left; width = width; on = on })))) (sym (given n)))
+      (agrees.0 ∙ ap (λ (o : Rows). o >>= filter_where (all_true (narrowing es at (record { is_left = is_left; width = width; on = on })))) (sym (given n)))
   one_above given es at before is_left (item.Derived q) width on keeps agrees =
       ap (λ (o : Rows). record { join = record { is_left = is_left; width = width; on = on }; rows = o }) (keeps before agrees)
 
@@ -119,9 +119,9 @@ module _ (schema : List Table) (tables : List ℕ) (w : ℕ → List Row) (f0 f 
       let leaves : List Leaf = join_leaves schema tables at es j.is_left j.width (map_item plan_q j.item) in
       let rest : List Leaf = rest_leaves schema tables es (at + j.width) (map planned_join joins) in
       let after : AgreesAt w (before + count_leaves (map_item plan_q j.item)) rest f =
-        subst (λ (n : ℕ). AgreesAt w (before + n) rest f) (counted es at j.is_left j.width (map_item plan_q j.item)) (agrees_rest w before leaves rest f agrees) in
+      subst (λ (n : ℕ). AgreesAt w (before + n) rest f) (counted es at j.is_left j.width (map_item plan_q j.item)) (agrees_rest w before leaves rest f agrees) in
       ap (λ (x : Joined). x ∷ map above (top_joins (before + count_leaves (map_item plan_q j.item)) (map planned_join joins)))
-        (one_above given es at before j.is_left j.item j.width j.on keeps.0 (agrees_front w before leaves rest f agrees))
+      (one_above given es at before j.is_left j.item j.width j.on keeps.0 (agrees_front w before leaves rest f agrees))
       ∙ ap (λ (xs : List Joined). narrow_item es at (further j).0 (further j).1 ∷ xs) (rest_above given es (at + j.width) (before + count_leaves (map_item plan_q j.item)) joins keeps.1 after)
 
   narrow-none : (at : ℕ) (items : List Further) → narrow [] at items ≡ joined_of items
@@ -130,10 +130,11 @@ module _ (schema : List Table) (tables : List ℕ) (w : ℕ → List Row) (f0 f 
     none : (b : Bool) (low high : ℕ) → conjuncts_on low high (unless_left b []) ≡ []
     none true low high = refl
     none false low high = refl
+
     one : (x : Joined) (t : Bool) → narrow_item [] at x t ≡ x
     one x true =
-      ap (λ (es : List Expr). record { join = x.join; rows = x.rows >>= filter_where (all_true (own at es)) }) (none x.join.is_left at (at + x.join.width))
-      ∙ ap (λ (o : Rows). record { join = x.join; rows = o }) (bind-Some x.rows)
+        ap (λ (es : List Expr). record { join = x.join; rows = x.rows >>= filter_where (all_true (own at es)) }) (none x.join.is_left at (at + x.join.width))
+        ∙ ap (λ (o : Rows). record { join = x.join; rows = o }) (bind-Some x.rows)
     one x false = refl
 
   -- ---- the first leaf
@@ -225,7 +226,7 @@ module _ (schema : List Table) (tables : List ℕ) (w : ℕ → List Row) (f0 f 
       let joined : run_join i rows ≡ Some found.0 = ap (λ (o : Rows). o >>= join_rows (as_join i.join) rows) given.0.1 ∙ found.1 in
       let sum : (at + j.width) + width_of_items joins ≡ at + (j.width + width_of_items joins) = omega arith in
       subst (λ (o : Rows). AllGiven (λ (r : Row). length r ≡ at + (j.width + width_of_items joins)) (o >>= run_joins (joined_of (map further joins)))) (sym joined)
-        (subst (λ (n : ℕ). AllGiven (λ (r : Row). length r ≡ n) (run_joins (joined_of (map further joins)) found.0)) sum (wide_joins joins given.1 total.1 wide.1 (at + j.width) found.0 found.2))
+      (subst (λ (n : ℕ). AllGiven (λ (r : Row). length r ≡ n) (run_joins (joined_of (map further joins)) found.0)) sum (wide_joins joins given.1 total.1 wide.1 (at + j.width) found.0 found.2))
 
   run_joins-split : (xs ys : List Joined) (rows : List Row) → run_joins (xs ++ ys) rows ≡ (run_joins xs rows >>= run_joins ys)
   run_joins-split [] ys rows = refl
@@ -270,10 +271,10 @@ module _ (schema : List Table) (tables : List ℕ) (w : ℕ → List Row) (f0 f 
   rest_same given filter all rest total keeps wide before at agrees rows rows_wide =
       ap (λ (xs : List Joined). run_where filter xs rows) (rest_above given (pushed filter all) at before rest keeps agrees)
       ∙ of_cases filter (have_total_ons (map planned_join all)) total rows_wide where
-    of_cases : (w' : Option Expr) (b : Bool) → (b ≡ true → AreTotal (joined_items rest)) → (b ≡ true → AreOfWidth at rows) → run_where w' (narrow (if b then where_conjuncts w' else []) at (map further rest)) rows ≡ run_where w' (joined_items rest) rows
-    of_cases w' false total is = ap (λ (xs : List Joined). run_where w' xs rows) (narrow-none at (map further rest))
-    of_cases None true total is = ap (λ (xs : List Joined). run_where None xs rows) (narrow-none at (map further rest))
-    of_cases (Some e) true total is = narrowed_below e at (map further rest) (total refl) wide rows (is refl)
+        of_cases : (w' : Option Expr) (b : Bool) → (b ≡ true → AreTotal (joined_items rest)) → (b ≡ true → AreOfWidth at rows) → run_where w' (narrow (if b then where_conjuncts w' else []) at (map further rest)) rows ≡ run_where w' (joined_items rest) rows
+        of_cases w' false total is = ap (λ (xs : List Joined). run_where w' xs rows) (narrow-none at (map further rest))
+        of_cases None true total is = ap (λ (xs : List Joined). run_where None xs rows) (narrow-none at (map further rest))
+        of_cases (Some e) true total is = narrowed_below e at (map further rest) (total refl) wide rows (is refl)
 
   -- the rows of which the conjuncts on them leave some out
   abbrev first_rows : Option Expr → List (Join Q) → ℕ → List Row → Rows
@@ -285,18 +286,19 @@ module _ (schema : List Table) (tables : List ℕ) (w : ℕ → List Row) (f0 f 
       → (first_rows filter all at rows >>= run_where filter (top_items before rest)) ≡ run_where filter (joined_items rest) rows
   after_first given filter all rest total keeps wide before at agrees rows rows_wide =
       of_cases filter (have_total_ons (map planned_join all)) refl total rows_wide (λ next next_wide. rest_same given filter all rest total keeps wide before at agrees next next_wide) where
-    IsSame : Option Expr → Type 0
-    IsSame w' = (next : List Row) → (have_total_ons (map planned_join all) ≡ true → AreOfWidth at next) → run_where w' (top_items before rest) next ≡ run_where w' (joined_items rest) next
-    of_cases : (w' : Option Expr) (b : Bool) → have_total_ons (map planned_join all) ≡ b → (b ≡ true → AreTotal (joined_items rest)) → (b ≡ true → AreOfWidth at rows)
-        → ((next : List Row) → (have_total_ons (map planned_join all) ≡ true → AreOfWidth at next) → run_where w' (top_items before rest) next ≡ run_where w' (joined_items rest) next)
-        → (filter_where (all_true (conjuncts_on 0 at (if b then where_conjuncts w' else []))) rows >>= run_where w' (top_items before rest)) ≡ run_where w' (joined_items rest) rows
-    of_cases w' false b_is total is same = same rows rows_wide
-    of_cases None true b_is total is same = same rows rows_wide
-    of_cases (Some e) true b_is total is same =
-      let cs : List Expr = conjuncts_on 0 at (conjuncts e) in
-      ap (λ (o : Rows). o >>= run_where (Some e) (top_items before rest)) (filter_where-all_true cs (all_total 0 at cs (are_on 0 at (conjuncts e))) rows)
-      ∙ same (filter_list (is_kept cs) rows) (λ _. wide_filter at (is_kept cs) rows (is refl))
-      ∙ left_out_below e (joined_items rest) (total refl) at cs (refused_by e 0 at) rows (is refl)
+        IsSame : Option Expr → Type 0
+        IsSame w' = (next : List Row) → (have_total_ons (map planned_join all) ≡ true → AreOfWidth at next) → run_where w' (top_items before rest) next ≡ run_where w' (joined_items rest) next
+
+        of_cases : (w' : Option Expr) (b : Bool) → have_total_ons (map planned_join all) ≡ b → (b ≡ true → AreTotal (joined_items rest)) → (b ≡ true → AreOfWidth at rows)
+            → ((next : List Row) → (have_total_ons (map planned_join all) ≡ true → AreOfWidth at next) → run_where w' (top_items before rest) next ≡ run_where w' (joined_items rest) next)
+            → (filter_where (all_true (conjuncts_on 0 at (if b then where_conjuncts w' else []))) rows >>= run_where w' (top_items before rest)) ≡ run_where w' (joined_items rest) rows
+        of_cases w' false b_is total is same = same rows rows_wide
+        of_cases None true b_is total is same = same rows rows_wide
+        of_cases (Some e) true b_is total is same =
+            let cs : List Expr = conjuncts_on 0 at (conjuncts e) in
+            ap (λ (o : Rows). o >>= run_where (Some e) (top_items before rest)) (filter_where-all_true cs (all_total 0 at cs (are_on 0 at (conjuncts e))) rows)
+            ∙ same (filter_list (is_kept cs) rows) (λ _. wide_filter at (is_kept cs) rows (is refl))
+            ∙ left_out_below e (joined_items rest) (total refl) at cs (refused_by e 0 at) rows (is refl)
 
   -- ---- the block
 
@@ -405,7 +407,7 @@ module _ (schema : List Table) (tables : List ℕ) (w : ℕ → List Row) (f0 f 
     leaf_wide given sized first_wide total rows is =
         let total_all = all_total_ons b.joins total in
         let found : AllGiven (λ (r : Row). length r ≡ wide_first + width_of_items (take len b.joins)) leaf_found =
-          wide_joins (take len b.joins) (leaf_given given table wide_first b.joins) (take_total len b.joins total_all) (take_wide len b.joins sized.rest) wide_first (w table) first_wide in
+        wide_joins (take len b.joins) (leaf_given given table wide_first b.joins) (take_total len b.joins total_all) (take_wide len b.joins sized.rest) wide_first (w table) first_wide in
         let width : wide_first + width_of_items (take len b.joins) ≡ leaf_width = ap (λ (js : List (Join Planned)). wide_first + widths js) (sym (map_take planned_join len b.joins)) in
         subst (λ (m : ℕ). AreOfWidth m rows) width (subst (AllGiven (λ (r : Row). length r ≡ wide_first + width_of_items (take len b.joins))) is found)
 
@@ -418,9 +420,9 @@ module _ (schema : List Table) (tables : List ℕ) (w : ℕ → List Row) (f0 f 
     part_found given keeps sized first_wide before agrees None is = refl
     part_found given keeps sized first_wide before agrees (Some rows) is =
         after_first given b.filter b.joins (drop len b.joins)
-          (λ total. drop_total len b.joins (all_total_ons b.joins total)) (all_drop KeepsJoin len b.joins keeps.rest) (drop_wide len b.joins sized.rest) before leaf_width
-          (subst (λ (js : List (Join Planned)). AgreesAt w before (rest_leaves schema tables (pushed b.filter b.joins) leaf_width js) f) (map_drop planned_join len b.joins) agrees)
-          rows (λ total. leaf_wide given sized first_wide total rows is)
+        (λ total. drop_total len b.joins (all_total_ons b.joins total)) (all_drop KeepsJoin len b.joins keeps.rest) (drop_wide len b.joins sized.rest) before leaf_width
+        (subst (λ (js : List (Join Planned)). AgreesAt w before (rest_leaves schema tables (pushed b.filter b.joins) leaf_width js) f) (map_drop planned_join len b.joins) agrees)
+        rows (λ total. leaf_wide given sized first_wide total rows is)
 
     part_leaf : IsTableGiven → KeepsBlock b → IsSized b → AreOfWidth wide_first (w table) → (before : ℕ) → AgreesAt w before (rest_leaves schema tables (pushed b.filter b.joins) leaf_width (drop len planned_joins)) f
         → ((leaf_found >>= filter_where (all_true (conjuncts_on 0 leaf_width (pushed b.filter b.joins)))) >>= run_where b.filter (map above (top_joins before (drop len planned_joins)))) ≡ (Some (w table) >>= run_where b.filter (joined_items b.joins))
@@ -441,7 +443,7 @@ module _ (schema : List Table) (tables : List ℕ) (w : ℕ → List Row) (f0 f 
         → (f (before + 1) >>= run_where (top_filter (len == length planned_joins)) (map above (top_joins (before + 1) (drop len planned_joins)))) ≡ (Some (w table) >>= run_where b.filter (joined_items b.joins))
     table_above given keeps sized first_wide before agrees =
         let leaf_is : leaf_rows (first_leaf schema tables (map_block plan_q b) table len) (map w ((first_leaf schema tables (map_block plan_q b) table len).tables)) ≡ (leaf_found >>= filter_where (leaf_filter (len == length planned_joins))) =
-          ap (λ (o : Rows). o >>= filter_where (leaf_filter (len == length planned_joins))) (leaf_joins given table wide_first b.joins (w table)) in
+        ap (λ (o : Rows). o >>= filter_where (leaf_filter (len == length planned_joins))) (leaf_joins given table wide_first b.joins (w table)) in
         ap (λ (o : Rows). o >>= run_where (top_filter (len == length planned_joins)) (map above (top_joins (before + 1) (drop len planned_joins)))) (agrees.0 ∙ leaf_is)
         ∙ either_leaf given keeps sized first_wide (before + 1) agrees.1 (len == length planned_joins) refl
 
@@ -453,11 +455,11 @@ module _ (schema : List Table) (tables : List ℕ) (w : ℕ → List Row) (f0 f 
   derived_above given b q keeps_first keeps first_wide wide before agrees =
       ap (λ (o : Rows). o >>= run_where b.filter (top_items (before + length (plan_q q).leaves) b.joins)) (keeps_first before (agrees_front w before (plan_q q).leaves (rest_leaves schema tables (pushed b.filter b.joins) (plan_q q).width (map planned_join b.joins)) f agrees))
       ∙ of_found (mean q) first_wide where
-    of_found : (o : Rows) → IsWide (plan_q q).width o → (o >>= run_where b.filter (top_items (before + length (plan_q q).leaves) b.joins)) ≡ (o >>= run_where b.filter (joined_items b.joins))
-    of_found None is = refl
-    of_found (Some rows) is =
-      rest_same given b.filter b.joins b.joins (all_total_ons b.joins) keeps wide (before + length (plan_q q).leaves) (plan_q q).width
-        (agrees_rest w before (plan_q q).leaves (rest_leaves schema tables (pushed b.filter b.joins) (plan_q q).width (map planned_join b.joins)) f agrees) rows (λ _. is)
+        of_found : (o : Rows) → IsWide (plan_q q).width o → (o >>= run_where b.filter (top_items (before + length (plan_q q).leaves) b.joins)) ≡ (o >>= run_where b.filter (joined_items b.joins))
+        of_found None is = refl
+        of_found (Some rows) is =
+            rest_same given b.filter b.joins b.joins (all_total_ons b.joins) keeps wide (before + length (plan_q q).leaves) (plan_q q).width
+            (agrees_rest w before (plan_q q).leaves (rest_leaves schema tables (pushed b.filter b.joins) (plan_q q).width (map planned_join b.joins)) f agrees) rows (λ _. is)
 
   -- ---- FROM and WHERE of any block
 
@@ -467,13 +469,13 @@ module _ (schema : List Table) (tables : List ℕ) (w : ℕ → List Row) (f0 f 
     of_first : (i : Item Q) → KeepsItem i → IsSizedFirst i → AgreesAt w before (leaves_from schema tables (map_block plan_q b) (map_item plan_q i)) f
         → from_where f (map_block (meaning_over f) (top_from schema tables before (map_block plan_q b) (map_item plan_q i))) ≡ (from f0 (map_item mean i) (map (map_join mean) b.joins) >>= filter_where b.filter)
     of_first (item.Table n) keeps_first first_wide agrees =
-      from-above (item.Table (before + 1)) (top_joins (before + 1) (drop (len b n) (planned_joins b n))) (top_filter b n (len b n == length (planned_joins b n)))
-      ∙ table_above b n given keeps sized first_wide before agrees
-      ∙ sym (from-whole (item.Table n) b.joins b.filter ∙ ap (λ (o : Rows). o >>= run_where b.filter (joined_items b.joins)) (given n))
+        from-above (item.Table (before + 1)) (top_joins (before + 1) (drop (len b n) (planned_joins b n))) (top_filter b n (len b n == length (planned_joins b n)))
+        ∙ table_above b n given keeps sized first_wide before agrees
+        ∙ sym (from-whole (item.Table n) b.joins b.filter ∙ ap (λ (o : Rows). o >>= run_where b.filter (joined_items b.joins)) (given n))
     of_first (item.Derived q) keeps_first first_wide agrees =
-      from-above (item.Derived (meaning_over f ((plan_q q).top before))) (top_joins (before + length (plan_q q).leaves) (map planned_join b.joins)) b.filter
-      ∙ derived_above given b q keeps_first keeps.rest first_wide sized.rest before agrees
-      ∙ sym (from-whole (item.Derived (mean q)) b.joins b.filter)
+        from-above (item.Derived (meaning_over f ((plan_q q).top before))) (top_joins (before + length (plan_q q).leaves) (map planned_join b.joins)) b.filter
+        ∙ derived_above given b q keeps_first keeps.rest first_wide sized.rest before agrees
+        ∙ sym (from-whole (item.Derived (mean q)) b.joins b.filter)
 
   rest_is : (i : Item Planned) (b : Block Planned) (before : ℕ) (o : Rows) →
       let t : Block BoundQuery = top_from schema tables before b i in

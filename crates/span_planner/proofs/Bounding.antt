@@ -147,10 +147,10 @@ comparison_refused k c r is v w fv fw out = of_nulls (outcomes.is_null v) (outco
   of_nulls true b na nb = refl
   of_nulls false true na nb = refl
   of_nulls false false na nb =
-    let order : holds c (value_order v w) ≡ ranges.holds r (value_cmp v w) = bound_holds c r is (value_order v w) ∙ ap (ranges.holds r) (same_order k v w fv fw na nb) in
-    let none : ranges.holds r (value_cmp v w) ≡ false =
+      let order : holds c (value_order v w) ≡ ranges.holds r (value_cmp v w) = bound_holds c r is (value_order v w) ∙ ap (ranges.holds r) (same_order k v w fv fw na nb) in
+      let none : ranges.holds r (value_cmp v w) ≡ false =
       sym (ap (λ (b : Bool). not b && (not (ranges.is_null w) && ranges.holds r (value_cmp v w))) (null_same v ∙ na) ∙ ap (λ (b : Bool). not b && ranges.holds r (value_cmp v w)) (null_same w ∙ nb)) ∙ out in
-    ap (λ (b : Bool). is_refused (Val (value.Bool b))) (order ∙ none)
+      ap (λ (b : Bool). is_refused (Val (value.Bool b))) (order ∙ none)
 
 exchanged_holds : (r : RangeComparison) (o : Ordering) → ranges.holds (exchanged r) o ≡ ranges.holds r (ordering_reverse o)
 exchanged_holds range.Equal Less = refl
@@ -176,11 +176,11 @@ exchanged_refused k c r is v w fv fw out = of_nulls (outcomes.is_null w) (outcom
   of_nulls true b nw nv = refl
   of_nulls false true nw nv = refl
   of_nulls false false nw nv =
-    let order : holds c (value_order w v) ≡ ranges.holds (exchanged r) (value_cmp v w) =
+      let order : holds c (value_order w v) ≡ ranges.holds (exchanged r) (value_cmp v w) =
       bound_holds c r is (value_order w v) ∙ ap (ranges.holds r) (turned_is v w (value_order v w) refl) ∙ sym (exchanged_holds r (value_order v w)) ∙ ap (ranges.holds (exchanged r)) (same_order k v w fv fw nv nw) in
-    let none : ranges.holds (exchanged r) (value_cmp v w) ≡ false =
+      let none : ranges.holds (exchanged r) (value_cmp v w) ≡ false =
       sym (ap (λ (b : Bool). not b && (not (ranges.is_null w) && ranges.holds (exchanged r) (value_cmp v w))) (null_same v ∙ nv) ∙ ap (λ (b : Bool). not b && ranges.holds (exchanged r) (value_cmp v w)) (null_same w ∙ nw)) ∙ out in
-    ap (λ (b : Bool). is_refused (Val (value.Bool b))) (order ∙ none)
+      ap (λ (b : Bool). is_refused (Val (value.Bool b))) (order ∙ none)
 
 -- ---- conditions that bound a column
 
@@ -215,10 +215,12 @@ module _ (k : Kind) (row : List Value) (place : ℕ) (fits : Fits k (column_of r
   column_first c a b (Some p) (Some r) (Some w) ea ec eb = of_test (p == place) refl where
     of_test : (t : Bool) → (p == place) ≡ t → AreRefusedOut (outcomes.strict (compare_values c) (val row a) (val row b)) (if t then (r, w) ∷ [] else [])
     of_test false same = tt {0}
-    of_test true same =
-      ((λ fw out. ap (λ (o : Outcome). is_refused (outcomes.strict (compare_values c) o (val row b))) (here a p ea same)
+    of_test true same = (
+      (λ fw out. ap (λ (o : Outcome). is_refused (outcomes.strict (compare_values c) o (val row b))) (here a p ea same)
           ∙ ap (λ (o : Outcome). is_refused (outcomes.strict (compare_values c) (Val (column_of row place)) o)) (val-literal row b w eb)
-          ∙ comparison_refused k c r ec (column_of row place) w fits fw out), tt {0})
+          ∙ comparison_refused k c r ec (column_of row place) w fits fw out),
+      tt {0},
+    )
 
   literal_first : (c : Comparison) (a b : Expr) (p : Option ℕ) (r : Option RangeComparison) (w : Option Value) → as_column b ≡ p → bound_of c ≡ r → as_literal a ≡ w
       → AreRefusedOut (outcomes.strict (compare_values c) (val row a) (val row b)) (bound_at place p (option_map exchanged r) w)
@@ -228,10 +230,12 @@ module _ (k : Kind) (row : List Value) (place : ℕ) (fits : Fits k (column_of r
   literal_first c a b (Some p) (Some r) (Some w) eb ec ea = of_test (p == place) refl where
     of_test : (t : Bool) → (p == place) ≡ t → AreRefusedOut (outcomes.strict (compare_values c) (val row a) (val row b)) (if t then (exchanged r, w) ∷ [] else [])
     of_test false same = tt {0}
-    of_test true same =
-      ((λ fw out. ap (λ (o : Outcome). is_refused (outcomes.strict (compare_values c) o (val row b))) (val-literal row a w ea)
+    of_test true same = (
+      (λ fw out. ap (λ (o : Outcome). is_refused (outcomes.strict (compare_values c) o (val row b))) (val-literal row a w ea)
           ∙ ap (λ (o : Outcome). is_refused (outcomes.strict (compare_values c) (Val w) o)) (here b p eb same)
-          ∙ exchanged_refused k c r ec (column_of row place) w fits fw out), tt {0})
+          ∙ exchanged_refused k c r ec (column_of row place) w fits fw out),
+      tt {0},
+    )
 
   -- an AND of which one side is FALSE or NULL is refused
   refused_and : (o p : Outcome) → (is_refused o || is_refused p) ≡ true → is_refused (outcomes.outcome_of (outcomes.both (outcomes.condition_of o) (outcomes.condition_of p))) ≡ true
@@ -254,32 +258,37 @@ module _ (k : Kind) (row : List Value) (place : ℕ) (fits : Fits k (column_of r
   column_between a low high (Some p) (Some l) (Some h) ea el eh = of_test (p == place) refl where
     above : Outcome
     above = outcomes.strict (compare_values comparison.AtLeast) (val row a) (val row low)
+
     below : Outcome
     below = outcomes.strict (compare_values comparison.AtMost) (val row a) (val row high)
+
     of_test : (t : Bool) → (p == place) ≡ t → AreRefusedOut (between (val row a) (val row low) (val row high)) (if t then (range.AtLeast, l) ∷ (range.AtMost, h) ∷ [] else [])
     of_test false same = tt {0}
-    of_test true same =
-      ((λ fl out.
+    of_test true same = (
+      (λ fl out.
           let first : is_refused (outcomes.strict (compare_values comparison.AtLeast) (val row a) (val row low)) ≡ true =
-            ap (λ (o : Outcome). is_refused (outcomes.strict (compare_values comparison.AtLeast) o (val row low))) (here a p ea same)
-            ∙ ap (λ (o : Outcome). is_refused (outcomes.strict (compare_values comparison.AtLeast) (Val (column_of row place)) o)) (val-literal row low l el)
-            ∙ comparison_refused k comparison.AtLeast range.AtLeast refl (column_of row place) l fits fl out in
+          ap (λ (o : Outcome). is_refused (outcomes.strict (compare_values comparison.AtLeast) o (val row low))) (here a p ea same)
+          ∙ ap (λ (o : Outcome). is_refused (outcomes.strict (compare_values comparison.AtLeast) (Val (column_of row place)) o)) (val-literal row low l el)
+          ∙ comparison_refused k comparison.AtLeast range.AtLeast refl (column_of row place) l fits fl out in
           refused_and (outcomes.strict (compare_values comparison.AtLeast) (val row a) (val row low)) (outcomes.strict (compare_values comparison.AtMost) (val row a) (val row high))
-            (ap (λ (b : Bool). b || is_refused (outcomes.strict (compare_values comparison.AtMost) (val row a) (val row high))) first)),
-      ((λ fh out.
-          let second : is_refused (outcomes.strict (compare_values comparison.AtMost) (val row a) (val row high)) ≡ true =
+          (ap (λ (b : Bool). b || is_refused (outcomes.strict (compare_values comparison.AtMost) (val row a) (val row high))) first)),
+      (
+        (λ fh out.
+            let second : is_refused (outcomes.strict (compare_values comparison.AtMost) (val row a) (val row high)) ≡ true =
             ap (λ (o : Outcome). is_refused (outcomes.strict (compare_values comparison.AtMost) o (val row high))) (here a p ea same)
             ∙ ap (λ (o : Outcome). is_refused (outcomes.strict (compare_values comparison.AtMost) (Val (column_of row place)) o)) (val-literal row high h eh)
             ∙ comparison_refused k comparison.AtMost range.AtMost refl (column_of row place) h fits fh out in
-          refused_and (outcomes.strict (compare_values comparison.AtLeast) (val row a) (val row low)) (outcomes.strict (compare_values comparison.AtMost) (val row a) (val row high))
+            refused_and (outcomes.strict (compare_values comparison.AtLeast) (val row a) (val row low)) (outcomes.strict (compare_values comparison.AtMost) (val row a) (val row high))
             (ap (λ (b : Bool). is_refused (outcomes.strict (compare_values comparison.AtLeast) (val row a) (val row low)) || b) second ∙ or_true (is_refused (outcomes.strict (compare_values comparison.AtLeast) (val row a) (val row low))))),
-      tt {0}))
+        tt {0},
+      ),
+    )
 
   layer_out : (y : Expr-F Expr) → AreRefusedOut (at_operands row (map-Expr Expr Outcome (val row) y)) (bounds_at place y)
   layer_out (Expr-F.Compare a c b) =
       all_append (outcomes.strict (compare_values c) (val row a) (val row b)) (bound_at place (as_column a) (bound_of c) (as_literal b)) (bound_at place (as_column b) (option_map exchanged (bound_of c)) (as_literal a))
-        (column_first c a b (as_column a) (bound_of c) (as_literal b) refl refl refl)
-        (literal_first c a b (as_column b) (bound_of c) (as_literal a) refl refl refl)
+      (column_first c a b (as_column a) (bound_of c) (as_literal b) refl refl refl)
+      (literal_first c a b (as_column b) (bound_of c) (as_literal a) refl refl refl)
   layer_out (Expr-F.Between a low high) = column_between a low high (as_column a) (as_literal low) (as_literal high) refl refl refl
   layer_out y = tt {0}
 
@@ -342,9 +351,10 @@ module _ (test : ℕ → Bool) where
   two_only c a b ia ib = (and_both (is_total a) (is_total b) ia.0 ib.0, and_both (reads_only test a) (reads_only test b) ia.1 ib.1)
 
   three_only : (a b c : Expr) → IsOnly a → IsOnly b → IsOnly c → LayerOnly (Expr-F.Between a b c)
-  three_only a b c ia ib ic =
-      (and_both (is_total a && is_total b) (is_total c) (and_both (is_total a) (is_total b) ia.0 ib.0) ic.0,
-      and_both (reads_only test a && reads_only test b) (reads_only test c) (and_both (reads_only test a) (reads_only test b) ia.1 ib.1) ic.1)
+  three_only a b c ia ib ic = (
+    and_both (is_total a && is_total b) (is_total c) (and_both (is_total a) (is_total b) ia.0 ib.0) ic.0,
+    and_both (reads_only test a && reads_only test b) (reads_only test c) (and_both (reads_only test a) (reads_only test b) ia.1 ib.1) ic.1,
+  )
 
   compared_only : (c : Comparison) (a b : Expr) (xs ys : List Bound) → OnlyIf xs (IsOnly a × IsOnly b) → OnlyIf ys (IsOnly b × IsOnly a) → OnlyIf (xs ++ ys) (LayerOnly (Expr-F.Compare a c b))
   compared_only c a b xs ys (inr p) q = inr (two_only c a b p.0 p.1)
@@ -354,8 +364,8 @@ module _ (test : ℕ → Bool) where
   layer_only : (place : ℕ) → test place ≡ true → (y : Expr-F Expr) → OnlyIf (bounds_at place y) (LayerOnly y)
   layer_only place passes (Expr-F.Compare a c b) =
       compared_only c a b (bound_at place (as_column a) (bound_of c) (as_literal b)) (bound_at place (as_column b) (option_map exchanged (bound_of c)) (as_literal a))
-        (first_only place passes a b (as_column a) (bound_of c) (as_literal b) refl refl)
-        (first_only place passes b a (as_column b) (option_map exchanged (bound_of c)) (as_literal a) refl refl)
+      (first_only place passes a b (as_column a) (bound_of c) (as_literal b) refl refl)
+      (first_only place passes b a (as_column b) (option_map exchanged (bound_of c)) (as_literal a) refl refl)
   layer_only place passes (Expr-F.Between a low high) = of_three (between_only place passes a low high (as_column a) (as_literal low) (as_literal high) refl refl refl) where
     of_three : OnlyIf (bounds_between place (as_column a) (as_literal low) (as_literal high)) (IsOnly a × (IsOnly low × IsOnly high)) → OnlyIf (bounds_between place (as_column a) (as_literal low) (as_literal high)) (LayerOnly (Expr-F.Between a low high))
     of_three (inl none) = inl none
@@ -386,6 +396,7 @@ module _ (k : Kind) (row : List Value) (place low high : ℕ) (fits : Fits k (co
         → (is_in_bounds (filter (λ (b : Bound). is_of_type k b.1) bs) (column_of row place) ≡ false → is_refused (val row e) ≡ true) → is_refused (val row e) ≡ true
     of_compared true is typed out rest = rest out
     of_compared false is typed out rest = all.0 (fits_type k b.1 typed) is
+
     of_type : (t : Bool) → is_of_type k b.1 ≡ t → is_in_bounds (if t then b ∷ filter (λ (b : Bound). is_of_type k b.1) bs else filter (λ (b : Bound). is_of_type k b.1) bs) (column_of row place) ≡ false
         → (is_in_bounds (filter (λ (b : Bound). is_of_type k b.1) bs) (column_of row place) ≡ false → is_refused (val row e) ≡ true) → is_refused (val row e) ≡ true
     of_type true typed out rest = of_compared (compares b.0 (column_of row place) b.1) refl typed out rest
@@ -396,12 +407,14 @@ module _ (k : Kind) (row : List Value) (place low high : ℕ) (fits : Fits k (co
   in_both (b ∷ xs) ys = of_type (is_of_type k b.1) (in_both xs ys) where
     fs : List Bound → List Bound
     fs l = filter (λ (b : Bound). is_of_type k b.1) l
+
     and_assoc : (a b c : Bool) → (a && (b && c)) ≡ ((a && b) && c)
     and_assoc true b c = refl
     and_assoc false b c = refl
+
     of_type : (t : Bool) → is_in_bounds (filter (λ (b : Bound). is_of_type k b.1) (xs ++ ys)) (column_of row place) ≡ (is_in_bounds (filter (λ (b : Bound). is_of_type k b.1) xs) (column_of row place) && is_in_bounds (filter (λ (b : Bound). is_of_type k b.1) ys) (column_of row place))
         → is_in_bounds (if t then b ∷ filter (λ (b : Bound). is_of_type k b.1) (xs ++ ys) else filter (λ (b : Bound). is_of_type k b.1) (xs ++ ys)) (column_of row place)
-          ≡ (is_in_bounds (if t then b ∷ filter (λ (b : Bound). is_of_type k b.1) xs else filter (λ (b : Bound). is_of_type k b.1) xs) (column_of row place) && is_in_bounds (filter (λ (b : Bound). is_of_type k b.1) ys) (column_of row place))
+        ≡ (is_in_bounds (if t then b ∷ filter (λ (b : Bound). is_of_type k b.1) xs else filter (λ (b : Bound). is_of_type k b.1) xs) (column_of row place) && is_in_bounds (filter (λ (b : Bound). is_of_type k b.1) ys) (column_of row place))
     of_type true same = ap (λ (t : Bool). compares b.0 (column_of row place) b.1 && t) same ∙ and_assoc (compares b.0 (column_of row place) b.1) (is_in_bounds (filter (λ (b : Bound). is_of_type k b.1) xs) (column_of row place)) (is_in_bounds (filter (λ (b : Bound). is_of_type k b.1) ys) (column_of row place))
     of_type false same = same
 
@@ -410,22 +423,24 @@ module _ (k : Kind) (row : List Value) (place low high : ℕ) (fits : Fits k (co
   left_out_of_bounds [] out = cc
   left_out_of_bounds (e ∷ es) out =
       of_first (is_in_bounds (filter (λ (b : Bound). is_of_type k b.1) (bounds place e)) (column_of row place)) refl (sym (in_both (bounds place e) (flat_map (bounds place) es)) ∙ out) (left_out_of_bounds es) where
-    kept_rest : (t : Bool) → is_left_out (conjuncts_on low high es) row ≡ true → is_left_out (if t then e ∷ conjuncts_on low high es else conjuncts_on low high es) row ≡ true
-    kept_rest true rest = ap (λ (b : Bool). is_refused (val row e) || b) rest ∙ or_true (is_refused (val row e)) where
-      or_true : (b : Bool) → (b || true) ≡ true
-      or_true true = refl
-      or_true false = refl
-    kept_rest false rest = rest
-    is_only : (bs : List Bound) → bs ≡ bounds place e → is_in_bounds (filter (λ (b : Bound). is_of_type k b.1) bs) (column_of row place) ≡ false → ((bounds place e ≡ []) ⊎ ((is_total e ≡ true) × (reads_only (is_in low high) e ≡ true))) → (is_total e && reads_only (is_in low high) e) ≡ true
-    is_only bs same out (inl none) = let empty : bs ≡ [] = same ∙ none in absurd (let q : true ≡ false = sym (ap (λ (l : List Bound). is_in_bounds (filter (λ (b : Bound). is_of_type k b.1) l) (column_of row place)) empty) ∙ out in cc)
-    is_only bs same out (inr is) = ap (λ (b : Bool). b && reads_only (is_in low high) e) is.0 ∙ is.1
-    of_first : (t : Bool) → is_in_bounds (filter (λ (b : Bound). is_of_type k b.1) (bounds place e)) (column_of row place) ≡ t
-        → (is_in_bounds (filter (λ (b : Bound). is_of_type k b.1) (bounds place e)) (column_of row place) && is_in_bounds (filter (λ (b : Bound). is_of_type k b.1) (flat_map (bounds place) es)) (column_of row place)) ≡ false
-        → (is_in_bounds (bounds_by k place es) (column_of row place) ≡ false → is_left_out (conjuncts_on low high es) row ≡ true)
-        → is_left_out (conjuncts_on low high (e ∷ es)) row ≡ true
-    of_first true is out rest = kept_rest (is_total e && reads_only (is_in low high) e) (rest (sym (ap (λ (b : Bool). b && is_in_bounds (bounds_by k place es) (column_of row place)) is) ∙ out))
-    of_first false is out rest =
-      let only : (is_total e && reads_only (is_in low high) e) ≡ true = is_only (bounds place e) refl is (bounds_only (is_in low high) place passes e) in
-      let refused : is_refused (val row e) ≡ true = one_out e (bounds place e) (refused_out k row place fits e) is in
-      ap (λ (t : Bool). is_left_out (if t then e ∷ conjuncts_on low high es else conjuncts_on low high es) row) only
-      ∙ ap (λ (b : Bool). b || is_left_out (conjuncts_on low high es) row) refused
+        kept_rest : (t : Bool) → is_left_out (conjuncts_on low high es) row ≡ true → is_left_out (if t then e ∷ conjuncts_on low high es else conjuncts_on low high es) row ≡ true
+        kept_rest true rest = ap (λ (b : Bool). is_refused (val row e) || b) rest ∙ or_true (is_refused (val row e)) where
+          or_true : (b : Bool) → (b || true) ≡ true
+          or_true true = refl
+          or_true false = refl
+        kept_rest false rest = rest
+
+        is_only : (bs : List Bound) → bs ≡ bounds place e → is_in_bounds (filter (λ (b : Bound). is_of_type k b.1) bs) (column_of row place) ≡ false → ((bounds place e ≡ []) ⊎ ((is_total e ≡ true) × (reads_only (is_in low high) e ≡ true))) → (is_total e && reads_only (is_in low high) e) ≡ true
+        is_only bs same out (inl none) = let empty : bs ≡ [] = same ∙ none in absurd (let q : true ≡ false = sym (ap (λ (l : List Bound). is_in_bounds (filter (λ (b : Bound). is_of_type k b.1) l) (column_of row place)) empty) ∙ out in cc)
+        is_only bs same out (inr is) = ap (λ (b : Bool). b && reads_only (is_in low high) e) is.0 ∙ is.1
+
+        of_first : (t : Bool) → is_in_bounds (filter (λ (b : Bound). is_of_type k b.1) (bounds place e)) (column_of row place) ≡ t
+            → (is_in_bounds (filter (λ (b : Bound). is_of_type k b.1) (bounds place e)) (column_of row place) && is_in_bounds (filter (λ (b : Bound). is_of_type k b.1) (flat_map (bounds place) es)) (column_of row place)) ≡ false
+            → (is_in_bounds (bounds_by k place es) (column_of row place) ≡ false → is_left_out (conjuncts_on low high es) row ≡ true)
+            → is_left_out (conjuncts_on low high (e ∷ es)) row ≡ true
+        of_first true is out rest = kept_rest (is_total e && reads_only (is_in low high) e) (rest (sym (ap (λ (b : Bool). b && is_in_bounds (bounds_by k place es) (column_of row place)) is) ∙ out))
+        of_first false is out rest =
+            let only : (is_total e && reads_only (is_in low high) e) ≡ true = is_only (bounds place e) refl is (bounds_only (is_in low high) place passes e) in
+            let refused : is_refused (val row e) ≡ true = one_out e (bounds place e) (refused_out k row place fits e) is in
+            ap (λ (t : Bool). is_left_out (if t then e ∷ conjuncts_on low high es else conjuncts_on low high es) row) only
+            ∙ ap (λ (b : Bool). b || is_left_out (conjuncts_on low high es) row) refused

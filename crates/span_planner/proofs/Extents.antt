@@ -68,8 +68,8 @@ pub widths_next : {Q : Type 0} (joins : List (Join Q)) (i : ℕ) (j : Join Q) �
 widths_next joins i j below is = rw (add-one i) (widths_after joins i j below is)
 
 leaf_len_after : {Q : Type 0} (schema : List Table) (tables : List ℕ) (first at : ℕ) (joins : List (Join Q)) (i : ℕ) (j : Join Q) →
-  i < length joins → j ≡ get_or joins i j → is_joined schema tables first at j.on j.item ≡ true →
-  leaf_len schema tables first at (drop i joins) ≡ suc (leaf_len schema tables first (at + j.width) (drop (suc i) joins))
+    i < length joins → j ≡ get_or joins i j → is_joined schema tables first at j.on j.item ≡ true →
+    leaf_len schema tables first at (drop i joins) ≡ suc (leaf_len schema tables first (at + j.width) (drop (suc i) joins))
 leaf_len_after schema tables first at [] i j below is joined = absurd (omega arith)
 leaf_len_after schema tables first at (k ∷ joins) zero j below is joined =
     let same : is_joined schema tables first at k.on k.item ≡ true = ap (λ (x : _). is_joined schema tables first at x.on x.item) (sym is) ∙ joined in
@@ -78,6 +78,6 @@ leaf_len_after schema tables first at (k ∷ joins) zero j below is joined =
 leaf_len_after schema tables first at (k ∷ joins) (suc i) j below is joined = leaf_len_after schema tables first at joins i j (omega arith) is joined
 
 pub leaf_len_next : {Q : Type 0} (schema : List Table) (tables : List ℕ) (first at : ℕ) (joins : List (Join Q)) (i : ℕ) (j : Join Q) →
-  i < length joins → j ≡ get_or joins i j → is_joined schema tables first at j.on j.item ≡ true →
-  leaf_len schema tables first at (drop i joins) ≡ suc (leaf_len schema tables first (at + j.width) (drop (i + 1) joins))
+    i < length joins → j ≡ get_or joins i j → is_joined schema tables first at j.on j.item ≡ true →
+    leaf_len schema tables first at (drop i joins) ≡ suc (leaf_len schema tables first (at + j.width) (drop (i + 1) joins))
 leaf_len_next schema tables first at joins i j below is joined = rw (add-one i) (leaf_len_after schema tables first at joins i j below is joined)

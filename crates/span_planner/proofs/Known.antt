@@ -49,11 +49,11 @@ module _ (schema : List Table) (tables : List ℕ) (keyed : (t : ℕ) → AllByR
   layer_known y sized =
       let d : BoundQuery-F BoundQuery = map-BoundQuery Told BoundQuery told_query y in
       let planned_is : planned schema tables (roll-BoundQuery d) ≡ planned_query schema tables (map_layer (λ t. planned schema tables (told_query t)) y) =
-        fold-roll-BoundQuery Planned (planned_query schema tables) d ∙ ap (planned_query schema tables) (layer_twice told_query (planned schema tables) y) in
+      fold-roll-BoundQuery Planned (planned_query schema tables) d ∙ ap (planned_query schema tables) (layer_twice told_query (planned schema tables) y) in
       let shape_is : shape schema tables (roll-BoundQuery d) ≡ query_shape schema tables (map_layer (λ t. shape schema tables (told_query t)) y) =
-        fold-roll-BoundQuery Shape (query_shape schema tables) d ∙ ap (query_shape schema tables) (layer_twice told_query (shape schema tables) y) in
+      fold-roll-BoundQuery Shape (query_shape schema tables) d ∙ ap (query_shape schema tables) (layer_twice told_query (shape schema tables) y) in
       let parts = both (list_all (is_sized_block schema tables) (map (map_block (λ t. shape schema tables (told_query t))) (y.first ∷ y.others)))
-        (list_all (λ (b : Block Shape). length b.outputs == length y.first.outputs) (map (map_block (λ t. shape schema tables (told_query t))) y.others)) (ap (λ (s : Shape). s.is_sized) (sym shape_is) ∙ sized) in
+      (list_all (λ (b : Block Shape). length b.outputs == length y.first.outputs) (map (map_block (λ t. shape schema tables (told_query t))) y.others)) (ap (λ (s : Shape). s.is_sized) (sym shape_is) ∙ sized) in
       subst (λ (p : Planned). AllByRecursion (IsPlanned schema) p.leaves) (sym planned_is) (blocks_planned schema tables keyed told_query (y.first ∷ y.others) (knows_blocks (y.first ∷ y.others)) parts.0)
 
   pub leaves_known : (q : BoundQuery) → AreLeavesKnown q

@@ -91,6 +91,7 @@ refused_all_true es row is = of_filter (all_true es) refl where
   nothing [] e = refl
   nothing (x ∷ []) e = cc
   nothing (x ∷ y ∷ more) e = cc
+
   of_filter : (o : Option Expr) → all_true es ≡ o → IsRefusedBy o row
   of_filter None e = let bad : true ≡ false = sym is ∙ nothing es e in cc
   of_filter (Some f) e = is_refused-all_true row es f e ∙ is
@@ -106,16 +107,17 @@ module _ (schema : List Table) (tables : List ℕ) where
       let front_len : length front ≡ at = length-replicate at in
       let row : Row = front ++ (x ++ rest) in
       let at_place : column_of row (at + place) ≡ column_of x place =
-        (let e : at + place ≡ length front + place = omega arith in ap (column_of row) e ∙ column_of-after front (x ++ rest) place ∙ column_of-append x rest place within) in
+      (let e : at + place ≡ length front + place = omega arith in ap (column_of row) e ∙ column_of-after front (x ++ rest) place ∙ column_of-append x rest place within) in
       let passes : is_in at (at + width) (at + place) ≡ true = inside at width place short in
       let left : is_left_out (conjuncts_on at (at + width) es) row ≡ true =
-        left_out_of_bounds k.kind row (at + place) at (at + width) (subst (Fits k.kind) (sym at_place) fits) passes es (ap (is_in_bounds (bounds_by k.kind (at + place) es)) at_place ∙ out) in
+      left_out_of_bounds k.kind row (at + place) at (at + width) (subst (Fits k.kind) (sym at_place) fits) passes es (ap (is_in_bounds (bounds_by k.kind (at + place) es)) at_place ∙ out) in
       refused_all_true (own at (conjuncts_on at (at + width) es)) (x ++ rest) (left_out-own at width (conjuncts_on at (at + width) es) (are_on at (at + width) es) front (x ++ rest) front_len ∙ left) where
-    length-replicate : (n : ℕ) → length (replicate n Null) ≡ n
-    length-replicate zero = refl
-    length-replicate (suc n) = ap suc (length-replicate n)
-    inside : (at width place : ℕ) → place < width → is_in at (at + width) (at + place) ≡ true
-    inside at width place h = grind (arith, nat_tests)
+        length-replicate : (n : ℕ) → length (replicate n Null) ≡ n
+        length-replicate zero = refl
+        length-replicate (suc n) = ap suc (length-replicate n)
+
+        inside : (at width place : ℕ) → place < width → is_in at (at + width) (at + place) ≡ true
+        inside at width place h = grind (arith, nat_tests)
 
   module _ (keyed : (t : ℕ) → AllByRecursion (λ (p : ℕ). p < width_of schema t) (key_places schema t)) where
     first_place : (t place : ℕ) (places : List ℕ) → key_places schema t ≡ place ∷ places → place < width_of schema t
@@ -160,9 +162,9 @@ module _ (schema : List Table) (tables : List ℕ) where
         let none : 0 + place ≡ place = omega arith in
         let passes : is_in 0 width place ≡ true = inside in
         left_out_of_bounds k.kind (x ++ rest) place 0 width (subst (Fits k.kind) (sym at_place) fits) passes (conjuncts w)
-          (ap (is_in_bounds (bounds_by k.kind place (conjuncts w))) at_place ∙ ap (λ (n : ℕ). is_in_bounds (bounds_by k.kind n (conjuncts w)) (column_of x place)) (sym none) ∙ out) where
-      inside : is_in 0 width place ≡ true
-      inside = grind (arith, nat_tests)
+        (ap (is_in_bounds (bounds_by k.kind place (conjuncts w))) at_place ∙ ap (λ (n : ℕ). is_in_bounds (bounds_by k.kind n (conjuncts w)) (column_of x place)) (sym none) ∙ out) where
+          inside : is_in 0 width place ≡ true
+          inside = grind (arith, nat_tests)
 
     module _ (b : Block Planned) (t len : ℕ) where
       abbrev leaf_width : ℕ
@@ -222,9 +224,9 @@ module _ (schema : List Table) (tables : List ℕ) where
       first_leaf_narrowed (Some w) is true total =
           let es : pushable b ≡ conjuncts w = ap (λ (x : Bool). if x then where_conjuncts b.filter else []) total ∙ ap where_conjuncts is in
           first_narrowed (len == length b.joins) w is total (first_leaf schema tables b t len) (ap first_range es) refl
-            (ap (λ (x : Option Expr). if len == length b.joins then x else all_true (conjuncts_on 0 leaf_width (pushable b))) is
-            ∙ ap (λ (xs : List Expr). if len == length b.joins then Some w else all_true (conjuncts_on 0 leaf_width xs)) es)
-            (key_columns schema t) (key_places schema t) refl refl
+          (ap (λ (x : Option Expr). if len == length b.joins then x else all_true (conjuncts_on 0 leaf_width (pushable b))) is
+          ∙ ap (λ (xs : List Expr). if len == length b.joins then Some w else all_true (conjuncts_on 0 leaf_width xs)) es)
+          (key_columns schema t) (key_places schema t) refl refl
 
     -- ---- the leaves of a block, and of a query
 
@@ -311,7 +313,7 @@ module _ (schema : List Table) (tables : List ℕ) where
           let parts = both_true (is_sized_join schema tables (map_join shape_t j)) (are_sized js) sized in
           let here = both_true (j.width == (item_shape schema tables (map_item shape_t j.item)).width) ((item_shape schema tables (map_item shape_t j.item)).is_sized) parts.0 in
           all_append (IsPlanned schema) (join_leaves schema tables at es j.is_left j.width (map_item plan_t j.item)) (rest_leaves schema tables es (at + j.width) (planned_joins js))
-            (item_leaves at es j.is_left j.width j.item knows.0 here.0 here.1) (rest_planned es (at + j.width) js knows.1 parts.1)
+          (item_leaves at es j.is_left j.width j.item knows.0 here.0 here.1) (rest_planned es (at + j.width) js knows.1 parts.1)
 
       first_planned : (b : Block T) (n : ℕ) → are_sized b.joins ≡ true → let t : ℕ = table_of tables n in let len : ℕ = leaf_len schema tables t (width_of schema t) (planned_joins b.joins) in IsPlanned schema (first_leaf schema tables (map_block plan_t b) t len)
       first_planned b n sized =
@@ -328,10 +330,11 @@ module _ (schema : List Table) (tables : List ℕ) where
       from_planned : (b : Block T) (i : Item T) → KnowsItem i → (item_shape schema tables (map_item shape_t i)).is_sized ≡ true → AllByRecursion KnowsJoin b.joins → are_sized b.joins ≡ true → AllByRecursion (IsPlanned schema) (leaves_from schema tables (map_block plan_t b) (map_item plan_t i))
       from_planned b (item.Table n) knows first_sized knows_rest sized =
           let t : ℕ = table_of tables n in
-          let len : ℕ = leaf_len schema tables t (width_of schema t) (planned_joins b.joins) in
-          (first_planned b n sized,
-          subst (λ (js : List (Join Planned)). AllByRecursion (IsPlanned schema) (rest_leaves schema tables (pushable (map_block plan_t b)) (width_of schema t + widths (take len (planned_joins b.joins))) js)) (sym (drop_map (map_join plan_t) len b.joins))
-            (rest_planned (pushable (map_block plan_t b)) (width_of schema t + widths (take len (planned_joins b.joins))) (drop len b.joins) (all_drop KnowsJoin len b.joins knows_rest) (sized_drop len b.joins sized)))
+          let len : ℕ = leaf_len schema tables t (width_of schema t) (planned_joins b.joins) in (
+            first_planned b n sized,
+            subst (λ (js : List (Join Planned)). AllByRecursion (IsPlanned schema) (rest_leaves schema tables (pushable (map_block plan_t b)) (width_of schema t + widths (take len (planned_joins b.joins))) js)) (sym (drop_map (map_join plan_t) len b.joins))
+                (rest_planned (pushable (map_block plan_t b)) (width_of schema t + widths (take len (planned_joins b.joins))) (drop len b.joins) (all_drop KnowsJoin len b.joins knows_rest) (sized_drop len b.joins sized)),
+          )
       from_planned b (item.Derived t) knows first_sized knows_rest sized =
           all_append (IsPlanned schema) (plan_t t).leaves (rest_leaves schema tables (pushable (map_block plan_t b)) (plan_t t).width (planned_joins b.joins)) (knows first_sized) (rest_planned (pushable (map_block plan_t b)) (plan_t t).width b.joins knows_rest sized)
 

@@ -55,14 +55,15 @@ module _ (schema : List Table) (tables : List ℕ) where
   rest_ranged es at [] are = tt {0}
   rest_ranged es at (j ∷ js) are =
       all_append (IsRanged schema) (join_leaves schema tables at es j.is_left j.width j.item) (rest_leaves schema tables es (at + j.width) js)
-        (join_ranged at es j.is_left j.width j.item are.0) (rest_ranged es (at + j.width) js are.1)
+      (join_ranged at es j.is_left j.width j.item are.0) (rest_ranged es (at + j.width) js are.1)
 
   from_ranged : (b : Block Planned) (i : Item Planned) → IsRangedItem i → AllByRecursion IsRangedJoin b.joins → AllByRecursion (IsRanged schema) (leaves_from schema tables b i)
   from_ranged b (item.Table n) is are =
       let table : ℕ = table_of tables n in
-      let len : ℕ = leaf_len schema tables table (width_of schema table) b.joins in
-      (record { table = table; at = 0; conditions = pushable b; is = refl },
-      rest_ranged (pushable b) (width_of schema table + widths (take len b.joins)) (drop len b.joins) (all_drop IsRangedJoin len b.joins are))
+      let len : ℕ = leaf_len schema tables table (width_of schema table) b.joins in (
+        record { table = table; at = 0; conditions = pushable b; is = refl },
+        rest_ranged (pushable b) (width_of schema table + widths (take len b.joins)) (drop len b.joins) (all_drop IsRangedJoin len b.joins are),
+      )
   from_ranged b (item.Derived p) is are =
       all_append (IsRanged schema) p.leaves (rest_leaves schema tables (pushable b) p.width b.joins) is (rest_ranged (pushable b) p.width b.joins are)
 
@@ -105,7 +106,7 @@ module _ (schema : List Table) (tables : List ℕ) where
   layer_ranged y =
       let d : BoundQuery-F BoundQuery = map-BoundQuery Told BoundQuery told_query y in
       let planned_is : planned schema tables (roll-BoundQuery d) ≡ planned_query schema tables (map_layer told_plan y) =
-        fold-roll-BoundQuery Planned (planned_query schema tables) d ∙ ap (planned_query schema tables) (layer_twice told_query (planned schema tables) y) in
+      fold-roll-BoundQuery Planned (planned_query schema tables) d ∙ ap (planned_query schema tables) (layer_twice told_query (planned schema tables) y) in
       subst AreRanged (sym planned_is) (blocks_ranged (map (map_block told_plan) (y.first ∷ y.others)) (told_blocks (y.first ∷ y.others)))
 
   pub leaves_ranged : (q : BoundQuery) → AreLeavesRanged q

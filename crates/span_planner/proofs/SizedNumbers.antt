@@ -65,11 +65,11 @@ module _ (schema : List Table) (tables : List ℕ) where
   layer_too y sized =
       let d : BoundQuery-F BoundQuery = map-BoundQuery Told BoundQuery told_query y in
       let shape_is : shape schema tables (roll-BoundQuery d) ≡ query_shape schema tables (map_layer told_shape y) =
-        fold-roll-BoundQuery Shape (query_shape schema tables) d ∙ ap (query_shape schema tables) (layer_twice told_query (shape schema tables) y) in
+      fold-roll-BoundQuery Shape (query_shape schema tables) d ∙ ap (query_shape schema tables) (layer_twice told_query (shape schema tables) y) in
       let test_is : is_numbered tables (roll-BoundQuery d) ≡ numbered_query tables (map_layer told_test y) =
-        fold-roll-BoundQuery Bool (numbered_query tables) d ∙ ap (numbered_query tables) (layer_twice told_query (is_numbered tables) y) in
+      fold-roll-BoundQuery Bool (numbered_query tables) d ∙ ap (numbered_query tables) (layer_twice told_query (is_numbered tables) y) in
       let parts = both (list_all (is_sized_block schema tables) (map (map_block told_shape) (y.first ∷ y.others)))
-        (list_all (λ (b : Block Shape). length b.outputs == length y.first.outputs) (map (map_block told_shape) y.others)) (ap (λ (s : Shape). s.is_sized) (sym shape_is) ∙ sized) in
+      (list_all (λ (b : Block Shape). length b.outputs == length y.first.outputs) (map (map_block told_shape) y.others)) (ap (λ (s : Shape). s.is_sized) (sym shape_is) ∙ sized) in
       test_is ∙ blocks_too (y.first ∷ y.others) parts.0
 
   pub sized_numbered : (q : BoundQuery) → IsNumberedToo q

@@ -73,7 +73,7 @@ module _ (schema : List Table) (tables : List ℕ) (are : AllByRecursion (IsTabl
   rest_tabled es at (j ∷ js) is =
       let parts = join_sized j js is in
       all_append HasTables (join_leaves schema tables at es j.is_left j.width (map_item told_plan j.item)) (rest_leaves schema tables es (at + j.width) (planned_joins js))
-        (item_tabled at es j.is_left j.width j.item parts.0) (rest_tabled es (at + j.width) js parts.1)
+      (item_tabled at es j.is_left j.width j.item parts.0) (rest_tabled es (at + j.width) js parts.1)
 
   sized_drop : (n : ℕ) (js : List (Join Told)) → are_sized js ≡ true → are_sized (drop n js) ≡ true
   sized_drop zero js is = is
@@ -105,10 +105,11 @@ module _ (schema : List Table) (tables : List ℕ) (are : AllByRecursion (IsTabl
   from_tabled : (b : Block Told) (i : Item Told) → (item_shape schema tables (map_item told_shape i)).is_sized ≡ true → are_sized b.joins ≡ true → AllByRecursion HasTables (leaves_from schema tables (map_block told_plan b) (map_item told_plan i))
   from_tabled b (item.Table n) first_sized sized =
       let t : ℕ = table_of tables n in
-      let len : ℕ = leaf_len schema tables t (width_of schema t) (planned_joins b.joins) in
-      ((table_is schema tables n are first_sized, joined_tabled t (width_of schema t) b.joins sized),
-      subst (λ (js : List (Join Planned)). AllByRecursion HasTables (rest_leaves schema tables (pushable (map_block told_plan b)) (width_of schema t + widths (take len (planned_joins b.joins))) js)) (sym (drop_map (map_join told_plan) len b.joins))
-        (rest_tabled (pushable (map_block told_plan b)) (width_of schema t + widths (take len (planned_joins b.joins))) (drop len b.joins) (sized_drop len b.joins sized)))
+      let len : ℕ = leaf_len schema tables t (width_of schema t) (planned_joins b.joins) in (
+        (table_is schema tables n are first_sized, joined_tabled t (width_of schema t) b.joins sized),
+        subst (λ (js : List (Join Planned)). AllByRecursion HasTables (rest_leaves schema tables (pushable (map_block told_plan b)) (width_of schema t + widths (take len (planned_joins b.joins))) js)) (sym (drop_map (map_join told_plan) len b.joins))
+            (rest_tabled (pushable (map_block told_plan b)) (width_of schema t + widths (take len (planned_joins b.joins))) (drop len b.joins) (sized_drop len b.joins sized)),
+      )
   from_tabled b (item.Derived t) first_sized sized =
       all_append HasTables (told_plan t).leaves (rest_leaves schema tables (pushable (map_block told_plan b)) (told_plan t).width (planned_joins b.joins)) (t.1 first_sized) (rest_tabled (pushable (map_block told_plan b)) (told_plan t).width b.joins sized)
 
@@ -123,11 +124,11 @@ module _ (schema : List Table) (tables : List ℕ) (are : AllByRecursion (IsTabl
   layer_tabled y sized =
       let d : BoundQuery-F BoundQuery = map-BoundQuery Told BoundQuery told_query y in
       let planned_is : planned schema tables (roll-BoundQuery d) ≡ planned_query schema tables (map_layer told_plan y) =
-        fold-roll-BoundQuery Planned (planned_query schema tables) d ∙ ap (planned_query schema tables) (layer_twice told_query (planned schema tables) y) in
+      fold-roll-BoundQuery Planned (planned_query schema tables) d ∙ ap (planned_query schema tables) (layer_twice told_query (planned schema tables) y) in
       let shape_is : shape schema tables (roll-BoundQuery d) ≡ query_shape schema tables (map_layer told_shape y) =
-        fold-roll-BoundQuery Shape (query_shape schema tables) d ∙ ap (query_shape schema tables) (layer_twice told_query (shape schema tables) y) in
+      fold-roll-BoundQuery Shape (query_shape schema tables) d ∙ ap (query_shape schema tables) (layer_twice told_query (shape schema tables) y) in
       let parts = both (list_all (is_sized_block schema tables) (map (map_block told_shape) (y.first ∷ y.others)))
-        (list_all (λ (b : Block Shape). length b.outputs == length y.first.outputs) (map (map_block told_shape) y.others)) (ap (λ (s : Shape). s.is_sized) (sym shape_is) ∙ sized) in
+      (list_all (λ (b : Block Shape). length b.outputs == length y.first.outputs) (map (map_block told_shape) y.others)) (ap (λ (s : Shape). s.is_sized) (sym shape_is) ∙ sized) in
       subst (λ (p : Planned). AllByRecursion HasTables p.leaves) (sym planned_is) (blocks_tabled (y.first ∷ y.others) parts.0)
 
   pub leaves_tabled : (q : BoundQuery) → AreTabled q

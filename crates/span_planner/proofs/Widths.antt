@@ -54,6 +54,7 @@ wide_project es rows = wide_concat_map (length es) (λ row. option_map singleton
   of_values : (o : OrFault Row) → HasLength (length es) o → IsWide (length es) (option_map singleton o)
   of_values None is = tt {0}
   of_values (Some vs) is = (is, tt {0})
+
   all_rows : (rows : List Row) → AllByRecursion (λ row. IsWide (length es) (option_map singleton (values es row))) rows
   all_rows [] = tt {0}
   all_rows (row ∷ rows) = (of_values (values es row) (values_len es row), all_rows rows)
@@ -69,8 +70,8 @@ wide_distinct_if n false rows is = is
 pub wide_block : (tables : ℕ → Rows) (b : Block Rows) → IsWide (length b.outputs) (block_rows tables b)
 wide_block tables b =
     wide_next (length b.outputs) (from tables b.from b.joins >>= filter_where b.filter >>= group_rows b.grouping >>= project_rows b.outputs) (distinct_if b.is_distinct)
-      (wide_bind (length b.outputs) (from tables b.from b.joins >>= filter_where b.filter >>= group_rows b.grouping) (project_rows b.outputs) (wide_project b.outputs))
-      (wide_distinct_if (length b.outputs) b.is_distinct)
+    (wide_bind (length b.outputs) (from tables b.from b.joins >>= filter_where b.filter >>= group_rows b.grouping) (project_rows b.outputs) (wide_project b.outputs))
+    (wide_distinct_if (length b.outputs) b.is_distinct)
 
 -- ---- ORDER BY and LIMIT
 
@@ -103,5 +104,5 @@ wide_limit n (Some l) rows is = wide_take n l.rows (drop l.skip rows) (wide_drop
 pub wide_query : (tables : ℕ → Rows) (n : ℕ) (q : BoundQuery-F Rows) → AllByRecursion (λ (b : Block Rows). length b.outputs ≡ n) (q.first ∷ q.others) → IsWide n (query_rows tables q)
 wide_query tables n q same =
     wide_next n (concat_map (block_rows tables) (q.first ∷ q.others)) (λ rows. limit_rows q.limit (sorted q.order rows))
-      (wide_concat_map n (block_rows tables) (q.first ∷ q.others) (all_map (λ (b : Block Rows). length b.outputs ≡ n) (λ b. IsWide n (block_rows tables b)) (λ b is. subst (λ (k : ℕ). IsWide k (block_rows tables b)) is (wide_block tables b)) (q.first ∷ q.others) same))
-      (λ rows is. wide_limit n q.limit (sorted q.order rows) (wide_sorted n (comes_before q.order) rows is))
+    (wide_concat_map n (block_rows tables) (q.first ∷ q.others) (all_map (λ (b : Block Rows). length b.outputs ≡ n) (λ b. IsWide n (block_rows tables b)) (λ b is. subst (λ (k : ℕ). IsWide k (block_rows tables b)) is (wide_block tables b)) (q.first ∷ q.others) same))
+    (λ rows is. wide_limit n q.limit (sorted q.order rows) (wide_sorted n (comes_before q.order) rows is))

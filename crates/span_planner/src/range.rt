@@ -159,9 +159,23 @@ fn narrow_by_comparison(
     ensures { IfOk result (λ found. found ≡ spec.narrowed_by column.root column.part range (spec.bounds_compared column.place left.now comparison right.now)) }
 {
     let bound = bound_of(comparison);
-    let range = narrow_if(alloc, column, range, as_column(left), bound, as_literal(right))?;
+    let range = narrow_if(
+        alloc,
+        column,
+        range,
+        as_column(left),
+        bound,
+        as_literal(right),
+    )?;
     let bound = bound.map(exchanged);
-    narrow_if(alloc, column, range, as_column(right), bound, as_literal(left))
+    narrow_if(
+        alloc,
+        column,
+        range,
+        as_column(right),
+        bound,
+        as_literal(left),
+    )
 }
 
 /// A range, narrowed by a BETWEEN.

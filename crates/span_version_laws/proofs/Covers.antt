@@ -263,8 +263,8 @@ module _ (schema : List Table) (rules : MeetsRules schema) (m : Machine) (reache
       let typed = typed_stay schema [] (mutations_of (upto m.log s)) db tt (typed_upto schema m.log s reached.by_schema.log) made in
       let typed_after = typed_stay schema [] (mutations_of (upto after.log s)) out tt (typed_upto schema after.log s reached_after.by_schema.log) made_after in
       ap (λ (rs : List TableRow). map (declared_row schema) rs ∷ tables_within schema db ns c)
-        (rows_alike_within schema rules c ends n (mutations_of (upto m.log s)) (mutations_of (upto after.log s)) db out keyed keyed_after typed typed_after made made_after
-        (λ root is within. (answer_keeps schema root is s m reached.holding (seal root is within) u step).same))
+      (rows_alike_within schema rules c ends n (mutations_of (upto m.log s)) (mutations_of (upto after.log s)) db out keyed keyed_after typed typed_after made made_after
+      (λ root is within. (answer_keeps schema root is s m reached.holding (seal root is within) u step).same))
       ∙ ap (λ (l : List (List (List Value))). rows_within schema out n c ∷ l) (tables_sealed s c seal ends db out made made_after ns)
 
   -- and so does what a leaf gives there
