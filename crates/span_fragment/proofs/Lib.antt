@@ -1,4 +1,4 @@
-mod DeclaredRows
+pub mod DeclaredRows
 mod Directories
 mod Ending
 mod Entries

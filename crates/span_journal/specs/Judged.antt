@@ -116,7 +116,7 @@ pub record IsRaised (old : Machine) (slot h : ℕ) (new : Machine) : Type 0 wher
   pub accepted : trim_refusal old slot h slot_state ≡ None
   pub after : new ≡ record old { slots = slice_set old.slots slot (record slot_state { horizon = h }) }
 
--- what a scan finds: nothing uncovered, or what may be read of which table
+-- what a scan finds: nothing uncovered, or the part of the leaf's range that may be read
 abbrev pub IsGap : Machine → ℕ → ℕ → ℕ → Interval → Option Gap → Type 0
 IsGap m query leaf slot interval None = scan m query leaf slot interval ≡ (reply.Nothing, m)
 IsGap m query leaf slot interval (Some gap) = MayScan m query leaf slot interval gap.range gap.s
@@ -181,7 +181,7 @@ pub record MaySplit (m : Machine) (slot : ℕ) (key : List ℕ) : Type 0 where
   pub here : slice_get m.slots slot ≡ Some slot_state
   pub accepted : split_refusal m slot key slot_state ≡ None
 
--- what a slot is cut by: where, and the state of the new slot; there is room for it
+-- what a slot is cut by: where, and the state of the new slot; it is within the limit of slots
 pub record IsCutOf (m : Machine) (slot : ℕ) (cut : Cut) : Type 0 where
   pub slot_state : SlotState
   pub here : slice_get m.slots slot ≡ Some slot_state

@@ -149,7 +149,7 @@ never_below [] (y ∷ ys) = refl
 never_below (x ∷ xs) [] = refl
 never_below (x ∷ xs) (y ∷ ys) = refl
 
--- keys that begin with another byte than the end are alike
+-- keys that begin with another byte than the end are all on one side of it
 other_first : (u t : ℕ) (xs ys zs : List ℕ) (o : Ordering) → nat_cmp u t ≡ o → o ≢ Equal → is_lt (byte_order (u ∷ xs) (t ∷ zs)) ≡ is_lt (byte_order (u ∷ ys) (t ∷ zs))
 other_first u t xs ys zs Less e off = ap (λ (o : Ordering). is_lt (ordering_then o (byte_order xs zs))) e ∙ sym (ap (λ (o : Ordering). is_lt (ordering_then o (byte_order ys zs))) e)
 other_first u t xs ys zs Equal e off = absurd (off refl)

@@ -165,7 +165,7 @@ same_rows schema rules n a b is_a is_b same =
 abbrev pub AreAlikeAt : List Table → List CheckedMutation → List CheckedMutation → ℕ → Type 0
 AreAlikeAt schema ms ns n = (root : Root) → IsRoot schema root → root.table ≡ root_of schema n → filter (is_at schema root) ns ≡ filter (is_at schema root) ms
 
--- mutations that are alike in a table's family make the same rows of the table
+-- mutations that are equal in a table's family make the same rows of the table
 pub rows_alike : (schema : List Table) → MeetsRules schema → (n : ℕ) (ms ns : List CheckedMutation) (a b : List TableRow) → AreKeyed schema ms → AreKeyed schema ns → apply schema [] ms ≡ Ok a → apply schema [] ns ≡ Ok b → AreAlikeAt schema ms ns n → rows_of n a ≡ rows_of n b
 rows_alike schema rules n ms ns a b keyed_ms keyed_ns e f alike =
     same_rows schema rules n a b (apply-database schema rules ms [] a (empty_database schema) keyed_ms e) (apply-database schema rules ns [] b (empty_database schema) keyed_ns f)

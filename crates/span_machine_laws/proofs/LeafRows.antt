@@ -1,4 +1,4 @@
--- The rows of a leaf's tables: their values at the places of the key, and whether they are in a range that bounds of the first key column narrow.
+-- The rows of a leaf's tables, and whether they are in a range that bounds of the first key column narrow.
 use Rattle.std.proofs.Common.{◌≡◌, ℕ, ◌<◌, ◌==◌, Bool, true, false, not, ◌&&◌, List, [], ◌∷◌, map, take, length, Option, Some, refl, ap, sym, subst, ◌∙◌, arith}
 use Rattle.std.specs.Prelude.{slice_get, if◌then◌else◌}
 use Rattle.std.specs.Cmp.{both_ways as same_tests}
@@ -36,64 +36,9 @@ use Rattle.span_planner.proofs.Cutting.{columns}
 use Rattle.span_machine.specs.Meaning.{value_for, value_at, declared_row, row_within}
 use Rattle.span_machine_laws.proofs.FamilyRows.{root_first, first_within}
 use Rattle.span_machine_laws.proofs.FirstColumns.{first_place, IsOfFamily}
-use Rattle.span_machine_laws.proofs.KeyPlaces.{ArePlacesApart, has_key_columns, keyed}
-
--- ---- values at the places of the key
-
--- each has a value of its own
-abbrev value_among : List ℕ → List Value → (ℕ → Option Value) → ℕ → Value
-value_among ps vs other place = unwrap_or (option_or (value_for ps vs place) (other place)) Null
-
-passed_over : (p : ℕ) (v : Value) (ps : List ℕ) (vs : List Value) (other : ℕ → Option Value) (qs : List ℕ) → AllByRecursion (λ (q : ℕ). (p == q) ≡ false) qs
-    → map (value_among (p ∷ ps) (v ∷ vs) other) qs ≡ map (value_among ps vs other) qs
-passed_over p v ps vs other [] apart = refl
-passed_over p v ps vs other (q ∷ qs) apart =
-    ap (λ (b : Bool). unwrap_or (option_or (if b then Some v else value_for ps vs q) (other q)) Null ∷ map (value_among (p ∷ ps) (v ∷ vs) other) qs) apart.0
-    ∙ ap (λ (l : List Value). value_among ps vs other q ∷ l) (passed_over p v ps vs other qs apart.1)
-
-values_at_own : (ps : List ℕ) (vs : List Value) (other : ℕ → Option Value) → length ps ≡ length vs → ArePlacesApart ps → map (value_among ps vs other) ps ≡ vs
-values_at_own [] [] other long apart = refl
-values_at_own [] (v ∷ vs) other long apart = absurd (omega arith)
-values_at_own (p ∷ ps) [] other long apart = absurd (omega arith)
-values_at_own (p ∷ ps) (v ∷ vs) other long apart =
-    let itself : (p == p) ≡ true = grind arith in
-    ap (λ (b : Bool). unwrap_or (option_or (if b then Some v else value_for ps vs p) (other p)) Null ∷ map (value_among (p ∷ ps) (v ∷ vs) other) ps) itself
-    ∙ ap (λ (l : List Value). v ∷ l) (passed_over p v ps vs other ps apart.0 ∙ values_at_own ps vs other (omega arith) apart.1)
-
--- ---- rows as they are declared
-
-module _ (schema : List Table) where
-  pub row_width : (r : TableRow) → length (declared_row schema r) ≡ width_of schema r.table
-  row_width r = length-map-range_with_len (value_at schema r) 0 (length (columns_of schema r.table))
-
-  column_at : (r : TableRow) (place : ℕ) → place < width_of schema r.table → column_of (declared_row schema r) place ≡ value_at schema r place
-  column_at r place within =
-      let long : place < length (declared_row schema r) = omega (arith, row_width r) in
-      let found : slice_get (declared_row schema r) place ≡ Some (value_at schema r place) =
-      slice_get-get_or (declared_row schema r) place Null long
-      ∙ ap (λ (v : Value). Some v) (get_or-map-range_with_len (value_at schema r) 0 (length (columns_of schema r.table)) place place Null within (omega arith)) in
-      ap or_null found
-
-  columns_at : (r : TableRow) (places : List ℕ) → AllByRecursion (λ (p : ℕ). p < width_of schema r.table) places → columns places (declared_row schema r) ≡ map (value_at schema r) places
-  columns_at r [] within = refl
-  columns_at r (p ∷ ps) within =
-      ap (λ (v : Value). v ∷ columns ps (declared_row schema r)) (column_at r p within.0) ∙ ap (λ (l : List Value). value_at schema r p ∷ l) (columns_at r ps within.1)
+use Rattle.span_fragment.proofs.DeclaredRows.{key_of_columns}
 
 module _ (schema : List Table) (rules : MeetsRules schema) where
-  -- the columns at the places of the key have the values of the key
-  pub key_of_columns : (r : TableRow) → IsTyped schema r → columns (key_places schema r.table) (declared_row schema r) ≡ r.key
-  key_of_columns r typed =
-      let has = has_key_columns schema rules r.table (omega (arith, typed.0.0.0.0, typed.0.0.0.1)) in
-      let long : length (key_places schema r.table) ≡ length r.key = has.placed ∙ fit_length (key_columns schema r.table) r.key typed.0.0.1 in
-      columns_at schema r (key_places schema r.table) (keyed schema r.table)
-      ∙ values_at_own (key_places schema r.table) r.key (value_for (other_places schema r.table) r.cells) long has.apart
-
-  -- those at the places of the root key have the values of the root row's key
-  pub root_of_columns : (r : TableRow) → IsTyped schema r → columns (root_places schema r.table) (declared_row schema r) ≡ take (length (key_columns schema (root_of schema r.table))) r.key
-  root_of_columns r typed =
-      let count : ℕ = length (key_columns schema (root_of schema r.table)) in
-      sym (take-map (column_of (declared_row schema r)) count (key_places schema r.table)) ∙ ap (take count) (key_of_columns r typed)
-
   -- ---- ranges that are narrowed by bounds of the first key column
 
   module _ (root : ℕ) (part : KeyPart) (cs : List KeyPart) (own : own_key_columns schema root ≡ part ∷ cs) where
@@ -151,7 +96,7 @@ module _ (schema : List Table) (rules : MeetsRules schema) where
     -- THE LAW OF CODED RANGES: a row is in a range that bounds narrow just where its first key column passes them
     pub row_in_bounds : (bs : List Bound) → list_all (λ (b : Bound). is_of_type part.kind b.1) bs ≡ true → (r : TableRow) → IsTyped schema r → (of : IsOfFamily schema root part r.table)
         → row_within schema (range_by root part bs) r ≡ is_in_bounds bs (column_of (declared_row schema r) (first_place schema r.table))
-    row_in_bounds bs typed_bounds r typed of = by_key r.key refl (subst (λ (ps : List ℕ). columns ps (declared_row schema r) ≡ r.key) of.places_are (key_of_columns r typed))
+    row_in_bounds bs typed_bounds r typed of = by_key r.key refl (subst (λ (ps : List ℕ). columns ps (declared_row schema r) ≡ r.key) of.places_are (key_of_columns schema rules r typed))
       where
         by_key : (vs : List Value) → r.key ≡ vs → columns (first_place schema r.table ∷ of.places) (declared_row schema r) ≡ r.key → row_within schema (range_by root part bs) r ≡ is_in_bounds bs (column_of (declared_row schema r) (first_place schema r.table))
         by_key [] is values = absurd (let bad : column_of (declared_row schema r) (first_place schema r.table) ∷ columns of.places (declared_row schema r) ≡ [] = values ∙ is in cc)
@@ -170,7 +115,7 @@ module _ (schema : List Table) (rules : MeetsRules schema) where
 
   -- the first key column fits its kind
   pub first_fits : (root : ℕ) (part : KeyPart) (r : TableRow) → IsTyped schema r → (of : IsOfFamily schema root part r.table) → Fits part.kind (column_of (declared_row schema r) (first_place schema r.table))
-  first_fits root part r typed of = by_key r.key refl (subst (λ (ps : List ℕ). columns ps (declared_row schema r) ≡ r.key) of.places_are (key_of_columns r typed))
+  first_fits root part r typed of = by_key r.key refl (subst (λ (ps : List ℕ). columns ps (declared_row schema r) ≡ r.key) of.places_are (key_of_columns schema rules r typed))
     where
       by_key : (vs : List Value) → r.key ≡ vs → columns (first_place schema r.table ∷ of.places) (declared_row schema r) ≡ r.key → Fits part.kind (column_of (declared_row schema r) (first_place schema r.table))
       by_key [] is values = absurd (let bad : column_of (declared_row schema r) (first_place schema r.table) ∷ columns of.places (declared_row schema r) ≡ [] = values ∙ is in cc)

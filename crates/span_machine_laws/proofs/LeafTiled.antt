@@ -33,8 +33,8 @@ use Rattle.span_planner.proofs.Cutting.{CutTable, whole_rows, first_rows, second
 use Rattle.span_planner.proofs.Planned.{AreRooted, IsPlanned}
 use Rattle.span_machine.specs.Meaning.{declared_row, row_within, rows_within, tables_within, leaf_within}
 use Rattle.span_machine_laws.proofs.Ends.{below_as_root}
-use Rattle.span_machine_laws.proofs.KeyPlaces.{keyed, has_key_columns, root_key_of}
-use Rattle.span_machine_laws.proofs.LeafRows.{row_width, root_of_columns}
+use Rattle.span_fragment.proofs.KeyPlaces.{keyed, has_key_columns, root_key_of}
+use Rattle.span_fragment.proofs.DeclaredRows.{row_width, root_of_columns, root_places_long}
 use Rattle.span_machine_laws.proofs.Pieces.{IsEnd, AreEnds}
 use Rattle.span_machine_laws.proofs.TableOrder.{IsOfTable, of_table, table_rises, parts_joined}
 
@@ -81,24 +81,6 @@ nothing_where leaf = of_filter leaf.filter
 
 no_rows : (leaf : Leaf) (tables : List (List Row)) → leaf_rows leaf ([] ∷ tables) ≡ Some []
 no_rows leaf tables = ap (λ (o : Rows). o >>= filter_where leaf.filter) (no_joins leaf.joins tables) ∙ nothing_where leaf
-
--- ---- the places of root keys
-
--- tables of a family have root keys of one length, also where they are no tables of the schema
-root_places_long : (schema : List Table) → MeetsRules schema → (t : ℕ) → length (root_places schema t) ≡ length (key_columns schema (root_of schema t))
-root_places_long schema rules t = elim (slice_get_cases schema (t - 1)).1 [
-  | inl here ↦ (
-      let has = has_key_columns schema rules t here.1 in
-      let begins = root_key_of schema rules t here.1 in
-      let sum : length (key_columns schema t) ≡ length (key_columns schema (root_of schema t)) + length begins.rest = ap (λ (l : List KeyPart). length l) begins.key ∙ length-append (key_columns schema (root_of schema t)) begins.rest in
-      length-take-le (length (key_columns schema (root_of schema t))) (key_places schema t) (omega (arith, sum, has.placed)))
-  | inr gone ↦ (
-      let alone : parent_at schema (t - 1) ≡ None = ap (parent_in (take (t - 1) schema)) gone.1 in
-      let own : root_of schema t ≡ t - 1 + 1 = ap (λ (ns : List ℕ). get_or ns 0 0) (path_root schema (t - 1) alone) in
-      let place : root_of schema t - 1 ≡ t - 1 = omega (arith, own) in
-      let none : key_columns schema (root_of schema t) ≡ [] = ap (λ (i : ℕ). key_parts (columns_in (slice_get schema i)) (key_in (slice_get schema i))) place ∙ ap (λ (o : Option Table). key_parts (columns_in o) (key_in o)) gone.1 in
-      ap (λ (l : List KeyPart). length (take (length l) (key_places schema t))) none ∙ sym (ap (λ (l : List KeyPart). length l) none))
-]
 
 -- ---- a range cut in two
 

@@ -15,7 +15,6 @@ pub mod Schemas
 pub mod Placed
 pub mod Numbers
 pub mod Decisions
-pub mod KeyPlaces
 pub mod FirstColumns
 pub mod BoundEnds
 pub mod CodedRoots

@@ -90,7 +90,7 @@ module _ (schema : List Table) (rules : MeetsRules schema) (range : KeyRange) wh
       ∙ ap (filter (λ (r : TableRow). r.table == n)) (by_roots ends a typed_a ∙ same_range a b is_a is_b same ∙ sym (by_roots ends b typed_b))
       ∙ sym (filters_turned (row_within schema range) (λ (r : TableRow). r.table == n) b)
 
-  -- mutations that are alike in the directories of the range make the same rows there
+  -- mutations that are equal in the directories of the range make the same rows there
   pub rows_alike_within : AreEnds schema range → (n : ℕ) (ms ns : List CheckedMutation) (a b : List TableRow) → AreKeyed schema ms → AreKeyed schema ns → AreTyped schema a → AreTyped schema b → apply schema [] ms ≡ Ok a → apply schema [] ns ≡ Ok b
       → ((root : Root) → IsRoot schema root → is_within range (root_code schema root) ≡ true → filter (is_at schema root) ns ≡ filter (is_at schema root) ms)
       → filter (row_within schema range) (rows_of n a) ≡ filter (row_within schema range) (rows_of n b)

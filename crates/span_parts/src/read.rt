@@ -1,5 +1,5 @@
 //! Reading a part of a leaf's range from a shard.
-ghost use Rattle.std.specs.Prelude.{IfSome, MatchResult};
+ghost use Rattle.std.specs.Prelude.{◌≡◌, Err, IfSome, MatchOption, MatchResult};
 ghost use Rattle.std.specs.List.{AllByRecursion};
 ghost use Rattle.span_schema.specs.Numbers.{IsTable};
 ghost use Rattle.span_machine.specs.Pieces.{machine_of};
@@ -26,11 +26,12 @@ pub(crate) fn read_gap(
     gap: &Gap,
 ) -> Result<Piece, Refusal>
     requires { IfSome (leaf_of (machine_of journal.now) query leaf) (λ l. AllByRecursion (IsTable schema.now) l.tables) }
-    ensures { IfSome (leaf_of (machine_of journal.now) query leaf)
+    ensures { MatchOption (leaf_of (machine_of journal.now) query leaf)
         (λ l.
         MatchResult result
         (λ piece. IsRead schema.now shard.now gap.now.range gap.now.s piece l)
-        (IsUnread schema.now shard.now gap.now.range gap.now.s)) }
+        (IsUnread schema.now shard.now gap.now.range gap.now.s))
+        (result ≡ Err Refusal.UnknownQuery) }
 {
     let Some(leaf) = journal.leaf(query, leaf) else {
         return Err(Refusal::UnknownQuery);

@@ -50,7 +50,7 @@ from_where tables b = from tables b.from b.joins >>= filter_where b.filter
 -- ---- which leaf gives which result
 
 module _ (w : ℕ → List Row) where
-  -- the leaves give the results after so many others
+  -- the leaves give the results after the given number of others
   abbrev pub AgreesAt : ℕ → List Leaf → (ℕ → Rows) → Type 0
   AgreesAt before [] f = Unit {0}
   AgreesAt before (l ∷ leaves) f = (f (before + 1) ≡ leaf_rows l (map w l.tables)) × AgreesAt (before + 1) leaves f
@@ -146,7 +146,7 @@ module _ (schema : List Table) (tables : List ℕ) (w : ℕ → List Row) (f0 f 
   leaf_tables joins = map w (map (join_table tables) joins)
 
   -- the tables of the first leaf, joined
-  -- the tables of so many further items, joined, are those items
+  -- the tables of the given number of further items, joined, are those items
   abbrev JoinsSo : ℕ → List (Join Q) → Type 0
   JoinsSo n joins = (rows : List Row) → join_tables (map leaf_join (take n (map planned_join joins))) (leaf_tables (take n (map planned_join joins))) rows ≡ run_joins (joined_of (map further (take n joins))) rows
 
@@ -168,7 +168,7 @@ module _ (schema : List Table) (tables : List ℕ) (w : ℕ → List Row) (f0 f 
   leaf_joins given first at [] rows = refl
   leaf_joins given first at (j ∷ joins) rows = item_joined given first at j.is_left j.item j.width j.on joins (leaf_joins given first (at + j.width) joins) rows
 
-  -- so many further items are tables
+  -- the given number of further items are tables
   abbrev GivenSo : ℕ → List (Join Q) → Type 0
   GivenSo n joins = AreGiven (joined_of (map further (take n joins)))
 

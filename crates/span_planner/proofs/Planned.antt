@@ -251,7 +251,7 @@ module _ (schema : List Table) (tables : List ℕ) where
       abbrev are_sized : List (Join T) → Bool
       are_sized js = list_all (is_sized_join schema tables) (map (map_join shape_t) js)
 
-      -- the first so many joins are of tables of the leaf
+      -- the first joins, up to the leaf's number, are of tables of the leaf
       abbrev RootedSo : ℕ → ℕ → ℕ → List (Join T) → Type 0
       RootedSo first at n js = AreRooted schema first at (map leaf_join (take n (planned_joins js))) (map (join_table tables) (take n (planned_joins js)))
 

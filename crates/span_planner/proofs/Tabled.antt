@@ -80,7 +80,7 @@ module _ (schema : List Table) (tables : List ℕ) (are : AllByRecursion (IsTabl
   sized_drop (suc n) [] is = is
   sized_drop (suc n) (j ∷ js) is = sized_drop n js (join_sized j js is).1
 
-  -- the tables of the first so many joins
+  -- the tables of the first joins, up to a given number
   abbrev AreFirst : ℕ → List (Join Told) → Type 0
   AreFirst n js = AllByRecursion (IsTable schema) (map (join_table tables) (take n (planned_joins js)))
 

@@ -36,7 +36,7 @@ wide_next n None f is keeps = tt {0}
 
 -- ---- the select list
 
--- the values of so many expressions, or the fault
+-- the values of a list of expressions are as many, or there is a fault
 abbrev HasLength : ℕ → OrFault Row → Type 0
 HasLength n None = Unit {0}
 HasLength n (Some vs) = length vs ≡ n
@@ -100,7 +100,7 @@ wide_limit : (n : ℕ) (l : Option Limit) (rows : List Row) → AreOfWidth n row
 wide_limit n None rows is = is
 wide_limit n (Some l) rows is = wide_take n l.rows (drop l.skip rows) (wide_drop n l.skip rows is)
 
--- the rows of a query whose blocks all have so many outputs
+-- the rows of a query whose blocks all have the same number of outputs
 pub wide_query : (tables : ℕ → Rows) (n : ℕ) (q : BoundQuery-F Rows) → AllByRecursion (λ (b : Block Rows). length b.outputs ≡ n) (q.first ∷ q.others) → IsWide n (query_rows tables q)
 wide_query tables n q same =
     wide_next n (concat_map (block_rows tables) (q.first ∷ q.others)) (λ rows. limit_rows q.limit (sorted q.order rows))

@@ -66,11 +66,11 @@ abbrev pub widths : {Q : Type 0} → List (Join Q) → ℕ
 widths [] = 0
 widths (j ∷ joins) = j.width + widths joins
 
--- Where so many items are the whole FROM, the leaf evaluates the whole WHERE.
+-- Where these items are the whole FROM, the leaf evaluates the whole WHERE.
 abbrev pub first_filter : {Q : Type 0} → Block Q → ℕ → ℕ → List Expr → Option Expr
 first_filter b len width es = if len == length b.joins then b.filter else all_true (conjuncts_on 0 width es)
 
--- the first table and so many items after it
+-- the first table and the given number of items after it
 abbrev pub first_leaf : {Q : Type 0} → List Table → List ℕ → Block Q → ℕ → ℕ → Leaf
 first_leaf schema tables b table len = record {
   tables = table ∷ map (join_table tables) (take len b.joins);
@@ -90,7 +90,7 @@ table_leaf schema table at width es = record {
   range = leaf_range schema table at es;
 }
 
--- a query with its derived tables planned: the number of its columns, its leaves, and the query above them, where so many leaves come before them
+-- a query with its derived tables planned: the number of its columns, its leaves, and the query above them, after the given number of leaves
 pub record Planned : Type 0 where
   pub width : ℕ
   pub leaves : List Leaf
@@ -122,7 +122,7 @@ block_leaves schema tables b = leaves_from schema tables b b.from
 
 -- ---- the query above the leaves
 
--- an item, where so many leaves come before its own
+-- an item, after the given number of leaves
 abbrev pub top_item : ℕ → Item Planned → Item BoundQuery
 top_item before (item.Table n) = item.Table (before + 1)
 top_item before (item.Derived p) = item.Derived (p.top before)
@@ -142,7 +142,7 @@ top_joins before (j ∷ joins) = top_join before j ∷ top_joins (before + count
 abbrev pub with_from : {Q : Type 0} → Block Q → Item BoundQuery → List (Join BoundQuery) → Option Expr → Block BoundQuery
 with_from b from joins filter = record { from = from; joins = joins; filter = filter; grouping = b.grouping; outputs = b.outputs; is_distinct = b.is_distinct }
 
--- none where so many items are the whole FROM, since their leaf evaluates it
+-- none where the leaf's items are the whole FROM, since the leaf evaluates it
 abbrev pub filter_above : {Q : Type 0} → Block Q → ℕ → Option Expr
 filter_above b len = if len == length b.joins then None else b.filter
 

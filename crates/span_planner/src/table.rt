@@ -34,7 +34,7 @@ pub(crate) fn root_places(schema: &Schema, table: usize) -> &[usize]
     &places[..len.min(places.len())]
 }
 
-/// The place of a column after others. The error: a row with so many columns is in no memory.
+/// The place of a column after others. The error: no memory holds a row of that width.
 pub(crate) fn place_after(front: usize, place: usize) -> Result<usize, AllocError>
     ensures { IfOk result (λ sum. sum ≡ front + place) }
 {

@@ -43,7 +43,7 @@ more_pending (Some xs) None bytes pending answer keeps = keeps
 more_pending (Some xs) (Some ys) bytes pending answer keeps =
     sym (append_assoc ys pending answer) ∙ ap (λ (w : List ℕ). w ++ answer) keeps ∙ append_assoc xs bytes answer
 
--- so many bytes of the rest are written
+-- the given number of bytes of the rest is written
 pub wrote_rest : (old now next : Option (List ℕ)) (bytes rest : List ℕ) (n : ℕ) → Keeps (append_known old bytes) (append_known now rest)
     → Appends now next (take n rest) → Keeps (append_known old bytes) (append_known next (drop n rest))
 wrote_rest old now next bytes rest n keeps appends = wrote_front old now next bytes rest (take n rest) (drop n rest) (sym (take-append-drop n rest)) keeps appends
