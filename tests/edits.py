@@ -5,8 +5,9 @@
     tests/edits.py [--jobs N] CRATE ..      these crates' alone
     tests/edits.py [--jobs N] --gate        those that gate.txt names, over the libraries that `rt ci` has just built: it has proved the
                                             crates as they are, and nothing but the edited functions is proved again here
+    tests/edits.py --built [CRATE ..]       every crate's edits, or these crates', over the libraries that `rt ci` has just built, as with --gate
 
-Without --gate it works on a copy of the repository and builds the libraries that the crates need. Each edit is tried over what `rt check`
+Without --gate and --built it works on a copy of the repository and builds the libraries that the crates need. Each edit is tried over what `rt check`
 kept of its crate: so prove the crates first (`rt all check`), or every check begins with the proof of all that a function calls. Where all
 edits of a crate are refused, its line in tests/edits/README.md gets the date and the commit.
 
@@ -55,10 +56,11 @@ def arguments():
     reader = argparse.ArgumentParser(description=__doc__.split("\n", maxsplit=1)[0], allow_abbrev=False)
     reader.add_argument("--jobs", type=int, default=os.cpu_count(), help="how many checks run at a time")
     reader.add_argument("--gate", action="store_true", help="the edits of the gate, after rt ci")
+    reader.add_argument("--built", action="store_true", help="over the libraries that rt ci has just built")
     reader.add_argument("crates", nargs="*", metavar="CRATE")
     found = reader.parse_args()
-    if found.gate and found.crates:
-        reader.error("--gate takes no crates")
+    if found.gate and (found.crates or found.built):
+        reader.error("--gate takes no crates, and no --built")
     for crate in found.crates:
         if crate not in crates_with_edits():
             reader.error(f"tests/edits has no edits of {crate}")
@@ -341,20 +343,21 @@ def write_line(crate, tried, commit):
         file.write(text)
 
 
-def try_all(rt, crates, edits, jobs, is_gate):
-    """Tries the edits of these crates, and returns what was said of each crate's. A crate whose edits are all refused gets its line."""
-    tried, commit = {it.name: [] for it in crates}, None if is_gate else commit_here()
+def try_all(rt, crates, edits, jobs, is_kept, commit):
+    """Tries the edits of these crates, and returns what was said of each crate's. A crate whose edits are all refused gets its line, where a
+    commit is given. is_kept: over what checks of the crates kept, and not over their libraries alone."""
+    tried = {it.name: [] for it in crates}
     with concurrent.futures.ThreadPoolExecutor(jobs) as pool:
         running = {}
         for crate in crates:
             batches, others = batches_of(crate, edits[crate.name])
             calls = [lambda kept, it=it: try_batch(rt, it, kept) for it in batches]
             calls += [lambda kept, it=it, crate=crate: [try_alone(rt, crate, it, kept)] for it in others]
-            running.update({pool.submit(try_over, rt, crate, call, not is_gate): crate.name for call in calls})
+            running.update({pool.submit(try_over, rt, crate, call, is_kept): crate.name for call in calls})
         for future in concurrent.futures.as_completed(running):
             name = running[future]
             tried[name] += future.result()
-            if not is_gate and len(tried[name]) == len(edits[name]) and all(well for well, _ in tried[name]):
+            if commit and len(tried[name]) == len(edits[name]) and all(well for well, _ in tried[name]):
                 write_line(name, tried[name], commit)
     return tried
 
@@ -373,18 +376,19 @@ def main():
     edits = edits_of_gate() if words.gate else {it: edits_of(it) for it in words.crates or crates_with_edits()}
     if not any(edits.values()):
         sys.exit("edits: there are none to try")
+    is_kept = not words.gate and not words.built
     with tempfile.TemporaryDirectory() as folder:
-        if not words.gate:
+        if is_kept:
             copy_of_repository(folder, edits)
-        top = TOP if words.gate else folder
+        top = folder if is_kept else TOP
         os.chdir(top)
         crates = sorted((it for it in rt.rtlib.crates_below(top) if it.name in edits), key=lambda it: -len(it.below()))
-        if not words.gate:
+        if is_kept:
             build_libraries(crates)
             lacking = unproved(rt, crates, words.jobs)
             if lacking:
                 sys.exit(f"edits: not proved: {', '.join(lacking)}")
-        tried = try_all(rt, crates, edits, words.jobs, words.gate)
+        tried = try_all(rt, crates, edits, words.jobs, is_kept, None if words.gate else commit_here())
         os.chdir(TOP)
     found = [one for it in tried.values() for one in it]
     print(f"edits: {sum(well for well, _ in found)} of {sum(map(len, edits.values()))} refused")
