@@ -92,7 +92,7 @@ fn bound_of(comparison: Comparison) -> Option<RangeComparison>
 }
 
 /// The same comparison with its sides exchanged.
-fn exchanged(comparison: RangeComparison) -> RangeComparison
+fn exchange_sides(comparison: RangeComparison) -> RangeComparison
     ensures { result ≡ spec.exchanged comparison }
 {
     match comparison {
@@ -167,7 +167,7 @@ fn narrow_by_comparison(
         bound,
         as_literal(right),
     )?;
-    let bound = bound.map(exchanged);
+    let bound = bound.map(exchange_sides);
     narrow_if(
         alloc,
         column,
