@@ -4,6 +4,7 @@ pub mod Joining
 pub mod Order
 pub mod Sorting
 pub mod RowOrder
+mod FirstRows
 pub mod Limits
 pub mod Alike
 mod Filtering

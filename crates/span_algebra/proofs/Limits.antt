@@ -1,5 +1,5 @@
 -- To cut off the end first, and then pass over the front.
-use Rattle.std.proofs.Common.{◌≡◌, sym, ap, ◌∙◌, ℕ, ◌+◌, ◌≤◌, min, List, take, drop, length, take_all, drop_of_length-le, arith, inl, inr}
+use Rattle.std.proofs.Common.{◌≡◌, sym, ap, ◌∙◌, ℕ, ◌+◌, ◌≤◌, min, List, take, drop, length, take_all, take-take, drop_of_length-le, arith, inl, inr}
 use Rattle.std.specs.List.{remove_range}
 use Rattle.std.proofs.Math.Nat.{min-eq_left, min-eq_right}
 use Rattle.std.proofs.lemmas.Bool.{cases_lt}
@@ -26,3 +26,7 @@ module _ {A : Type 0} where
       pass_over skip (take (min (skip + rows) most) xs)
       ∙ ap (drop skip) (cut_off (skip + rows) most xs fits)
       ∙ drop-take skip rows xs
+
+  -- the part is among the first items that it needs
+  pub part_of_first : (rows skip : ℕ) (xs : List A) → take rows (drop skip (take (skip + rows) xs)) ≡ take rows (drop skip xs)
+  part_of_first rows skip xs = ap (take rows) (drop-take skip rows xs) ∙ take-take rows rows (drop skip xs) (omega arith)

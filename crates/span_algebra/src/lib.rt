@@ -5,6 +5,7 @@ mod aggregate;
 mod block;
 mod distinct;
 pub mod filter;
+mod first_rows;
 mod group;
 pub mod join;
 pub mod plain;

@@ -1,5 +1,6 @@
 //! ORDER BY and LIMIT: rows in the order of some keys, and a part of a list of rows.
-ghost use Rattle.std.specs.Prelude.{◌≡◌, Some, List};
+ghost use Rattle.std.specs.Prelude.{◌≡◌, ◌+◌, IfSome, Some, List};
+ghost use Rattle.span_query.specs.declared.query.Limit.{Limit};
 ghost use Rattle.std.specs.Cmp.{IsStrictWeakOrder};
 ghost use Rattle.std.specs.List.Sorted.{IsStableBy};
 ghost use Rattle.span_query.specs.Rows.{Row};
@@ -9,12 +10,18 @@ ghost use Rattle.span_query.specs.declared.query.SortKey.{SortKey};
 ghost use Rattle.span_algebra.specs.Answers.{Gives};
 ghost use Rattle.span_algebra.specs.Orders.{IsSorted};
 
+use super::first_rows::first_rows;
 use span_expr::cell::Failure;
 use span_query::query::{Limit, SortKey};
 use span_value::order::compare;
 use span_value::seq::Seq;
 use span_value::value::{Row, Value};
+use std::alloc::Global;
 use std::cmp::Ordering;
+
+/// The most rows that LIMIT needs, those that are skipped included, for which they are kept in order while the others pass by:
+/// each row that is kept is moved past up to as many.
+const MOST_FIRST: u64 = 64;
 
 /// The order of two rows by one key; a place that a row does not have counts as NULL. Nothing is copied.
 fn compare_by_key(key: &SortKey, left: &[Value], right: &[Value]) -> Ordering
@@ -46,7 +53,7 @@ pub fn compare_rows(keys: &[SortKey], left: &[Value], right: &[Value]) -> Orderi
 }
 
 /// The rows in the order of the keys. Rows with equal keys keep their order. The only error is out of memory.
-pub(crate) fn sort_rows(keys: &[SortKey], rows: Seq<Row>) -> Result<Seq<Row>, Failure>
+fn sort_rows(keys: &[SortKey], rows: Seq<Row>) -> Result<Seq<Row>, Failure>
     ensures { Gives result (Some (spec.sorted keys.now rows)) }
 {
     if keys.is_empty() {
@@ -57,8 +64,42 @@ pub(crate) fn sort_rows(keys: &[SortKey], rows: Seq<Row>) -> Result<Seq<Row>, Fa
     Ok(Seq::from_vec(rows))
 }
 
+/// How many rows LIMIT needs of those in order, where there are keys and they are few; those that are skipped count too.
+fn first_count(keys: &[SortKey], limit: Option<Limit>) -> Option<usize>
+    ensures { IfSome result (λ count. (l : Limit) × (limit ≡ Some l) × (count ≡ l.skip + l.rows)) }
+{
+    if keys.is_empty() {
+        return None;
+    }
+    let limit = limit?;
+    let count = limit.skip.checked_add(limit.rows)?;
+    if count <= MOST_FIRST {
+        Some(count as usize)
+    } else {
+        None
+    }
+}
+
+/// The part that LIMIT leaves of the rows in the order of the keys. The only error is out of memory.
+///
+/// Where LIMIT needs few rows, the others are not put in order.
+pub(crate) fn order_rows(
+    alloc: Global,
+    keys: &[SortKey],
+    limit: Option<Limit>,
+    rows: Seq<Row>,
+) -> Result<Seq<Row>, Failure>
+    ensures { Gives result (Some (meaning.limit_rows limit (spec.sorted keys.now rows))) }
+{
+    let rows = match first_count(keys, limit) {
+        Some(count) => first_rows(alloc, keys, rows, count)?,
+        None => sort_rows(keys, rows)?,
+    };
+    Ok(limit_rows(limit, rows))
+}
+
 /// A part of the rows: those passed over and those cut off are dropped, the others are moved.
-pub(crate) fn limit_rows(limit: Option<Limit>, rows: Seq<Row>) -> Seq<Row>
+fn limit_rows(limit: Option<Limit>, rows: Seq<Row>) -> Seq<Row>
     ensures { result ≡ meaning.limit_rows limit rows }
 {
     let Some(limit) = limit else {
