@@ -7,3 +7,4 @@ pub mod States
 pub mod Meant
 pub mod Sources
 pub mod Grouped
+pub mod Hashes

@@ -7,6 +7,7 @@ mod distinct;
 pub mod filter;
 mod group;
 pub mod join;
+mod key;
 pub mod plain;
 pub mod row;
 mod select;
