@@ -6,7 +6,6 @@ pub mod Sorting
 pub mod RowOrder
 pub mod Limits
 pub mod Alike
-pub mod Hashes
 mod Filtering
 pub mod Firsts
 pub mod Taking

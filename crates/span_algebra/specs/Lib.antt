@@ -8,3 +8,4 @@ pub mod Meant
 pub mod Sources
 pub mod Grouped
 pub mod Hashes
+pub mod EqualRows

@@ -1,6 +1,7 @@
 //! Rows as the keys of an index by hash: a whole row, and the values of a lent row at some places. NULL equals NULL.
 ghost use Rattle.std.specs.Prelude.{◌≡◌, fold};
-ghost use Rattle.span_query.specs.Groups.{are_equal, columns_at};
+ghost use Rattle.span_expr.specs.Operators.{column_of};
+ghost use Rattle.span_query.specs.Groups.{is_equal, are_equal, columns_at};
 ghost use Rattle.span_algebra.specs.Hashes.{value_writes, row_writes};
 
 use super::distinct::{are_equal, is_equal};
@@ -30,14 +31,34 @@ fn hash_row<H: Hasher>(row: &[Value], state: &mut H)
     }
 }
 
-/// Feeds the values of a row at some places to a hasher; a place that the row does not have counts as NULL.
+/// Feeds the value of a row at a place to a hasher; a place that the row does not have counts as NULL.
+fn hash_column<H: Hasher>(row: &[Value], place: usize, state: &mut H)
+    ensures { state.new ≡ fold H.write state.old (value_writes (column_of row.now place)) }
+{
+    match row.get(place) {
+        Some(value) => hash_value(value, state),
+        None => hash_value(&Value::Null, state),
+    }
+}
+
+/// Feeds the values of a row at some places to a hasher.
 fn hash_columns<H: Hasher>(row: &[Value], places: &[usize], state: &mut H)
     ensures { state.new ≡ fold H.write state.old (row_writes (columns_at places.now row.now)) }
 {
-    let null = Value::Null;
     for place in places {
-        hash_value(row.get(*place).unwrap_or(&null), state);
+        hash_column(row, *place, state);
     }
+}
+
+/// Whether the value at a place of a row equals that at a place of another; a place that a row does not have counts as NULL.
+fn is_equal_at(left: &[Value], left_place: usize, right: &[Value], right_place: usize) -> bool
+    ensures { result ≡ is_equal (column_of left.now left_place) (column_of right.now right_place) }
+{
+    let null = Value::Null;
+    is_equal(
+        left.get(left_place).unwrap_or(&null),
+        right.get(right_place).unwrap_or(&null),
+    )
 }
 
 /// Whether two rows have equal values at some places of each.
@@ -52,11 +73,8 @@ fn have_equal_columns(
     if left_places.len() != right_places.len() {
         return false;
     }
-    let null = Value::Null;
     for at in 0..left_places.len() {
-        let left_value = left.get(left_places[at]).unwrap_or(&null);
-        let right_value = right.get(right_places[at]).unwrap_or(&null);
-        if !is_equal(left_value, right_value) {
+        if !is_equal_at(left, left_places[at], right, right_places[at]) {
             return false;
         }
     }
@@ -96,7 +114,7 @@ impl RowKey {
 impl PartialEq for RowKey {
     ghost use Rattle.std.specs.Cmp.{partial_equiv_from_equiv};
     ghost use Rattle.span_query.specs.Groups.{are_equal};
-    ghost use Rattle.span_algebra.proofs.Hashes.{rows_are_equivalent};
+    ghost use Rattle.span_algebra.specs.EqualRows.{rows_are_equivalent};
 
     ghost eq = { are_equal };
 
@@ -108,14 +126,14 @@ impl PartialEq for RowKey {
 }
 
 impl Eq for RowKey {
-    ghost use Rattle.span_algebra.proofs.Hashes.{rows_are_equivalent};
+    ghost use Rattle.span_algebra.specs.EqualRows.{rows_are_equivalent};
 
     ghost laws = { rows_are_equivalent };
 }
 
 impl Hash for RowKey {
     ghost use Rattle.span_algebra.specs.Hashes.{row_writes};
-    ghost use Rattle.span_algebra.proofs.Hashes.{equal_rows_hash_alike};
+    ghost use Rattle.span_algebra.specs.EqualRows.{equal_rows_hash_alike};
 
     ghost hash_input = { row_writes };
 
@@ -134,7 +152,7 @@ pub(crate) struct LentKey<'a> {
     places: &'a [usize],
 }
 
-impl Model for LentKey<'_> {
+impl<'a> Model for LentKey<'a> {
     ghost use Rattle.span_query.specs.Rows.{Row};
     ghost use Rattle.span_query.specs.Groups.{columns_at};
 
@@ -154,7 +172,7 @@ impl<'a> LentKey<'a> {
 impl<'a> PartialEq for LentKey<'a> {
     ghost use Rattle.std.specs.Cmp.{partial_equiv_from_equiv};
     ghost use Rattle.span_query.specs.Groups.{are_equal};
-    ghost use Rattle.span_algebra.proofs.Hashes.{rows_are_equivalent};
+    ghost use Rattle.span_algebra.specs.EqualRows.{rows_are_equivalent};
 
     ghost eq = { are_equal };
 
@@ -166,14 +184,14 @@ impl<'a> PartialEq for LentKey<'a> {
 }
 
 impl<'a> Eq for LentKey<'a> {
-    ghost use Rattle.span_algebra.proofs.Hashes.{rows_are_equivalent};
+    ghost use Rattle.span_algebra.specs.EqualRows.{rows_are_equivalent};
 
     ghost laws = { rows_are_equivalent };
 }
 
 impl<'a> Hash for LentKey<'a> {
     ghost use Rattle.span_algebra.specs.Hashes.{row_writes};
-    ghost use Rattle.span_algebra.proofs.Hashes.{equal_rows_hash_alike};
+    ghost use Rattle.span_algebra.specs.EqualRows.{equal_rows_hash_alike};
 
     ghost hash_input = { row_writes };
 
