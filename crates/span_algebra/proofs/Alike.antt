@@ -1,12 +1,7 @@
 -- Rows that are equal are the same row.
-use Rattle.std.proofs.Common.{◌≡◌, ◌≢◌, ℕ, suc, ◌+◌, ◌<◌, Bool, true, false, ◌&&◌, List, [], ◌∷◌, length, get_or, drop, refl, sym, ap, ◌∙◌, arith}
+use Rattle.std.proofs.Common.{◌≡◌, ◌≢◌, ℕ, suc, ◌+◌, ◌<◌, Bool, true, false, ◌&&◌, List, ◌∷◌, length, get_or, drop, refl, sym, ap, ◌∙◌, arith}
 use Rattle.std.proofs.Math.Seq.{drop-cons}
-use Rattle.std.specs.declared.cmp.Ordering.{Ordering}
-use Rattle.std.specs.declared.cmp.Ordering.TheVariants.{Less, Equal, Greater}
-use Rattle.std.specs.Ordering.{is_eq}
 use Rattle.span_value.specs.declared.value.Value.{Value}
-use Rattle.span_value.specs.Orders.{value_order}
-use Rattle.span_value.proofs.Total.{equal_is}
 use Rattle.span_query.specs.Rows.{Row}
 use Rattle.span_query.specs.Groups.{is_equal, are_equal}
 pub use Rattle.span_algebra.specs.EqualRows.{is_equal-same, is_equal-itself, are_equal-same, are_equal-itself, are_equal-reversed}

@@ -1,5 +1,5 @@
 -- The keys of groups: the place of a key among them, and one more key.
-use Rattle.std.proofs.Common.{◌≡◌, ◌≢◌, ℕ, zero, suc, ◌<◌, ◌≤◌, Bool, true, false, cond, not, ◌||◌, List, [], ◌∷◌, ◌++◌, length, get_or, map, refl, sym, ap, ◌∙◌, arith}
+use Rattle.std.proofs.Common.{◌≡◌, ◌≢◌, ℕ, zero, suc, ◌+◌, ◌<◌, ◌≤◌, Bool, true, false, cond, not, ◌||◌, List, [], ◌∷◌, ◌++◌, length, get_or, map, refl, sym, ap, ◌∙◌, arith}
 use Rattle.std.specs.List.{filter}
 use Rattle.std.proofs.lemmas.List.{map-append}
 use Rattle.std.proofs.lemmas.List.Elements.{filter-append}
@@ -143,9 +143,12 @@ place_most (x ∷ ks) k = elim (are_equal x k) as (λ b. cond b zero (suc (place
 
 -- ---- the place of a key in an index that has these keys
 
+step_in_index : (x : Row) (ks : List Row) (k : Row) → place_of (x ∷ ks) k ≡ cond (are_equal k x) 0 (1 + place_of ks k)
+step_in_index x ks k =
+    ap (λ b. cond b zero (suc (place_of ks k))) (are_equal-reversed x k) ∙ ap (λ (n : ℕ). cond (are_equal k x) 0 n) {x = suc (place_of ks k)} {y = 1 + place_of ks k} (omega arith)
+
 pub place_in_index : (ks : List Row) (k : Row) → position_or_len (are_equal k) ks ≡ place_of ks k
-place_in_index ks k =
-    sym (is_position_or_len (λ (l : List Row). place_of l k) (are_equal k) refl (λ x xs. ap (λ b. cond b zero (suc (place_of xs k))) (are_equal-reversed x k)) ks)
+place_in_index ks k = sym (is_position_or_len (λ (l : List Row). place_of l k) (are_equal k) refl (λ x xs. step_in_index x xs k) ks)
 
 module _ (keys index : List Row) (key k : Row) (at : ℕ) (indexed : index ≡ keys) (is : at ≡ position_or_len (are_equal k) index) (same : k ≡ key) where
   pub index_place : at ≡ place_of keys key

@@ -1,5 +1,5 @@
 -- What a row is to a hasher, so that rows that are equal have one hash.
-use Rattle.std.specs.Prelude.{List, [], ◌∷◌, flat_map}
+use Rattle.std.specs.Prelude.{[], ◌∷◌, flat_map}
 use Rattle.std.specs.Hash as fed
 use Rattle.std.specs.Hash.{HashWrites}
 use Rattle.span_value.specs.declared.value.Value.{Value}

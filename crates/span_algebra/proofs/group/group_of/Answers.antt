@@ -1,5 +1,4 @@
-use Rattle.std.proofs.Common.{rules, arith, ◌≡◌, ◌≢◌, ◌∷◌, ◌++◌, ◌<◌, ◌∙◌, [], sym, subst, List, length}
-use Rattle.span_query.specs.Rows.{Row}
+use Rattle.std.proofs.Common.{rules, arith, ◌≡◌, ◌≢◌, ◌∷◌, ◌++◌, ◌<◌, [], sym, subst, List, length}
 use Rattle.span_query.specs.Groups.{columns_at}
 use Rattle.span_algebra.specs.declared.group.Group.{Group}
 use Rattle.span_algebra.specs.Keys.{place_of}

@@ -66,4 +66,3 @@ returns c =
     let passed = c.loop-row.invariant.passed in
     let given : Gives c.rows_of.result (groups g passed.kept) = c.rows_of.ensures g passed.kept passed.are in
     subst (λ (o : Rows). Gives c.rows_of.result o) (sym (pass_ends filter g rows c.loop-row.row-index c.loop-row.groups.items passed (omega (arith, c.loop-row-test.false)))) given
-
