@@ -20,10 +20,10 @@ use Rattle.span_algebra.proofs.Places.{AreApart, place_found, place_tells, place
 key_at : (groups : List Group) (i : ℕ) (d : Group) (e : Row) → i < length groups → get_or (keys_of groups) i e ≡ (get_or groups i d).key
 key_at groups i d e inside = get_or-map (λ (x : Group). x.key) groups i d e inside
 
-key_count : (groups : List Group) → length (keys_of groups) ≡ length groups
+pub key_count : (groups : List Group) → length (keys_of groups) ≡ length groups
 key_count groups = length-map groups (λ (x : Group). x.key)
 
-keys-same : (groups : List Group) (at : ℕ) (new : Group) → at < length groups → new.key ≡ (get_or groups at new).key → keys_of (set groups at new) ≡ keys_of groups
+pub keys-same : (groups : List Group) (at : ℕ) (new : Group) → at < length groups → new.key ≡ (get_or groups at new).key → keys_of (set groups at new) ≡ keys_of groups
 keys-same [] at new within same = refl
 keys-same (x ∷ groups) zero new within same = ap (λ (k : Row). k ∷ keys_of groups) same
 keys-same (x ∷ groups) (suc at) new within same = ap (λ (ks : List Row). x.key ∷ ks) (keys-same groups at new (omega arith) same)

@@ -1,12 +1,13 @@
 -- Each row once, at its first place: one more row.
 use Rattle.std.proofs.Common.{◌≡◌, Bool, true, false, cond, not, ◌||◌, List, [], ◌∷◌, ◌++◌, refl, sym, ap, ◌∙◌}
-use Rattle.std.specs.List.{filter}
+use Rattle.std.specs.List.{filter, list_any}
+use Rattle.indexmap.specs.IndexSet.{insert_key}
 use Rattle.std.proofs.lemmas.List.Elements.{filter-append}
 use Rattle.std.proofs.lemmas.List.{append-nil}
 use Rattle.span_query.specs.Rows.{Row}
 use Rattle.span_query.specs.Groups.{are_equal, distinct}
 use Rattle.span_algebra.specs.Keys.{contains_row, with_new}
-use Rattle.span_algebra.proofs.Alike.{are_equal-same}
+use Rattle.span_algebra.proofs.Alike.{are_equal-same, are_equal-reversed}
 
 abbrev pub unlike : Row → Row → Bool
 unlike x y = not (are_equal x y)
@@ -42,10 +43,17 @@ distinct-more (x ∷ rows) y =
     ∙ rest_first x y (distinct rows) (are_equal x y) refl (contains_row (distinct rows) y) refl
     ∙ ap (λ b. cond b (x ∷ filter (unlike x) (distinct rows)) (x ∷ filter (unlike x) (distinct rows) ++ y ∷ [])) (same_any x y (distinct rows) (are_equal x y) refl)
 
-pub is_added : (kept rows : List Row) (y : Row) → kept ≡ distinct rows → contains_row kept y ≡ false → kept ++ y ∷ [] ≡ distinct (rows ++ y ∷ [])
-is_added kept rows y is new = sym (distinct-more rows y ∙ ap (λ (l : List Row). with_new l y) (sym is) ∙ ap (λ b. cond b kept (kept ++ y ∷ [])) new)
+-- ---- the keys of a set of rows
 
-pub is_passed : (kept rows : List Row) (y : Row) → kept ≡ distinct rows → contains_row kept y ≡ true → kept ≡ distinct (rows ++ y ∷ [])
-is_passed kept rows y is known = sym (distinct-more rows y ∙ ap (λ (l : List Row). with_new l y) (sym is) ∙ ap (λ b. cond b kept (kept ++ y ∷ [])) known)
+any_reversed : (keys : List Row) (y : Row) → list_any (are_equal y) keys ≡ contains_row keys y
+any_reversed [] y = refl
+any_reversed (x ∷ keys) y = ap (λ b. b || list_any (are_equal y) keys) (are_equal-reversed y x) ∙ ap (λ b. are_equal x y || b) (any_reversed keys y)
 
-pub ruleset one_more = (is_added, is_passed)
+-- one more key
+pub insert_key-new : (keys : List Row) (y : Row) → insert_key are_equal keys y ≡ with_new keys y
+insert_key-new keys y = ap (λ b. cond b keys (keys ++ y ∷ [])) (any_reversed keys y)
+
+pub distinct-inserted : (keys new rows : List Row) (y : Row) → keys ≡ distinct rows → new ≡ insert_key are_equal keys y → new ≡ distinct (rows ++ y ∷ [])
+distinct-inserted keys new rows y is inserted = inserted ∙ insert_key-new keys y ∙ ap (λ (l : List Row). with_new l y) is ∙ sym (distinct-more rows y)
+
+pub ruleset one_more = (distinct-inserted)

@@ -1,14 +1,17 @@
 -- The keys of groups: the place of a key among them, and one more key.
-use Rattle.std.proofs.Common.{◌≡◌, ◌≢◌, ℕ, zero, suc, ◌<◌, ◌≤◌, Bool, true, false, cond, not, ◌||◌, List, [], ◌∷◌, ◌++◌, length, get_or, map, refl, sym, ap, ◌∙◌, arith}
+use Rattle.std.proofs.Common.{◌≡◌, ◌≢◌, ℕ, zero, suc, ◌+◌, ◌<◌, ◌≤◌, Bool, true, false, cond, not, ◌||◌, List, [], ◌∷◌, ◌++◌, length, get_or, map, refl, sym, ap, ◌∙◌, arith}
 use Rattle.std.specs.List.{filter}
 use Rattle.std.proofs.lemmas.List.{map-append}
 use Rattle.std.proofs.lemmas.List.Elements.{filter-append}
 use Rattle.std.proofs.lemmas.List.Folds.{list_any-append}
+use Rattle.std.proofs.lemmas.List.Recursion.{is_position_or_len}
+use Rattle.std.specs.List.{position_or_len}
+use Rattle.indexmap.specs.IndexSet.{insert_key}
 use Rattle.span_query.specs.Rows.{Row}
 use Rattle.span_query.specs.Groups.{are_equal, distinct, columns_at, group_keys, rows_with}
 use Rattle.span_algebra.specs.Keys.{contains_row, with_new, place_of}
 use Rattle.span_algebra.proofs.Alike.{are_equal-same, are_equal-itself, are_equal-reversed}
-use Rattle.span_algebra.proofs.Firsts.{unlike, contains_row-unlike, distinct-more}
+use Rattle.span_algebra.proofs.Firsts.{unlike, contains_row-unlike, distinct-more, insert_key-new}
 
 -- ---- the place of a key
 
@@ -137,3 +140,25 @@ place_most (x ∷ ks) k = elim (are_equal x k) as (λ b. cond b zero (suc (place
   | true ↦ omega arith
   | false ↦ omega (arith, place_most ks k)
 ]
+
+-- ---- the place of a key in an index that has these keys
+
+step_in_index : (x : Row) (ks : List Row) (k : Row) → place_of (x ∷ ks) k ≡ cond (are_equal k x) 0 (1 + place_of ks k)
+step_in_index x ks k =
+    ap (λ b. cond b zero (suc (place_of ks k))) (are_equal-reversed x k) ∙ ap (λ (n : ℕ). cond (are_equal k x) 0 n) {x = suc (place_of ks k)} {y = 1 + place_of ks k} (omega arith)
+
+pub place_in_index : (ks : List Row) (k : Row) → position_or_len (are_equal k) ks ≡ place_of ks k
+place_in_index ks k = sym (is_position_or_len (λ (l : List Row). place_of l k) (are_equal k) refl (λ x xs. step_in_index x xs k) ks)
+
+module _ (keys index : List Row) (key k : Row) (at : ℕ) (indexed : index ≡ keys) (is : at ≡ position_or_len (are_equal k) index) (same : k ≡ key) where
+  pub index_place : at ≡ place_of keys key
+  index_place = is ∙ ap (position_or_len (are_equal k)) indexed ∙ ap (λ (x : Row). position_or_len (are_equal x) keys) same ∙ place_in_index keys key
+
+-- a key that is there stays alone
+pub index_stays : (keys index new : List Row) (key k : Row) → index ≡ keys → k ≡ key → place_of keys key < length keys → new ≡ insert_key are_equal index k → new ≡ keys
+index_stays keys index new key k indexed same within inserted =
+    inserted
+    ∙ ap (λ (l : List Row). insert_key are_equal l k) indexed
+    ∙ insert_key-new keys k
+    ∙ ap (with_new keys) same
+    ∙ ap (λ b. cond b keys (keys ++ key ∷ [])) ((place_tells keys key).0 within)

@@ -7,3 +7,5 @@ pub mod States
 pub mod Meant
 pub mod Sources
 pub mod Grouped
+pub mod Hashes
+pub mod EqualRows

@@ -3,8 +3,9 @@ ghost use Rattle.std.specs.Prelude.{◌≡◌, IfOk, Some};
 ghost use Rattle.span_expr.specs.Operators.{column_of};
 ghost use Rattle.span_query.specs.Groups.{is_equal, are_equal, distinct, columns_at};
 ghost use Rattle.span_algebra.specs.Answers.{Gives};
-ghost use Rattle.span_algebra.specs.Keys.{contains_row};
 
+use super::key::RowKey;
+use indexmap::IndexSet;
 use span_expr::cell::Failure;
 use span_value::order::compare;
 use span_value::seq::Seq;
@@ -19,7 +20,7 @@ pub(crate) fn is_equal(left: &Value, right: &Value) -> bool
 }
 
 /// Whether the rows have the same number of values, each equal to the one at its place.
-fn are_equal(left: &[Value], right: &[Value]) -> bool
+pub(crate) fn are_equal(left: &[Value], right: &[Value]) -> bool
     ensures { result ≡ are_equal left.now right.now }
 {
     if left.len() != right.len() {
@@ -33,28 +34,26 @@ fn are_equal(left: &[Value], right: &[Value]) -> bool
     true
 }
 
-fn contains_row(rows: &[Row], row: &[Value]) -> bool
-    ensures { result ≡ contains_row rows.now row.now }
+/// The rows of a set, in its order.
+fn rows_of(alloc: Global, seen: IndexSet<RowKey>) -> Result<Vec<Row>, AllocError>
+    ensures { IfOk result (λ rows. rows.items ≡ seen.keys) }
 {
-    for other in rows {
-        if are_equal(other.as_slice(), row) {
-            return true;
-        }
+    let mut rows = Vec::with_capacity(alloc, seen.len())?;
+    for key in seen {
+        rows.push(key.into_row())?;
     }
-    false
+    Ok(rows)
 }
 
 #[tactic(auto, using(crate::proofs::Firsts::one_more))]
 fn first_occurrences(alloc: Global, rows: Vec<Row>) -> Result<Vec<Row>, AllocError>
     ensures { IfOk result (λ kept. kept.items ≡ distinct rows.items) }
 {
-    let mut kept = Vec::new(alloc);
+    let mut seen = IndexSet::new(alloc);
     for row in rows {
-        if !contains_row(kept.as_slice(), row.as_slice()) {
-            kept.push(row)?;
-        }
+        seen.insert(RowKey::new(row))?;
     }
-    Ok(kept)
+    rows_of(alloc, seen)
 }
 
 /// Each row once, at its first place.

@@ -1,4 +1,4 @@
-//! GROUP BY: one pass over the rows, each of which is taken by the group of its key.
+//! GROUP BY: one pass over the rows, each of which is taken by the group of its key, which an index by hash finds.
 ghost use Rattle.std.specs.Prelude.{◌≡◌, [], ◌∷◌, ◌++◌, List, Err, None, Any, IfOk, OnOk};
 ghost use Rattle.span_expr.specs.declared.cell.Failure.TheVariants.{Fault};
 ghost use Rattle.span_expr.specs.Operators.{column_of};
@@ -6,15 +6,15 @@ ghost use Rattle.span_query.specs.declared.query.Grouping.{Grouping};
 ghost use Rattle.span_query.specs.Rows.{Row, unless_fault, filter_where};
 ghost use Rattle.span_query.specs.Groups as spec;
 ghost use Rattle.span_algebra.specs.Answers.{Gives};
-ghost use Rattle.span_algebra.specs.Keys as keys;
 ghost use Rattle.span_algebra.specs.States.{AreStatesOf, CanCountOne, operand_at};
 ghost use Rattle.span_algebra.specs.Grouped.{keys_of, AreGroupsOf, CanCountRow, HasPlace};
 
 use super::aggregate::State;
-use super::distinct::is_equal;
+use super::key::LentKey;
 use super::row::{add, copy_of};
 use super::select::is_kept;
 use super::states::{new_states, row_with, take_all};
+use indexmap::IndexSet;
 use span_expr::cell::Failure;
 use span_expr::expr::Expr;
 use span_query::query::{Aggregate, Grouping};
@@ -27,43 +27,6 @@ use std::alloc::{AllocError, Global};
 struct Group {
     key: Row,
     states: Vec<State>,
-}
-
-/// Whether the value equals the row's at a place; a place that the row does not have counts as NULL.
-fn is_equal_at(value: &Value, row: &[Value], place: usize) -> bool
-    ensures { result ≡ spec.is_equal value.now (column_of row.now place) }
-{
-    match row.get(place) {
-        Some(other) => is_equal(value, other),
-        None => is_equal(value, &Value::Null),
-    }
-}
-
-/// Whether the row has this key.
-fn has_key(key: &[Value], places: &[usize], row: &[Value]) -> bool
-    ensures { result ≡ spec.are_equal key.now (spec.columns_at places.now row.now) }
-{
-    if key.len() != places.len() {
-        return false;
-    }
-    for at in 0..key.len() {
-        if !is_equal_at(&key[at], row, places[at]) {
-            return false;
-        }
-    }
-    true
-}
-
-/// The place of the group of the row, or the number of groups.
-fn place_of(groups: &[Group], places: &[usize], row: &[Value]) -> usize
-    ensures { result ≡ keys.place_of (keys_of groups.now) (spec.columns_at places.now row.now) }
-{
-    for at in 0..groups.len() {
-        if has_key(groups[at].key.as_slice(), places, row) {
-            return at;
-        }
-    }
-    groups.len()
 }
 
 fn copy_at(alloc: Global, row: &[Value], place: usize) -> Result<Value, AllocError>
@@ -115,21 +78,25 @@ impl Group {
     }
 }
 
-/// The place of the group of the row, which is added after the others where there was none.
-fn group_of(
+/// The place of the group of the row, which is added after the others where there was none. The index has the keys of the groups, in
+/// their order.
+fn group_of<'a>(
     alloc: Global,
-    grouping: &Grouping,
+    grouping: &'a Grouping,
+    index: &mut IndexSet<LentKey<'a>>,
     groups: &mut Vec<Group>,
-    row: &[Value],
+    row: &'a [Value],
 ) -> Result<usize, AllocError>
-    ensures { IfOk result
+    requires { index.old.keys ≡ keys_of groups.old.items }
+    ensures place { IfOk result
         (λ at.
         (rows : List Row)
         → AreGroupsOf grouping.now rows groups.old.items
         → HasPlace grouping.now row.now rows groups.new.items at) }
+    ensures indexed { OnOk result (index.new.keys ≡ keys_of groups.new.items) }
 {
     let places = grouping.keys.as_slice();
-    let at = place_of(groups, places, row);
+    let (at, _) = index.insert_full(LentKey::new(row, places))?;
     if at == groups.len() {
         let key = key_of(alloc, places, row)?;
         add(
@@ -141,20 +108,23 @@ fn group_of(
 }
 
 /// The groups with one more row.
-fn take_row(
+fn take_row<'a>(
     alloc: Global,
-    grouping: &Grouping,
+    grouping: &'a Grouping,
+    index: &mut IndexSet<LentKey<'a>>,
     groups: &mut Vec<Group>,
-    row: &[Value],
+    row: &'a [Value],
 ) -> Result<(), Failure>
-    requires { CanCountRow grouping.now groups.old.items }
+    requires few { CanCountRow grouping.now groups.old.items }
+    requires indexed { index.old.keys ≡ keys_of groups.old.items }
     ensures ok { OnOk result
         ((rows : List Row)
         → AreGroupsOf grouping.now rows groups.old.items
         → AreGroupsOf grouping.now (rows ++ row.now ∷ []) groups.new.items) }
     ensures fault { result ≡ Err Fault → Any (λ a. operand_at row.now a ≡ None) grouping.now.aggregates }
+    ensures indexed { OnOk result (index.new.keys ≡ keys_of groups.new.items) }
 {
-    let at = group_of(alloc, grouping, groups, row)?;
+    let at = group_of(alloc, grouping, index, groups, row)?;
     groups[at].take(alloc, grouping.aggregates.as_slice(), row)
 }
 
@@ -167,6 +137,18 @@ fn first_groups(alloc: Global, grouping: &Grouping) -> Result<Vec<Group>, AllocE
         groups.push(new_group(alloc, grouping.aggregates.as_slice(), Seq::new(alloc))?)?;
     }
     Ok(groups)
+}
+
+/// The index of the groups of no rows.
+fn first_index(alloc: Global, grouping: &Grouping) -> Result<IndexSet<LentKey<'_>>, AllocError>
+    ensures { IfOk result (λ index. index.keys ≡ spec.group_keys grouping.now.keys []) }
+{
+    let places = grouping.keys.as_slice();
+    let mut index = IndexSet::new(alloc);
+    if places.is_empty() {
+        index.insert(LentKey::new(&[], places))?;
+    }
+    Ok(index)
 }
 
 /// The row of each group.
@@ -191,10 +173,11 @@ pub(crate) fn group_rows(
     ensures { Gives result (unless_fault (filter_where filter.now rows.now) (spec.groups grouping.now)) }
 {
     let mut groups = first_groups(alloc, grouping)?;
+    let mut index = first_index(alloc, grouping)?;
     for row in rows {
         let row = row.as_slice();
         if is_kept(alloc, filter, row)? {
-            take_row(alloc, grouping, &mut groups, row)?;
+            take_row(alloc, grouping, &mut index, &mut groups, row)?;
         }
     }
     rows_of(alloc, groups)

@@ -8,6 +8,7 @@ pub mod filter;
 mod first_rows;
 mod group;
 pub mod join;
+mod key;
 pub mod plain;
 pub mod row;
 mod select;
