@@ -33,7 +33,7 @@ import texts
 import values
 
 # How many seconds a run may take.
-LONGEST = 60
+LONGEST = 120
 # How many differences of a part are printed.
 MOST_SHOWN = 10
 SCHEMA = "CREATE TABLE t (a INT64 NOT NULL, n INT64) PRIMARY KEY (a)"
