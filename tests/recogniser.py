@@ -5,11 +5,10 @@ ways at once in which the grammar can go on: each way is the row of what is stil
 left but one past the 32nd opening is 4 there, and the end is 3 where no way is done. Nothing in it follows the parsers, which read
 with one token ahead and one function a rule.
 
-    recogniser.py check               compares the tables in the tests' sources with what it finds; status 1 where they differ
-    recogniser.py write               writes those tables anew (`rt fmt` in the crates afterwards)
     recogniser.py statement | schema  judges standard input: the number, 0 where it is taken, and the byte where it stands
+
+tests/span_text_tests compares the program with it.
 """
-import itertools
 import os
 import re
 import sys
@@ -224,62 +223,7 @@ def judge(goal, text):
     return next((fault for fault in faults if fault), 0), 0
 
 
-# The tables in the tests.
-
-def runs(goal, text):
-    """The answers to the beginnings of a text: up to which length, the number, and the place, or END where that is the end."""
-    answers = []
-    for length in range(len(text) + 1):
-        number, place = judge(goal, text[:length])
-        answers.append((number, "END" if number and place == length else str(place)))
-    groups = [(answer, len(list(same))) for answer, same in itertools.groupby(answers)]
-    ends = itertools.accumulate(count for _, count in groups)
-    return [(str(end - 1), str(number), place) for ((number, place), _), end in zip(groups, ends)]
-
-
-TESTS = [
-    ("statement", "crates/span_language_tests/src/parser_answers.rt"),
-    ("schema", "crates/span_language_tests/src/schematext_answers.rt"),
-]
-TABLE = re.compile(r"(const ANSWERS: \[[^]]*; )\d+(\] =\s*)\[.*?\];", re.DOTALL)
-
-
-def table_in(source):
-    """The text that a test's source has, and the rows of its table."""
-    text = re.search(r'const TEXT: &str =\s*"((?:[^"\\]|\\.)*)";', source).group(1)
-    rows = re.findall(r"\((\d+), (\d+), (\w+)\)", TABLE.search(source).group())
-    return text.encode().decode("unicode_escape").encode(), rows
-
-
-def words_in(source):
-    """The reserved words that a test's source lists."""
-    return re.findall(r'"([A-Z]+)"', re.search(r"const RESERVED: .*?\];", source, re.DOTALL).group())
-
-
-def written(source, rows):
-    body = "[\n" + "".join(f"    ({', '.join(row)}),\n" for row in rows) + "];"
-    return TABLE.sub(lambda found: found.group(1) + str(len(rows)) + found.group(2) + body, source)
-
-
-def tables(is_writing):
-    """Compares the tables of the tests, or writes them; the status, 1 where they differ."""
-    status = 0
-    for goal, path in TESTS:
-        source = open(os.path.join(TOP, path), encoding="utf-8").read()
-        text, rows = table_in(source)
-        wanted = runs(goal, text)
-        is_same = rows == wanted and words_in(source) == RESERVED
-        if is_writing:
-            open(os.path.join(TOP, path), "w", encoding="utf-8").write(written(source, wanted))
-        elif not is_same:
-            status = 1
-        print(f"{path}: {len(text) + 1} beginnings, {len(wanted)} runs, {'written' if is_writing else 'the same' if is_same else 'different'}")
-    return status
-
-
 def main(words):
-    if words in (["check"], ["write"]):
-        return tables(words == ["write"])
     if words in (["statement"], ["schema"]):
         print(*judge(words[0], sys.stdin.buffer.read()))
         return 0

@@ -16,10 +16,14 @@ docs/REFUSALS.md, a line of the script after those of the reports before, and a 
 these lines exactly, of each what comes after the name of the script's file.
 
 With an allocation refused, the answers before the line that met it are those of NAME.expected, and that line is answered `refused 90`; or the
-program ends with status 1 after a beginning of these answers. With a device that fails it ends with status 1 after a beginning of them; where
+program ends with status 1 after a beginning of these answers. Where a line was answered `refused 90`, the script is run once more, with the
+same allocation refused and this command given again directly after itself: it is then answered as ever, and so is all that follows. A `begin`
+is given again with what was gathered for it. After a `query`, which may have used a number, that is not asked where the script opens queries by
+their number later. With a device that fails it ends with status 1 after a beginning of them; where
 standard error fails the answers and the status are as ever.
 """
 import argparse
+import collections
 import gzip
 import os
 import re
@@ -58,6 +62,14 @@ def refusals():
     return {number: (name, message) for number, name, message in rows}
 
 
+# How many commands of each word were given again after an allocation was refused.
+AGAIN = collections.Counter()
+# What takes a mutation, or gathers more of them.
+GATHERING = (b"insert ", b"update ", b"upsert ", b"delete ", b"load ")
+# What may have an answer of more lines than one.
+OF_MANY_LINES = (b"query ", b"finish ", b"shards", b"explain ")
+
+
 class Row:
     """A script, what it must write, and the status that it must end with."""
 
@@ -68,7 +80,20 @@ class Row:
         self.error = read(name + ".error")
         self.errors = read(name + ".errors")
         self.schema = self.put(folder, "schema", read(name + ".schema") or read("default.schema"))
+        self.lines = read(name + ".script").split(b"\n")
         self.script = self.put(folder, "script", read(name + ".script"))
+
+    def commands(self):
+        """The lines of each command that has an answer, by their places: the first, and the one after the last."""
+        found, at = [], 0
+        while at < len(self.lines):
+            end = at + 1
+            if re.fullmatch(rb"load [^ ]+ [^ ]+", self.lines[at]):
+                end = self.lines.index(b"end", at) + 1 if b"end" in self.lines[at:] else len(self.lines)
+            if self.lines[at] and not self.lines[at].startswith(b"#"):
+                found.append((at, end))
+            at = end
+        return found
 
     def put(self, folder, ending, content):
         path = os.path.join(folder, self.name + "." + ending)
@@ -76,8 +101,8 @@ class Row:
             file.write(content)
         return path
 
-    def run(self, environment=None, errors=subprocess.PIPE, options=("--explain-refusals",)):
-        done = subprocess.run([PROGRAM, "run", *options, self.schema, self.script], env=environment, timeout=LONGEST,
+    def run(self, environment=None, errors=subprocess.PIPE, options=("--explain-refusals",), script=None):
+        done = subprocess.run([PROGRAM, "run", *options, self.schema, script or self.script], env=environment, timeout=LONGEST,
                               stdin=subprocess.DEVNULL, stdout=subprocess.PIPE, stderr=errors, check=False)
         return done.stdout, done.stderr, done.returncode
 
@@ -182,7 +207,7 @@ def allocations_of(errors):
     return int(found.group(1)) if found else 0
 
 
-def check_allocations(row, library):
+def check_allocations(row, library, folder):
     """Refuses the script's allocations in turn: how many were refused, and what is wrong, None where nothing is."""
     environment = dict(os.environ, LD_PRELOAD=library, FAIL_AT="0")
     _, errors, _ = row.run(environment)
@@ -193,13 +218,50 @@ def check_allocations(row, library):
         environment["FAIL_AT"] = str(number)
         written, errors, status = row.run(environment)
         wrong = judge_refusal(row, written, status) or judge_reports(row, written, errors, status)
+        if wrong is None and status == row.status and written != row.expected:
+            wrong = check_again(row, written, errors, environment, folder)
         if wrong:
             return refused, f"allocation {number}: {wrong}"
         refused += 1
     return refused, None
 
 
-def check_devices(row, library):
+def check_again(row, written, errors, environment, folder):
+    """What is wrong where the command that met the refused allocation is given again; None where nothing is, or where that is not asked."""
+    before = written[:written.find(b"refused 90\n")]
+    line = next(int(report[0]) for report in reports_of(row, errors) if report[2] == b"90")
+    commands = row.commands()
+    place = next(place for place, (first, end) in enumerate(commands) if first < line <= end)
+    first, end = commands[place]
+    given, answers = [(first, end)], b""
+    if row.lines[first].startswith(b"query ") and any(row.lines[at].startswith(b"open ") for at, _ in commands[place:]):
+        return None
+    if row.lines[first] == b"begin":
+        gathering = gathered(row, commands[:place], before.splitlines(keepends=True))
+        if gathering is None:
+            return None
+        given, answers = gathering[0] + given, gathering[1]
+    again = [line for first, end in given for line in row.lines[first:end]]
+    script = os.path.join(folder, row.name + ".again.script")
+    with open(script, "wb") as file:
+        file.write(b"\n".join([*row.lines[:end], *again, *row.lines[end:]]))
+    found, _, status = row.run(environment, script=script)
+    wanted = before + b"refused 90\n" + answers + row.expected[len(before):]
+    AGAIN[row.lines[first].split(b" ")[0].decode()] += 1
+    return None if (found, status) == (wanted, row.status) else f"line {line} given again: status {status}, {first_difference(found, wanted)}"
+
+
+def gathered(row, commands, answers):
+    """The commands that gathered mutations for the one after these, and their answers; None where these are not the last lines."""
+    begins = [place for place, (first, _) in enumerate(commands) if row.lines[first] == b"begin"]
+    last = commands[begins[-1] + 1:] if begins else commands
+    if any(row.lines[first].startswith(OF_MANY_LINES) for first, _ in last):
+        return None
+    pairs = [(command, answer) for command, answer in zip(last, answers[len(answers) - len(last):]) if row.lines[command[0]].startswith(GATHERING)]
+    return [command for command, _ in pairs], b"".join(answer for _, answer in pairs)
+
+
+def check_devices(row, library, _folder):
     """Lets the row's reads, then its writes, then standard error fail: how many failed, and what is wrong, None where nothing is."""
     environment = dict(os.environ, LD_PRELOAD=library)
     _, errors, _ = row.run(environment)
@@ -273,7 +335,7 @@ def main():
             wrong = check_row(row)
             for check, library in others:
                 if wrong is None:
-                    count, wrong = check(row, library)
+                    count, wrong = check(row, library, folder)
                     faults += count
             if wrong is None:
                 passed += 1
@@ -281,7 +343,8 @@ def main():
                 failed += 1
                 print(f"scripts: {name}: {wrong}")
     if others:
-        print(f"scripts: {faults} faults in turn")
+        again = ", ".join(f"{count} {word}" for word, count in sorted(AGAIN.items()))
+        print(f"scripts: {faults} faults in turn; given again: {again or 'none'}")
     print(f"scripts: {passed} passed, {failed} failed")
     return 0 if failed == 0 else 1
 
