@@ -3,6 +3,7 @@
 
 mod aggregate;
 mod block;
+mod candidates;
 mod distinct;
 pub mod filter;
 mod group;
