@@ -1,4 +1,4 @@
-//! The plain meaning of queries: rows by nested loops over whole tables.
+//! The plain meaning of queries over whole tables.
 #![tactic(auto)]
 
 mod aggregate;
