@@ -18,3 +18,5 @@ pub mod Places
 pub mod Absorbed
 pub mod Shown
 pub mod Passes
+pub mod Skipping
+pub mod Indexing

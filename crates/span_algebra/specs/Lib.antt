@@ -9,3 +9,5 @@ pub mod Sources
 pub mod Grouped
 pub mod Hashes
 pub mod EqualRows
+pub mod Candidates
+pub mod Indexed

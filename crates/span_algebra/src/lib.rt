@@ -1,8 +1,9 @@
-//! The plain meaning of queries: rows by nested loops over whole tables.
+//! The plain meaning of queries over whole tables.
 #![tactic(auto)]
 
 mod aggregate;
 mod block;
+mod candidates;
 mod distinct;
 pub mod filter;
 mod first_rows;
