@@ -232,27 +232,33 @@ def check_again(row, written, errors, environment, folder):
     line = next(int(report[0]) for report in reports_of(row, errors) if report[2] == b"90")
     commands = row.commands()
     place = next(place for place, (first, end) in enumerate(commands) if first < line <= end)
-    first, end = commands[place]
-    given, answers = [(first, end)], b""
-    if row.lines[first].startswith(b"query ") and any(row.lines[at].startswith(b"open ") for at, _ in commands[place:]):
+    again = commands_again(row, commands, place, before)
+    if again is None:
         return None
-    if row.lines[first] == b"begin":
-        gathering = gathered(row, commands[:place], before.splitlines(keepends=True))
-        if gathering is None:
-            return None
-        given, answers = gathering[0] + given, gathering[1]
-    again = [line for first, end in given for line in row.lines[first:end]]
-    script = os.path.join(folder, row.name + ".again.script")
+    given, answers = again
+    end = commands[place][1]
+    script = os.path.join(folder, row.name + ".again")
     with open(script, "wb") as file:
-        file.write(b"\n".join([*row.lines[:end], *again, *row.lines[end:]]))
+        file.write(b"\n".join([*row.lines[:end], *(row.lines[at] for command in given for at in range(*command)), *row.lines[end:]]))
     found, _, status = row.run(environment, script=script)
     wanted = before + b"refused 90\n" + answers + row.expected[len(before):]
-    AGAIN[row.lines[first].split(b" ")[0].decode()] += 1
+    AGAIN[row.lines[commands[place][0]].split(b" ")[0].decode()] += 1
     return None if (found, status) == (wanted, row.status) else f"line {line} given again: status {status}, {first_difference(found, wanted)}"
 
 
+def commands_again(row, commands, place, before):
+    """The commands that are given again for that of this place, and the answers to all but the last; None where that is not asked."""
+    word = row.lines[commands[place][0]].split(b" ")[0]
+    if word == b"query" and any(row.lines[at].startswith(b"open ") for at, _ in commands[place:]):
+        return None
+    if word != b"begin":
+        return [commands[place]], b""
+    gathering = gathered(row, commands[:place], before.splitlines(keepends=True))
+    return gathering and (gathering[0] + [commands[place]], gathering[1])
+
+
 def gathered(row, commands, answers):
-    """The commands that gathered mutations for the one after these, and their answers; None where these are not the last lines."""
+    """The commands that gathered mutations for the one after these, and their answers; None where not each answer is one line."""
     begins = [place for place, (first, _) in enumerate(commands) if row.lines[first] == b"begin"]
     last = commands[begins[-1] + 1:] if begins else commands
     if any(row.lines[first].startswith(OF_MANY_LINES) for first, _ in last):

@@ -16,4 +16,6 @@ mod root;
 #[cfg(test)]
 mod rows;
 #[cfg(test)]
+mod run;
+#[cfg(test)]
 mod value;
