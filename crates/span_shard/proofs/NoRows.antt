@@ -23,11 +23,11 @@ use Rattle.span_shard.proofs.Lists.{all_map}
 
 -- keys of which one passes a test and the other does not are not the same
 apart : (t : List ℕ → Bool) (k l : List ℕ) → t k ≡ true → t l ≡ false → is_eq (byte_order k l) ≡ false
-apart t k l yes no = by (byte_order k l) refl
+apart t k l passes fails = by (byte_order k l) refl
   where
     by : (o : Ordering) → byte_order k l ≡ o → is_eq o ≡ false
     by Less is = refl
-    by Equal is = (let q : true ≡ false = sym yes ∙ ap t (exact_bytes k l is) ∙ no in absurd cc)
+    by Equal is = (let q : true ≡ false = sym passes ∙ ap t (exact_bytes k l is) ∙ fails in absurd cc)
     by Greater is = refl
 
 none_found : (a : Content) (ps : List PreparedNode) (k : List ℕ) (es : List Entry) → AllByRecursion (λ (e : Entry). is_eq (byte_order k e.key) ≡ false) es → find (is_key k) (all_kept a ps es) ≡ None
@@ -35,14 +35,20 @@ none_found a ps k [] h = refl
 none_found a ps k (e ∷ es) h = ap (λ b. cond b (Some (kept_entry a ps e)) (find (is_key k) (all_kept a ps es))) h.0 ∙ none_found a ps k es h.1
 
 -- no key is in a range in which none of those from its start on is before its end
-all_outside : (low : List ℕ) (high : Option (List ℕ)) (es : List Entry) → AllByRecursion (λ (e : Entry). is_before_end high e.key ≡ false) (entries_from low es) → AllByRecursion (λ (e : Entry). is_from_to low high e.key ≡ false) es
+abbrev IsOutside : List ℕ → Option (List ℕ) → List Entry → Type 0
+IsOutside low high es = AllByRecursion (λ (e : Entry). is_from_to low high e.key ≡ false) es
+
+abbrev IsPast : Option (List ℕ) → List Entry → Type 0
+IsPast high es = AllByRecursion (λ (e : Entry). is_before_end high e.key ≡ false) es
+
+outside_more : (low : List ℕ) (high : Option (List ℕ)) (e : Entry) (es : List Entry) (b : Bool) → is_lt (byte_order e.key low) ≡ b → (IsPast high (entries_from low es) → IsOutside low high es)
+    → IsPast high (cond (not b) (e ∷ entries_from low es) (entries_from low es)) → IsOutside low high (e ∷ es)
+outside_more low high e es true is rest h = (ap (λ b. not b && is_before_end high e.key) is, rest h)
+outside_more low high e es false is rest h = (ap (λ b. not b && is_before_end high e.key) is ∙ h.0, rest h.1)
+
+all_outside : (low : List ℕ) (high : Option (List ℕ)) (es : List Entry) → IsPast high (entries_from low es) → IsOutside low high es
 all_outside low high [] h = tt
-all_outside low high (e ∷ es) h = by (is_lt (byte_order e.key low)) refl h
-  where
-    by : (b : Bool) → is_lt (byte_order e.key low) ≡ b → AllByRecursion (λ (f : Entry). is_before_end high f.key ≡ false) (cond (not b) (e ∷ entries_from low es) (entries_from low es))
-        → AllByRecursion (λ (f : Entry). is_from_to low high f.key ≡ false) (e ∷ es)
-    by true is h = (ap (λ b. not b && is_before_end high e.key) is, all_outside low high es h)
-    by false is h = (ap (λ b. not b && is_before_end high e.key) is ∙ h.0, all_outside low high es h.1)
+all_outside low high (e ∷ es) h = outside_more low high e es (is_lt (byte_order e.key low)) refl (λ r. all_outside low high es r) h
 
 no_row : (a : Content) (ps : List PreparedNode) (es : List Entry) (low : List ℕ) (high : Option (List ℕ)) → AllByRecursion (λ (e : Entry). is_before_end high e.key ≡ false) (entries_from low es) → HasNoRowFrom (all_kept a ps es) low high
 no_row a ps es low high h = λ k here.

@@ -1,5 +1,5 @@
 -- A range of keys in which a store has no row.
-use Rattle.std.specs.Prelude.{◌≡◌, ℕ, List, Bool, true, false, not, ◌&&◌, Option, Some, None, Unit}
+use Rattle.std.specs.Prelude.{◌≡◌, ℕ, List, Bool, true, false, not, ◌&&◌, Option, Some, None}
 use Rattle.std.specs.Ordering.{is_lt}
 use Rattle.span_keycode.specs.Order.{byte_order}
 use Rattle.span_shard.specs.declared.lookups.EmptyRange.{EmptyRange}

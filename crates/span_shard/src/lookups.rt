@@ -1,11 +1,13 @@
 //! Rows of a store that are looked up for one transaction.
-ghost use Rattle.std.specs.Prelude.{◌≡◌, IfOk, MatchResult};
+ghost use Rattle.std.specs.Prelude.{◌≡◌, ◌++◌, IfOk, OnOk, map, filter};
 ghost use Rattle.std.specs.Option.{option_copied};
-ghost use Rattle.span_mutate.specs.Typed.{AreTypedMutations};
+ghost use Rattle.span_mutate.specs.Typed.{AreTypedMutations, IsTypedMutation};
 ghost use Rattle.span_shard.specs.EmptyRanges.{HasNoRowFrom, is_before_end, is_from_to, is_in_empty, is_in_range};
+ghost use Rattle.span_shard.specs.Reading.{versions_alone};
+ghost use Rattle.span_shard.specs.Rows.{begins_with};
 ghost use Rattle.span_shard.specs.Shard.{AreInOrder, row_now};
 
-use super::place::row_now;
+use super::place::{StoredKey, push_beginning, row_now};
 use super::search::walk_from;
 use super::store::Store;
 use span_keycode::compare::order_of_bytes;
@@ -62,7 +64,7 @@ impl<'a> Lookups<'a> {
         // The range of a single mutation would take a search of its own.
         if mutations.len() > 1 {
             let first = &mutations[0];
-            if let Ok(low) = encode_key(alloc, schema, first.table, first.key.as_slice()) {
+            if let Some(low) = key_of(alloc, schema, first) {
                 return Lookups::from_key(alloc, store, low);
             }
         }
@@ -80,11 +82,16 @@ impl<'a> Lookups<'a> {
         })
     }
 
-    /// The store.
-    pub(crate) fn store(&self) -> &'a Store
-        ensures { result.now ≡ self.now }
+    /// Adds the keys of the store that begin with these bytes.
+    pub(crate) fn push_beginning(
+        &self,
+        found: &mut Vec<StoredKey<'a>>,
+        front: &[u8],
+    ) -> Result<(), AllocError>
+        ensures { OnOk result
+            (found.new.items ≡ found.old.items ++ map versions_alone (filter (λ c. begins_with c.key front.now) self.now)) }
     {
-        self.store
+        push_beginning(found, self.store, front)
     }
 
     /// The row at a key by all that was applied.
@@ -97,6 +104,13 @@ impl<'a> Lookups<'a> {
         }
         row_now(self.store, key)
     }
+}
+
+// The coded key of a mutation; None where it is long and memory ran out.
+fn key_of(alloc: Global, schema: &Schema, mutation: &CheckedMutation) -> Option<Key>
+    requires { IsTypedMutation schema.now mutation.now }
+{
+    encode_key(alloc, schema, mutation.table, mutation.key.as_slice()).ok()
 }
 
 // A copy of the first key of a store that is not below another.

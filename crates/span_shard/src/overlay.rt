@@ -6,7 +6,7 @@ ghost use Rattle.span_shard.specs.Shard.{AreInOrder};
 ghost use Rattle.span_shard.specs.Overlay.{no_change, changed_at, made_at, row_over, is_unchanged, AreCleared, HasSameCleared, AddsCleared, AreUnder, AreUnchangedUnder, AddsMade, IsPutAt, AreRemoved};
 
 use super::lookups::Lookups;
-use super::place::{StoredKey, push_beginning};
+use super::place::StoredKey;
 use span_keycode::key::Key;
 use span_value::seq::Seq;
 use std::alloc::{AllocError, Global};
@@ -170,7 +170,7 @@ fn unchanged_under(
         return Ok(Vec::new(alloc));
     }
     let mut found = Vec::new(alloc);
-    push_beginning(&mut found, store.store(), front.as_slice())?;
+    store.push_beginning(&mut found, front.as_slice())?;
     unchanged_keys(alloc, changes, found.as_slice())
 }
 
