@@ -26,3 +26,4 @@ pub mod RunDeletes
 pub mod RunAll
 pub mod Moving
 pub mod Parting
+pub mod NoRows

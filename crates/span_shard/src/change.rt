@@ -7,8 +7,8 @@ ghost use Rattle.span_shard.specs.Shard.{AreInOrder, row_now};
 ghost use Rattle.span_shard.specs.Reading.{is_same_row, AreWrites, IsFault, IsPrepareRefusal};
 ghost use Rattle.span_shard.specs.Overlay.{made_at, changes_of, AreWrittenFrom, AreWritesAt};
 
+use super::lookups::Lookups;
 use super::overlay::Changes;
-use super::place::row_now;
 use super::run::run;
 use super::store::Store;
 use super::write::Write;
@@ -32,15 +32,15 @@ fn is_same_row(left: Option<&Seq<u8>>, right: Option<&Seq<u8>>) -> bool
 }
 
 /// Whether what is to be written is another row than the one that is there now.
-fn is_change(store: &Store, write: &Write) -> bool
+fn is_change(store: &Lookups<'_>, write: &Write) -> bool
     requires { AreInOrder store.now }
     ensures { result ≡ not (is_same_row (row_now store.now write.now.key) write.now.row) }
 {
-    !is_same_row(row_now(store, write.key.as_slice()), write.row.as_ref())
+    !is_same_row(store.row_now(write.key.as_slice()), write.row.as_ref())
 }
 
 // Whether a row that was removed, and that the write is to remove, is there now with none made in its place.
-fn is_removal(store: &Store, made: &BTreeMap<Key, Seq<u8>>, write: &Write) -> bool
+fn is_removal(store: &Lookups<'_>, made: &BTreeMap<Key, Seq<u8>>, write: &Write) -> bool
     requires { AreInOrder store.now }
     ensures { result
         ≡ not (is_some (made_at made.now.entries write.now.key))
@@ -52,7 +52,7 @@ fn is_removal(store: &Store, made: &BTreeMap<Key, Seq<u8>>, write: &Write) -> bo
 // The writes of the rows that mutations removed and made no other for, of those that are there now.
 fn removals(
     alloc: Global,
-    store: &Store,
+    store: &Lookups<'_>,
     made: &BTreeMap<Key, Seq<u8>>,
     removed: BTreeSet<Key>,
 ) -> Result<Vec<Write>, AllocError>
@@ -75,7 +75,7 @@ fn removals(
 /// rows that were made from the first key to the last, so that new keys follow one another.
 fn writes_of_changes(
     alloc: Global,
-    store: &Store,
+    store: &Lookups<'_>,
     changes: Changes,
 ) -> Result<Vec<Write>, AllocError>
     requires { AreInOrder store.now }
@@ -113,6 +113,7 @@ pub(crate) fn writes_of(
     ensures number { IfErr result (λ why. IsPrepareRefusal schema.now mutations.now store.now why) }
 {
     schema.meets_rules();
-    let changes = run(alloc, schema, store, mutations)?;
-    Ok(writes_of_changes(alloc, store, changes)?)
+    let lookups = Lookups::new(alloc, schema, store, mutations)?;
+    let changes = run(alloc, schema, &lookups, mutations)?;
+    Ok(writes_of_changes(alloc, &lookups, changes)?)
 }

@@ -5,6 +5,7 @@
 
 mod chain;
 mod change;
+mod lookups;
 mod node;
 mod overlay;
 mod place;

@@ -5,8 +5,8 @@ ghost use Rattle.span_shard.specs.Rows.{begins_with};
 ghost use Rattle.span_shard.specs.Shard.{AreInOrder};
 ghost use Rattle.span_shard.specs.Overlay.{no_change, changed_at, made_at, row_over, is_unchanged, AreCleared, HasSameCleared, AddsCleared, AreUnder, AreUnchangedUnder, AddsMade, IsPutAt, AreRemoved};
 
-use super::place::{StoredKey, push_beginning, row_now};
-use super::store::Store;
+use super::lookups::Lookups;
+use super::place::StoredKey;
 use span_keycode::key::Key;
 use span_value::seq::Seq;
 use std::alloc::{AllocError, Global};
@@ -106,19 +106,23 @@ fn made_at<'a>(made: &'a BTreeMap<Key, Seq<u8>>, key: &Key) -> Option<&'a Seq<u8
 }
 
 /// The row at a key: what the mutations left there, and else what is there now.
-pub(crate) fn row_over<'a>(store: &'a Store, changes: &'a Changes, key: &Key) -> Option<&'a Seq<u8>>
+pub(crate) fn row_over<'a>(
+    store: &'a Lookups<'a>,
+    changes: &'a Changes,
+    key: &Key,
+) -> Option<&'a Seq<u8>>
     requires { AreInOrder store.now }
     ensures { option_copied result ≡ row_over store.now changes.now key.now }
 {
     match made_at(&changes.made, key) {
         Some(row) => Some(row),
         None if changes.removed.contains(key) => None,
-        None => row_now(store, key.as_slice()),
+        None => store.row_now(key.as_slice()),
     }
 }
 
 /// Whether a key has a row.
-pub(crate) fn has_row(store: &Store, changes: &Changes, key: &Key) -> bool
+pub(crate) fn has_row(store: &Lookups<'_>, changes: &Changes, key: &Key) -> bool
     requires { AreInOrder store.now }
     ensures { result ≡ is_some (row_over store.now changes.now key.now) }
 {
@@ -154,7 +158,7 @@ fn unchanged_keys(
 // The keys of the store that begin with `front`, with a row that no mutation changed.
 fn unchanged_under(
     alloc: Global,
-    store: &Store,
+    store: &Lookups<'_>,
     changes: &Changes,
     front: &Key,
 ) -> Result<Vec<Key>, AllocError>
@@ -166,7 +170,7 @@ fn unchanged_under(
         return Ok(Vec::new(alloc));
     }
     let mut found = Vec::new(alloc);
-    push_beginning(&mut found, store, front.as_slice())?;
+    store.push_beginning(&mut found, front.as_slice())?;
     unchanged_keys(alloc, changes, found.as_slice())
 }
 
@@ -198,7 +202,7 @@ fn push_made(
 /// The keys with a row that begin with `front`.
 pub(crate) fn keys_under(
     alloc: Global,
-    store: &Store,
+    store: &Lookups<'_>,
     changes: &Changes,
     front: &Key,
 ) -> Result<Vec<Key>, AllocError>

@@ -11,8 +11,8 @@ ghost use Rattle.span_shard.specs.Shard.{AreInOrder};
 ghost use Rattle.span_shard.specs.Overlay.{lacks_parent_over, own_code, AreCellsOf, IsUnpacked, IsBlocked, HasNoKey, IsPutRow, IsNoPut, row_over, AreCleared, AreUnder, HasDeleted, IsNoDelete, AreTableRows, IsRunOf, IsRunFault, AreRunsOf};
 ghost use Rattle.span_shard.specs.Reading.{IsFault, IsPrepareRefusal};
 
+use super::lookups::Lookups;
 use super::overlay::{Changes, has_row, keys_under, row_over};
-use super::store::Store;
 use span_keycode::decode::decode_key;
 use span_keycode::encode::encode_key;
 use span_keycode::key::Key;
@@ -37,7 +37,7 @@ fn first_values(values: &[Value], len: usize) -> &[Value]
 fn lacks_parent(
     alloc: Global,
     schema: &Schema,
-    store: &Store,
+    store: &Lookups<'_>,
     changes: &Changes,
     mutation: &CheckedMutation,
 ) -> Result<bool, Refusal>
@@ -115,7 +115,7 @@ fn check_presence(kind: MutationKind, is_present: bool) -> Result<(), Refusal>
 fn row_put(
     alloc: Global,
     schema: &Schema,
-    store: &Store,
+    store: &Lookups<'_>,
     changes: &Changes,
     mutation: &CheckedMutation,
     key: &Key,
@@ -156,7 +156,7 @@ fn is_blocked(alloc: Global, schema: &Schema, table: usize, keys: &[Key]) -> Res
 fn keys_deleted(
     alloc: Global,
     schema: &Schema,
-    store: &Store,
+    store: &Lookups<'_>,
     changes: &Changes,
     mutation: &CheckedMutation,
     key: &Key,
@@ -180,7 +180,7 @@ fn keys_deleted(
 fn run_delete(
     alloc: Global,
     schema: &Schema,
-    store: &Store,
+    store: &Lookups<'_>,
     changes: &mut Changes,
     mutation: &CheckedMutation,
     key: Key,
@@ -203,7 +203,7 @@ fn run_delete(
 fn run_one(
     alloc: Global,
     schema: &Schema,
-    store: &Store,
+    store: &Lookups<'_>,
     changes: &mut Changes,
     mutation: &CheckedMutation,
 ) -> Result<(), Refusal>
@@ -231,7 +231,7 @@ fn run_one(
 pub(crate) fn run(
     alloc: Global,
     schema: &Schema,
-    store: &Store,
+    store: &Lookups<'_>,
     mutations: &[CheckedMutation],
 ) -> Result<Changes, Refusal>
     requires order { AreInOrder store.now }

@@ -1,7 +1,7 @@
 //! Searches in the index, whose steps nobody reads here: each is handed a new count.
 ghost use Rattle.std.specs.Prelude.{◌≡◌, ◌<◌, All, IfErr, IfOk, OnErr, map};
 ghost use Rattle.span_arena.specs.Content.{IsChain};
-ghost use Rattle.span_keyindex.specs.Entries.{IsSlotFor, entries_from, entries_in, entries_under};
+ghost use Rattle.span_keyindex.specs.Entries.{IsRising, IsSlotFor, entries_from, entries_in, entries_under};
 ghost use Rattle.span_keyindex.specs.Indexes.{IsIndexOf, entries_of};
 ghost use Rattle.span_keyindex.specs.Splits.{IsPartFrom};
 
@@ -114,6 +114,36 @@ fn counted_walk_under<'a, C: Ledger, W: Ledger>(
 {
     let mut steps: Steps<C, W> = Steps::new(compared, written);
     index.walk_under(arena, front, &mut steps)
+}
+
+/// The keys from `key` on with their chains, in order of the keys.
+pub(crate) fn walk_from<'a>(index: &'a KeyIndex, arena: &'a Arena, key: &[u8]) -> Walk<'a>
+    requires { IsIndexOf index.now arena.now }
+    ensures entries { result ≡ entries_from key.now (entries_of index.now arena.now) }
+    ensures rising { IsRising (entries_of index.now arena.now) }
+{
+    counted_walk_from::<Brand, Brand>(index, arena, key, Blank::new(1), Blank::new(1))
+}
+
+fn counted_walk_from<'a, C: Ledger, W: Ledger>(
+    index: &'a KeyIndex,
+    arena: &'a Arena,
+    key: &[u8],
+    compared: Blank,
+    written: Blank,
+) -> Walk<'a>
+    requires own { IsIndexOf index.now arena.now }
+    requires compared_name { compared.name ≡ C.name }
+    requires compared_parts { compared.parts ≡ C.parts }
+    requires compared_some { 0 < compared.parts }
+    requires written_name { written.name ≡ W.name }
+    requires written_parts { written.parts ≡ W.parts }
+    requires written_some { 0 < written.parts }
+    ensures entries { result ≡ entries_from key.now (entries_of index.now arena.now) }
+    ensures rising { IsRising (entries_of index.now arena.now) }
+{
+    let mut steps: Steps<C, W> = Steps::new(compared, written);
+    index.walk_from(arena, key, &mut steps)
 }
 
 /// The chains of the keys from `key` on, in order of the keys.
