@@ -184,8 +184,12 @@ def compare(name, rows):
 
 def arguments():
     reader = argparse.ArgumentParser(description=__doc__.split("\n", maxsplit=1)[0], allow_abbrev=False)
-    reader.add_argument("parts", nargs="*", metavar="PART", choices=[[], *PARTS])
-    return reader.parse_args()
+    reader.add_argument("parts", nargs="*", metavar="PART")
+    words = reader.parse_args()
+    for name in words.parts:
+        if name not in PARTS:
+            reader.error(f"there is no part {name}")
+    return words
 
 
 def build():
