@@ -84,7 +84,7 @@ fn push_value(
     named: &Option<Value>,
     old: Option<&Value>,
 ) -> Result<(), AllocError>
-    requires { length (cell_code (unwrap_or named.now (unwrap_or (option_copied old.entry) Value.Null))) ≤ MOST_BYTES }
+    requires { length (cell_code (unwrap_or named.now (unwrap_or (option_copied old) Value.Null))) ≤ MOST_BYTES }
     ensures { OnOk result
         (out.new.items
         ≡ out.old.items ++ cell_code (unwrap_or named.now (unwrap_or (option_copied old.entry) Value.Null))) }
