@@ -52,7 +52,8 @@ fn bytes_left(cells: &[Value]) -> Option<usize>
     Some(left)
 }
 
-fn bytes_left_after_cell(cell: &Value, left: usize) -> Option<usize>
+/// What is left of this many bytes after the code of a cell. None where it has more.
+pub fn bytes_left_after_cell(cell: &Value, left: usize) -> Option<usize>
     requires { left ≤ MOST_BYTES }
     ensures { MatchOption result (left < length (cell_code cell.now)) (λ rest. rest + length (cell_code cell.now) ≡ left) }
 {
@@ -85,7 +86,8 @@ fn push_row(out: &mut Vec<u8>, cells: &[Value]) -> Result<(), AllocError>
     Ok(())
 }
 
-fn push_cell(out: &mut Vec<u8>, cell: &Value) -> Result<(), AllocError>
+/// Adds the code of a cell.
+pub fn push_cell(out: &mut Vec<u8>, cell: &Value) -> Result<(), AllocError>
     requires { length (cell_code cell.now) ≤ MOST_BYTES }
     ensures { OnOk result (out.new.items ≡ out.old.items ++ cell_code cell.now) }
 {

@@ -6,6 +6,7 @@
 mod chain;
 mod change;
 mod lookups;
+mod merge;
 mod node;
 mod overlay;
 mod place;

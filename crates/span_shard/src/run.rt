@@ -12,13 +12,13 @@ ghost use Rattle.span_shard.specs.Overlay.{lacks_parent_over, own_code, AreCells
 ghost use Rattle.span_shard.specs.Reading.{IsFault, IsPrepareRefusal};
 
 use super::lookups::Lookups;
+use super::merge::pack_merged;
 use super::overlay::{Changes, has_row, keys_under, row_over};
 use span_keycode::decode::decode_key;
 use span_keycode::encode::encode_key;
 use span_keycode::key::Key;
 use span_mutate::mutation::{CheckedMutation, MutationKind, is_delete};
-use span_mutate::root::{blocks_delete, merge_cells};
-use span_rowcode::pack::pack;
+use span_mutate::root::blocks_delete;
 use span_rowcode::unpack::unpack;
 use span_schema::schema::Schema;
 use span_value::refusal::Refusal;
@@ -88,8 +88,7 @@ fn new_row(alloc: Global, mutation: &CheckedMutation, old: &[Value]) -> Result<S
         ((why ≡ Refusal.RowTooLong) × (longest_row < length (row_code (merge_cells mutation.now.cells old.now))))
         ⊎ (why ≡ Refusal.OutOfMemory)) }
 {
-    let cells = merge_cells(alloc, mutation.cells.as_slice(), old)?;
-    Ok(Seq::from_vec(pack(alloc, cells.as_slice())?))
+    Ok(Seq::from_vec(pack_merged(alloc, mutation.cells.as_slice(), old)?))
 }
 
 // Why a row can't be put, by whether its key has a row: `Exists` or `Missing`.
