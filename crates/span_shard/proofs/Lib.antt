@@ -1,7 +1,6 @@
 pub mod Bytes
 pub mod Codes
 pub mod Databases
-pub mod Idle
 pub mod InOrder
 pub mod Lists
 pub mod Touching

@@ -6,5 +6,4 @@ pub mod Rows
 pub mod Shard
 pub mod Reading
 pub mod Overlay
-pub mod Tested
 pub mod EmptyRanges
