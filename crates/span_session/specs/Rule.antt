@@ -3,6 +3,8 @@ use Rattle.std.specs.Prelude.{◌≡◌, ◌≢◌, ◌+◌, ◌*◌, ◌<◌, �
 use mathlib.Core.Option.{Option, some, none}
 use mathlib.Core.List.{IsPrefix}
 use lib.ListN.{get_elem?}
+use Rattle.atomic_table.specs.Seated.{TableId}
+use Rattle.span_schema.specs.declared.table.Table.{Table}
 use Rattle.span_machine.specs.declared.transaction.Commit.{Commit}
 use Rattle.span_shard.specs.KeyVersions.{KeyVersions}
 use Rattle.span_session.specs.declared.board.Role.{Role}
@@ -121,6 +123,17 @@ pub record SlotVersions : Type 0 where
 -- a session that has seen and made nothing
 abbrev pub newcomer : ℕ → SessionHistory
 newcomer k = record { owner = k; seen = []; mine = [] }
+
+-- sessions of the owners k to k + n, which have seen and made nothing
+abbrev pub newcomers : ℕ → ℕ → List SessionHistory
+newcomers k zero = []
+newcomers k (suc n) = newcomer k ∷ newcomers (suc k) n
+
+-- a database that is opened: its table, its schema and how many sessions there are to be
+pub record Named : Type 0 where
+  pub table : TableId
+  pub schema : List Table
+  pub sessions : ℕ
 
 -- what a slot's seat, or the keeper's, stands for
 abbrev pub number_of : List Role → ℕ

@@ -1,20 +1,24 @@
 //! What lies under a slot's lock: its shard, and the seat that knows it.
-ghost use Rattle.std.specs.Prelude.{◌≡◌, IfOk};
-ghost use Rattle.span_schema.specs.Numbers.{IsTable};
+ghost use Rattle.std.specs.Prelude.{◌≡◌, ℕ, List, IfOk};
+ghost use Rattle.span_params.specs.declared.params.Parameter.{Parameter};
 ghost use Rattle.span_parts.specs.Whole.{IsRead};
+ghost use Rattle.span_session.specs.Answers.{IsLeafOf};
 
 use crate::board::{Board, Naming, Place};
 use crate::journal::LockedJournal;
+use crate::question::is_asked;
 use crate::seats;
 use atomic_table::Badge;
+use span_binder::understand::understanding_is_unique;
+use span_fragment::piece::Piece;
 use span_journal::journal::Gap;
-use span_parts::reading::read;
-use span_parts::steps;
+use span_params::params::Params;
+use span_parts::read::read_leaf;
+use span_parts::slot;
+use span_planner::leaf::Leaf;
 use span_shard::shard::Shard;
 use span_truetime::interval::Interval;
 use span_value::refusal::Refusal;
-use span_value::seq::Seq;
-use span_value::value::Row;
 use std::marker::{Model, PhantomData};
 use std::mem;
 
@@ -40,7 +44,7 @@ impl<J: Naming> Model for LockedSlot<J> {
 }
 
 impl<J: Naming> LockedSlot<J> {
-    /// Prepares a transaction here.
+    /// Prepares a transaction here. `NoSlot` where the slot is not in use.
     pub(crate) fn prepare(
         &mut self,
         board: &Board<J>,
@@ -50,9 +54,12 @@ impl<J: Naming> LockedSlot<J> {
     ) -> Result<u64, Refusal>
         ensures commits { journal.new.commits ≡ journal.old.commits }
     {
+        if self.number >= journal.journal.slots().len() {
+            return Err(Refusal::NoSlot);
+        }
         let keeper = mem::replace(&mut journal.badge, Badge::blank());
         let keeper = seats::agree(board, &mut self.seat, keeper);
-        let prepared = steps::prepare(
+        let prepared = slot::prepare_in(
             board.alloc,
             &board.schema,
             &mut journal.journal,
@@ -68,7 +75,7 @@ impl<J: Naming> LockedSlot<J> {
         prepared
     }
 
-    /// Applies a decided transaction here.
+    /// Applies a decided transaction here. `NoSlot` where the slot is not in use.
     pub(crate) fn apply(
         &mut self,
         board: &Board<J>,
@@ -79,10 +86,12 @@ impl<J: Naming> LockedSlot<J> {
     ) -> Result<(), Refusal>
         ensures commits { journal.new.commits ≡ journal.old.commits }
     {
+        if self.number >= journal.journal.slots().len() {
+            return Err(Refusal::NoSlot);
+        }
         let keeper = mem::replace(&mut journal.badge, Badge::blank());
         let keeper = seats::agree(board, &mut self.seat, keeper);
-        let applied = steps::apply(
-            board.alloc,
+        let applied = slot::apply_in(
             &board.schema,
             &mut journal.journal,
             &mut self.shard,
@@ -98,40 +107,59 @@ impl<J: Naming> LockedSlot<J> {
         applied
     }
 
-    /// The rows of a table at s, as far as this slot has them.
-    pub(crate) fn read(&self, board: &Board<J>, table: usize, s: u64) -> Result<Seq<Row>, Refusal>
-        requires { IsTable J.schema table }
-        ensures { IfOk result (λ rows. IsRead J.schema self.now.versions table s rows) }
+    /// What a leaf of a query gives on a part of its range, as far as this slot has it.
+    pub(crate) fn read(
+        &self,
+        board: &Board<J>,
+        leaf: &Leaf,
+        gap: &Gap,
+    ) -> Result<Piece, Refusal>
+        requires { (text : List ℕ) × (params : List Parameter) × (place : ℕ) × IsLeafOf J.schema text params place leaf.now }
+        ensures { IfOk result (λ piece. IsRead J.schema self.now.versions gap.now.range gap.now.s piece leaf.now) }
     {
-        read(board.alloc, &board.schema, &self.shard, table, s)
+        read_leaf(board.alloc, &board.schema, &self.shard, leaf, gap)
     }
 
-    /// Registers what was read here for a leaf of a query.
+    /// Covers what was read here of a leaf by a piece, if it is still uncovered: whether it is. `UnknownQuery` where the query of this
+    /// number is not the one whose leaf was read.
     pub(crate) fn register(
         &mut self,
         board: &Board<J>,
         journal: &mut LockedJournal<J>,
+        text: &str,
+        params: &Params,
         query: u64,
-        leaf: usize,
+        place: usize,
+        leaf: &Leaf,
         interval: Interval,
-        gap: Gap,
-        rows: Seq<Row>,
-    ) -> Result<(), Refusal>
-        requires { IsRead J.schema self.old.versions gap.table gap.s rows }
+        gap: &Gap,
+        piece: Piece,
+    ) -> Result<bool, Refusal>
+        requires leaf { IsLeafOf J.schema text.now params.now place leaf.now }
+        requires read { IsRead J.schema self.old.versions gap.now.range gap.now.s piece leaf.now }
         ensures same { (self.new ≡ self.old) × (journal.new ≡ journal.old) }
     {
+        if self.number >= journal.journal.slots().len() {
+            return Err(Refusal::NoSlot);
+        }
+        if !is_asked(&journal.journal, query, text, params) {
+            return Err(Refusal::UnknownQuery);
+        }
+        understanding_is_unique();
+        let _ = leaf;
         let keeper = mem::replace(&mut journal.badge, Badge::blank());
         journal.badge = seats::agree(board, &mut self.seat, keeper);
-        steps::register(
+        slot::register(
+            board.alloc,
             &board.schema,
             &mut journal.journal,
             &self.shard,
             query,
-            leaf,
+            place,
             self.number,
             interval,
             gap,
-            rows,
+            piece,
         )
     }
 }
