@@ -1,6 +1,6 @@
 -- What steps leave: the log, but for a commit, and what open queries ask.
 use Rattle.std.proofs.Common.{◌≡◌, ℕ, zero, suc, Bool, true, false, cond, List, [], ◌∷◌, ◌++◌, Option, Some, None, Result, Ok, Err, refl, ap, sym, ◌∙◌, subst, inl, inr}
-use Rattle.std.specs.Prelude.{find, if◌then◌else◌}
+use Rattle.std.specs.Prelude.{find, if◌then◌else◌, IfOk, IfErr, OnOk, OnErr}
 use Rattle.std.specs.List.{AllByRecursion}
 use Rattle.span_value.specs.declared.refusal.Refusal.{Refusal}
 use Rattle.span_value.specs.declared.refusal.Refusal.TheVariants as refusal
@@ -25,6 +25,8 @@ use Rattle.span_machine.specs.Machine.{Machine, Answer, Answers, IsAnswer, answe
 use Rattle.span_machine_laws.proofs.Walks.{Ends, answer_by}
 use Rattle.span_machine_laws.proofs.Lists.{all_push, all_without}
 use Rattle.span_parts.specs.Asked.{Asks, AreAsked}
+use Rattle.span_journal.specs.declared.journal.Opened.{Opened}
+use Rattle.span_parts.specs.Replies.{as_reply, opened_reply}
 use Rattle.span_parts.specs.Whole.{IsCommitted}
 use Rattle.span_parts.proofs.Changes.{some_same}
 
@@ -88,6 +90,23 @@ module _ (asks : Asks) where
     pub passed_same : (n : Machine) → n ≡ m → IsPassed asks m n
     passed_same n e = subst (IsPassed asks m) (sym e) (same m refl refl)
 
+    -- where a result is, nothing has changed; else the step is refused
+    pub passed_claim : {A : Type 0} (r : Result A Refusal) (u : Result Statement Refusal) (s : Step) → IsQuiet s → (n : Machine) → OnOk r (n ≡ m) → IfErr r (λ why. Answers m (answer schema m u s) (reply.Refused why) n) → IsPassed asks m n
+    passed_claim (Ok x) u s quiet n stays is = passed_same n stays
+    passed_claim (Err why) u s quiet n stays is = passed u s quiet (reply.Refused why) n is
+
+    -- where a result is, the step is taken; else nothing has changed
+    pub passed_take : {A : Type 0} (r : Result A Refusal) (u : Result Statement Refusal) (s : Step) → IsQuiet s → (answered : Reply) (n : Machine) → IfOk r (λ _. IsAnswer (answer schema m u s) answered n) → OnErr r (n ≡ m) → IsPassed asks m n
+    passed_take (Ok x) u s quiet answered n is stays = passed u s quiet answered n (inl is)
+    passed_take (Err why) u s quiet answered n is stays = passed_same n stays
+
+    -- the step is taken, or nothing has changed, or the step is refused
+    pub passed_register : (r : Result Bool Refusal) (u : Result Statement Refusal) (s : Step) → IsQuiet s → (answered : Reply) (n : Machine) → (r ≡ Ok true → IsAnswer (answer schema m u s) answered n) → (r ≡ Ok false → n ≡ m)
+        → IfErr r (λ why. Answers m (answer schema m u s) (reply.Refused why) n) → IsPassed asks m n
+    passed_register (Ok true) u s quiet answered n is stays no = passed u s quiet answered n (inl (is refl))
+    passed_register (Ok false) u s quiet answered n is stays no = passed_same n (stays refl)
+    passed_register (Err why) u s quiet answered n is stays no = passed u s quiet (reply.Refused why) n no
+
     -- a query is opened of which it holds
     pub passed_opened : (q : Statement) (text : List ℕ) (params : List Parameter) (bound : Bound) (interval : Interval) → asks text params q → (r : Reply) (n : Machine)
         → Answers m (open_query schema m (Ok q) text params bound interval) r n → IsPassed asks m n
@@ -97,6 +116,26 @@ module _ (asks : Asks) where
         by_refusal : (o : Option Refusal) → IsPassed asks m (unless_refused m o (opened schema m text params q (timestamp_of bound interval))).1
         by_refusal None = record { log = refl; asked = all_push (λ (p : OpenQuery). asks p.text p.params p.statement) m.queries (as_opened schema m.next_query (timestamp_of bound interval) text params q) asked is }
         by_refusal (Some why) = same m refl refl
+
+-- what an Open is answered has the timestamp that the bound chooses
+pub opened_at : (schema : List Table) (m : Machine) (q : Statement) (text : List ℕ) (params : List Parameter) (bound : Bound) (interval : Interval) (r : Result Opened Refusal) (n : Machine)
+    → Answers m (open_query schema m (Ok q) text params bound interval) (as_reply opened_reply r) n → IfOk r (λ o. o.s ≡ timestamp_of bound interval)
+opened_at schema m q text params bound interval (Err why) n is = tt
+opened_at schema m q text params bound interval (Ok o) n (inr e) = absurd (opened_refused o.query o.s o.leaves refusal.OutOfMemory e.0)
+  where
+    opened_refused : (a b c : ℕ) (why : Refusal) → reply.Opened a b c ≡ reply.Refused why → ⊥
+    opened_refused a b c why e = absurd (cc e)
+opened_at schema m q text params bound interval (Ok o) n (inl e) = by_refusal (open_refusal m bound interval) e.0
+  where
+    opened_refused : (a b c : ℕ) (why : Refusal) → reply.Opened a b c ≡ reply.Refused why → ⊥
+    opened_refused a b c why f = absurd (cc f)
+
+    opened_same : (a b c d f g : ℕ) → reply.Opened a b c ≡ reply.Opened d f g → b ≡ f
+    opened_same a b c d f g h = cc
+
+    by_refusal : (w : Option Refusal) → reply.Opened o.query o.s o.leaves ≡ (unless_refused m w (opened schema m text params q (timestamp_of bound interval))).0 → o.s ≡ timestamp_of bound interval
+    by_refusal None f = opened_same _ _ _ _ _ _ f
+    by_refusal (Some why) f = absurd (opened_refused o.query o.s o.leaves why f)
 
 -- ---- a commit
 

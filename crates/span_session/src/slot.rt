@@ -1,5 +1,5 @@
 //! What lies under a slot's lock: its shard, and the seat that knows it.
-ghost use Rattle.std.specs.Prelude.{◌≡◌, ℕ, List, IfOk};
+ghost use Rattle.std.specs.Prelude.{◌≡◌, ◌<◌, ℕ, true, List, IfOk, length};
 ghost use Rattle.span_params.specs.declared.params.Parameter.{Parameter};
 ghost use Rattle.span_parts.specs.Whole.{IsRead};
 ghost use Rattle.span_session.specs.Answers.{IsLeafOf};
@@ -11,7 +11,7 @@ use crate::seats;
 use atomic_table::Badge;
 use span_binder::understand::understanding_is_unique;
 use span_fragment::piece::Piece;
-use span_journal::journal::Gap;
+use span_journal::journal::{Gap, Journal};
 use span_params::params::Params;
 use span_parts::read::read_leaf;
 use span_parts::slot;
@@ -54,7 +54,7 @@ impl<J: Naming> LockedSlot<J> {
     ) -> Result<u64, Refusal>
         ensures commits { journal.new.commits ≡ journal.old.commits }
     {
-        if self.number >= journal.journal.slots().len() {
+        if !is_used(&journal.journal, self.number) {
             return Err(Refusal::NoSlot);
         }
         let keeper = mem::replace(&mut journal.badge, Badge::blank());
@@ -86,7 +86,7 @@ impl<J: Naming> LockedSlot<J> {
     ) -> Result<(), Refusal>
         ensures commits { journal.new.commits ≡ journal.old.commits }
     {
-        if self.number >= journal.journal.slots().len() {
+        if !is_used(&journal.journal, self.number) {
             return Err(Refusal::NoSlot);
         }
         let keeper = mem::replace(&mut journal.badge, Badge::blank());
@@ -139,7 +139,7 @@ impl<J: Naming> LockedSlot<J> {
         requires read { IsRead J.schema self.old.versions gap.now.range gap.now.s piece leaf.now }
         ensures same { (self.new ≡ self.old) × (journal.new ≡ journal.old) }
     {
-        if self.number >= journal.journal.slots().len() {
+        if !is_used(&journal.journal, self.number) {
             return Err(Refusal::NoSlot);
         }
         if !is_asked(&journal.journal, query, text, params) {
@@ -162,4 +162,11 @@ impl<J: Naming> LockedSlot<J> {
             piece,
         )
     }
+}
+
+/// Whether the slot of this number is in use.
+fn is_used(journal: &Journal, number: usize) -> bool
+    ensures { result ≡ true → number < length journal.now.slots }
+{
+    number < journal.slots().len()
 }
