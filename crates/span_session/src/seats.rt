@@ -5,7 +5,7 @@ ghost use Rattle.span_session.specs.Known.{kept, grown, restated, owned};
 ghost use Rattle.span_session.specs.Rule.{number_of, versions_of, known_at, seen_of, mine_of, shard_of_change};
 ghost use Rattle.span_session.specs.declared.board.Role.TheVariants.{Holder, Keeper, Client};
 
-use crate::board::{Agree, Board, Catch, Meet, Naming, Place, Publish, Restate, Change, View};
+use crate::board::{Agree, Board, Catch, Change, Meet, Naming, Place, Publish, Restate, View};
 use atomic_table::Badge;
 use span_machine::transaction::Commit;
 use span_shard::shard::Shard;

@@ -108,12 +108,7 @@ impl<J: Naming> LockedSlot<J> {
     }
 
     /// What a leaf of a query gives on a part of its range, as far as this slot has it.
-    pub(crate) fn read(
-        &self,
-        board: &Board<J>,
-        leaf: &Leaf,
-        gap: &Gap,
-    ) -> Result<Piece, Refusal>
+    pub(crate) fn read(&self, board: &Board<J>, leaf: &Leaf, gap: &Gap) -> Result<Piece, Refusal>
         requires { (text : List ℕ) × (params : List Parameter) × (place : ℕ) × IsLeafOf J.schema text params place leaf.now }
         ensures { IfOk result (λ piece. IsRead J.schema self.now.versions gap.now.range gap.now.s piece leaf.now) }
     {
