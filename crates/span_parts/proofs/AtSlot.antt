@@ -19,7 +19,7 @@ use Rattle.span_machine.specs.Machine.{Machine, Answer, Answers, IsAnswer, if_so
 use Rattle.span_machine.specs.Pieces.{Journaled, machine_of}
 use Rattle.span_journal.specs.declared.journal.Gap.{Gap}
 use Rattle.span_journal.specs.Judged.{leaf_of, IsUnclaimed, MayScan, IsRegistered, IsUnregistered, IsUnchanged}
-use Rattle.span_journal.specs.Scans.{is_free, piece_refusal, IsRisen}
+use Rattle.span_journal.specs.Scans.{is_free, piece_refusal, register_refusal}
 use Rattle.span_parts.specs.Whole.{Shards, IsWhole, GoesWith, StaysAt, IsRead}
 use Rattle.span_parts.proofs.Changes.{of_some, some_same}
 use Rattle.span_parts.proofs.Scanning.{scanned_leaf, scanned_answer, scanned_whole}
@@ -58,6 +58,7 @@ module _ (schema : List Table) (j : Journaled) (query leaf slot : ℕ) (interval
 
       free : is_free d.slot_state d.gap range ≡ true
       free = ap (is_free d.slot_state d.gap) d.of_part ∙ d.free
+      none : register_refusal m query leaf slot interval range ≡ None
       none =
           ap (λ (o : Option OpenQuery). if_some o (Some refusal.UnknownQuery) (λ q. if_some (slice_get q.leaves leaf) (Some refusal.UnknownQuery) (λ l. if_some (slice_get m.slots slot) (Some refusal.NoSlot) (piece_refusal m slot interval range q.s l)))) d.found
           ∙ ap (λ (o : Option ScanLeaf). if_some o (Some refusal.UnknownQuery) (λ l. if_some (slice_get m.slots slot) (Some refusal.NoSlot) (piece_refusal m slot interval range d.question.s l))) d.there

@@ -117,24 +117,22 @@ module _ (asks : Asks) where
         by_refusal None = record { log = refl; asked = all_push (λ (p : OpenQuery). asks p.text p.params p.statement) m.queries (as_opened schema m.next_query (timestamp_of bound interval) text params q) asked is }
         by_refusal (Some why) = same m refl refl
 
+-- replies of different kinds
+opened_refused : (a b c : ℕ) (why : Refusal) → reply.Opened a b c ≡ reply.Refused why → ⊥
+opened_refused a b c why e = absurd (cc e)
+
+opened_same : (a b c d f g : ℕ) → reply.Opened a b c ≡ reply.Opened d f g → b ≡ f
+opened_same a b c d f g e = cc
+
 -- what an Open is answered has the timestamp that the bound chooses
 pub opened_at : (schema : List Table) (m : Machine) (q : Statement) (text : List ℕ) (params : List Parameter) (bound : Bound) (interval : Interval) (r : Result Opened Refusal) (n : Machine)
     → Answers m (open_query schema m (Ok q) text params bound interval) (as_reply opened_reply r) n → IfOk r (λ o. o.s ≡ timestamp_of bound interval)
 opened_at schema m q text params bound interval (Err why) n is = tt
 opened_at schema m q text params bound interval (Ok o) n (inr e) = absurd (opened_refused o.query o.s o.leaves refusal.OutOfMemory e.0)
-  where
-    opened_refused : (a b c : ℕ) (why : Refusal) → reply.Opened a b c ≡ reply.Refused why → ⊥
-    opened_refused a b c why e = absurd (cc e)
 opened_at schema m q text params bound interval (Ok o) n (inl e) = by_refusal (open_refusal m bound interval) e.0
   where
-    opened_refused : (a b c : ℕ) (why : Refusal) → reply.Opened a b c ≡ reply.Refused why → ⊥
-    opened_refused a b c why f = absurd (cc f)
-
-    opened_same : (a b c d f g : ℕ) → reply.Opened a b c ≡ reply.Opened d f g → b ≡ f
-    opened_same a b c d f g h = cc
-
     by_refusal : (w : Option Refusal) → reply.Opened o.query o.s o.leaves ≡ (unless_refused m w (opened schema m text params q (timestamp_of bound interval))).0 → o.s ≡ timestamp_of bound interval
-    by_refusal None f = opened_same _ _ _ _ _ _ f
+    by_refusal None f = opened_same o.query o.s o.leaves m.next_query (timestamp_of bound interval) _ f
     by_refusal (Some why) f = absurd (opened_refused o.query o.s o.leaves why f)
 
 -- ---- a commit
@@ -156,7 +154,7 @@ module _ (schema : List Table) (m : Machine) (owner txn : ℕ) (interval : Inter
   -- a commit that is answered has joined the log
   pub committed_by : (ts : ℕ) (n : Machine) → IsAnswer decided (reply.Decided ts) n → IsCommitted m owner txn ts n
   committed_by ts n e = elim (find (is_transaction owner txn) m.transactions) as (λ o. find (is_transaction owner txn) m.transactions ≡ o → IsCommitted m owner txn ts n) [
-    | None ↦ λ none. absurd (cc (e.0 ∙ ap (λ (o : Option OpenTransaction). (if_some o (refused m refusal.UnknownTransaction) (decide_transaction schema m owner txn verdict.Commit interval)).0) none))
+    | None ↦ λ none. absurd (refused_as refusal.UnknownTransaction ts (e.0 ∙ ap (λ (o : Option OpenTransaction). (if_some o (refused m refusal.UnknownTransaction) (decide_transaction schema m owner txn verdict.Commit interval)).0) none))
     | Some t ↦ λ found. by_refusal t found (commit_refusal schema m t interval) (e.0 ∙ ap (λ (a : Answer). a.0) (found_commit t found)) (e.1 ∙ ap (λ (a : Answer). a.1) (found_commit t found))
   ] refl
     where

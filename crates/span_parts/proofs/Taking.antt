@@ -29,9 +29,12 @@ use Rattle.span_parts.proofs.Wholes.{no_text, goes_same, goes_by}
 found_same : (s : ℕ) (a b : Found) → reply.Rows s a ≡ reply.Rows s b → a ≡ b
 found_same s a b e = cc
 
+rows_refused : (s : ℕ) (a : Found) (why : Refusal) → reply.Rows s a ≡ reply.Refused why → ⊥
+rows_refused s a why e = absurd (cc e)
+
 rows_meant : (s : ℕ) (rows : List Row) (o : Rows) → answer_on s (Ok rows) ≡ answer_on s (rows_or_refusal o) → o ≡ Some rows
-rows_meant s rows None e = absurd (cc e)
-rows_meant s rows (Some means) e = ap (λ (f : Found). Some f.rows) (sym (found_same s (record { rows = rows }) (record { rows = means }) e))
+rows_meant s rows None e = absurd (rows_refused s (record { rows = rows }) refusal.ArithmeticFault e)
+rows_meant s rows (Some others) e = ap (λ (f : Found). Some f.rows) (sym (found_same s (record { rows = rows }) (record { rows = others }) e))
 
 module _ (schema : List Table) (j k : Journaled) (query : ℕ) (taken : Taken) (t : IsTaken j query taken k) where
   there : find (is_query query) (queries_of j.queries) ≡ Some t.question.query

@@ -28,11 +28,11 @@ pub(crate) fn read_gap(
 ) -> Result<Piece, Refusal>
     requires { IfSome (leaf_of (machine_of journal.now) query leaf) (λ l. AllByRecursion (IsTable schema.now) l.tables) }
     ensures { MatchOption (leaf_of (machine_of journal.now) query leaf)
+        (result ≡ Err Refusal.UnknownQuery)
         (λ l.
         MatchResult result
         (λ piece. IsRead schema.now shard.now gap.now.range gap.now.s piece l)
-        (IsUnread schema.now shard.now gap.now.range gap.now.s))
-        (result ≡ Err Refusal.UnknownQuery) }
+        (IsUnread schema.now shard.now gap.now.range gap.now.s)) }
 {
     let Some(leaf) = journal.leaf(query, leaf) else {
         return Err(Refusal::UnknownQuery);

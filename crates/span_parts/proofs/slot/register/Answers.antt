@@ -3,7 +3,7 @@ use Rattle.std.specs.Prelude.{Option, IfSome}
 use Rattle.span_planner.specs.declared.leaf.Leaf.{Leaf}
 use Rattle.span_machine.specs.declared.step.Reply.TheVariants as reply_of
 use Rattle.span_machine.specs.Machine.{Machine, Answers, IsAnswer, scan}
-use Rattle.span_machine.specs.Pieces.{machine_of}
+use Rattle.span_machine.specs.Pieces.{Journaled, machine_of}
 use Rattle.span_journal.specs.Judged.{IsGap, MayScan, leaf_of}
 use Rattle.span_parts.specs.Whole.{IsRead}
 use Rattle.span_parts.proofs.AtSlot.{unclaimed_answer, unclaimed_goes, unregistered_is, unregistered_same, registered_whole}
@@ -46,3 +46,33 @@ pub returns-in-Err-clause-whole : goal.returns-in-Err-clause-whole
 returns-in-Err-clause-whole c = λ shards w there.
     let a = c.args in
     unclaimed_goes a.schema.now a.journal.now c.claim_gap.new.self a.query a.leaf a.slot a.interval c.in-Err.why c.in-Err.ensures.refused c.in-Err.ensures.pieces shards w
+
+pub returns-in-Err-register-clause-refused : goal.returns-in-Err-register-clause-refused
+returns-in-Err-register-clause-refused c =
+    let a = c.args in
+    let gap = c.in-Ok-Some.again in
+    let k = c.claim_gap.new.self in
+    let same = c.in-Ok-Some.ensures.ok in
+    let may = subst (IsGap (machine_of a.journal.now) a.query a.leaf a.slot a.interval) c.in-Ok-Some.field-0-is c.in-Ok-Some.ensures.gap in
+    let may_then = subst (λ (m : Machine). MayScan m a.query a.leaf a.slot a.interval gap.range gap.s) (sym same) may in
+    let why = c.in-Err-register.why in
+    let unregistered = c.in-Err-register.ensures.why in
+    let stays = unregistered_same a.schema.now k a.query a.leaf a.slot a.interval gap.range gap.s may_then why c.register.new.self unregistered c.in-Err-register.ensures.err in
+    inr (ap reply_of.Refused (unregistered_is a.schema.now k a.query a.leaf a.slot a.interval gap.range gap.s may_then why unregistered), ap machine_of stays ∙ same)
+
+pub returns-in-Err-register-clause-whole : goal.returns-in-Err-register-clause-whole
+returns-in-Err-register-clause-whole c = λ shards w there.
+    let a = c.args in
+    let gap = c.in-Ok-Some.again in
+    let k = c.claim_gap.new.self in
+    let same = c.in-Ok-Some.ensures.ok in
+    let may = subst (IsGap (machine_of a.journal.now) a.query a.leaf a.slot a.interval) c.in-Ok-Some.field-0-is c.in-Ok-Some.ensures.gap in
+    let may_then = subst (λ (m : Machine). MayScan m a.query a.leaf a.slot a.interval gap.range gap.s) (sym same) may in
+    let stays = unregistered_same a.schema.now k a.query a.leaf a.slot a.interval gap.range gap.s may_then c.in-Err-register.why c.register.new.self c.in-Err-register.ensures.why c.in-Err-register.ensures.err in
+    goes_same a.schema.now a.journal.now c.register.new.self (ap machine_of stays ∙ same) (ap (λ (l : Journaled). l.queries) stays ∙ c.in-Ok-Some.ensures.pieces) shards w
+
+pub returns-then-not-are_same-clause-whole : goal.returns-then-not-are_same-clause-whole
+returns-then-not-are_same-clause-whole c = λ shards w there. goes_same c.args.schema.now c.args.journal.now c.claim_gap.new.self c.in-Ok-Some.ensures.ok c.in-Ok-Some.ensures.pieces shards w
+
+pub returns-in-Ok-None-clause-whole : goal.returns-in-Ok-None-clause-whole
+returns-in-Ok-None-clause-whole c = λ shards w there. goes_same c.args.schema.now c.args.journal.now c.claim_gap.new.self c.in-Ok-None.ensures.ok c.in-Ok-None.ensures.pieces shards w

@@ -47,7 +47,7 @@ returns-in-Ok-register-clause-whole c =
     let w = goes_same a.schema.now a.journal.now k same c.in-Ok-Some.ensures.pieces a.shards.now c.requires in
     let found = shard_there a.schema.now a.journal.now a.shards.now c.requires a.slot may.slot_state may.here in
     let there = found.1 ∙ ap (λ x. Some x) (sym (c.index-shards-slot.is ∙ at_index a.shards.now a.slot c.index-shards-slot.result found.0 found.1)) in
-    let read = subst (λ (o : Option Leaf). MatchOption o (λ l. IsRead a.schema.now c.index-shards-slot.result gap.range gap.s c.in-Ok.piece l) (Ok c.in-Ok.piece ≡ Err UnknownQuery)) (scanned_leaf a.schema.now k a.shards.now w a.query a.leaf a.slot a.interval gap.range gap.s may_then) c.in-Ok.ensures in
+    let read = subst (λ (o : Option Leaf). MatchOption o (Ok c.in-Ok.piece ≡ Err UnknownQuery) (λ l. IsRead a.schema.now c.index-shards-slot.result gap.range gap.s c.in-Ok.piece l)) (scanned_leaf a.schema.now k a.shards.now w a.query a.leaf a.slot a.interval gap.range gap.s may_then) c.in-Ok.ensures in
     scanned_whole a.schema.now k a.shards.now w a.query a.leaf a.slot a.interval gap.range gap.s may_then _ c.register.new.self c.in-Ok-register.ensures.ok c.index-shards-slot.result there read
 
 pub returns-in-Err-read_gap-clause-step : goal.returns-in-Err-read_gap-clause-step
@@ -61,7 +61,7 @@ returns-in-Err-read_gap-clause-step c =
     let w = goes_same a.schema.now a.journal.now k same c.in-Ok-Some.ensures.pieces a.shards.now c.requires in
     let found = shard_there a.schema.now a.journal.now a.shards.now c.requires a.slot may.slot_state may.here in
     let there = found.1 ∙ ap (λ x. Some x) (sym (c.index-shards-slot.is ∙ at_index a.shards.now a.slot c.index-shards-slot.result found.0 found.1)) in
-    let unread = subst (λ (o : Option Leaf). MatchOption o (λ l. IsUnread a.schema.now c.index-shards-slot.result gap.range gap.s c.in-Err-read_gap.why) (Err c.in-Err-read_gap.why ≡ Err UnknownQuery)) (scanned_leaf a.schema.now k a.shards.now w a.query a.leaf a.slot a.interval gap.range gap.s may_then) c.in-Err-read_gap.ensures in
+    let unread = subst (λ (o : Option Leaf). MatchOption o (Err c.in-Err-read_gap.why ≡ Err UnknownQuery) (λ l. IsUnread a.schema.now c.index-shards-slot.result gap.range gap.s c.in-Err-read_gap.why)) (scanned_leaf a.schema.now k a.shards.now w a.query a.leaf a.slot a.interval gap.range gap.s may_then) c.in-Err-read_gap.ensures in
     let memory = reads a.schema.now a.journal.now a.shards.now c.requires a.query a.leaf a.slot a.interval gap.range gap.s may c.index-shards-slot.result there c.in-Err-read_gap.why unread in
     inr (ap reply_of.Refused memory, same)
 
