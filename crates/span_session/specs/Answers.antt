@@ -15,7 +15,7 @@ use Rattle.span_machine.specs.Meaning.{means}
 use Rattle.span_machine.specs.Tables.{tables}
 
 -- The rows are what the query text, with these parameters, means on the tables of these commits at s.
-pub record IsAnswer (schema : List Table) (text : List ℕ) (params : List Parameter) (commits : List Commit) (s : ℕ) (rows : List Row) : Type 0 where
+pub record IsAnswered (schema : List Table) (text : List ℕ) (params : List Parameter) (commits : List Commit) (s : ℕ) (rows : List Row) : Type 0 where
   pub statement : Statement
   pub understood : Understands schema text params (Ok statement)
   pub db : List TableRow

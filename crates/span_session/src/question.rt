@@ -1,5 +1,6 @@
 //! A query as a session asks it: its text is understood, planned and compared while no lock is held.
-ghost use Rattle.std.specs.Prelude.{◌≡◌, true, IfOk, MatchResult, Ok, Err, Some, find};
+ghost use Rattle.std.specs.Prelude.{◌≡◌, true, IfOk, MatchResult, Ok, Err, Some, find, slice_get};
+ghost use Rattle.std.specs.Option.{option_copied};
 ghost use Rattle.span_gather.specs.Gathered.{gathered};
 ghost use Rattle.span_machine.specs.Machine.{is_query, statement_plan};
 ghost use Rattle.span_machine.specs.Pieces.{machine_of};
@@ -15,7 +16,7 @@ use span_gather::rows::Rows;
 use span_journal::journal::Journal;
 use span_journal::taken::Taken;
 use span_params::params::Params;
-use span_planner::leaf::Plan;
+use span_planner::leaf::{Leaf, Plan};
 use span_planner::plan::plan;
 use span_query::query::Statement;
 use span_schema::schema::Schema;
@@ -70,6 +71,13 @@ pub(crate) fn understand_and_plan(
         }
         Err(why) => Err(why),
     }
+}
+
+/// The leaf at a place of the plan, counted from 0, if there is one.
+pub(crate) fn leaf_at(plan: &Plan, place: usize) -> Option<&Leaf>
+    ensures { option_copied result ≡ slice_get plan.now.leaves place }
+{
+    plan.leaves.as_slice().get(place)
 }
 
 /// Copies of a query text and its parameters. `OutOfMemory`.
