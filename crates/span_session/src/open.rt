@@ -110,12 +110,14 @@ fn journal_of<J: Naming>(
     requires keeper { badge.views ≡ (Keeper (nothing_known SLOTS) ∷ []) ∷ [] }
 {
     board.schema.meets_rules();
-    let journal = Journal::new(board.alloc)?;
-    Ok(LockedJournal {
-        journal,
-        badge,
-        of: PhantomData,
-    })
+    match Journal::new(board.alloc) {
+        Ok(journal) => Ok(LockedJournal {
+            journal,
+            badge,
+            of: PhantomData,
+        }),
+        Err(why) => Err(why),
+    }
 }
 
 /// The slots, each under its lock, and what is left of the first seat.
