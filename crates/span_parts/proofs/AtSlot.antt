@@ -58,6 +58,7 @@ module _ (schema : List Table) (j : Journaled) (query leaf slot : ℕ) (interval
 
       free : is_free d.slot_state d.gap range ≡ true
       free = ap (is_free d.slot_state d.gap) d.of_part ∙ d.free
+
       none : register_refusal m query leaf slot interval range ≡ None
       none =
           ap (λ (o : Option OpenQuery). if_some o (Some refusal.UnknownQuery) (λ q. if_some (slice_get q.leaves leaf) (Some refusal.UnknownQuery) (λ l. if_some (slice_get m.slots slot) (Some refusal.NoSlot) (piece_refusal m slot interval range q.s l)))) d.found

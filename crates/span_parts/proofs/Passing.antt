@@ -103,9 +103,9 @@ module _ (asks : Asks) where
     -- the step is taken, or nothing has changed, or the step is refused
     pub passed_register : (r : Result Bool Refusal) (u : Result Statement Refusal) (s : Step) → IsQuiet s → (answered : Reply) (n : Machine) → (r ≡ Ok true → IsAnswer (answer schema m u s) answered n) → (r ≡ Ok false → n ≡ m)
         → IfErr r (λ why. Answers m (answer schema m u s) (reply.Refused why) n) → IsPassed asks m n
-    passed_register (Ok true) u s quiet answered n is stays no = passed u s quiet answered n (inl (is refl))
-    passed_register (Ok false) u s quiet answered n is stays no = passed_same n (stays refl)
-    passed_register (Err why) u s quiet answered n is stays no = passed u s quiet (reply.Refused why) n no
+    passed_register (Ok true) u s quiet answered n is stays refusals = passed u s quiet answered n (inl (is refl))
+    passed_register (Ok false) u s quiet answered n is stays refusals = passed_same n (stays refl)
+    passed_register (Err why) u s quiet answered n is stays refusals = passed u s quiet (reply.Refused why) n refusals
 
     -- a query is opened of which it holds
     pub passed_opened : (q : Statement) (text : List ℕ) (params : List Parameter) (bound : Bound) (interval : Interval) → asks text params q → (r : Reply) (n : Machine)
@@ -138,7 +138,7 @@ opened_at schema m q text params bound interval (Ok o) n (inl e) = by_refusal (o
 -- ---- a commit
 
 module _ (schema : List Table) (m : Machine) (owner txn : ℕ) (interval : Interval) where
-  abbrev decided : Answer
+  abbrev pub decided : Answer
   decided = decide schema m owner txn verdict.Commit interval
 
   refused_as : (why : Refusal) (ts : ℕ) → reply.Decided ts ≡ reply.Refused why → ⊥

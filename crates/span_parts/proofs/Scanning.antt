@@ -1,6 +1,6 @@
 -- Scan of a leaf in a slot.
 use Rattle.std.proofs.Common.{◌≡◌, ℕ, ◌≤◌, arith, nat_lt, cond, true, false, List, Option, Some, None, refl, ap, sym, ◌∙◌, subst, inl, inr}
-use Rattle.std.specs.Prelude.{IfSome, find, slice_get, option_map}
+use Rattle.std.specs.Prelude.{IfSome, MatchOption, Result, Err, find, slice_get, option_map}
 use Rattle.std.specs.List.{AllByRecursion}
 use Rattle.span_schema.specs.Numbers.{IsTable}
 use Rattle.span_planner.specs.declared.leaf.Leaf.{Leaf}
@@ -129,3 +129,8 @@ module _ (schema : List Table) (j : Journaled) (shards : Shards) (w : IsWhole sc
               (all_kept_by_step schema m w.reached shards no_text (step.Scan query leaf slot interval) tt w.kept);
           pieced = subst (λ (l : Journaled). ArePieced schema (machine_of l) l.queries) (sym g.after) pieced;
         }
+
+-- ---- what is read of a leaf that is there
+
+pub of_leaf : (Q : Leaf → Type 0) (r : Result Piece Refusal) (o : Option Leaf) (l : Leaf) → o ≡ Some l → MatchOption o (r ≡ Err refusal.UnknownQuery) Q → Q l
+of_leaf Q r o l there read = subst (λ (p : Option Leaf). MatchOption p (r ≡ Err refusal.UnknownQuery) Q) there read

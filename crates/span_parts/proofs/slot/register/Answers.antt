@@ -11,8 +11,8 @@ use Rattle.span_parts.proofs.Scanning.{scanned_answer}
 use Rattle.span_parts.proofs.Wholes.{goes_same}
 use Rattle.span_parts.proofs.slot.register.Goals as goal
 
-pub returns-in-Ok-register-clause-scanned : goal.returns-in-Ok-register-clause-scanned
-returns-in-Ok-register-clause-scanned c = λ is.
+pub returns-in-Ok-clause-scanned : goal.returns-in-Ok-clause-scanned
+returns-in-Ok-clause-scanned c = λ is.
     let a = c.args in
     let gap = c.in-Ok-Some.again in
     let k = c.claim_gap.new.self in
@@ -22,10 +22,10 @@ returns-in-Ok-register-clause-scanned c = λ is.
     let here = c.requires.belongs in
     let w = goes_same a.schema.now a.journal.now k same c.in-Ok-Some.ensures.pieces here.0 here.1 in
     subst (λ (m : Machine). IsAnswer (scan m a.query a.leaf a.slot a.interval) reply_of.Scanned (machine_of c.register.new.self)) same
-    (scanned_answer a.schema.now k here.0 w a.query a.leaf a.slot a.interval gap.range gap.s may_then _ c.register.new.self c.in-Ok-register.ensures.ok)
+    (scanned_answer a.schema.now k here.0 w a.query a.leaf a.slot a.interval gap.range gap.s may_then _ c.register.new.self c.in-Ok.ensures.ok)
 
-pub returns-in-Ok-register-clause-whole : goal.returns-in-Ok-register-clause-whole
-returns-in-Ok-register-clause-whole c = λ shards w there.
+pub returns-in-Ok-clause-whole : goal.returns-in-Ok-clause-whole
+returns-in-Ok-clause-whole c = λ shards w there.
     let a = c.args in
     let gap = c.in-Ok-Some.again in
     let k = c.claim_gap.new.self in
@@ -35,7 +35,7 @@ returns-in-Ok-register-clause-whole c = λ shards w there.
     let w_then = goes_same a.schema.now a.journal.now k same c.in-Ok-Some.ensures.pieces shards w in
     let one = c.are_same.ensures (c.if-not-are_same.false) in
     let read = subst (λ (m : Machine). IfSome (leaf_of m a.query a.leaf) (IsRead a.schema.now a.shard.now a.gap.now.range a.gap.now.s a.piece)) (sym same) c.requires.read in
-    registered_whole a.schema.now k a.query a.leaf a.slot a.interval gap.range gap.s may_then a.gap.now.range a.gap.now.s a.piece one.0 one.1 c.register.new.self c.in-Ok-register.ensures.ok a.shard.now read shards w_then there
+    registered_whole a.schema.now k a.query a.leaf a.slot a.interval gap.range gap.s may_then a.gap.now.range a.gap.now.s a.piece one.0 one.1 c.register.new.self c.in-Ok.ensures.ok a.shard.now read shards w_then there
 
 pub returns-in-Err-clause-refused : goal.returns-in-Err-clause-refused
 returns-in-Err-clause-refused c =

@@ -1,7 +1,5 @@
-use Rattle.std.proofs.Common.{◌≡◌, ◌∙◌, sym, ap, subst, inl, inr}
-use Rattle.std.specs.Prelude.{Ok, Err, Option, Some, MatchOption}
-use Rattle.span_value.specs.declared.refusal.Refusal.TheVariants.{UnknownQuery}
-use Rattle.span_planner.specs.declared.leaf.Leaf.{Leaf}
+use Rattle.std.proofs.Common.{◌∙◌, sym, ap, subst, inl, inr}
+use Rattle.std.specs.Prelude.{Ok, Err, Some}
 use Rattle.span_machine.specs.declared.step.Step.TheVariants as step
 use Rattle.span_machine.specs.declared.step.Reply.TheVariants as reply_of
 use Rattle.span_machine.specs.Machine.{Machine, Answer, Answers, scan}
@@ -9,7 +7,7 @@ use Rattle.span_machine.specs.Pieces.{machine_of}
 use Rattle.span_journal.specs.Judged.{IsGap, MayScan, leaf_of}
 use Rattle.span_parts.specs.Whole.{IsRead, IsUnread}
 use Rattle.span_parts.proofs.Changes.{shard_there, at_index}
-use Rattle.span_parts.proofs.Scanning.{scanned_leaf, scanned_tables, reads, scanned_answer, scanned_whole}
+use Rattle.span_parts.proofs.Scanning.{of_leaf, scanned_leaf, scanned_tables, reads, scanned_answer, scanned_whole}
 use Rattle.span_parts.proofs.Wholes.{no_text, goes_same, goes_by, pieces_same}
 use Rattle.span_parts.proofs.steps.scan.Goals as goal
 
@@ -47,7 +45,7 @@ returns-in-Ok-register-clause-whole c =
     let w = goes_same a.schema.now a.journal.now k same c.in-Ok-Some.ensures.pieces a.shards.now c.requires in
     let found = shard_there a.schema.now a.journal.now a.shards.now c.requires a.slot may.slot_state may.here in
     let there = found.1 ∙ ap (λ x. Some x) (sym (c.index-shards-slot.is ∙ at_index a.shards.now a.slot c.index-shards-slot.result found.0 found.1)) in
-    let read = subst (λ (o : Option Leaf). MatchOption o (Ok c.in-Ok.piece ≡ Err UnknownQuery) (λ l. IsRead a.schema.now c.index-shards-slot.result gap.range gap.s c.in-Ok.piece l)) (scanned_leaf a.schema.now k a.shards.now w a.query a.leaf a.slot a.interval gap.range gap.s may_then) c.in-Ok.ensures in
+    let read = of_leaf (IsRead a.schema.now c.index-shards-slot.result gap.range gap.s c.in-Ok.piece) (Ok c.in-Ok.piece) _ _ (scanned_leaf a.schema.now k a.shards.now w a.query a.leaf a.slot a.interval gap.range gap.s may_then) c.in-Ok.ensures in
     scanned_whole a.schema.now k a.shards.now w a.query a.leaf a.slot a.interval gap.range gap.s may_then _ c.register.new.self c.in-Ok-register.ensures.ok c.index-shards-slot.result there read
 
 pub returns-in-Err-read_gap-clause-step : goal.returns-in-Err-read_gap-clause-step
@@ -61,7 +59,7 @@ returns-in-Err-read_gap-clause-step c =
     let w = goes_same a.schema.now a.journal.now k same c.in-Ok-Some.ensures.pieces a.shards.now c.requires in
     let found = shard_there a.schema.now a.journal.now a.shards.now c.requires a.slot may.slot_state may.here in
     let there = found.1 ∙ ap (λ x. Some x) (sym (c.index-shards-slot.is ∙ at_index a.shards.now a.slot c.index-shards-slot.result found.0 found.1)) in
-    let unread = subst (λ (o : Option Leaf). MatchOption o (Err c.in-Err-read_gap.why ≡ Err UnknownQuery) (λ l. IsUnread a.schema.now c.index-shards-slot.result gap.range gap.s c.in-Err-read_gap.why)) (scanned_leaf a.schema.now k a.shards.now w a.query a.leaf a.slot a.interval gap.range gap.s may_then) c.in-Err-read_gap.ensures in
+    let unread = of_leaf (λ _. IsUnread a.schema.now c.index-shards-slot.result gap.range gap.s c.in-Err-read_gap.why) (Err c.in-Err-read_gap.why) _ _ (scanned_leaf a.schema.now k a.shards.now w a.query a.leaf a.slot a.interval gap.range gap.s may_then) c.in-Err-read_gap.ensures in
     let memory = reads a.schema.now a.journal.now a.shards.now c.requires a.query a.leaf a.slot a.interval gap.range gap.s may c.index-shards-slot.result there c.in-Err-read_gap.why unread in
     inr (ap reply_of.Refused memory, same)
 
