@@ -14,8 +14,8 @@ returns-in-Ok-Some-clause-committed c =
     committed_by a.schema.now m a.owner a.txn a.interval c.in-Ok-Some.timestamp n
     (subst (λ (o : Option ℕ). IsAnswer (decided a.schema.now m a.owner a.txn a.interval) (decision_reply o) n) c.in-Ok-Some.field-0-is c.in-Ok-Some.ensures.step)
 
-pub unreachable-unreachable : goal.unreachable-unreachable
-unreachable-unreachable c =
+pub unreachable-requires : goal.unreachable-requires
+unreachable-requires c =
     let a = c.args in
     let m = machine_of a.journal.now in
     let n = machine_of c.decide.new.journal in
