@@ -12,7 +12,7 @@ use Rattle.span_session.specs.declared.board.Change.{Change}
 use Rattle.span_machine.specs.declared.transaction.Commit.{Commit}
 use Rattle.span_shard.specs.KeyVersions.{KeyVersions}
 use Rattle.span_session.specs.Known.{Known}
-use Rattle.span_session.specs.Rule.{name_of, Fits, FitAll, Kept, first_of, others_of, number_of, versions_of, known_at}
+use Rattle.span_session.specs.Rule.{name_of, Fits, FitAll, Kept, first_of, others_of, number_of, versions_of, known_at, seen_of, mine_of}
 use Rattle.span_session.proofs.Owners.{if_true, if_false}
 use Rattle.span_session.proofs.Steps.{Holds, fit_again}
 
@@ -108,6 +108,9 @@ only_view views v w e f = cc
 -- a seat that has one role, by what is read off it
 pub holder_shape : (me : Me Change (List Role)) (i : ℕ) (vs : List KeyVersions) → me ≡ (Holder i vs ∷ [], []) → me ≡ (Holder (number_of me.0) (versions_of me.0) ∷ [], [])
 holder_shape me i vs e = e ∙ ap (λ (k : Me Change (List Role)). (Holder (number_of k.0) (versions_of k.0) ∷ [], [])) (sym e)
+
+pub client_shape : (me : Me Change (List Role)) (o : ℕ) (seen mine : List Commit) → me ≡ (Client o seen mine ∷ [], []) → me ≡ (Client o (seen_of me.0) (mine_of me.0) ∷ [], [])
+client_shape me o seen mine e = e ∙ ap (λ (k : Me Change (List Role)). (Client o (seen_of k.0) (mine_of k.0) ∷ [], [])) (sym e)
 
 pub keeper_shape : (views looked : List (List Role)) → looked ≡ views → views ≡ (Keeper (known_at views) ∷ []) ∷ [] → looked ≡ (Keeper (known_at looked) ∷ []) ∷ []
 keeper_shape views looked e knows = subst (λ (v : List (List Role)). v ≡ (Keeper (known_at v) ∷ []) ∷ []) (sym e) knows

@@ -66,8 +66,10 @@ pub(crate) fn understand_and_plan(
     match understand(alloc, schema, text, params) {
         Ok(statement) => {
             can_be_planned(schema, text, params, &statement);
-            let plan = plan_statement(alloc, schema, &statement);
-            Ok(pair_with(statement, plan)?)
+            match plan_statement(alloc, schema, &statement) {
+                Ok(plan) => Ok((statement, plan)),
+                Err(_) => give_after(statement, Err(Refusal::OutOfMemory)),
+            }
         }
         Err(why) => Err(why),
     }
@@ -131,5 +133,8 @@ pub(crate) fn rows_of(
     if !is_of(taken, text, params, s) {
         return Err(Refusal::UnknownQuery);
     }
-    finish_pieces(alloc, &taken.top, taken.pieces.as_slice())
+    match finish_pieces(alloc, &taken.top, taken.pieces.as_slice()) {
+        Ok(rows) => Ok(rows),
+        Err(why) => Err(why),
+    }
 }

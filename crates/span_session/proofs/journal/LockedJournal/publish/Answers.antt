@@ -21,8 +21,8 @@ grow-requires-clause-client g c = c.me.invariant.1
 pub grow-requires-clause-keeper : goal.grow-requires-clause-keeper
 grow-requires-clause-keeper g c = keeper_shape c.self.inside.badge.views _ (ap (λ b. b.views) c.replace-keeper.ensures.value) c.self.invariant.knows
 
-pub invariant_of-self-in-Ok : goal.invariant_of-self-in-Ok
-invariant_of-self-in-Ok g c =
+pub invariant_of-self : goal.invariant_of-self
+invariant_of-self g c =
     let schema = g.J.Naming.schema in
     let here = c.self.inside in
     let board = c.args.board.now in
@@ -34,8 +34,8 @@ invariant_of-self-in-Ok g c =
     let views = c.grow.ensures.keeper ∙ ap (λ b. (Keeper (grown (known_at b.views) made) ∷ []) ∷ []) c.replace-keeper.ensures.value in
     keeper_grown schema board.schema g.J.Naming.table here.badge.table_id here.badge.views here.journal board.schema_is c.self.invariant c.grow.result.table_id c.grow.result.views k made c.grow.ensures.tables.1 views log c.in-Ok.ensures.committed.queries c.in-Ok.ensures.whole
 
-pub invariant_of-self-in-Err : goal.invariant_of-self-in-Err
-invariant_of-self-in-Err g c =
+pub invariant_of-self-in-Err-1 : goal.invariant_of-self-in-Err-1
+invariant_of-self-in-Err-1 g c =
     let schema = g.J.Naming.schema in
     let here = c.self.inside in
     let board = c.args.board.now in

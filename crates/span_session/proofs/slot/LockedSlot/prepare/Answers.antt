@@ -33,22 +33,22 @@ prepare_in-prepared-requires g c =
     let within = c.is_used.ensures c.if-not-is_used.false in
     slot_belongs schema board.schema g.J.Naming.table j.badge.table_id j.badge.views j.journal board.schema_is c.journal.invariant me.number me.shard within is
 
-pub restate-requires-clause-tables : goal.restate-requires-clause-tables
-restate-requires-clause-tables g c = (c.agree-keeper.ensures.tables.0, c.agree-keeper.ensures.tables.1)
+pub restate-keeper-requires-clause-tables : goal.restate-keeper-requires-clause-tables
+restate-keeper-requires-clause-tables g c = (c.agree-keeper.ensures.tables.0, c.agree-keeper.ensures.tables.1)
 
-pub restate-requires-clause-holder : goal.restate-requires-clause-holder
-restate-requires-clause-holder g c = holder_shape c.agree-keeper.new.seat.me c.self.inside.number c.self.inside.shard (c.agree-keeper.ensures.holder ∙ c.self.invariant.1)
+pub restate-keeper-requires-clause-holder : goal.restate-keeper-requires-clause-holder
+restate-keeper-requires-clause-holder g c = holder_shape c.agree-keeper.new.seat.me c.self.inside.number c.self.inside.shard (c.agree-keeper.ensures.holder ∙ c.self.invariant.1)
 
-pub restate-requires-clause-keeper : goal.restate-requires-clause-keeper
-restate-requires-clause-keeper g c = keeper_shape c.journal.inside.badge.views _ (c.agree-keeper.ensures.keeper ∙ ap (λ b. b.views) c.replace-keeper.ensures.value) c.journal.invariant.knows
+pub restate-keeper-requires-clause-keeper : goal.restate-keeper-requires-clause-keeper
+restate-keeper-requires-clause-keeper g c = keeper_shape c.journal.inside.badge.views _ (c.agree-keeper.ensures.keeper ∙ ap (λ b. b.views) c.replace-keeper.ensures.value) c.journal.invariant.knows
 
 pub invariant_of-self : goal.invariant_of-self
 invariant_of-self g c =
     let number = ap (λ k. number_of k.0) (c.agree-keeper.ensures.holder ∙ c.self.invariant.1) in (
-      c.restate.ensures.tables.0,
-      c.restate.ensures.holder
+      c.restate-keeper.ensures.tables.0,
+      c.restate-keeper.ensures.holder
           ∙ ap (λ i. (Holder i c.replace-shard.result ∷ [], [])) number
-          ∙ ap (λ cs. (Holder c.self.inside.number cs ∷ [], [])) (sym c.restate.ensures.shard),
+          ∙ ap (λ cs. (Holder c.self.inside.number cs ∷ [], [])) (sym c.restate-keeper.ensures.shard),
     )
 
 pub invariant_of-journal : goal.invariant_of-journal
@@ -65,10 +65,10 @@ invariant_of-journal g c =
     let held = c.agree-keeper.ensures.keeper ∙ ap (λ b. b.views) c.replace-keeper.ensures.value in
     let numbered = ap (λ k. number_of k.0) (c.agree-keeper.ensures.holder ∙ c.self.invariant.1) in
     let after =
-    c.restate.ensures.keeper
+    c.restate-keeper.ensures.keeper
     ∙ ap (λ v. (Keeper (restated (known_at v) (number_of c.agree-keeper.new.seat.me.0) c.replace-shard.result) ∷ []) ∷ []) held
     ∙ ap (λ n. (Keeper (restated (known_at j.badge.views) n c.replace-shard.result) ∷ []) ∷ []) numbered
     ∙ ap (λ cs. (Keeper (restated (known_at j.badge.views) me.number cs) ∷ []) ∷ []) c.replace-shard.ensures.value in
-    keeper_restated schema board.schema g.J.Naming.table j.badge.table_id j.badge.views j.journal board.schema_is c.journal.invariant me.number me.shard within is _ _ c.prepare_in-prepared.new.journal c.prepare_in-prepared.new.shard c.restate.ensures.tables.1 after
+    keeper_restated schema board.schema g.J.Naming.table j.badge.table_id j.badge.views j.journal board.schema_is c.journal.invariant me.number me.shard within is _ _ c.prepare_in-prepared.new.journal c.prepare_in-prepared.new.shard c.restate-keeper.ensures.tables.1 after
     (passed (IsUnderstoodAs schema) board.schema (machine_of j.journal) c.journal.invariant.asked no_text (step.Prepare c.args.owner c.args.txn me.number) tt _ (machine_of c.prepare_in-prepared.new.journal) c.prepare_in-prepared.ensures.step)
     c.prepare_in-prepared.ensures.whole
