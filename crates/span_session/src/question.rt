@@ -15,6 +15,7 @@ use span_gather::finish::finish as finish_pieces;
 use span_gather::rows::Rows;
 use span_journal::journal::Journal;
 use span_journal::taken::Taken;
+use span_machine::query::OpenQuery;
 use span_params::params::Params;
 use span_planner::leaf::{Leaf, Plan};
 use span_planner::plan::plan;
@@ -104,10 +105,16 @@ pub(crate) fn is_asked(journal: &Journal, query: u64, text: &str, params: &Param
         × (q.params ≡ params.now) }
 {
     match journal.query(query) {
-        Some(question) => question.text.as_str() == text
-            && are_same(question.params.as_slice(), params.as_slice()),
+        Some(question) => is_question(question, text, params),
         None => false,
     }
+}
+
+/// Whether the open query was asked with this text and these parameters.
+fn is_question(question: &OpenQuery, text: &str, params: &Params) -> bool
+    ensures { result ≡ true → (question.now.text ≡ text.now) × (question.now.params ≡ params.now) }
+{
+    question.text.as_str() == text && are_same(question.params.as_slice(), params.as_slice())
 }
 
 /// Whether what was taken was asked with this text and these parameters, at this timestamp.
