@@ -32,6 +32,7 @@ use super::transactions::{
 use span_fragment::piece::Piece;
 use span_keycode::key::Key;
 use span_keycode::range::KeyRange;
+use span_machine::query::OpenQuery;
 use span_machine::slot::SlotState;
 use span_machine::step::Verdict;
 use span_machine::transaction::{Commit, Prepared};
@@ -647,6 +648,16 @@ impl Journal {
         cover_at(alloc, &mut self.queries, at, leaf, range, piece)?;
         set_floor(&mut self.slots, slot, floor);
         Ok(())
+    }
+
+    /// The open query of this number, with what pieces cover of its leaves. None where there is none.
+    pub fn query(&self, query: u64) -> Option<&OpenQuery>
+        ensures { option_copied result ≡ find (is_query query) (machine_of self.now).queries }
+    {
+        let Some((_, question)) = find_query(self.queries.as_slice(), query) else {
+            return None;
+        };
+        Some(question.as_opened())
     }
 
     /// The leaf of an open query at a place, counted from 0, if there is one.

@@ -207,6 +207,13 @@ impl KeptQuery {
         Ok(KeptQuery { open, pieces })
     }
 
+    /// The query as it was opened, with what pieces cover of its leaves.
+    pub(crate) fn as_opened(&self) -> &OpenQuery
+        ensures { result.now ≡ self.now.query }
+    {
+        &self.open
+    }
+
     /// Its number.
     pub(crate) fn number(&self) -> u64
         ensures { result ≡ self.now.query.number }

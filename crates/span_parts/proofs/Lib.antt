@@ -5,3 +5,6 @@ pub mod Preparing
 pub mod Scanning
 pub mod Finishing
 pub mod Splitting
+pub mod Passing
+pub mod Taking
+pub mod AtSlot

@@ -45,7 +45,7 @@ not_below : (s floor : ℕ) → nat_lt s floor ≡ false → floor ≤ s
 not_below s floor e = grind (arith, nat_tests)
 
 -- the pieces of an open query
-piece_of : (ps : List Pieced) (query : ℕ) (q : OpenQuery) → find (is_query query) (queries_of ps) ≡ Some q → (p : Pieced) × (find (λ (x : Pieced). is_query query x.query) ps ≡ Some p) × (p.query ≡ q)
+pub piece_of : (ps : List Pieced) (query : ℕ) (q : OpenQuery) → find (is_query query) (queries_of ps) ≡ Some q → (p : Pieced) × (find (λ (x : Pieced). is_query query x.query) ps ≡ Some p) × (p.query ≡ q)
 piece_of ps query q found = elim (find (λ (x : Pieced). is_query query x.query) ps) as (λ o. find (λ (x : Pieced). is_query query x.query) ps ≡ o → (p : Pieced) × (o ≡ Some p) × (p.query ≡ q)) [
   | None ↦ λ e. absurd (none_found (sym found ∙ find-queries (is_query query) ps ∙ ap (option_map (λ (x : Pieced). x.query)) e))
   | Some p ↦ λ e. (p, refl, some_same p.query q (sym (ap (option_map (λ (x : Pieced). x.query)) e) ∙ sym (find-queries (is_query query) ps) ∙ found))

@@ -1,5 +1,5 @@
 -- A journal and shards that belong together.
-use Rattle.std.specs.Prelude.{◌≡◌, ℕ, List, Some, map, slice_get, slice_set, ◌≤◌, ◌⊎◌}
+use Rattle.std.specs.Prelude.{◌≡◌, ℕ, List, [], ◌∷◌, ◌++◌, Some, Ok, find, map, slice_get, slice_set, ◌≤◌, ◌⊎◌}
 use Rattle.span_value.specs.declared.refusal.Refusal.{Refusal}
 use Rattle.span_value.specs.declared.refusal.Refusal.TheVariants.{OutOfMemory}
 use Rattle.span_schema.specs.declared.table.Table.{Table}
@@ -17,10 +17,16 @@ use Rattle.span_planner.specs.declared.leaf.Leaf.{Leaf}
 use Rattle.span_fragment.specs.declared.piece.Piece.{Piece}
 use Rattle.span_fragment.specs.Entries.{AreNoRows}
 use Rattle.span_fragment.specs.Pieces.{IsPieceOf}
-use Rattle.span_machine.specs.Machine.{Machine}
+use Rattle.span_query.specs.Rows.{Row}
+use Rattle.span_machine.specs.declared.transaction.Commit.{Commit}
+use Rattle.span_machine.specs.declared.transaction.OpenTransaction.{OpenTransaction}
+use Rattle.span_machine.specs.Machine.{Machine, is_transaction, commit_of}
+use Rattle.span_machine.specs.Meaning.{means}
+use Rattle.span_machine.specs.Tables.{tables}
 use Rattle.span_machine.specs.Pieces.{Journaled, machine_of}
 use Rattle.span_machine_laws.proofs.Reached.{IsReached}
 use Rattle.span_journal.specs.Judged.{MayPrepare}
+use Rattle.span_journal.specs.declared.taken.Taken.{Taken}
 pub use Rattle.span_version_laws.specs.Kept.{AreKept, AreAllKept, ArePieced}
 
 -- the shards of all slots in use, by number
@@ -57,3 +63,41 @@ pub record IsWritten (schema : List Table) (m : Machine) (owner txn slot : ℕ) 
   pub are : AreWrites schema mutations before writes
   pub few : live (with_writes txn writes before) ≤ most_nodes
   pub put : new ≡ slice_set old slot (with_writes txn writes before)
+
+-- ---- one slot, whose shard alone is at hand
+
+-- the shard is that of the slot, among shards that the journal belongs to
+abbrev pub BelongsAt : List Table → Journaled → ℕ → List KeyVersions → Type 0
+BelongsAt schema j slot shard = (shards : Shards) × IsWhole schema j shards × (slice_get shards slot ≡ Some shard)
+
+-- the journal goes with the same shards as before, but for the slot's, which was the first and is the second
+abbrev pub GoesAt : List Table → ℕ → Journaled → Journaled → List KeyVersions → List KeyVersions → Type 0
+GoesAt schema slot old new before after = (shards : Shards) → IsWhole schema old shards → slice_get shards slot ≡ Some before → IsWhole schema new (slice_set shards slot after)
+
+-- the journal goes with the same shards as before, where the slot's shard is this one
+abbrev pub StaysAt : List Table → ℕ → Journaled → Journaled → List KeyVersions → Type 0
+StaysAt schema slot old new shard = (shards : Shards) → IsWhole schema old shards → slice_get shards slot ≡ Some shard → IsWhole schema new shards
+
+-- the writes of a transaction that may be prepared at the slot are prepared in its shard
+pub record IsWrittenAt (schema : List Table) (m : Machine) (owner txn slot : ℕ) (before after : List KeyVersions) : Type 0 where
+  pub mutations : List CheckedMutation
+  pub may : MayPrepare schema m owner txn slot mutations
+  pub writes : List Write
+  pub are : AreWrites schema mutations before writes
+  pub few : live (with_writes txn writes before) ≤ most_nodes
+  pub put : after ≡ with_writes txn writes before
+
+-- ---- the log
+
+-- the open transaction has joined the log as a commit at ts, and the open queries are the same
+pub record IsCommitted (old : Machine) (owner txn ts : ℕ) (new : Machine) : Type 0 where
+  pub transaction : OpenTransaction
+  pub found : find (is_transaction owner txn) old.transactions ≡ Some transaction
+  pub log : new.log ≡ old.log ++ commit_of ts transaction ∷ []
+  pub queries : new.queries ≡ old.queries
+
+-- what the query above the leaves gives on the pieces that were taken is what the statement means on the tables of the log at the query's timestamp
+pub record AreMeant (schema : List Table) (log : List Commit) (taken : Taken) (rows : List Row) : Type 0 where
+  pub db : List TableRow
+  pub made : tables schema log taken.s ≡ Ok db
+  pub are : means schema taken.statement.query taken.statement.leaves db ≡ Some rows

@@ -4,6 +4,8 @@
 #![tactic(auto)]
 
 pub mod cut;
-mod read;
+pub mod ends;
+pub mod read;
 mod shards;
+pub mod slot;
 pub mod steps;

@@ -9,6 +9,7 @@ ghost use Rattle.span_parts.specs.Whole.{IsRead, IsUnread};
 use span_fragment::piece::Piece;
 use span_fragment::run::run_leaf;
 use span_journal::journal::{Gap, Journal};
+use span_planner::leaf::Leaf;
 use span_schema::schema::Schema;
 use span_shard::shard::Shard;
 use span_value::refusal::Refusal;
@@ -36,6 +37,23 @@ pub(crate) fn read_gap(
     let Some(leaf) = journal.leaf(query, leaf) else {
         return Err(Refusal::UnknownQuery);
     };
+    read_leaf(alloc, schema, shard, leaf, gap)
+}
+
+/// What a leaf gives on a part of its range, from the shard that has it. `OutOfMemory`, where the shard has rows of the
+/// schema's tables.
+pub fn read_leaf(
+    alloc: Global,
+    schema: &Schema,
+    shard: &Shard,
+    leaf: &Leaf,
+    gap: &Gap,
+) -> Result<Piece, Refusal>
+    requires { AllByRecursion (IsTable schema.now) leaf.now.tables }
+    ensures { MatchResult result
+        (λ piece. IsRead schema.now shard.now gap.now.range gap.now.s piece leaf.now)
+        (IsUnread schema.now shard.now gap.now.range gap.now.s) }
+{
     let entries = shard.snapshot(alloc, &gap.range, gap.s)?;
     run_leaf(alloc, schema, leaf, entries.as_slice())
 }

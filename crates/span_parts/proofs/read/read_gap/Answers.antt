@@ -5,5 +5,5 @@ use Rattle.span_schema.specs.Numbers.{IsTable}
 use Rattle.span_planner.specs.declared.leaf.Leaf.{Leaf}
 use Rattle.span_parts.proofs.read.read_gap.Goals as goal
 
-pub run_leaf-requires : goal.run_leaf-requires
-run_leaf-requires c = subst (λ (o : Option Leaf). IfSome o (λ l. AllByRecursion (IsTable c.args.schema.now) l.tables)) (sym c.in-Some.ensures) c.requires
+pub read_leaf-requires : goal.read_leaf-requires
+read_leaf-requires c = subst (λ (o : Option Leaf). IfSome o (λ l. AllByRecursion (IsTable c.args.schema.now) l.tables)) (sym c.in-Some.ensures) c.requires

@@ -1,0 +1,23 @@
+use Rattle.span_parts.proofs.Taking.{taken_meant, taken_asked, taken_closed, if_ok, taken_goes}
+use Rattle.span_parts.proofs.ends.take.Goals as goal
+
+pub returns-clause-meant : goal.returns-clause-meant
+returns-clause-meant c =
+    let j = c.args.journal.now in
+    let k = c.take_pieces.new.self in
+    if_ok c.take_pieces.result _ _ c.take_pieces.ensures.ok (λ taken t shards w. taken_meant c.args.schema.now j k c.args.query taken t shards w)
+
+pub returns-clause-asked : goal.returns-clause-asked
+returns-clause-asked c =
+    let j = c.args.journal.now in
+    let k = c.take_pieces.new.self in
+    if_ok c.take_pieces.result _ _ c.take_pieces.ensures.ok (λ taken t. taken_asked c.args.schema.now j k c.args.query taken t)
+
+pub returns-clause-closed : goal.returns-clause-closed
+returns-clause-closed c =
+    let j = c.args.journal.now in
+    let k = c.take_pieces.new.self in
+    if_ok c.take_pieces.result _ _ c.take_pieces.ensures.ok (λ taken t. taken_closed c.args.schema.now j k c.args.query taken t)
+
+pub returns-clause-whole : goal.returns-clause-whole
+returns-clause-whole c = taken_goes c.args.schema.now c.args.journal.now c.take_pieces.new.self c.args.query c.take_pieces.result c.take_pieces.ensures.ok c.take_pieces.ensures.err

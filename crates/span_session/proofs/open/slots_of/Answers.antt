@@ -1,0 +1,19 @@
+use Rattle.std.proofs.Common.{◌≡◌, ◌<◌, ◌-◌, ◌++◌, ◌∷◌, [], List, suc, add-one, sym, ap, ◌∙◌, subst, arith}
+use Rattle.span_session.specs.Rule.{holders, clients, others_of}
+use Rattle.span_session.proofs.Meets.{splits_at}
+use Rattle.span_session.proofs.Opening.{apart_append, apart_holders, apart_holder_clients, next_holder}
+use Rattle.span_session.proofs.open.slots_of.Goals as goal
+
+pub split_seat-seat-requires : goal.split_seat-seat-requires
+split_seat-seat-requires g c =
+    let t = c.args.board.now in
+    let i = c.loop-number.invariant in
+    let n = c.loop-number.number in
+    (i.0 ∙ sym t.table_is, subst (λ n. 0 < n) (sym t.words) (omega arith), splits_at _ _ _ _ _ (ap (λ z. z.0) i.1 ∙ next_holder n 16 (clients 0 c.args.sessions) c.loop-number-test.true) (apart_append _ _ _ (apart_holders n (suc n) (16 - suc n) (omega arith)) (apart_holder_clients n 0 c.args.sessions)))
+
+pub loop-number-preserved : goal.loop-number-preserved
+loop-number-preserved g c =
+    let i = c.loop-number.invariant in
+    let n = c.loop-number.number in
+    let p = c.split_seat-seat.ensures in
+    (p.0 ∙ i.0, rw add-one (p.2 ∙ ap (λ z. (others_of z.0, z.1)) (i.1 ∙ ap (λ l. (l, [])) (next_holder n 16 (clients 0 c.args.sessions) c.loop-number-test.true))))

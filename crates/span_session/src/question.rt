@@ -1,0 +1,147 @@
+//! A query as a session asks it: its text is understood, planned and compared while no lock is held.
+ghost use Rattle.std.specs.Prelude.{◌≡◌, true, IfOk, MatchResult, Ok, Err, Some, find, slice_get};
+ghost use Rattle.std.specs.Option.{option_copied};
+ghost use Rattle.span_gather.specs.Gathered.{gathered};
+ghost use Rattle.span_machine.specs.Machine.{is_query, statement_plan};
+ghost use Rattle.span_machine.specs.Pieces.{machine_of};
+ghost use Rattle.span_machine.specs.declared.query.OpenQuery.{OpenQuery};
+ghost use Rattle.span_planner.specs.Plannable.{IsPlannable};
+ghost use Rattle.span_binder.specs.Understands.{Understands};
+ghost use Rattle.span_session.specs.Answers.{IsPlanOf};
+
+use crate::same::are_same;
+use span_binder::understand::understand;
+use span_gather::finish::finish as finish_pieces;
+use span_gather::rows::Rows;
+use span_journal::journal::Journal;
+use span_journal::taken::Taken;
+use span_machine::query::OpenQuery;
+use span_params::params::Params;
+use span_planner::leaf::{Leaf, Plan};
+use span_planner::plan::plan;
+use span_query::query::Statement;
+use span_schema::schema::Schema;
+use span_soundness::laws::can_be_planned;
+use span_value::refusal::Refusal;
+use span_value::text::Text;
+use std::alloc::{AllocError, Global};
+
+/// Drops a value, and gives another. A tree is dropped here since a proof of its drop where its type is known takes minutes.
+pub(crate) fn give_after<A: Drop, B>(dropped: A, given: B) -> B
+    ensures { result ≡ given }
+{
+    let _ = dropped;
+    given
+}
+
+/// Pairs a value with the next result. An error drops the value.
+pub(crate) fn pair_with<A: Drop, B, E>(first: A, second: Result<B, E>) -> Result<(A, B), E>
+    ensures { MatchResult result (λ both. (both.0 ≡ first) × (second ≡ Ok both.1)) (λ why. second ≡ Err why) }
+{
+    match second {
+        Ok(second) => Ok((first, second)),
+        Err(why) => Err(why),
+    }
+}
+
+/// The plan of a statement that can be planned. The error is out of memory.
+#[tactic(auto, using(span_planner::proofs::SizedNumbers::sized_numbered))]
+fn plan_statement(alloc: Global, schema: &Schema, statement: &Statement) -> Result<Plan, AllocError>
+    requires { IsPlannable schema.now statement.now }
+    ensures { IfOk result (λ plan. plan ≡ statement_plan schema.now statement.now) }
+{
+    plan(alloc, schema, statement.leaves.as_slice(), &statement.query)
+}
+
+/// What a query text, with these parameters, is understood as, and its plan. The refusal of the query text, or `OutOfMemory`.
+pub(crate) fn understand_and_plan(
+    alloc: Global,
+    schema: &Schema,
+    text: &str,
+    params: &Params,
+) -> Result<(Statement, Plan), Refusal>
+    ensures understood { IfOk result (λ r. Understands schema.now text.now params.now (Ok r.0)) }
+    ensures plannable { IfOk result (λ r. IsPlannable schema.now r.0) }
+    ensures plan { IfOk result (λ r. IsPlanOf schema.now text.now params.now r.1) }
+{
+    match understand(alloc, schema, text, params) {
+        Ok(statement) => {
+            can_be_planned(schema, text, params, &statement);
+            match plan_statement(alloc, schema, &statement) {
+                Ok(plan) => Ok((statement, plan)),
+                Err(_) => give_after(statement, Err(Refusal::OutOfMemory)),
+            }
+        }
+        Err(why) => Err(why),
+    }
+}
+
+/// The leaf at a place of the plan, counted from 0, if there is one.
+pub(crate) fn leaf_at(plan: &Plan, place: usize) -> Option<&Leaf>
+    ensures { option_copied result ≡ slice_get plan.now.leaves place }
+{
+    plan.leaves.as_slice().get(place)
+}
+
+/// Copies of a query text and its parameters. `OutOfMemory`.
+pub(crate) fn copy_question(
+    alloc: Global,
+    text: &str,
+    params: &Params,
+) -> Result<(Text, Params), Refusal>
+    ensures { IfOk result (λ r. (r.0 ≡ text.now) × (r.1 ≡ params.now)) }
+{
+    let text = Text::from_str(alloc, text)?;
+    let params = params.copy(alloc)?;
+    Ok((text, params))
+}
+
+/// Whether the journal has this query open with this text and these parameters.
+pub(crate) fn is_asked(journal: &Journal, query: u64, text: &str, params: &Params) -> bool
+    ensures { result ≡ true
+        → (q : OpenQuery)
+        × (find (is_query query) (machine_of journal.now).queries ≡ Some q)
+        × (q.text ≡ text.now)
+        × (q.params ≡ params.now) }
+{
+    match journal.query(query) {
+        Some(question) => is_question(question, text, params),
+        None => false,
+    }
+}
+
+/// Whether the open query was asked with this text and these parameters.
+fn is_question(question: &OpenQuery, text: &str, params: &Params) -> bool
+    ensures { result ≡ true → (question.now.text ≡ text.now) × (question.now.params ≡ params.now) }
+{
+    question.text.as_str() == text && are_same(question.params.as_slice(), params.as_slice())
+}
+
+/// Whether what was taken was asked with this text and these parameters, at this timestamp.
+fn is_of(taken: &Taken, text: &str, params: &Params, s: u64) -> bool
+    ensures { result ≡ true → (taken.now.text ≡ text.now) × (taken.now.params ≡ params.now) × (taken.now.s ≡ s) }
+{
+    taken.text.as_str() == text
+        && are_same(taken.params.as_slice(), params.as_slice())
+        && taken.s == s
+}
+
+/// The rows that what was taken gives. `UnknownQuery` where something else was asked.
+pub(crate) fn rows_of(
+    alloc: Global,
+    taken: &Taken,
+    text: &str,
+    params: &Params,
+    s: u64,
+) -> Result<Rows, Refusal>
+    ensures same { IfOk result (λ _. (taken.now.text ≡ text.now) × (taken.now.params ≡ params.now) × (taken.now.s ≡ s)) }
+    ensures rows { IfOk result (λ rows. gathered taken.now.pieces taken.now.top ≡ Some rows.rows) }
+{
+    if !is_of(taken, text, params, s) {
+        return Err(Refusal::UnknownQuery);
+    }
+    match finish_pieces(alloc, &taken.top, taken.pieces.as_slice()) {
+        Ok(rows) => Ok(rows),
+        Err(why) => Err(why),
+    }
+}

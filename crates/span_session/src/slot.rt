@@ -1,0 +1,167 @@
+//! What lies under a slot's lock: its shard, and the seat that knows it.
+ghost use Rattle.std.specs.Prelude.{◌≡◌, ◌<◌, ℕ, true, List, IfOk, length};
+ghost use Rattle.span_params.specs.declared.params.Parameter.{Parameter};
+ghost use Rattle.span_parts.specs.Whole.{IsRead};
+ghost use Rattle.span_session.specs.Answers.{IsLeafOf};
+
+use crate::board::{Board, Naming, Place};
+use crate::journal::LockedJournal;
+use crate::question::is_asked;
+use crate::seats;
+use atomic_table::Badge;
+use span_binder::understand::understanding_is_unique;
+use span_fragment::piece::Piece;
+use span_journal::journal::{Gap, Journal};
+use span_params::params::Params;
+use span_parts::read::read_leaf;
+use span_parts::slot;
+use span_planner::leaf::Leaf;
+use span_shard::shard::Shard;
+use span_truetime::interval::Interval;
+use span_value::refusal::Refusal;
+use std::marker::{Model, PhantomData};
+use std::mem;
+
+/// A slot, as long as it is locked. Contracts see its number and what it has of each key.
+#[derive(Drop)]
+pub struct LockedSlot<J: Naming> {
+    pub(crate) number: usize,
+    pub(crate) shard: Shard,
+    pub(crate) seat: Place,
+    pub(crate) of: PhantomData<J>,
+}
+
+impl<J: Naming> Model for LockedSlot<J> {
+    ghost use Rattle.std.specs.Prelude.{◌≡◌, [], ◌∷◌};
+    ghost use Rattle.span_session.specs.Rule.{SlotVersions};
+    ghost use Rattle.span_session.specs.declared.board.Role.TheVariants.{Holder};
+
+    ghost Value = { SlotVersions };
+
+    ghost view = { λ s. record { number = s.number; versions = s.shard } };
+
+    ghost invariant = { λ s. (s.seat.table_id ≡ J.table) × (s.seat.me ≡ (Holder s.number s.shard ∷ [], [])) };
+}
+
+impl<J: Naming> LockedSlot<J> {
+    /// Prepares a transaction here. `NoSlot` where the slot is not in use.
+    pub(crate) fn prepare(
+        &mut self,
+        board: &Board<J>,
+        journal: &mut LockedJournal<J>,
+        owner: u64,
+        txn: u64,
+    ) -> Result<u64, Refusal>
+        ensures commits { journal.new.commits ≡ journal.old.commits }
+    {
+        if !is_used(&journal.journal, self.number) {
+            return Err(Refusal::NoSlot);
+        }
+        let keeper = mem::replace(&mut journal.badge, Badge::blank());
+        let keeper = seats::agree(board, &mut self.seat, keeper);
+        let prepared = slot::prepare_in(
+            board.alloc,
+            &board.schema,
+            &mut journal.journal,
+            &mut self.shard,
+            owner,
+            txn,
+            self.number,
+        );
+        let shard = mem::replace(&mut self.shard, Shard::new(board.alloc));
+        let (keeper, shard) = seats::restate(board, &mut self.seat, keeper, shard);
+        self.shard = shard;
+        journal.badge = keeper;
+        prepared
+    }
+
+    /// Applies a decided transaction here. `NoSlot` where the slot is not in use.
+    pub(crate) fn apply(
+        &mut self,
+        board: &Board<J>,
+        journal: &mut LockedJournal<J>,
+        owner: u64,
+        txn: u64,
+        interval: Interval,
+    ) -> Result<(), Refusal>
+        ensures commits { journal.new.commits ≡ journal.old.commits }
+    {
+        if !is_used(&journal.journal, self.number) {
+            return Err(Refusal::NoSlot);
+        }
+        let keeper = mem::replace(&mut journal.badge, Badge::blank());
+        let keeper = seats::agree(board, &mut self.seat, keeper);
+        let applied = slot::apply_in(
+            &board.schema,
+            &mut journal.journal,
+            &mut self.shard,
+            owner,
+            txn,
+            self.number,
+            interval,
+        );
+        let shard = mem::replace(&mut self.shard, Shard::new(board.alloc));
+        let (keeper, shard) = seats::restate(board, &mut self.seat, keeper, shard);
+        self.shard = shard;
+        journal.badge = keeper;
+        applied
+    }
+
+    /// What a leaf of a query gives on a part of its range, as far as this slot has it.
+    pub(crate) fn read(&self, board: &Board<J>, leaf: &Leaf, gap: &Gap) -> Result<Piece, Refusal>
+        requires { (text : List ℕ) × (params : List Parameter) × (place : ℕ) × IsLeafOf J.schema text params place leaf.now }
+        ensures { IfOk result (λ piece. IsRead J.schema self.now.versions gap.now.range gap.now.s piece leaf.now) }
+    {
+        read_leaf(board.alloc, &board.schema, &self.shard, leaf, gap)
+    }
+
+    /// Covers what was read here of a leaf by a piece, if it is still uncovered: whether it is. `UnknownQuery` where the query of this
+    /// number is not the one whose leaf was read.
+    pub(crate) fn register(
+        &mut self,
+        board: &Board<J>,
+        journal: &mut LockedJournal<J>,
+        text: &str,
+        params: &Params,
+        query: u64,
+        place: usize,
+        leaf: &Leaf,
+        interval: Interval,
+        gap: &Gap,
+        piece: Piece,
+    ) -> Result<bool, Refusal>
+        requires leaf { IsLeafOf J.schema text.now params.now place leaf.now }
+        requires read { IsRead J.schema self.old.versions gap.now.range gap.now.s piece leaf.now }
+        ensures same { (self.new ≡ self.old) × (journal.new ≡ journal.old) }
+    {
+        if !is_used(&journal.journal, self.number) {
+            return Err(Refusal::NoSlot);
+        }
+        if !is_asked(&journal.journal, query, text, params) {
+            return Err(Refusal::UnknownQuery);
+        }
+        understanding_is_unique();
+        let _ = leaf;
+        let keeper = mem::replace(&mut journal.badge, Badge::blank());
+        journal.badge = seats::agree(board, &mut self.seat, keeper);
+        slot::register(
+            board.alloc,
+            &board.schema,
+            &mut journal.journal,
+            &self.shard,
+            query,
+            place,
+            self.number,
+            interval,
+            gap,
+            piece,
+        )
+    }
+}
+
+/// Whether the slot of this number is in use.
+fn is_used(journal: &Journal, number: usize) -> bool
+    ensures { result ≡ true → number < length journal.now.slots }
+{
+    number < journal.slots().len()
+}

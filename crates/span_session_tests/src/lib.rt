@@ -1,0 +1,9 @@
+//! Tests of sessions: calls whose answers were worked out by hand.
+//!
+//! They are in a crate of their own since a crate with tests is proved a second time for them.
+#![tactic(auto)]
+
+#[cfg(test)]
+mod clock;
+#[cfg(test)]
+mod two_sessions;

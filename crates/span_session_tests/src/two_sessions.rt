@@ -1,0 +1,126 @@
+//! Two sessions of one database, in slot 0, with one worker.
+ghost use Rattle.std.specs.Prelude.{◌≡◌, IfOk};
+ghost use Rattle.span_mutate.specs.Typed.{AreTypedMutations};
+
+use crate::clock::{OpenGate, Ticking};
+use span_gather::rows::Rows;
+use span_mutate::mutation::{Mutation, MutationKind};
+use span_mutate::transaction::Transaction;
+use span_params::params::Params;
+use span_schema::schema::Schema;
+use span_schematext::text::parse_schema;
+use span_session::board::Naming;
+use span_session::db::Db;
+use span_session::open::Opened;
+use span_session::session::Session;
+use span_truetime::bound::Bound;
+use span_value::refusal::Refusal;
+use span_value::seq::Seq;
+use span_value::text::Text;
+use span_value::value::Value;
+use std::alloc::{AllocError, Global};
+use std::marker::Brand;
+use std::process::Abort;
+use std::sync::Wait;
+use std::test::Fail;
+
+const USERS: &str = "CREATE TABLE Users (uid INT64 NOT NULL, email STRING(MAX)) PRIMARY KEY (uid)";
+
+const UIDS: &str = "SELECT uid FROM Users";
+
+// A transaction that inserts a user.
+fn insert(alloc: Global, schema: &Schema, uid: i64) -> Result<Transaction, Refusal>
+    ensures { IfOk result (λ t. AreTypedMutations schema.now t) }
+{
+    let mut key = Seq::new(alloc);
+    key.push(Value::Int(uid))?;
+    let mut mutations = Vec::new(alloc);
+    mutations.push(Mutation {
+        kind: MutationKind::Insert,
+        table: Text::from_str(alloc, "Users")?,
+        key,
+        cells: Seq::new(alloc),
+    })?;
+    Transaction::new(alloc, schema, mutations)
+}
+
+// Whether the rows are these, of one column.
+fn are_uids(rows: &Rows, wanted: &[i64]) -> bool {
+    let rows = rows.as_slice();
+    if rows.len() != wanted.len() {
+        return false;
+    }
+    for (at, uid) in wanted.iter().enumerate() {
+        match rows[at].as_slice() {
+            [Value::Int(found)] if *found == *uid => (),
+            _ => return false,
+        }
+    }
+    true
+}
+
+/// Each commit is answered the timestamp after the clock's latest; a strong query of either session sees both.
+#[test]
+fn commit_and_query(rt: HostRuntime) -> Result<(), Fail> {
+    let alloc = rt.alloc();
+    let schema = parse_schema(alloc, USERS)?;
+    let first = insert(alloc, &schema, 1)?;
+    let second = insert(alloc, &schema, 2)?;
+    let opened = Opened::new(alloc, schema, 2)?;
+    by_two::<Brand, _>(&rt, alloc, opened, first, second)
+}
+
+fn by_two<J: Naming, R: Wait + Abort>(
+    rt: &R,
+    alloc: Global,
+    opened: Opened,
+    first: Transaction,
+    second: Transaction,
+) -> Result<(), Fail>
+    requires table { opened.table ≡ J.table }
+    requires schema { opened.schema ≡ J.schema }
+    requires first { AreTypedMutations J.schema first }
+    requires second { AreTypedMutations J.schema second }
+{
+    let (db, mut sessions) = opened.named::<J>()?;
+    let b = sessions.pop();
+    let a = sessions.pop();
+    let (Some(a), Some(b)) = (a, b) else {
+        return Err(Fail::from("two sessions"));
+    };
+    let checked = checked(rt, alloc, &db, a, b, first, second);
+    give_after(db, checked)
+}
+
+// Drops a value, and gives another: a proof of a drop where the type is known takes minutes.
+fn give_after<A: Drop, B>(dropped: A, given: B) -> B {
+    let _ = dropped;
+    given
+}
+
+fn checked<J: Naming, R: Wait + Abort>(
+    rt: &R,
+    alloc: Global,
+    db: &Db<J>,
+    a: Session<J>,
+    b: Session<J>,
+    first: Transaction,
+    second: Transaction,
+) -> Result<(), Fail>
+    requires first { AreTypedMutations J.schema first }
+    requires second { AreTypedMutations J.schema second }
+{
+    let (mut a, mut b) = (a, b);
+    let clock = Ticking::new();
+    assert_eq!(rt; db.commit(rt, &clock, &mut a, first), Ok(111));
+    assert_eq!(rt; db.commit(rt, &clock, &mut b, second), Ok(311));
+    let params = Params::new(alloc);
+    let answer = db.query(rt, &clock, &OpenGate, &mut a, UIDS, &params, Bound::Strong)?;
+    assert_eq!(rt; answer.s, 510);
+    assert!(rt; are_uids(&answer.rows, &[1, 2]));
+    let before = db.query(rt, &clock, &OpenGate, &mut b, UIDS, &params, Bound::At(200))?;
+    assert!(rt; are_uids(&before.rows, &[1]));
+    assert_eq!(rt; db.look(&mut a), 2);
+    assert_eq!(rt; db.look(&mut b), 2);
+    Ok(())
+}
