@@ -1,7 +1,7 @@
 -- What an operator or a call makes of typed operands is typed.
 use Rattle.std.proofs.Common.{◌≡◌, ◌∙◌, sym, refl, subst, ℕ, true, false, Bool, ◌&&◌, if◌then◌else◌, List, [], ◌∷◌, ◌++◌, map, Option, Some, None, Ok, Err}
 use Rattle.std.specs.Prelude.{chars}
-use Rattle.std.specs.List.{list_all}
+use Rattle.std.specs.List.{AllByRecursion, list_all}
 use Rattle.span_value.specs.declared.value.Kind.{Kind}
 use Rattle.span_value.specs.declared.value.Kind.TheVariants as kind
 use Rattle.span_value.specs.declared.value.Value.TheVariants as value
@@ -34,7 +34,7 @@ use Rattle.span_typing.specs.Typing.{append_link, chain_of, all_true, some_true}
 use Rattle.span_soundness.specs.Types.{is_text, is_operand, has_type, all_are, are_conditions, is_link_of, has_condition, has_value, is_compared_with, is_else_of, is_of}
 use Rattle.span_soundness.specs.Bindings.{is_function_of, IsTyped}
 use Rattle.span_soundness.proofs.Sameness.{both_true, both_are, same_kind, of_this}
-use Rattle.span_soundness.proofs.Agreeing.{Made, then_made, made_so, made_if, CoversBoth, agreed_covers, AllCovered, all_covered, AllOf, Takes, all_take, takes_own, IsText, text_is}
+use Rattle.span_soundness.proofs.Agreeing.{Made, then_made, made_so, made_if, CoversBoth, agreed_covers, AllCovered, all_covered, Takes, all_take, takes_own, IsText, text_is}
 use Rattle.span_soundness.proofs.Forms.{link_type, arm_type, else_type, literal_is, negative_is, chain_is, comparison_is, between_is, in_is, like_is, starts_with_is, length_is, null_test_is, not_is, and_is, or_is, case_is, match_is, coalesce_is}
 
 module _ (types : List Kind) where
@@ -49,7 +49,7 @@ module _ (types : List Kind) where
   pub has_right : (x : Typed) → IsTyped types x → has_type (is_of types x.expr) ≡ true
   has_right x is = of_this (is_of types x.expr) (or_int x.kind) (own_right x is)
 
-  all_right : (wanted : Kind) (xs : List Typed) → AllOf (Takes wanted) (kinds_of xs) → AllOf (IsTyped types) xs → all_are (map (is_of types) (exprs_of xs)) wanted ≡ true
+  all_right : (wanted : Kind) (xs : List Typed) → AllByRecursion (Takes wanted) (kinds_of xs) → AllByRecursion (IsTyped types) xs → all_are (map (is_of types) (exprs_of xs)) wanted ≡ true
   all_right wanted [] take all = refl
   all_right wanted (x ∷ xs) take all = both_are (is_of types x.expr wanted) (all_are (map (is_of types) (exprs_of xs)) wanted) (all.0 wanted take.0) (all_right wanted xs take.1 all.1)
 
@@ -88,7 +88,7 @@ module _ (types : List Kind) where
       (both_are (is_of types x.expr (or_int k)) (is_of types low.expr (or_int k)) (x_is (or_int k) (all.0 (or_int k) (takes_own k))) (low_is (or_int k) (all.1.0 (or_int k) (takes_own k))))
       (high_is (or_int k) (all.1.1.0 (or_int k) (takes_own k))))))
 
-  pub among_right : (x : Typed) (ys : List Typed) → IsTyped types x → AllOf (IsTyped types) ys → Made (IsTyped types) (in_list x ys)
+  pub among_right : (x : Typed) (ys : List Typed) → IsTyped types x → AllByRecursion (IsTyped types) ys → Made (IsTyped types) (in_list x ys)
   unfolding in_list
   among_right x ys x_is ys_are = then_made (λ k. AllCovered k (x.kind ∷ kinds_of ys)) (IsTyped types) (common_kind_of_all (x.kind ∷ kinds_of ys)) (λ k. Ok (of_kind (expr.In x.expr (exprs_of ys)) kind.Bool)) (all_covered (x.kind ∷ kinds_of ys))
       (λ k all. typed_right (expr.In x.expr (exprs_of ys)) kind.Bool (in_is types x.expr (exprs_of ys) kind.Bool
@@ -161,19 +161,19 @@ module _ (types : List Kind) where
   abbrev pub IsCondition : Option Kind → Expr → Type 0
   IsCondition k e = (takes kind.Bool k ≡ true) × (is_of types e kind.Bool ≡ true)
 
-  all_bool : (k : Option Kind) (es : List Expr) → AllOf (IsCondition k) es → all_are (map (is_of types) es) kind.Bool ≡ true
+  all_bool : (k : Option Kind) (es : List Expr) → AllByRecursion (IsCondition k) es → all_are (map (is_of types) es) kind.Bool ≡ true
   all_bool k [] all = refl
   all_bool k (e ∷ es) all = both_are (is_of types e kind.Bool) (all_are (map (is_of types) es) kind.Bool) all.0.1 (all_bool k es all.1)
 
-  conditions_right : (x : Typed) (es : List Expr) → IsTyped types x → AllOf (IsCondition x.kind) es → are_conditions (is_of types x.expr) (map (is_of types) es) ≡ true
+  conditions_right : (x : Typed) (es : List Expr) → IsTyped types x → AllByRecursion (IsCondition x.kind) es → are_conditions (is_of types x.expr) (map (is_of types) es) ≡ true
   conditions_right x [] x_is all = has_right x x_is
   conditions_right x (e ∷ es) x_is all = both_are (is_of types x.expr kind.Bool) (all_are (map (is_of types) (e ∷ es)) kind.Bool) (x_is kind.Bool all.0.0) (all_bool x.kind (e ∷ es) all)
 
-  pub all_true_right : (x : Typed) (es : List Expr) → IsTyped types x → AllOf (IsCondition x.kind) es → IsTyped types (all_true x es)
+  pub all_true_right : (x : Typed) (es : List Expr) → IsTyped types x → AllByRecursion (IsCondition x.kind) es → IsTyped types (all_true x es)
   unfolding all_true
   all_true_right x es x_is all = typed_right (expr.And x.expr es) kind.Bool (and_is types x.expr es kind.Bool ∙ conditions_right x es x_is all)
 
-  pub some_true_right : (x : Typed) (es : List Expr) → IsTyped types x → AllOf (IsCondition x.kind) es → IsTyped types (some_true x es)
+  pub some_true_right : (x : Typed) (es : List Expr) → IsTyped types x → AllByRecursion (IsCondition x.kind) es → IsTyped types (some_true x es)
   unfolding some_true
   some_true_right x es x_is all = typed_right (expr.Or x.expr es) kind.Bool (or_is types x.expr es kind.Bool ∙ conditions_right x es x_is all)
 
@@ -194,7 +194,7 @@ module _ (types : List Kind) where
   value_kind_of a = a.value.kind
 
   abbrev TakesValues : List TypedArm → Option Typed → Kind → Type 0
-  TakesValues arms other k = Takes k (otherwise_kind other) × AllOf (Takes k) (map value_kind_of arms)
+  TakesValues arms other k = Takes k (otherwise_kind other) × AllByRecursion (Takes k) (map value_kind_of arms)
 
   value_kind_right : (arms : List TypedArm) (other : Option Typed) → Made (TakesValues arms other) (value_kind arms other)
   value_kind_right arms other = then_made (λ k. AllCovered k (otherwise_kind other ∷ map value_kind_of arms)) (TakesValues arms other) (common_kind_of_all (otherwise_kind other ∷ map value_kind_of arms)) (λ k. Ok (or_int k)) (all_covered (otherwise_kind other ∷ map value_kind_of arms))
@@ -207,48 +207,48 @@ module _ (types : List Kind) where
   else_right None k is take = refl
   else_right (Some x) k is take = is k take
 
-  values_right : (arms : List TypedArm) (k : Kind) → AllOf (λ (a : TypedArm). IsTyped types a.value) arms → AllOf (Takes k) (map value_kind_of arms) → list_all (has_value k) (map (arm_type types) (map arm_of arms)) ≡ true
+  values_right : (arms : List TypedArm) (k : Kind) → AllByRecursion (λ (a : TypedArm). IsTyped types a.value) arms → AllByRecursion (Takes k) (map value_kind_of arms) → list_all (has_value k) (map (arm_type types) (map arm_of arms)) ≡ true
   values_right [] k all take = refl
   values_right (a ∷ arms) k all take = both_are (is_of types a.value.expr k) (list_all (has_value k) (map (arm_type types) (map arm_of arms))) (all.0 k take.0) (values_right arms k all.1 take.1)
 
-  bools_right : (arms : List TypedArm) → AllOf IsTypedArm arms → list_all is_condition arms ≡ true → list_all has_condition (map (arm_type types) (map arm_of arms)) ≡ true
+  bools_right : (arms : List TypedArm) → AllByRecursion IsTypedArm arms → list_all is_condition arms ≡ true → list_all has_condition (map (arm_type types) (map arm_of arms)) ≡ true
   bools_right [] all are = refl
   bools_right (a ∷ arms) all are =
       let parts : (takes kind.Bool a.condition.kind ≡ true) × (list_all is_condition arms ≡ true) = both_true (takes kind.Bool a.condition.kind) (list_all is_condition arms) are in
       both_are (is_of types a.condition.expr kind.Bool) (list_all has_condition (map (arm_type types) (map arm_of arms))) (all.0.0 kind.Bool parts.0) (bools_right arms all.1 parts.1)
 
-  compared_arms_right : (x : Typed) (arms : List TypedArm) → IsTyped types x → AllOf (IsComparedArm x.kind) arms → list_all (is_compared_with (is_of types x.expr)) (map (arm_type types) (map arm_of arms)) ≡ true
+  compared_arms_right : (x : Typed) (arms : List TypedArm) → IsTyped types x → AllByRecursion (IsComparedArm x.kind) arms → list_all (is_compared_with (is_of types x.expr)) (map (arm_type types) (map arm_of arms)) ≡ true
   compared_arms_right x [] x_is all = refl
   compared_arms_right x (a ∷ arms) x_is all =
       both_are (has_type (λ j. is_of types x.expr j && is_of types a.condition.expr j)) (list_all (is_compared_with (is_of types x.expr)) (map (arm_type types) (map arm_of arms)))
       (of_this (λ j. is_of types x.expr j && is_of types a.condition.expr j) all.0.2.0 (both_are (is_of types x.expr all.0.2.0) (is_of types a.condition.expr all.0.2.0) (x_is all.0.2.0 all.0.2.1) (all.0.0 all.0.2.0 all.0.2.2)))
       (compared_arms_right x arms x_is all.1)
 
-  of_arms : (arms : List TypedArm) → AllOf IsTypedArm arms → AllOf (λ (a : TypedArm). IsTyped types a.value) arms
+  of_arms : (arms : List TypedArm) → AllByRecursion IsTypedArm arms → AllByRecursion (λ (a : TypedArm). IsTyped types a.value) arms
   of_arms [] all = tt {0}
   of_arms (a ∷ arms) all = (all.0.1, of_arms arms all.1)
 
-  of_compared_arms : (k : Option Kind) (arms : List TypedArm) → AllOf (IsComparedArm k) arms → AllOf (λ (a : TypedArm). IsTyped types a.value) arms
+  of_compared_arms : (k : Option Kind) (arms : List TypedArm) → AllByRecursion (IsComparedArm k) arms → AllByRecursion (λ (a : TypedArm). IsTyped types a.value) arms
   of_compared_arms k [] all = tt {0}
   of_compared_arms k (a ∷ arms) all = (all.0.1, of_compared_arms k arms all.1)
 
   abbrev IsCaseOf : List TypedArm → Option Typed → Kind → Type 0
   IsCaseOf arms other k = (list_all has_condition (map (arm_type types) (map arm_of arms)) ≡ true) × TakesValues arms other k
 
-  case_kind_right : (arms : List TypedArm) (other : Option Typed) → AllOf IsTypedArm arms → Made (IsCaseOf arms other) (case_kind arms other)
+  case_kind_right : (arms : List TypedArm) (other : Option Typed) → AllByRecursion IsTypedArm arms → Made (IsCaseOf arms other) (case_kind arms other)
   case_kind_right arms other arms_are = go (list_all is_condition arms) (bools_right arms arms_are) where
     go : (b : Bool) → (b ≡ true → list_all has_condition (map (arm_type types) (map arm_of arms)) ≡ true) → Made (IsCaseOf arms other) (if b then value_kind arms other else Err TypeMismatch)
     go true is = made_so (TakesValues arms other) (IsCaseOf arms other) (value_kind arms other) (value_kind_right arms other) (λ k take. (is refl, take))
     go false is = tt {0}
 
-  pub case_right : (arms : List TypedArm) (other : Option Typed) → AllOf IsTypedArm arms → IsTypedElse other → Made (IsTyped types) (case_of arms other)
+  pub case_right : (arms : List TypedArm) (other : Option Typed) → AllByRecursion IsTypedArm arms → IsTypedElse other → Made (IsTyped types) (case_of arms other)
   unfolding case_of
   case_right arms other arms_are other_is = then_made (IsCaseOf arms other) (IsTyped types) (case_kind arms other) (λ k. Ok (of_kind (expr.Case (map arm_of arms) (otherwise_of other)) k)) (case_kind_right arms other arms_are)
       (λ k take. typed_right (expr.Case (map arm_of arms) (otherwise_of other)) k (case_is types (map arm_of arms) (otherwise_of other) k
       ∙ both_are (list_all has_condition (map (arm_type types) (map arm_of arms))) (list_all (has_value k) (map (arm_type types) (map arm_of arms)) && is_else_of k (else_type types (otherwise_of other))) take.0
       (both_are (list_all (has_value k) (map (arm_type types) (map arm_of arms))) (is_else_of k (else_type types (otherwise_of other))) (values_right arms k (of_arms arms arms_are) take.1.1) (else_right other k other_is take.1.0))))
 
-  pub match_right : (x : Typed) (arms : List TypedArm) (other : Option Typed) → IsTyped types x → AllOf (IsComparedArm x.kind) arms → IsTypedElse other → Made (IsTyped types) (match_of x arms other)
+  pub match_right : (x : Typed) (arms : List TypedArm) (other : Option Typed) → IsTyped types x → AllByRecursion (IsComparedArm x.kind) arms → IsTypedElse other → Made (IsTyped types) (match_of x arms other)
   unfolding match_of
   match_right x arms other x_is arms_are other_is = then_made (TakesValues arms other) (IsTyped types) (value_kind arms other) (λ k. Ok (of_kind (expr.Match x.expr (map arm_of arms) (otherwise_of other)) k)) (value_kind_right arms other)
       (λ k take. typed_right (expr.Match x.expr (map arm_of arms) (otherwise_of other)) k (match_is types x.expr (map arm_of arms) (otherwise_of other) k
@@ -283,7 +283,7 @@ module _ (types : List Kind) where
       (λ k text. typed_right (expr.StartsWith x.expr front.expr) kind.Bool (starts_with_is types x.expr front.expr kind.Bool
       ∙ of_this (λ j. is_text j && is_of types x.expr j && is_of types front.expr j) k (both_are (is_text k && is_of types x.expr k) (is_of types front.expr k) (both_are (is_text k) (is_of types x.expr k) text.0 (x_is k text.1)) (front_is k text.2))))
 
-  coalesced_right : (xs : List Typed) → AllOf (IsTyped types) xs → Made (IsTyped types) (coalesce_of xs)
+  coalesced_right : (xs : List Typed) → AllByRecursion (IsTyped types) xs → Made (IsTyped types) (coalesce_of xs)
   unfolding coalesce_of
   coalesced_right xs all = then_made (λ k. AllCovered k (kinds_of xs)) (IsTyped types) (common_kind_of_all (kinds_of xs)) (λ k. Ok (of_kind (expr.Coalesce (exprs_of xs)) (or_int k))) (all_covered (kinds_of xs))
       (λ k covered. typed_right (expr.Coalesce (exprs_of xs)) (or_int k) (coalesce_is types (exprs_of xs) (or_int k) ∙ all_right (or_int k) xs (all_take (or_int k) k (kinds_of xs) (takes_own k) covered) all))
@@ -294,7 +294,7 @@ module _ (types : List Kind) where
 
   -- ---- operands by their number
 
-  one_right : (xs : List Typed) → AllOf (IsTyped types) xs → Made (IsTyped types) (one_of xs)
+  one_right : (xs : List Typed) → AllByRecursion (IsTyped types) xs → Made (IsTyped types) (one_of xs)
   one_right [] all = tt {0}
   one_right (x ∷ []) all = all.0
   one_right (x ∷ y ∷ xs) all = tt {0}
@@ -302,7 +302,7 @@ module _ (types : List Kind) where
   abbrev TwoTyped : Typed × Typed → Type 0
   TwoTyped p = IsTyped types p.0 × IsTyped types p.1
 
-  two_right : (xs : List Typed) → AllOf (IsTyped types) xs → Made TwoTyped (two_of xs)
+  two_right : (xs : List Typed) → AllByRecursion (IsTyped types) xs → Made TwoTyped (two_of xs)
   two_right [] all = tt {0}
   two_right (x ∷ []) all = tt {0}
   two_right (x ∷ y ∷ []) all = (all.0, all.1.0)
@@ -311,18 +311,18 @@ module _ (types : List Kind) where
   abbrev ThreeTyped : Typed × Typed × Typed → Type 0
   ThreeTyped p = IsTyped types p.0 × IsTyped types p.1 × IsTyped types p.2
 
-  three_right : (xs : List Typed) → AllOf (IsTyped types) xs → Made ThreeTyped (three_of xs)
+  three_right : (xs : List Typed) → AllByRecursion (IsTyped types) xs → Made ThreeTyped (three_of xs)
   three_right [] all = tt {0}
   three_right (x ∷ []) all = tt {0}
   three_right (x ∷ y ∷ []) all = tt {0}
   three_right (x ∷ y ∷ z ∷ []) all = (all.0, all.1.0, all.1.1.0)
   three_right (x ∷ y ∷ z ∷ w ∷ xs) all = tt {0}
 
-  some_right : (xs : List Typed) → AllOf (IsTyped types) xs → Made (AllOf (IsTyped types)) (some_of xs)
+  some_right : (xs : List Typed) → AllByRecursion (IsTyped types) xs → Made (AllByRecursion (IsTyped types)) (some_of xs)
   some_right [] all = tt {0}
   some_right (x ∷ xs) all = all
 
-  pub applied_right : (f : CalledFunction) (xs : List Typed) → AllOf (IsTyped types) xs → Made (IsTyped types) (apply_function f xs)
+  pub applied_right : (f : CalledFunction) (xs : List Typed) → AllByRecursion (IsTyped types) xs → Made (IsTyped types) (apply_function f xs)
   unfolding apply_function
   applied_right called.Divide xs all = then_made TwoTyped (IsTyped types) (two_of xs) (λ p. calculation_of Divide p.0 p.1) (two_right xs all) (λ p is. calculated_right Divide p.0 p.1 refl is.0 is.1)
   applied_right called.Modulo xs all = then_made TwoTyped (IsTyped types) (two_of xs) (λ p. calculation_of Modulo p.0 p.1) (two_right xs all) (λ p is. calculated_right Modulo p.0 p.1 refl is.0 is.1)
@@ -330,7 +330,7 @@ module _ (types : List Kind) where
   applied_right called.StartsWith xs all = then_made TwoTyped (IsTyped types) (two_of xs) (λ p. starts_with p.0 p.1) (two_right xs all) (λ p is. starts_right p.0 p.1 is.0 is.1)
   applied_right called.If xs all = then_made ThreeTyped (IsTyped types) (three_of xs) (λ p. if_of p.0 p.1 p.2) (three_right xs all) (λ p is. if_right p.0 p.1 p.2 is.0 is.1 is.2)
   applied_right called.IfNull xs all = then_made TwoTyped (IsTyped types) (two_of xs) (λ p. coalesce_of (p.0 ∷ p.1 ∷ [])) (two_right xs all) (λ p is. coalesced_right (p.0 ∷ p.1 ∷ []) (is.0, (is.1, tt {0})))
-  applied_right called.Coalesce xs all = then_made (AllOf (IsTyped types)) (IsTyped types) (some_of xs) coalesce_of (some_right xs all) coalesced_right
+  applied_right called.Coalesce xs all = then_made (AllByRecursion (IsTyped types)) (IsTyped types) (some_of xs) coalesce_of (some_right xs all) coalesced_right
   applied_right (called.Aggregate f) xs all = tt {0}
 
   -- ---- aggregates
@@ -345,6 +345,6 @@ module _ (types : List Kind) where
   operand_for_right function.Min x x_is = own_right x x_is
   operand_for_right function.Max x x_is = own_right x x_is
 
-  pub operand_right : (f : Function) (xs : List Typed) → AllOf (IsTyped types) xs → Made (IsOperandOf f) (operand_of f xs)
+  pub operand_right : (f : Function) (xs : List Typed) → AllByRecursion (IsTyped types) xs → Made (IsOperandOf f) (operand_of f xs)
   unfolding operand_of
   operand_right f xs all = then_made (IsTyped types) (IsOperandOf f) (one_of xs) (operand_for f) (one_right xs all) (operand_for_right f)

@@ -2,7 +2,7 @@
 use Rattle.std.proofs.Common.{◌≡◌, ◌∙◌, sym, ap, refl, ℕ, suc, ◌+◌, ◌==◌, true, false, Bool, if◌then◌else◌, List, [], ◌∷◌, ◌++◌, length, map, Option, Result, Ok, Err, arith}
 use Rattle.std.specs.Prelude.{slice_get, nat_le}
 use Rattle.std.specs.Option.{unwrap_or, option_map}
-use Rattle.std.specs.List.{list_all, zip}
+use Rattle.std.specs.List.{AllByRecursion, list_all, zip}
 use Rattle.std.proofs.lemmas.Bool.{eqb-true, eq-eqb, le-leb}
 use Rattle.std.proofs.lemmas.List.{length-map, length-append}
 use Rattle.span_value.specs.Results.{and_then}
@@ -42,7 +42,7 @@ use Rattle.span_binder.specs.Blocks.{with_keys, group_places, BlockTail, bind_pa
 use Rattle.span_binder.specs.Aggregating.{mode_of}
 use Rattle.span_binder.specs.Queries.{have_same_kind, have_same_kinds, are_union_compatible, sort_keys, blocks_of, limit_of, query_of, bind_query, query_step}
 use Rattle.span_soundness.proofs.Sameness.{both_true, both_are}
-use Rattle.span_soundness.proofs.Agreeing.{Made, AllOf, then_made}
+use Rattle.span_soundness.proofs.Agreeing.{Made, then_made}
 use Rattle.span_soundness.proofs.Nesting.{IsFront, bound_is}
 
 any_made : {A : Type 0} (r : Result A Refusal) → Made (λ (x : A). Unit {0}) r
@@ -131,11 +131,11 @@ module _ (schema : List Table) (all : List ℕ) where
   abbrev shapes : List BoundBlock → List (Block Shape)
   shapes others = map (map_block shape_q) (blocks_of others)
 
-  blocks_sized : (others : List BoundBlock) → AllOf IsBlock others → list_all (is_sized_block schema all) (shapes others) ≡ true
+  blocks_sized : (others : List BoundBlock) → AllByRecursion IsBlock others → list_all (is_sized_block schema all) (shapes others) ≡ true
   blocks_sized [] are = refl
   blocks_sized (b ∷ others) are = both_are (is_sized_block schema all (map_block shape_q b.block)) (list_all (is_sized_block schema all) (shapes others)) are.0.0 (blocks_sized others are.1)
 
-  outputs_equal : (n : ℕ) (columns : List OutputColumn) (others : List BoundBlock) → n ≡ length columns → AllOf IsBlock others → list_all (λ (other : BoundBlock). have_same_kinds columns other.columns) others ≡ true
+  outputs_equal : (n : ℕ) (columns : List OutputColumn) (others : List BoundBlock) → n ≡ length columns → AllByRecursion IsBlock others → list_all (λ (other : BoundBlock). have_same_kinds columns other.columns) others ≡ true
       → list_all (λ (b : Block Shape). length b.outputs == n) (shapes others) ≡ true
   outputs_equal n columns [] first are same = refl
   outputs_equal n columns (b ∷ others) first are same =
@@ -151,7 +151,7 @@ module _ (schema : List Table) (all : List ℕ) where
   layer_shape : (d : BoundQuery-F BoundQuery) → shape_q (roll-BoundQuery d) ≡ query_shape schema all (map_layer shape_q d)
   layer_shape d = fold-roll-BoundQuery Shape (query_shape schema all) d ∙ ap (query_shape schema all) (layer_mapped shape_q d)
 
-  layer_sized : (b : BoundBlocks) (keys : List BoundKey) (limit : Option Limit) → IsBlock b.first → AllOf IsBlock b.others → list_all (λ (other : BoundBlock). have_same_kinds b.first.columns other.columns) b.others ≡ true
+  layer_sized : (b : BoundBlocks) (keys : List BoundKey) (limit : Option Limit) → IsBlock b.first → AllByRecursion IsBlock b.others → list_all (λ (other : BoundBlock). have_same_kinds b.first.columns other.columns) b.others ≡ true
       → IsBound (query_of b keys limit)
   layer_sized b keys limit first others same = (
     ap (λ (x : Shape). x.is_sized) (layer_shape (layer_of b keys limit))
@@ -160,7 +160,7 @@ module _ (schema : List Table) (all : List ℕ) where
     sym first.1 ∙ sym (ap (λ (x : Shape). x.width) (layer_shape (layer_of b keys limit))),
   )
 
-  union_sized : (b : BoundBlocks) (order : List SortKey) (limit : Option Limit) → IsBlock b.first → AllOf IsBlock b.others → Made IsBound (bind_query b order limit)
+  union_sized : (b : BoundBlocks) (order : List SortKey) (limit : Option Limit) → IsBlock b.first → AllByRecursion IsBlock b.others → Made IsBound (bind_query b order limit)
   unfolding bind_query are_union_compatible
   union_sized b order limit first others = go (list_all (λ (other : BoundBlock). have_same_kinds b.first.columns other.columns) b.others) (λ same keys. layer_sized b keys limit first others same) where
     go : (same : Bool) → (same ≡ true → (keys : List BoundKey) → IsBound (query_of b keys limit)) → Made IsBound (if same then and_then (sort_keys b.first.columns order) (λ keys. Ok (query_of b keys limit)) else Err ColumnsDiffer)
@@ -169,9 +169,9 @@ module _ (schema : List Table) (all : List ℕ) where
 
   -- ---- trees
 
-  pub tree_sized : (params : List Parameter) (q : Query) (b : TypedQuery) → query_step schema params q [] ≡ Ok (b, all) → AllOf (IsTable schema) all × (is_sized schema all b.query ≡ true)
+  pub tree_sized : (params : List Parameter) (q : Query) (b : TypedQuery) → query_step schema params q [] ≡ Ok (b, all) → AllByRecursion (IsTable schema) all × (is_sized schema all b.query ≡ true)
   tree_sized params q b is =
-      let made : AllOf (IsTable schema) all × IsBound b =
+      let made : AllByRecursion (IsTable schema) all × IsBound b =
       bound_is schema all params IsSource IsFrom IsBlock IsBound
       table_sized
       (λ name q q_is. q_is)
