@@ -11,7 +11,8 @@ use Rattle.span_schema.specs.Tables.{is_same_name, is_key_name, column_place}
 use Rattle.span_schema.specs.Rules.{has_repeated_column}
 use Rattle.span_mutate.specs.declared.mutation.NamedValue.{NamedValue}
 use Rattle.span_mutate.specs.Columns.{value_named, other_columns, values_named}
-use Rattle.span_mutate.proofs.NamedKinds.{same_lower, lower_same, none_placed, two_false}
+use Rattle.span_mutate.proofs.NamedKinds.{same_lower, lower_same, none_placed}
+use Rattle.std.proofs.lemmas.Bool.{or_parts}
 
 -- ---- what is found, once an item is taken out
 
@@ -85,7 +86,7 @@ drop_here xs i x lt is = rw (add-one i) (drop_next xs i x lt is)
 pub once_more : (columns : List Column) (i : ℕ) (c : Column) → i < length columns → c ≡ get_or columns i c → has_repeated_column (drop i columns) ≡ false → has_repeated_column (drop (i + 1) columns) ≡ false
 once_more columns i c lt is once =
     let here : has_repeated_column (c ∷ drop (i + 1) columns) ≡ false = subst (λ (l : List Column). has_repeated_column l ≡ false) (drop_here columns i c lt is) once in
-    (two_false (is_some (column_place (drop (i + 1) columns) c.name)) (has_repeated_column (drop (i + 1) columns)) here).1
+    (or_parts (is_some (column_place (drop (i + 1) columns) c.name)) (has_repeated_column (drop (i + 1) columns)) here).1
 
 -- a column outside the key takes its value, and those after it find theirs
 pub take_more : (key : List KeyColumn) (left rest : List NamedValue) (columns : List Column) (i : ℕ) (c : Column) → i < length columns → c ≡ get_or columns i c
@@ -96,7 +97,7 @@ take_more key left rest columns i c lt is once outside same =
     let split = drop_here columns i c lt is in
     let after = drop (i + 1) columns in
     let here : has_repeated_column (c ∷ after) ≡ false = subst (λ (l : List Column). has_repeated_column l ≡ false) split once in
-    let apart = none_placed (λ (d : Column). is_same_name d.name c.name) after (two_false (is_some (column_place after c.name)) (has_repeated_column after) here).0 in
+    let apart = none_placed (λ (d : Column). is_same_name d.name c.name) after (or_parts (is_some (column_place after c.name)) (has_repeated_column after) here).0 in
     cases after (is_key_name key c.name) outside (other_names key left rest c.name same after apart) ∙ ap (values_named key left) (sym split)
   where
     cases : (ds : List Column) (b : Bool) → b ≡ false → values_named key rest ds ≡ values_named key left ds

@@ -12,6 +12,7 @@ use Rattle.std.proofs.lemmas.List.{append-nil}
 use Rattle.std.proofs.lemmas.List.Folds.{list_any-append}
 use Rattle.std.specs.Cmp.{tied_itself}
 use Rattle.std.proofs.lemmas.Map.Keys.{sorted_head, sorted_tail}
+use Rattle.std.proofs.lemmas.Bool.{not-true, and_parts}
 use Rattle.span_keycode.specs.Order.{byte_order}
 use Rattle.span_mutate.proofs.Filters.{filter_yes, filter_no}
 use Rattle.span_shard.specs.KeyVersions.{KeyVersions}
@@ -165,10 +166,6 @@ le_not_lt Greater = refl
 from_is : (front : List ℕ) (e : List ℕ × List ℕ) → is_from front e ≡ not (is_lt (byte_order e.0 front))
 from_is front e = le_not_lt (byte_order front e.0) ∙ ap (λ (o : Ordering). not (is_lt o)) (sym (bytes_total.antisymm e.0 front))
 
-not_true : (b : Bool) → not b ≡ true → b ≡ false
-not_true true e = absurd (let f : false ≡ true = e in cc)
-not_true false e = refl
-
 -- a key that begins with the front is from it on
 begun_from : (front k : List ℕ) → begins_with k front ≡ true → (e : List ℕ × List ℕ) → is_same k e.0 ≡ true → is_from front e ≡ true
 begun_from front k b e f = from_is front e ∙ ap not (cases (is_lt (byte_order e.0 front)) refl)
@@ -188,7 +185,7 @@ pushing_first es front old rest sorted is = subst (λ (l : Made). IsPushing es f
   left = λ k row b e. inr (lookup_kept (is_from front) k es (λ x f. begun_from front k b x f) ∙ e);
   own = λ k o e. lookup_within (is_from front) k es (λ a b f g. ap (λ (l : List ℕ). is_le (byte_order front l) && true) (sym (same_bytes k a.0 f) ∙ same_bytes k b.0 g)) o e;
   sorted = subst (IsStrictlySortedBy byte_order) (sym (keys_filter (λ (l : List ℕ). is_le (byte_order front l) && true) es)) (IsStrictlySortedBy-filter byte_order (λ (l : List ℕ). is_le (byte_order front l) && true) (keys_of es) sorted);
-  from = all_map (λ (e : List ℕ × List ℕ). is_from front e ≡ true) (λ (e : List ℕ × List ℕ). is_lt (byte_order e.0 front) ≡ false) (λ e f. not_true (is_lt (byte_order e.0 front)) (sym (from_is front e) ∙ f)) (filter (is_from front) es) (all_filter_itself (is_from front) es);
+  from = all_map (λ (e : List ℕ × List ℕ). is_from front e ≡ true) (λ (e : List ℕ × List ℕ). is_lt (byte_order e.0 front) ≡ false) (λ e f. not-true (is_lt (byte_order e.0 front)) (sym (from_is front e) ∙ f)) (filter (is_from front) es) (all_filter_itself (is_from front) es);
 })
 
 here_at : (key : List ℕ) (o : List ℕ) (rest : Made) → made_at ((key, o) ∷ rest) key ≡ Some o
@@ -299,10 +296,6 @@ pushed_until es front old new key o before rest is past h = done (subst (λ (l :
 
 -- ---- the keys below one
 
-and_both : (a b : Bool) → (a && b) ≡ true → (a ≡ true) × (b ≡ true)
-and_both true b e = (refl, e)
-and_both false b e = absurd (let f : false ≡ true = e in cc)
-
 none_is : {X : Type 0} (o : Option X) → is_none o ≡ true → o ≡ None
 none_is None e = refl
 none_is (Some x) e = absurd (let f : false ≡ true = e in cc)
@@ -359,7 +352,7 @@ unchanged_sound cs sorted es front =
 
     good : (c : KeyVersions) → (is_unchanged es c ≡ true) × IsStoredUnder cs front c → (begins_with c.key front ≡ true) × (is_some (row_over cs es c.key) ≡ true)
     good c h =
-        let both = and_both (is_none (changed_at es c.key)) (is_some (row_of c)) h.0 in
+        let both = and_parts (is_none (changed_at es c.key)) (is_some (row_of c)) h.0 in
         (h.1.0, ap (λ (o : Option (Option (List ℕ))). is_some (unwrap_or o (row_now cs c.key))) (none_is (changed_at es c.key) both.0) ∙ ap (λ (o : Option (List ℕ)). is_some o) h.1.1 ∙ both.1)
 
 -- a key of the store that passes is among those that are left

@@ -32,7 +32,8 @@ use Rattle.span_shard.specs.Shard.{row_now}
 use Rattle.span_shard.specs.Overlay.{Changes, changed_at, row_over, is_same, own_code, row_before, lacks_parent_over, put_cause, cause_over, AreCellsOf, IsUnpacked, IsPutRow, IsPutFault, IsNoPut, IsOver, HasDirectory, IsTableRow, AreTableRows, IsRunOf}
 use Rattle.span_schema.specs.Numbers.{root_of}
 use Rattle.span_mutate.specs.Directories.{key_len}
-use Rattle.span_mutate.proofs.Begins.{both_make, number_itself, front_of_taken, taken_begins}
+use Rattle.span_mutate.proofs.Begins.{number_itself, front_of_taken, taken_begins}
+use Rattle.std.proofs.lemmas.Bool.{and_from}
 use Rattle.span_mutate.proofs.ByRoots.{in_own}
 use Rattle.span_mutate.proofs.Families.{parent_family, root_short}
 use Rattle.span_shard.proofs.Bytes.{same_bytes, bytes_same, begins_front, front_begins}
@@ -59,7 +60,7 @@ parent_begins tables rules m typed p e =
     let at = parent_key tables rules m.table m.key typed.0 p e in
     let family = parent_family tables m.table p typed.0.0.0 e in
     touched_by tables rules m typed.0.0 p (take (length (key_columns tables p)) m.key) at.is.0
-    ∙ both_make _ _ (number_itself (root_of tables p) (root_of tables m.table) family.1)
+    ∙ and_from _ _ (number_itself (root_of tables p) (root_of tables m.table) family.1)
     (front_of_taken (take (key_len tables (root_of tables m.table)) m.key) m.key (length (key_columns tables p)) (taken_begins m.key (key_len tables (root_of tables m.table))) short)
   where
     short : length (take (key_len tables (root_of tables m.table)) m.key) ≤ length (key_columns tables p)

@@ -41,7 +41,7 @@ use Rattle.span_typing.specs.Operators.{integer, unary_minus, logical_not, null_
 use Rattle.span_typing.specs.Typing.{Operand, string, bytes, truth, null, column, parameter_typed, parameter, each, condition_of, condition, conditions, all_true, some_true, append_link, chain_of, next_link, links, arm_typed, arm, arms, check_kind, compared_arm, compared_arms, optional, of_one, of_two, of_three, membership, chain, junction, searched_case, simple_case, new_aggregate, aggregate, unknown_call, aggregate_call, function_call, call, call_star, arm_at, link_at, at_operands, typing}
 use Rattle.span_soundness.specs.Bindings.{column_types, row_types, is_aggregate_of, AreTyped, IsTyped}
 use Rattle.span_soundness.specs.Laws.{ParametersStayTyped, TypesAreRight}
-use Rattle.span_soundness.proofs.Sameness.{both_true}
+use Rattle.std.proofs.lemmas.Bool.{and_parts}
 use Rattle.span_soundness.proofs.Agreeing.{Made, then_made, made_if, CoversBoth, agreed_covers, Takes, takes_own}
 use Rattle.span_soundness.proofs.Forms.{literal_is}
 use Rattle.span_soundness.proofs.Making.{typed_right, integer_right, negative_right, denied_right, null_test_right, compared_right, between_right, among_right, liked_right, IsChain, linked_right, first_of_chain, chained_right, IsCondition, all_true_right, some_true_right, IsTypedArm, IsComparedArm, IsTypedElse, case_right, match_right, applied_right, IsOperandOf, operand_right}
@@ -96,7 +96,7 @@ null_right types = λ wanted t. literal_is types value.Null wanted ∙ null_of w
 condition_right : (types : List Kind) (k : Option Kind) (x : Typed) → IsTyped types x → Made (IsCondition types k) (condition_of k x)
 unfolding condition_of
 condition_right types k x x_is = made_if (IsCondition types k) (are_conditions k x.kind) x.expr TypeMismatch
-    (λ t. let parts : (takes kind.Bool k ≡ true) × (takes kind.Bool x.kind ≡ true) = both_true (takes kind.Bool k) (takes kind.Bool x.kind) t in (parts.0, x_is kind.Bool parts.1))
+    (λ t. let parts : (takes kind.Bool k ≡ true) × (takes kind.Bool x.kind ≡ true) = and_parts (takes kind.Bool k) (takes kind.Bool x.kind) t in (parts.0, x_is kind.Bool parts.1))
 
 -- of one type with the operand of the CASE
 abbrev IsAlike : List Kind → Option Kind → Typed → Type 0

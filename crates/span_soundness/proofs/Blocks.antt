@@ -5,7 +5,7 @@ use Rattle.std.proofs.lemmas.Bool.Decides.{nat_tests}
 use Rattle.std.specs.Option.{option_map}
 use Rattle.std.specs.List.{AllByRecursion, range_with_len, list_all, zip}
 use Rattle.std.proofs.lemmas.List.{append-nil, length-map, map-append}
-use Rattle.std.proofs.lemmas.Bool.{eqb-true}
+use Rattle.std.proofs.lemmas.Bool.{eqb-true, and_parts}
 use Rattle.span_value.specs.declared.value.Kind.{Kind}
 use Rattle.span_value.specs.declared.value.Kind.TheVariants as kind
 use Rattle.span_value.specs.declared.refusal.Refusal.{Refusal}
@@ -56,7 +56,7 @@ use Rattle.span_binder.specs.Queries.{have_same_kind, have_same_kinds, are_union
 use Rattle.span_soundness.specs.Types.{are_same, is_of}
 use Rattle.span_soundness.specs.Bindings.{column_types, row_types, output_types, AreAggregatesOf, AreTyped, IsTyped}
 use Rattle.span_soundness.specs.WellTyped.{IsItemOf, AreJoinsOf, IsFromOf, is_condition, AreColumnsOf, AreOutputsOf, IsBlockOf, AreBlocksOf, AreKeysOf, IsLayerOf}
-use Rattle.span_soundness.proofs.Sameness.{both_true, same_kind}
+use Rattle.span_soundness.proofs.Sameness.{same_kind}
 use Rattle.span_soundness.proofs.Agreeing.{Made, then_made, made_if}
 use Rattle.span_soundness.proofs.Making.{own_right}
 use Rattle.span_soundness.proofs.Places.{Within, column_within, place_within, column_there, column_at_right}
@@ -338,7 +338,7 @@ module _ (params : List Parameter) (params_are : AreTyped params) where
     same_types [] (d ∷ ds) n same = absurd (omega arith)
     same_types (c ∷ cs) [] n same = absurd (omega arith)
     same_types (c ∷ cs) (d ∷ ds) n same =
-        let kinds : (are_same c.kind d.kind ≡ true) × (list_all have_same_kind (zip cs ds) ≡ true) = both_true (are_same c.kind d.kind) (list_all have_same_kind (zip cs ds)) same in
+        let kinds : (are_same c.kind d.kind ≡ true) × (list_all have_same_kind (zip cs ds) ≡ true) = and_parts (are_same c.kind d.kind) (list_all have_same_kind (zip cs ds)) same in
         ap (λ (k : Kind). k ∷ output_types cs) (same_kind c.kind d.kind kinds.0) ∙ ap (λ (ks : List Kind). d.kind ∷ ks) (same_types cs ds (omega arith) kinds.1)
 
     -- blocks of a query, up to some block
@@ -348,8 +348,8 @@ module _ (params : List Parameter) (params_are : AreTyped params) where
     others_are : (columns : List OutputColumn) (others : List BoundBlock) → AllByRecursion IsBlock others → list_all (λ (other : BoundBlock). have_same_kinds columns other.columns) others ≡ true → AreBlocksOf gives leaves (blocks_of others) (output_types columns)
     others_are columns [] all same = tt {0}
     others_are columns (b ∷ others) all same =
-        let parts : (have_same_kinds columns b.columns ≡ true) × (list_all (λ (other : BoundBlock). have_same_kinds columns other.columns) others ≡ true) = both_true (have_same_kinds columns b.columns) (list_all (λ (other : BoundBlock). have_same_kinds columns other.columns) others) same in
-        let kinds : ((length columns == length b.columns) ≡ true) × (list_all have_same_kind (zip columns b.columns) ≡ true) = both_true (length columns == length b.columns) (list_all have_same_kind (zip columns b.columns)) parts.0 in (
+        let parts : (have_same_kinds columns b.columns ≡ true) × (list_all (λ (other : BoundBlock). have_same_kinds columns other.columns) others ≡ true) = and_parts (have_same_kinds columns b.columns) (list_all (λ (other : BoundBlock). have_same_kinds columns other.columns) others) same in
+        let kinds : ((length columns == length b.columns) ≡ true) × (list_all have_same_kind (zip columns b.columns) ≡ true) = and_parts (length columns == length b.columns) (list_all have_same_kind (zip columns b.columns)) parts.0 in (
           subst (λ (ks : List Kind). IsBlockOf gives leaves b.block ks) (sym (same_types columns b.columns (eqb-true (length columns) (length b.columns) kinds.0) kinds.1)) all.0,
           others_are columns others all.1 parts.1,
         )

@@ -16,7 +16,8 @@ use Rattle.span_mutate.specs.declared.row.TableRow.{TableRow}
 use Rattle.span_mutate.specs.Rows.{begins}
 use Rattle.span_mutate.specs.Directories.{Root, is_in_directory, root_row, directory}
 use Rattle.span_mutate.specs.Typed.{IsTyped, AreTyped, IsTypedMutation}
-use Rattle.span_mutate.proofs.Begins.{both_make, number_itself, taken_begins}
+use Rattle.span_mutate.proofs.Begins.{number_itself, taken_begins}
+use Rattle.std.proofs.lemmas.Bool.{and_from}
 use Rattle.span_mutate.proofs.Filters.{filter_yes, filter_no}
 use Rattle.span_shard.specs.Rows.{begins_with, code_of, is_coded, row_coded}
 use Rattle.span_shard.proofs.Bytes.{begins_front, front_begins, same_bytes}
@@ -49,7 +50,7 @@ in_directory schema rules root is r typed front =
     let b : IsAtOrBelow schema root.table root.key r.table r.key = (begins_own_rows schema rules root.table r.table root.key r.key is.1.0 typed.0.0).0 (rest, whole) in
     let same_root : root_of schema r.table ≡ root.table =
     ap (λ (ns : List ℕ). get_or ns 0 0) b.path ∙ first_of_front (path_of schema root.table) b.tables_below (path_has schema (root.table - 1)) ∙ is.0 in
-    both_make (root_of schema r.table == root.table) (begins root.key r.key) (number_itself (root_of schema r.table) root.table same_root) (ap (begins root.key) b.values ∙ front_of root.key b.values_below)
+    and_from (root_of schema r.table == root.table) (begins root.key r.key) (number_itself (root_of schema r.table) root.table same_root) (ap (begins root.key) b.values ∙ front_of root.key b.values_below)
 
 -- the row at a key of the directory is found in the directory
 pub find_in_directory : (schema : List Table) → MeetsRules schema → (root : Root) → IsCodedRoot schema root → (k : List ℕ) → is_under schema root k ≡ true → (db : List TableRow) → AreTyped schema db
