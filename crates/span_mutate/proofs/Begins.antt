@@ -11,7 +11,7 @@ use Rattle.span_value.specs.Orders.{value_order}
 use Rattle.span_value.proofs.Total.{value_order_total, value_order_equal}
 use Rattle.span_mutate.specs.Rows.{begins, is_same_key}
 
-equal_from : (o : Ordering) → is_eq o ≡ true → o ≡ Equal
+pub equal_from : (o : Ordering) → is_eq o ≡ true → o ≡ Equal
 equal_from Less e = absurd cc
 equal_from Equal e = refl
 equal_from Greater e = absurd cc

@@ -88,7 +88,7 @@ none_placed p xs h = none_passes p xs (below (position_or_len p xs) (length xs) 
         split true f g = absurd (let k : true ≡ false = g in cc)
         split false f g = grind (arith, nat_tests)
 
-all_map : {X : Type 0} (P Q : X → Type 0) → ((x : X) → P x → Q x) → (xs : List X) → AllByRecursion P xs → AllByRecursion Q xs
+pub all_map : {X : Type 0} (P Q : X → Type 0) → ((x : X) → P x → Q x) → (xs : List X) → AllByRecursion P xs → AllByRecursion Q xs
 all_map P Q f [] h = tt
 all_map P Q f (x ∷ xs) h = (f x h.0, all_map P Q f xs h.1)
 
@@ -124,7 +124,7 @@ pub record IsKindly (t : Table) (x : NamedValue) : Type 0 where
   pub there : is_none (cell_column t x.column) ≡ false
   pub right : has_wrong_type (cell_column t x.column) x.value ≡ false
 
-rest_none : (b : Bool) (w : Refusal) (rest : List (Bool × Refusal)) → first_cause ((b, w) ∷ rest) ≡ None → first_cause rest ≡ None
+pub rest_none : (b : Bool) (w : Refusal) (rest : List (Bool × Refusal)) → first_cause ((b, w) ∷ rest) ≡ None → first_cause rest ≡ None
 rest_none true w rest e = absurd cc
 rest_none false w rest e = e
 

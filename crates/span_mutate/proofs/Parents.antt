@@ -33,6 +33,7 @@ use Rattle.span_mutate.proofs.Placing.{put, put_all}
 use Rattle.span_mutate.proofs.Local.{step_database}
 use Rattle.span_mutate.proofs.Runs.{run_on, run_faults}
 use Rattle.span_mutate.proofs.Keyed.{unless_none}
+use Rattle.span_mutate.proofs.NamedKinds.{all_map}
 
 -- a number of a range is found in it
 pub in_range : (a n t : ℕ) → a ≤ t → t < a + n → list_any (λ (k : ℕ). k == t) (range_with_len a n) ≡ true
@@ -190,10 +191,6 @@ third false false false u v w rest e = refl
 abbrev Has : List Table → List TableRow → TableRow → Type 0
 Has tables db r = lacks_parent tables (parent_of tables r.table) r.key db ≡ false
 
-mapped_all : {X : Type 0} (P Q : X → Type 0) → ((x : X) → P x → Q x) → (xs : List X) → AllByRecursion P xs → AllByRecursion Q xs
-mapped_all P Q f [] h = tt
-mapped_all P Q f (x ∷ xs) h = (f x h.0, mapped_all P Q f xs h.1)
-
 -- what a mutation that has no fault makes has the parent rows
 changed_parents : (tables : List Table) (m : CheckedMutation) (db : List TableRow) → IsDatabase tables db → HasParents tables db → (before : Option TableRow) → (is_delete m.kind ≡ false → lacks_parent tables (parent_of tables m.table) m.key db ≡ false)
     → HasParents tables (changed tables db m before)
@@ -210,7 +207,7 @@ changed_parents tables m db is has before own = pick (is_delete m.kind) refl
     pick false e =
         let r = row_after m before in
         put_all (Has tables (put (rows_cmp tables) r db)) (rows_cmp tables) r db (parent_placed tables (parent_of tables m.table) m.key r db (own e))
-        (mapped_all (Has tables db) (Has tables (put (rows_cmp tables) r db)) (λ x h. parent_placed tables (parent_of tables x.table) x.key r db h) db has)
+        (all_map (Has tables db) (Has tables (put (rows_cmp tables) r db)) (λ x h. parent_placed tables (parent_of tables x.table) x.key r db h) db has)
 
 step_parents : (tables : List Table) (m : CheckedMutation) (db next : List TableRow) → IsDatabase tables db → HasParents tables db → apply_one tables db m ≡ Ok next → HasParents tables next
 step_parents tables m db next is has e =

@@ -25,6 +25,7 @@ use Rattle.span_mutate.proofs.Begins.{same_number}
 use Rattle.std.proofs.lemmas.Bool.{and_parts}
 use Rattle.span_mutate.proofs.Keyed.{first_none, unless_none}
 use Rattle.span_mutate.proofs.Placing.{put_all, all_filter}
+use Rattle.span_mutate.proofs.NamedKinds.{rest_none}
 
 -- a cell that is named fits, or else the old one does
 over_fits : (k : Kind) (o : Option Value) (v : Value) → IfSome o (Fits k) → Fits k v → Fits k (unwrap_or o v)
@@ -61,11 +62,6 @@ after_cells tables m typed None h = over_none (other_kinds tables m.table) m.cel
 after_cells tables m typed (Some r) h =
     let P : ℕ → Type 0 = λ n. AreCells (other_kinds tables n) r.cells in
     over_typed (other_kinds tables m.table) m.cells r.cells typed.1 (subst P h.0 h.1.1.0)
-
--- the rest of the causes, where the first is none
-rest_none : (b : Bool) (w : Refusal) (rest : List (Bool × Refusal)) → first_cause ((b, w) ∷ rest) ≡ None → first_cause rest ≡ None
-rest_none true w rest e = absurd cc
-rest_none false w rest e = e
 
 -- a row that is put is not too long
 short_enough : (tables : List Table) (db : List TableRow) (m : CheckedMutation) (before : Option TableRow) → is_delete m.kind ≡ false → first_cause (causes tables db m before) ≡ None

@@ -15,6 +15,7 @@ use Rattle.std.proofs.lemmas.Map.Keys.{sorted_head, sorted_tail}
 use Rattle.std.proofs.lemmas.Bool.{not-true, and_parts}
 use Rattle.span_keycode.specs.Order.{byte_order}
 use Rattle.span_mutate.proofs.Filters.{filter_yes, filter_no}
+use Rattle.span_mutate.proofs.Placing.{all_filter}
 use Rattle.span_shard.specs.KeyVersions.{KeyVersions}
 use Rattle.span_shard.specs.Rows.{begins_with}
 use Rattle.span_shard.specs.Shard.{AreInOrder, keys_cmp, is_key, versions_of, end_of_time, row_now}
@@ -321,14 +322,6 @@ all_mapped : {X Y : Type 0} (P : X → Type 0) (Q : Y → Type 0) (f : X → Y) 
 all_mapped P Q f g [] h = tt
 all_mapped P Q f g (x ∷ xs) h = (g x h.0, all_mapped P Q f g xs h.1)
 
-all_kept : {X : Type 0} (P : X → Type 0) (p : X → Bool) (xs : List X) → AllByRecursion P xs → AllByRecursion P (filter p xs)
-all_kept P p [] h = tt
-all_kept {X} P p (x ∷ xs) h = cases (p x) refl (all_kept P p xs h.1)
-  where
-    cases : (b : Bool) → p x ≡ b → AllByRecursion P (filter p xs) → AllByRecursion P (filter p (x ∷ xs))
-    cases true e again = subst (AllByRecursion P) (sym (filter_yes p x xs e)) (h.0, again)
-    cases false e again = subst (AllByRecursion P) (sym (filter_no p x xs e)) again
-
 -- what a key of the store below has
 abbrev IsStoredUnder : List KeyVersions → List ℕ → KeyVersions → Type 0
 IsStoredUnder cs front c = (begins_with c.key front ≡ true) × (row_now cs c.key ≡ row_of c)
@@ -337,12 +330,12 @@ stored_under : (cs : List KeyVersions) → AreInOrder cs → (front : List ℕ) 
 stored_under cs sorted front =
     all_mapped (IsStoredUnder cs front) (IsStoredUnder cs front) versions_alone (λ c h. h) (filter (λ (c : KeyVersions). begins_with c.key front) cs)
     (all_both (λ (c : KeyVersions). begins_with c.key front ≡ true) (λ (c : KeyVersions). row_now cs c.key ≡ row_of c) (filter (λ (c : KeyVersions). begins_with c.key front) cs)
-    (all_filter_itself (λ (c : KeyVersions). begins_with c.key front) cs) (all_kept (λ (c : KeyVersions). row_now cs c.key ≡ row_of c) (λ (c : KeyVersions). begins_with c.key front) cs (own_rows cs sorted)))
+    (all_filter_itself (λ (c : KeyVersions). begins_with c.key front) cs) (all_filter (λ (c : KeyVersions). row_now cs c.key ≡ row_of c) (λ (c : KeyVersions). begins_with c.key front) cs (own_rows cs sorted)))
 
 unchanged_sound : (cs : List KeyVersions) → AreInOrder cs → (es : Changes) (front : List ℕ) → AllByRecursion (λ (k : List ℕ). (begins_with k front ≡ true) × (is_some (row_over cs es k) ≡ true)) (unchanged_under es front cs)
 unchanged_sound cs sorted es front =
     all_mapped (λ (c : KeyVersions). (is_unchanged es c ≡ true) × IsStoredUnder cs front c) (λ (k : List ℕ). (begins_with k front ≡ true) × (is_some (row_over cs es k) ≡ true)) (λ c. c.key) good found
-    (all_both (λ (c : KeyVersions). is_unchanged es c ≡ true) (IsStoredUnder cs front) found (all_filter_itself (is_unchanged es) whole) (all_kept (IsStoredUnder cs front) (is_unchanged es) whole (stored_under cs sorted front)))
+    (all_both (λ (c : KeyVersions). is_unchanged es c ≡ true) (IsStoredUnder cs front) found (all_filter_itself (is_unchanged es) whole) (all_filter (IsStoredUnder cs front) (is_unchanged es) whole (stored_under cs sorted front)))
   where
     whole : List KeyVersions
     whole = map versions_alone (filter (λ (c : KeyVersions). begins_with c.key front) cs)

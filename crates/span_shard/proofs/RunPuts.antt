@@ -36,6 +36,8 @@ use Rattle.span_mutate.proofs.Begins.{number_itself, front_of_taken, taken_begin
 use Rattle.std.proofs.lemmas.Bool.{and_from}
 use Rattle.span_mutate.proofs.ByRoots.{in_own}
 use Rattle.span_mutate.proofs.Families.{parent_family, root_short}
+use Rattle.span_mutate.proofs.NamedKinds.{rest_none}
+use Rattle.span_mutate.proofs.Keyed.{first_none}
 use Rattle.span_shard.proofs.Bytes.{same_bytes, bytes_same, begins_front, front_begins}
 use Rattle.span_shard.proofs.Touching.{touched_by}
 use Rattle.span_shard.proofs.OverRows.{cells, row_at_code, put_there, put_elsewhere, parent_key}
@@ -179,21 +181,13 @@ unpacked_nowhere tables rules dir cs es m typed has db tdb over = cases (row_bef
 long_enough : (a b : ℕ) → nat_lt a b ≡ false → b ≤ a
 long_enough a b e = grind (arith, nat_tests)
 
-no_rest : (b : Bool) (w : Refusal) (rest : List (Bool × Refusal)) → first_cause ((b, w) ∷ rest) ≡ None → first_cause rest ≡ None
-no_rest true w rest e = absurd cc
-no_rest false w rest e = e
-
-no_first : (b : Bool) (w : Refusal) (rest : List (Bool × Refusal)) → first_cause ((b, w) ∷ rest) ≡ None → b ≡ false
-no_first true w rest e = absurd cc
-no_first false w rest e = refl
-
 not_long : (m : CheckedMutation) (present lacking : Bool) (old : List Value) → put_cause m present lacking old ≡ None → length (row_code (merge_cells m.cells old)) ≤ longest_row
 not_long m present lacking old e =
     let t = nat_lt longest_row (length (row_code (merge_cells m.cells old))) in
-    let e1 = no_rest (is_insert m.kind && present) Exists ((is_update m.kind && not present, Missing) ∷ (lacking, ParentMissing) ∷ (t, RowTooLong) ∷ []) e in
-    let e2 = no_rest (is_update m.kind && not present) Missing ((lacking, ParentMissing) ∷ (t, RowTooLong) ∷ []) e1 in
-    let e3 = no_rest lacking ParentMissing ((t, RowTooLong) ∷ []) e2 in
-    long_enough longest_row (length (row_code (merge_cells m.cells old))) (no_first t RowTooLong [] e3)
+    let e1 = rest_none (is_insert m.kind && present) Exists ((is_update m.kind && not present, Missing) ∷ (lacking, ParentMissing) ∷ (t, RowTooLong) ∷ []) e in
+    let e2 = rest_none (is_update m.kind && not present) Missing ((lacking, ParentMissing) ∷ (t, RowTooLong) ∷ []) e1 in
+    let e3 = rest_none lacking ParentMissing ((t, RowTooLong) ∷ []) e2 in
+    long_enough longest_row (length (row_code (merge_cells m.cells old))) (first_none t RowTooLong [] e3)
 
 -- the row that the mutation makes
 abbrev pub made_row : CheckedMutation → List Value → TableRow

@@ -84,7 +84,7 @@ own_path tables n is = of_parent (parent_at tables (n - 1)) refl
 
 -- ---- codings
 
-begins_more : (us vs : List Value) → begins us (us ++ vs) ≡ true
+pub begins_more : (us vs : List Value) → begins us (us ++ vs) ≡ true
 begins_more us vs = ap (λ (ws : List Value). begins ws (us ++ vs)) (sym (take-append_seam us vs)) ∙ taken_begins (us ++ vs) (length us)
 
 taken_whole : {X : Type 0} (n : ℕ) (xs : List X) → xs ≡ take n xs ++ drop n xs

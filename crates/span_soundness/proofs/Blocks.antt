@@ -59,13 +59,9 @@ use Rattle.span_soundness.specs.WellTyped.{IsItemOf, AreJoinsOf, IsFromOf, is_co
 use Rattle.span_soundness.proofs.Sameness.{same_kind}
 use Rattle.span_soundness.proofs.Agreeing.{Made, then_made, made_if}
 use Rattle.span_soundness.proofs.Making.{own_right}
-use Rattle.span_soundness.proofs.Places.{Within, column_within, place_within, column_there, column_at_right}
+use Rattle.span_soundness.proofs.Places.{Within, column_within, place_within, column_there, column_at_right, any_made}
 use Rattle.span_soundness.proofs.Going.{Always, later_on, Leads, Keeps, then_keeps, given_keeps, both_are_of}
 use Rattle.span_soundness.proofs.Binding.{sound}
-
-any_made : {A : Type 0} (r : Result A Refusal) → Made (λ (x : A). Unit {0}) r
-any_made (Ok x) = tt {0}
-any_made (Err why) = tt {0}
 
 -- ---- the types of names
 

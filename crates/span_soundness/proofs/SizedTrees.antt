@@ -1,12 +1,11 @@
 -- What the binder makes of a whole tree can be planned: its items are the tables that it names, and its widths are right.
-use Rattle.std.proofs.Common.{◌≡◌, ◌∙◌, sym, ap, refl, ℕ, suc, ◌+◌, ◌==◌, true, false, Bool, if◌then◌else◌, List, [], ◌∷◌, ◌++◌, length, map, Option, Result, Ok, Err, arith}
+use Rattle.std.proofs.Common.{◌≡◌, ◌∙◌, sym, ap, refl, ℕ, suc, ◌+◌, ◌==◌, true, false, Bool, if◌then◌else◌, List, [], ◌∷◌, ◌++◌, length, map, Option, Ok, Err, arith}
 use Rattle.std.specs.Prelude.{slice_get, nat_le}
 use Rattle.std.specs.Option.{unwrap_or, option_map}
 use Rattle.std.specs.List.{AllByRecursion, list_all, zip}
 use Rattle.std.proofs.lemmas.Bool.{eqb-true, eq-eqb, le-leb, and_from, and_parts}
 use Rattle.std.proofs.lemmas.List.{length-map, length-append}
 use Rattle.span_value.specs.Results.{and_then}
-use Rattle.span_value.specs.declared.refusal.Refusal.{Refusal}
 use Rattle.span_value.specs.declared.refusal.Refusal.TheVariants.{DuplicateAlias, ColumnsDiffer}
 use Rattle.span_schema.specs.declared.table.Table.{Table}
 use Rattle.span_schema.specs.Numbers.{IsTable, columns_of}
@@ -43,10 +42,7 @@ use Rattle.span_binder.specs.Aggregating.{mode_of}
 use Rattle.span_binder.specs.Queries.{have_same_kind, have_same_kinds, are_union_compatible, sort_keys, blocks_of, limit_of, query_of, bind_query, query_step}
 use Rattle.span_soundness.proofs.Agreeing.{Made, then_made}
 use Rattle.span_soundness.proofs.Nesting.{IsFront, bound_is}
-
-any_made : {A : Type 0} (r : Result A Refusal) → Made (λ (x : A). Unit {0}) r
-any_made (Ok x) = tt {0}
-any_made (Err why) = tt {0}
+use Rattle.span_soundness.proofs.Places.{any_made}
 
 table_after : (xs : List ℕ) (n : ℕ) (later : List ℕ) → unwrap_or (slice_get ((xs ++ n ∷ []) ++ later) (length xs)) 0 ≡ n
 table_after [] n later = refl

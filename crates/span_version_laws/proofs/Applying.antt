@@ -22,7 +22,7 @@ use Rattle.span_machine_laws.proofs.Reached.{IsReached}
 use Rattle.span_version_laws.specs.Kept.{IsCodedRoot, IsCodedCoding, is_under, MakeRows, HasRows, IsPut, IsPending, IsKeptBy, AreKept, with_change, directory_after, made}
 use Rattle.span_version_laws.proofs.Slots.{IsStill, placed_in, still_same, still_last, other_number, home}
 use Rattle.span_version_laws.proofs.Trimming.{kept_newest, is_same_of, not_same_of, made_push}
-use Rattle.span_version_laws.proofs.Keys.{same_key, applied_versions, applied_prepared, versions_at-applied, prepared_at-applied}
+use Rattle.span_version_laws.proofs.Keys.{applied_versions, applied_prepared, versions_at-applied, prepared_at-applied}
 use Rattle.span_version_laws.proofs.Claimers.{above_horizon}
 use Rattle.std.proofs.lemmas.Bool.{and_left}
 use Rattle.span_version_laws.proofs.Steps.{open_of_put, kept_still, kept_under, claimers}
@@ -33,7 +33,7 @@ use Rattle.span_mutate.specs.declared.row.TableRow.{TableRow}
 use Rattle.span_mutate.specs.Database.{apply}
 use Rattle.span_mutate.specs.Directories.{Root}
 use Rattle.span_shard.specs.Rows.{row_coded}
-use Rattle.span_shard.proofs.InOrder.{in_order_applied}
+use Rattle.span_shard.proofs.InOrder.{in_order_applied, key_stays}
 use Rattle.span_version_laws.proofs.Roots.{coded_root}
 
 -- ---- the write of one key
@@ -106,7 +106,7 @@ keys_applied : (P : List ℕ → Type 0) (txn : ℕ) (committed : Option ℕ) (c
 keys_applied P txn committed [] all = tt
 keys_applied P txn committed (c ∷ cs) all =
     elim (is_used (applied_to_key txn committed c)) as (λ b. AllByRecursion (λ (d : KeyVersions). P d.key) (cond b (applied_to_key txn committed c ∷ shard.applied txn committed cs) (shard.applied txn committed cs))) [
-      | true ↦ (subst P (sym (same_key txn committed c)) all.0, keys_applied P txn committed cs all.1)
+      | true ↦ (subst P (sym (key_stays txn committed c)) all.0, keys_applied P txn committed cs all.1)
       | false ↦ keys_applied P txn committed cs all.1
     ]
 
