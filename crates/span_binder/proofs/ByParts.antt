@@ -1,6 +1,6 @@
 -- What holds of the typed form of a tree of queries, where it follows from what holds of those of its parts. Of a join holds what holds of
 -- its item.
-use Rattle.std.proofs.Common.{◌≡◌, sym, subst, List, [], ◌∷◌, map, Option}
+use Rattle.std.proofs.Common.{sym, subst, List, [], ◌∷◌, map, Option}
 use Rattle.std.specs.List.{AllByRecursion}
 use Rattle.span_schema.specs.declared.table.Table.{Table}
 use Rattle.span_syntax.specs.declared.tree.Spelling.{Spelling}
