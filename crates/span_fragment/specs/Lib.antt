@@ -1,4 +1,5 @@
 pub mod Meaning
+pub mod Placed
 pub mod Entries
 pub mod Pieces
 pub mod Directories
