@@ -1,7 +1,7 @@
 -- Entries are of one list of rows.
-use Rattle.std.proofs.Common.{◌≡◌, ℕ, zero, suc, ◌+◌, ◌<◌, ◌==◌, Bool, cond, List, [], ◌∷◌, ◌++◌, length, take, get_or, map, refl, sym, ap, subst, ◌∙◌, arith}
-use Rattle.std.proofs.lemmas.List.{take_more, map-append}
-use Rattle.std.proofs.lemmas.List.Elements.{filter-append}
+use Rattle.std.proofs.Common.{◌≡◌, ℕ, zero, suc, ◌+◌, ◌<◌, ◌≤◌, ◌==◌, Bool, true, false, cond, List, [], ◌∷◌, ◌++◌, length, take, drop, get_or, map, refl, sym, ap, subst, ◌∙◌, arith}
+use Rattle.std.proofs.lemmas.Bool.{eqb-true}
+use Rattle.std.proofs.lemmas.List.{take_more, map-append, append-nil, append_assoc, length-map, drop_all}
 use Rattle.span_value.specs.declared.value.Value.{Value}
 use Rattle.span_schema.specs.declared.table.Table.{Table}
 use Rattle.span_schema.specs.Lineages.{MeetsRules}
@@ -17,8 +17,10 @@ use Rattle.span_shard.specs.Rows.{code_of}
 use Rattle.span_shard.specs.Shard.{KeyRow}
 use Rattle.span_shard.specs.declared.shard.Entry.{Entry}
 use Rattle.span_shard.specs.Reading.{entry_row, IsNoTableRow}
-use Rattle.span_fragment.specs.Meaning.{declared_row}
-use Rattle.span_fragment.specs.Entries.{key_row, AreRowsOf, AreReadOf, AreNoRows}
+use Rattle.span_planner.specs.Masks.{masked}
+use Rattle.span_fragment.specs.Meaning.{declared_row, whole_table}
+use Rattle.span_fragment.specs.Placed.{AreValuesOf, IsNoRowOf}
+use Rattle.span_fragment.specs.Entries.{key_row, AreRowsOf, AreReadOf, AreNoRows, IsWhetherOf}
 
 abbrev row_with : ℕ → List Value → List Value → TableRow
 row_with n key cells = record { table = n; key = key; cells = cells }
@@ -53,21 +55,6 @@ more_rows schema entries rows e r typed is a = record {
   coded = ap (λ l. l ++ e ∷ []) a.coded ∙ ap (λ x. map (key_row schema) rows ++ x ∷ []) is ∙ sym (map-append (key_row schema) rows (r ∷ []));
 }
 
-one_of : (n : ℕ) (r : TableRow) (b : Bool) → (r.table == n) ≡ b → rows_of n (r ∷ []) ≡ cond b (r ∷ []) []
-one_of n r b e = ap (λ (x : Bool). cond x (r ∷ []) []) e
-
--- one row more, and its values where it is of table n
-pub more_read : (schema : List Table) (n : ℕ) (entries : List KeyRow) (values : List (List Value)) (e : KeyRow) (r : TableRow) (b : Bool) → IsTyped schema r → e ≡ key_row schema r → (r.table == n) ≡ b → AreReadOf schema n entries values
-    → AreReadOf schema n (entries ++ e ∷ []) (values ++ map (declared_row schema) (cond b (r ∷ []) []))
-more_read schema n entries values e r b typed is test a = record {
-  rows = a.rows ++ r ∷ [];
-  are = more_rows schema entries a.rows e r typed is a.are;
-  values_are = ap (λ l. l ++ map (declared_row schema) (cond b (r ∷ []) [])) a.values_are
-      ∙ ap (λ l. map (declared_row schema) (rows_of n a.rows) ++ map (declared_row schema) l) (sym (one_of n r b test))
-      ∙ sym (map-append (declared_row schema) (rows_of n a.rows) (rows_of n (r ∷ [])))
-      ∙ ap (map (declared_row schema)) (sym (filter-append (λ (x : TableRow). x.table == n) a.rows (r ∷ [])));
-}
-
 -- an entry under a row's key, with its cells
 pub entry_is : (schema : List Table) (e : Entry) (r : TableRow) → e.key.now ≡ code_of schema r → e.row.now ≡ row_code r.cells → entry_row e ≡ key_row schema r
 entry_is schema e r key row = ap (λ k. entry_with k e.row.now) key ∙ ap (λ c. entry_with (code_of schema r) c) row
@@ -88,3 +75,73 @@ not_rows schema (x ∷ entries) (suc i) d less none (r ∷ rows) typed is =
     let f : entry_row x ∷ map entry_row entries ≡ key_row schema r ∷ map (key_row schema) rows = is in
     let rest : map entry_row entries ≡ map (key_row schema) rows = cc in
     not_rows schema entries i d (omega arith) none rows typed.1 rest
+
+-- the row that an entry is
+pub record RowAt (schema : List Table) (rows : List TableRow) (i : ℕ) (key row : List ℕ) : Type 0 where
+  pub is : TableRow
+  pub typed : IsTyped schema is
+  pub key_is : key ≡ code_of schema is
+  pub row_is : row ≡ row_code is.cells
+  pub rest : drop i rows ≡ is ∷ drop (i + 1) rows
+
+pub row_at : (schema : List Table) (entries : List Entry) (rows : List TableRow) (i : ℕ) (d : Entry) → i < length entries → AreTyped schema rows → map entry_row entries ≡ map (key_row schema) rows
+    → RowAt schema rows i (get_or entries i d).key.now (get_or entries i d).row.now
+row_at schema [] rows i d less typed is = absurd (let l : i < 0 = less in omega arith)
+row_at schema (x ∷ entries) [] i d less typed is = absurd (let f : entry_row x ∷ map entry_row entries ≡ [] = is in cc)
+row_at schema (x ∷ entries) (r ∷ rows) zero d less typed is =
+    let f : entry_row x ∷ map entry_row entries ≡ key_row schema r ∷ map (key_row schema) rows = is in
+    let first : entry_row x ≡ key_row schema r = cc in
+    record { is = r; typed = typed.0; key_is = ap (λ (y : KeyRow). y.key) first; row_is = ap (λ (y : KeyRow). y.row) first; rest = refl }
+row_at schema (x ∷ entries) (r ∷ rows) (suc i) d less typed is =
+    let f : entry_row x ∷ map entry_row entries ≡ key_row schema r ∷ map (key_row schema) rows = is in
+    let rest : map entry_row entries ≡ map (key_row schema) rows = cc in
+    let below = row_at schema entries rows i d (omega arith) typed.1 rest in
+    let place : suc i + 1 ≡ suc (i + 1) = omega arith in
+    record { is = below.is; typed = below.typed; key_is = below.key_is; row_is = below.row_is; rest = below.rest ∙ ap (λ (j : ℕ). below.is ∷ drop j (r ∷ rows)) (sym place) }
+
+-- the values of the rows of table n
+abbrev values_in : List Table → ℕ → List Bool → List TableRow → List (List Value)
+values_in schema n ms rows = map (masked ms) (whole_table schema rows n)
+
+-- of whatever rows the entries are, the values so far and those of the rows from a place on
+abbrev pub ReadSoFar : List Table → ℕ → List Bool → List Entry → ℕ → List (List Value) → Type 0
+ReadSoFar schema n ms entries i values = (rows : List TableRow) → AreTyped schema rows → map entry_row entries ≡ map (key_row schema) rows
+    → values ++ map (masked ms) (whole_table schema (drop i rows) n) ≡ map (masked ms) (whole_table schema rows n)
+
+-- one row more of the table
+pub read_more : (schema : List Table) (n : ℕ) (ms : List Bool) (entries : List Entry) (i : ℕ) (d : Entry) (values after : List (List Value)) (v : List Value) → i < length entries
+    → IsWhetherOf schema n (get_or entries i d).key.now true → AreValuesOf schema n ms (get_or entries i d).key.now (get_or entries i d).row.now v → after ≡ values ++ v ∷ [] → ReadSoFar schema n ms entries i values → ReadSoFar schema n ms entries (i + 1) after
+read_more schema n ms entries i d values after v less whether read pushed so rows typed is =
+    let at = row_at schema entries rows i d less typed is in
+    let rest = values_in schema n ms (drop (i + 1) rows) in
+    let test : (at.is.table == n) ≡ true = sym (whether.of at.is at.typed at.key_is) in
+    let here : v ≡ masked ms (declared_row schema at.is) = read.are at.is at.typed (eqb-true at.is.table n test) at.key_is at.row_is in
+    let first : values_in schema n ms (drop i rows) ≡ v ∷ rest =
+    ap (values_in schema n ms) at.rest
+    ∙ ap (λ (b : Bool). map (masked ms) (map (declared_row schema) (cond b (at.is ∷ rows_of n (drop (i + 1) rows)) (rows_of n (drop (i + 1) rows))))) test
+    ∙ ap (λ (l : List Value). l ∷ rest) (sym here) in
+    ap (λ (l : List (List Value)). l ++ rest) pushed ∙ append_assoc values (v ∷ []) rest ∙ ap (λ (l : List (List Value)). values ++ l) (sym first) ∙ so rows typed is
+
+-- a row of another table
+pub read_past : (schema : List Table) (n : ℕ) (ms : List Bool) (entries : List Entry) (i : ℕ) (d : Entry) (values : List (List Value)) → i < length entries → IsWhetherOf schema n (get_or entries i d).key.now false
+    → ReadSoFar schema n ms entries i values → ReadSoFar schema n ms entries (i + 1) values
+read_past schema n ms entries i d values less whether so rows typed is =
+    let at = row_at schema entries rows i d less typed is in
+    let test : (at.is.table == n) ≡ false = sym (whether.of at.is at.typed at.key_is) in
+    let first : values_in schema n ms (drop i rows) ≡ values_in schema n ms (drop (i + 1) rows) =
+    ap (values_in schema n ms) at.rest
+    ∙ ap (λ (b : Bool). map (masked ms) (map (declared_row schema) (cond b (at.is ∷ rows_of n (drop (i + 1) rows)) (rows_of n (drop (i + 1) rows))))) test in
+    ap (λ (l : List (List Value)). values ++ l) (sym first) ∙ so rows typed is
+
+pub read_all : (schema : List Table) (n : ℕ) (ms : List Bool) (entries : List Entry) (i : ℕ) (values : List (List Value)) → length entries ≤ i → ReadSoFar schema n ms entries i values → AreReadOf schema n ms (map entry_row entries) values
+read_all schema n ms entries i values over so = record {
+  are = λ rows typed is.
+      let len : length entries ≡ length rows = sym (length-map entries entry_row) ∙ ap length is ∙ length-map rows (key_row schema) in
+      sym (append-nil values) ∙ sym (ap (λ (l : List TableRow). values ++ values_in schema n ms l) (drop_all i rows (omega arith))) ∙ so rows typed is;
+}
+
+-- an entry that is no row of the table that its key names
+pub not_of_table : (schema : List Table) (n : ℕ) (entries : List Entry) (i : ℕ) (d : Entry) → i < length entries → IsWhetherOf schema n (get_or entries i d).key.now true
+    → IsNoRowOf schema n (get_or entries i d).key.now (get_or entries i d).row.now → AreNoRows schema (map entry_row entries)
+not_of_table schema n entries i d less whether none =
+    not_rows schema entries i d less (record { none = λ r typed key row. none.none r typed (eqb-true r.table n (sym (whether.of r typed key))) key row })

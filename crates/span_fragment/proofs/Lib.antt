@@ -5,3 +5,5 @@ mod Entries
 pub mod KeyPlaces
 mod Running
 mod Values
+mod PlacedRows
+mod Placing

@@ -42,6 +42,7 @@ pub record AreColumnsPut (ms : List Bool) (cs : List KeyPart) (places : List ℕ
 -- the same of a level of a key, which begins with the number of its table
 pub record IsLevelPut (ms : List Bool) (cs : List KeyPart) (places : List ℕ) (bytes : List ℕ) (old new : List Value) (n : ℕ) : Type 0 where
   pub within : n ≤ length bytes
+  pub long : length cs ≤ length places
   pub put : (table : ℕ) (vs : List Value) (more : List ℕ) → AreFit cs vs → bytes ≡ table ∷ (tuple_code cs vs ++ more)
       → (more ≡ drop n bytes) × ((us : List Value) → placed ms places (vs ++ us) old ≡ placed ms (drop (length cs) places) us new)
 

@@ -1,5 +1,5 @@
 //! The values of a coded key, read straight into their places in a row.
-ghost use Rattle.std.specs.Prelude.{◌≤◌, IfOk, MatchOption, length};
+ghost use Rattle.std.specs.Prelude.{◌≡◌, ◌≤◌, IfOk, MatchOption, drop, length};
 ghost use Rattle.span_schema.specs.Numbers.{IsTable};
 ghost use Rattle.span_keycode.specs.Reads.{IsNoColumn, IsNoTuple};
 ghost use Rattle.span_fragment.specs.Placed.{IsColumnPut, AreColumnsPut, IsLevelPut, IsNoLevel, IsKeyPut};

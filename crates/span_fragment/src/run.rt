@@ -12,6 +12,7 @@ use super::decode::{decode, read_table};
 use super::directory::rows_of_leaf;
 use super::joined::join_and_filter;
 use super::piece::Piece;
+use super::row::all_wanted;
 use span_expr::cell::Failure;
 use span_planner::leaf::Leaf;
 use span_schema::schema::Schema;
@@ -40,13 +41,15 @@ fn run_on_table(
     table: usize,
     entries: &[Entry],
 ) -> Result<Piece, Refusal>
-    requires { leaf.now.tables ≡ table ∷ [] }
+    requires table { IsTable schema.now table }
+    requires is { leaf.now.tables ≡ table ∷ [] }
     ensures { MatchResult result
         (IsPieceOf schema.now leaf.now (map entry_row entries.now))
         (λ why. (why ≡ Refusal.OutOfMemory) ⊎ AreNoRows schema.now (map entry_row entries.now)) }
 {
     schema.meets_rules();
-    let rows = read_table(alloc, schema, table, entries)?;
+    let wanted = all_wanted(alloc, schema, table)?;
+    let rows = read_table(alloc, schema, table, wanted.as_slice(), entries)?;
     Ok(piece_of(join_and_filter(alloc, leaf, rows, &[]))?)
 }
 
