@@ -235,9 +235,9 @@ level_at schema n ms bs old row new i ps at w h one left vs k e =
     let R : List ℕ → Type 0 = λ xs. LevelsLeft schema ms (drop (i + 1) (path_of schema n)) (drop (length (own_key_columns schema m)) ps) xs new all in
     subst R (drop-drop w at bs) (level_done schema ms m (drop (i + 1) (path_of schema n)) ps (drop at bs) row new all w one (subst P (drop_more (path_of schema n) i 0 h) (left vs k e)))
 
-pub no_level_at : (schema : List Table) (n : ℕ) (ms : List Bool) (bs : List ℕ) (old row : List Value) (i : ℕ) (ps : List ℕ) (at : ℕ) → i < length (path_of schema n)
-    → IsNoLevel (own_key_columns schema (get_or (path_of schema n) i 0)) ps (drop at bs) → LevelsLeftAt schema n ms bs old i ps at row → IsKeyPut schema n ms bs old row false
-no_level_at schema n ms bs old row i ps at h none left = record {
+pub no_level_at : (schema : List Table) (n : ℕ) (ms : List Bool) (bs : List ℕ) (old row new : List Value) (i : ℕ) (ps : List ℕ) (at : ℕ) → i < length (path_of schema n)
+    → IsNoLevel (own_key_columns schema (get_or (path_of schema n) i 0)) ps (drop at bs) → LevelsLeftAt schema n ms bs old i ps at row → IsKeyPut schema n ms bs old new false
+no_level_at schema n ms bs old row new i ps at h none left = record {
   put = λ vs k e.
       let all = placed ms (key_places schema n) vs old in
       let P : List ℕ → Type 0 = λ ns. LevelsLeft schema ms ns ps (drop at bs) row all in
@@ -301,8 +301,8 @@ cell_at ms ks ps bs old row new i at n d h k one left vs f e =
     subst R (drop-drop n at bs)
     (cell_done ms (get_or ks i d) (drop (i + 1) ks) (get_or ps i 0) (drop (i + 1) ps) (drop at bs) row new all n one (subst Q (drop_more ps i 0 k) (subst P (drop_more ks i d h) (left vs f e))))
 
-pub no_cell_at : (ms : List Bool) (ks : List Kind) (ps bs : List ℕ) (old row : List Value) (i at : ℕ) (d : Kind) → i < length ks → IsNoCell (get_or ks i d) (drop at bs) → CellsLeftAt ms ks ps bs old i at row → AreCellsPut ks ps ms bs old row false
-no_cell_at ms ks ps bs old row i at d h none left = record {
+pub no_cell_at : (ms : List Bool) (ks : List Kind) (ps bs : List ℕ) (old row new : List Value) (i at : ℕ) (d : Kind) → i < length ks → IsNoCell (get_or ks i d) (drop at bs) → CellsLeftAt ms ks ps bs old i at row → AreCellsPut ks ps ms bs old new false
+no_cell_at ms ks ps bs old row new i at d h none left = record {
   put = λ vs f e.
       let all = placed ms ps vs old in
       let P : List Kind → Type 0 = λ ds. CellsLeft ms ds (drop i ps) (drop at bs) row all in

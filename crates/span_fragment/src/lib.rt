@@ -2,14 +2,13 @@
 #![tactic(auto)]
 
 mod cells;
-mod declared;
 mod decode;
 mod directory;
 mod joined;
 mod keys;
+mod mask;
 pub mod piece;
 mod place;
 mod rooted;
 pub mod row;
 pub mod run;
-

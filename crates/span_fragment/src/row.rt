@@ -1,8 +1,7 @@
 //! The values of a row of a table, read of its coded key and its packed cells in the order in which the columns are declared.
-ghost use Rattle.std.specs.Prelude.{◌≡◌, ◌⊎◌, true, IfOk, MatchResult, replicate};
+ghost use Rattle.std.specs.Prelude.{◌≡◌, ◌⊎◌, IfOk, MatchResult, replicate};
 ghost use Rattle.span_value.specs.declared.value.Value.TheVariants.{Null};
 ghost use Rattle.span_schema.specs.Numbers.{IsTable};
-ghost use Rattle.span_planner.specs.Leaves.{width_of};
 ghost use Rattle.span_fragment.specs.Placed.{AreValuesOf, IsNoRowOf};
 
 use super::cells::put_cells;
@@ -23,23 +22,6 @@ fn nulls(alloc: Global, len: usize) -> Result<Vec<Value>, AllocError>
         row.push(Value::Null)?;
     }
     Ok(row)
-}
-
-/// A mask that has each column of a table.
-pub(crate) fn all_wanted(
-    alloc: Global,
-    schema: &Schema,
-    table: usize,
-) -> Result<Vec<bool>, AllocError>
-    requires { IsTable schema.now table }
-    ensures { IfOk result (λ wanted. wanted.items ≡ replicate (width_of schema.now table) true) }
-{
-    let len = width_of(schema, table);
-    let mut wanted = Vec::with_capacity(alloc, len)?;
-    for _ in 0..len {
-        wanted.push(true)?;
-    }
-    Ok(wanted)
 }
 
 /// The values of a row of a table, in the order in which its columns are declared: those that are wanted, and NULL for the others, which
