@@ -6,8 +6,8 @@ use Rattle.span_fragment.specs.Placed.{IsCellPut}
 use Rattle.span_fragment.proofs.Placing.{all_cells_left, cell_at, no_cell_at, cells_end, too_long}
 use Rattle.span_fragment.proofs.cells.put_cells.Goals as goal
 
-pub returns-then-bytes : goal.returns-then-bytes
-returns-then-bytes c = too_long c.args.wanted.now c.args.kinds.now c.args.places.now c.args.bytes.now c.args.row.now.items c.if-bytes.true
+pub returns-then-bytes-gt-MOST_BYTES : goal.returns-then-bytes-gt-MOST_BYTES
+returns-then-bytes-gt-MOST_BYTES c = too_long c.args.wanted.now c.args.kinds.now c.args.places.now c.args.bytes.now c.args.row.now.items c.if-bytes-gt-MOST_BYTES.true
 
 pub loop-i-init : goal.loop-i-init
 loop-i-init c = record { within = omega arith; left = all_cells_left c.args.wanted.now c.args.kinds.now c.args.places.now c.args.bytes.now c.args.row.now.items }

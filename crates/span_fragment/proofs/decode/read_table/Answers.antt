@@ -13,7 +13,7 @@ nothing = record { key = record { ref_ptr = (0, 0); now = [] }; row = record { r
 
 pub returns-in_err-row_values-clause-refused : goal.returns-in_err-row_values-clause-refused
 returns-in_err-row_values-clause-refused c =
-    let p = err_from_is_err_and c.from_residual-in_err-row_values.result c.from_residual-in_err-row_values.ensures.1 in
+    let p = err_from_is_err_and c.from_residual.result c.from_residual.ensures.1 in
     let P : Bool → Type 0 = IsWhetherOf c.args.schema.now c.args.table (get_or c.args.entries.now c.loop-entry.entry-index nothing).key.now in
     rw (p.1, p.2) (elim c.in_err-row_values.ensures [
       | inl memory ↦ inl memory

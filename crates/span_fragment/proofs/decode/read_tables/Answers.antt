@@ -1,12 +1,9 @@
 use Rattle.std.proofs.Common.{◌≡◌, ◌∙◌, ◌<◌, map, drop, get_or, arith, sym, ap, length}
 use Rattle.std.proofs.lemmas.List.{drop_more}
 use Rattle.span_shard.specs.Reading.{entry_row}
-use Rattle.span_fragment.proofs.Entries.{table_read, tables_read, all_tables_left}
+use Rattle.span_fragment.proofs.Entries.{table_read, tables_read}
 use Rattle.span_fragment.proofs.Masks.{all_next}
 use Rattle.span_fragment.proofs.decode.read_tables.Goals as goal
-
-pub loop-table-init : goal.loop-table-init
-loop-table-init c = record { tables = c.requires; found = all_tables_left c.args.schema.now (map entry_row c.args.entries.now) c.args.wanted.now c.args.tables.now }
 
 pub loop-table-preserved : goal.loop-table-preserved
 loop-table-preserved c = record {

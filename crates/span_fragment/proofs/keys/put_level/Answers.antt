@@ -5,8 +5,8 @@ use Rattle.span_fragment.specs.Placed.{AreColumnsPut}
 use Rattle.span_fragment.proofs.Placing.{level_put, level_empty, level_short, level_none}
 use Rattle.span_fragment.proofs.keys.put_level.Goals as goal
 
-pub returns-then-bytes : goal.returns-then-bytes
-returns-then-bytes c = level_empty c.args.columns.now c.args.places.now c.args.bytes.now (let none = c.if-bytes.true in omega arith)
+pub returns-then-bytes-eq0 : goal.returns-then-bytes-eq0
+returns-then-bytes-eq0 c = level_empty c.args.columns.now c.args.places.now c.args.bytes.now (let none = c.if-bytes-eq0.true in omega arith)
 
 pub returns-then-columns-places : goal.returns-then-columns-places
 returns-then-columns-places c = level_short c.args.columns.now c.args.places.now c.args.bytes.now (let short = c.if-columns-places.true in omega arith)
@@ -18,7 +18,7 @@ returns-in-None c =
 
 pub returns-in-Some : goal.returns-in-Some
 returns-in-Some c =
-    let some : 0 < length c.args.bytes.now = (let none = c.if-bytes.false in omega arith) in
+    let some : 0 < length c.args.bytes.now = (let none = c.if-bytes-eq0.false in omega arith) in
     let long : length c.args.columns.now ≤ length c.args.places.now = (let short = c.if-columns-places.false in omega arith) in
     let P : List ℕ → Type 0 = λ xs. AreColumnsPut c.args.wanted.now c.args.columns.now c.args.places.now xs c.args.row.now.items c.put_columns.new.row.items c.in-Some.width in
     level_put c.args.wanted.now c.args.columns.now c.args.places.now c.args.bytes.now c.args.row.now.items c.put_columns.new.row.items c.in-Some.width some long
