@@ -8,11 +8,12 @@ use Rattle.span_schema.specs.Lineages.{path_at, MeetsRules}
 use Rattle.span_schema.specs.Numbers.{IsTable, own_key_columns}
 use Rattle.span_keycode.specs.Coding.{AreFit, tuple_code}
 use Rattle.span_keycode.specs.Keys.{Level, code_of, key_code, IsKey}
-use Rattle.span_keycode.specs.Roots.{IsTupleSkip, IsTableOf}
+use Rattle.span_keycode.specs.Roots.{IsCoding, IsRootPrefix, IsTupleSkip, IsTableOf}
 use Rattle.span_keycode.proofs.Levels.{levels_at}
 use Rattle.span_keycode.proofs.LevelLaws.{AreLevels}
 use Rattle.span_keycode.proofs.Going.{Continues, last_or, last_path, tables_of, tables_back, levels_on}
 use Rattle.span_keycode.proofs.KeyLaws.{place_within}
+use Rattle.span_keycode.proofs.RootRows.{root_begins}
 
 -- the levels of a key of table n that are left after those down to a table
 pub record KeyLeft (tables : List Table) (above : Option ℕ) (rest : List ℕ) (n : ℕ) : Type 0 where
@@ -115,4 +116,13 @@ no_table tables bs above at h against left = record {
 pub table_found : (tables : List Table) (bs : List ℕ) (above : Option ℕ) (at : ℕ) → length bs ≤ at → LeftAt tables bs above at → IsTableOf tables bs above
 table_found tables bs above at h left = record {
   of = λ n vs k e. let P : List ℕ → Type 0 = λ xs. KeyLeft tables above xs n in none_left tables above n (subst P (dropped_all bs at h) (left n vs k e));
+}
+
+-- bytes that begin with no table's number code no key
+pub no_root : (tables : List Table) → MeetsRules tables → (bs front : List ℕ) → (0 < length bs → IsTable tables (get_or bs 0 0) → ⊥) → IsRootPrefix tables bs front
+no_root tables rules bs front against = record {
+  root = λ n vs k e.
+      let coding : IsCoding tables bs = record { table = n; values = vs; is = k; code = e } in
+      let begins = root_begins tables rules bs coding in
+      absurd (against begins.0 begins.1);
 }

@@ -26,3 +26,4 @@ pub mod Comparing
 pub mod RootCodes
 pub mod ValueLaws
 pub mod KeyTables
+pub mod Once

@@ -20,7 +20,8 @@ pub fn root_prefix<'a>(schema: &Schema, key: &'a Key) -> &'a [u8]
     front(bytes, root_len(schema, bytes))
 }
 
-fn front(bytes: &[u8], len: usize) -> &[u8]
+/// The first bytes.
+pub(crate) fn front(bytes: &[u8], len: usize) -> &[u8]
     requires { len ≤ length bytes.now }
     ensures { result.now ≡ take len bytes.now }
 {
