@@ -10,8 +10,8 @@ use span_rowcode::pack::MOST_BYTES;
 use span_value::value::{Kind, Value};
 use std::alloc::{AllocError, Global};
 
-/// Puts the cell of a kind at the front of bytes at its place, if it is wanted, and returns how many bytes code it. None if no cell of
-/// the kind is coded there. A cell that is not wanted is skipped.
+/// Puts the cell of a kind at the front of bytes at its place, if it is wanted, and returns how many bytes code it. None
+/// if no cell of the kind is coded there. A cell that is not wanted is skipped.
 fn put_cell(
     alloc: Global,
     kind: Kind,
@@ -38,8 +38,8 @@ fn put_cell(
     }
 }
 
-/// Puts the wanted cells of a packed row, one of each kind, at their places. False if the bytes are no packed row of the kinds; where it
-/// is true they may be none either.
+/// Puts the wanted cells of a packed row, one of each kind, at their places. False if the bytes are no packed row of the
+/// kinds; where it is true they may be none either.
 pub(crate) fn put_cells(
     alloc: Global,
     kinds: &[Kind],

@@ -12,8 +12,8 @@ use span_schema::schema::Schema;
 use span_value::value::Value;
 use std::alloc::{AllocError, Global};
 
-/// Puts the value at the front of a column's bytes at its place, if it is wanted, and returns how many bytes code it. None if no
-/// value of the column is coded there. A value that is not wanted is skipped.
+/// Puts the value at the front of a column's bytes at its place, if it is wanted, and returns how many bytes code it.
+/// None if no value of the column is coded there. A value that is not wanted is skipped.
 fn put_column(
     alloc: Global,
     column: KeyPart,
@@ -97,8 +97,8 @@ fn places_from(places: &[usize], first: usize) -> &[usize]
     &places[first..]
 }
 
-/// Puts the wanted values of a coded key of a table at their places. False if the bytes code no key of the table; where it is true they
-/// may code none either.
+/// Puts the wanted values of a coded key of a table at their places. False if the bytes code no key of the table; where
+/// it is true they may code none either.
 pub(crate) fn put_key(
     alloc: Global,
     schema: &Schema,

@@ -1,4 +1,5 @@
-//! The values of a row of a table, read of its coded key and its packed cells in the order in which the columns are declared.
+//! The values of a row of a table, read of its coded key and its packed cells in the order in which the columns are
+//! declared.
 ghost use Rattle.std.specs.Prelude.{◌≡◌, ◌⊎◌, IfOk, MatchResult, replicate};
 ghost use Rattle.span_value.specs.declared.value.Value.TheVariants.{Null};
 ghost use Rattle.span_schema.specs.Numbers.{IsTable};
@@ -24,9 +25,9 @@ fn nulls(alloc: Global, len: usize) -> Result<Vec<Value>, AllocError>
     Ok(row)
 }
 
-/// The values of a row of a table, in the order in which its columns are declared: those that are wanted, and NULL for the others, which
-/// are not read. `wanted` has TRUE at the places of the columns that are wanted. The row takes one allocation, and each of its texts and
-/// byte strings one.
+/// The values of a row of a table, in the order in which its columns are declared: those that are wanted, and NULL for
+/// the others, which are not read. `wanted` has TRUE at the places of the columns that are wanted. The row takes one
+/// allocation, and each text and byte string among its cells one.
 ///
 /// `OutOfMemory`, where the bytes are the coded key and the packed cells of a row of the table.
 pub fn row_values(
