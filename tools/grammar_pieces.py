@@ -383,12 +383,11 @@ def loop_steps(names):
 # ---- queries: span_parser's proofs/Querying.antt and proofs/Falling.antt
 
 QUERIES = """
-use Rattle.std.proofs.Common.{◌≡◌, ℕ, zero, suc, Bool, true, false, List, [], ◌∷◌, refl, subst, arith, Option, Some, None}
+use Rattle.std.proofs.Common.{◌≡◌, ℕ, zero, suc, true, false, List, [], ◌∷◌, refl, subst, arith, Some, None}
 """ + TOKENS + """
 use Rattle.span_grammar.specs.declared.class.Context.TheVariants as context
 """ + PARTS + """
 use Rattle.span_grammar.specs.declared.grammar.Shape.TheVariants as shape
-use Rattle.span_syntax.specs.declared.tree.Expr.{Expr}
 use Rattle.span_parser.specs.declared.tree.Output.{Output}
 use Rattle.span_parser.specs.declared.tree.Output.TheVariants as output_item
 use Rattle.span_parser.specs.declared.tree.SortColumn.TheVariants as by
@@ -397,7 +396,7 @@ use Rattle.span_parser.specs.declared.tree.Item.TheVariants as source
 use Rattle.span_parser.specs.declared.tree.Join.{Join}
 use Rattle.span_parser.specs.declared.tree.Block.{Block}
 use Rattle.span_parser.specs.declared.tree.Query.{Query}
-""" + RULES + """
+""" + RULES.replace(", opening}", "}") + """
 use Rattle.span_syntax.specs.Expressions.{value_of, integer_of, spelling, close_parenthesis, column, direction, after, expression}
 use Rattle.span_parser.specs.Queries.{as_name, alias, required_alias, sort_column, sort_key, sort_key_more, sort_keys, order_by,
     maybe_order_by, skip, maybe_skip, limit_clause, maybe_limit, quantifier, column_more, columns, group_by, maybe_group_by, all_of_table,
@@ -563,7 +562,7 @@ use Rattle.span_parser.proofs.Querying.{sort_key_more_good, column_more_good, ou
 # ---- schemas: span_schematext's proofs/Declaring.antt, proofs/Lasting.antt and three folders of proofs/declaration
 
 DECLARATIONS = """
-use Rattle.std.proofs.Common.{◌≡◌, ℕ, suc, ◌-◌, true, false, List, [], ◌∷◌, refl, sym, subst, arith, Option, Some, None}
+use Rattle.std.proofs.Common.{◌≡◌, ℕ, suc, ◌-◌, true, false, List, ◌∷◌, refl, subst, arith, Some, None}
 """ + TOKENS + """
 use Rattle.span_value.specs.declared.value.ColumnType.TheVariants as kind
 use Rattle.span_schema.specs.declared.table.Table.{Table}
@@ -573,7 +572,7 @@ use Rattle.span_schema.specs.declared.table.Parent.{Parent}
 use Rattle.span_grammar.specs.declared.class.Context.TheVariants as context
 """ + PARTS + """
 use Rattle.span_grammar.specs.declared.grammar.Shape.TheVariants as shape
-""" + RULES + """
+""" + RULES.replace("Piece, ", "").replace(", pair_with, opening}", "}") + """
 use Rattle.span_syntax.specs.Expressions.{direction}
 """ + GOOD.replace(" beside_good,", "") + """
 use Rattle.span_syntax.proofs.Expressing.{direction_good}
