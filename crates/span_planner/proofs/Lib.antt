@@ -17,3 +17,8 @@ pub mod Numbering
 pub mod Ranged
 pub mod SizedNumbers
 pub mod Tabled
+pub mod Masked
+pub mod MaskedGroups
+pub mod MaskedQuery
+pub mod Reading
+pub mod ReadAbove
