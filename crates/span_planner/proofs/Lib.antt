@@ -22,3 +22,4 @@ pub mod MaskedGroups
 pub mod MaskedQuery
 pub mod Reading
 pub mod ReadAbove
+pub mod MaskedPlan

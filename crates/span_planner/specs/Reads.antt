@@ -1,5 +1,5 @@
 -- Which columns of a row are read by the expressions of a query, and queries that read only what masks of their tables have.
-use Rattle.std.specs.Prelude.{ℕ, zero, suc, ◌+◌, ◌==◌, Bool, true, false, not, ◌&&◌, List, [], ◌∷◌, ◌++◌, length, map, flat_map, replicate, Option, Some, None}
+use Rattle.std.specs.Prelude.{ℕ, zero, suc, ◌+◌, ◌==◌, Bool, true, false, not, ◌&&◌, List, [], ◌∷◌, ◌++◌, length, take, drop, map, flat_map, replicate, Option, Some, None}
 use Rattle.std.specs.List.{list_all}
 use Rattle.std.specs.Option.{option_map}
 use Rattle.span_expr.specs.declared.expr.Expr.{Expr}
@@ -14,7 +14,7 @@ use Rattle.span_query.specs.declared.query.Aggregate.TheVariants.{CountRows, Of}
 use Rattle.span_query.specs.declared.query.Item.{Item}
 use Rattle.span_query.specs.declared.query.Item.TheVariants as item
 use Rattle.span_query.specs.declared.query.Join.{Join}
-use Rattle.span_query.specs.Rows.{Rows}
+use Rattle.span_query.specs.Rows.{Row, Rows}
 use Rattle.span_planner.specs.declared.leaf.LeafJoin.{LeafJoin}
 use Rattle.span_planner.specs.Masks.{masked}
 
@@ -78,6 +78,21 @@ leaf_on_reads test j = reads_only test j.on
 -- each column that the leaf's ONs and its condition read passes the test
 abbrev pub leaf_reads : (ℕ → Bool) → List LeafJoin → Option Expr → Bool
 leaf_reads test joins filter = list_all (leaf_on_reads test) joins && condition_reads test filter
+
+-- the masks of the further tables of a leaf: the parts of a mask
+abbrev pub join_masks : List LeafJoin → List Bool → List (List Bool)
+join_masks [] ms = []
+join_masks (j ∷ joins) ms = take j.width ms ∷ join_masks joins (drop j.width ms)
+
+-- the masks of a leaf's tables, the first of which has the given number of columns
+abbrev pub leaf_masks : ℕ → List LeafJoin → List Bool → List (List Bool)
+leaf_masks width joins ms = take width ms ∷ join_masks joins (drop width ms)
+
+-- tables, each masked by its mask
+abbrev pub mask_tables : List (List Bool) → List (List Row) → List (List Row)
+mask_tables [] tables = tables
+mask_tables (ms ∷ mss) [] = []
+mask_tables (ms ∷ mss) (rows ∷ tables) = map (masked ms) rows ∷ mask_tables mss tables
 
 -- ---- queries whose tables have masks, by their numbers
 
