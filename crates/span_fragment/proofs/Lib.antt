@@ -5,3 +5,4 @@ mod Entries
 pub mod KeyPlaces
 mod Running
 mod Values
+pub mod Masking

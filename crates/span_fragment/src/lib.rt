@@ -5,6 +5,7 @@ mod declared;
 mod decode;
 mod directory;
 mod joined;
+mod masked;
 pub mod piece;
 mod rooted;
 pub mod run;

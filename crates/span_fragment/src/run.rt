@@ -3,6 +3,7 @@ ghost use Rattle.std.specs.Prelude.{◌≡◌, ◌⊎◌, [], ◌∷◌, MatchRe
 ghost use Rattle.std.specs.List.{AllByRecursion};
 ghost use Rattle.span_schema.specs.Numbers.{IsTable};
 ghost use Rattle.span_shard.specs.Reading.{entry_row};
+ghost use Rattle.span_planner.specs.Reads.{mask_rows};
 ghost use Rattle.span_query.specs.Rows.{Rows};
 ghost use Rattle.span_algebra.specs.Answers.{Gives};
 ghost use Rattle.span_fragment.specs.Entries.{AreNoRows};
@@ -11,6 +12,7 @@ ghost use Rattle.span_fragment.specs.Pieces.{IsPieceOf};
 use super::decode::{decode, read_table};
 use super::directory::rows_of_leaf;
 use super::joined::join_and_filter;
+use super::masked::masked_rows;
 use super::piece::Piece;
 use span_expr::cell::Failure;
 use span_planner::leaf::Leaf;
@@ -21,12 +23,20 @@ use span_value::seq::Seq;
 use span_value::value::Row;
 use std::alloc::Global;
 
-/// The piece of a leaf that gives these rows, or the fault. The only refusal is out of memory.
-fn piece_of(found: Result<Seq<Row>, Failure>) -> Result<Piece, Refusal>
-    ensures { MatchResult result (λ piece. (o : Rows) → Gives found o → piece.rows ≡ o) (λ why. why ≡ Refusal.OutOfMemory) }
+/// The piece of a leaf that gives these rows, masked, or the fault. The only refusal is out of memory.
+fn piece_of(
+    alloc: Global,
+    leaf: &Leaf,
+    found: Result<Seq<Row>, Failure>,
+) -> Result<Piece, Refusal>
+    ensures { MatchResult result (λ piece. (o : Rows) → Gives found o → piece.rows ≡ mask_rows leaf.now.reads o) (λ why. why ≡ Refusal.OutOfMemory) }
 {
     match found {
-        Ok(rows) => Ok(Piece::new(Some(rows))),
+        Ok(rows) => Ok(Piece::new(Some(masked_rows(
+            alloc,
+            leaf.reads.as_slice(),
+            rows.as_slice(),
+        )?))),
         Err(Failure::Fault) => Ok(Piece::new(None)),
         Err(Failure::OutOfMemory) => Err(Refusal::OutOfMemory),
     }
@@ -47,7 +57,7 @@ fn run_on_table(
 {
     schema.meets_rules();
     let rows = read_table(alloc, schema, table, entries)?;
-    Ok(piece_of(join_and_filter(alloc, leaf, rows, &[]))?)
+    Ok(piece_of(alloc, leaf, join_and_filter(alloc, leaf, rows, &[]))?)
 }
 
 /// What a leaf gives whose tables are joined.
@@ -64,7 +74,7 @@ fn run_on_tables(
 {
     schema.meets_rules();
     let rows = decode(alloc, schema, entries)?;
-    Ok(piece_of(rows_of_leaf(alloc, schema, leaf, rows.as_slice()))?)
+    Ok(piece_of(alloc, leaf, rows_of_leaf(alloc, schema, leaf, rows.as_slice()))?)
 }
 
 /// What a leaf gives on the entries of a part of its range. An arithmetic error is a piece without rows, and no refusal.

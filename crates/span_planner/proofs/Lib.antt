@@ -23,3 +23,4 @@ pub mod MaskedQuery
 pub mod Reading
 pub mod ReadAbove
 pub mod MaskedPlan
+pub mod OwnReads

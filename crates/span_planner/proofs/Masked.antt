@@ -73,7 +73,7 @@ reads-front ms ns e = reads_only-wider (has_place (ms ++ ns)) (has_place ms) e (
 
 -- ---- lists of rows
 
-mask_rows-append : (ms : List Bool) (a b : Rows) → mask_rows ms (append_results a b) ≡ append_results (mask_rows ms a) (mask_rows ms b)
+pub mask_rows-append : (ms : List Bool) (a b : Rows) → mask_rows ms (append_results a b) ≡ append_results (mask_rows ms a) (mask_rows ms b)
 mask_rows-append ms (Some xs) (Some ys) = ap (λ (rows : List Row). Some rows) (map-append (masked ms) xs ys)
 mask_rows-append ms (Some xs) None = refl
 mask_rows-append ms None b = refl

@@ -30,7 +30,7 @@ together false b p q = cc
 -- ---- tests of the places that something reads
 
 -- what reads only places that pass: a test passes where it has each place without which there would be something else to read
-abbrev ByPlace : ((ℕ → Bool) → Bool) → Type 0
+abbrev pub ByPlace : ((ℕ → Bool) → Bool) → Type 0
 ByPlace reads = (test : ℕ → Bool) → ((k : ℕ) → reads (is_not k) ≡ false → test k ≡ true) → reads test ≡ true
 
 by_none : ByPlace (λ t. true)
@@ -117,10 +117,10 @@ layer_by (Expr-F.Match a arms (Some other)) =
     (by_both (λ t. reads_only t a.0) (λ t. list_all is_total_arm (map (armed (reads_only t)) (map told_arm arms))) a.1 (arms_by arms)) other.1
 layer_by (Expr-F.Coalesce operands) = operands_by operands
 
-abbrev IsByPlace : Expr → Type 0
+abbrev pub IsByPlace : Expr → Type 0
 IsByPlace e = ByPlace (λ t. reads_only t e)
 
-expr_by : (e : Expr) → IsByPlace e
+pub expr_by : (e : Expr) → IsByPlace e
 expr_by = ind-Expr IsByPlace (λ x y is. subst (λ (z : Expr-F Expr). IsByPlace (roll-Expr z)) is
     (by_same (λ t. reads_at t (map-Expr Expr Bool (reads_only t) (map-Expr ToldExpr Expr told_expr y))) (λ t. reads_only t (roll-Expr (map-Expr ToldExpr Expr told_expr y)))
     (λ t. fold-roll-Expr Bool (reads_at t) (map-Expr ToldExpr Expr told_expr y)) (layer_by y)))
