@@ -24,3 +24,4 @@ pub mod Reading
 pub mod ReadAbove
 pub mod MaskedPlan
 pub mod OwnReads
+pub mod OwnChecks

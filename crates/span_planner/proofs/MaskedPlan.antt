@@ -14,7 +14,7 @@ use Rattle.span_planner.specs.declared.leaf.Leaf.{Leaf}
 use Rattle.span_planner.specs.declared.leaf.LeafJoin.{LeafJoin}
 use Rattle.span_planner.specs.Leaves.{table_of, width_of, planned}
 use Rattle.span_planner.specs.Masks.{masked}
-use Rattle.span_planner.specs.Reads.{has_place, reads_within, mask_rows, condition_reads, leaf_widths, leaf_on_reads, leaf_reads, is_within, join_masks, leaf_masks, mask_tables}
+use Rattle.span_planner.specs.Reads.{has_place, reads_within, mask_rows, condition_reads, leaf_widths, leaf_on_reads, leaf_reads, reads_own, masks_of, is_within, join_masks, leaf_masks, mask_tables}
 use Rattle.span_planner.specs.Results.{as_join, join_tables, leaf_rows}
 use Rattle.span_planner.specs.Sizes.{is_sized}
 use Rattle.span_planner.proofs.Blocks.{AgreesAt}
@@ -32,10 +32,6 @@ both true b is = (refl, is)
 both false b is = cc
 
 -- ---- the masks of leaves, by numbers
-
-abbrev masks_of : List Leaf → ℕ → List Bool
-masks_of leaves zero = []
-masks_of leaves (suc n) = unwrap_or (slice_get (map (λ (l : Leaf). l.reads) leaves) n) []
 
 module _ (give : Leaf → Rows) where
   abbrev masked_give : Leaf → Rows
@@ -79,6 +75,10 @@ masks_at all before (l ∷ ls) is =
       ap (masks_of all) (add-one before) ∙ item_at masks before [] l.reads (map (λ (l : Leaf). l.reads) ls) is,
       masks_at all (before + 1) ls (ap (λ (n : ℕ). drop n masks) (add-one before) ∙ rest_at masks before l.reads (map (λ (l : Leaf). l.reads) ls) is),
     )
+
+-- the query above the leaves of a plan reads within their masks
+pub plan_within : (schema : List Table) (tables : List ℕ) (q : BoundQuery) → is_sized schema tables q ≡ true → is_within (masks_of (planned schema tables q).leaves) ((planned schema tables q).top 0) ≡ true
+plan_within schema tables q sized = top_within (masks_of (planned schema tables q).leaves) schema tables q sized 0 (masks_at (planned schema tables q).leaves 0 (planned schema tables q).leaves refl)
 
 -- ---- the rows of a leaf have its columns
 
@@ -133,7 +133,7 @@ module _ (schema : List Table) (w : ℕ → List Row) (wide_tables : (t : ℕ) �
         let leaves : List Leaf = (planned schema tables q).leaves in
         meaning-masked (masks_of leaves) (given (map give leaves)) (given (map (λ (l : Leaf). mask_rows l.reads (give l)) leaves)) (given-masked give leaves)
         (given-wide give leaves (wide_all give leaves (leaves_known schema tables keyed q sized) whole)) ((planned schema tables q).top 0)
-        (top_within (masks_of leaves) schema tables q sized 0 (masks_at leaves 0 leaves refl))
+        (plan_within schema tables q sized)
         ∙ query_above schema tables w f0 (given (map give leaves)) table_given wide_tables q sized 0 (agree give leaves 0 leaves refl whole)
 
 -- ---- masked tables below a leaf

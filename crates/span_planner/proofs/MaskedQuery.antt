@@ -192,8 +192,7 @@ module _ (masks : ℕ → List Bool) (f g : ℕ → Rows) (masked_so : (n : ℕ)
   layer_masked y within =
       let parts = both (list_all (block_within masks) (map (map_block told_read) (y.first ∷ y.others))) (list_all (λ (b : Block Reading). length b.outputs == length y.first.outputs) (map (map_block told_read) y.others))
       (ap (λ (r : Reading). r.is_within) (sym (read_roll y)) ∙ within) in
-      let rows : IsWide (length y.first.outputs) (query_rows f (map_layer told_f y)) = wide_query f (length y.first.outputs) (map_layer told_f y) (refl, outputs_are (length y.first.outputs) y.others parts.1) in
-      (
+      let rows : IsWide (length y.first.outputs) (query_rows f (map_layer told_f y)) = wide_query f (length y.first.outputs) (map_layer told_f y) (refl, outputs_are (length y.first.outputs) y.others parts.1) in (
         mean_roll g y ∙ ap (finished y) (blocks_masked (y.first ∷ y.others) parts.0) ∙ sym (mean_roll f y),
         subst (λ (n : ℕ). IsWide n (meaning_over f (query_with y))) (sym (ap (λ (r : Reading). r.width) (read_roll y))) (subst (IsWide (length y.first.outputs)) (sym (mean_roll f y)) rows),
       )

@@ -22,7 +22,7 @@ use Rattle.span_query.proofs.Layers.{map_item, map_join, map_block, map_layer}
 use Rattle.span_planner.specs.declared.leaf.Leaf.{Leaf}
 use Rattle.span_planner.specs.Conditions.{have_total_ons, where_conjuncts, pushable, conjuncts_on}
 use Rattle.span_planner.specs.Leaves.{Planned, table_of, width_of, widths, leaf_len, leaf_join, first_filter, reads_of, unless_left, join_leaves, rest_leaves, leaves_from, block_leaves, planned_query, planned}
-use Rattle.span_planner.specs.Reads.{has_place, is_not, condition_reads, on_reads, selection_reads, block_reads, leaf_on_reads, leaf_reads}
+use Rattle.span_planner.specs.Reads.{has_place, is_not, condition_reads, on_reads, selection_reads, block_reads, leaf_on_reads, leaf_reads, reads_own}
 use Rattle.span_planner.proofs.Queries.{layer_twice}
 use Rattle.span_planner.proofs.Reading.{expr_by, covered}
 
@@ -65,7 +65,7 @@ has_place-part at width rs k has inside =
     has_place-take width (drop at rs) (k - at) (has_place-drop at rs (k - at) ∙ ap (has_place rs) sum ∙ has)
 
 -- a place without which there would be something else to read passes the test
-reads_place : (test : ℕ → Bool) (e : Expr) (k : ℕ) → reads_only test e ≡ true → reads_only (is_not k) e ≡ false → test k ≡ true
+pub reads_place : (test : ℕ → Bool) (e : Expr) (k : ℕ) → reads_only test e ≡ true → reads_only (is_not k) e ≡ false → test k ≡ true
 reads_place test e k reads out = of_test (test k) refl where
   other : test k ≡ false → (p : ℕ) → test p ≡ true → is_not k p ≡ true
   other none p passes = of_same (p == k) refl where
@@ -123,7 +123,7 @@ first_reads width rs (e ∷ es) is =
 -- ---- leaves
 
 abbrev pub ReadsOwn : Leaf → Type 0
-ReadsOwn l = leaf_reads (has_place l.reads) l.joins l.filter ≡ true
+ReadsOwn l = reads_own l ≡ true
 
 module _ (schema : List Table) (tables : List ℕ) where
   joins_own : {Q : Type 0} (n width : ℕ) (rs : List Bool) (js : List (Join Q)) → list_all (on_reads (has_place rs)) js ≡ true → list_all (leaf_on_reads (has_place (take width rs))) (map leaf_join (take n js)) ≡ true

@@ -294,8 +294,7 @@ module _ (masks : ℕ → List Bool) where
               (outputs_above (length y.first.outputs) layer.others (before + length (block_leaves schema tables layer.first)) (outputs_planned (length y.first.outputs) y.others parts.1)) in
               let within : (query_reading masks (map_layer read top)).is_within ≡ true =
               together (list_all (block_within masks) (map (map_block read) (top.first ∷ top.others))) (list_all (λ (b : Block Reading). length b.outputs == length top.first.outputs) (map (map_block read) top.others))
-              (blocks_read (y.first ∷ y.others) before parts.0 (subst (λ (ls : List Leaf). MasksAt before ls) leaves_are masks_at)) outputs in
-              (
+              (blocks_read (y.first ∷ y.others) before parts.0 (subst (λ (ls : List Leaf). MasksAt before ls) leaves_are masks_at)) outputs in (
                 ap (λ (r : Reading). r.is_within) read_is ∙ within,
                 ap (λ (r : Reading). r.width) read_is ∙ ap length first_is ∙ sym (ap (λ (p : Planned). p.width) planned_is),
               )),

@@ -39,7 +39,7 @@ by_none test all = refl
 by_place : (p : ℕ) → ByPlace (λ t. t p)
 by_place p test all = all p (let e : (p == p) ≡ true = grind (arith, nat_tests) in ap not e)
 
-by_both : (f g : (ℕ → Bool) → Bool) → ByPlace f → ByPlace g → ByPlace (λ t. f t && g t)
+pub by_both : (f g : (ℕ → Bool) → Bool) → ByPlace f → ByPlace g → ByPlace (λ t. f t && g t)
 by_both f g first second test all =
     together (f test) (g test) (first test (λ k out. all k (first_false (f (is_not k)) (g (is_not k)) out))) (second test (λ k out. all k (second_false (f (is_not k)) (g (is_not k)) out))) where
       first_false : (a b : Bool) → a ≡ false → (a && b) ≡ false
@@ -50,7 +50,7 @@ by_both f g first second test all =
       second_false true b is = is
       second_false false b is = refl
 
-by_list : {A : Type 0} (p : (ℕ → Bool) → A → Bool) (xs : List A) → AllByRecursion (λ x. ByPlace (λ t. p t x)) xs → ByPlace (λ t. list_all (p t) xs)
+pub by_list : {A : Type 0} (p : (ℕ → Bool) → A → Bool) (xs : List A) → AllByRecursion (λ x. ByPlace (λ t. p t x)) xs → ByPlace (λ t. list_all (p t) xs)
 by_list p [] all = by_none
 by_list p (x ∷ xs) all = by_both (λ t. p t x) (λ t. list_all (p t) xs) all.0 (by_list p xs all.1)
 
@@ -127,11 +127,11 @@ expr_by = ind-Expr IsByPlace (λ x y is. subst (λ (z : Expr-F Expr). IsByPlace 
 
 -- ---- blocks
 
-everywhere : {A : Type 0} (P : A → Type 0) → ((x : A) → P x) → (xs : List A) → AllByRecursion P xs
+pub everywhere : {A : Type 0} (P : A → Type 0) → ((x : A) → P x) → (xs : List A) → AllByRecursion P xs
 everywhere P is [] = tt {0}
 everywhere P is (x ∷ xs) = (is x, everywhere P is xs)
 
-condition_by : (w : Option Expr) → ByPlace (λ t. condition_reads t w)
+pub condition_by : (w : Option Expr) → ByPlace (λ t. condition_reads t w)
 condition_by None = by_none
 condition_by (Some e) = expr_by e
 

@@ -1,7 +1,7 @@
 -- Which columns of a row are read by the expressions of a query, and queries that read only what masks of their tables have.
-use Rattle.std.specs.Prelude.{ℕ, zero, suc, ◌+◌, ◌==◌, Bool, true, false, not, ◌&&◌, List, [], ◌∷◌, ◌++◌, length, take, drop, map, flat_map, replicate, Option, Some, None}
+use Rattle.std.specs.Prelude.{ℕ, zero, suc, ◌+◌, ◌==◌, Bool, true, false, not, ◌&&◌, List, [], ◌∷◌, ◌++◌, length, take, drop, map, flat_map, replicate, slice_get, Option, Some, None}
 use Rattle.std.specs.List.{list_all}
-use Rattle.std.specs.Option.{option_map}
+use Rattle.std.specs.Option.{unwrap_or, option_map}
 use Rattle.span_expr.specs.declared.expr.Expr.{Expr}
 use Rattle.span_expr.specs.Places.{reads_only}
 use Rattle.span_query.specs.declared.query.BoundQuery.{BoundQuery}
@@ -16,6 +16,7 @@ use Rattle.span_query.specs.declared.query.Item.TheVariants as item
 use Rattle.span_query.specs.declared.query.Join.{Join}
 use Rattle.span_query.specs.Rows.{Row, Rows}
 use Rattle.span_planner.specs.declared.leaf.LeafJoin.{LeafJoin}
+use Rattle.span_planner.specs.declared.leaf.Leaf.{Leaf}
 use Rattle.span_planner.specs.Masks.{masked}
 
 -- ---- masks
@@ -78,6 +79,15 @@ leaf_on_reads test j = reads_only test j.on
 -- each column that the leaf's ONs and its condition read passes the test
 abbrev pub leaf_reads : (ℕ → Bool) → List LeafJoin → Option Expr → Bool
 leaf_reads test joins filter = list_all (leaf_on_reads test) joins && condition_reads test filter
+
+-- the leaf's ONs and its condition read only columns that its mask has
+abbrev pub reads_own : Leaf → Bool
+reads_own leaf = leaf_reads (has_place leaf.reads) leaf.joins leaf.filter
+
+-- the masks of leaves, by the numbers that the query above them has for them
+abbrev pub masks_of : List Leaf → ℕ → List Bool
+masks_of leaves zero = []
+masks_of leaves (suc n) = unwrap_or (slice_get (map (λ (l : Leaf). l.reads) leaves) n) []
 
 -- the masks of the further tables of a leaf: the parts of a mask
 abbrev pub join_masks : List LeafJoin → List Bool → List (List Bool)

@@ -23,7 +23,8 @@ fn avoids(expr: &Expr, place: usize) -> bool
         Expr::Literal(_) => true,
         Expr::Column(column) => is_not(place, *column),
         Expr::Negative(a) => avoids(a.get(), place),
-        Expr::Chain(first, links) => avoids(first.get(), place) && links_avoid(links.as_slice(), place),
+        Expr::Chain(first, links) => avoids(first.get(), place)
+            && links_avoid(links.as_slice(), place),
         Expr::Compare(a, _, b) => avoids(a.get(), place) && avoids(b.get(), place),
         Expr::Between(a, from, to) => {
             avoids(a.get(), place) && avoids(from.get(), place) && avoids(to.get(), place)
@@ -142,7 +143,9 @@ fn aggregate_avoids(aggregate: &Aggregate, place: usize) -> bool
 fn aggregates_avoid(aggregates: &[Aggregate], place: usize) -> bool
     ensures { result ≡ list_all (spec.aggregate_reads (spec.is_not place)) aggregates.now }
 {
-    aggregates.iter().all(|aggregate| aggregate_avoids(aggregate, place))
+    aggregates
+        .iter()
+        .all(|aggregate| aggregate_avoids(aggregate, place))
 }
 
 /// Whether neither the keys and aggregates of a block nor, where it is not grouped, its select list reads the column at a place.
