@@ -24,11 +24,7 @@ use span_value::value::Row;
 use std::alloc::Global;
 
 /// The piece of a leaf that gives these rows, masked, or the fault. The only refusal is out of memory.
-fn piece_of(
-    alloc: Global,
-    leaf: &Leaf,
-    found: Result<Seq<Row>, Failure>,
-) -> Result<Piece, Refusal>
+fn piece_of(alloc: Global, leaf: &Leaf, found: Result<Seq<Row>, Failure>) -> Result<Piece, Refusal>
     ensures { MatchResult result (λ piece. (o : Rows) → Gives found o → piece.rows ≡ mask_rows leaf.now.reads o) (λ why. why ≡ Refusal.OutOfMemory) }
 {
     match found {
@@ -74,7 +70,11 @@ fn run_on_tables(
 {
     schema.meets_rules();
     let rows = decode(alloc, schema, entries)?;
-    Ok(piece_of(alloc, leaf, rows_of_leaf(alloc, schema, leaf, rows.as_slice()))?)
+    Ok(piece_of(
+        alloc,
+        leaf,
+        rows_of_leaf(alloc, schema, leaf, rows.as_slice()),
+    )?)
 }
 
 /// What a leaf gives on the entries of a part of its range. An arithmetic error is a piece without rows, and no refusal.
