@@ -1,5 +1,5 @@
 -- A leaf reads within its mask where it reads none of the columns that the mask leaves out.
-use Rattle.std.proofs.Common.{◌≡◌, ◌∙◌, ℕ, zero, suc, ◌+◌, ◌<◌, ◌==◌, Bool, true, false, not, ◌&&◌, List, [], ◌∷◌, length, get_or, Option, Some, None, refl, ap, sym, subst, arith}
+use Rattle.std.proofs.Common.{◌≡◌, ◌∙◌, ℕ, zero, suc, ◌+◌, ◌<◌, ◌==◌, Bool, true, false, not, ◌&&◌, List, [], ◌∷◌, length, slice_index_or, Option, Some, None, refl, ap, sym, subst, arith}
 use Rattle.std.specs.List.{list_all}
 use Rattle.std.proofs.lemmas.Bool.Decides.{nat_tests}
 use Rattle.span_expr.specs.declared.expr.Expr.{Expr}
@@ -74,7 +74,7 @@ one_read reads joins filter place out read = of_all (leaf_reads (has_place reads
   of_all true is = let e : true ≡ false = sym (leaf_wider (has_place reads) (is_not place) other joins filter is) ∙ read in cc
 
 -- the mask's value at a place
-pub has_at : (reads : List Bool) (place : ℕ) (b : Bool) → place < length reads → b ≡ get_or reads place b → has_place reads place ≡ b
-has_at [] place b below is = absurd (omega arith)
-has_at (r ∷ reads) zero b below is = sym is
-has_at (r ∷ reads) (suc place) b below is = has_at reads place b (omega arith) is
+pub has_index : (reads : List Bool) (place : ℕ) → place < length reads → has_place reads place ≡ slice_index_or reads place false
+has_index [] place below = absurd (omega arith)
+has_index (r ∷ reads) zero below = refl
+has_index (r ∷ reads) (suc place) below = has_index reads place (omega arith)

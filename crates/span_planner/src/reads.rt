@@ -7,6 +7,7 @@ ghost use Rattle.span_expr.specs.Places.{link_operand, reads_only, reads_link, r
 ghost use Rattle.span_planner.specs.Leaves.{widths, reads_of};
 ghost use Rattle.span_planner.specs.Reads as spec;
 
+use super::leaf::{Leaf, LeafJoin};
 use super::table::place_after;
 use span_expr::expr::{Arm, Expr, Link};
 use span_query::query::{Aggregate, Block, BoundQuery, Grouping, Join};
@@ -211,4 +212,30 @@ pub(crate) fn part_of(
     let rest = &reads[at.min(reads.len())..];
     let part = &rest[..width.min(rest.len())];
     Ok(Seq::from_vec(part.to_vec(alloc)?))
+}
+
+fn leaf_ons_avoid(joins: &[LeafJoin], place: usize) -> bool
+    ensures { result ≡ list_all (spec.leaf_on_reads (spec.is_not place)) joins.now }
+{
+    joins.iter().all(|join| avoids(&join.on, place))
+}
+
+/// Whether neither the ONs of a leaf nor its condition read the column at a place.
+fn leaf_avoids(leaf: &Leaf, place: usize) -> bool
+    ensures { result ≡ spec.leaf_reads (spec.is_not place) leaf.now.joins leaf.now.filter }
+{
+    leaf_ons_avoid(leaf.joins.as_slice(), place) && condition_avoids(&leaf.filter, place)
+}
+
+/// Whether the ONs of a leaf and its condition read only columns that its mask has, as those of each leaf of a plan do. It takes no memory.
+pub fn reads_own(leaf: &Leaf) -> bool
+    ensures { result ≡ spec.reads_own leaf.now }
+{
+    let reads = leaf.reads.as_slice();
+    for place in 0..reads.len() {
+        if !reads[place] && !leaf_avoids(leaf, place) {
+            return false;
+        }
+    }
+    true
 }
