@@ -18,10 +18,11 @@ use Rattle.span_mutate.proofs.Filters.{filter_within}
 use Rattle.span_mutate.proofs.TypedRows.{typed_stay}
 use Rattle.span_params.specs.declared.params.Parameter.{Parameter}
 use Rattle.span_query.specs.declared.query.Statement.{Statement}
-use Rattle.span_query.specs.Rows.{Rows, append_results, concat_map}
+use Rattle.span_query.specs.Rows.{Row, Rows, append_results, concat_map}
 use Rattle.span_query.specs.Meaning.{meaning_over, given}
 use Rattle.span_planner.specs.declared.leaf.Leaf.{Leaf}
 use Rattle.span_planner.specs.Plannable.{IsPlannable}
+use Rattle.span_planner.specs.Reads.{mask_rows}
 use Rattle.span_planner.specs.Results.{leaf_rows}
 use Rattle.span_planner.proofs.Planned.{IsPlanned}
 use Rattle.span_planner.proofs.Tabled.{leaves_tabled}
@@ -238,7 +239,7 @@ pieced_scanned schema rules m {slot} cs ps reached kept pieced query p slot_stat
     let has : HasRowsIn schema m.log p.query.s l.leaf part piece = record {
       db = made.0;
       made = made.1;
-      whole = reading seen.rows seen.typed seen.entries_are ∙ ap (leaf_rows l.leaf) (tables_read schema made.0 seen.rows part l.leaf.tables rows);
+      whole = reading seen.rows seen.typed seen.entries_are ∙ ap (λ (ts : List (List Row)). mask_rows l.leaf.reads (leaf_rows l.leaf ts)) (tables_read schema made.0 seen.rows part l.leaf.tables rows);
     } in
     let old = all_found (IsPieced schema m.log) (λ x. is_query query x.query) ps p found pieced in
     all_changed_found (IsPieced schema m.log) (λ x. is_query query x.query) (covered_by leaf part piece) ps p found
@@ -274,7 +275,7 @@ module _ (schema : List Table) (rules : MeetsRules schema) (m : Machine) (reache
       record {
         db = made.0;
         made = made.1;
-        whole = has.whole ∙ ap (leaf_rows leaf) (tables_sealed s c seal ends has.db made.0 has.made made.1 leaf.tables);
+        whole = has.whole ∙ ap (λ (ts : List (List Row)). mask_rows leaf.reads (leaf_rows leaf ts)) (tables_sealed s c seal ends has.db made.0 has.made made.1 leaf.tables);
       }
 
   pieced_still : (ps : List Pieced) → AllByRecursion (IsCoveredSealed schema m) (queries_of ps) → AllByRecursion (HasLeaves schema) (queries_of ps) → ArePieced schema m ps → ArePieced schema (answer schema m u step).1 ps
