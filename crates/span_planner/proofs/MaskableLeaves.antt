@@ -47,12 +47,15 @@ leaves_maskable schema tables keyed q sized = of_each (planned schema tables q).
 
 -- ---- masked tables
 
+front_len : (n m : ℕ) (ms : List Bool) → length ms ≡ n + m → length (take n ms) ≡ n
+front_len n m ms len = part_len ms 0 n (omega arith)
+
 module _ (schema : List Table) (w : ℕ → List Row) (wide_tables : (t : ℕ) → AreOfWidth (width_of schema t) (w t)) where
   tables_maskable : (joins : List LeafJoin) (ts : List ℕ) (ms : List Bool) → AreStated schema joins ts → length ms ≡ leaf_widths joins → AreMaskable joins (join_masks joins ms) (map w ts)
   tables_maskable [] ts ms stated len = tt {0}
   tables_maskable (j ∷ joins) [] ms stated len = absurd stated
   tables_maskable (j ∷ joins) (t ∷ ts) ms stated len =
-      let here : length (take j.width ms) ≡ j.width = part_len ms 0 j.width (omega arith) in (
+      let here : length (take j.width ms) ≡ j.width = front_len j.width (leaf_widths joins) ms len in (
         sym here,
         subst (λ (n : ℕ). AreOfWidth n (w t)) (sym stated.0 ∙ sym here) (wide_tables t),
         tables_maskable joins ts (drop j.width ms) stated.1 (rest_len j.width ms (leaf_widths joins) len),
@@ -66,7 +69,7 @@ module _ (schema : List Table) (w : ℕ → List Row) (wide_tables : (t : ℕ) �
       let later : length (drop n leaf.reads) ≡ leaf_widths leaf.joins = rest_len n leaf.reads (leaf_widths leaf.joins) is.reads_len in
       let split : leaf.reads ≡ take n leaf.reads ++ joined_masks leaf.joins (join_masks leaf.joins (drop n leaf.reads)) =
       sym (take-append-drop n leaf.reads) ∙ ap (λ (l : List Bool). take n leaf.reads ++ l) (masks_joined leaf.joins (drop n leaf.reads) later) in
-      let front : length (take n leaf.reads) ≡ n = part_len leaf.reads 0 n (omega (arith, is.reads_len)) in
+      let front : length (take n leaf.reads) ≡ n = front_len n (leaf_widths leaf.joins) leaf.reads is.reads_len in
       leaf_masked leaf (take n leaf.reads) (join_masks leaf.joins (drop n leaf.reads)) (w is.first) (map w is.rest) split is.own
       (subst (λ (m : ℕ). AreOfWidth m (w is.first)) (sym front) (wide_tables is.first)) (tables_maskable leaf.joins is.rest (drop n leaf.reads) is.stated later)
       ∙ ap (λ (ts : List ℕ). mask_rows leaf.reads (leaf_rows leaf (map w ts))) (sym is.tables)
