@@ -6,6 +6,9 @@
     tests/edits.py [--jobs N] --gate        those that gate.txt names, over the libraries that `rt ci` has just built: it has proved the
                                             crates as they are, and nothing but the edited functions is proved again here
     tests/edits.py --built [CRATE ..]       every crate's edits, or these crates', over the libraries that `rt ci` has just built, as with --gate
+    --together N                            no more than N edits are tried by one check (12 where no number is given)
+    --seconds N                             a check ends after N seconds of processor time, and then gives no verdict
+    --minutes N                             no check begins after N minutes
 
 Without --gate and --built it works on a copy of the repository and builds the libraries that the crates need. Each edit is tried over what `rt check`
 kept of its crate: so prove the crates first (`rt all check`), or every check begins with the proof of all that a function calls. Where all
@@ -18,7 +21,8 @@ contracts as they stand. An edit is refused where its function has no proof, for
 that shows nothing of an edit it is tried by itself, on the whole crate at last. N checks run at a time, as many as there are processors where
 no number is given.
 
-An edit that is refused only because a proof file names what the edit took away says little of the contract: such edits are counted apart.
+An edit that is refused only because a proof file names what the edit took away says little of the contract: such edits are counted apart. So
+are edits without a verdict, whose check was ended by --seconds or not begun for --minutes: they are not refused, and not found to be proved.
 """
 import argparse
 import concurrent.futures
@@ -30,9 +34,11 @@ import importlib.util
 import os
 import re
 import shutil
+import signal
 import subprocess
 import sys
 import tempfile
+import time
 
 TOP = os.path.dirname(os.path.dirname(os.path.abspath(__file__)))
 EDITS = os.path.join(TOP, "tests", "edits")
@@ -48,8 +54,10 @@ CYCLE = re.compile(r"^ *#\[cycle\((\w+)\)\]", re.M)
 HOLE = "use {module}.{{statement}}\n\npub {name}_spec : {{M : Type 1}} → statement M\n{name}_spec = ?\n"
 # A proof that no longer fits since it names what is gone.
 NAMES_GONE = re.compile(r".*(has no field|is not in scope|has no `|was not admitted)")
-# How many edits are tried together at most.
+# How many edits are tried together at most, where no number is given.
 TOGETHER = 12
+# What is found of an edit: it is refused, or not, or its check gave no verdict.
+REFUSED, NOT_REFUSED, NO_VERDICT = "refused", "not refused", "without a verdict"
 
 
 def arguments():
@@ -57,8 +65,12 @@ def arguments():
     reader.add_argument("--jobs", type=int, default=os.cpu_count(), help="how many checks run at a time")
     reader.add_argument("--gate", action="store_true", help="the edits of the gate, after rt ci")
     reader.add_argument("--built", action="store_true", help="over the libraries that rt ci has just built")
+    reader.add_argument("--together", type=int, default=TOGETHER, metavar="N", help="how many edits are tried by one check at most")
+    reader.add_argument("--seconds", type=int, metavar="N", help="the processor time after which a check ends without a verdict")
+    reader.add_argument("--minutes", type=int, metavar="N", help="the time after which no check begins")
     reader.add_argument("crates", nargs="*", metavar="CRATE")
     found = reader.parse_args()
+    found.ends = time.monotonic() + 60 * found.minutes if found.minutes else None
     if found.gate and (found.crates or found.built):
         reader.error("--gate takes no crates, and no --built")
     for crate in found.crates:
@@ -97,6 +109,12 @@ def toolchain():
     module = importlib.util.module_from_spec(importlib.util.spec_from_loader("rt_program", loader))
     loader.exec_module(module)
     return module
+
+
+def end_checks_after(rt, seconds):
+    """Ends each check of an edit after so much processor time."""
+    guarded = rt.rtlib.guarded
+    rt.rtlib.guarded = lambda: [*guarded(), "prlimit", f"--cpu={seconds}"]
 
 
 def copy_of_repository(folder, tried):
@@ -219,8 +237,8 @@ def files_below(top, part):
 class Batch:
     """Edits of a crate that change the bodies of different functions, and the files with all of them made."""
 
-    def __init__(self, crate):
-        self.crate, self.texts, self.edits, self.changed = crate, {}, [], []
+    def __init__(self, crate, most=1):
+        self.crate, self.most, self.texts, self.edits, self.changed = crate, most, {}, [], []
 
     def text(self, path):
         return self.texts.get(path) or read(os.path.join(self.crate.folder, path))
@@ -234,7 +252,7 @@ class Batch:
         text = self.text(path)
         function = self.function_of(text, old) if text.count(old) == 1 else None
         is_new = function and all((path, function.name) != (other, it.name) for other, it in self.changed)
-        if not is_new or len(self.edits) == TOGETHER:
+        if not is_new or len(self.edits) == self.most:
             return False
         self.texts[path] = text.replace(old, new)
         self.edits.append(edit)
@@ -254,11 +272,13 @@ class Batch:
         return function if function.has_in_body(text, at) else None
 
     def goals(self, rt, kept):
-        """Of each edit the goal that its function has open, where it is refused for one; else None."""
+        """Of each edit the goal that its function has open, where it is refused for one; else None. No list where the check was ended."""
         flags = [*FLAGS, *(word for _, it in self.changed for word in ("--only", it.name))]
         with contextlib.ExitStack() as stack:
             crate = self.crate if kept else stack.enter_context(self.crate_with_holes(rt))
             ran = rt.checked(crate, self.texts, flags if kept else [*flags, "--allow-holes"], kept)
+        if ran.returncode == -signal.SIGXCPU:
+            return None
         lines = ran.stdout.split("\n")
         if ran.returncode != 1 or any(rt.unread(line, self.texts) for line in lines):
             return [None for _ in self.edits]
@@ -281,13 +301,13 @@ class Batch:
         return next(head.start(1) for head in FUNCTION.finditer(self.texts[path]) if Function(self.texts[path], head.start(1)).name == function.name)
 
 
-def batches_of(crate, edits):
-    """The edits in batches, and those that change anything but a function's body."""
+def batches_of(crate, edits, most):
+    """The edits in batches of at most so many, and those that change anything but a function's body."""
     batches, others = [], []
     for edit in edits:
         if any(batch.add(edit) for batch in batches):
             continue
-        batch = Batch(crate)
+        batch = Batch(crate, most)
         if batch.add(edit):
             batches.append(batch)
         else:
@@ -296,22 +316,33 @@ def batches_of(crate, edits):
 
 
 def try_alone(rt, crate, edit, kept):
-    """Whether an edit is refused, and what is said of it: by a check of its function, and then of the whole crate."""
+    """What is found of an edit, and what is said of it: by a check of its function, and then of the whole crate."""
     batch = Batch(crate)
-    goal = batch.goals(rt, kept)[0] if batch.add(edit) else None
-    if goal:
-        return refused(crate, edit, goal)
+    goals = batch.goals(rt, kept) if batch.add(edit) else [None]
+    if goals is None:
+        return no_verdict(crate, edit, "its check took too long")
+    if goals[0]:
+        return refused(crate, edit, goals[0])
     kind, said = rt.must_fail(crate, edit, FLAGS, kept)
-    return kind in (rt.REFUSED, rt.AT_LIMIT), said
+    if f"ended with status {-signal.SIGXCPU}" in said:
+        return no_verdict(crate, edit, "the check of its crate took too long")
+    return REFUSED if kind in (rt.REFUSED, rt.AT_LIMIT) else NOT_REFUSED, said
 
 
 def refused(crate, edit, goal):
-    return True, f"{crate.name}/{os.path.basename(edit)}: refused, as it must be: {goal[:160]}"
+    return REFUSED, f"{crate.name}/{os.path.basename(edit)}: refused, as it must be: {goal[:160]}"
+
+
+def no_verdict(crate, edit, why):
+    return NO_VERDICT, f"{crate.name}/{os.path.basename(edit)}: without a verdict: {why}"
 
 
 def try_batch(rt, batch, kept):
-    """Of each edit of a batch whether it is refused, and what is said of it."""
+    """Of each edit of a batch what is found, and what is said of it."""
     goals = batch.goals(rt, kept)
+    if goals is None and len(batch.edits) == 1:
+        return [no_verdict(batch.crate, batch.edits[0], "its check took too long")]
+    goals = goals or [None for _ in batch.edits]
     pairs = zip(batch.edits, goals)
     return [refused(batch.crate, edit, goal) if goal else try_alone(rt, batch.crate, edit, kept) for edit, goal in pairs]
 
@@ -343,21 +374,35 @@ def write_line(crate, tried, commit):
         file.write(text)
 
 
-def try_all(rt, crates, edits, jobs, is_kept, commit):
-    """Tries the edits of these crates, and returns what was said of each crate's. A crate whose edits are all refused gets its line, where a
+def calls_of(rt, crate, edits, words):
+    """What tries the edits of a crate: calls, each with its edits."""
+    batches, others = batches_of(crate, edits, words.together)
+    calls = [(it.edits, lambda kept, it=it: try_batch(rt, it, kept)) for it in batches]
+    calls += [([it], lambda kept, it=it: [try_alone(rt, crate, it, kept)]) for it in others]
+    return [lambda kept, edits=edits, call=call: call(kept) if is_time(words) else too_late(crate, edits) for edits, call in calls]
+
+
+def is_time(words):
+    return words.ends is None or time.monotonic() < words.ends
+
+
+def too_late(crate, edits):
+    return [no_verdict(crate, edit, "not tried, for --minutes") for edit in edits]
+
+
+def try_all(rt, crates, edits, words, is_kept, commit):
+    """Tries the edits of these crates, and returns what was found of each crate's. A crate whose edits are all refused gets its line, where a
     commit is given. is_kept: over what checks of the crates kept, and not over their libraries alone."""
     tried = {it.name: [] for it in crates}
-    with concurrent.futures.ThreadPoolExecutor(jobs) as pool:
+    with concurrent.futures.ThreadPoolExecutor(words.jobs) as pool:
         running = {}
         for crate in crates:
-            batches, others = batches_of(crate, edits[crate.name])
-            calls = [lambda kept, it=it: try_batch(rt, it, kept) for it in batches]
-            calls += [lambda kept, it=it, crate=crate: [try_alone(rt, crate, it, kept)] for it in others]
+            calls = calls_of(rt, crate, edits[crate.name], words)
             running.update({pool.submit(try_over, rt, crate, call, is_kept): crate.name for call in calls})
         for future in concurrent.futures.as_completed(running):
             name = running[future]
             tried[name] += future.result()
-            if commit and len(tried[name]) == len(edits[name]) and all(well for well, _ in tried[name]):
+            if commit and len(tried[name]) == len(edits[name]) and all(found == REFUSED for found, _ in tried[name]):
                 write_line(name, tried[name], commit)
     return tried
 
@@ -376,6 +421,8 @@ def main():
     edits = edits_of_gate() if words.gate else {it: edits_of(it) for it in words.crates or crates_with_edits()}
     if not any(edits.values()):
         sys.exit("edits: there are none to try")
+    if words.seconds:
+        end_checks_after(rt, words.seconds)
     is_kept = not words.gate and not words.built
     with tempfile.TemporaryDirectory() as folder:
         if is_kept:
@@ -388,11 +435,12 @@ def main():
             lacking = unproved(rt, crates, words.jobs)
             if lacking:
                 sys.exit(f"edits: not proved: {', '.join(lacking)}")
-        tried = try_all(rt, crates, edits, words.jobs, is_kept, None if words.gate else commit_here())
+        tried = try_all(rt, crates, edits, words, is_kept, None if words.gate else commit_here())
         os.chdir(TOP)
-    found = [one for it in tried.values() for one in it]
-    print(f"edits: {sum(well for well, _ in found)} of {sum(map(len, edits.values()))} refused")
-    return int(not all(well for well, _ in found) or len(found) < sum(map(len, edits.values())))
+    found = [one for it in tried.values() for one, _ in it]
+    without = f", {found.count(NO_VERDICT)} {NO_VERDICT}" if NO_VERDICT in found else ""
+    print(f"edits: {found.count(REFUSED)} of {sum(map(len, edits.values()))} refused{without}")
+    return int(found.count(REFUSED) < sum(map(len, edits.values())))
 
 
 if __name__ == "__main__":

@@ -7,7 +7,7 @@
 Of each set the rows are made at random too, and the keys are cut into slots at some of the root rows. The query texts are made for the planner:
 tables of one family and of two, joined by the whole root key, by a part of it or by anything, LEFT JOINs, derived tables, unions, conditions that
 bound root keys beside others, and expressions that may fault. The same seed makes the same sets. Each query that is answered otherwise is printed,
-and the status is then 1. It is no part of the gate.
+and the status is then 1.
 """
 import argparse
 import os

@@ -13,7 +13,6 @@ pub mod Taking
 pub mod Together
 pub mod Derived
 pub mod Blocks
-pub mod Sizes
 pub mod Places
 pub mod Absorbed
 pub mod Shown

@@ -1,5 +1,5 @@
 -- One pass over the rows: the groups of those kept so far, and the rows that are left.
-use Rattle.std.proofs.Common.{◌≡◌, ℕ, zero, ◌+◌, ◌<◌, ◌≤◌, ◌^◌, true, false, List, [], ◌∷◌, ◌++◌, length, get_or, drop, Any, Option, Some, None, Result, Err, refl, sym, ap, ◌∙◌, append_assoc, arith}
+use Rattle.std.proofs.Common.{◌≡◌, ℕ, ◌+◌, ◌<◌, ◌≤◌, ◌^◌, true, false, List, [], ◌∷◌, ◌++◌, length, get_or, drop, Any, Option, Some, None, Result, Err, refl, ap, ◌∙◌, append_assoc, arith}
 use Rattle.std.proofs.lemmas.List.{append-nil, drop_all, length-append}
 use Rattle.span_expr.specs.declared.expr.Expr.{Expr}
 use Rattle.span_expr.specs.declared.cell.Failure.{Failure}
@@ -12,8 +12,7 @@ use Rattle.span_algebra.specs.Answers.{Gives}
 use Rattle.span_algebra.specs.Selecting.{holds_where}
 use Rattle.span_algebra.specs.States.{operand_at}
 use Rattle.span_algebra.specs.Grouped.{AreGroupsOf, CanCountRow}
-use Rattle.span_algebra.proofs.Alike.{drop_at}
-use Rattle.span_algebra.proofs.Gathering.{nil-append_results, gathered_at, one_more, one_less, one_fails, then_fails}
+use Rattle.span_algebra.proofs.Gathering.{drop_at, gathered_at, one_more, one_less, one_fails, then_fails}
 use Rattle.span_algebra.proofs.Shown.{groups-fault}
 
 -- before row i, where these are the groups so far
@@ -22,9 +21,6 @@ pub record HavePassed (filter : Option Expr) (g : Grouping) (rows : List Row) (i
   pub all : filter_where filter rows ≡ append_results (Some kept) (filter_where filter (drop i rows))
   pub are : AreGroupsOf g kept so_far
   pub few : length kept ≤ i
-
-pub pass_starts : (filter : Option Expr) (g : Grouping) (rows : List Row) (so_far : List Group) → AreGroupsOf g [] so_far → HavePassed filter g rows zero so_far
-pass_starts filter g rows so_far are = record { kept = []; all = sym (nil-append_results (filter_where filter rows)); are = are; few = omega arith }
 
 -- what one row gives
 abbrev judged : Option Expr → Row → Rows

@@ -6,6 +6,7 @@ use Rattle.std.proofs.lemmas.List.Elements.{filter-append}
 use Rattle.std.proofs.lemmas.List.Folds.{list_any-append}
 use Rattle.std.proofs.lemmas.List.Recursion.{is_position_or_len}
 use Rattle.std.specs.List.{position_or_len}
+use Rattle.std.proofs.lemmas.Bool.{or_parts, or_right}
 use Rattle.indexmap.specs.IndexSet.{insert_key}
 use Rattle.span_query.specs.Rows.{Row}
 use Rattle.span_query.specs.Groups.{are_equal, distinct, columns_at, group_keys, rows_with}
@@ -43,14 +44,10 @@ abbrev pub AreApart : List Row → Type 0
 AreApart [] = Unit {0}
 AreApart (x ∷ ks) = (contains_row ks x ≡ false) × AreApart ks
 
-neither : (a b : Bool) → (a || b) ≡ false → (a ≡ false) × (b ≡ false)
-neither true b e = absurd cc
-neither false b e = (refl, e)
-
 none_alike : (ks : List Row) (x : Row) → contains_row ks x ≡ false → (j : ℕ) (d : Row) → j < length ks → are_equal (get_or ks j d) x ≡ false
 none_alike [] x e j d h = absurd (omega arith)
-none_alike (y ∷ ks) x e zero d h = (neither (are_equal y x) (contains_row ks x) e).0
-none_alike (y ∷ ks) x e (suc j) d h = none_alike ks x (neither (are_equal y x) (contains_row ks x) e).1 j d (omega arith)
+none_alike (y ∷ ks) x e zero d h = (or_parts (are_equal y x) (contains_row ks x) e).0
+none_alike (y ∷ ks) x e (suc j) d h = none_alike ks x (or_parts (are_equal y x) (contains_row ks x) e).1 j d (omega arith)
 
 pub apart_at : (ks : List Row) → AreApart ks → (i j : ℕ) (d e : Row) → i < length ks → j < length ks → j ≢ i → are_equal (get_or ks j d) (get_or ks i e) ≡ false
 apart_at [] a i j d e h l other = absurd (omega arith)
@@ -62,7 +59,7 @@ apart_at (x ∷ ks) a (suc i) (suc j) d e h l other = apart_at ks a.1 i j d e (o
 contains_row-filter : (p : Row → Bool) (ks : List Row) (x : Row) → contains_row ks x ≡ false → contains_row (filter p ks) x ≡ false
 contains_row-filter p [] x e = refl
 contains_row-filter p (y ∷ ks) x e =
-    let both : (are_equal y x ≡ false) × (contains_row ks x ≡ false) = neither (are_equal y x) (contains_row ks x) e in
+    let both : (are_equal y x ≡ false) × (contains_row ks x ≡ false) = or_parts (are_equal y x) (contains_row ks x) e in
     elim (p y) as (λ b. contains_row (cond b (y ∷ filter p ks) (filter p ks)) x ≡ false) [
       | true ↦ ap (λ b. b || contains_row (filter p ks) x) both.0 ∙ contains_row-filter p ks x both.1
       | false ↦ contains_row-filter p ks x both.1
@@ -107,7 +104,7 @@ contains_row-distinct (x ∷ ks) k = elim (are_equal x k) as (λ b. are_equal x 
 none_with : (places : List ℕ) (k : Row) (rows : List Row) → contains_row (map (columns_at places) rows) k ≡ false → rows_with places k rows ≡ []
 none_with places k [] e = refl
 none_with places k (row ∷ rows) e =
-    let both : (are_equal (columns_at places row) k ≡ false) × (contains_row (map (columns_at places) rows) k ≡ false) = neither (are_equal (columns_at places row) k) (contains_row (map (columns_at places) rows) k) e in
+    let both : (are_equal (columns_at places row) k ≡ false) × (contains_row (map (columns_at places) rows) k ≡ false) = or_parts (are_equal (columns_at places row) k) (contains_row (map (columns_at places) rows) k) e in
     ap (λ b. cond b (row ∷ rows_with places k rows) (rows_with places k rows)) (are_equal-reversed k (columns_at places row) ∙ both.0) ∙ none_with places k rows both.1
 
 -- no row has a key that is not among the keys
@@ -120,10 +117,6 @@ rows_with-push places k rows row b e =
     filter-append (λ (r : Row). are_equal k (columns_at places r)) rows (row ∷ []) ∙ ap (λ c. rows_with places k rows ++ cond c (row ∷ []) []) e
 
 -- the key of a row is among the keys
-either_one : (a b : Bool) → b ≡ true → (a || b) ≡ true
-either_one true b e = refl
-either_one false b e = e
-
 pub has_key : (places : List ℕ) (before : List Row) (row : Row) (later : List Row) → contains_row (group_keys places (before ++ row ∷ later)) (columns_at places row) ≡ true
 has_key [] before row later = refl
 has_key (p ∷ ps) before row later =
@@ -132,7 +125,7 @@ has_key (p ∷ ps) before row later =
     contains_row-distinct (keys (before ++ row ∷ later)) key
     ∙ ap (λ (ks : List Row). contains_row ks key) (map-append (columns_at (p ∷ ps)) before (row ∷ later))
     ∙ list_any-append (λ (x : Row). are_equal x key) (keys before) (key ∷ keys later)
-    ∙ either_one (contains_row (keys before) key) (are_equal key key || contains_row (keys later) key) (ap (λ b. b || contains_row (keys later) key) (are_equal-itself key))
+    ∙ or_right (contains_row (keys before) key) (are_equal key key || contains_row (keys later) key) (ap (λ b. b || contains_row (keys later) key) (are_equal-itself key))
 
 pub place_most : (ks : List Row) (k : Row) → place_of ks k ≤ length ks
 place_most [] k = omega arith

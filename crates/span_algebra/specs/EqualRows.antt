@@ -1,6 +1,7 @@
 -- Equality of rows, as an index of rows needs it: rows that are equal are the same row, and so have one hash.
-use Rattle.std.proofs.Common.{◌≡◌, Bool, true, false, ◌&&◌, true≢false, [], ◌∷◌, refl, sym, ap, ◌∙◌}
+use Rattle.std.proofs.Common.{◌≡◌, true, false, ◌&&◌, true≢false, [], ◌∷◌, refl, sym, ap, ◌∙◌}
 use Rattle.std.specs.Cmp.{IsEquivalence, Equal-is, both_ways}
+use Rattle.std.proofs.lemmas.Bool.{and_parts}
 use Rattle.span_value.specs.declared.value.Value.{Value}
 use Rattle.span_value.specs.Orders.{value_order}
 use Rattle.span_value.proofs.Total.{equal_is}
@@ -14,15 +15,11 @@ is_equal-same v w e = (equal_is v w (value_order v w) refl).0 ((Equal-is (value_
 pub is_equal-itself : (v : Value) → is_equal v v ≡ true
 is_equal-itself v = (Equal-is (value_order v v)).1 ((equal_is v v (value_order v v) refl).1 refl)
 
-pub both_true : (a b : Bool) → (a && b) ≡ true → (a ≡ true) × (b ≡ true)
-both_true true b e = (refl, e)
-both_true false b e = absurd (true≢false (sym e))
-
 pub are_equal-same : (x y : Row) → are_equal x y ≡ true → x ≡ y
 are_equal-same [] [] e = refl
 are_equal-same [] (w ∷ ws) e = absurd (true≢false (sym e))
 are_equal-same (v ∷ vs) [] e = absurd (true≢false (sym e))
-are_equal-same (v ∷ vs) (w ∷ ws) e = λ i. is_equal-same v w (both_true (is_equal v w) (are_equal vs ws) e).0 i ∷ are_equal-same vs ws (both_true (is_equal v w) (are_equal vs ws) e).1 i
+are_equal-same (v ∷ vs) (w ∷ ws) e = λ i. is_equal-same v w (and_parts (is_equal v w) (are_equal vs ws) e).0 i ∷ are_equal-same vs ws (and_parts (is_equal v w) (are_equal vs ws) e).1 i
 
 pub are_equal-itself : (x : Row) → are_equal x x ≡ true
 are_equal-itself [] = refl

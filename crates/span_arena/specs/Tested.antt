@@ -1,14 +1,8 @@
 -- What the tests keep of an arena from call to call.
-use Rattle.std.specs.Prelude.{ℕ, ◌≤◌}
-use Rattle.span_arena.specs.Content.{Content, versions, IsChain, IsPrepared}
-use Rattle.span_arena.specs.Order.{IsLater, timestamps}
+use Rattle.std.specs.Prelude.{ℕ}
+use Rattle.span_arena.specs.Content.{Content, IsChain, IsPrepared}
 
 -- a chain, and a node in which something is prepared
 pub record IsReady (c : Content) (chain node : ℕ) : Type 0 where
   pub is_chain : IsChain c chain
   pub is_prepared : IsPrepared c node
-
--- a chain whose versions are before the timestamp
-pub record IsBefore (c : Content) (chain s : ℕ) : Type 0 where
-  pub is_chain : IsChain c chain
-  pub later : (t : ℕ) → s ≤ t → IsLater t (timestamps (versions c chain))

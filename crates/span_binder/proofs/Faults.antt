@@ -1,13 +1,12 @@
 -- A tree is refused for its names, its types and its groups: 10 to 20.
-use Rattle.std.proofs.Common.{◌≡◌, refl, sym, subst, true, false, Bool, ◌&&◌, if◌then◌else◌, List, [], ◌∷◌, ◌++◌, length, map, drop, ℕ, ◌+◌, Option, Some, None, Result, Ok, Err, arith}
-use Rattle.std.specs.Prelude.{chars, position, find}
+use Rattle.std.proofs.Common.{sym, subst, true, false, Bool, ◌&&◌, if◌then◌else◌, List, [], ◌∷◌, ◌++◌, map, drop, ℕ, ◌+◌, Option, Some, None, Result, Ok, Err, arith}
+use Rattle.std.specs.Prelude.{chars, position}
 use Rattle.std.specs.List.{fold, list_all, AllByRecursion}
 use Rattle.span_value.specs.declared.value.Kind.{Kind}
 use Rattle.span_value.specs.declared.value.Kind.TheVariants as kind
 use Rattle.span_value.specs.declared.refusal.Refusal.{Refusal}
 use Rattle.span_value.specs.declared.refusal.Refusal.TheVariants as refusal
 use Rattle.span_value.specs.Results.{and_then}
-use Rattle.span_schema.specs.declared.table.Table.{Table}
 use Rattle.span_syntax.specs.declared.tree.Column.{Column}
 use Rattle.span_syntax.specs.declared.tree.Spelling.{Spelling}
 use Rattle.span_syntax.specs.declared.tree.Operator.{Operator}
@@ -43,8 +42,8 @@ use Rattle.span_typing.specs.Kinds.{takes, common_kind, common_kind_with, common
 use Rattle.span_typing.specs.Functions.{function_named}
 use Rattle.span_typing.specs.Scopes.{only_place, one_place, if_unique, this_item, item_of, item_named, column_place, fits}
 use Rattle.span_typing.specs.Steps.{TypingStep, pure, from_result, ◌>>=◌, next_of, append_step, all_of}
-use Rattle.span_typing.specs.Operators.{of_kind, integer, unary_minus, logical_not, null_test, comparison_of, comparison_test, between, in_list, like_test_of, like_test, are_conditions, link_kind, otherwise_kind, value_kind, case_kind, case_of, match_of, calculation_of, length_of, starts_with, coalesce_of, one_of, two_of, three_of, some_of, if_of, apply_function, operand_for, operand_of, aggregate_kind, kinds_of, has_condition}
-use Rattle.span_typing.specs.Typing.{Finds, Operand, string, bytes, truth, null, key_typed, kind_at, column_at, column, parameter_typed, parameter, each, condition_of, condition, conditions, all_true, some_true, append_link, chain_of, next_link, links, arm_typed, arm, arms, check_kind, compared_arm, compared_arms, optional, of_one, of_two, of_three, membership, chain, junction, searched_case, simple_case, case, new_aggregate, aggregate, unknown_call, aggregate_call, function_call, call, call_star, arm_at, link_at, at_operands, typing}
+use Rattle.span_typing.specs.Operators.{unary_minus, logical_not, null_test, comparison_test, between, in_list, like_test_of, like_test, are_conditions, link_kind, otherwise_kind, value_kind, case_kind, case_of, match_of, calculation_of, length_of, starts_with, coalesce_of, one_of, two_of, three_of, some_of, if_of, apply_function, operand_for, operand_of, aggregate_kind, kinds_of, has_condition}
+use Rattle.span_typing.specs.Typing.{Operand, key_typed, kind_at, column_at, column, parameter_typed, parameter, each, condition_of, condition, conditions, all_true, some_true, append_link, chain_of, next_link, links, arm_typed, arm, arms, check_kind, compared_arm, compared_arms, optional, of_one, of_two, of_three, membership, chain, junction, searched_case, simple_case, new_aggregate, aggregate, unknown_call, aggregate_call, function_call, call, call_star, arm_at, link_at, at_operands, typing}
 use Rattle.span_binder.specs.Faults.{IsTreeFault}
 
 -- ---- what has a value, or such a fault

@@ -1,6 +1,7 @@
 pub mod Giving
 pub mod Trees
 pub mod Adding
+pub mod ByParts
 pub mod Understanding
 pub mod Uniqueness
 pub mod Faults

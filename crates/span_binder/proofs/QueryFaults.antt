@@ -1,5 +1,5 @@
 -- A query is refused for its names, its types and its groups: 10 to 20.
-use Rattle.std.proofs.Common.{◌≡◌, ◌≢◌, ◌⊎◌, inl, inr, refl, sym, subst, Bool, ◌||◌, ◌==◌, List, [], ◌∷◌, ◌++◌, length, map, ℕ, nat_lt, Option, Some, None, Result, Ok, Err, IfErr, arith}
+use Rattle.std.proofs.Common.{◌≡◌, ◌≢◌, ◌⊎◌, inl, inr, refl, subst, Bool, ◌||◌, ◌==◌, List, [], ◌∷◌, ◌++◌, length, ℕ, nat_lt, Option, Some, None, Result, Ok, Err, IfErr, arith}
 use Rattle.std.specs.Prelude.{nat_le}
 use Rattle.std.specs.List.{AllByRecursion}
 use Rattle.span_value.specs.declared.value.Kind.TheVariants as kind
@@ -20,12 +20,7 @@ use Rattle.span_parser.specs.declared.tree.SortColumn.{SortColumn}
 use Rattle.span_parser.specs.declared.tree.SortColumn.TheVariants as sort
 use Rattle.span_parser.specs.declared.tree.Limit.{Limit}
 use Rattle.span_parser.specs.declared.tree.Query.{Query}
-use Rattle.span_parser.specs.declared.tree.Block.{Block}
-use Rattle.span_parser.specs.declared.tree.Item.{Item}
-use Rattle.span_parser.specs.declared.tree.Join.{Join}
-use Rattle.span_parser.specs.declared.tree.Item.TheOpen.{Query-F, Block-F, Item-F, Join-F}
-use Rattle.span_parser.specs.declared.tree.Item.TheViews.{roll-Item, roll-Block, roll-Join, roll-Query}
-use Rattle.span_parser.specs.declared.tree.Item.TheFolds.{ind-Query, fold-Item, fold-Block, fold-Join, fold-Query, fold-roll-Item, fold-roll-Block, fold-roll-Join, fold-roll-Query, map-Item, map-Block, map-Join, map-Query}
+use Rattle.span_parser.specs.declared.tree.Item.TheOpen.{Query-F, Block-F, Item-F}
 use Rattle.span_query.specs.declared.query.OutputColumn.{OutputColumn}
 use Rattle.span_query.specs.declared.query.Statement.{Statement}
 use Rattle.span_query.specs.declared.query.Aggregate.{Aggregate}
@@ -41,14 +36,14 @@ use Rattle.span_typing.specs.Typing.{typing, column_at}
 use Rattle.span_binder.specs.declared.bound.Source.{Source}
 use Rattle.span_binder.specs.declared.bound.FromItems.{FromItems}
 use Rattle.span_binder.specs.declared.bound.BoundBlocks.{BoundBlocks}
-use Rattle.span_binder.specs.declared.bound.SelectItem.{SelectItem}
 use Rattle.span_binder.specs.Onward.{fold_results, append_result, each_of}
 use Rattle.span_binder.specs.Outputs.{projection, output_name, projected_column, projected_columns, all_places, item_places, project_all, project_item, project_value, project_output, project_next, select_list}
-use Rattle.span_binder.specs.Sources.{name_or_alias, numbered_source, most_tables, named_source, derived_source, start_from, has_item, check_bool, condition, with_names, add_item}
+use Rattle.span_binder.specs.Sources.{name_or_alias, numbered_source, most_tables, named_source, start_from, has_item, check_bool, condition, with_names, add_item}
 use Rattle.span_binder.specs.Blocks.{groups_named, with_keys, filter_of, having_of, BlockTail, block_tail_of, bind_parts, block_in, group_places, bind_block}
 use Rattle.span_binder.specs.Aggregating.{mode_of}
-use Rattle.span_binder.specs.Queries.{are_union_compatible, ordinal, is_column_named, sort_place, sort_key, sort_keys, bind_query, only_block, with_block, ItemStep, JoinStep, BlockStep, QueryStep, item_at, join_at, next_join, from, block_at, next_block, blocks, query_at, query_step, bound}
-use Rattle.span_binder.specs.Faults.{IsTextFault, IsTreeFault, IsQueryFault}
+use Rattle.span_binder.specs.Queries.{are_union_compatible, ordinal, is_column_named, sort_place, sort_key, sort_keys, bind_query, only_block, ItemStep, JoinStep, BlockStep, QueryStep, item_at, next_join, from, block_at, next_block, blocks, query_at, query_step, bound}
+use Rattle.span_binder.specs.Faults.{IsTreeFault, IsQueryFault}
+use Rattle.span_binder.proofs.ByParts.{query_holds}
 use Rattle.span_binder.proofs.Faults.{Faults, no_column, mismatch, then_faults, if_faults, place_faults, column_place_faults, column_at_faults, then_step, result_step, StepFaults, typing_faults}
 use Rattle.span_binder.proofs.Understanding.{memory_or_not}
 
@@ -227,75 +222,11 @@ module _ (schema : List Table) (params : List Parameter) where
   query_at_faults q first_is others_are = λ leaves. then_faults (blocks q.first q.others leaves) _ (blocks_faults q.first q.others first_is others_are leaves)
       (λ p. then_faults (bind_query p.0 q.order q.limit) _ (after_faults p.0 q.order q.limit) (λ b. tt {0}))
 
-  abbrev items : Item → ItemStep
-  items = fold-Item ItemStep BlockStep JoinStep QueryStep (item_at schema) (block_at params) join_at query_at
-
-  abbrev block_steps : Block → BlockStep
-  block_steps = fold-Block ItemStep BlockStep JoinStep QueryStep (item_at schema) (block_at params) join_at query_at
-
-  abbrev joins : Join → JoinStep
-  joins = fold-Join ItemStep BlockStep JoinStep QueryStep (item_at schema) (block_at params) join_at query_at
-
-  abbrev queries : Query → QueryStep
-  queries = fold-Query ItemStep BlockStep JoinStep QueryStep (item_at schema) (block_at params) join_at query_at
-
-  -- a part of a tree, with what holds of it
-  abbrev KnownItem : Type 0
-  KnownItem = (i : Item) × ItemFaults (items i)
-
-  abbrev KnownBlock : Type 0
-  KnownBlock = (b : Block) × BlockFaults (block_steps b)
-
-  abbrev KnownJoin : Type 0
-  KnownJoin = (j : Join) × JoinFaults (joins j)
-
-  abbrev KnownQuery : Type 0
-  KnownQuery = (q : Query) × QueryFaults (queries q)
-
-  abbrev item_of : KnownItem → Item
-  item_of x = x.0
-
-  abbrev block_of : KnownBlock → Block
-  block_of x = x.0
-
-  abbrev join_of : KnownJoin → Join
-  join_of x = x.0
-
-  abbrev query_of : KnownQuery → Query
-  query_of x = x.0
-
-  joins_known : (js : List KnownJoin) → AllByRecursion JoinFaults (map joins (map join_of js))
-  joins_known [] = tt {0}
-  joins_known (j ∷ js) = (j.1, joins_known js)
-
-  blocks_known : (bs : List KnownBlock) → AllByRecursion BlockFaults (map block_steps (map block_of bs))
-  blocks_known [] = tt {0}
-  blocks_known (b ∷ bs) = (b.1, blocks_known bs)
-
-  item_layer : (y : Item-F KnownItem KnownBlock KnownJoin KnownQuery) → ItemFaults (item_at schema (map-Item Item Block Join Query ItemStep BlockStep JoinStep QueryStep items block_steps joins queries (map-Item KnownItem KnownBlock KnownJoin KnownQuery Item Block Join Query item_of block_of join_of query_of y)))
-  item_layer (Item-F.Table name alias) = named_faults schema name alias
-  item_layer (Item-F.Derived q name) = derived_faults (queries q.0) name q.1
-
-  block_layer : (y : Block-F KnownItem KnownBlock KnownJoin KnownQuery) → BlockFaults (block_at params (map-Block Item Block Join Query ItemStep BlockStep JoinStep QueryStep items block_steps joins queries (map-Block KnownItem KnownBlock KnownJoin KnownQuery Item Block Join Query item_of block_of join_of query_of y)))
-  block_layer y = block_at_faults (map-Block Item Block Join Query ItemStep BlockStep JoinStep QueryStep items block_steps joins queries (map-Block KnownItem KnownBlock KnownJoin KnownQuery Item Block Join Query item_of block_of join_of query_of y)) y.from.1 (joins_known y.joins)
-
-  query_layer : (y : Query-F KnownItem KnownBlock KnownJoin KnownQuery) → QueryFaults (query_at (map-Query Item Block Join Query ItemStep BlockStep JoinStep QueryStep items block_steps joins queries (map-Query KnownItem KnownBlock KnownJoin KnownQuery Item Block Join Query item_of block_of join_of query_of y)))
-  query_layer y = query_at_faults (map-Query Item Block Join Query ItemStep BlockStep JoinStep QueryStep items block_steps joins queries (map-Query KnownItem KnownBlock KnownJoin KnownQuery Item Block Join Query item_of block_of join_of query_of y)) y.first.1 (blocks_known y.others)
-
-  tree_faults : (q : Query) → QueryFaults (queries q)
-  tree_faults = ind-Query (λ (i : Item). ItemFaults (items i)) (λ (b : Block). BlockFaults (block_steps b)) (λ (j : Join). JoinFaults (joins j)) (λ (q : Query). QueryFaults (queries q))
-      (λ x y is. subst (λ (z : Item-F Item Block Join Query). ItemFaults (items (roll-Item z))) is
-      (subst ItemFaults (sym (fold-roll-Item ItemStep BlockStep JoinStep QueryStep (item_at schema) (block_at params) join_at query_at (map-Item KnownItem KnownBlock KnownJoin KnownQuery Item Block Join Query item_of block_of join_of query_of y))) (item_layer y)))
-      (λ x y is. subst (λ (z : Block-F Item Block Join Query). BlockFaults (block_steps (roll-Block z))) is
-      (subst BlockFaults (sym (fold-roll-Block ItemStep BlockStep JoinStep QueryStep (item_at schema) (block_at params) join_at query_at (map-Block KnownItem KnownBlock KnownJoin KnownQuery Item Block Join Query item_of block_of join_of query_of y))) (block_layer y)))
-      (λ x y is. subst (λ (z : Join-F Item Block Join Query). JoinFaults (joins (roll-Join z))) is
-      (subst JoinFaults (sym (fold-roll-Join ItemStep BlockStep JoinStep QueryStep (item_at schema) (block_at params) join_at query_at (map-Join KnownItem KnownBlock KnownJoin KnownQuery Item Block Join Query item_of block_of join_of query_of y))) y.item.1))
-      (λ x y is. subst (λ (z : Query-F Item Block Join Query). QueryFaults (queries (roll-Query z))) is
-      (subst QueryFaults (sym (fold-roll-Query ItemStep BlockStep JoinStep QueryStep (item_at schema) (block_at params) join_at query_at (map-Query KnownItem KnownBlock KnownJoin KnownQuery Item Block Join Query item_of block_of join_of query_of y))) (query_layer y)))
+  tree_faults : (q : Query) → QueryFaults (query_step schema params q)
+  tree_faults = query_holds schema params ItemFaults BlockFaults QueryFaults (named_faults schema) derived_faults block_at_faults query_at_faults
 
   bound_faults : (q : Query) → Faults (bound schema params q)
-  unfolding query_step
-  bound_faults q = then_faults (queries q []) _ (tree_faults q []) (λ p. tt {0})
+  bound_faults q = then_faults (query_step schema params q []) _ (tree_faults q []) (λ p. tt {0})
 
 -- ---- what bind answers
 

@@ -1,7 +1,8 @@
 -- The places of columns, found one name after another.
-use Rattle.std.proofs.Common.{◌≡◌, ◌∙◌, ◌==◌, ◌||◌, inl, inr, ℕ, List, [], ◌∷◌, ◌++◌, Bool, true, false, Option, Some, refl, sym, ap, map, append_assoc}
+use Rattle.std.proofs.Common.{◌≡◌, ◌∙◌, ◌==◌, inl, inr, ℕ, List, [], ◌∷◌, ◌++◌, Bool, true, false, Option, Some, refl, sym, ap, map, append_assoc}
 use Rattle.std.specs.List.{list_any}
 use Rattle.std.proofs.lemmas.List.{map-append}
+use Rattle.std.proofs.lemmas.Bool.{or_parts}
 use Rattle.span_schema.specs.declared.table.Column.{Column}
 use Rattle.span_schema.specs.Tables.{column_place}
 use Rattle.span_command.specs.Record.{pieces}
@@ -15,20 +16,16 @@ Found columns names places rest =
 pub none_found : (columns : List Column) (names : List ℕ) → Found columns names [] names
 none_found columns names = (refl, tt)
 
-neither : (x y : Bool) → (x || y) ≡ false → (x ≡ false) × (y ≡ false)
-neither true y e = cc e
-neither false y e = (refl, e)
-
 any_push : (p : ℕ → Bool) (xs : List ℕ) (y : ℕ) → list_any p xs ≡ false → p y ≡ false → list_any p (xs ++ y ∷ []) ≡ false
 any_push p [] y h e = rw e refl
 any_push p (x ∷ xs) y h e =
-    let off = neither (p x) (list_any p xs) h in
+    let off = or_parts (p x) (list_any p xs) h in
     rw off.0 (any_push p xs y off.1 e)
 
 none_twice_push : (places : List ℕ) (place : ℕ) → NoneTwice places → list_any (λ other. other == place) places ≡ false → NoneTwice (places ++ place ∷ [])
 none_twice_push [] place h new = (refl, tt)
 none_twice_push (first ∷ places) place h new =
-    let off = neither (first == place) (list_any (λ other. other == place) places) new in
+    let off = or_parts (first == place) (list_any (λ other. other == place) places) new in
     (any_push (λ other. first == other) places place h.0 off.0, none_twice_push places place h.1 off.1)
 
 push : (columns : List Column) (names places name : List ℕ) (place : ℕ) (rest : List (List ℕ))

@@ -3,6 +3,7 @@ use Rattle.std.proofs.Common.{◌≡◌, refl, ap, ◌∙◌, sym, List, [], ◌
 use Rattle.std.specs.List.{fold, list_any}
 use Rattle.std.specs.Option.{option_map}
 use Rattle.std.proofs.Math.Seq.{drop-cons}
+use Rattle.std.proofs.lemmas.Bool.{or_left, or_right}
 use Rattle.span_value.specs.declared.value.Value.{Value}
 use Rattle.span_value.specs.declared.truth.Outcome.{Outcome}
 use Rattle.span_expr.specs.declared.expr.Comparison.{Comparison}
@@ -18,20 +19,13 @@ use Rattle.span_expr.specs.Memory.{concatenation_at, has_concatenation, link_con
 
 -- ---- one of two
 
-pub first_of : (p q : Bool) → p ≡ true → (p || q) ≡ true
-first_of p q is = ap (λ (b : Bool). b || q) is
-
-pub second_of : (p q : Bool) → q ≡ true → (p || q) ≡ true
-second_of true q is = refl
-second_of false q is = is
-
 either_of : (p q r : Bool) → (p || q) ≡ true → (p ≡ true → r ≡ true) → (q ≡ true → r ≡ true) → r ≡ true
 either_of true q r is one two = one refl
 either_of false q r is one two = two is
 
 -- from what ran out (r, as s or t) to what has one (whole, as p or q)
 pub by_two : (whole p q r s t : Bool) → whole ≡ (p || q) → (r ≡ true → (s || t) ≡ true) → (s ≡ true → p ≡ true) → (t ≡ true → q ≡ true) → r ≡ true → whole ≡ true
-by_two whole p q r s t is apart one two ran = is ∙ either_of s t (p || q) (apart ran) (λ h. first_of p q (one h)) (λ h. second_of p q (two h))
+by_two whole p q r s t is apart one two ran = is ∙ either_of s t (p || q) (apart ran) (λ h. or_left p q (one h)) (λ h. or_right p q (two h))
 
 pub by_three : (whole p q o r s t u : Bool) → whole ≡ ((p || q) || o) → (r ≡ true → ((s || t) || u) ≡ true) → (s ≡ true → p ≡ true) → (t ≡ true → q ≡ true) → (u ≡ true → o ≡ true) → r ≡ true → whole ≡ true
 by_three whole p q o r s t u is apart one two three ran = by_two whole (p || q) o r (s || t) u is apart (by_two (p || q) p q (s || t) s t refl (λ h. h) one two) three ran
@@ -45,7 +39,7 @@ any_after : {X : Type 0} (p : X → Bool) (xs : List X) (i : ℕ) → list_any p
 any_after p [] zero is = is
 any_after p [] (suc i) is = is
 any_after p (x ∷ xs) zero is = is
-any_after p (x ∷ xs) (suc i) is = second_of (p x) (list_any p xs) (any_after p xs i is)
+any_after p (x ∷ xs) (suc i) is = or_right (p x) (list_any p xs) (any_after p xs i is)
 
 any_map : {X Y : Type 0} (p : Y → Bool) (f : X → Y) (xs : List X) → list_any p (map f xs) ≡ list_any (λ x. p (f x)) xs
 any_map p f [] = refl
@@ -53,7 +47,7 @@ any_map p f (x ∷ xs) = ap (λ (b : Bool). p (f x) || b) (any_map p f xs)
 
 any_at : {X Y : Type 0} (p : Y → Bool) (f : X → Y) (xs : List X) (i : ℕ) (x : X) → i < length xs → x ≡ get_or xs i x → p (f x) ≡ true → list_any p (map f xs) ≡ true
 any_at p f xs i x below is holds =
-    any_map p f xs ∙ any_after (λ y. p (f y)) xs i (ap (list_any (λ y. p (f y))) (at_item xs i x below is) ∙ first_of (p (f x)) (list_any (λ y. p (f y)) (drop (i + 1) xs)) holds)
+    any_map p f xs ∙ any_after (λ y. p (f y)) xs i (ap (list_any (λ y. p (f y))) (at_item xs i x below is) ∙ or_left (p (f x)) (list_any (λ y. p (f y)) (drop (i + 1) xs)) holds)
 
 pub operand_has : (xs : List Expr) (i : ℕ) (x : Expr) → i < length xs → x ≡ get_or xs i x → has_concatenation x ≡ true → any_concatenation xs ≡ true
 operand_has xs i x below is has = any_at (λ b. b) has_concatenation xs i x below is has
@@ -62,10 +56,10 @@ pub link_has : (xs : List (Link Expr)) (i : ℕ) (x : Link Expr) → i < length 
 link_has xs i x below is has = any_at concatenation_in_link link_concatenation xs i x below is has
 
 pub condition_has : (xs : List (Arm Expr)) (i : ℕ) (x : Arm Expr) → i < length xs → x ≡ get_or xs i x → has_concatenation x.condition ≡ true → any_arm_concatenation xs ≡ true
-condition_has xs i x below is has = any_at (λ (a : Arm Bool). a.condition || a.value) (λ (a : Arm Expr). record { condition = has_concatenation a.condition; value = has_concatenation a.value }) xs i x below is (first_of (has_concatenation x.condition) (has_concatenation x.value) has)
+condition_has xs i x below is has = any_at (λ (a : Arm Bool). a.condition || a.value) (λ (a : Arm Expr). record { condition = has_concatenation a.condition; value = has_concatenation a.value }) xs i x below is (or_left (has_concatenation x.condition) (has_concatenation x.value) has)
 
 pub value_has : (xs : List (Arm Expr)) (i : ℕ) (x : Arm Expr) → i < length xs → x ≡ get_or xs i x → has_concatenation x.value ≡ true → any_arm_concatenation xs ≡ true
-value_has xs i x below is has = any_at (λ (a : Arm Bool). a.condition || a.value) (λ (a : Arm Expr). record { condition = has_concatenation a.condition; value = has_concatenation a.value }) xs i x below is (second_of (has_concatenation x.condition) (has_concatenation x.value) has)
+value_has xs i x below is has = any_at (λ (a : Arm Bool). a.condition || a.value) (λ (a : Arm Expr). record { condition = has_concatenation a.condition; value = has_concatenation a.value }) xs i x below is (or_right (has_concatenation x.condition) (has_concatenation x.value) has)
 
 -- ---- the operators, each with its operands as they are read
 

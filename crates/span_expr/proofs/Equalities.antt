@@ -4,6 +4,7 @@ use Rattle.std.specs.Option.{option_map}
 use Rattle.std.specs.declared.cmp.Ordering.{Ordering}
 use Rattle.std.specs.declared.cmp.Ordering.TheVariants.{Less, Equal, Greater}
 use Rattle.std.proofs.lemmas.Bool.Decides.{nat_tests}
+use Rattle.std.proofs.lemmas.Bool.{or_cases}
 use Rattle.span_value.specs.declared.value.Value.{Value}
 use Rattle.span_value.specs.declared.value.Value.TheVariants as value
 use Rattle.span_value.specs.declared.truth.Outcome.{Outcome}
@@ -82,13 +83,9 @@ is_refused-null row e i k is null = ap is_refused (val-equality row e i k is) �
 are_both : (p q i k : ℕ) → ((p == i) && (q == k)) ≡ true → (p ≡ i) × (q ≡ k)
 are_both p q i k is = (grind (arith, nat_tests), grind (arith, nat_tests))
 
-either_way : (a b : Bool) → (a || b) ≡ true → (a ≡ true) ⊎ (b ≡ true)
-either_way true b is = inl refl
-either_way false b is = inr is
-
 which_way : (i k : ℕ) (o : Option (ℕ × ℕ)) → are_places i k o ≡ true → (o ≡ Some (i, k)) ⊎ (o ≡ Some (k, i))
 which_way i k None is = absurd (let q : false ≡ true = is in cc)
-which_way i k (Some (p, q)) is = elim (either_way ((p == i) && (q == k)) ((p == k) && (q == i)) is) [
+which_way i k (Some (p, q)) is = elim (or_cases ((p == i) && (q == k)) ((p == k) && (q == i)) is) [
   | inl first ↦ let s : (p ≡ i) × (q ≡ k) = are_both p q i k first in inl (ap (λ (n : ℕ). Some (n, q)) s.0 ∙ ap (λ (n : ℕ). Some (i, n)) s.1)
   | inr second ↦ let s : (p ≡ k) × (q ≡ i) = are_both p q k i second in inr (ap (λ (n : ℕ). Some (n, q)) s.0 ∙ ap (λ (n : ℕ). Some (k, n)) s.1)
 ]

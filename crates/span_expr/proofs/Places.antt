@@ -1,6 +1,7 @@
 -- What an expression comes to depends on the columns that it reads alone, and moved columns are read where they are now.
-use Rattle.std.proofs.Common.{◌≡◌, ◌∙◌, sym, ap, refl, subst, ℕ, Bool, true, false, ◌&&◌, List, [], ◌∷◌, map, Some, None}
+use Rattle.std.proofs.Common.{◌≡◌, ◌∙◌, sym, ap, refl, subst, ℕ, Bool, true, ◌&&◌, List, [], ◌∷◌, map, Some, None}
 use Rattle.std.specs.List.{list_all}
+use Rattle.std.proofs.lemmas.Bool.{and_parts}
 use Rattle.span_value.specs.declared.value.Value.{Value}
 use Rattle.span_value.specs.declared.truth.Outcome.{Outcome}
 use Rattle.span_value.specs.declared.truth.Outcome.TheVariants.{Val}
@@ -78,10 +79,6 @@ moved-same f same e = fold-same Expr (move_at f) roll-Expr (move_at-same f same)
 
 -- ---- what is read
 
-both_true : (a b : Bool) → (a && b) ≡ true → (a ≡ true) × (b ≡ true)
-both_true true b is = (refl, is)
-both_true false b is = absurd (let q : false ≡ true = is in cc)
-
 -- whether the place of a layer's own column passes
 abbrev own_passes : {A : Type 0} → (ℕ → Bool) → Expr-F A → Bool
 own_passes test (Expr-F.Column place) = test place
@@ -114,20 +111,20 @@ module _ (test : ℕ → Bool) (A : Type 0) (f g : Expr → A) where
   operands_agree : (es : List Told) → list_all (λ b. b) (map (reads_only test) (map told es)) ≡ true → map f (map told es) ≡ map g (map told es)
   operands_agree [] is = refl
   operands_agree (e ∷ es) is =
-      let parts : (reads_only test e.0 ≡ true) × (list_all (λ b. b) (map (reads_only test) (map told es)) ≡ true) = both_true (reads_only test e.0) (list_all (λ b. b) (map (reads_only test) (map told es))) is in
+      let parts : (reads_only test e.0 ≡ true) × (list_all (λ b. b) (map (reads_only test) (map told es)) ≡ true) = and_parts (reads_only test e.0) (list_all (λ b. b) (map (reads_only test) (map told es))) is in
       ap (λ (a : A). a ∷ map f (map told es)) (e.1 parts.0) ∙ ap (λ (all : List A). g e.0 ∷ all) (operands_agree es parts.1)
 
   links_agree : (links : List (Link Told)) → list_all link_operand (map (linked (reads_only test)) (map told_link links)) ≡ true → map (linked f) (map told_link links) ≡ map (linked g) (map told_link links)
   links_agree [] is = refl
   links_agree (link ∷ links) is =
-      let parts : (reads_only test link.operand.0 ≡ true) × (list_all link_operand (map (linked (reads_only test)) (map told_link links)) ≡ true) = both_true (reads_only test link.operand.0) (list_all link_operand (map (linked (reads_only test)) (map told_link links))) is in
+      let parts : (reads_only test link.operand.0 ≡ true) × (list_all link_operand (map (linked (reads_only test)) (map told_link links)) ≡ true) = and_parts (reads_only test link.operand.0) (list_all link_operand (map (linked (reads_only test)) (map told_link links))) is in
       ap (λ (a : A). record { operator = link.operator; operand = a } ∷ map (linked f) (map told_link links)) (link.operand.1 parts.0) ∙ ap (λ (all : List (Link A)). linked g (told_link link) ∷ all) (links_agree links parts.1)
 
   arms_agree : (arms : List (Arm Told)) → list_all is_total_arm (map (armed (reads_only test)) (map told_arm arms)) ≡ true → map (armed f) (map told_arm arms) ≡ map (armed g) (map told_arm arms)
   arms_agree [] is = refl
   arms_agree (arm ∷ arms) is =
-      let parts : ((reads_only test arm.condition.0 && reads_only test arm.value.0) ≡ true) × (list_all is_total_arm (map (armed (reads_only test)) (map told_arm arms)) ≡ true) = both_true (reads_only test arm.condition.0 && reads_only test arm.value.0) (list_all is_total_arm (map (armed (reads_only test)) (map told_arm arms))) is in
-      let both : (reads_only test arm.condition.0 ≡ true) × (reads_only test arm.value.0 ≡ true) = both_true (reads_only test arm.condition.0) (reads_only test arm.value.0) parts.0 in
+      let parts : ((reads_only test arm.condition.0 && reads_only test arm.value.0) ≡ true) × (list_all is_total_arm (map (armed (reads_only test)) (map told_arm arms)) ≡ true) = and_parts (reads_only test arm.condition.0 && reads_only test arm.value.0) (list_all is_total_arm (map (armed (reads_only test)) (map told_arm arms))) is in
+      let both : (reads_only test arm.condition.0 ≡ true) × (reads_only test arm.value.0 ≡ true) = and_parts (reads_only test arm.condition.0) (reads_only test arm.value.0) parts.0 in
       ap (λ (a : A). record { condition = a; value = f arm.value.0 } ∷ map (armed f) (map told_arm arms)) (arm.condition.1 both.0)
       ∙ ap (λ (a : A). record { condition = g arm.condition.0; value = a } ∷ map (armed f) (map told_arm arms)) (arm.value.1 both.1)
       ∙ ap (λ (all : List (Arm A)). armed g (told_arm arm) ∷ all) (arms_agree arms parts.1)
@@ -140,44 +137,44 @@ module _ (test : ℕ → Bool) (A : Type 0) (f g : Expr → A) where
   layer_agrees (Expr-F.Column place) is = refl
   layer_agrees (Expr-F.Negative a) is = ap Expr-F.Negative (a.1 is)
   layer_agrees (Expr-F.Chain first links) is =
-      let parts : (reads_only test first.0 ≡ true) × (list_all link_operand (map (linked (reads_only test)) (map told_link links)) ≡ true) = both_true (reads_only test first.0) (list_all link_operand (map (linked (reads_only test)) (map told_link links))) is in
+      let parts : (reads_only test first.0 ≡ true) × (list_all link_operand (map (linked (reads_only test)) (map told_link links)) ≡ true) = and_parts (reads_only test first.0) (list_all link_operand (map (linked (reads_only test)) (map told_link links))) is in
       ap (λ (a : A). Expr-F.Chain a (map (linked f) (map told_link links))) (first.1 parts.0) ∙ ap (λ (all : List (Link A)). Expr-F.Chain (g first.0) all) (links_agree links parts.1)
   layer_agrees (Expr-F.Compare a c b) is =
-      let parts : (reads_only test a.0 ≡ true) × (reads_only test b.0 ≡ true) = both_true (reads_only test a.0) (reads_only test b.0) is in
+      let parts : (reads_only test a.0 ≡ true) × (reads_only test b.0 ≡ true) = and_parts (reads_only test a.0) (reads_only test b.0) is in
       ap (λ (x : A). Expr-F.Compare x c (f b.0)) (a.1 parts.0) ∙ ap (λ (x : A). Expr-F.Compare (g a.0) c x) (b.1 parts.1)
   layer_agrees (Expr-F.Between a low high) is =
-      let parts : ((reads_only test a.0 && reads_only test low.0) ≡ true) × (reads_only test high.0 ≡ true) = both_true (reads_only test a.0 && reads_only test low.0) (reads_only test high.0) is in
-      let front : (reads_only test a.0 ≡ true) × (reads_only test low.0 ≡ true) = both_true (reads_only test a.0) (reads_only test low.0) parts.0 in
+      let parts : ((reads_only test a.0 && reads_only test low.0) ≡ true) × (reads_only test high.0 ≡ true) = and_parts (reads_only test a.0 && reads_only test low.0) (reads_only test high.0) is in
+      let front : (reads_only test a.0 ≡ true) × (reads_only test low.0 ≡ true) = and_parts (reads_only test a.0) (reads_only test low.0) parts.0 in
       ap (λ (x : A). Expr-F.Between x (f low.0) (f high.0)) (a.1 front.0) ∙ ap (λ (x : A). Expr-F.Between (g a.0) x (f high.0)) (low.1 front.1) ∙ ap (λ (x : A). Expr-F.Between (g a.0) (g low.0) x) (high.1 parts.1)
   layer_agrees (Expr-F.In a members) is =
-      let parts : (reads_only test a.0 ≡ true) × (list_all (λ b. b) (map (reads_only test) (map told members)) ≡ true) = both_true (reads_only test a.0) (list_all (λ b. b) (map (reads_only test) (map told members))) is in
+      let parts : (reads_only test a.0 ≡ true) × (list_all (λ b. b) (map (reads_only test) (map told members)) ≡ true) = and_parts (reads_only test a.0) (list_all (λ b. b) (map (reads_only test) (map told members))) is in
       ap (λ (x : A). Expr-F.In x (map f (map told members))) (a.1 parts.0) ∙ ap (λ (all : List A). Expr-F.In (g a.0) all) (operands_agree members parts.1)
   layer_agrees (Expr-F.Like a pattern) is = ap (λ (x : A). Expr-F.Like x pattern) (a.1 is)
   layer_agrees (Expr-F.StartsWith a front) is =
-      let parts : (reads_only test a.0 ≡ true) × (reads_only test front.0 ≡ true) = both_true (reads_only test a.0) (reads_only test front.0) is in
+      let parts : (reads_only test a.0 ≡ true) × (reads_only test front.0 ≡ true) = and_parts (reads_only test a.0) (reads_only test front.0) is in
       ap (λ (x : A). Expr-F.StartsWith x (f front.0)) (a.1 parts.0) ∙ ap (λ (x : A). Expr-F.StartsWith (g a.0) x) (front.1 parts.1)
   layer_agrees (Expr-F.Length a) is = ap Expr-F.Length (a.1 is)
   layer_agrees (Expr-F.IsNull a) is = ap Expr-F.IsNull (a.1 is)
   layer_agrees (Expr-F.Not a) is = ap Expr-F.Not (a.1 is)
   layer_agrees (Expr-F.And first more) is =
-      let parts : (reads_only test first.0 ≡ true) × (list_all (λ b. b) (map (reads_only test) (map told more)) ≡ true) = both_true (reads_only test first.0) (list_all (λ b. b) (map (reads_only test) (map told more))) is in
+      let parts : (reads_only test first.0 ≡ true) × (list_all (λ b. b) (map (reads_only test) (map told more)) ≡ true) = and_parts (reads_only test first.0) (list_all (λ b. b) (map (reads_only test) (map told more))) is in
       ap (λ (x : A). Expr-F.And x (map f (map told more))) (first.1 parts.0) ∙ ap (λ (all : List A). Expr-F.And (g first.0) all) (operands_agree more parts.1)
   layer_agrees (Expr-F.Or first more) is =
-      let parts : (reads_only test first.0 ≡ true) × (list_all (λ b. b) (map (reads_only test) (map told more)) ≡ true) = both_true (reads_only test first.0) (list_all (λ b. b) (map (reads_only test) (map told more))) is in
+      let parts : (reads_only test first.0 ≡ true) × (list_all (λ b. b) (map (reads_only test) (map told more)) ≡ true) = and_parts (reads_only test first.0) (list_all (λ b. b) (map (reads_only test) (map told more))) is in
       ap (λ (x : A). Expr-F.Or x (map f (map told more))) (first.1 parts.0) ∙ ap (λ (all : List A). Expr-F.Or (g first.0) all) (operands_agree more parts.1)
   layer_agrees (Expr-F.Case arms None) is =
-      let parts : (list_all is_total_arm (map (armed (reads_only test)) (map told_arm arms)) ≡ true) × (true ≡ true) = both_true (list_all is_total_arm (map (armed (reads_only test)) (map told_arm arms))) true is in
+      let parts : (list_all is_total_arm (map (armed (reads_only test)) (map told_arm arms)) ≡ true) × (true ≡ true) = and_parts (list_all is_total_arm (map (armed (reads_only test)) (map told_arm arms))) true is in
       ap (λ (all : List (Arm A)). Expr-F.Case all None) (arms_agree arms parts.0)
   layer_agrees (Expr-F.Case arms (Some other)) is =
-      let parts : (list_all is_total_arm (map (armed (reads_only test)) (map told_arm arms)) ≡ true) × (reads_only test other.0 ≡ true) = both_true (list_all is_total_arm (map (armed (reads_only test)) (map told_arm arms))) (reads_only test other.0) is in
+      let parts : (list_all is_total_arm (map (armed (reads_only test)) (map told_arm arms)) ≡ true) × (reads_only test other.0 ≡ true) = and_parts (list_all is_total_arm (map (armed (reads_only test)) (map told_arm arms))) (reads_only test other.0) is in
       ap (λ (all : List (Arm A)). Expr-F.Case all (Some (f other.0))) (arms_agree arms parts.0) ∙ ap (λ (x : A). Expr-F.Case (map (armed g) (map told_arm arms)) (Some x)) (other.1 parts.1)
   layer_agrees (Expr-F.Match a arms None) is =
-      let parts : ((reads_only test a.0 && list_all is_total_arm (map (armed (reads_only test)) (map told_arm arms))) ≡ true) × (true ≡ true) = both_true (reads_only test a.0 && list_all is_total_arm (map (armed (reads_only test)) (map told_arm arms))) true is in
-      let front : (reads_only test a.0 ≡ true) × (list_all is_total_arm (map (armed (reads_only test)) (map told_arm arms)) ≡ true) = both_true (reads_only test a.0) (list_all is_total_arm (map (armed (reads_only test)) (map told_arm arms))) parts.0 in
+      let parts : ((reads_only test a.0 && list_all is_total_arm (map (armed (reads_only test)) (map told_arm arms))) ≡ true) × (true ≡ true) = and_parts (reads_only test a.0 && list_all is_total_arm (map (armed (reads_only test)) (map told_arm arms))) true is in
+      let front : (reads_only test a.0 ≡ true) × (list_all is_total_arm (map (armed (reads_only test)) (map told_arm arms)) ≡ true) = and_parts (reads_only test a.0) (list_all is_total_arm (map (armed (reads_only test)) (map told_arm arms))) parts.0 in
       ap (λ (x : A). Expr-F.Match x (map (armed f) (map told_arm arms)) None) (a.1 front.0) ∙ ap (λ (all : List (Arm A)). Expr-F.Match (g a.0) all None) (arms_agree arms front.1)
   layer_agrees (Expr-F.Match a arms (Some other)) is =
-      let parts : ((reads_only test a.0 && list_all is_total_arm (map (armed (reads_only test)) (map told_arm arms))) ≡ true) × (reads_only test other.0 ≡ true) = both_true (reads_only test a.0 && list_all is_total_arm (map (armed (reads_only test)) (map told_arm arms))) (reads_only test other.0) is in
-      let front : (reads_only test a.0 ≡ true) × (list_all is_total_arm (map (armed (reads_only test)) (map told_arm arms)) ≡ true) = both_true (reads_only test a.0) (list_all is_total_arm (map (armed (reads_only test)) (map told_arm arms))) parts.0 in
+      let parts : ((reads_only test a.0 && list_all is_total_arm (map (armed (reads_only test)) (map told_arm arms))) ≡ true) × (reads_only test other.0 ≡ true) = and_parts (reads_only test a.0 && list_all is_total_arm (map (armed (reads_only test)) (map told_arm arms))) (reads_only test other.0) is in
+      let front : (reads_only test a.0 ≡ true) × (list_all is_total_arm (map (armed (reads_only test)) (map told_arm arms)) ≡ true) = and_parts (reads_only test a.0) (list_all is_total_arm (map (armed (reads_only test)) (map told_arm arms))) parts.0 in
       ap (λ (x : A). Expr-F.Match x (map (armed f) (map told_arm arms)) (Some (f other.0))) (a.1 front.0)
       ∙ ap (λ (all : List (Arm A)). Expr-F.Match (g a.0) all (Some (f other.0))) (arms_agree arms front.1)
       ∙ ap (λ (x : A). Expr-F.Match (g a.0) (map (armed g) (map told_arm arms)) (Some x)) (other.1 parts.1)

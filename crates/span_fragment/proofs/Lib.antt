@@ -4,4 +4,7 @@ mod Ending
 mod Entries
 pub mod KeyPlaces
 mod Running
-mod Values
+mod Fronts
+mod PlacedRows
+mod Placing
+mod Masks

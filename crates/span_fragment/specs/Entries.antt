@@ -1,28 +1,42 @@
 -- Rows as a shard has them.
-use Rattle.std.specs.Prelude.{◌≡◌, ℕ, List, map}
+use Rattle.std.specs.Prelude.{◌≡◌, ◌==◌, ◌+◌, ℕ, Bool, List, [], ◌∷◌, drop, map}
 use Rattle.span_schema.specs.declared.table.Table.{Table}
 use Rattle.span_rowcode.specs.Rows.{row_code}
 use Rattle.span_mutate.specs.declared.row.TableRow.{TableRow}
-use Rattle.span_mutate.specs.Typed.{AreTyped}
+use Rattle.span_mutate.specs.Typed.{IsTyped, AreTyped}
 use Rattle.span_shard.specs.Rows.{code_of}
 use Rattle.span_shard.specs.Shard.{KeyRow}
 use Rattle.span_query.specs.Rows.{Row}
+use Rattle.span_planner.specs.Leaves.{width_of}
+use Rattle.span_planner.specs.Masks.{masked}
 use Rattle.span_fragment.specs.Meaning.{whole_table}
 
 -- a row as a shard has it
 abbrev pub key_row : List Table → TableRow → KeyRow
 key_row schema r = record { key = code_of schema r; row = row_code r.cells }
 
--- the rows that entries are
-pub record AreRowsOf (schema : List Table) (entries : List KeyRow) (rows : List TableRow) : Type 0 where
-  pub typed : AreTyped schema rows
-  pub coded : entries ≡ map (key_row schema) rows
+-- what holds of whatever rows the entries are
+pub record OfRows (schema : List Table) (entries : List KeyRow) (P : List TableRow → Type 0) : Type 0 where
+  pub of : (rows : List TableRow) → AreTyped schema rows → entries ≡ map (key_row schema) rows → P rows
 
--- the values of the rows of table n among those that entries are, in the order in which its columns are declared
-pub record AreReadOf (schema : List Table) (n : ℕ) (entries : List KeyRow) (values : List Row) : Type 0 where
-  pub rows : List TableRow
-  pub are : AreRowsOf schema entries rows
-  pub values_are : values ≡ whole_table schema rows n
+-- Of whatever rows the entries are, these are the values of those of table n, in the order in which its columns are declared, with NULL at the
+-- places that the mask does not have.
+pub record AreReadOf (schema : List Table) (n : ℕ) (ms : List Bool) (entries : List KeyRow) (values : List Row) : Type 0 where
+  pub are : (rows : List TableRow) → AreTyped schema rows → entries ≡ map (key_row schema) rows → values ≡ map (masked ms) (whole_table schema rows n)
+
+-- of whatever row this is the coded key, the answer is whether it is one of table n
+pub record IsWhetherOf (schema : List Table) (n : ℕ) (key : List ℕ) (found : Bool) : Type 0 where
+  pub of : (r : TableRow) → IsTyped schema r → key ≡ code_of schema r → found ≡ (r.table == n)
+
+-- how many columns the tables have together
+abbrev pub total_width : List Table → List ℕ → ℕ
+total_width schema [] = 0
+total_width schema (t ∷ ts) = width_of schema t + total_width schema ts
+
+-- the rows of tables, each with NULL at the places that its part of the mask does not have
+abbrev pub masked_tables : List Table → List TableRow → List Bool → List ℕ → List (List Row)
+masked_tables schema rows ms [] = []
+masked_tables schema rows ms (t ∷ ts) = map (masked ms) (whole_table schema rows t) ∷ masked_tables schema rows (drop (width_of schema t) ms) ts
 
 -- entries that are no rows
 abbrev pub AreNoRows : List Table → List KeyRow → Type 0

@@ -1,4 +1,6 @@
 pub mod Meaning
+pub mod Placed
 pub mod Entries
+pub mod Given
 pub mod Pieces
 pub mod Directories

@@ -1,10 +1,14 @@
 //! What one leaf of a plan gives on a part of its range: the rows of its tables there, joined and filtered where they are stored.
 #![tactic(auto)]
 
-mod declared;
+mod cells;
 mod decode;
 mod directory;
 mod joined;
+mod keys;
+mod mask;
 pub mod piece;
+mod place;
 mod rooted;
+pub mod row;
 pub mod run;

@@ -1,5 +1,5 @@
 //! A leaf run on the rows of a part of its range.
-ghost use Rattle.std.specs.Prelude.{◌≡◌, ◌⊎◌, [], ◌∷◌, MatchResult, map};
+ghost use Rattle.std.specs.Prelude.{◌≡◌, ◌⊎◌, MatchResult, map};
 ghost use Rattle.std.specs.List.{AllByRecursion};
 ghost use Rattle.span_schema.specs.Numbers.{IsTable};
 ghost use Rattle.span_shard.specs.Reading.{entry_row};
@@ -8,9 +8,7 @@ ghost use Rattle.span_algebra.specs.Answers.{Gives};
 ghost use Rattle.span_fragment.specs.Entries.{AreNoRows};
 ghost use Rattle.span_fragment.specs.Pieces.{IsPieceOf};
 
-use super::decode::{decode, read_table};
 use super::directory::rows_of_leaf;
-use super::joined::join_and_filter;
 use super::piece::Piece;
 use span_expr::cell::Failure;
 use span_planner::leaf::Leaf;
@@ -32,41 +30,6 @@ fn piece_of(found: Result<Seq<Row>, Failure>) -> Result<Piece, Refusal>
     }
 }
 
-/// What a leaf of one table gives.
-fn run_on_table(
-    alloc: Global,
-    schema: &Schema,
-    leaf: &Leaf,
-    table: usize,
-    entries: &[Entry],
-) -> Result<Piece, Refusal>
-    requires { leaf.now.tables ≡ table ∷ [] }
-    ensures { MatchResult result
-        (IsPieceOf schema.now leaf.now (map entry_row entries.now))
-        (λ why. (why ≡ Refusal.OutOfMemory) ⊎ AreNoRows schema.now (map entry_row entries.now)) }
-{
-    schema.meets_rules();
-    let rows = read_table(alloc, schema, table, entries)?;
-    Ok(piece_of(join_and_filter(alloc, leaf, rows, &[]))?)
-}
-
-/// What a leaf gives whose tables are joined.
-fn run_on_tables(
-    alloc: Global,
-    schema: &Schema,
-    leaf: &Leaf,
-    entries: &[Entry],
-) -> Result<Piece, Refusal>
-    requires { AllByRecursion (IsTable schema.now) leaf.now.tables }
-    ensures { MatchResult result
-        (IsPieceOf schema.now leaf.now (map entry_row entries.now))
-        (λ why. (why ≡ Refusal.OutOfMemory) ⊎ AreNoRows schema.now (map entry_row entries.now)) }
-{
-    schema.meets_rules();
-    let rows = decode(alloc, schema, entries)?;
-    Ok(piece_of(rows_of_leaf(alloc, schema, leaf, rows.as_slice()))?)
-}
-
 /// What a leaf gives on the entries of a part of its range. An arithmetic error is a piece without rows, and no refusal.
 /// `OutOfMemory`, where the entries are rows of the schema's tables.
 pub fn run_leaf(
@@ -80,8 +43,6 @@ pub fn run_leaf(
         (IsPieceOf schema.now leaf.now (map entry_row entries.now))
         (λ why. (why ≡ Refusal.OutOfMemory) ⊎ AreNoRows schema.now (map entry_row entries.now)) }
 {
-    match leaf.tables.as_slice() {
-        [table] => run_on_table(alloc, schema, leaf, *table, entries),
-        _ => run_on_tables(alloc, schema, leaf, entries),
-    }
+    let found = rows_of_leaf(alloc, schema, leaf, entries)?;
+    Ok(piece_of(found)?)
 }

@@ -1,6 +1,7 @@
 -- Sets of tokens, by number, and what they say of a rule.
-use Rattle.std.proofs.Common.{◌≡◌, ◌⊎◌, inl, inr, ℕ, ◌==◌, Bool, true, false, List, [], ◌∷◌, ◌++◌, refl, sym, ap, ◌∙◌, eqb-true, eq-eqb, rules}
+use Rattle.std.proofs.Common.{◌≡◌, inl, inr, ℕ, ◌==◌, Bool, true, false, List, [], ◌∷◌, ◌++◌, refl, sym, ap, ◌∙◌, eqb-true, eq-eqb, rules}
 use Rattle.std.specs.Prelude.{if◌then◌else◌, ◌||◌, ◌&&◌, not}
+use Rattle.std.proofs.lemmas.Bool.{and_parts, or_cases}
 use denote.Enum.Bare.{same_true}
 use Rattle.span_grammar.specs.declared.class.Class.{Class}
 use Rattle.span_grammar.specs.declared.class.Lexeme.{Lexeme}
@@ -35,19 +36,11 @@ abbrev pub apart : List ℕ → List ℕ → Bool
 apart [] ys = true
 apart (x ∷ xs) ys = not (has ys x) && apart xs ys
 
-and_is : (a b : Bool) → (a && b) ≡ true → (a ≡ true) × (b ≡ true)
-and_is true b e = (refl, e)
-and_is false b e = absurd cc
-
-or_is : (a b : Bool) → (a || b) ≡ true → (a ≡ true) ⊎ (b ≡ true)
-or_is true b e = inl refl
-or_is false b e = inr e
-
 covered : (xs ys : List ℕ) (n : ℕ) → covers xs ys ≡ true → has xs n ≡ true → has ys n ≡ true
 covered [] ys n c h = absurd cc
 covered (x ∷ xs) ys n c h =
-    let two = and_is (has ys x) (covers xs ys) c in
-    elim (or_is (n == x) (has xs n) h) [ inl e ↦ ap (has ys) (eqb-true n x e) ∙ two.0 | inr e ↦ covered xs ys n two.1 e ]
+    let two = and_parts (has ys x) (covers xs ys) c in
+    elim (or_cases (n == x) (has xs n) h) [ inl e ↦ ap (has ys) (eqb-true n x e) ∙ two.0 | inr e ↦ covered xs ys n two.1 e ]
 
 not_both : (b : Bool) → not b ≡ true → b ≡ true → ⊥
 not_both true e f = absurd cc
@@ -56,8 +49,8 @@ not_both false e f = absurd cc
 never : (xs ys : List ℕ) (n : ℕ) → apart xs ys ≡ true → has xs n ≡ true → has ys n ≡ true → ⊥
 never [] ys n a h k = absurd cc
 never (x ∷ xs) ys n a h k =
-    let two = and_is (not (has ys x)) (apart xs ys) a in
-    elim (or_is (n == x) (has xs n) h) [ inl e ↦ not_both (has ys x) two.0 (ap (has ys) (sym (eqb-true n x e)) ∙ k) | inr e ↦ never xs ys n two.1 e k ]
+    let two = and_parts (not (has ys x)) (apart xs ys) a in
+    elim (or_cases (n == x) (has xs n) h) [ inl e ↦ not_both (has ys x) two.0 (ap (has ys) (sym (eqb-true n x e)) ∙ k) | inr e ↦ never xs ys n two.1 e k ]
 
 has_left : (xs ys : List ℕ) (n : ℕ) → has xs n ≡ true → has (xs ++ ys) n ≡ true
 has_left [] ys n h = absurd cc
@@ -138,14 +131,14 @@ pub open_facts : (s : Sort) (p : Place) → Facts (Open s p) (sort_codes s) (pla
 open_facts s p = record { begins = λ t e. in_sort s t.class e; goes = λ t e. e; good = tt }
 
 both_sets : (n : Bool) (xs ys zs : List ℕ) (k : ℕ) (a b : Bool) → covers (if n then xs ++ ys else xs) zs ≡ true → (a ≡ true → has xs k ≡ true) → (b ≡ true → has ys k ≡ true) → (a || (n && b)) ≡ true → has zs k ≡ true
-both_sets true xs ys zs k a b c f g h = elim (or_is a b h) [ inl e ↦ covered (xs ++ ys) zs k c (has_left xs ys k (f e)) | inr e ↦ covered (xs ++ ys) zs k c (has_right xs ys k (g e)) ]
-both_sets false xs ys zs k a b c f g h = elim (or_is a false h) [ inl e ↦ covered xs zs k c (f e) | inr e ↦ absurd cc ]
+both_sets true xs ys zs k a b c f g h = elim (or_cases a b h) [ inl e ↦ covered (xs ++ ys) zs k c (has_left xs ys k (f e)) | inr e ↦ covered (xs ++ ys) zs k c (has_right xs ys k (g e)) ]
+both_sets false xs ys zs k a b c f g h = elim (or_cases a false h) [ inl e ↦ covered xs zs k c (f e) | inr e ↦ absurd cc ]
 
 pub then_facts : (a b : Rule) (fa ga fb gb f g : List ℕ) (na nb : Bool) → is_nullable a ≡ na → is_nullable b ≡ nb → Facts a fa ga → Facts b fb gb
     → (covers (if na then fa ++ fb else fa) f && (covers (if nb then gb ++ ga else gb) g && apart ga fb)) ≡ true → Facts (Then a b) f g
 then_facts a b fa ga fb gb f g na nb ea eb x y h =
-    let p = and_is (covers (if na then fa ++ fb else fa) f) (covers (if nb then gb ++ ga else gb) g && apart ga fb) h in
-    let q = and_is (covers (if nb then gb ++ ga else gb) g) (apart ga fb) p.1 in
+    let p = and_parts (covers (if na then fa ++ fb else fa) f) (covers (if nb then gb ++ ga else gb) g && apart ga fb) h in
+    let q = and_parts (covers (if nb then gb ++ ga else gb) g) (apart ga fb) p.1 in
     record {
       begins = λ t e. both_sets na fa fb f (code t.class) (first a t) (first b t) p.0 (x.begins t) (y.begins t) (ap (λ (v : Bool). first a t || (v && first b t)) (sym ea) ∙ e);
       goes = λ t e. both_sets nb gb ga g (code t.class) (goes_on st b t) (goes_on st a t) q.0 (y.goes t) (x.goes t) (ap (λ (v : Bool). goes_on st b t || (v && goes_on st a t)) (sym eb) ∙ e);
@@ -155,8 +148,8 @@ then_facts a b fa ga fb gb f g na nb ea eb x y h =
 pub or_facts : (a b : Rule) (fa ga fb gb f g : List ℕ) (nb : Bool) → is_nullable a ≡ false → is_nullable b ≡ nb → Facts a fa ga → Facts b fb gb
     → (covers (fa ++ fb) f && (covers (ga ++ (if nb then gb ++ fa else gb)) g && apart fa fb)) ≡ true → Facts (Or a b) f g
 or_facts a b fa ga fb gb f g nb ea eb x y h =
-    let p = and_is (covers (fa ++ fb) f) (covers (ga ++ (if nb then gb ++ fa else gb)) g && apart fa fb) h in
-    let q = and_is (covers (ga ++ (if nb then gb ++ fa else gb)) g) (apart fa fb) p.1 in
+    let p = and_parts (covers (fa ++ fb) f) (covers (ga ++ (if nb then gb ++ fa else gb)) g && apart fa fb) h in
+    let q = and_parts (covers (ga ++ (if nb then gb ++ fa else gb)) g) (apart fa fb) p.1 in
     record {
       begins = λ t e. both_sets true fa fb f (code t.class) (first a t) (first b t) p.0 (x.begins t) (y.begins t) e;
       goes = λ t e. both_sets true ga (if nb then gb ++ fa else gb) g (code t.class) (goes_on st a t) (goes_on st b t || (is_nullable b && first a t)) q.0 (x.goes t)
@@ -165,12 +158,12 @@ or_facts a b fa ga fb gb f g nb ea eb x y h =
     }
   where
     some_more : (n : Bool) (xs ys : List ℕ) (k : ℕ) (a b : Bool) → (a ≡ true → has xs k ≡ true) → (b ≡ true → has ys k ≡ true) → (a || (n && b)) ≡ true → has (if n then xs ++ ys else xs) k ≡ true
-    some_more true xs ys k a b f g h = elim (or_is a b h) [ inl e ↦ has_left xs ys k (f e) | inr e ↦ has_right xs ys k (g e) ]
-    some_more false xs ys k a b f g h = elim (or_is a false h) [ inl e ↦ f e | inr e ↦ absurd cc ]
+    some_more true xs ys k a b f g h = elim (or_cases a b h) [ inl e ↦ has_left xs ys k (f e) | inr e ↦ has_right xs ys k (g e) ]
+    some_more false xs ys k a b f g h = elim (or_cases a false h) [ inl e ↦ f e | inr e ↦ absurd cc ]
 
 pub many_facts : (a : Rule) (fa ga g : List ℕ) → is_nullable a ≡ false → Facts a fa ga → (covers (fa ++ ga) g && apart ga fa) ≡ true → Facts (Many a) fa g
 many_facts a fa ga g ea x h =
-    let p = and_is (covers (fa ++ ga) g) (apart ga fa) h in
+    let p = and_parts (covers (fa ++ ga) g) (apart ga fa) h in
     record {
       begins = x.begins;
       goes = λ t e. both_sets true fa ga g (code t.class) (first a t) (goes_on st a t) p.0 (x.begins t) (x.goes t) e;

@@ -1,6 +1,7 @@
 -- Where the text has a tree the parser reads it, and it never stops at a token that some tree has there.
 use Rattle.std.proofs.Common.{◌≡◌, ℕ, zero, suc, ◌+◌, ◌<◌, ◌≤◌, ◌⊎◌, inl, inr, Bool, true, false, List, [], ◌∷◌, ◌++◌, length, refl, sym, ap, subst, ◌∙◌, append_assoc, arith, length-append}
 use Rattle.std.specs.Prelude.{if◌then◌else◌, ◌||◌, ◌&&◌}
+use Rattle.std.proofs.lemmas.Bool.{or_left, or_right, and_from, or_parts}
 use Rattle.span_grammar.specs.declared.class.Lexeme.{Lexeme}
 use Rattle.span_grammar.specs.declared.class.Sort.{Sort}
 use Rattle.span_grammar.specs.declared.grammar.Place.{Place}
@@ -16,22 +17,6 @@ if_true false x y e = absurd cc
 pub if_false : {A : Type 0} (b : Bool) (x y : A) → b ≡ false → (if b then x else y) ≡ y
 if_false false x y e = refl
 if_false true x y e = absurd cc
-
-pub or_left : (x y : Bool) → x ≡ true → (x || y) ≡ true
-or_left true y e = refl
-or_left false y e = absurd cc
-
-or_right : (x y : Bool) → y ≡ true → (x || y) ≡ true
-or_right true y e = refl
-or_right false y e = e
-
-and_both : (x y : Bool) → x ≡ true → y ≡ true → (x && y) ≡ true
-and_both true y e f = f
-and_both false y e f = absurd cc
-
-or_false : (x y : Bool) → (x || y) ≡ false → (x ≡ false) × (y ≡ false)
-or_false true y e = absurd cc
-or_false false y e = (refl, e)
 
 and_false : (x y : Bool) → x ≡ true → (x && y) ≡ false → y ≡ false
 and_false true y e f = f
@@ -127,7 +112,7 @@ module _ (inside : Place → Rule) (st : Place → Lexeme → Bool) where
   pub none_of : (x : Tree) (a : Rule) (d : ℕ) → Fits inside x a → marks d x ≡ [] → is_nullable a ≡ true
   none_of Nothing Empty d h e = refl
   none_of (Leaf t) (One s) d h e = absurd cc
-  none_of (Pair x y) (Then a b) d h e = let b2 = empty_both (marks d x) (marks d y) e in and_both (is_nullable a) (is_nullable b) (none_of x a d h.0 b2.0) (none_of y b d h.1 b2.1)
+  none_of (Pair x y) (Then a b) d h e = let b2 = empty_both (marks d x) (marks d y) e in and_from (is_nullable a) (is_nullable b) (none_of x a d h.0 b2.0) (none_of y b d h.1 b2.1)
   none_of (Left x) (Or a b) d h e = or_left (is_nullable a) (is_nullable b) (none_of x a d h e)
   none_of (Right y) (Or a b) d h e = or_right (is_nullable a) (is_nullable b) (none_of y b d h e)
   none_of End (Many a) d h e = refl
@@ -136,7 +121,7 @@ module _ (inside : Place → Rule) (st : Place → Lexeme → Bool) where
   none_of _ _ d h e = absurd h
 
   first_then : (a b : Rule) (mx my : Marks) (m : Lexeme × ℕ) (q : Marks) → ((n : Lexeme × ℕ) (r : Marks) → mx ≡ n ∷ r → first a n.0 ≡ true) → (mx ≡ [] → is_nullable a ≡ true) → ((n : Lexeme × ℕ) (r : Marks) → my ≡ n ∷ r → first b n.0 ≡ true) → mx ++ my ≡ m ∷ q → (first a m.0 || (is_nullable a && first b m.0)) ≡ true
-  first_then a b [] my m q f n g e = or_right (first a m.0) (is_nullable a && first b m.0) (and_both (is_nullable a) (first b m.0) (n refl) (g m q e))
+  first_then a b [] my m q f n g e = or_right (first a m.0) (is_nullable a && first b m.0) (and_from (is_nullable a) (first b m.0) (n refl) (g m q e))
   first_then a b (x ∷ mx) my m q f n g e =
       let i : x ≡ m = cc in
       or_left (first a m.0) (is_nullable a && first b m.0) (f m mx (ap (λ (y : Lexeme × ℕ). y ∷ mx) i))
@@ -164,34 +149,34 @@ module _ (inside : Place → Rule) (st : Place → Lexeme → Bool) where
 
   stops_then : (a b : Rule) (k : List Lexeme) → Stops st (Then a b) k → Stops st b k
   stops_then a b [] h = tt
-  stops_then a b (t ∷ k) h = (or_false (goes_on st b t) (is_nullable b && goes_on st a t) h).0
+  stops_then a b (t ∷ k) h = (or_parts (goes_on st b t) (is_nullable b && goes_on st a t) h).0
 
   stops_over : (a b : Rule) (k : List Lexeme) → Stops st (Then a b) k → is_nullable b ≡ true → Stops st a k
   stops_over a b [] h n = tt
-  stops_over a b (t ∷ k) h n = and_false (is_nullable b) (goes_on st a t) n (or_false (goes_on st b t) (is_nullable b && goes_on st a t) h).1
+  stops_over a b (t ∷ k) h n = and_false (is_nullable b) (goes_on st a t) n (or_parts (goes_on st b t) (is_nullable b && goes_on st a t) h).1
 
   stops_first : (a b : Rule) (d : ℕ) (y : Tree) (k : List Lexeme) → Apart (goes_on st a) (first b) → Fits inside y b → (is_nullable b ≡ true → Stops st a k) → Stops st a (words (marks d y) ++ k)
   stops_first a b d y k ap_ h n = stops_at a k (marks d y) (λ e. n (none_of y b d h e)) (λ m q e. apart_at (goes_on st a m.0) (λ g. ap_ m.0 g (first_of y b d h m q e)))
 
   stops_many : (a : Rule) (k : List Lexeme) → Stops st (Many a) k → Stops st a k
   stops_many a [] h = tt
-  stops_many a (t ∷ k) h = (or_false (first a t) (goes_on st a t) h).1
+  stops_many a (t ∷ k) h = (or_parts (first a t) (goes_on st a t) h).1
 
   starts_many : (a : Rule) (k : List Lexeme) → Stops st (Many a) k → starts a k ≡ false
   starts_many a [] h = refl
-  starts_many a (t ∷ k) h = (or_false (first a t) (goes_on st a t) h).0
+  starts_many a (t ∷ k) h = (or_parts (first a t) (goes_on st a t) h).0
 
   stops_left : (a b : Rule) (k : List Lexeme) → Stops st (Or a b) k → Stops st a k
   stops_left a b [] h = tt
-  stops_left a b (t ∷ k) h = (or_false (goes_on st a t) (goes_on st b t || (is_nullable b && first a t)) h).0
+  stops_left a b (t ∷ k) h = (or_parts (goes_on st a t) (goes_on st b t || (is_nullable b && first a t)) h).0
 
   stops_right : (a b : Rule) (k : List Lexeme) → Stops st (Or a b) k → Stops st b k
   stops_right a b [] h = tt
-  stops_right a b (t ∷ k) h = (or_false (goes_on st b t) (is_nullable b && first a t) (or_false (goes_on st a t) (goes_on st b t || (is_nullable b && first a t)) h).1).0
+  stops_right a b (t ∷ k) h = (or_parts (goes_on st b t) (is_nullable b && first a t) (or_parts (goes_on st a t) (goes_on st b t || (is_nullable b && first a t)) h).1).0
 
   starts_right : (a b : Rule) (k : List Lexeme) → Stops st (Or a b) k → is_nullable b ≡ true → starts a k ≡ false
   starts_right a b [] h n = refl
-  starts_right a b (t ∷ k) h n = and_false (is_nullable b) (first a t) n (or_false (goes_on st b t) (is_nullable b && first a t) (or_false (goes_on st a t) (goes_on st b t || (is_nullable b && first a t)) h).1).1
+  starts_right a b (t ∷ k) h n = and_false (is_nullable b) (first a t) n (or_parts (goes_on st b t) (is_nullable b && first a t) (or_parts (goes_on st a t) (goes_on st b t || (is_nullable b && first a t)) h).1).1
 
   -- a text that begins with the marks of a tree that isn't empty
   starts_with : (a : Rule) (k : List Lexeme) (mx : Marks) → (mx ≡ [] → ⊥) → ((m : Lexeme × ℕ) (q : Marks) → mx ≡ m ∷ q → first a m.0 ≡ true) → starts a (words mx ++ k) ≡ true

@@ -16,7 +16,7 @@ use Rattle.span_keycode.proofs.LevelLaws.{AreLevels, fit_length, fit_split, leve
 use Rattle.span_keycode.proofs.Exact.{levels_begin}
 use Rattle.span_keycode.proofs.Going.{tables_of, tables_back, tables_append, last_or, last_path}
 
-place_within : (tables : List Table) (n : ℕ) → IsTable tables n → n - 1 < length tables
+pub place_within : (tables : List Table) (n : ℕ) → IsTable tables n → n - 1 < length tables
 place_within tables n t = omega (arith, t.0, t.1)
 
 pub order_of_keys : OrderOfKeys
@@ -28,7 +28,7 @@ pub order_in_table : OrderInTable
 order_in_table tables rules n vs ws k l = decides-key tables rules (n - 1) (place_within tables n k.0) vs ws k.1 l.1
 
 -- the values of levels, one after another
-abbrev values_of : List Level → List Value
+abbrev pub values_of : List Level → List Value
 values_of [] = []
 values_of (l ∷ ls) = l.values ++ values_of ls
 
@@ -43,7 +43,7 @@ append_none (x ∷ xs) = ap (λ (ys : List Value). x ∷ ys) (append_none xs)
 own_here : (tables : List Table) (i : ℕ) (vs : List Value) → values_of (level_of tables vs (i + 1) ∷ []) ≡ own_values_at tables i vs
 own_here tables i vs = append_none _ ∙ ap (λ (k : ℕ). own_values_at tables k vs) (back i)
 
-values_back : (tables : List Table) → MeetsRules tables → (i : ℕ) → i < length tables → (vs : List Value) → AreFit (key_at tables i) vs → values_of (levels_at tables i vs) ≡ vs
+pub values_back : (tables : List Table) → MeetsRules tables → (i : ℕ) → i < length tables → (vs : List Value) → AreFit (key_at tables i) vs → values_of (levels_at tables i vs) ≡ vs
 values_back tables rules = by_parents tables (λ i. i < length tables → (vs : List Value) → AreFit (key_at tables i) vs → values_of (levels_at tables i vs) ≡ vs) step
   where
     step : (i : ℕ) → ((p : ℕ) → parent_at tables i ≡ Some p → p < length tables → (vs : List Value) → AreFit (key_at tables p) vs → values_of (levels_at tables p vs) ≡ vs)

@@ -25,3 +25,5 @@ pub mod PartLaws
 pub mod Comparing
 pub mod RootCodes
 pub mod ValueLaws
+pub mod KeyTables
+pub mod Once

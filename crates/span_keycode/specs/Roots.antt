@@ -1,5 +1,5 @@
 -- The root row of a coded key.
-use Rattle.std.specs.Prelude.{◌≡◌, ℕ, ◌≤◌, List, ◌++◌, length, take, drop}
+use Rattle.std.specs.Prelude.{◌≡◌, ℕ, ◌≤◌, List, ◌++◌, Option, Some, length, take, drop}
 use Rattle.span_value.specs.declared.value.Value.{Value}
 use Rattle.span_schema.specs.declared.table.Table.{Table}
 use Rattle.span_schema.specs.declared.layout.KeyPart.{KeyPart}
@@ -27,3 +27,7 @@ pub record IsSkip (c : KeyPart) (bytes : List ℕ) (n : ℕ) : Type 0 where
 pub record IsTupleSkip (cs : List KeyPart) (bytes : List ℕ) (n : ℕ) : Type 0 where
   pub within : n ≤ length bytes
   pub past : (vs : List Value) (more : List ℕ) → AreFit cs vs → bytes ≡ tuple_code cs vs ++ more → more ≡ drop n bytes
+
+-- of whatever key the bytes are the coding, that is the number of its table
+pub record IsTableOf (tables : List Table) (bytes : List ℕ) (found : Option ℕ) : Type 0 where
+  pub of : (n : ℕ) (vs : List Value) → IsKey tables n vs → bytes ≡ key_code tables n vs → found ≡ Some n

@@ -11,6 +11,7 @@ pub mod parts;
 pub mod range;
 pub mod root;
 pub mod root_order;
+pub mod table;
 mod text;
 mod tuple;
-mod value;
+pub mod value;

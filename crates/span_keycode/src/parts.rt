@@ -1,5 +1,5 @@
 //! Parts of ranges of coded keys: the lowest part that no piece covers, and whether pieces tile a range.
-ghost use Rattle.std.specs.Prelude.{◌≡◌, ◌≤◌, ℕ, List, Option, Some, None, IfOk, MatchOption, is_some, length};
+ghost use Rattle.std.specs.Prelude.{◌≡◌, ◌≤◌, ℕ, List, Option, Some, None, IfOk, MatchOption, length};
 ghost use Rattle.std.specs.Ordering.{is_lt};
 ghost use Rattle.std.specs.Str.{bytes_eq};
 ghost use Rattle.span_keycode.specs.Order.{byte_order};
@@ -63,13 +63,6 @@ fn earlier_of<'a>(hi: &'a Option<Key>, key: &'a [u8]) -> &'a [u8]
         None => key,
         Some(high) => earlier(high.as_slice(), key),
     }
-}
-
-/// A copy of a range.
-pub fn copy_range(alloc: Global, range: &KeyRange) -> Result<KeyRange, AllocError>
-    ensures { IfOk result (λ copy. copy ≡ range.now) }
-{
-    range_from(alloc, range.low.as_slice(), range.high.as_slice())
 }
 
 // The range with these ends.
@@ -142,16 +135,6 @@ pub fn lowest_gap(
     match gap_ends(lo, hi, range, covered) {
         None => Ok(None),
         Some((low, high)) => Ok(Some(range_from(alloc, low, high)?)),
-    }
-}
-
-/// Whether no piece covers a part of a range from `lo` on and before `hi`.
-pub fn has_gap(lo: &Option<Key>, hi: &Option<Key>, range: &KeyRange, covered: &[KeyRange]) -> bool
-    ensures { result ≡ is_some (lowest_gap (part_between lo.now hi.now range.now) covered.now) }
-{
-    match gap_ends(lo, hi, range, covered) {
-        None => false,
-        Some(_) => true,
     }
 }
 

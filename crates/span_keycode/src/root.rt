@@ -20,7 +20,8 @@ pub fn root_prefix<'a>(schema: &Schema, key: &'a Key) -> &'a [u8]
     front(bytes, root_len(schema, bytes))
 }
 
-fn front(bytes: &[u8], len: usize) -> &[u8]
+/// The first bytes.
+pub(crate) fn front(bytes: &[u8], len: usize) -> &[u8]
     requires { len ≤ length bytes.now }
     ensures { result.now ≡ take len bytes.now }
 {
@@ -37,7 +38,8 @@ fn root_len(schema: &Schema, bytes: &[u8]) -> usize
     skip_tuple(schema.own_key_columns(table), after(bytes, 1)) + 1
 }
 
-fn skip_tuple(columns: &[KeyPart], bytes: &[u8]) -> usize
+/// How many bytes code the values of columns at the front of bytes.
+pub(crate) fn skip_tuple(columns: &[KeyPart], bytes: &[u8]) -> usize
     ensures { IsTupleSkip columns.now bytes.now result }
 {
     let mut at = 0;
@@ -47,7 +49,8 @@ fn skip_tuple(columns: &[KeyPart], bytes: &[u8]) -> usize
     at
 }
 
-fn skip_value(column: KeyPart, bytes: &[u8]) -> usize
+/// How many bytes code the value of a column at the front of bytes. It allocates nothing.
+pub fn skip_value(column: KeyPart, bytes: &[u8]) -> usize
     ensures { IsSkip column bytes.now result }
 {
     if bytes.len() == 0 {

@@ -13,7 +13,7 @@ use span_value::value::{Kind, Value};
 use std::alloc::{AllocError, Global};
 
 /// The value at the front of a column's bytes, and how many bytes code it; None if no value of the column is coded there.
-pub(crate) fn read_value(
+pub fn read_value(
     alloc: Global,
     column: KeyPart,
     bytes: &[u8],
@@ -34,7 +34,7 @@ pub(crate) fn read_value(
 }
 
 /// The bytes from a place on.
-pub(crate) fn after(bytes: &[u8], place: usize) -> &[u8]
+pub fn after(bytes: &[u8], place: usize) -> &[u8]
     requires { place ≤ length bytes.now }
     ensures { result.now ≡ drop place bytes.now }
 {

@@ -32,7 +32,7 @@ begins_front b p e =
     ap (λ (l : List ℕ). l ++ drop (length p) b) same ∙ take-append-drop (length p) b
 
 -- bytes are not before their front
-front_not_after : (p rest : List ℕ) → is_lt (byte_order (p ++ rest) p) ≡ false
+pub front_not_after : (p rest : List ℕ) → is_lt (byte_order (p ++ rest) p) ≡ false
 front_not_after [] [] = refl
 front_not_after [] (b ∷ rest) = refl
 front_not_after (a ∷ p) rest = ap (λ (o : Ordering). is_lt (ordering_then o (byte_order (p ++ rest) p))) (same a) ∙ front_not_after p rest

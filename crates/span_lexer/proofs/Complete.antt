@@ -2,6 +2,7 @@
 use Rattle.std.proofs.Common.{◌≡◌, ◌⊎◌, inl, inr, ℕ, zero, suc, ◌+◌, ◌-◌, ◌*◌, ◌<◌, ◌≤◌, ◌==◌, nat_lt, Bool, true, false, not, ◌&&◌, ◌||◌, List, [], ◌∷◌, ◌++◌, length, drop, take, Option, Some, None, if◌then◌else◌, refl, sym, ap, subst, ◌∙◌, arith, eqb-true}
 use Rattle.std.proofs.lemmas.Grind.{common_steps}
 use Rattle.std.proofs.lemmas.List.{take-append-drop}
+use Rattle.std.proofs.lemmas.Bool.{or_parts}
 use Rattle.span_lexer.specs.declared.token.TokenKind.{TokenKind}
 use Rattle.span_lexer.specs.declared.token.TokenKind.TheVariants as kind
 use Rattle.span_lexer.specs.declared.token.Token.{Token}
@@ -174,17 +175,13 @@ not_next : (p : ℕ → Bool) (rest : List ℕ) → ((b : ℕ) (more : List ℕ)
 not_next p [] h = refl
 not_next p (b ∷ rest) h = h b rest refl
 
-or_false : (a b : Bool) → (a || b) ≡ false → (a ≡ false) × (b ≡ false)
-or_false false b e = (refl, e)
-or_false true b e = absurd (let t : true ≡ false = e in cc)
-
 pair_less : (c : ℕ) → is_pair 60 c ≡ false → ((c == 61) ≡ false) × ((c == 62) ≡ false)
 unfolding is_pair
-pair_less c e = or_false (c == 61) (c == 62) ((or_false ((c == 61) || (c == 62)) false ((or_false (((c == 61) || (c == 62)) || false) false e).0)).0)
+pair_less c e = or_parts (c == 61) (c == 62) ((or_parts ((c == 61) || (c == 62)) false ((or_parts (((c == 61) || (c == 62)) || false) false e).0)).0)
 
 pair_greater : (c : ℕ) → is_pair 62 c ≡ false → (c == 61) ≡ false
 unfolding is_pair
-pair_greater c e = (or_false (c == 61) false e).0
+pair_greater c e = (or_parts (c == 61) false e).0
 
 pair_minus : (c : ℕ) → is_pair 45 c ≡ false → (c == 45) ≡ false
 unfolding is_pair

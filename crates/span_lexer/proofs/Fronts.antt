@@ -3,6 +3,7 @@ use Rattle.std.proofs.Common.{◌≡◌, ℕ, zero, suc, ◌+◌, ◌-◌, ◌*�
 use Rattle.std.specs.List.{prefix_len}
 use Rattle.std.proofs.lemmas.Grind.{common_steps}
 use Rattle.std.proofs.lemmas.List.Sums.{prefix_len-le-length}
+use Rattle.std.proofs.lemmas.Bool.{and_parts}
 use Rattle.span_lexer.specs.declared.token.TokenKind.TheVariants as kind
 use Rattle.span_lexer.specs.declared.token.Sign.{Sign}
 use Rattle.span_lexer.specs.declared.token.Sign.TheVariants as sgn
@@ -249,15 +250,11 @@ sign_holds b bs m =
 
 -- ---- all cases together
 
-and_both : (a b : Bool) → (a && b) ≡ true → (a ≡ true) × (b ≡ true)
-and_both true b e = (refl, e)
-and_both false b e = absurd (let t : false ≡ true = e in cc)
-
 comment_holds : (b : ℕ) (bs : List ℕ) → (b == 45 && begins (λ c. c == 45) bs) ≡ true → Holds (b ∷ bs) (lex_result.Skip (1 + prefix_len is_on_line bs))
 unfolding is_on_line
 comment_holds b [] e = absurd (let t : (b == 45 && false) ≡ true = e in grind arith)
 comment_holds b (c ∷ bs) e =
-    let two = and_both (b == 45) (c == 45) e in
+    let two = and_parts (b == 45) (c == 45) e in
     let n = prefix_len is_on_line bs in
     let P : ℕ → Type 0 = λ k. Holds (45 ∷ 45 ∷ bs) (lex_result.Skip k) in
     let length_is : suc (suc n) ≡ 1 + (1 + n) = omega arith in
@@ -272,7 +269,7 @@ unfolding lex_first
 front_holds [] = tt
 front_holds (b ∷ bs) =
     choose (Holds (b ∷ bs)) (is_blank b) (lex_result.Skip 1) _ (λ e. (Blank b, tt, e, refl, omega arith, omega arith))
-    (λ e1. choose (Holds (b ∷ bs)) (is_mark b && begins is_quote bs) (lex_bytes bs) _ (λ e. let two = and_both (is_mark b) (begins is_quote bs) e in bytes_front_holds b bs two.0 two.1)
+    (λ e1. choose (Holds (b ∷ bs)) (is_mark b && begins is_quote bs) (lex_bytes bs) _ (λ e. let two = and_parts (is_mark b) (begins is_quote bs) e in bytes_front_holds b bs two.0 two.1)
     (λ e2. choose (Holds (b ∷ bs)) (is_letter b) (lex_word (b ∷ bs)) _ (λ e. word_holds b bs e e2)
     (λ e3. choose (Holds (b ∷ bs)) (is_digit b) (lex_integer (b ∷ bs)) _ (λ e. integer_holds b bs e)
     (λ e4. choose (Holds (b ∷ bs)) (b == 64) (lex_parameter bs) _ (λ e. let P : ℕ → Type 0 = λ x. Holds (x ∷ bs) (lex_parameter bs) in subst P (sym (eqb-true b 64 e)) (parameter_holds bs))

@@ -1,5 +1,5 @@
 -- INT64 has each integer of a text, with either sign.
-use Rattle.std.specs.Prelude.{ℕ, ◌≤◌, List}
+use Rattle.std.specs.Prelude.{◌≤◌, List}
 use Rattle.std.specs.List.{AllByRecursion}
 use Rattle.span_lexer.specs.declared.token.Token.{Token}
 use Rattle.span_lexer.specs.declared.token.TokenKind.{TokenKind}

@@ -3,6 +3,7 @@ use Rattle.std.proofs.Common.{◌≡◌, ℕ, ◌+◌, ◌-◌, ◌<◌, Bool, t
 use Rattle.std.specs.Prelude.{nat_lt}
 use Rattle.std.specs.Option.{option_or}
 use Rattle.std.proofs.lemmas.Option.{slice_get_within}
+use Rattle.std.proofs.lemmas.Bool.{not-false}
 use Rattle.span_value.specs.declared.value.Value.{Value}
 use Rattle.span_value.specs.declared.refusal.Refusal.{Refusal}
 use Rattle.span_value.specs.declared.refusal.Refusal.TheVariants.{WrongType, NullNotAllowed, ValueTooLong, KeyTooLong}
@@ -29,12 +30,8 @@ pub or_none : (a b : Option Refusal) → option_or a b ≡ None → a ≡ None
 or_none None b e = refl
 or_none (Some w) b e = absurd cc
 
-pub not_not : (b : Bool) → not b ≡ false → b ≡ true
-not_not true e = refl
-not_not false e = absurd cc
-
 right_kinds : (tables : List Table) (n : ℕ) (t : Table) (key : List Value) → first_cause (key_causes tables n t key) ≡ None → are_of_kinds (key_columns tables n) key ≡ true
-right_kinds tables n t key e = not_not (are_of_kinds (key_columns tables n) key)
+right_kinds tables n t key e = not-false (are_of_kinds (key_columns tables n) key)
     (first_none (not (are_of_kinds (key_columns tables n) key)) WrongType (
     (key_breaks is_null_refused t.columns t.key key, NullNotAllowed)
     ∷ (key_breaks is_too_long t.columns t.key key, ValueTooLong)

@@ -20,7 +20,8 @@ use Rattle.span_mutate.specs.Checking.{unless}
 use Rattle.span_mutate.specs.Rows.{begins, is_same_key, is_at, row_at, with_row}
 use Rattle.span_mutate.specs.Database.{is_at_or_below, cascades, blocks_delete, tables_under, tables_blocking_delete, all_tables, is_in, is_under, is_delete_blocked, lacks_parent, is_insert, is_update, cells_after, causes, row_after, without_rows, changed, apply_to, apply_one}
 use Rattle.span_mutate.specs.Directories.{Root, is_in_directory, directory, key_len, IsKeyed, rows_cmp, IsInOrder, IsDatabase}
-use Rattle.span_mutate.proofs.Begins.{both_hold, both_make, same_key, same_number, number_itself, front_on, front_of_front, front_of_taken}
+use Rattle.span_mutate.proofs.Begins.{same_key, same_number, number_itself, front_on, front_of_front, front_of_taken}
+use Rattle.std.proofs.lemmas.Bool.{and_from, and_parts}
 use Rattle.span_mutate.proofs.Families.{parent_family, below_root, root_short}
 use Rattle.span_mutate.proofs.Filters.{filters_turned, filter_within, find_kept, found_passes}
 use Rattle.span_mutate.proofs.Orders.{rows_equal, rows_total}
@@ -32,12 +33,12 @@ AreKeyedRows tables db = AllByRecursion (λ (r : TableRow). IsKeyed tables r.tab
 -- keys of one family and with one front are of one directory
 moved : (tables : List Table) (root : Root) (n m : ℕ) (vs ws : List Value) → is_in_directory tables root n vs ≡ true → root_of tables m ≡ root_of tables n → begins root.key ws ≡ true → is_in_directory tables root m ws ≡ true
 moved tables root n m vs ws h same front =
-    both_make _ _ (ap (λ (t : ℕ). t == root.table) same ∙ (both_hold (root_of tables n == root.table) (begins root.key vs) h).0) front
+    and_from _ _ (ap (λ (t : ℕ). t == root.table) same ∙ (and_parts (root_of tables n == root.table) (begins root.key vs) h).0) front
 
 -- a row at a key of the directory is of it
 at_is_of : (tables : List Table) (root : Root) (n : ℕ) (key : List Value) → is_in_directory tables root n key ≡ true → (q : TableRow) → is_at n key q ≡ true → is_in_directory tables root q.table q.key ≡ true
 at_is_of tables root n key h q at =
-    let parts = both_hold (q.table == n) (is_same_key key q.key) at in
+    let parts = and_parts (q.table == n) (is_same_key key q.key) at in
     let table : n ≡ q.table = sym (same_number q.table n parts.0) in
     ap (λ (m : ℕ). is_in_directory tables root m q.key) (sym table) ∙ ap (is_in_directory tables root n) (sym (same_key key q.key parts.1)) ∙ h
 
@@ -49,7 +50,7 @@ parent_same : (tables : List Table) → MeetsRules tables → (root : Root) → 
 parent_same tables rules root len n key is h None e db = refl
 parent_same tables rules root len n key is h (Some q) e db =
     let above = parent_family tables n q is e in
-    let parts = both_hold (root_of tables n == root.table) (begins root.key key) h in
+    let parts = and_parts (root_of tables n == root.table) (begins root.key key) h in
     let named : root_of tables q ≡ root.table = above.1 ∙ same_number (root_of tables n) root.table parts.0 in
     let short : length root.key ≤ key_len tables q = omega (arith, len, ap (key_len tables) named, root_short tables rules q above.0) in
     ap (λ (r : Option TableRow). is_none r)
@@ -59,17 +60,17 @@ parent_same tables rules root len n key is h (Some q) e db =
 -- a row of a table below, whose key begins with one of the directory, is of it
 pub under_is_of : (tables : List Table) (root : Root) (n : ℕ) (key : List Value) → is_in_directory tables root n key ≡ true → (q : TableRow) → root_of tables q.table ≡ root_of tables n → begins key q.key ≡ true → is_in_directory tables root q.table q.key ≡ true
 under_is_of tables root n key h q same front =
-    moved tables root n q.table key q.key h same (front_on root.key key q.key (both_hold (root_of tables n == root.table) (begins root.key key) h).1 front)
+    moved tables root n q.table key q.key h same (front_on root.key key q.key (and_parts (root_of tables n == root.table) (begins root.key key) h).1 front)
 
 holding_root : (tables : List Table) (n m : ℕ) → blocks_delete tables n m ≡ true → root_of tables m ≡ root_of tables n
 holding_root tables n m h =
-    below_root tables n m (both_hold (is_at_or_below tables n m) (not (m == n)) (both_hold (is_at_or_below tables n m && not (m == n)) (not (cascades (table_at tables m))) h).0).0
+    below_root tables n m (and_parts (is_at_or_below tables n m) (not (m == n)) (and_parts (is_at_or_below tables n m && not (m == n)) (not (cascades (table_at tables m))) h).0).0
 
 held_same : (tables : List Table) (root : Root) (n : ℕ) (key : List Value) → is_in_directory tables root n key ≡ true → (db : List TableRow) → is_delete_blocked tables n key (directory tables root db) ≡ is_delete_blocked tables n key db
 held_same tables root n key h db =
     any-filter_same (is_in (tables_blocking_delete tables n) key) (λ (q : TableRow). is_in_directory tables root q.table q.key) true
     (λ q t.
-    let parts = both_hold (list_any (λ (k : ℕ). k == q.table) (tables_blocking_delete tables n)) (begins key q.key) t in
+    let parts = and_parts (list_any (λ (k : ℕ). k == q.table) (tables_blocking_delete tables n)) (begins key q.key) t in
     under_is_of tables root n key h q (holding_root tables n q.table (found_passes (blocks_delete tables n) q.table (all_tables tables) parts.0)) parts.1) db
 
 -- the first cause, by whether the parent row is absent and whether a row below holds
@@ -112,12 +113,12 @@ changed_apart tables rules root len m keyed h db sorted before = pick (is_delete
     other : (q : TableRow) → is_in_directory tables root q.table q.key ≡ true → (b : Bool) → is_under tables m.table m.key q ≡ b → not b ≡ true
     other q t false e = refl
     other q t true e =
-        let parts = both_hold (list_any (λ (k : ℕ). k == q.table) (tables_under tables m.table)) (begins m.key q.key) e in
+        let parts = and_parts (list_any (λ (k : ℕ). k == q.table) (tables_under tables m.table)) (begins m.key q.key) e in
         let family : root_of tables q.table ≡ root_of tables m.table = below_root tables m.table q.table (found_passes (is_at_or_below tables m.table) q.table (all_tables tables) parts.0) in
-        let mine = both_hold (root_of tables q.table == root.table) (begins root.key q.key) t in
+        let mine = and_parts (root_of tables q.table == root.table) (begins root.key q.key) t in
         let named : root_of tables m.table ≡ root.table = sym family ∙ same_number (root_of tables q.table) root.table mine.0 in
         let short : length root.key ≤ length m.key = omega (arith, len, ap (key_len tables) named, root_short tables rules m.table keyed.0, keyed.1) in
-        let inside : is_in_directory tables root m.table m.key ≡ true = both_make _ _ (number_itself (root_of tables m.table) root.table named) (front_of_front root.key m.key q.key mine.1 parts.1 short) in
+        let inside : is_in_directory tables root m.table m.key ≡ true = and_from _ _ (number_itself (root_of tables m.table) root.table named) (front_of_front root.key m.key q.key mine.1 parts.1 short) in
         absurd (let g : false ≡ true = sym h ∙ inside in cc)
 
     removed : (o : Option TableRow) → directory tables root (without_rows tables m.table m.key o db) ≡ directory tables root db

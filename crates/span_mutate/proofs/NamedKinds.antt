@@ -26,7 +26,8 @@ use Rattle.span_mutate.specs.declared.mutation.MutationKind.{MutationKind}
 use Rattle.span_mutate.specs.Columns.{column_named, cell_column, has_wrong_type, is_null_refused, is_too_long, is_named, is_delete, value_named, other_columns, values_named}
 use Rattle.span_mutate.specs.Checking.{key_causes, cell_causes, cells_cause, lack_causes, mutation_cause}
 use Rattle.span_mutate.specs.Typed.{AreNamed, is_named_kind, are_named_kinds}
-use Rattle.span_mutate.proofs.Keyed.{first_none, or_none, not_not}
+use Rattle.span_mutate.proofs.Keyed.{first_none, or_none}
+use Rattle.std.proofs.lemmas.Bool.{not-false, or_parts, and_from}
 
 -- ---- the test of kinds, one after another
 
@@ -87,7 +88,7 @@ none_placed p xs h = none_passes p xs (below (position_or_len p xs) (length xs) 
         split true f g = absurd (let k : true ≡ false = g in cc)
         split false f g = grind (arith, nat_tests)
 
-all_map : {X : Type 0} (P Q : X → Type 0) → ((x : X) → P x → Q x) → (xs : List X) → AllByRecursion P xs → AllByRecursion Q xs
+pub all_map : {X : Type 0} (P Q : X → Type 0) → ((x : X) → P x → Q x) → (xs : List X) → AllByRecursion P xs → AllByRecursion Q xs
 all_map P Q f [] h = tt
 all_map P Q f (x ∷ xs) h = (f x h.0, all_map P Q f xs h.1)
 
@@ -99,14 +100,10 @@ all_both P Q (x ∷ xs) h g = ((h.0, g.0), all_both P Q xs h.1 g.1)
 abbrev IsNamedSelf : List Column → Column → Type 0
 IsNamedSelf columns c = column_named columns c.name ≡ Some c
 
-pub two_false : (a b : Bool) → (a || b) ≡ false → (a ≡ false) × (b ≡ false)
-two_false true b h = absurd (let f : true ≡ false = h in cc)
-two_false false b h = (refl, h)
-
 names_apart : (columns : List Column) → has_repeated_column columns ≡ false → AllByRecursion (IsNamedSelf columns) columns
 names_apart [] h = tt
 names_apart (c ∷ cs) h =
-    let parts = two_false (is_some (column_place cs c.name)) (has_repeated_column cs) h in
+    let parts = or_parts (is_some (column_place cs c.name)) (has_repeated_column cs) h in
     let apart = none_placed (λ (d : Column). is_same_name d.name c.name) cs parts.0 in (
       ap (λ (b : Bool). cond b (Some c) (column_named cs c.name)) (lower_same c.name c.name refl),
       all_map (λ (d : Column). (is_same_name d.name c.name ≡ false) × IsNamedSelf cs d) (IsNamedSelf (c ∷ cs)) later cs
@@ -127,7 +124,7 @@ pub record IsKindly (t : Table) (x : NamedValue) : Type 0 where
   pub there : is_none (cell_column t x.column) ≡ false
   pub right : has_wrong_type (cell_column t x.column) x.value ≡ false
 
-rest_none : (b : Bool) (w : Refusal) (rest : List (Bool × Refusal)) → first_cause ((b, w) ∷ rest) ≡ None → first_cause rest ≡ None
+pub rest_none : (b : Bool) (w : Refusal) (rest : List (Bool × Refusal)) → first_cause ((b, w) ∷ rest) ≡ None → first_cause rest ≡ None
 rest_none true w rest e = absurd cc
 rest_none false w rest e = e
 
@@ -150,7 +147,7 @@ kindly t kind before x e =
     ∷ []
     ) e in
     record {
-      there = (two_false (is_delete kind) (is_none (cell_column t x.column)) (two_false (is_delete kind || is_none (cell_column t x.column)) (is_named before x.column) a).0).1;
+      there = (or_parts (is_delete kind) (is_none (cell_column t x.column)) (or_parts (is_delete kind || is_none (cell_column t x.column)) (is_named before x.column) a).0).1;
       right = first_none (has_wrong_type (cell_column t x.column) x.value) WrongType (
           (is_null_refused (cell_column t x.column) x.value, NullNotAllowed)
           ∷ (is_too_long (cell_column t x.column) x.value, ValueTooLong)
@@ -173,7 +170,7 @@ cell_kind t c x self same k = cases (is_key_name t.key x.column) k.there k.right
 
     cases : (b : Bool) → is_none (cond b None (column_named t.columns x.column)) ≡ false → has_wrong_type (cond b None (column_named t.columns x.column)) x.value ≡ false → is_of_kind (kind_of c.kind) x.value ≡ true
     cases true e f = absurd (let g : true ≡ false = e in cc)
-    cases false e f = not_not (is_of_kind (kind_of c.kind) x.value) (sym (ap (λ (o : Option Column). has_wrong_type o x.value) named) ∙ f)
+    cases false e f = not-false (is_of_kind (kind_of c.kind) x.value) (sym (ap (λ (o : Option Column). has_wrong_type o x.value) named) ∙ f)
 
 value_kind : (t : Table) (c : Column) → IsNamedSelf t.columns c → (cells : List NamedValue) → AllByRecursion (IsKindly t) cells → is_named_kind (kind_of c.kind) (value_named cells c.name) ≡ true
 value_kind t c self [] h = refl
@@ -184,9 +181,6 @@ value_kind t c self (x ∷ xs) h = cases (is_same_name x.column c.name) refl (va
     cases true e again = cell_kind t c x self e h.0
     cases false e again = again
 
-and_true : (a b : Bool) → a ≡ true → b ≡ true → (a && b) ≡ true
-and_true a b e f = ap (λ (x : Bool). x && b) e ∙ f
-
 values_kinds : (t : Table) (cells : List NamedValue) → AllByRecursion (IsKindly t) cells → (cs : List Column) → AllByRecursion (IsNamedSelf t.columns) cs → are_named_kinds (layout.other_kinds t.key cs) (values_named t.key cells cs) ≡ true
 values_kinds t cells h [] g = refl
 values_kinds t cells h (c ∷ cs) g = cases (is_key_name t.key c.name) (values_kinds t cells h cs g.1)
@@ -194,15 +188,15 @@ values_kinds t cells h (c ∷ cs) g = cases (is_key_name t.key c.name) (values_k
     cases : (b : Bool) → are_named_kinds (layout.other_kinds t.key cs) (values_named t.key cells cs) ≡ true
         → are_named_kinds (cond b (layout.other_kinds t.key cs) (kind_of c.kind ∷ layout.other_kinds t.key cs)) (map (λ (d : Column). value_named cells d.name) (cond (not b) (c ∷ other_columns t.key cs) (other_columns t.key cs))) ≡ true
     cases true again = again
-    cases false again = and_true _ _ (value_kind t c g.0 cells h) again
+    cases false again = and_from _ _ (value_kind t c g.0 cells h) again
 
 -- a table that breaks no rule has no two columns of one name
 columns_differ : (t : Table) → has_bad_column t ≡ false → has_repeated_column t.columns ≡ false
 columns_differ t h =
-    let a = two_false (has_repeated_column t.columns || (length t.key == 0) || has_unknown_key t.columns t.key || has_repeated_key t.key) (has_bad_lengths t.columns) h in
-    let b = two_false (has_repeated_column t.columns || (length t.key == 0) || has_unknown_key t.columns t.key) (has_repeated_key t.key) a.0 in
-    let d = two_false (has_repeated_column t.columns || (length t.key == 0)) (has_unknown_key t.columns t.key) b.0 in
-    (two_false (has_repeated_column t.columns) (length t.key == 0) d.0).0
+    let a = or_parts (has_repeated_column t.columns || (length t.key == 0) || has_unknown_key t.columns t.key || has_repeated_key t.key) (has_bad_lengths t.columns) h in
+    let b = or_parts (has_repeated_column t.columns || (length t.key == 0) || has_unknown_key t.columns t.key) (has_repeated_key t.key) a.0 in
+    let d = or_parts (has_repeated_column t.columns || (length t.key == 0)) (has_unknown_key t.columns t.key) b.0 in
+    (or_parts (has_repeated_column t.columns) (length t.key == 0) d.0).0
 
 -- the cells of a mutation that nothing refuses are of the kinds of the columns outside the key
 pub named_kinds : (t : Table) → has_bad_column t ≡ false → (kind : MutationKind) (cells : List NamedValue) → cells_cause t kind [] cells ≡ None → are_named_kinds (layout.other_kinds t.key t.columns) (values_named t.key cells t.columns) ≡ true

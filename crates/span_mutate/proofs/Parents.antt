@@ -24,7 +24,8 @@ use Rattle.span_mutate.specs.Columns.{is_delete}
 use Rattle.span_mutate.specs.Rows.{begins, is_same_key, is_at, row_at, with_row}
 use Rattle.span_mutate.specs.Database.{is_at_or_below, all_tables, tables_under, is_under, is_delete_blocked, lacks_parent, is_insert, is_update, cells_after, causes, row_after, without_rows, changed, apply_one, apply}
 use Rattle.span_mutate.specs.Directories.{key_len, IsKeyed, rows_cmp, IsDatabase, HasParents, ParentsStay}
-use Rattle.span_mutate.proofs.Begins.{both_hold, both_make, same_key, same_number, front_on, taken_begins}
+use Rattle.span_mutate.proofs.Begins.{same_key, same_number, front_on, taken_begins}
+use Rattle.std.proofs.lemmas.Bool.{and_from, not-true, and_parts}
 use Rattle.span_mutate.proofs.Families.{number_here}
 use Rattle.span_mutate.proofs.Filters.{filter_yes, filter_no, find_kept, found_passes}
 use Rattle.span_mutate.proofs.Orders.{rows_equal}
@@ -32,6 +33,7 @@ use Rattle.span_mutate.proofs.Placing.{put, put_all}
 use Rattle.span_mutate.proofs.Local.{step_database}
 use Rattle.span_mutate.proofs.Runs.{run_on, run_faults}
 use Rattle.span_mutate.proofs.Keyed.{unless_none}
+use Rattle.span_mutate.proofs.NamedKinds.{all_map}
 
 -- a number of a range is found in it
 pub in_range : (a n t : ℕ) → a ≤ t → t < a + n → list_any (λ (k : ℕ). k == t) (range_with_len a n) ≡ true
@@ -74,12 +76,12 @@ below_child tables n m q e h =
 under_child : (tables : List Table) (n : ℕ) (key : List Value) (r x : TableRow) (q : ℕ) → IsTable tables r.table → parent_of tables r.table ≡ Some q → is_at q (take (key_len tables q) r.key) x ≡ true
     → is_under tables n key x ≡ true → is_under tables n key r ≡ true
 under_child tables n key r x q is e at under =
-    let here = both_hold (x.table == q) (is_same_key (take (key_len tables q) r.key) x.key) at in
-    let parts = both_hold (list_any (λ (k : ℕ). k == x.table) (tables_under tables n)) (begins key x.key) under in
+    let here = and_parts (x.table == q) (is_same_key (take (key_len tables q) r.key) x.key) at in
+    let parts = and_parts (list_any (λ (k : ℕ). k == x.table) (tables_under tables n)) (begins key x.key) under in
     let table : x.table ≡ q = same_number x.table q here.0 in
     let above : is_at_or_below tables n q ≡ true = ap (is_at_or_below tables n) (sym table) ∙ found_passes (is_at_or_below tables n) x.table (all_tables tables) parts.0 in
     let front : begins key (take (key_len tables q) r.key) ≡ true = ap (begins key) (same_key (take (key_len tables q) r.key) x.key here.1) ∙ parts.1 in
-    both_make _ _
+    and_from _ _
     (passes_found (is_at_or_below tables n) r.table (all_tables tables) (below_child tables n r.table q e above) (in_range 1 (length tables) r.table is.0 (omega (arith, is.1))))
     (front_on key (take (key_len tables q) r.key) r.key front (taken_begins r.key (key_len tables q)))
 
@@ -94,10 +96,6 @@ parent_left tables n key db r is out (Some q) e =
     stays : (x : TableRow) → is_at q (take (key_len tables q) r.key) x ≡ true → (b : Bool) → is_under tables n key x ≡ b → not b ≡ true
     stays x at false f = refl
     stays x at true f = absurd (let g : true ≡ false = sym (under_child tables n key r x q is e at f) ∙ out in cc)
-
-not_true : (b : Bool) → not b ≡ true → b ≡ false
-not_true true e = absurd cc
-not_true false e = refl
 
 -- what holds of each item holds so of what is kept
 kept_all : {X : Type 0} (P Q Z : X → Type 0) (p : X → Bool) → ((x : X) → P x → Q x → p x ≡ true → Z x) → (xs : List X) → AllByRecursion P xs → AllByRecursion Q xs → AllByRecursion Z (filter p xs)
@@ -193,10 +191,6 @@ third false false false u v w rest e = refl
 abbrev Has : List Table → List TableRow → TableRow → Type 0
 Has tables db r = lacks_parent tables (parent_of tables r.table) r.key db ≡ false
 
-mapped_all : {X : Type 0} (P Q : X → Type 0) → ((x : X) → P x → Q x) → (xs : List X) → AllByRecursion P xs → AllByRecursion Q xs
-mapped_all P Q f [] h = tt
-mapped_all P Q f (x ∷ xs) h = (f x h.0, mapped_all P Q f xs h.1)
-
 -- what a mutation that has no fault makes has the parent rows
 changed_parents : (tables : List Table) (m : CheckedMutation) (db : List TableRow) → IsDatabase tables db → HasParents tables db → (before : Option TableRow) → (is_delete m.kind ≡ false → lacks_parent tables (parent_of tables m.table) m.key db ≡ false)
     → HasParents tables (changed tables db m before)
@@ -206,14 +200,14 @@ changed_parents tables m db is has before own = pick (is_delete m.kind) refl
     removed None = has
     removed (Some r) =
         kept_all (λ (r : TableRow). IsKeyed tables r.table r.key) (Has tables db) (Has tables (without_rows tables m.table m.key (Some r) db)) (λ (q : TableRow). not (is_under tables m.table m.key q))
-        (λ x keyed h out. parent_left tables m.table m.key db x keyed.0 (not_true (is_under tables m.table m.key x) out) (parent_of tables x.table) refl ∙ h) db is.1 has
+        (λ x keyed h out. parent_left tables m.table m.key db x keyed.0 (not-true (is_under tables m.table m.key x) out) (parent_of tables x.table) refl ∙ h) db is.1 has
 
     pick : (b : Bool) → is_delete m.kind ≡ b → HasParents tables (cond b (without_rows tables m.table m.key before db) (with_row (key_columns tables m.table) (row_after m before) db))
     pick true e = removed before
     pick false e =
         let r = row_after m before in
         put_all (Has tables (put (rows_cmp tables) r db)) (rows_cmp tables) r db (parent_placed tables (parent_of tables m.table) m.key r db (own e))
-        (mapped_all (Has tables db) (Has tables (put (rows_cmp tables) r db)) (λ x h. parent_placed tables (parent_of tables x.table) x.key r db h) db has)
+        (all_map (Has tables db) (Has tables (put (rows_cmp tables) r db)) (λ x h. parent_placed tables (parent_of tables x.table) x.key r db h) db has)
 
 step_parents : (tables : List Table) (m : CheckedMutation) (db next : List TableRow) → IsDatabase tables db → HasParents tables db → apply_one tables db m ≡ Ok next → HasParents tables next
 step_parents tables m db next is has e =

@@ -103,7 +103,7 @@ put_lost {X} R total p r gone same xs sorted =
             (filter_no (λ x. is_lt (R x r)) x l (ap is_lt e) ∙ none_less R r l after)
             (filter_yes (λ x. is_gt (R x r)) x l (ap is_gt e) ∙ ap (λ (m : List X). x ∷ m) (all_greater R r l after))
 
-greater_is : (o : Ordering) → is_gt o ≡ true → o ≡ Greater
+pub greater_is : (o : Ordering) → is_gt o ≡ true → o ≡ Greater
 greater_is Less e = absurd cc
 greater_is Equal e = absurd cc
 greater_is Greater e = refl

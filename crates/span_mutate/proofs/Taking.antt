@@ -1,5 +1,5 @@
 -- Values that are taken out of the cells of a mutation, for one column after another.
-use Rattle.std.proofs.Common.{◌≡◌, ℕ, zero, suc, ◌+◌, ◌<◌, Bool, true, false, not, cond, List, [], ◌∷◌, Option, Some, None, is_some, length, drop, get_or, map, refl, sym, ap, subst, ◌∙◌, arith, add-one}
+use Rattle.std.proofs.Common.{◌≡◌, ℕ, zero, suc, ◌+◌, ◌<◌, Bool, true, false, not, cond, List, [], ◌∷◌, Option, Some, None, is_some, length, drop, get_or, map, refl, sym, ap, subst, ◌∙◌, arith}
 use Rattle.std.specs.Prelude.{remove, position}
 use Rattle.std.specs.List.{AllByRecursion, find}
 use Rattle.std.specs.Option.{option_map}
@@ -11,7 +11,9 @@ use Rattle.span_schema.specs.Tables.{is_same_name, is_key_name, column_place}
 use Rattle.span_schema.specs.Rules.{has_repeated_column}
 use Rattle.span_mutate.specs.declared.mutation.NamedValue.{NamedValue}
 use Rattle.span_mutate.specs.Columns.{value_named, other_columns, values_named}
-use Rattle.span_mutate.proofs.NamedKinds.{same_lower, lower_same, none_placed, two_false}
+use Rattle.span_mutate.proofs.NamedKinds.{same_lower, lower_same, none_placed}
+use Rattle.span_mutate.proofs.Runs.{item_first}
+use Rattle.std.proofs.lemmas.Bool.{or_parts}
 
 -- ---- what is found, once an item is taken out
 
@@ -79,13 +81,10 @@ drop_next [] i x lt is = absurd (let less : i < 0 = lt in omega arith)
 drop_next {X} (y ∷ ys) zero x lt is = ap (λ (z : X). z ∷ ys) (sym is)
 drop_next (y ∷ ys) (suc i) x lt is = drop_next ys i x (omega arith) is
 
-drop_here : {X : Type 0} (xs : List X) (i : ℕ) (x : X) → i < length xs → x ≡ get_or xs i x → drop i xs ≡ x ∷ drop (i + 1) xs
-drop_here xs i x lt is = rw (add-one i) (drop_next xs i x lt is)
-
 pub once_more : (columns : List Column) (i : ℕ) (c : Column) → i < length columns → c ≡ get_or columns i c → has_repeated_column (drop i columns) ≡ false → has_repeated_column (drop (i + 1) columns) ≡ false
 once_more columns i c lt is once =
-    let here : has_repeated_column (c ∷ drop (i + 1) columns) ≡ false = subst (λ (l : List Column). has_repeated_column l ≡ false) (drop_here columns i c lt is) once in
-    (two_false (is_some (column_place (drop (i + 1) columns) c.name)) (has_repeated_column (drop (i + 1) columns)) here).1
+    let here : has_repeated_column (c ∷ drop (i + 1) columns) ≡ false = subst (λ (l : List Column). has_repeated_column l ≡ false) (item_first columns i c lt is) once in
+    (or_parts (is_some (column_place (drop (i + 1) columns) c.name)) (has_repeated_column (drop (i + 1) columns)) here).1
 
 -- a column outside the key takes its value, and those after it find theirs
 pub take_more : (key : List KeyColumn) (left rest : List NamedValue) (columns : List Column) (i : ℕ) (c : Column) → i < length columns → c ≡ get_or columns i c
@@ -93,10 +92,10 @@ pub take_more : (key : List KeyColumn) (left rest : List NamedValue) (columns : 
     → ((other : List ℕ) → is_same_name other c.name ≡ false → value_named rest other ≡ value_named left other)
     → value_named left c.name ∷ values_named key rest (drop (i + 1) columns) ≡ values_named key left (drop i columns)
 take_more key left rest columns i c lt is once outside same =
-    let split = drop_here columns i c lt is in
+    let split = item_first columns i c lt is in
     let after = drop (i + 1) columns in
     let here : has_repeated_column (c ∷ after) ≡ false = subst (λ (l : List Column). has_repeated_column l ≡ false) split once in
-    let apart = none_placed (λ (d : Column). is_same_name d.name c.name) after (two_false (is_some (column_place after c.name)) (has_repeated_column after) here).0 in
+    let apart = none_placed (λ (d : Column). is_same_name d.name c.name) after (or_parts (is_some (column_place after c.name)) (has_repeated_column after) here).0 in
     cases after (is_key_name key c.name) outside (other_names key left rest c.name same after apart) ∙ ap (values_named key left) (sym split)
   where
     cases : (ds : List Column) (b : Bool) → b ≡ false → values_named key rest ds ≡ values_named key left ds
@@ -107,7 +106,7 @@ take_more key left rest columns i c lt is once outside same =
 -- a column of the key takes none
 pub skip_more : (key : List KeyColumn) (left : List NamedValue) (columns : List Column) (i : ℕ) (c : Column) → i < length columns → c ≡ get_or columns i c → is_key_name key c.name ≡ true
     → values_named key left (drop (i + 1) columns) ≡ values_named key left (drop i columns)
-skip_more key left columns i c lt is inside = cases (drop (i + 1) columns) (is_key_name key c.name) inside ∙ ap (values_named key left) (sym (drop_here columns i c lt is))
+skip_more key left columns i c lt is inside = cases (drop (i + 1) columns) (is_key_name key c.name) inside ∙ ap (values_named key left) (sym (item_first columns i c lt is))
   where
     cases : (ds : List Column) (b : Bool) → b ≡ true → values_named key left ds ≡ map (λ (d : Column). value_named left d.name) (cond (not b) (c ∷ other_columns key ds) (other_columns key ds))
     cases ds true e = refl

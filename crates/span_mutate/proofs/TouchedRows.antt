@@ -15,7 +15,7 @@ use Rattle.span_mutate.specs.Rows.{begins, row_at, with_row}
 use Rattle.span_mutate.specs.Database.{is_at_or_below, tables_under, all_tables, is_under, causes, row_after, without_rows, changed, apply_one, apply}
 use Rattle.span_mutate.specs.Directories.{Root, is_in_directory, directory, IsKeyed, AreKeyed, root_row, rows_cmp, IsInOrder, IsDatabase}
 use Rattle.span_mutate.specs.Touched.{is_touched, IsSameOutcome, TouchedAlone}
-use Rattle.span_mutate.proofs.Begins.{both_hold}
+use Rattle.std.proofs.lemmas.Bool.{and_parts}
 use Rattle.span_mutate.proofs.Families.{below_root}
 use Rattle.span_mutate.proofs.Filters.{filters_turned, filter_within, found_passes}
 use Rattle.span_mutate.proofs.Orders.{rows_equal, rows_total}
@@ -60,7 +60,7 @@ changed_others tables q m covers db sorted before = pick (is_delete m.kind)
 
     inside : (p : TableRow) → is_under tables m.table m.key p ≡ true → q p.table p.key ≡ true
     inside p e =
-        let parts = both_hold (list_any (λ (k : ℕ). k == p.table) (tables_under tables m.table)) (begins m.key p.key) e in
+        let parts = and_parts (list_any (λ (k : ℕ). k == p.table) (tables_under tables m.table)) (begins m.key p.key) e in
         let family : root_of tables p.table ≡ root_of tables m.table = below_root tables m.table p.table (found_passes (is_at_or_below tables m.table) p.table (all_tables tables) parts.0) in
         covers p.table p.key (under_is_of tables (root_row tables m.table m.key) m.table m.key (in_own tables m.table m.key) p family parts.1)
 

@@ -1,5 +1,5 @@
 -- A query after an opening is read with one opening fewer left.
-use Rattle.std.proofs.Common.{◌≡◌, ℕ, zero, suc, ◌<◌, ◌-◌, List, Result, sym, ap, subst, ◌∙◌, arith}
+use Rattle.std.proofs.Common.{◌≡◌, ℕ, zero, suc, ◌<◌, ◌-◌, List, Result, ap, subst, arith}
 use denote.Ref.{Bor}
 use Rattle.span_grammar.specs.declared.class.Lexeme.{Lexeme}
 use Rattle.span_syntax.specs.declared.fault.SyntaxError.{SyntaxError}

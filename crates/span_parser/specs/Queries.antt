@@ -8,7 +8,6 @@ use Rattle.span_grammar.specs.declared.grammar.Part.TheVariants as part
 use Rattle.span_grammar.specs.declared.judge.Goal.TheVariants as goal
 use Rattle.span_grammar.specs.Rules.{limit}
 use Rattle.span_syntax.specs.declared.fault.SyntaxError.TheVariants as fault
-use Rattle.span_syntax.specs.declared.tree.Span.{Span}
 use Rattle.span_syntax.specs.declared.tree.Spelling.{Spelling}
 use Rattle.span_syntax.specs.declared.tree.Column.{Column}
 use Rattle.span_syntax.specs.declared.tree.Expr.{Expr}

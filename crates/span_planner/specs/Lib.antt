@@ -5,3 +5,4 @@ pub mod Results
 pub mod Sizes
 pub mod Plannable
 pub mod Numbered
+pub mod Masks

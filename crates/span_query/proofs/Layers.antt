@@ -1,5 +1,5 @@
 -- A layer of a query, where the queries of its derived tables are replaced by something else.
-use Rattle.std.proofs.Common.{◌≡◌, ◌∙◌, sym, ap, refl, ℕ, Bool, List, [], ◌∷◌, map}
+use Rattle.std.proofs.Common.{◌≡◌, ◌∙◌, ap, refl, ℕ, Bool, List, [], ◌∷◌, map}
 use Rattle.span_expr.specs.declared.expr.Expr.{Expr}
 use Rattle.span_query.specs.declared.query.BoundQuery.TheOpen.{BoundQuery-F}
 use Rattle.span_query.specs.declared.query.BoundQuery.TheFolds.{map-BoundQuery}

@@ -1,1 +1,2 @@
 pub mod RowReads
+pub mod CellSkips

@@ -52,3 +52,8 @@ pub record IsCell (k : Kind) (bytes : List ℕ) (v : Value) (n : ℕ) : Type 0 w
   pub fits : Fits k v
   pub code : bytes ≡ cell_code v ++ drop n bytes
   pub within : n ≤ length bytes
+
+-- whatever cell of the kind is coded at the front, its coding has n bytes
+pub record IsCellSkip (k : Kind) (bytes : List ℕ) (n : ℕ) : Type 0 where
+  pub within : n ≤ length bytes
+  pub past : (v : Value) (more : List ℕ) → Fits k v → bytes ≡ cell_code v ++ more → more ≡ drop n bytes

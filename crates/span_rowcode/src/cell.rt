@@ -1,8 +1,8 @@
 //! Reading one cell of a packed row.
-ghost use Rattle.std.specs.Prelude.{◌≡◌, ◌≤◌, IfOk, MatchOption, drop, take, length};
-ghost use Rattle.std.specs.Int.{from_be_bytes, w32, w64};
+ghost use Rattle.std.specs.Prelude.{◌≡◌, ◌≤◌, ◌+◌, ◌++◌, List, ℕ, IfOk, MatchOption, drop, take, length};
+ghost use Rattle.std.specs.Int.{from_be_bytes, to_be_bytes, w32, w64};
 ghost use Rattle.span_value.specs.declared.value.Kind.TheVariants as kind;
-ghost use Rattle.span_rowcode.specs.Rows.{IsCell, IsNoCell};
+ghost use Rattle.span_rowcode.specs.Rows.{IsCell, IsNoCell, IsCellSkip};
 ghost use Rattle.span_rowcode.specs.Cells.{IsNoBody, IsBody, HasBytes, HasNoBytes};
 
 use crate::pack::MOST_BYTES;
@@ -12,7 +12,7 @@ use span_value::value::{Kind, Value};
 use std::alloc::{AllocError, Global};
 
 /// The cell of a kind at the front of bytes, and how many bytes code it; None if no cell of the kind is coded there.
-pub(crate) fn read_cell(
+pub fn read_cell(
     alloc: Global,
     kind: Kind,
     bytes: &[u8],
@@ -33,8 +33,40 @@ pub(crate) fn read_cell(
     }
 }
 
+/// How many bytes code the cell of a kind at the front of bytes. It allocates nothing.
+pub fn skip_cell(kind: Kind, bytes: &[u8]) -> usize
+    requires { length bytes.now ≤ MOST_BYTES }
+    ensures { IsCellSkip kind bytes.now result }
+{
+    if bytes.len() == 0 {
+        return 0;
+    }
+    if bytes[0] == 0 {
+        return 1;
+    }
+    match kind {
+        Kind::Int => bytes.len().min(9),
+        Kind::Bool => bytes.len().min(2),
+        _ => skip_bytes(after(bytes, 1)) + 1,
+    }
+}
+
+// How many bytes are a length in four bytes and the bytes after it.
+fn skip_bytes(rest: &[u8]) -> usize
+    requires { length rest.now ≤ MOST_BYTES }
+    ensures within { result ≤ length rest.now }
+    ensures found { (found more : List ℕ)
+        → rest.now ≡ to_be_bytes w32 (length found) ++ (found ++ more)
+        → result ≡ length found + 4 }
+{
+    match bytes_at(rest) {
+        None => 0,
+        Some(bytes) => bytes.len() + 4,
+    }
+}
+
 /// The bytes from a place on.
-pub(crate) fn after(bytes: &[u8], place: usize) -> &[u8]
+pub fn after(bytes: &[u8], place: usize) -> &[u8]
     requires { place ≤ length bytes.now }
     ensures { result.now ≡ drop place bytes.now }
 {

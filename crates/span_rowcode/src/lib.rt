@@ -1,7 +1,7 @@
 //! Packed rows: the bytes of the columns outside the primary key.
 #![tactic(auto)]
 
-mod cell;
+pub mod cell;
 pub mod laws;
 pub mod pack;
 pub mod unpack;

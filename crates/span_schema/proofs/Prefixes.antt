@@ -1,10 +1,11 @@
 -- The key of a child begins with that of its parent.
-use Rattle.std.proofs.Common.{◌≡◌, ℕ, ◌<◌, ◌≤◌, List, [], ◌∷◌, ◌++◌, Option, Some, None, refl, sym, ◌∙◌, ap, arith, Bool, true, false, not, ◌&&◌, length, take}
+use Rattle.std.proofs.Common.{◌≡◌, ℕ, ◌<◌, ◌≤◌, List, [], ◌∷◌, ◌++◌, Option, Some, None, refl, sym, ◌∙◌, ap, arith, Bool, true, false, ◌&&◌, length, take}
 use Rattle.std.specs.List.{slice_get, cons_option}
 use Rattle.std.specs.Option.{option_map}
 use Rattle.std.proofs.lemmas.Option.{cond_some, slice_get_within, slice_get-get_or, get_or_from_slice_get}
 use Rattle.std.proofs.lemmas.List.{length-take, get_or-take}
 use Rattle.std.proofs.lemmas.List.Folds.{find_at}
+use Rattle.std.proofs.lemmas.Bool.{and_parts, not-false}
 use Rattle.span_value.specs.declared.value.ColumnType.{ColumnType}
 use Rattle.span_value.specs.declared.value.ColumnType.TheVariants.{Int, Str, Bytes, Bool as Truth}
 use Rattle.span_schema.specs.declared.table.Table.{Table}
@@ -19,14 +20,6 @@ use Rattle.span_schema.specs.Lineages.{parent_in, parent_at, MeetsRules}
 use Rattle.span_schema.specs.Numbers.{key_at, columns_in, key_in}
 use Rattle.span_schema.proofs.Paths.{parent_before}
 use Rattle.span_schema.proofs.Judged.{passes_at}
-
-and_both : (a b : Bool) → (a && b) ≡ true → (a ≡ true) × (b ≡ true)
-and_both true b h = (refl, h)
-and_both false b h = absurd (let e : false ≡ true = h in cc)
-
-not_false : (b : Bool) → not b ≡ false → b ≡ true
-not_false true h = refl
-not_false false h = absurd (let e : true ≡ false = h in cc)
 
 directions : (a b : Bool) → is_same_direction a b ≡ true → a ≡ b
 directions true b h = sym h
@@ -50,8 +43,8 @@ same_types a b d e h same = absurd (let f : false ≡ true = h in cc)
 
 same_part : (cs ds : List Column) (k l : KeyColumn) → is_same_key_column cs ds k l ≡ true → key_part cs k ≡ key_part ds l
 same_part cs ds k l h =
-    let a = and_both (is_same_name k.name l.name && is_same_direction k.desc l.desc) _ h in
-    let b = and_both (is_same_name k.name l.name) _ a.0 in
+    let a = and_parts (is_same_name k.name l.name && is_same_direction k.desc l.desc) _ h in
+    let b = and_parts (is_same_name k.name l.name) _ a.0 in
     same_types (type_named cs k.name) (type_named ds l.name) k.desc l.desc a.1 (directions k.desc l.desc b.1)
 
 cons_append : (o : Option KeyPart) (xs ys : List KeyPart) → cons_option o (xs ++ ys) ≡ cons_option o xs ++ ys
@@ -62,7 +55,7 @@ begins_parts : (cs ds : List Column) (ks ls : List KeyColumn) → begins_key cs 
 begins_parts cs ds [] ls h = (key_parts ds ls, refl)
 begins_parts cs ds (k ∷ ks) [] h = absurd (let e : false ≡ true = h in cc)
 begins_parts cs ds (k ∷ ks) (l ∷ ls) h =
-    let a = and_both (is_same_key_column cs ds k l) _ h in
+    let a = and_parts (is_same_key_column cs ds k l) _ h in
     let again = begins_parts cs ds ks ls a.1 in (
       again.0,
       ap (λ (o : Option KeyPart). cons_option o (key_parts ds ls)) (sym (same_part cs ds k l a.0))
@@ -94,8 +87,8 @@ key_goes_on tables rules i p t u at_i at_p parent =
     let named : parent_place (take i tables) t ≡ Some p = sym (ap (parent_in (take i tables)) at_i) ∙ parent in
     let up : slice_get (take i tables) p ≡ Some u = taken tables i p u less (omega arith) at_p in
     let passes = passes_at tables rules i t at_i in
-    let key = extends_parent (take i tables) t.parent t u p named up (not_false _ passes.key) in
-    let begins = begins_parts u.columns t.columns u.key t.key (and_both _ _ key).1 in (
+    let key = extends_parent (take i tables) t.parent t u p named up (not-false _ passes.key) in
+    let begins = begins_parts u.columns t.columns u.key t.key (and_parts _ _ key).1 in (
       begins.0,
       ap (λ (o : Option Table). key_parts (columns_in o) (key_in o)) at_i
           ∙ begins.1

@@ -1,6 +1,6 @@
 -- What the tables of a text say of its schema.
-use Rattle.std.proofs.Common.{◌≡◌, ◌≢◌, ◌⊎◌, inl, inr, ℕ, ◌<◌, ◌≤◌, length, take, List, Option, Some, None, Result, Ok, Err, refl, sym, ap, subst, ◌∙◌, arith}
-use Rattle.std.specs.Prelude.{IfOk, IfErr, MatchResult, slice_get}
+use Rattle.std.proofs.Common.{◌≡◌, ◌≢◌, ◌⊎◌, inl, inr, ℕ, ◌<◌, length, take, List, Option, Some, None, Result, Ok, Err, sym, ap, subst, ◌∙◌}
+use Rattle.std.specs.Prelude.{IfOk, IfErr, MatchResult}
 use Rattle.std.proofs.lemmas.Bool.{cases_order}
 use Rattle.std.proofs.lemmas.Option.{slice_get_cases}
 use Rattle.span_value.specs.declared.refusal.Refusal.{Refusal}
@@ -10,7 +10,6 @@ use Rattle.span_schema.specs.Lineages.{path_at, cause_in, cause_at, MeetsRules, 
 use Rattle.span_grammar.specs.declared.judge.Goal.TheVariants as goal
 use Rattle.span_grammar.specs.Rules.{limit}
 use Rattle.span_grammar.specs.Judged.{IsRefused}
-use Rattle.span_syntax.specs.Parsed.{ParsesAs}
 use Rattle.span_schematext.specs.SchemaTexts.{AreTables, IsSchemaText, IsSchemaRefused, IsSchemaOrOutOfMemory, RefusesSchema}
 use Rattle.span_schematext.specs.Declarations.{tables}
 use Rattle.span_schematext.proofs.Declaring.{tables_good}

@@ -1,5 +1,5 @@
 -- Declarations: the tables that each rule of the schema grammar yields.
-use Rattle.std.specs.Prelude.{ℕ, ◌-◌, Bool, true, false, List, [], ◌∷◌, Option, Some, None}
+use Rattle.std.specs.Prelude.{ℕ, ◌-◌, Bool, true, false, List, ◌∷◌, Option, Some, None}
 use Rattle.std.specs.Str.Lossy.{utf8_lossy}
 use Rattle.span_value.specs.declared.value.ColumnType.{ColumnType}
 use Rattle.span_value.specs.declared.value.ColumnType.TheVariants as kind

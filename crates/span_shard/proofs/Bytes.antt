@@ -14,18 +14,15 @@ use Rattle.std.proofs.lemmas.Slice.Eq.{bytes_eq-Decides}
 use Rattle.std.proofs.Math.Seq.{take-append_seam}
 use Rattle.span_keycode.specs.Order.{byte_order}
 use Rattle.span_shard.specs.Rows.{begins_with}
+use Rattle.span_mutate.proofs.Begins.{equal_from}
+use Rattle.span_keyindex.proofs.Fronts.{front_not_after}
 
 pub bytes_total : IsTotalOrder byte_order
 bytes_total = nat_list_cmp_total
 
-pub equal_is : (o : Ordering) → is_eq o ≡ true → o ≡ Equal
-equal_is Less e = absurd cc
-equal_is Equal e = refl
-equal_is Greater e = absurd cc
-
 -- keys that compare as equal are the same
 pub same_bytes : (a b : List ℕ) → eq_by_cmp byte_order a b ≡ true → a ≡ b
-same_bytes a b e = exact_bytes a b (equal_is (byte_order a b) e)
+same_bytes a b e = exact_bytes a b (equal_from (byte_order a b) e)
 
 pub bytes_same : (a b : List ℕ) → a ≡ b → eq_by_cmp byte_order a b ≡ true
 bytes_same a b e = ap (λ (c : List ℕ). eq_by_cmp byte_order a c) (sym e) ∙ ap is_eq (tied_itself bytes_total a)
@@ -38,15 +35,6 @@ begins_front b p e =
 
 pub front_begins : (p rest : List ℕ) → begins_with (p ++ rest) p ≡ true
 front_begins p rest = (bytes_eq-Decides p (take (length p) (p ++ rest))).1 (sym (take-append_seam p rest))
-
--- bytes are not before their front
-front_not_after : (p rest : List ℕ) → is_lt (byte_order (p ++ rest) p) ≡ false
-front_not_after [] [] = refl
-front_not_after [] (b ∷ rest) = refl
-front_not_after (a ∷ p) rest = ap (λ (o : Ordering). is_lt (ordering_then o (byte_order (p ++ rest) p))) (same a) ∙ front_not_after p rest
-  where
-    same : (n : ℕ) → nat_cmp n n ≡ Equal
-    same n = grind (arith, nat_tests)
 
 pub before_begins_not : (b p : List ℕ) → is_lt (byte_order b p) ≡ true → begins_with b p ≡ false
 before_begins_not b p less = cases (begins_with b p) refl

@@ -8,7 +8,7 @@ use Rattle.std.proofs.lemmas.Bool.Decides.{nat_tests}
 use Rattle.std.proofs.lemmas.List.{length-map}
 use Rattle.std.proofs.lemmas.List.Sums.{sum_by-cons}
 use Rattle.span_arena.specs.declared.version.Version as arena
-use Rattle.span_arena.specs.Content.{Content, Prepared, versions, versions_in, prepared_at, prepared_for, one_for, one_if, count_versions, count_prepared, IsChain, IsInOrder}
+use Rattle.span_arena.specs.Content.{Content, Prepared, versions_in, prepared_for, one_for, one_if, count_versions, count_prepared, IsInOrder}
 use Rattle.span_arena.specs.Content as content
 use Rattle.span_arena.proofs.Keeping.{chain_in_range}
 use Rattle.span_keyindex.specs.Items.{holders}

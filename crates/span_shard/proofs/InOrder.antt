@@ -43,7 +43,7 @@ in_order_with_writes txn (w ∷ ws) cs h = in_order_with_write txn w (with_write
 
 -- ---- apply
 
-key_stays : (txn : ℕ) (committed : Option ℕ) (c : KeyVersions) → (applied_to_key txn committed c).key ≡ c.key
+pub key_stays : (txn : ℕ) (committed : Option ℕ) (c : KeyVersions) → (applied_to_key txn committed c).key ≡ c.key
 key_stays txn committed c = by_prepared c.prepared
   where
     by_prepared : (p : Option PreparedWrite) → (applied_write p txn committed c).key ≡ c.key

@@ -25,7 +25,8 @@ use Rattle.span_mutate.specs.Rows.{begins, is_same_key, is_at, row_at, with_row}
 use Rattle.span_mutate.specs.Database.{is_at_or_below, is_in, is_under, blocks_delete, cascades, tables_blocking_delete, is_delete_blocked}
 use Rattle.span_mutate.specs.Directories.{IsInOrder, rows_cmp}
 use Rattle.span_mutate.specs.Typed.{IsTyped, AreTyped}
-use Rattle.span_mutate.proofs.Begins.{both_hold, both_make, same_number, number_itself, same_key}
+use Rattle.span_mutate.proofs.Begins.{same_number, number_itself, same_key}
+use Rattle.std.proofs.lemmas.Bool.{and_from, and_parts}
 use Rattle.span_mutate.proofs.Families.{number_here, parent_family}
 use Rattle.span_mutate.proofs.Filters.{filter_yes, filter_no}
 use Rattle.span_mutate.proofs.Orders.{rows_equal, rows_total}
@@ -43,11 +44,11 @@ cells o = option_map (λ (r : TableRow). row_code r.cells) o
 -- ---- a row at a key
 
 same_itself_key : (vs : List Value) → is_same_key vs vs ≡ true
-same_itself_key vs = both_make _ _ (number_itself (length vs) (length vs) refl) (fronts vs)
+same_itself_key vs = and_from _ _ (number_itself (length vs) (length vs) refl) (fronts vs)
   where
     fronts : (us : List Value) → begins us us ≡ true
     fronts [] = refl
-    fronts (u ∷ us) = both_make _ _ (ap is_eq (tied_itself value_order_total u)) (fronts us)
+    fronts (u ∷ us) = and_from _ _ (ap is_eq (tied_itself value_order_total u)) (fronts us)
 
 find_same : {X : Type 0} (p q : X → Bool) (xs : List X) → AllByRecursion (λ x. p x ≡ q x) xs → find p xs ≡ find q xs
 find_same p q [] h = refl
@@ -58,14 +59,14 @@ at_code tables rules n key k r typed = same_truth (is_at n key r) (is_coded tabl
   where
     there : is_at n key r ≡ true → is_coded tables (key_code tables n key) r ≡ true
     there e =
-        let parts = both_hold (r.table == n) (is_same_key key r.key) e in
+        let parts = and_parts (r.table == n) (is_same_key key r.key) e in
         let named : n ≡ r.table = sym (same_number r.table n parts.0) in
         bytes_same (key_code tables n key) (code_of tables r) (ap (key_code tables n) (same_key key r.key parts.1) ∙ ap (λ (m : ℕ). key_code tables m r.key) named)
 
     back_again : is_coded tables (key_code tables n key) r ≡ true → is_at n key r ≡ true
     back_again e =
         let same = one_key tables rules n r.table key r.key k typed.0.0 (same_bytes (key_code tables n key) (code_of tables r) e) in
-        both_make _ _ (number_itself r.table n (sym same.0)) (ap (is_same_key key) (sym same.1) ∙ same_itself_key key)
+        and_from _ _ (number_itself r.table n (sym same.0)) (ap (is_same_key key) (sym same.1) ∙ same_itself_key key)
 
 -- the row at a key is the one at its coding
 pub row_at_code : (tables : List Table) → MeetsRules tables → (n : ℕ) (key : List Value) → IsKey tables n key → (db : List TableRow) → AreTyped tables db → cells (row_at n key db) ≡ row_coded tables db (key_code tables n key)
@@ -194,8 +195,8 @@ held_by tables rules n key is db typed k row under there blocks =
     let r = found.0 in
     let tr = found.1.0 in
     let below : begins_with (code_of tables r) (key_code tables n key) ≡ true = ap (λ (l : List ℕ). begins_with l (key_code tables n key)) found.2 ∙ under in
-    let front = (both_hold (is_at_or_below tables n r.table) (begins key r.key) (sym (begins_under tables rules n key is r.table r.key tr.0.0) ∙ below)).1 in
-    found.1.1 (blocks_code tables n key r tr ∙ both_make _ _ (blocks r.table r.key tr.0 (sym found.2)) front)
+    let front = (and_parts (is_at_or_below tables n r.table) (begins key r.key) (sym (begins_under tables rules n key is r.table r.key tr.0.0) ∙ below)).1 in
+    found.1.1 (blocks_code tables n key r tr ∙ and_from _ _ (blocks r.table r.key tr.0 (sym found.2)) front)
 
 -- where no row below is of a blocking table, none holds the row
 pub held_not : (tables : List Table) → MeetsRules tables → (n : ℕ) (key : List Value) → IsKey tables n key → (db : List TableRow) → IsInOrder tables db → AreTyped tables db
@@ -213,6 +214,6 @@ held_not tables rules n key is db sorted typed free =
         cases false b e f = refl
         cases true false e f = refl
         cases true true e f =
-            let below = (both_hold (is_at_or_below tables n r.table) (not (r.table == n)) (both_hold (is_at_or_below tables n r.table && not (r.table == n)) (not (cascades (table_at tables r.table))) e).0).0 in
-            let under = begins_under tables rules n key is r.table r.key h.0.0.0 ∙ both_make _ _ below f in
+            let below = (and_parts (is_at_or_below tables n r.table) (not (r.table == n)) (and_parts (is_at_or_below tables n r.table && not (r.table == n)) (not (cascades (table_at tables r.table))) e).0).0 in
+            let under = begins_under tables rules n key is r.table r.key h.0.0.0 ∙ and_from _ _ below f in
             absurd (let g : true ≡ false = sym e ∙ free r h.0 under h.1 in cc)

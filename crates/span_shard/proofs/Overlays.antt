@@ -12,8 +12,10 @@ use Rattle.std.proofs.lemmas.List.{append-nil}
 use Rattle.std.proofs.lemmas.List.Folds.{list_any-append}
 use Rattle.std.specs.Cmp.{tied_itself}
 use Rattle.std.proofs.lemmas.Map.Keys.{sorted_head, sorted_tail}
+use Rattle.std.proofs.lemmas.Bool.{not-true, and_parts}
 use Rattle.span_keycode.specs.Order.{byte_order}
 use Rattle.span_mutate.proofs.Filters.{filter_yes, filter_no}
+use Rattle.span_mutate.proofs.Placing.{all_filter}
 use Rattle.span_shard.specs.KeyVersions.{KeyVersions}
 use Rattle.span_shard.specs.Rows.{begins_with}
 use Rattle.span_shard.specs.Shard.{AreInOrder, keys_cmp, is_key, versions_of, end_of_time, row_now}
@@ -165,10 +167,6 @@ le_not_lt Greater = refl
 from_is : (front : List ℕ) (e : List ℕ × List ℕ) → is_from front e ≡ not (is_lt (byte_order e.0 front))
 from_is front e = le_not_lt (byte_order front e.0) ∙ ap (λ (o : Ordering). not (is_lt o)) (sym (bytes_total.antisymm e.0 front))
 
-not_true : (b : Bool) → not b ≡ true → b ≡ false
-not_true true e = absurd (let f : false ≡ true = e in cc)
-not_true false e = refl
-
 -- a key that begins with the front is from it on
 begun_from : (front k : List ℕ) → begins_with k front ≡ true → (e : List ℕ × List ℕ) → is_same k e.0 ≡ true → is_from front e ≡ true
 begun_from front k b e f = from_is front e ∙ ap not (cases (is_lt (byte_order e.0 front)) refl)
@@ -188,7 +186,7 @@ pushing_first es front old rest sorted is = subst (λ (l : Made). IsPushing es f
   left = λ k row b e. inr (lookup_kept (is_from front) k es (λ x f. begun_from front k b x f) ∙ e);
   own = λ k o e. lookup_within (is_from front) k es (λ a b f g. ap (λ (l : List ℕ). is_le (byte_order front l) && true) (sym (same_bytes k a.0 f) ∙ same_bytes k b.0 g)) o e;
   sorted = subst (IsStrictlySortedBy byte_order) (sym (keys_filter (λ (l : List ℕ). is_le (byte_order front l) && true) es)) (IsStrictlySortedBy-filter byte_order (λ (l : List ℕ). is_le (byte_order front l) && true) (keys_of es) sorted);
-  from = all_map (λ (e : List ℕ × List ℕ). is_from front e ≡ true) (λ (e : List ℕ × List ℕ). is_lt (byte_order e.0 front) ≡ false) (λ e f. not_true (is_lt (byte_order e.0 front)) (sym (from_is front e) ∙ f)) (filter (is_from front) es) (all_filter_itself (is_from front) es);
+  from = all_map (λ (e : List ℕ × List ℕ). is_from front e ≡ true) (λ (e : List ℕ × List ℕ). is_lt (byte_order e.0 front) ≡ false) (λ e f. not-true (is_lt (byte_order e.0 front)) (sym (from_is front e) ∙ f)) (filter (is_from front) es) (all_filter_itself (is_from front) es);
 })
 
 here_at : (key : List ℕ) (o : List ℕ) (rest : Made) → made_at ((key, o) ∷ rest) key ≡ Some o
@@ -299,10 +297,6 @@ pushed_until es front old new key o before rest is past h = done (subst (λ (l :
 
 -- ---- the keys below one
 
-and_both : (a b : Bool) → (a && b) ≡ true → (a ≡ true) × (b ≡ true)
-and_both true b e = (refl, e)
-and_both false b e = absurd (let f : false ≡ true = e in cc)
-
 none_is : {X : Type 0} (o : Option X) → is_none o ≡ true → o ≡ None
 none_is None e = refl
 none_is (Some x) e = absurd (let f : false ≡ true = e in cc)
@@ -328,14 +322,6 @@ all_mapped : {X Y : Type 0} (P : X → Type 0) (Q : Y → Type 0) (f : X → Y) 
 all_mapped P Q f g [] h = tt
 all_mapped P Q f g (x ∷ xs) h = (g x h.0, all_mapped P Q f g xs h.1)
 
-all_kept : {X : Type 0} (P : X → Type 0) (p : X → Bool) (xs : List X) → AllByRecursion P xs → AllByRecursion P (filter p xs)
-all_kept P p [] h = tt
-all_kept {X} P p (x ∷ xs) h = cases (p x) refl (all_kept P p xs h.1)
-  where
-    cases : (b : Bool) → p x ≡ b → AllByRecursion P (filter p xs) → AllByRecursion P (filter p (x ∷ xs))
-    cases true e again = subst (AllByRecursion P) (sym (filter_yes p x xs e)) (h.0, again)
-    cases false e again = subst (AllByRecursion P) (sym (filter_no p x xs e)) again
-
 -- what a key of the store below has
 abbrev IsStoredUnder : List KeyVersions → List ℕ → KeyVersions → Type 0
 IsStoredUnder cs front c = (begins_with c.key front ≡ true) × (row_now cs c.key ≡ row_of c)
@@ -344,12 +330,12 @@ stored_under : (cs : List KeyVersions) → AreInOrder cs → (front : List ℕ) 
 stored_under cs sorted front =
     all_mapped (IsStoredUnder cs front) (IsStoredUnder cs front) versions_alone (λ c h. h) (filter (λ (c : KeyVersions). begins_with c.key front) cs)
     (all_both (λ (c : KeyVersions). begins_with c.key front ≡ true) (λ (c : KeyVersions). row_now cs c.key ≡ row_of c) (filter (λ (c : KeyVersions). begins_with c.key front) cs)
-    (all_filter_itself (λ (c : KeyVersions). begins_with c.key front) cs) (all_kept (λ (c : KeyVersions). row_now cs c.key ≡ row_of c) (λ (c : KeyVersions). begins_with c.key front) cs (own_rows cs sorted)))
+    (all_filter_itself (λ (c : KeyVersions). begins_with c.key front) cs) (all_filter (λ (c : KeyVersions). row_now cs c.key ≡ row_of c) (λ (c : KeyVersions). begins_with c.key front) cs (own_rows cs sorted)))
 
 unchanged_sound : (cs : List KeyVersions) → AreInOrder cs → (es : Changes) (front : List ℕ) → AllByRecursion (λ (k : List ℕ). (begins_with k front ≡ true) × (is_some (row_over cs es k) ≡ true)) (unchanged_under es front cs)
 unchanged_sound cs sorted es front =
     all_mapped (λ (c : KeyVersions). (is_unchanged es c ≡ true) × IsStoredUnder cs front c) (λ (k : List ℕ). (begins_with k front ≡ true) × (is_some (row_over cs es k) ≡ true)) (λ c. c.key) good found
-    (all_both (λ (c : KeyVersions). is_unchanged es c ≡ true) (IsStoredUnder cs front) found (all_filter_itself (is_unchanged es) whole) (all_kept (IsStoredUnder cs front) (is_unchanged es) whole (stored_under cs sorted front)))
+    (all_both (λ (c : KeyVersions). is_unchanged es c ≡ true) (IsStoredUnder cs front) found (all_filter_itself (is_unchanged es) whole) (all_filter (IsStoredUnder cs front) (is_unchanged es) whole (stored_under cs sorted front)))
   where
     whole : List KeyVersions
     whole = map versions_alone (filter (λ (c : KeyVersions). begins_with c.key front) cs)
@@ -359,7 +345,7 @@ unchanged_sound cs sorted es front =
 
     good : (c : KeyVersions) → (is_unchanged es c ≡ true) × IsStoredUnder cs front c → (begins_with c.key front ≡ true) × (is_some (row_over cs es c.key) ≡ true)
     good c h =
-        let both = and_both (is_none (changed_at es c.key)) (is_some (row_of c)) h.0 in
+        let both = and_parts (is_none (changed_at es c.key)) (is_some (row_of c)) h.0 in
         (h.1.0, ap (λ (o : Option (Option (List ℕ))). is_some (unwrap_or o (row_now cs c.key))) (none_is (changed_at es c.key) both.0) ∙ ap (λ (o : Option (List ℕ)). is_some o) h.1.1 ∙ both.1)
 
 -- a key of the store that passes is among those that are left

@@ -16,7 +16,7 @@ use Rattle.span_shard.specs.declared.chain.PreparedWrite.{PreparedWrite}
 use Rattle.span_shard.specs.declared.node.PreparedNode.{PreparedNode}
 use Rattle.span_shard.specs.KeyVersions.{KeyVersions}
 use Rattle.span_shard.specs.Stored.{is_for, image_of, write_of, write_for, count_for, IsNodeOf, AreOwned, IsStored, IsKept}
-use Rattle.span_shard.proofs.Lists.{all_map, all_append}
+use Rattle.span_shard.proofs.Lists.{all_map, all_append, all_both}
 
 pub all_front_of : {X : Type 0} (P : X → Type 0) (xs ys : List X) → AllByRecursion P (xs ++ ys) → AllByRecursion P xs
 all_front_of P [] ys h = tt
@@ -38,7 +38,7 @@ one_of c p = cond (is_for c p) 1 0
 pub count-middle : (c : ℕ) (xs ys : List PreparedNode) (p : PreparedNode) → count_for c (xs ++ p ∷ ys) ≡ count_for c (xs ++ ys) + one_of c p
 count-middle c xs ys p = omega (arith, count-append c xs (p ∷ ys), count-append c xs ys)
 
-zero_for : (b : Bool) → ◌≡◌ {A = ℕ} (cond b 1 0) 0 → b ≡ false
+pub zero_for : (b : Bool) → ◌≡◌ {A = ℕ} (cond b 1 0) 0 → b ≡ false
 zero_for true h = absurd (let f : ◌≡◌ {A = ℕ} 1 0 = h in omega arith)
 zero_for false h = refl
 
@@ -95,10 +95,6 @@ node_apart a p q at_p at_q other e =
 stays : (a b : Content) (p q : PreparedNode) → IsNodeOf a p → b.prepared ≡ set a.prepared p.node.number None → IsNodeOf a q → is_for p.chain.number q ≡ false → prepared_at b q.node.number ≡ prepared_at a q.node.number
 stays a b p q at_p is at_q other =
     ap (λ (ps : List (Option Prepared)). get_or ps q.node.number None) is ∙ get_or-set_other a.prepared p.node.number q.node.number None None (node_apart a p q at_p at_q other)
-
-all_both : {X : Type 0} (P Q : X → Type 0) (xs : List X) → AllByRecursion P xs → AllByRecursion Q xs → AllByRecursion (λ x. P x × Q x) xs
-all_both P Q [] h g = tt
-all_both P Q (x ∷ xs) h g = ((h.0, g.0), all_both P Q xs h.1 g.1)
 
 abbrev pub made : List ℕ → List Version → Option PreparedWrite → KeyVersions
 made key vs p = record { key = key; versions = vs; prepared = p }

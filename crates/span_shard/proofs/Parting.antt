@@ -3,6 +3,7 @@ use Rattle.std.proofs.Common.{◌≡◌, ℕ, ◌≤◌, Bool, true, false, cond
 use Rattle.std.specs.Prelude.{filter, is_some}
 use Rattle.std.specs.List.{AllByRecursion}
 use Rattle.std.specs.Ordering.{is_lt}
+use Rattle.std.proofs.lemmas.Bool.{not-true}
 use Rattle.span_keycode.specs.Order.{byte_order}
 use Rattle.span_arena.specs.declared.version.Version as arena
 use Rattle.span_arena.specs.Limits.{most_nodes}
@@ -104,10 +105,6 @@ record IsParted (key : List ℕ) (a b : Content) (e : Entry) : Type 0 where
   pub below : is_lt (byte_order e.key key) ≡ true → versions b e.chain.number ≡ versions a e.chain.number
   pub gone : is_lt (byte_order e.key key) ≡ false → versions b e.chain.number ≡ []
 
-not_false : (b : Bool) → not b ≡ true → b ≡ false
-not_false true h = (let q : false ≡ true = h in absurd cc)
-not_false false h = refl
-
 not_both : (b : Bool) → b ≡ true → b ≡ false → ⊥
 not_both b h k = (let q : true ≡ false = sym h ∙ k in cc)
 
@@ -126,7 +123,7 @@ gone_from : (key : List ℕ) (a b : Content) (ys : List Entry) → AllByRecursio
 gone_from key a b [] gone h = tt
 gone_from key a b (y ∷ ys) gone h = (
   record {
-    below = λ k. absurd (not_both (is_lt (byte_order y.key key)) k (not_false (is_lt (byte_order y.key key)) h.0));
+    below = λ k. absurd (not_both (is_lt (byte_order y.key key)) k (not-true (is_lt (byte_order y.key key)) h.0));
     gone = λ _. gone.0;
   },
   gone_from key a b ys gone.1 h.1,

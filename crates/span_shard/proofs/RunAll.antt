@@ -4,6 +4,7 @@ use Rattle.std.specs.List.{find, list_any}
 use Rattle.std.specs.Option.{unwrap_or}
 use Rattle.std.specs.Str.{bytes_eq}
 use Rattle.std.proofs.lemmas.Slice.Eq.{bytes_eq-Decides}
+use Rattle.std.proofs.lemmas.Bool.{not-false, and_parts}
 use Rattle.span_value.specs.declared.value.Value.{Value}
 use Rattle.span_value.specs.declared.refusal.Refusal.{Refusal}
 use Rattle.span_value.specs.declared.refusal.Refusal.TheVariants.{OutOfMemory, BadKey, BadRow}
@@ -241,10 +242,6 @@ run_number tables ms cs i m es why h e f = elim f.number [
 
 -- ---- rows that differ
 
-not_false : (b : Bool) → not b ≡ false → b ≡ true
-not_false true e = refl
-not_false false e = absurd cc
-
 differ : (a b : Option (List ℕ)) → not (is_same_row a b) ≡ true → b ≢ a
 differ None None e f = let g : false ≡ true = e in absurd (cc)
 differ None (Some b) e f = let g : Some b ≡ None = f in absurd (cc)
@@ -259,7 +256,7 @@ equal_rows : (a b : Option (List ℕ)) → not (is_same_row a b) ≡ false → a
 equal_rows None None e = refl
 equal_rows None (Some b) e = absurd (let f : true ≡ false = e in cc)
 equal_rows (Some a) None e = absurd (let f : true ≡ false = e in cc)
-equal_rows (Some a) (Some b) e = ap Some ((bytes_eq-Decides a b).0 (not_false (bytes_eq a b) e))
+equal_rows (Some a) (Some b) e = ap Some ((bytes_eq-Decides a b).0 (not-false (bytes_eq a b) e))
 
 -- ---- what is written
 
@@ -396,10 +393,6 @@ removed_passed made left rest key row out here k = ap (change_of (made_at made k
         ap (λ (o : Option (List ℕ)). change_of o false) there ∙ sym (ap (λ (o : Option (List ℕ)). change_of o (list_any (is_same k) left)) there)
     by_key false e = refl
 
-and_both : (a b : Bool) → (a && b) ≡ true → (a ≡ true) × (b ≡ true)
-and_both true b e = (refl, e)
-and_both false b e = absurd (let f : false ≡ true = e in cc)
-
 not_some : (o : Option (List ℕ)) → not (is_some o) ≡ true → o ≡ None
 not_some None e = refl
 not_some (Some x) e = absurd (let f : false ≡ true = e in cc)
@@ -409,7 +402,7 @@ pub removal_more : (cs : List KeyVersions) (es : Changes) (made : List (List ℕ
     → ((k : List ℕ) → list_any (is_same k) rest ≡ cond (is_same w.key k) false (list_any (is_same k) left)) → (not (is_some (made_at made w.key)) && not (is_same_row (row_now cs w.key) w.row)) ≡ true → AreWrittenFrom cs es (changes_of made left) ws
     → AreWrittenFrom cs es (changes_of made rest) next
 removal_more cs es made left rest ws next w gone is among out new so_far =
-    let both = and_both (not (is_some (made_at made w.key))) (not (is_same_row (row_now cs w.key) w.row)) new in
+    let both = and_parts (not (is_some (made_at made w.key))) (not (is_same_row (row_now cs w.key) w.row)) new in
     let taken = removed_taken made left rest w.key among out (not_some (made_at made w.key) both.0) in
     subst (AreWrittenFrom cs es (changes_of made rest)) (sym is)
     (written_more cs es (changes_of made left) (changes_of made rest) ws w so_far (subst (λ (o : Option (List ℕ)). TakesOut w.key o (changes_of made left) (changes_of made rest)) (sym gone) taken) both.1)

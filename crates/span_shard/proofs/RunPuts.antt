@@ -32,9 +32,12 @@ use Rattle.span_shard.specs.Shard.{row_now}
 use Rattle.span_shard.specs.Overlay.{Changes, changed_at, row_over, is_same, own_code, row_before, lacks_parent_over, put_cause, cause_over, AreCellsOf, IsUnpacked, IsPutRow, IsPutFault, IsNoPut, IsOver, HasDirectory, IsTableRow, AreTableRows, IsRunOf}
 use Rattle.span_schema.specs.Numbers.{root_of}
 use Rattle.span_mutate.specs.Directories.{key_len}
-use Rattle.span_mutate.proofs.Begins.{both_make, number_itself, front_of_taken, taken_begins}
+use Rattle.span_mutate.proofs.Begins.{number_itself, front_of_taken, taken_begins}
+use Rattle.std.proofs.lemmas.Bool.{and_from}
 use Rattle.span_mutate.proofs.ByRoots.{in_own}
 use Rattle.span_mutate.proofs.Families.{parent_family, root_short}
+use Rattle.span_mutate.proofs.NamedKinds.{rest_none}
+use Rattle.span_mutate.proofs.Keyed.{first_none}
 use Rattle.span_shard.proofs.Bytes.{same_bytes, bytes_same, begins_front, front_begins}
 use Rattle.span_shard.proofs.Touching.{touched_by}
 use Rattle.span_shard.proofs.OverRows.{cells, row_at_code, put_there, put_elsewhere, parent_key}
@@ -59,7 +62,7 @@ parent_begins tables rules m typed p e =
     let at = parent_key tables rules m.table m.key typed.0 p e in
     let family = parent_family tables m.table p typed.0.0.0 e in
     touched_by tables rules m typed.0.0 p (take (length (key_columns tables p)) m.key) at.is.0
-    ∙ both_make _ _ (number_itself (root_of tables p) (root_of tables m.table) family.1)
+    ∙ and_from _ _ (number_itself (root_of tables p) (root_of tables m.table) family.1)
     (front_of_taken (take (key_len tables (root_of tables m.table)) m.key) m.key (length (key_columns tables p)) (taken_begins m.key (key_len tables (root_of tables m.table))) short)
   where
     short : length (take (key_len tables (root_of tables m.table)) m.key) ≤ length (key_columns tables p)
@@ -178,21 +181,13 @@ unpacked_nowhere tables rules dir cs es m typed has db tdb over = cases (row_bef
 long_enough : (a b : ℕ) → nat_lt a b ≡ false → b ≤ a
 long_enough a b e = grind (arith, nat_tests)
 
-no_rest : (b : Bool) (w : Refusal) (rest : List (Bool × Refusal)) → first_cause ((b, w) ∷ rest) ≡ None → first_cause rest ≡ None
-no_rest true w rest e = absurd cc
-no_rest false w rest e = e
-
-no_first : (b : Bool) (w : Refusal) (rest : List (Bool × Refusal)) → first_cause ((b, w) ∷ rest) ≡ None → b ≡ false
-no_first true w rest e = absurd cc
-no_first false w rest e = refl
-
 not_long : (m : CheckedMutation) (present lacking : Bool) (old : List Value) → put_cause m present lacking old ≡ None → length (row_code (merge_cells m.cells old)) ≤ longest_row
 not_long m present lacking old e =
     let t = nat_lt longest_row (length (row_code (merge_cells m.cells old))) in
-    let e1 = no_rest (is_insert m.kind && present) Exists ((is_update m.kind && not present, Missing) ∷ (lacking, ParentMissing) ∷ (t, RowTooLong) ∷ []) e in
-    let e2 = no_rest (is_update m.kind && not present) Missing ((lacking, ParentMissing) ∷ (t, RowTooLong) ∷ []) e1 in
-    let e3 = no_rest lacking ParentMissing ((t, RowTooLong) ∷ []) e2 in
-    long_enough longest_row (length (row_code (merge_cells m.cells old))) (no_first t RowTooLong [] e3)
+    let e1 = rest_none (is_insert m.kind && present) Exists ((is_update m.kind && not present, Missing) ∷ (lacking, ParentMissing) ∷ (t, RowTooLong) ∷ []) e in
+    let e2 = rest_none (is_update m.kind && not present) Missing ((lacking, ParentMissing) ∷ (t, RowTooLong) ∷ []) e1 in
+    let e3 = rest_none lacking ParentMissing ((t, RowTooLong) ∷ []) e2 in
+    long_enough longest_row (length (row_code (merge_cells m.cells old))) (first_none t RowTooLong [] e3)
 
 -- the row that the mutation makes
 abbrev pub made_row : CheckedMutation → List Value → TableRow

@@ -4,7 +4,7 @@ use Rattle.std.specs.Prelude.{filter, find}
 use Rattle.std.specs.List.{AllByRecursion}
 use Rattle.std.specs.declared.cmp.Ordering.{Ordering}
 use Rattle.std.specs.declared.cmp.Ordering.TheVariants.{Less, Equal, Greater}
-use Rattle.std.specs.Ordering.{is_lt, is_gt, is_eq, ordering_reverse}
+use Rattle.std.specs.Ordering.{is_lt, is_gt, is_eq}
 use Rattle.std.specs.Cmp.{tied_itself}
 use Rattle.std.proofs.lemmas.Bool.{cases_eq}
 use Rattle.std.proofs.lemmas.Bool.Decides.{nat_tests}
@@ -21,7 +21,9 @@ use Rattle.span_keyindex.specs.Items.{holders}
 use Rattle.span_keyindex.specs.Arenas.{one_if_chain, IsArenaOf, in_use, IsWithoutUnused}
 use Rattle.span_keyindex.specs.Entries.{HasChain, IsAbsent, IsSlotFor, with_entry, Entry}
 use Rattle.span_keyindex.proofs.Holders.{holders-append, one_here, one_of, chains_elsewhere}
+use Rattle.span_keyindex.proofs.Rising.{turned}
 use Rattle.span_mutate.specs.Directories.{IsRising}
+use Rattle.span_mutate.proofs.Placing.{greater_is}
 use Rattle.span_shard.specs.declared.node.PreparedNode.{PreparedNode}
 use Rattle.span_shard.specs.declared.write.Write.{Write}
 use Rattle.span_shard.specs.KeyVersions.{KeyVersions}
@@ -30,7 +32,7 @@ use Rattle.span_shard.specs.Shard.{keys_cmp, AreInOrder, IsInUse, is_key, prepar
 use Rattle.span_shard.specs.Stored.{version_of, chain_versions, write_for, kept, kept_entry, all_kept, IsNodeOf, AreOwned, HasPrepared, count_for}
 use Rattle.span_shard.proofs.Bytes.{bytes_total}
 use Rattle.span_shard.proofs.Lists.{all_map, all_filter_itself, all_whole, filter_all}
-use Rattle.span_shard.proofs.Owned.{all_back_of, write-none, write-same, made, kept_equal}
+use Rattle.span_shard.proofs.Owned.{all_back_of, write-none, write-same, made, kept_equal, zero_for}
 use Rattle.span_shard.proofs.Unused.{map_alike, keys_used, owned_used}
 
 -- ---- where the write goes
@@ -49,9 +51,6 @@ with_write-between txn w [] (y ∷ ys) later before = ap (λ o. by_order o (new_
 with_write-between txn w (x ∷ xs) ys later before =
     ap (λ o. by_order o (new_key txn w ∷ x ∷ (xs ++ ys)) (with_prepared (prepared_write txn w) x ∷ (xs ++ ys)) (x ∷ with_write txn w (xs ++ ys))) later.0
     ∙ ap (λ (l : List KeyVersions). x ∷ l) (with_write-between txn w xs ys later.1 before)
-
-turned : (a b : List ℕ) (o : Ordering) → byte_order a b ≡ o → byte_order b a ≡ ordering_reverse o
-turned a b o e = bytes_total.antisymm b a ∙ ap ordering_reverse e
 
 -- the keys in front of one come before it
 front_before : (xs ys : List KeyVersions) (c : KeyVersions) → IsRising keys_cmp (xs ++ c ∷ ys) → AllByRecursion (λ (d : KeyVersions). byte_order c.key d.key ≡ Greater) xs
@@ -72,11 +71,6 @@ less_is : (o : Ordering) → is_lt o ≡ true → o ≡ Less
 less_is Less e = refl
 less_is Equal e = absurd cc
 less_is Greater e = absurd cc
-
-greater_is : (o : Ordering) → is_gt o ≡ true → o ≡ Greater
-greater_is Less e = absurd cc
-greater_is Equal e = absurd cc
-greater_is Greater e = refl
 
 abbrev before : List ℕ → Entry → Bool
 before key e = is_lt (byte_order e.key key)
@@ -308,13 +302,9 @@ at_most_one : (o : Option (List arena.Version)) → one_if_chain o ≤ 1
 at_most_one None = omega arith
 at_most_one (Some vs) = omega arith
 
-zero_of : (t : Bool) → ◌≡◌ {A = ℕ} (cond t 1 0) 0 → t ≡ false
-zero_of true h = absurd (let f : ◌≡◌ {A = ℕ} 1 0 = h in omega arith)
-zero_of false h = refl
-
 no_holder : (c : ℕ) (es : List Entry) → holders c es ≡ 0 → AllByRecursion (λ (e : Entry). nat_eq e.chain.number c ≡ false) es
 no_holder c [] h = tt
-no_holder c (e ∷ es) h = (zero_of (nat_eq e.chain.number c) (let f : one_of c e + holders c es ≡ 0 = h in omega arith), no_holder c es (let f : one_of c e + holders c es ≡ 0 = h in omega arith))
+no_holder c (e ∷ es) h = (zero_for (nat_eq e.chain.number c) (let f : one_of c e + holders c es ≡ 0 = h in omega arith), no_holder c es (let f : one_of c e + holders c es ≡ 0 = h in omega arith))
 
 module _ (es fs : List Entry) (a b d : Content) (ps qs : List PreparedNode) (key : List ℕ) (chain : Chain) (txn : ℕ) (w : Write) (slot : IsSlot es fs a b ps key chain) (own : IsArenaOf fs b) (put : HasPrepared b d ps qs chain.number (prepared_write txn w)) (is : w.key ≡ key) where
   apart : (holders chain.number slot.front ≡ 0) × (holders chain.number slot.back ≡ 0)

@@ -17,7 +17,8 @@ use Rattle.span_mutate.specs.declared.row.TableRow.{TableRow}
 use Rattle.span_mutate.specs.Rows.{begins}
 use Rattle.span_mutate.specs.Database.{is_at_or_below, all_tables, is_in, is_under, blocks_delete, tables_blocking_delete}
 use Rattle.span_mutate.specs.Typed.{IsTyped}
-use Rattle.span_mutate.proofs.Begins.{both_hold, both_make, same_number, number_itself, taken_begins}
+use Rattle.span_mutate.proofs.Begins.{same_number, number_itself, taken_begins}
+use Rattle.std.proofs.lemmas.Bool.{and_from, or_left, or_right, and_parts}
 use Rattle.span_mutate.proofs.Parents.{in_range}
 use Rattle.span_mutate.proofs.Filters.{filter_yes, filter_no}
 use Rattle.span_shard.specs.Rows.{begins_with, code_of}
@@ -27,14 +28,6 @@ use Rattle.span_shard.proofs.Touching.{same_truth, front_taken}
 or_cases : {A : Type 0} (a b : Bool) → (a || b) ≡ true → (a ≡ true → A) → (b ≡ true → A) → A
 or_cases true b e f g = f refl
 or_cases false b e f g = g e
-
-or_first : (a b : Bool) → a ≡ true → (a || b) ≡ true
-or_first true b e = refl
-or_first false b e = absurd (let f : false ≡ true = e in cc)
-
-or_second : (a b : Bool) → b ≡ true → (a || b) ≡ true
-or_second true b e = refl
-or_second false b e = e
 
 one_of : (a n : ℕ) → list_any (λ (k : ℕ). k == n) (a ∷ []) ≡ true → a ≡ n
 one_of a n e = same_number a n (last (a == n) e)
@@ -80,18 +73,18 @@ own_path tables n is = of_parent (parent_at tables (n - 1)) refl
     number = omega (arith, is.0)
 
     here : list_any (λ (k : ℕ). k == n) ((n - 1 + 1) ∷ []) ≡ true
-    here = or_first (n - 1 + 1 == n) false (number_itself (n - 1 + 1) n number)
+    here = or_left (n - 1 + 1 == n) false (number_itself (n - 1 + 1) n number)
 
     of_parent : (o : Option ℕ) → parent_at tables (n - 1) ≡ o → list_any (λ (k : ℕ). k == n) (path_of tables n) ≡ true
     of_parent None e = ap (list_any (λ (k : ℕ). k == n)) (path_root tables (n - 1) e) ∙ here
     of_parent (Some p) e =
         ap (list_any (λ (k : ℕ). k == n)) (path_child tables (n - 1) p e)
         ∙ list_any-append (λ (k : ℕ). k == n) (path_at tables p) ((n - 1 + 1) ∷ [])
-        ∙ or_second (list_any (λ (k : ℕ). k == n) (path_at tables p)) (list_any (λ (k : ℕ). k == n) ((n - 1 + 1) ∷ [])) here
+        ∙ or_right (list_any (λ (k : ℕ). k == n) (path_at tables p)) (list_any (λ (k : ℕ). k == n) ((n - 1 + 1) ∷ [])) here
 
 -- ---- codings
 
-begins_more : (us vs : List Value) → begins us (us ++ vs) ≡ true
+pub begins_more : (us vs : List Value) → begins us (us ++ vs) ≡ true
 begins_more us vs = ap (λ (ws : List Value). begins ws (us ++ vs)) (sym (take-append_seam us vs)) ∙ taken_begins (us ++ vs) (length us)
 
 taken_whole : {X : Type 0} (n : ℕ) (xs : List X) → xs ≡ take n xs ++ drop n xs
@@ -107,14 +100,14 @@ begins_under tables rules n key kn m ws km = same_truth (begins_with (key_code t
     there : begins_with (key_code tables m ws) (key_code tables n key) ≡ true → (is_at_or_below tables n m && begins key ws) ≡ true
     there e =
         let at : IsAtOrBelow tables n key m ws = (begins_own_rows tables rules n m key ws kn km).0 (drop (length (key_code tables n key)) (key_code tables m ws), sym (begins_front (key_code tables m ws) (key_code tables n key) e)) in
-        both_make _ _
+        and_from _ _
         (ap (list_any (λ (k : ℕ). k == n)) at.path ∙ list_any-append (λ (k : ℕ). k == n) (path_of tables n) at.tables_below
-        ∙ or_first (list_any (λ (k : ℕ). k == n) (path_of tables n)) (list_any (λ (k : ℕ). k == n) at.tables_below) (own_path tables n kn.0))
+        ∙ or_left (list_any (λ (k : ℕ). k == n) (path_of tables n)) (list_any (λ (k : ℕ). k == n) at.tables_below) (own_path tables n kn.0))
         (ap (begins key) at.values ∙ begins_more key at.values_below)
 
     back_again : (is_at_or_below tables n m && begins key ws) ≡ true → begins_with (key_code tables m ws) (key_code tables n key) ≡ true
     back_again e =
-        let parts = both_hold (is_at_or_below tables n m) (begins key ws) e in
+        let parts = and_parts (is_at_or_below tables n m) (begins key ws) e in
         let front = path_front tables n (m - 1) parts.0 in
         let values : ws ≡ key ++ drop (length key) ws = taken_whole (length key) ws ∙ ap (λ (us : List Value). us ++ drop (length key) ws) (sym (front_taken key ws parts.1)) in
         let at : IsAtOrBelow tables n key m ws = record { tables_below = front.0; path = front.1; values_below = drop (length key) ws; values = values } in
@@ -134,7 +127,7 @@ any_passed p m xs h = cases (p m) refl
         one : (b : Bool) → p y ≡ b → (list_any (λ (k : ℕ). k == m) ys ≡ true → list_any (λ (k : ℕ). k == m) (filter p ys) ≡ true) → list_any (λ (k : ℕ). k == m) (filter p (y ∷ ys)) ≡ true
         one true f again =
             ap (list_any (λ (k : ℕ). k == m)) (filter_yes p y ys f)
-            ∙ or_cases (y == m) (list_any (λ (k : ℕ). k == m) ys) g (λ i. or_first (y == m) (list_any (λ (k : ℕ). k == m) (filter p ys)) i) (λ i. or_second (y == m) (list_any (λ (k : ℕ). k == m) (filter p ys)) (again i))
+            ∙ or_cases (y == m) (list_any (λ (k : ℕ). k == m) ys) g (λ i. or_left (y == m) (list_any (λ (k : ℕ). k == m) (filter p ys)) i) (λ i. or_right (y == m) (list_any (λ (k : ℕ). k == m) (filter p ys)) (again i))
         one false f again =
             ap (list_any (λ (k : ℕ). k == m)) (filter_no p y ys f)
             ∙ or_cases (y == m) (list_any (λ (k : ℕ). k == m) ys) g (λ i. absurd (let j : false ≡ true = sym f ∙ ap p (same_number y m i) ∙ e in cc)) again

@@ -13,16 +13,14 @@ use Rattle.span_shard.specs.Rows.{is_touched}
 use Rattle.span_shard.specs.KeyVersions.{KeyVersions}
 use Rattle.span_shard.specs.Versions.{is_empty, is_used, with_prepared, with_version, applied_write, applied_to_key}
 use Rattle.span_shard.specs.Shard.{by_order, with_write, with_writes, new_key, prepared_write, applied, IsInUse, IsNotOf, HasNoneOf, HasSomeOf, IsFree}
+use Rattle.span_shard.proofs.Lists.{all_map}
+use Rattle.span_shard.proofs.Owned.{all_back_of}
 
 same_number : (n : ℕ) → (n == n) ≡ true
 same_number n = grind (arith, nat_tests)
 
 other_number : (m n : ℕ) → m ≢ n → (m == n) ≡ false
 other_number m n h = grind (arith, nat_tests)
-
-all_weaker : {A : Type 0} (P Q : A → Type 0) → ((x : A) → P x → Q x) → (xs : List A) → AllByRecursion P xs → AllByRecursion Q xs
-all_weaker P Q weaker [] all = tt
-all_weaker P Q weaker (x ∷ xs) all = (weaker x all.0, all_weaker P Q weaker xs all.1)
 
 -- ---- a transaction of which nothing is prepared
 
@@ -105,26 +103,22 @@ applied-with_writes txn (w ∷ ws) cs vacant =
 
 -- ---- the writes of mutations at keys where nothing is prepared
 
-equal_key : (key k : List ℕ) → byte_order key k ≡ Equal → key ≡ k
+pub equal_key : (key k : List ℕ) → byte_order key k ≡ Equal → key ≡ k
 equal_key key k e = exact_bytes key k e
 
 free_open : (txn : ℕ) (tables : List Table) (ms : List CheckedMutation) (cs : List KeyVersions) (key : List ℕ) → is_touched tables ms key ≡ true → IsFree tables ms cs → IsOpenAt txn key cs
-free_open txn tables ms cs key any free = all_weaker (λ (c : KeyVersions). is_touched tables ms c.key ≡ true → c.prepared ≡ None) (λ (c : KeyVersions). byte_order key c.key ≡ Equal → IsOpenFor txn c.prepared)
+free_open txn tables ms cs key any free = all_map (λ (c : KeyVersions). is_touched tables ms c.key ≡ true → c.prepared ≡ None) (λ (c : KeyVersions). byte_order key c.key ≡ Equal → IsOpenFor txn c.prepared)
     (λ c nothing e. subst (IsOpenFor txn) (sym (nothing (subst (λ (k : List ℕ). is_touched tables ms k ≡ true) (equal_key key c.key e) any))) tt) cs free
 
 pub writes_open : (txn : ℕ) (tables : List Table) (ms : List CheckedMutation) (ws : List Write) (cs : List KeyVersions) → AllByRecursion (λ (w : Write). is_touched tables ms w.key ≡ true) ws → IsFree tables ms cs → AllByRecursion (λ w. IsOpenAt txn w.key cs) ws
-writes_open txn tables ms ws cs touched free = all_weaker (λ (w : Write). is_touched tables ms w.key ≡ true) (λ (w : Write). IsOpenAt txn w.key cs) (λ w any. free_open txn tables ms cs w.key any free) ws touched
-
-all_following : {A : Type 0} (P : A → Type 0) (front rest : List A) → AllByRecursion P (front ++ rest) → AllByRecursion P rest
-all_following P [] rest all = all
-all_following P (x ∷ xs) rest all = all_following P xs rest all.1
+writes_open txn tables ms ws cs touched free = all_map (λ (w : Write). is_touched tables ms w.key ≡ true) (λ (w : Write). IsOpenAt txn w.key cs) (λ w any. free_open txn tables ms cs w.key any free) ws touched
 
 -- giving up some of the writes leaves what was
 pub given_back : (txn : ℕ) (tables : List Table) (ms : List CheckedMutation) (ws : List Write) (cs ds : List KeyVersions) → AllByRecursion IsInUse cs → HasNoneOf txn cs → IsFree tables ms cs
     → AllByRecursion (λ (w : Write). is_touched tables ms w.key ≡ true) ws → HasSomeOf txn ws cs ds → applied txn None ds ≡ cs
 given_back txn tables ms ws cs ds used none free touched some =
     let vacant : AllByRecursion (λ w. IsOpenAt txn w.key cs) (some.front ++ some.rest) = subst (AllByRecursion (λ w. IsOpenAt txn w.key cs)) (sym some.whole) (writes_open txn tables ms ws cs touched free) in
-    ap (applied txn None) some.put ∙ applied-with_writes txn some.rest cs (all_following (λ w. IsOpenAt txn w.key cs) some.front some.rest vacant) ∙ applied-none txn cs used none
+    ap (applied txn None) some.put ∙ applied-with_writes txn some.rest cs (all_back_of (λ w. IsOpenAt txn w.key cs) some.front some.rest vacant) ∙ applied-none txn cs used none
 
 -- ---- every key stays in use
 

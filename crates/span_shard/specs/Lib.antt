@@ -7,3 +7,4 @@ pub mod Shard
 pub mod Reading
 pub mod Overlay
 pub mod EmptyRanges
+pub mod Ledgers

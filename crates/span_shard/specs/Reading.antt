@@ -68,13 +68,6 @@ pub record IsFull (tables : List Table) (ms : List CheckedMutation) (txn : ℕ) 
   pub of : AreWrites tables ms cs writes
   pub over : most_nodes < live (with_writes txn writes cs)
 
--- what reading bytes as a row of a table may be refused with
-abbrev pub is_read_refusal : Refusal → Bool
-is_read_refusal OutOfMemory = true
-is_read_refusal BadKey = true
-is_read_refusal BadRow = true
-is_read_refusal why = false
-
 -- a fault of mutations, a full shard, out of memory
 abbrev pub is_prepare_refusal : Refusal → Bool
 is_prepare_refusal OutOfMemory = true

@@ -10,7 +10,6 @@ mod merge;
 mod node;
 mod overlay;
 mod place;
-pub mod read;
 mod run;
 mod search;
 pub mod shard;

@@ -1,9 +1,10 @@
 //! Searches in the index, whose steps nobody reads here: each is handed a new count.
-ghost use Rattle.std.specs.Prelude.{◌≡◌, ◌<◌, All, IfErr, IfOk, OnErr, map};
+ghost use Rattle.std.specs.Prelude.{◌≡◌, All, IfErr, IfOk, OnErr, map};
 ghost use Rattle.span_arena.specs.Content.{IsChain};
 ghost use Rattle.span_keyindex.specs.Entries.{IsRising, IsSlotFor, entries_from, entries_in, entries_under};
 ghost use Rattle.span_keyindex.specs.Indexes.{IsIndexOf, entries_of};
 ghost use Rattle.span_keyindex.specs.Splits.{IsPartFrom};
+ghost use Rattle.span_shard.specs.Ledgers.{Opens};
 
 use span_arena::arena::Arena;
 use span_arena::steps::Steps;
@@ -39,12 +40,8 @@ fn counted_slot_for<C: Ledger, W: Ledger>(
     written: Blank,
 ) -> Result<Chain, Refusal>
     requires own { IsIndexOf index.old arena.old }
-    requires compared_name { compared.name ≡ C.name }
-    requires compared_parts { compared.parts ≡ C.parts }
-    requires compared_some { 0 < compared.parts }
-    requires written_name { written.name ≡ W.name }
-    requires written_parts { written.parts ≡ W.parts }
-    requires written_some { 0 < written.parts }
+    requires opens_compared { Opens C.name C.parts compared.name compared.parts }
+    requires opens_written { Opens W.name W.parts written.name written.parts }
     ensures ok { IfOk result (IsSlotFor (entries_of index.old arena.old) (entries_of index.new arena.new) arena.old arena.new key) }
     ensures chain { IfOk result (λ chain. IsChain arena.new chain.number) }
     ensures index { OnErr result (index.new ≡ index.old) }
@@ -73,12 +70,8 @@ fn counted_walk<'a, C: Ledger, W: Ledger>(
     written: Blank,
 ) -> Walk<'a>
     requires own { IsIndexOf index.now arena.now }
-    requires compared_name { compared.name ≡ C.name }
-    requires compared_parts { compared.parts ≡ C.parts }
-    requires compared_some { 0 < compared.parts }
-    requires written_name { written.name ≡ W.name }
-    requires written_parts { written.parts ≡ W.parts }
-    requires written_some { 0 < written.parts }
+    requires opens_compared { Opens C.name C.parts compared.name compared.parts }
+    requires opens_written { Opens W.name W.parts written.name written.parts }
     ensures entries { result ≡ entries_in range.now (entries_of index.now arena.now) }
     ensures chains { All (λ e. IsChain arena.now e.chain.number) result }
 {
@@ -103,12 +96,8 @@ fn counted_walk_under<'a, C: Ledger, W: Ledger>(
     written: Blank,
 ) -> Walk<'a>
     requires own { IsIndexOf index.now arena.now }
-    requires compared_name { compared.name ≡ C.name }
-    requires compared_parts { compared.parts ≡ C.parts }
-    requires compared_some { 0 < compared.parts }
-    requires written_name { written.name ≡ W.name }
-    requires written_parts { written.parts ≡ W.parts }
-    requires written_some { 0 < written.parts }
+    requires opens_compared { Opens C.name C.parts compared.name compared.parts }
+    requires opens_written { Opens W.name W.parts written.name written.parts }
     ensures entries { result ≡ entries_under front.now (entries_of index.now arena.now) }
     ensures chains { All (λ e. IsChain arena.now e.chain.number) result }
 {
@@ -133,12 +122,8 @@ fn counted_walk_from<'a, C: Ledger, W: Ledger>(
     written: Blank,
 ) -> Walk<'a>
     requires own { IsIndexOf index.now arena.now }
-    requires compared_name { compared.name ≡ C.name }
-    requires compared_parts { compared.parts ≡ C.parts }
-    requires compared_some { 0 < compared.parts }
-    requires written_name { written.name ≡ W.name }
-    requires written_parts { written.parts ≡ W.parts }
-    requires written_some { 0 < written.parts }
+    requires opens_compared { Opens C.name C.parts compared.name compared.parts }
+    requires opens_written { Opens W.name W.parts written.name written.parts }
     ensures entries { result ≡ entries_from key.now (entries_of index.now arena.now) }
     ensures rising { IsRising (entries_of index.now arena.now) }
 {
@@ -162,12 +147,8 @@ fn counted_chains_from<'a, C: Ledger, W: Ledger>(
     written: Blank,
 ) -> Chains<'a>
     requires own { IsIndexOf index.now arena.now }
-    requires compared_name { compared.name ≡ C.name }
-    requires compared_parts { compared.parts ≡ C.parts }
-    requires compared_some { 0 < compared.parts }
-    requires written_name { written.name ≡ W.name }
-    requires written_parts { written.parts ≡ W.parts }
-    requires written_some { 0 < written.parts }
+    requires opens_compared { Opens C.name C.parts compared.name compared.parts }
+    requires opens_written { Opens W.name W.parts written.name written.parts }
     ensures { result ≡ map (λ e. e.chain) (entries_from key.now (entries_of index.now arena.now)) }
 {
     let mut steps: Steps<C, W> = Steps::new(compared, written);
@@ -198,12 +179,8 @@ fn counted_split_at<C: Ledger, W: Ledger>(
     written: Blank,
 ) -> Result<(KeyIndex, Arena), Refusal>
     requires own { IsIndexOf index.now arena.now }
-    requires compared_name { compared.name ≡ C.name }
-    requires compared_parts { compared.parts ≡ C.parts }
-    requires compared_some { 0 < compared.parts }
-    requires written_name { written.name ≡ W.name }
-    requires written_parts { written.parts ≡ W.parts }
-    requires written_some { 0 < written.parts }
+    requires opens_compared { Opens C.name C.parts compared.name compared.parts }
+    requires opens_written { Opens W.name W.parts written.name written.parts }
     ensures ok { IfOk result
         (λ part. IsPartFrom key.now (entries_of index.now arena.now) arena.now.most part.0 part.1) }
     ensures memory { IfErr result (λ why. why ≡ Refusal.OutOfMemory) }

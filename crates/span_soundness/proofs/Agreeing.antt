@@ -1,5 +1,6 @@
 -- What the one type of several operands implies for each.
 use Rattle.std.proofs.Common.{◌≡◌, refl, subst, true, false, Bool, if◌then◌else◌, List, [], ◌∷◌, Option, Some, None, Result, Ok, Err}
+use Rattle.std.specs.List.{AllByRecursion}
 use Rattle.span_value.specs.declared.value.Kind.{Kind}
 use Rattle.span_value.specs.declared.value.Kind.TheVariants as kind
 use Rattle.span_value.specs.declared.refusal.Refusal.{Refusal}
@@ -68,16 +69,11 @@ all_covered ks = go (common_kind_of_all ks) (with_covers ks None) where
   go (Ok r) all = all.1
   go (Err why) all = tt {0}
 
--- what holds of each
-abbrev pub AllOf : {A : Type 0} → (A → Type 0) → List A → Type 0
-AllOf P [] = Unit {0}
-AllOf P (x ∷ xs) = P x × AllOf P xs
-
 -- an operand of the type fits where this is wanted
 abbrev pub Takes : Kind → Option Kind → Type 0
 Takes wanted k = takes wanted k ≡ true
 
-pub all_take : (wanted : Kind) (j : Option Kind) (ks : List (Option Kind)) → takes wanted j ≡ true → AllCovered j ks → AllOf (Takes wanted) ks
+pub all_take : (wanted : Kind) (j : Option Kind) (ks : List (Option Kind)) → takes wanted j ≡ true → AllCovered j ks → AllByRecursion (Takes wanted) ks
 all_take wanted j [] is all = tt {0}
 all_take wanted j (k ∷ ks) is all = (all.0 wanted is, all_take wanted j ks is all.1)
 

@@ -1,5 +1,6 @@
 -- The binder's types are right: the typed form of each form of a tree is typed, where its operands are.
 use Rattle.std.proofs.Common.{◌≡◌, ◌∙◌, sym, refl, subst, true, false, Bool, if◌then◌else◌, List, [], ◌∷◌, ◌++◌, length, map, drop, ℕ, ◌+◌, Option, Some, None, Result, Ok, Err}
+use Rattle.std.specs.List.{AllByRecursion}
 use Rattle.std.specs.Prelude.{find}
 use Rattle.span_value.specs.declared.value.Kind.{Kind}
 use Rattle.span_value.specs.declared.value.Kind.TheVariants as kind
@@ -40,8 +41,8 @@ use Rattle.span_typing.specs.Operators.{integer, unary_minus, logical_not, null_
 use Rattle.span_typing.specs.Typing.{Operand, string, bytes, truth, null, column, parameter_typed, parameter, each, condition_of, condition, conditions, all_true, some_true, append_link, chain_of, next_link, links, arm_typed, arm, arms, check_kind, compared_arm, compared_arms, optional, of_one, of_two, of_three, membership, chain, junction, searched_case, simple_case, new_aggregate, aggregate, unknown_call, aggregate_call, function_call, call, call_star, arm_at, link_at, at_operands, typing}
 use Rattle.span_soundness.specs.Bindings.{column_types, row_types, is_aggregate_of, AreTyped, IsTyped}
 use Rattle.span_soundness.specs.Laws.{ParametersStayTyped, TypesAreRight}
-use Rattle.span_soundness.proofs.Sameness.{both_true}
-use Rattle.span_soundness.proofs.Agreeing.{Made, then_made, made_if, CoversBoth, agreed_covers, AllOf, Takes, takes_own}
+use Rattle.std.proofs.lemmas.Bool.{and_parts}
+use Rattle.span_soundness.proofs.Agreeing.{Made, then_made, made_if, CoversBoth, agreed_covers, Takes, takes_own}
 use Rattle.span_soundness.proofs.Forms.{literal_is}
 use Rattle.span_soundness.proofs.Making.{typed_right, integer_right, negative_right, denied_right, null_test_right, compared_right, between_right, among_right, liked_right, IsChain, linked_right, first_of_chain, chained_right, IsCondition, all_true_right, some_true_right, IsTypedArm, IsComparedArm, IsTypedElse, case_right, match_right, applied_right, IsOperandOf, operand_right}
 use Rattle.span_soundness.proofs.Places.{column_right, aggregate_there}
@@ -95,7 +96,7 @@ null_right types = λ wanted t. literal_is types value.Null wanted ∙ null_of w
 condition_right : (types : List Kind) (k : Option Kind) (x : Typed) → IsTyped types x → Made (IsCondition types k) (condition_of k x)
 unfolding condition_of
 condition_right types k x x_is = made_if (IsCondition types k) (are_conditions k x.kind) x.expr TypeMismatch
-    (λ t. let parts : (takes kind.Bool k ≡ true) × (takes kind.Bool x.kind ≡ true) = both_true (takes kind.Bool k) (takes kind.Bool x.kind) t in (parts.0, x_is kind.Bool parts.1))
+    (λ t. let parts : (takes kind.Bool k ≡ true) × (takes kind.Bool x.kind ≡ true) = and_parts (takes kind.Bool k) (takes kind.Bool x.kind) t in (parts.0, x_is kind.Bool parts.1))
 
 -- of one type with the operand of the CASE
 abbrev IsAlike : List Kind → Option Kind → Typed → Type 0
@@ -144,10 +145,10 @@ module _ (scope : Scope) where
 
   -- ---- of lists of operands
 
-  each_sound : (os : List Operand) (m : Mode) → AllOf Sound os → (kinds : List Kind) → Keeps From (Each From (At m)) kinds (each os m)
+  each_sound : (os : List Operand) (m : Mode) → AllByRecursion Sound os → (kinds : List Kind) → Keeps From (Each From (At m)) kinds (each os m)
   each_sound os m all kinds = all_keep From (At m) Sound (λ (a : Operand). a m) (λ a a_is ks. a_is m ks) os all kinds
 
-  membership_sound : (a : Operand) (os : List Operand) → Sound a → AllOf Sound os → Sound (membership a os)
+  membership_sound : (a : Operand) (os : List Operand) → Sound a → AllByRecursion Sound os → Sound (membership a os)
   unfolding membership
   membership_sound a os a_is all m kinds = then_keeps From (At m) (At m) kinds (a m) (λ x. each os m >>= (λ ys. from_result (in_list x ys))) (a_is m kinds)
       (λ more x x_is. then_keeps From (Each From (At m)) (At m) (kinds ++ more) (each os m) (λ ys. from_result (in_list x ys)) (each_sound os m all (kinds ++ more))
@@ -167,11 +168,11 @@ module _ (scope : Scope) where
       (λ more y y_is. given_keeps From (ChainAt m x) (kinds ++ more) (append_link c l.0 y)
       (λ later. linked_right (row_types scope m ((kinds ++ more) ++ later)) x c l.0 y (later_on (ChainAt m x) kinds more c c_is later) (y_is later)))
 
-  links_sound : (m : Mode) (x : Typed) (ls : List (Operator × Operand)) (kinds : List Kind) → AllOf SoundLink ls → Always (At m) kinds x → Keeps From (ChainAt m x) kinds (links x.kind ls m)
+  links_sound : (m : Mode) (x : Typed) (ls : List (Operator × Operand)) (kinds : List Kind) → AllByRecursion SoundLink ls → Always (At m) kinds x → Keeps From (ChainAt m x) kinds (links x.kind ls m)
   links_sound m x ls kinds all x_is = along_keeps From (ChainAt m x) SoundLink (next_link m) (λ ks c l l_is c_is. next_link_sound m x c l ks l_is c_is) ls all kinds (record { kind = x.kind; links = [] })
       (λ later. first_of_chain (row_types scope m (kinds ++ later)) x (x_is later))
 
-  chain_sound : (a : Operand) (ls : List (Operator × Operand)) → Sound a → AllOf SoundLink ls → Sound (chain a ls)
+  chain_sound : (a : Operand) (ls : List (Operator × Operand)) → Sound a → AllByRecursion SoundLink ls → Sound (chain a ls)
   unfolding chain
   chain_sound a ls a_is all m kinds = then_keeps From (At m) (At m) kinds (a m) (λ x. links x.kind ls m >>= (λ c. from_result (Ok (chain_of x c)))) (a_is m kinds)
       (λ more x x_is. then_keeps From (ChainAt m x) (At m) (kinds ++ more) (links x.kind ls m) (λ c. from_result (Ok (chain_of x c))) (links_sound m x ls (kinds ++ more) all x_is)
@@ -187,10 +188,10 @@ module _ (scope : Scope) where
   condition_sound k a m a_is kinds = then_keeps From (At m) (ConditionAt m k) kinds (a m) (λ x. from_result (condition_of k x)) (a_is m kinds)
       (λ more x x_is. given_keeps From (ConditionAt m k) (kinds ++ more) (condition_of k x) (λ later. condition_right (row_types scope m ((kinds ++ more) ++ later)) k x (x_is later)))
 
-  conditions_sound : (k : Option Kind) (os : List Operand) (m : Mode) → AllOf Sound os → (kinds : List Kind) → Keeps From (Each From (ConditionAt m k)) kinds (conditions k os m)
+  conditions_sound : (k : Option Kind) (os : List Operand) (m : Mode) → AllByRecursion Sound os → (kinds : List Kind) → Keeps From (Each From (ConditionAt m k)) kinds (conditions k os m)
   conditions_sound k os m all kinds = all_keep From (ConditionAt m k) Sound (λ (a : Operand). condition k a m) (λ a a_is ks. condition_sound k a m a_is ks) os all kinds
 
-  junction_sound : (join : Typed → List TypedExpr → Typed) (a : Operand) (os : List Operand) → ((types : List Kind) (x : Typed) (es : List TypedExpr) → IsTyped types x → AllOf (IsCondition types x.kind) es → IsTyped types (join x es)) → Sound a → AllOf Sound os → Sound (junction join a os)
+  junction_sound : (join : Typed → List TypedExpr → Typed) (a : Operand) (os : List Operand) → ((types : List Kind) (x : Typed) (es : List TypedExpr) → IsTyped types x → AllByRecursion (IsCondition types x.kind) es → IsTyped types (join x es)) → Sound a → AllByRecursion Sound os → Sound (junction join a os)
   unfolding junction
   junction_sound join a os right a_is all m kinds = then_keeps From (At m) (At m) kinds (a m) (λ x. conditions x.kind os m >>= (λ es. from_result (Ok (join x es)))) (a_is m kinds)
       (λ more x x_is. then_keeps From (Each From (ConditionAt m x.kind)) (At m) (kinds ++ more) (conditions x.kind os m) (λ es. from_result (Ok (join x es))) (conditions_sound x.kind os m all (kinds ++ more))
@@ -210,7 +211,7 @@ module _ (scope : Scope) where
       (λ more c c_is. then_keeps From (At m) (ArmAt m) (kinds ++ more) (a.1 m) (λ v. from_result (Ok (arm_typed c v))) (a_is.1 m (kinds ++ more))
       (λ more2 v v_is. given_keeps From (ArmAt m) ((kinds ++ more) ++ more2) (Ok (arm_typed c v)) (λ later. (later_on (At m) (kinds ++ more) more2 c c_is later, v_is later))))
 
-  arms_sound : (os : List (Operand × Operand)) (m : Mode) → AllOf SoundArm os → (kinds : List Kind) → Keeps From (Each From (ArmAt m)) kinds (arms os m)
+  arms_sound : (os : List (Operand × Operand)) (m : Mode) → AllByRecursion SoundArm os → (kinds : List Kind) → Keeps From (Each From (ArmAt m)) kinds (arms os m)
   arms_sound os m all kinds = all_keep From (ArmAt m) SoundArm (λ (a : Operand × Operand). arm a m) (λ a a_is ks. arm_sound a m a_is ks) os all kinds
 
   abbrev AlikeAt : Mode → Option Kind → List Kind → Typed → Type 0
@@ -226,7 +227,7 @@ module _ (scope : Scope) where
       (λ more2 v v_is. given_keeps From (ComparedArmAt m k) ((kinds ++ more) ++ more2) (Ok (arm_typed c v))
       (λ later. let c_later : IsAlike (row_types scope m (((kinds ++ more) ++ more2) ++ later)) k c = later_on (AlikeAt m k) (kinds ++ more) more2 c c_is later in (c_later.0, v_is later, c_later.1))))
 
-  compared_arms_sound : (k : Option Kind) (os : List (Operand × Operand)) (m : Mode) → AllOf SoundArm os → (kinds : List Kind) → Keeps From (Each From (ComparedArmAt m k)) kinds (compared_arms k os m)
+  compared_arms_sound : (k : Option Kind) (os : List (Operand × Operand)) (m : Mode) → AllByRecursion SoundArm os → (kinds : List Kind) → Keeps From (Each From (ComparedArmAt m k)) kinds (compared_arms k os m)
   compared_arms_sound k os m all kinds = all_keep From (ComparedArmAt m k) SoundArm (λ (a : Operand × Operand). compared_arm k a m) (λ a a_is ks. compared_arm_sound k a m a_is ks) os all kinds
 
   abbrev SoundElse : Option Operand → Type 0
@@ -241,14 +242,14 @@ module _ (scope : Scope) where
   optional_sound (Some a) m other_is kinds = then_keeps From (At m) (ElseAt m) kinds (a m) (λ x. from_result (Ok (Some x))) (other_is m kinds)
       (λ more x x_is. given_keeps From (ElseAt m) (kinds ++ more) (Ok (Some x)) (λ later. x_is later))
 
-  searched_sound : (os : List (Operand × Operand)) (other : Option Operand) → AllOf SoundArm os → SoundElse other → Sound (searched_case os other)
+  searched_sound : (os : List (Operand × Operand)) (other : Option Operand) → AllByRecursion SoundArm os → SoundElse other → Sound (searched_case os other)
   unfolding searched_case
   searched_sound os other all other_is m kinds = then_keeps From (Each From (ArmAt m)) (At m) kinds (arms os m) (λ xs. optional other m >>= (λ y. from_result (case_of xs y))) (arms_sound os m all kinds)
       (λ more xs xs_are. then_keeps From (ElseAt m) (At m) (kinds ++ more) (optional other m) (λ y. from_result (case_of xs y)) (optional_sound other m other_is (kinds ++ more))
       (λ more2 y y_is. given_keeps From (At m) ((kinds ++ more) ++ more2) (case_of xs y)
       (λ later. case_right (row_types scope m (((kinds ++ more) ++ more2) ++ later)) xs y (later_on (Each From (ArmAt m)) (kinds ++ more) more2 xs xs_are later) (y_is later))))
 
-  simple_sound : (a : Operand) (os : List (Operand × Operand)) (other : Option Operand) → Sound a → AllOf SoundArm os → SoundElse other → Sound (simple_case a os other)
+  simple_sound : (a : Operand) (os : List (Operand × Operand)) (other : Option Operand) → Sound a → AllByRecursion SoundArm os → SoundElse other → Sound (simple_case a os other)
   unfolding simple_case
   simple_sound a os other a_is all other_is m kinds = then_keeps From (At m) (At m) kinds (a m) (λ x. compared_arms x.kind os m >>= (λ xs. optional other m >>= (λ y. from_result (match_of x xs y)))) (a_is m kinds)
       (λ more x x_is. then_keeps From (Each From (ComparedArmAt m x.kind)) (At m) (kinds ++ more) (compared_arms x.kind os m) (λ xs. optional other m >>= (λ y. from_result (match_of x xs y))) (compared_arms_sound x.kind os m all (kinds ++ more))
@@ -261,11 +262,11 @@ module _ (scope : Scope) where
 
   -- ---- calls
 
-  unknown_sound : (os : List Operand) → AllOf Sound os → Sound (unknown_call os)
+  unknown_sound : (os : List Operand) → AllByRecursion Sound os → Sound (unknown_call os)
   unfolding unknown_call
   unknown_sound os all m kinds = then_keeps From (Each From (At m)) (At m) kinds (each os m) (λ xs. from_result (Err TypeMismatch)) (each_sound os m all kinds) (λ more xs xs_are. given_keeps From (At m) (kinds ++ more) (Err TypeMismatch) (λ later. tt {0}))
 
-  function_sound : (f : CalledFunction) (os : List Operand) → AllOf Sound os → Sound (function_call f os)
+  function_sound : (f : CalledFunction) (os : List Operand) → AllByRecursion Sound os → Sound (function_call f os)
   unfolding function_call
   function_sound f os all m kinds = then_keeps From (Each From (At m)) (At m) kinds (each os m) (λ xs. from_result (apply_function f xs)) (each_sound os m all kinds)
       (λ more xs xs_are. given_keeps From (At m) (kinds ++ more) (apply_function f xs) (λ later. applied_right (row_types scope m ((kinds ++ more) ++ later)) f xs (xs_are later)))
@@ -279,17 +280,17 @@ module _ (scope : Scope) where
   abbrev OperandAt : Function → List Kind → Typed → Type 0
   OperandAt f kinds x = IsOperandOf From f x
 
-  aggregate_sound : (m : Mode) (f : Function) (xs : List Typed) (kinds : List Kind) → AllOf (IsTyped From) xs → Keeps From (At m) kinds (aggregate scope m f xs)
+  aggregate_sound : (m : Mode) (f : Function) (xs : List Typed) (kinds : List Kind) → AllByRecursion (IsTyped From) xs → Keeps From (At m) kinds (aggregate scope m f xs)
   unfolding aggregate
   aggregate_sound m f xs kinds all = then_keeps From (OperandAt f) (At m) kinds (from_result (operand_of f xs)) (λ x. new_aggregate scope m (Of f x.expr) (aggregate_kind f x.kind))
       (given_keeps From (OperandAt f) kinds (operand_of f xs) (λ later. operand_right From f xs all))
       (λ more x x_is. new_sound m (Of f x.expr) (aggregate_kind f x.kind) (kinds ++ more) (x_is []))
 
-  aggregate_call_sound : (f : Function) (os : List Operand) → AllOf Sound os → Sound (aggregate_call scope f os)
+  aggregate_call_sound : (f : Function) (os : List Operand) → AllByRecursion Sound os → Sound (aggregate_call scope f os)
   unfolding aggregate_call
   aggregate_call_sound f os all m kinds = then_keeps From (Each From (At Rows)) (At m) kinds (each os Rows) (aggregate scope m f) (each_sound os Rows all kinds) (λ more xs xs_are. aggregate_sound m f xs (kinds ++ more) (xs_are []))
 
-  call_sound : (f : Option CalledFunction) (os : List Operand) → AllOf Sound os → Sound (call scope f os)
+  call_sound : (f : Option CalledFunction) (os : List Operand) → AllByRecursion Sound os → Sound (call scope f os)
   call_sound None os all = unknown_sound os all
   call_sound (Some (called.Aggregate f)) os all = aggregate_call_sound f os all
   call_sound (Some called.Divide) os all = function_sound called.Divide os all
@@ -361,15 +362,15 @@ module _ (scope : Scope) where
     abbrev link_of : ToldLink → Link
     link_of l = l.0
 
-    trees_sound : (es : List ToldTree) → AllOf Sound (map (typing scope params) (map tree_of es))
+    trees_sound : (es : List ToldTree) → AllByRecursion Sound (map (typing scope params) (map tree_of es))
     trees_sound [] = tt {0}
     trees_sound (e ∷ es) = (e.1, trees_sound es)
 
-    tree_arms_sound : (os : List ToldArm) → AllOf SoundArm (map arm_fold (map arm_of os))
+    tree_arms_sound : (os : List ToldArm) → AllByRecursion SoundArm (map arm_fold (map arm_of os))
     tree_arms_sound [] = tt {0}
     tree_arms_sound (a ∷ os) = (a.1, tree_arms_sound os)
 
-    tree_links_sound : (ls : List ToldLink) → AllOf SoundLink (map link_fold (map link_of ls))
+    tree_links_sound : (ls : List ToldLink) → AllByRecursion SoundLink (map link_fold (map link_of ls))
     tree_links_sound [] = tt {0}
     tree_links_sound (l ∷ ls) = (l.1, tree_links_sound ls)
 

@@ -3,9 +3,9 @@ use Rattle.std.proofs.Common.{◌≡◌, ◌∙◌, sym, ap, refl, subst, ℕ, z
 use Rattle.std.specs.Prelude.{slice_get, ◌-◌, ◌||◌, nat_lt}
 use Rattle.std.proofs.lemmas.Bool.Decides.{nat_tests}
 use Rattle.std.specs.Option.{option_map}
-use Rattle.std.specs.List.{range_with_len, list_all, zip}
+use Rattle.std.specs.List.{AllByRecursion, range_with_len, list_all, zip}
 use Rattle.std.proofs.lemmas.List.{append-nil, length-map, map-append}
-use Rattle.std.proofs.lemmas.Bool.{eqb-true}
+use Rattle.std.proofs.lemmas.Bool.{eqb-true, and_parts}
 use Rattle.span_value.specs.declared.value.Kind.{Kind}
 use Rattle.span_value.specs.declared.value.Kind.TheVariants as kind
 use Rattle.span_value.specs.declared.refusal.Refusal.{Refusal}
@@ -56,16 +56,12 @@ use Rattle.span_binder.specs.Queries.{have_same_kind, have_same_kinds, are_union
 use Rattle.span_soundness.specs.Types.{are_same, is_of}
 use Rattle.span_soundness.specs.Bindings.{column_types, row_types, output_types, AreAggregatesOf, AreTyped, IsTyped}
 use Rattle.span_soundness.specs.WellTyped.{IsItemOf, AreJoinsOf, IsFromOf, is_condition, AreColumnsOf, AreOutputsOf, IsBlockOf, AreBlocksOf, AreKeysOf, IsLayerOf}
-use Rattle.span_soundness.proofs.Sameness.{both_true, same_kind}
-use Rattle.span_soundness.proofs.Agreeing.{Made, then_made, made_if, AllOf}
+use Rattle.span_soundness.proofs.Sameness.{same_kind}
+use Rattle.span_soundness.proofs.Agreeing.{Made, then_made, made_if}
 use Rattle.span_soundness.proofs.Making.{own_right}
-use Rattle.span_soundness.proofs.Places.{Within, column_within, place_within, column_there, column_at_right}
+use Rattle.span_soundness.proofs.Places.{Within, column_within, place_within, column_there, column_at_right, any_made}
 use Rattle.span_soundness.proofs.Going.{Always, later_on, Leads, Keeps, then_keeps, given_keeps, both_are_of}
 use Rattle.span_soundness.proofs.Binding.{sound}
-
-any_made : {A : Type 0} (r : Result A Refusal) → Made (λ (x : A). Unit {0}) r
-any_made (Ok x) = tt {0}
-any_made (Err why) = tt {0}
 
 -- ---- the types of names
 
@@ -84,7 +80,7 @@ names_types scope s =
     map-append type_of scope.columns (map (scope_column (length scope.items)) s.columns)
     ∙ ap (λ (ks : List Kind). column_types scope ++ ks) (scoped_types (length scope.items) s.columns)
 
-keys_types : (scope : Scope) (keys : List ℕ) → AllOf (Within scope.columns) keys → AreColumnsOf (column_types scope) keys (map (kind_at scope) keys)
+keys_types : (scope : Scope) (keys : List ℕ) → AllByRecursion (Within scope.columns) keys → AreColumnsOf (column_types scope) keys (map (kind_at scope) keys)
 keys_types scope [] all = tt {0}
 keys_types scope (p ∷ keys) all = (column_there scope.columns p all.0, keys_types scope keys all.1)
 
@@ -128,50 +124,50 @@ module _ (params : List Parameter) (params_are : AreTyped params) where
       then_made (IsTyped (row_types scope m kinds)) (ShownAt scope m kinds) (column_at scope m place) (λ x. Ok (projection (or_nameless (slice_get scope.columns place)) x)) (column_at_right scope m kinds place within)
       (λ x x_is. shown_is (row_types scope m kinds) (or_nameless (slice_get scope.columns place)) x x_is)
 
-  all_following : {A : Type 0} (P : A → Type 0) (xs : List A) (x : A) → AllOf P xs → P x → AllOf P (xs ++ x ∷ [])
+  all_following : {A : Type 0} (P : A → Type 0) (xs : List A) (x : A) → AllByRecursion P xs → P x → AllByRecursion P (xs ++ x ∷ [])
   all_following P [] x all is = (is, tt {0})
   all_following P (y ∷ ys) x all is = (all.0, all_following P ys x all.1 is)
 
-  all_both : {A : Type 0} (P : A → Type 0) (xs ys : List A) → AllOf P xs → AllOf P ys → AllOf P (xs ++ ys)
+  all_both : {A : Type 0} (P : A → Type 0) (xs ys : List A) → AllByRecursion P xs → AllByRecursion P ys → AllByRecursion P (xs ++ ys)
   all_both P [] ys all more = more
   all_both P (x ∷ xs) ys all more = (all.0, all_both P xs ys all.1 more)
 
-  each_made : {A X : Type 0} (P : A → Type 0) (Q : X → Type 0) (f : X → Result A Refusal) → ((x : X) → Q x → Made P (f x)) → (xs : List X) (found : List A) → AllOf Q xs → AllOf P found → Made (AllOf P) (fold_results (one_after f) xs found)
+  each_made : {A X : Type 0} (P : A → Type 0) (Q : X → Type 0) (f : X → Result A Refusal) → ((x : X) → Q x → Made P (f x)) → (xs : List X) (found : List A) → AllByRecursion Q xs → AllByRecursion P found → Made (AllByRecursion P) (fold_results (one_after f) xs found)
   each_made P Q f right [] found all are = are
   each_made P Q f right (x ∷ xs) found all are = go (f x) (right x all.0) (λ a a_is. each_made P Q f right xs (found ++ (a ∷ [])) all.1 (all_following P found a are a_is)) where
-    go : (r : Result _ Refusal) → Made P r → ((a : _) → P a → Made (AllOf P) (fold_results (one_after f) xs (found ++ (a ∷ [])))) → Made (AllOf P) (and_then (and_then r (λ a. Ok (found ++ (a ∷ [])))) (fold_results (one_after f) xs))
+    go : (r : Result _ Refusal) → Made P r → ((a : _) → P a → Made (AllByRecursion P) (fold_results (one_after f) xs (found ++ (a ∷ [])))) → Made (AllByRecursion P) (and_then (and_then r (λ a. Ok (found ++ (a ∷ [])))) (fold_results (one_after f) xs))
     go (Ok a) is follows = follows a is
     go (Err why) is follows = tt {0}
 
-  columns_shown_is : (scope : Scope) (m : Mode) (kinds : List Kind) (places : List ℕ) → AllOf (IsWithin scope) places → Made (AllOf (ShownAt scope m kinds)) (projected_columns scope m places)
+  columns_shown_is : (scope : Scope) (m : Mode) (kinds : List Kind) (places : List ℕ) → AllByRecursion (IsWithin scope) places → Made (AllByRecursion (ShownAt scope m kinds)) (projected_columns scope m places)
   unfolding projected_columns
   columns_shown_is scope m kinds places all = each_made (ShownAt scope m kinds) (IsWithin scope) (projected_column scope m) (column_shown_is scope m kinds) places [] all (tt {0})
 
-  places_below : (bound n : ℕ) (a : ℕ) → a + n ≤ bound → AllOf (λ (p : ℕ). p < bound) (range_with_len a n)
+  places_below : (bound n : ℕ) (a : ℕ) → a + n ≤ bound → AllByRecursion (λ (p : ℕ). p < bound) (range_with_len a n)
   places_below bound zero a within = tt {0}
   places_below bound (suc n) a within = (omega arith, places_below bound n (a + 1) (omega arith))
 
-  item_below : (bound item : ℕ) (columns : List ScopeColumn) (place : ℕ) → place + length columns ≤ bound → AllOf (λ (p : ℕ). p < bound) (places_of item place columns)
+  item_below : (bound item : ℕ) (columns : List ScopeColumn) (place : ℕ) → place + length columns ≤ bound → AllByRecursion (λ (p : ℕ). p < bound) (places_of item place columns)
   item_below bound item [] place within = tt {0}
   item_below bound item (c ∷ columns) place within = go (c.item == item) (omega arith) (item_below bound item columns (place + 1) (omega arith)) where
-    go : (b : Bool) → place < bound → AllOf (λ (p : ℕ). p < bound) (places_of item (place + 1) columns) → AllOf (λ (p : ℕ). p < bound) (if b then place ∷ places_of item (place + 1) columns else places_of item (place + 1) columns)
+    go : (b : Bool) → place < bound → AllByRecursion (λ (p : ℕ). p < bound) (places_of item (place + 1) columns) → AllByRecursion (λ (p : ℕ). p < bound) (if b then place ∷ places_of item (place + 1) columns else places_of item (place + 1) columns)
     go true here others = (here, others)
     go false here others = others
 
-  all_shown_is : (scope : Scope) (m : Mode) (kinds : List Kind) → Made (AllOf (ShownAt scope m kinds)) (project_all scope m)
+  all_shown_is : (scope : Scope) (m : Mode) (kinds : List Kind) → Made (AllByRecursion (ShownAt scope m kinds)) (project_all scope m)
   unfolding project_all
   all_shown_is scope m kinds = columns_shown_is scope m kinds (all_places scope) (places_below (length scope.columns) (length scope.columns) 0 (omega arith))
 
-  item_places_within : (scope : Scope) (o : Option ℕ) → Made (AllOf (IsWithin scope)) (item_places scope o)
+  item_places_within : (scope : Scope) (o : Option ℕ) → Made (AllByRecursion (IsWithin scope)) (item_places scope o)
   item_places_within scope None = tt {0}
   item_places_within scope (Some item) = item_below (length scope.columns) item scope.columns 0 (omega arith)
 
-  item_shown_is : (scope : Scope) (m : Mode) (kinds : List Kind) (name : List ℕ) → Made (AllOf (ShownAt scope m kinds)) (project_item scope m name)
+  item_shown_is : (scope : Scope) (m : Mode) (kinds : List Kind) (name : List ℕ) → Made (AllByRecursion (ShownAt scope m kinds)) (project_item scope m name)
   unfolding project_item
-  item_shown_is scope m kinds name = then_made (AllOf (IsWithin scope)) (AllOf (ShownAt scope m kinds)) (item_places scope (item_named scope name)) (projected_columns scope m) (item_places_within scope (item_named scope name)) (columns_shown_is scope m kinds)
+  item_shown_is scope m kinds name = then_made (AllByRecursion (IsWithin scope)) (AllByRecursion (ShownAt scope m kinds)) (item_places scope (item_named scope name)) (projected_columns scope m) (item_places_within scope (item_named scope name)) (columns_shown_is scope m kinds)
 
   abbrev EachShown : Scope → Mode → List Kind → List SelectItem → Type 0
-  EachShown scope m kinds ss = AllOf (ShownAt scope m kinds) ss
+  EachShown scope m kinds ss = AllByRecursion (ShownAt scope m kinds) ss
 
   abbrev TypedAt : Scope → Mode → List Kind → Typed → Type 0
   TypedAt scope m kinds x = IsTyped (row_types scope m kinds) x
@@ -185,7 +181,7 @@ module _ (params : List Parameter) (params_are : AreTyped params) where
 
   output_is : (scope : Scope) (m : Mode) (kinds : List Kind) (o : Output) → Keeps (column_types scope) (EachShown scope m) kinds (project_output scope params m o)
   output_is scope m kinds output.All = given_keeps (column_types scope) (EachShown scope m) kinds (project_all scope m) (λ later. all_shown_is scope m (kinds ++ later))
-  output_is scope m kinds (output.AllOf name) = given_keeps (column_types scope) (EachShown scope m) kinds (project_item scope m name.text) (λ later. item_shown_is scope m (kinds ++ later) name.text)
+  output_is scope m kinds (output.AllByRecursion name) = given_keeps (column_types scope) (EachShown scope m) kinds (project_item scope m name.text) (λ later. item_shown_is scope m (kinds ++ later) name.text)
   output_is scope m kinds (output.Value e alias) = value_shown_is scope m kinds e alias
 
   abbrev outputs_from : Scope → Mode → List Output → List SelectItem → Finds (List SelectItem)
@@ -226,7 +222,7 @@ module _ (params : List Parameter) (params_are : AreTyped params) where
 
   abbrev PartsAre : Scope → Mode → Parts → Type 0
   PartsAre scope m p =
-      (kinds : List Kind) × AreAggregatesOf (column_types scope) p.aggregates kinds × IsFilter (column_types scope) p.filter × IsFilter (row_types scope Groups kinds) p.having × AllOf (ShownAt scope m kinds) p.projection
+      (kinds : List Kind) × AreAggregatesOf (column_types scope) p.aggregates kinds × IsFilter (column_types scope) p.filter × IsFilter (row_types scope Groups kinds) p.having × AllByRecursion (ShownAt scope m kinds) p.projection
 
   abbrev parts_of : List SelectItem → Option Expr → Option Expr × List Aggregate → Parts
   parts_of ss filter having = record { projection = ss; filter = filter; having = having.0; aggregates = having.1 }
@@ -259,16 +255,16 @@ module _ (params : List Parameter) (params_are : AreTyped params) where
 
   -- ---- blocks
 
-  place_in_within : (scope : Scope) (r : Result ℕ Refusal) → Made (Within scope.columns) r → AllOf (Within scope.columns) (place_in r)
+  place_in_within : (scope : Scope) (r : Result ℕ Refusal) → Made (Within scope.columns) r → AllByRecursion (Within scope.columns) (place_in r)
   place_in_within scope (Ok p) is = (is, tt {0})
   place_in_within scope (Err why) is = tt {0}
 
-  groups_within : (scope : Scope) (cs : List Column) → AllOf (Within scope.columns) (group_places scope cs)
+  groups_within : (scope : Scope) (cs : List Column) → AllByRecursion (Within scope.columns) (group_places scope cs)
   unfolding group_places
   groups_within scope [] = tt {0}
   groups_within scope (c ∷ cs) = all_both (Within scope.columns) (place_in (column_place scope c)) (group_places scope cs) (place_in_within scope (column_place scope c) (column_within scope c)) (groups_within scope cs)
 
-  outputs_right : (types : List Kind) (ss : List SelectItem) → AllOf (λ (s : SelectItem). is_of types s.expr s.column.kind ≡ true) ss → AreOutputsOf types (projected_exprs ss) (output_types (columns_of_shown ss))
+  outputs_right : (types : List Kind) (ss : List SelectItem) → AllByRecursion (λ (s : SelectItem). is_of types s.expr s.column.kind ≡ true) ss → AreOutputsOf types (projected_exprs ss) (output_types (columns_of_shown ss))
   outputs_right types [] all = tt {0}
   outputs_right types (s ∷ ss) all = (all.0, outputs_right types ss all.1)
 
@@ -309,7 +305,7 @@ module _ (params : List Parameter) (params_are : AreTyped params) where
       go true = tt {0}
       go false = then_made (IsBool (column_types (with_names f.scope s))) IsFrom (condition (with_names f.scope s) params on) (λ e. Ok (with_join f is_left s e)) (condition_is (with_names f.scope s) on) (λ e e_is. with_join_is f is_left s e f_is s_is e_is)
 
-    parted_is : (f : FromItems) (is_distinct is_grouped : Bool) (keys : List ℕ) (parts : Parts) → AllOf (Within f.scope.columns) keys → IsFrom f → PartsAre (with_keys f.scope keys) (mode_of is_grouped) parts → IsBlock (block_of f.first f.joins is_distinct is_grouped keys parts)
+    parted_is : (f : FromItems) (is_distinct is_grouped : Bool) (keys : List ℕ) (parts : Parts) → AllByRecursion (Within f.scope.columns) keys → IsFrom f → PartsAre (with_keys f.scope keys) (mode_of is_grouped) parts → IsBlock (block_of f.first f.joins is_distinct is_grouped keys parts)
     parted_is f is_distinct true keys parts within f_is are = (
       column_types f.scope,
       row_types (with_keys f.scope keys) Groups are.0,
@@ -338,18 +334,18 @@ module _ (params : List Parameter) (params_are : AreTyped params) where
     same_types [] (d ∷ ds) n same = absurd (omega arith)
     same_types (c ∷ cs) [] n same = absurd (omega arith)
     same_types (c ∷ cs) (d ∷ ds) n same =
-        let kinds : (are_same c.kind d.kind ≡ true) × (list_all have_same_kind (zip cs ds) ≡ true) = both_true (are_same c.kind d.kind) (list_all have_same_kind (zip cs ds)) same in
+        let kinds : (are_same c.kind d.kind ≡ true) × (list_all have_same_kind (zip cs ds) ≡ true) = and_parts (are_same c.kind d.kind) (list_all have_same_kind (zip cs ds)) same in
         ap (λ (k : Kind). k ∷ output_types cs) (same_kind c.kind d.kind kinds.0) ∙ ap (λ (ks : List Kind). d.kind ∷ ks) (same_types cs ds (omega arith) kinds.1)
 
     -- blocks of a query, up to some block
     abbrev pub AreBound : BoundBlocks → Type 0
-    AreBound b = IsBlock b.first × AllOf IsBlock b.others
+    AreBound b = IsBlock b.first × AllByRecursion IsBlock b.others
 
-    others_are : (columns : List OutputColumn) (others : List BoundBlock) → AllOf IsBlock others → list_all (λ (other : BoundBlock). have_same_kinds columns other.columns) others ≡ true → AreBlocksOf gives leaves (blocks_of others) (output_types columns)
+    others_are : (columns : List OutputColumn) (others : List BoundBlock) → AllByRecursion IsBlock others → list_all (λ (other : BoundBlock). have_same_kinds columns other.columns) others ≡ true → AreBlocksOf gives leaves (blocks_of others) (output_types columns)
     others_are columns [] all same = tt {0}
     others_are columns (b ∷ others) all same =
-        let parts : (have_same_kinds columns b.columns ≡ true) × (list_all (λ (other : BoundBlock). have_same_kinds columns other.columns) others ≡ true) = both_true (have_same_kinds columns b.columns) (list_all (λ (other : BoundBlock). have_same_kinds columns other.columns) others) same in
-        let kinds : ((length columns == length b.columns) ≡ true) × (list_all have_same_kind (zip columns b.columns) ≡ true) = both_true (length columns == length b.columns) (list_all have_same_kind (zip columns b.columns)) parts.0 in (
+        let parts : (have_same_kinds columns b.columns ≡ true) × (list_all (λ (other : BoundBlock). have_same_kinds columns other.columns) others ≡ true) = and_parts (have_same_kinds columns b.columns) (list_all (λ (other : BoundBlock). have_same_kinds columns other.columns) others) same in
+        let kinds : ((length columns == length b.columns) ≡ true) × (list_all have_same_kind (zip columns b.columns) ≡ true) = and_parts (length columns == length b.columns) (list_all have_same_kind (zip columns b.columns)) parts.0 in (
           subst (λ (ks : List Kind). IsBlockOf gives leaves b.block ks) (sym (same_types columns b.columns (eqb-true (length columns) (length b.columns) kinds.0) kinds.1)) all.0,
           others_are columns others all.1 parts.1,
         )
@@ -375,15 +371,15 @@ module _ (params : List Parameter) (params_are : AreTyped params) where
     key_within : (columns : List OutputColumn) (k : SortKey) → Made (IsKeyOf columns) (sort_key columns k)
     key_within columns k = then_made (Within columns) (IsKeyOf columns) (sort_place columns k.column) (λ p. Ok (record { column = p; is_descending = k.is_descending })) (sort_within columns k.column) (λ p is. is)
 
-    all_keys : (ks : List SortKey) → AllOf (λ (k : SortKey). Unit {0}) ks
+    all_keys : (ks : List SortKey) → AllByRecursion (λ (k : SortKey). Unit {0}) ks
     all_keys [] = tt {0}
     all_keys (k ∷ ks) = (tt {0}, all_keys ks)
 
-    keys_within : (columns : List OutputColumn) (ks : List SortKey) → Made (AllOf (IsKeyOf columns)) (sort_keys columns ks)
+    keys_within : (columns : List OutputColumn) (ks : List SortKey) → Made (AllByRecursion (IsKeyOf columns)) (sort_keys columns ks)
     unfolding sort_keys
     keys_within columns ks = each_made (IsKeyOf columns) (λ (k : SortKey). Unit {0}) (sort_key columns) (λ k t. key_within columns k) ks [] (all_keys ks) (tt {0})
 
-    keys_are : (columns : List OutputColumn) (keys : List BoundKey) → AllOf (IsKeyOf columns) keys → AreKeysOf (output_types columns) keys
+    keys_are : (columns : List OutputColumn) (keys : List BoundKey) → AllByRecursion (IsKeyOf columns) keys → AreKeysOf (output_types columns) keys
     keys_are columns [] all = tt {0}
     keys_are columns (key ∷ keys) all = (subst (λ (n : ℕ). key.column < n) (sym (length-map columns output_type)) all.0, keys_are columns keys all.1)
 
@@ -393,5 +389,5 @@ module _ (params : List Parameter) (params_are : AreTyped params) where
       go : (same : Bool) → (same ≡ true → AreBlocksOf gives leaves (blocks_of b.others) (output_types b.first.columns)) → Made IsBound (if same then and_then (sort_keys b.first.columns order) (λ keys. Ok (query_of b keys limit)) else Err ColumnsDiffer)
       go false others = tt {0}
       go true others =
-          then_made (AllOf (IsKeyOf b.first.columns)) IsBound (sort_keys b.first.columns order) (λ keys. Ok (query_of b keys limit)) (keys_within b.first.columns order)
+          then_made (AllByRecursion (IsKeyOf b.first.columns)) IsBound (sort_keys b.first.columns order) (λ keys. Ok (query_of b keys limit)) (keys_within b.first.columns order)
           (λ keys keys_right. makes (layer_of b keys limit) (output_types b.first.columns) ((are.0, others refl), keys_are b.first.columns keys keys_right))

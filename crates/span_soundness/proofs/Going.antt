@@ -1,7 +1,7 @@
 -- Steps along a query that find typed things, and aggregates on their way.
 use Rattle.std.proofs.Common.{◌≡◌, ◌∙◌, sym, ap, refl, subst, List, [], ◌∷◌, ◌++◌, Result, Ok, Err, append_assoc}
 use Rattle.std.proofs.lemmas.List.{append-nil}
-use Rattle.std.specs.List.{fold}
+use Rattle.std.specs.List.{AllByRecursion, fold}
 use Rattle.span_value.specs.declared.value.Kind.{Kind}
 use Rattle.span_value.specs.declared.refusal.Refusal.{Refusal}
 use Rattle.span_query.specs.declared.query.Aggregate.{Aggregate}
@@ -9,7 +9,7 @@ use Rattle.span_value.specs.Results.{and_then}
 use Rattle.span_typing.specs.Steps.{pure, from_result, ◌>>=◌, next_of, fold_steps, append_step, all_of}
 use Rattle.span_typing.specs.Typing.{Finds}
 use Rattle.span_soundness.specs.Bindings.{AreAggregatesOf}
-use Rattle.span_soundness.proofs.Agreeing.{Made, AllOf}
+use Rattle.span_soundness.proofs.Agreeing.{Made}
 
 -- what is known of something, by the types of the aggregates found so far
 abbrev pub Claim : Type 0 → Type 1
@@ -70,20 +70,20 @@ module _ (types : List Kind) where
   rejoined step xs (Ok p) = refl
   rejoined step xs (Err why) = sym (refused_stays step why xs)
 
-  pub along_keeps : {X A : Type 0} (R : List Kind → A → Type 0) (P : X → Type 0) (step : A → X → Finds A) → ((kinds : List Kind) (a : A) (x : X) → P x → Always R kinds a → Keeps R kinds (step a x)) → (xs : List X) → AllOf P xs → (kinds : List Kind) (a : A) → Always R kinds a → Keeps R kinds (fold_steps step a xs)
+  pub along_keeps : {X A : Type 0} (R : List Kind → A → Type 0) (P : X → Type 0) (step : A → X → Finds A) → ((kinds : List Kind) (a : A) (x : X) → P x → Always R kinds a → Keeps R kinds (step a x)) → (xs : List X) → AllByRecursion P xs → (kinds : List Kind) (a : A) → Always R kinds a → Keeps R kinds (fold_steps step a xs)
   along_keeps R P step keeps [] all kinds a is found are = ([], [], sym (append-nil found), tt {0}, later_on R kinds [] a is)
   along_keeps R P step keeps (x ∷ xs) all kinds a is found are =
       subst (λ (o : Result (_ × List Aggregate) Refusal). Leads R found kinds o) (rejoined step xs (step a x found))
       (then_keeps R R kinds (step a x) (λ b. fold_steps step b xs) (keeps kinds a x all.0 is) (λ more b b_is. along_keeps R P step keeps xs all.1 (kinds ++ more) b b_is) found are)
 
-  one_after : {A : Type 0} (P : A → Type 0) (xs : List A) (x : A) → AllOf P xs → P x → AllOf P (xs ++ x ∷ [])
+  one_after : {A : Type 0} (P : A → Type 0) (xs : List A) (x : A) → AllByRecursion P xs → P x → AllByRecursion P (xs ++ x ∷ [])
   one_after P [] x all is = (is, tt {0})
   one_after P (y ∷ ys) x all is = (all.0, one_after P ys x all.1 is)
 
   abbrev pub Each : {A : Type 0} → (List Kind → A → Type 0) → List Kind → List A → Type 0
-  Each R kinds xs = AllOf (R kinds) xs
+  Each R kinds xs = AllByRecursion (R kinds) xs
 
-  pub all_keep : {X A : Type 0} (R : List Kind → A → Type 0) (P : X → Type 0) (step : X → Finds A) → ((x : X) → P x → (kinds : List Kind) → Keeps R kinds (step x)) → (xs : List X) → AllOf P xs → (kinds : List Kind) → Keeps (Each R) kinds (all_of step xs)
+  pub all_keep : {X A : Type 0} (R : List Kind → A → Type 0) (P : X → Type 0) (step : X → Finds A) → ((x : X) → P x → (kinds : List Kind) → Keeps R kinds (step x)) → (xs : List X) → AllByRecursion P xs → (kinds : List Kind) → Keeps (Each R) kinds (all_of step xs)
   all_keep R P step keeps xs all kinds =
       along_keeps (Each R) P (append_step step)
       (λ ks os x x_is os_are. then_keeps R (Each R) ks (step x) (λ a. pure (os ++ (a ∷ []))) (keeps x x_is ks)

@@ -31,13 +31,14 @@ use Rattle.span_expr.specs.Patterns.{like}
 use Rattle.span_expr.specs.Meaning.{apply_link, case_value, match_value, at_operands, val, link_val, arm_val, between, in_list, and_also, or_else, or_equal, all_of, any_of}
 use Rattle.span_soundness.specs.Types.{IsOutcomeOf, IsRowOf, are_same, is_text, is_operand, Typing, is_some, is_link_of, has_value, has_condition, is_compared_with, are_conditions, all_values_are, all_are, has_type, typing_at, is_of}
 use Rattle.span_soundness.specs.Laws.{ExpressionsKeepTypes}
-use Rattle.span_soundness.proofs.Sameness.{not_true, both_true, same_kind}
+use Rattle.span_soundness.proofs.Sameness.{not_true, same_kind}
+use Rattle.std.proofs.lemmas.Bool.{and_parts}
 
 -- ---- outcomes
 
 -- of the type that was asked for
 of_same : (j k : Kind) (b : Bool) (o : Outcome) → (are_same j k && b) ≡ true → IsOutcomeOf j o → IsOutcomeOf k o
-of_same j k b o is outcome = subst (λ (t : Kind). IsOutcomeOf t o) (same_kind j k (both_true (are_same j k) b is).0) outcome
+of_same j k b o is outcome = subst (λ (t : Kind). IsOutcomeOf t o) (same_kind j k (and_parts (are_same j k) b is).0) outcome
 
 -- NULL is of each type
 pub null_of : (k : Kind) → is_of_kind k value.Null ≡ true
@@ -246,20 +247,20 @@ module _ (types : List Kind) (row : List Value) (row_is : IsRowOf types row) whe
   operands_kept : (k : Kind) (es : List Told) → all_are (map (is_of types) (map expr_of es)) k ≡ true → AllAre k (map (val row) (map expr_of es))
   operands_kept k [] is = tt {0}
   operands_kept k (e ∷ es) is =
-      let parts : (is_of types e.0 k ≡ true) × (all_are (map (is_of types) (map expr_of es)) k ≡ true) = both_true (is_of types e.0 k) (all_are (map (is_of types) (map expr_of es)) k) is in
+      let parts : (is_of types e.0 k ≡ true) × (all_are (map (is_of types) (map expr_of es)) k ≡ true) = and_parts (is_of types e.0 k) (all_are (map (is_of types) (map expr_of es)) k) is in
       (e.1 k parts.0, operands_kept k es parts.1)
 
   links_kept : (k : Kind) (links : List (Link Told)) → list_all (is_link_of k) (map link_type (map of_link links)) ≡ true → AllLinks k (map (link_val row) (map of_link links))
   links_kept k [] is = tt {0}
   links_kept k (link ∷ links) is =
-      let parts : (is_link_of k (link_type (of_link link)) ≡ true) × (list_all (is_link_of k) (map link_type (map of_link links)) ≡ true) = both_true (is_link_of k (link_type (of_link link))) (list_all (is_link_of k) (map link_type (map of_link links))) is in
-      let here : (is_operand link.operator k ≡ true) × (is_of types link.operand.0 k ≡ true) = both_true (is_operand link.operator k) (is_of types link.operand.0 k) parts.0 in
+      let parts : (is_link_of k (link_type (of_link link)) ≡ true) × (list_all (is_link_of k) (map link_type (map of_link links)) ≡ true) = and_parts (is_link_of k (link_type (of_link link))) (list_all (is_link_of k) (map link_type (map of_link links))) is in
+      let here : (is_operand link.operator k ≡ true) × (is_of types link.operand.0 k ≡ true) = and_parts (is_operand link.operator k) (is_of types link.operand.0 k) parts.0 in
       (here.0, link.operand.1 k here.1, links_kept k links parts.1)
 
   arms_kept : (k : Kind) (arms : List (Arm Told)) → list_all (has_value k) (map arm_type (map of_arm arms)) ≡ true → AllValues k (map (arm_val row) (map of_arm arms))
   arms_kept k [] is = tt {0}
   arms_kept k (arm ∷ arms) is =
-      let parts : (is_of types arm.value.0 k ≡ true) × (list_all (has_value k) (map arm_type (map of_arm arms)) ≡ true) = both_true (is_of types arm.value.0 k) (list_all (has_value k) (map arm_type (map of_arm arms))) is in
+      let parts : (is_of types arm.value.0 k ≡ true) × (list_all (has_value k) (map arm_type (map of_arm arms)) ≡ true) = and_parts (is_of types arm.value.0 k) (list_all (has_value k) (map arm_type (map of_arm arms))) is in
       (arm.value.1 k parts.0, arms_kept k arms parts.1)
 
   layer_kept : (y : Expr-F Told) (k : Kind) → typing_at types (map-Expr Expr Typing (is_of types) (map-Expr Told Expr expr_of y)) k ≡ true → IsOutcomeOf k (at_operands row (map-Expr Expr Outcome (val row) (map-Expr Told Expr expr_of y)))
@@ -267,7 +268,7 @@ module _ (types : List Kind) (row : List Value) (row_is : IsRowOf types row) whe
   layer_kept (Expr-F.Column place) k t = column_kept types row place k row_is t
   layer_kept (Expr-F.Negative a) k t = of_same kind.Int k (is_of types a.0 kind.Int) (at_value (val row a.0) arithmetic_negation) t (then_kept kind.Int (val row a.0) arithmetic_negation opposite_kept)
   layer_kept (Expr-F.Chain first links) k t =
-      let parts : (is_of types first.0 k ≡ true) × (list_all (is_link_of k) (map link_type (map of_link links)) ≡ true) = both_true (is_of types first.0 k) (list_all (is_link_of k) (map link_type (map of_link links))) t in
+      let parts : (is_of types first.0 k ≡ true) × (list_all (is_link_of k) (map link_type (map of_link links)) ≡ true) = and_parts (is_of types first.0 k) (list_all (is_link_of k) (map link_type (map of_link links))) t in
       chained_kept k (val row first.0) (map (link_val row) (map of_link links)) (first.1 k parts.0) (links_kept k links parts.1)
   layer_kept (Expr-F.Compare a c b) k t =
       of_same kind.Bool k (has_type (λ j. is_of types a.0 j && is_of types b.0 j)) (strict (compare_values c) (val row a.0) (val row b.0)) t (strict_kept kind.Bool (compare_values c) (val row a.0) (val row b.0) (compared_kept c))
@@ -286,20 +287,20 @@ module _ (types : List Kind) (row : List Value) (row_is : IsRowOf types row) whe
   layer_kept (Expr-F.Or first more) k t =
       of_same kind.Bool k (are_conditions (is_of types first.0) (map (is_of types) (map expr_of more))) (any_of (val row first.0) (map (val row) (map expr_of more))) t (condition_kept (fold or_else (condition_of (val row first.0)) (map (val row) (map expr_of more))))
   layer_kept (Expr-F.Case arms None) k t =
-      let parts : (list_all has_condition (map arm_type (map of_arm arms)) ≡ true) × (all_values_are (map arm_type (map of_arm arms)) None k ≡ true) = both_true (list_all has_condition (map arm_type (map of_arm arms))) (all_values_are (map arm_type (map of_arm arms)) None k) t in
-      let values : (list_all (has_value k) (map arm_type (map of_arm arms)) ≡ true) × (true ≡ true) = both_true (list_all (has_value k) (map arm_type (map of_arm arms))) true parts.1 in
+      let parts : (list_all has_condition (map arm_type (map of_arm arms)) ≡ true) × (all_values_are (map arm_type (map of_arm arms)) None k ≡ true) = and_parts (list_all has_condition (map arm_type (map of_arm arms))) (all_values_are (map arm_type (map of_arm arms)) None k) t in
+      let values : (list_all (has_value k) (map arm_type (map of_arm arms)) ≡ true) × (true ≡ true) = and_parts (list_all (has_value k) (map arm_type (map of_arm arms))) true parts.1 in
       chosen_kept k (map (arm_val row) (map of_arm arms)) (Val value.Null) (arms_kept k arms values.0) (null_of k)
   layer_kept (Expr-F.Case arms (Some other)) k t =
-      let parts : (list_all has_condition (map arm_type (map of_arm arms)) ≡ true) × (all_values_are (map arm_type (map of_arm arms)) (Some (is_of types other.0)) k ≡ true) = both_true (list_all has_condition (map arm_type (map of_arm arms))) (all_values_are (map arm_type (map of_arm arms)) (Some (is_of types other.0)) k) t in
-      let values : (list_all (has_value k) (map arm_type (map of_arm arms)) ≡ true) × (is_of types other.0 k ≡ true) = both_true (list_all (has_value k) (map arm_type (map of_arm arms))) (is_of types other.0 k) parts.1 in
+      let parts : (list_all has_condition (map arm_type (map of_arm arms)) ≡ true) × (all_values_are (map arm_type (map of_arm arms)) (Some (is_of types other.0)) k ≡ true) = and_parts (list_all has_condition (map arm_type (map of_arm arms))) (all_values_are (map arm_type (map of_arm arms)) (Some (is_of types other.0)) k) t in
+      let values : (list_all (has_value k) (map arm_type (map of_arm arms)) ≡ true) × (is_of types other.0 k ≡ true) = and_parts (list_all (has_value k) (map arm_type (map of_arm arms))) (is_of types other.0 k) parts.1 in
       chosen_kept k (map (arm_val row) (map of_arm arms)) (val row other.0) (arms_kept k arms values.0) (other.1 k values.1)
   layer_kept (Expr-F.Match a arms None) k t =
-      let parts : ((has_type (is_of types a.0) && list_all (is_compared_with (is_of types a.0)) (map arm_type (map of_arm arms))) ≡ true) × (all_values_are (map arm_type (map of_arm arms)) None k ≡ true) = both_true ((has_type (is_of types a.0) && list_all (is_compared_with (is_of types a.0)) (map arm_type (map of_arm arms)))) (all_values_are (map arm_type (map of_arm arms)) None k) t in
-      let values : (list_all (has_value k) (map arm_type (map of_arm arms)) ≡ true) × (true ≡ true) = both_true (list_all (has_value k) (map arm_type (map of_arm arms))) true parts.1 in
+      let parts : ((has_type (is_of types a.0) && list_all (is_compared_with (is_of types a.0)) (map arm_type (map of_arm arms))) ≡ true) × (all_values_are (map arm_type (map of_arm arms)) None k ≡ true) = and_parts ((has_type (is_of types a.0) && list_all (is_compared_with (is_of types a.0)) (map arm_type (map of_arm arms)))) (all_values_are (map arm_type (map of_arm arms)) None k) t in
+      let values : (list_all (has_value k) (map arm_type (map of_arm arms)) ≡ true) × (true ≡ true) = and_parts (list_all (has_value k) (map arm_type (map of_arm arms))) true parts.1 in
       matched_kept k (val row a.0) (map (arm_val row) (map of_arm arms)) (Val value.Null) (arms_kept k arms values.0) (null_of k)
   layer_kept (Expr-F.Match a arms (Some other)) k t =
-      let parts : ((has_type (is_of types a.0) && list_all (is_compared_with (is_of types a.0)) (map arm_type (map of_arm arms))) ≡ true) × (all_values_are (map arm_type (map of_arm arms)) (Some (is_of types other.0)) k ≡ true) = both_true ((has_type (is_of types a.0) && list_all (is_compared_with (is_of types a.0)) (map arm_type (map of_arm arms)))) (all_values_are (map arm_type (map of_arm arms)) (Some (is_of types other.0)) k) t in
-      let values : (list_all (has_value k) (map arm_type (map of_arm arms)) ≡ true) × (is_of types other.0 k ≡ true) = both_true (list_all (has_value k) (map arm_type (map of_arm arms))) (is_of types other.0 k) parts.1 in
+      let parts : ((has_type (is_of types a.0) && list_all (is_compared_with (is_of types a.0)) (map arm_type (map of_arm arms))) ≡ true) × (all_values_are (map arm_type (map of_arm arms)) (Some (is_of types other.0)) k ≡ true) = and_parts ((has_type (is_of types a.0) && list_all (is_compared_with (is_of types a.0)) (map arm_type (map of_arm arms)))) (all_values_are (map arm_type (map of_arm arms)) (Some (is_of types other.0)) k) t in
+      let values : (list_all (has_value k) (map arm_type (map of_arm arms)) ≡ true) × (is_of types other.0 k ≡ true) = and_parts (list_all (has_value k) (map arm_type (map of_arm arms))) (is_of types other.0 k) parts.1 in
       matched_kept k (val row a.0) (map (arm_val row) (map of_arm arms)) (val row other.0) (arms_kept k arms values.0) (other.1 k values.1)
   layer_kept (Expr-F.Coalesce operands) k t = first_kept k (map (val row) (map expr_of operands)) (operands_kept k operands t)
 

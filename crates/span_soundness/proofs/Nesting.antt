@@ -1,9 +1,9 @@
 -- What holds of each part that the binder makes of a tree, where it follows from what holds of the parts below, holds of the whole. Such
 -- facts may speak of all leaves, since those found so far are the first of them.
-use Rattle.std.proofs.Common.{◌≡◌, ◌∙◌, sym, ap, refl, subst, ℕ, ◌+◌, true, false, Bool, if◌then◌else◌, List, [], ◌∷◌, ◌++◌, length, map, Option, Some, None, Result, Ok, Err, arith, append_assoc}
+use Rattle.std.proofs.Common.{◌≡◌, ◌∙◌, sym, ap, refl, subst, ℕ, ◌+◌, true, false, Bool, if◌then◌else◌, List, [], ◌∷◌, ◌++◌, length, Option, Some, None, Result, Ok, Err, arith, append_assoc}
 use Rattle.std.specs.Prelude.{IfSome, cond, nat_le, nat_lt}
 use Rattle.std.specs.Option.{option_map}
-use Rattle.std.specs.List.{position_or_len}
+use Rattle.std.specs.List.{AllByRecursion, position_or_len}
 use Rattle.std.proofs.lemmas.Bool.Decides.{nat_tests}
 use Rattle.std.proofs.lemmas.List.{append-nil}
 use Rattle.span_value.specs.declared.refusal.Refusal.{Refusal}
@@ -16,12 +16,7 @@ use Rattle.span_syntax.specs.declared.tree.Expr.{Expr}
 use Rattle.span_parser.specs.declared.tree.SortKey.{SortKey}
 use Rattle.span_parser.specs.declared.tree.Limit.{Limit}
 use Rattle.span_parser.specs.declared.tree.Query.{Query}
-use Rattle.span_parser.specs.declared.tree.Block.{Block}
-use Rattle.span_parser.specs.declared.tree.Item.{Item}
-use Rattle.span_parser.specs.declared.tree.Join.{Join}
-use Rattle.span_parser.specs.declared.tree.Item.TheOpen.{Query-F, Block-F, Item-F, Join-F}
-use Rattle.span_parser.specs.declared.tree.Item.TheViews.{roll-Item, roll-Block, roll-Join, roll-Query}
-use Rattle.span_parser.specs.declared.tree.Item.TheFolds.{ind-Query, fold-Item, fold-Block, fold-Join, fold-Query, fold-roll-Item, fold-roll-Block, fold-roll-Join, fold-roll-Query, map-Item, map-Block, map-Join, map-Query}
+use Rattle.span_parser.specs.declared.tree.Item.TheOpen.{Query-F, Block-F}
 use Rattle.span_params.specs.declared.params.Parameter.{Parameter}
 use Rattle.span_value.specs.Results.{and_then}
 use Rattle.span_binder.specs.declared.bound.Source.{Source}
@@ -32,8 +27,9 @@ use Rattle.span_binder.specs.declared.bound.BoundBlocks.{BoundBlocks}
 use Rattle.span_binder.specs.Onward.{fold_results}
 use Rattle.span_binder.specs.Sources.{name_or_alias, table_source, numbered_source, most_tables, named_source, derived_source, start_from, add_item}
 use Rattle.span_binder.specs.Blocks.{BlockTail, block_tail_of, bind_block}
-use Rattle.span_binder.specs.Queries.{only_block, with_block, bind_query, ItemStep, JoinStep, BlockStep, QueryStep, item_at, join_at, next_join, from, block_at, next_block, blocks, query_at, query_step}
-use Rattle.span_soundness.proofs.Agreeing.{Made, AllOf}
+use Rattle.span_binder.specs.Queries.{only_block, with_block, bind_query, ItemStep, JoinStep, BlockStep, QueryStep, next_join, from, block_at, next_block, blocks, query_at, query_step}
+use Rattle.span_binder.proofs.ByParts.{query_holds}
+use Rattle.span_soundness.proofs.Agreeing.{Made}
 
 -- a name is of a table of the schema
 named_is : (schema : List Table) (name : List ℕ) → IfSome (number_named schema name) (IsTable schema)
@@ -53,14 +49,14 @@ module _ (schema : List Table) (all : List ℕ) where
   -- what a step leads to: more leaves after those found before, which are tables, and something of which this holds, if the leaves are the
   -- first of all
   abbrev LeadsTo : {A : Type 0} → (A → Type 0) → List ℕ → Result (A × List ℕ) Refusal → Type 0
-  LeadsTo R found (Ok p) = (new : List ℕ) × (p.1 ≡ found ++ new) × AllOf (IsTable schema) new × (IsFront p.1 → R p.0)
+  LeadsTo R found (Ok p) = (new : List ℕ) × (p.1 ≡ found ++ new) × AllByRecursion (IsTable schema) new × (IsFront p.1 → R p.0)
   LeadsTo R found (Err why) = Unit {0}
 
-  both_tables : (found new : List ℕ) → AllOf (IsTable schema) found → AllOf (IsTable schema) new → AllOf (IsTable schema) (found ++ new)
+  both_tables : (found new : List ℕ) → AllByRecursion (IsTable schema) found → AllByRecursion (IsTable schema) new → AllByRecursion (IsTable schema) (found ++ new)
   both_tables [] new are more = more
   both_tables (n ∷ found) new are more = (are.0, both_tables found new are.1 more)
 
-  from_further : {A : Type 0} (R : A → Type 0) (found new whole : List ℕ) (o : Result (A × List ℕ) Refusal) → whole ≡ found ++ new → AllOf (IsTable schema) new → LeadsTo R whole o → LeadsTo R found o
+  from_further : {A : Type 0} (R : A → Type 0) (found new whole : List ℕ) (o : Result (A × List ℕ) Refusal) → whole ≡ found ++ new → AllByRecursion (IsTable schema) new → LeadsTo R whole o → LeadsTo R found o
   from_further R found new whole (Err why) is are leads = tt {0}
   from_further R found new whole (Ok p) is are leads = (
     new ++ leads.0,
@@ -80,7 +76,7 @@ module _ (schema : List Table) (all : List ℕ) where
   made_leads R (Ok x) found is = here_leads R x found is
   made_leads R (Err why) found is = tt {0}
 
-  onward_leads : {A X : Type 0} (R : A → Type 0) (P : X → Type 0) (step : A × List ℕ → X → Result (A × List ℕ) Refusal) → ((p : A × List ℕ) (x : X) → P x → (IsFront p.1 → R p.0) → LeadsTo R p.1 (step p x)) → (xs : List X) → AllOf P xs → (p : A × List ℕ) → (IsFront p.1 → R p.0) → LeadsTo R p.1 (fold_results step xs p)
+  onward_leads : {A X : Type 0} (R : A → Type 0) (P : X → Type 0) (step : A × List ℕ → X → Result (A × List ℕ) Refusal) → ((p : A × List ℕ) (x : X) → P x → (IsFront p.1 → R p.0) → LeadsTo R p.1 (step p x)) → (xs : List X) → AllByRecursion P xs → (p : A × List ℕ) → (IsFront p.1 → R p.0) → LeadsTo R p.1 (fold_results step xs p)
   onward_leads R P step keeps [] are p is = here_leads R p.0 p.1 is
   onward_leads R P step keeps (x ∷ xs) are p is = then_leads R R p.1 (step p x) (fold_results step xs) (keeps p x are.0 is) (λ q back q_is. onward_leads R P step keeps xs are.1 q q_is)
 
@@ -92,10 +88,10 @@ module _ (schema : List Table) (all : List ℕ) where
       (started_is : (s : Source) → SourceIs s → FromIs (start_from s))
       (extended_is : (f : FromItems) (is_left : Bool) (s : Source) (on : Expr) → FromIs f → SourceIs s → Made FromIs (add_item params f is_left s on))
       (block_is : (b : BlockTail) (f : FromItems) → FromIs f → Made BlockIs (bind_block params b f))
-      (query_is : (b : BoundBlocks) (order : List SortKey) (limit : Option Limit) → BlockIs b.first → AllOf BlockIs b.others → Made BoundIs (bind_query b order limit))
+      (query_is : (b : BoundBlocks) (order : List SortKey) (limit : Option Limit) → BlockIs b.first → AllByRecursion BlockIs b.others → Made BoundIs (bind_query b order limit))
     where
       abbrev BlocksAre : BoundBlocks → Type 0
-      BlocksAre b = BlockIs b.first × AllOf BlockIs b.others
+      BlocksAre b = BlockIs b.first × AllByRecursion BlockIs b.others
 
       abbrev ItemSound : ItemStep → Type 0
       ItemSound s = (found : List ℕ) → LeadsTo SourceIs found (s found)
@@ -130,18 +126,18 @@ module _ (schema : List Table) (all : List ℕ) where
       join_sound p j j_is p_is = then_leads SourceIs FromIs p.1 (j.item p.1) (λ q. and_then (add_item params p.0 j.is_left q.0 j.on) (λ f. Ok (f, q.1))) (j_is p.1)
           (λ q back q_is. made_leads FromIs (add_item params p.0 j.is_left q.0 j.on) q.1 (λ front. extended_is p.0 j.is_left q.0 j.on (p_is (back front)) (q_is front)))
 
-      from_sound : (first : ItemStep) (joins : List JoinStep) (found : List ℕ) → ItemSound first → AllOf JoinSound joins → LeadsTo FromIs found (from params first joins found)
+      from_sound : (first : ItemStep) (joins : List JoinStep) (found : List ℕ) → ItemSound first → AllByRecursion JoinSound joins → LeadsTo FromIs found (from params first joins found)
       from_sound first joins found first_is joins_are = then_leads FromIs FromIs found (and_then (first found) (λ p. Ok (start_from p.0, p.1))) (fold_results (next_join params) joins)
           (then_leads SourceIs FromIs found (first found) (λ p. Ok (start_from p.0, p.1)) (first_is found) (λ p back p_is. here_leads FromIs (start_from p.0) p.1 (λ front. started_is p.0 (p_is front))))
           (λ p back p_is. onward_leads FromIs JoinSound (next_join params) join_sound joins joins_are p p_is)
 
-      block_sound : (b : Block-F ItemStep BlockStep JoinStep QueryStep) → ItemSound b.from → AllOf JoinSound b.joins → BlockSound (block_at params b)
+      block_sound : (b : Block-F ItemStep BlockStep JoinStep QueryStep) → ItemSound b.from → AllByRecursion JoinSound b.joins → BlockSound (block_at params b)
       block_sound b from_is joins_are found = then_leads FromIs BlockIs found (from params b.from b.joins found) (λ p. and_then (bind_block params (block_tail_of (λ (j : JoinStep). j.on) b) p.0) (λ x. Ok (x, p.1))) (from_sound b.from b.joins found from_is joins_are)
           (λ p back p_is. made_leads BlockIs (bind_block params (block_tail_of (λ (j : JoinStep). j.on) b) p.0) p.1 (λ front. block_is (block_tail_of (λ (j : JoinStep). j.on) b) p.0 (p_is front)))
 
       -- ---- queries
 
-      all_following : (xs : List BoundBlock) (x : BoundBlock) → AllOf BlockIs xs → BlockIs x → AllOf BlockIs (xs ++ x ∷ [])
+      all_following : (xs : List BoundBlock) (x : BoundBlock) → AllByRecursion BlockIs xs → BlockIs x → AllByRecursion BlockIs (xs ++ x ∷ [])
       all_following [] x are is = (is, tt {0})
       all_following (y ∷ ys) x are is = (are.0, all_following ys x are.1 is)
 
@@ -149,85 +145,20 @@ module _ (schema : List Table) (all : List ℕ) where
       next_block_sound p b b_is p_is = then_leads BlockIs BlocksAre p.1 (b p.1) (λ q. Ok (with_block p.0 q.0, q.1)) (b_is p.1)
           (λ q back q_is. here_leads BlocksAre (with_block p.0 q.0) q.1 (λ front. ((p_is (back front)).0, all_following p.0.others q.0 (p_is (back front)).1 (q_is front))))
 
-      blocks_sound : (first : BlockStep) (others : List BlockStep) (found : List ℕ) → BlockSound first → AllOf BlockSound others → LeadsTo BlocksAre found (blocks first others found)
+      blocks_sound : (first : BlockStep) (others : List BlockStep) (found : List ℕ) → BlockSound first → AllByRecursion BlockSound others → LeadsTo BlocksAre found (blocks first others found)
       blocks_sound first others found first_is others_are = then_leads BlocksAre BlocksAre found (and_then (first found) (λ p. Ok (only_block p.0, p.1))) (fold_results next_block others)
           (then_leads BlockIs BlocksAre found (first found) (λ p. Ok (only_block p.0, p.1)) (first_is found) (λ p back p_is. here_leads BlocksAre (only_block p.0) p.1 (λ front. (p_is front, tt {0}))))
           (λ p back p_is. onward_leads BlocksAre BlockSound next_block next_block_sound others others_are p p_is)
 
-      query_sound : (q : Query-F ItemStep BlockStep JoinStep QueryStep) → BlockSound q.first → AllOf BlockSound q.others → QuerySound (query_at q)
+      query_sound : (q : Query-F ItemStep BlockStep JoinStep QueryStep) → BlockSound q.first → AllByRecursion BlockSound q.others → QuerySound (query_at q)
       query_sound q first_is others_are found = then_leads BlocksAre BoundIs found (blocks q.first q.others found) (λ p. and_then (bind_query p.0 q.order q.limit) (λ b. Ok (b, p.1))) (blocks_sound q.first q.others found first_is others_are)
           (λ p back p_is. made_leads BoundIs (bind_query p.0 q.order q.limit) p.1 (λ front. query_is p.0 q.order q.limit (p_is front).0 (p_is front).1))
 
-      -- ---- trees
-
-      abbrev items : Item → ItemStep
-      items = fold-Item ItemStep BlockStep JoinStep QueryStep (item_at schema) (block_at params) join_at query_at
-
-      abbrev block_steps : Block → BlockStep
-      block_steps = fold-Block ItemStep BlockStep JoinStep QueryStep (item_at schema) (block_at params) join_at query_at
-
-      abbrev joins : Join → JoinStep
-      joins = fold-Join ItemStep BlockStep JoinStep QueryStep (item_at schema) (block_at params) join_at query_at
-
-      abbrev queries : Query → QueryStep
-      queries = fold-Query ItemStep BlockStep JoinStep QueryStep (item_at schema) (block_at params) join_at query_at
-
-      abbrev ItemTold : Type 0
-      ItemTold = (i : Item) × ItemSound (items i)
-
-      abbrev BlockTold : Type 0
-      BlockTold = (b : Block) × BlockSound (block_steps b)
-
-      abbrev JoinTold : Type 0
-      JoinTold = (j : Join) × JoinSound (joins j)
-
-      abbrev QueryTold : Type 0
-      QueryTold = (q : Query) × QuerySound (queries q)
-
-      abbrev item_of : ItemTold → Item
-      item_of x = x.0
-
-      abbrev block_of : BlockTold → Block
-      block_of x = x.0
-
-      abbrev join_of : JoinTold → Join
-      join_of x = x.0
-
-      abbrev query_of : QueryTold → Query
-      query_of x = x.0
-
-      joins_told : (js : List JoinTold) → AllOf JoinSound (map joins (map join_of js))
-      joins_told [] = tt {0}
-      joins_told (j ∷ js) = (j.1, joins_told js)
-
-      blocks_told : (bs : List BlockTold) → AllOf BlockSound (map block_steps (map block_of bs))
-      blocks_told [] = tt {0}
-      blocks_told (b ∷ bs) = (b.1, blocks_told bs)
-
-      item_layer : (y : Item-F ItemTold BlockTold JoinTold QueryTold) → ItemSound (item_at schema (map-Item Item Block Join Query ItemStep BlockStep JoinStep QueryStep items block_steps joins queries (map-Item ItemTold BlockTold JoinTold QueryTold Item Block Join Query item_of block_of join_of query_of y)))
-      item_layer (Item-F.Table name alias) = table_sound name alias
-      item_layer (Item-F.Derived q name) = derived_sound (queries q.0) name q.1
-
-      block_layer : (y : Block-F ItemTold BlockTold JoinTold QueryTold) → BlockSound (block_at params (map-Block Item Block Join Query ItemStep BlockStep JoinStep QueryStep items block_steps joins queries (map-Block ItemTold BlockTold JoinTold QueryTold Item Block Join Query item_of block_of join_of query_of y)))
-      block_layer y = block_sound (map-Block Item Block Join Query ItemStep BlockStep JoinStep QueryStep items block_steps joins queries (map-Block ItemTold BlockTold JoinTold QueryTold Item Block Join Query item_of block_of join_of query_of y)) y.from.1 (joins_told y.joins)
-
-      query_layer : (y : Query-F ItemTold BlockTold JoinTold QueryTold) → QuerySound (query_at (map-Query Item Block Join Query ItemStep BlockStep JoinStep QueryStep items block_steps joins queries (map-Query ItemTold BlockTold JoinTold QueryTold Item Block Join Query item_of block_of join_of query_of y)))
-      query_layer y = query_sound (map-Query Item Block Join Query ItemStep BlockStep JoinStep QueryStep items block_steps joins queries (map-Query ItemTold BlockTold JoinTold QueryTold Item Block Join Query item_of block_of join_of query_of y)) y.first.1 (blocks_told y.others)
-
-      tree_sound : (q : Query) → QuerySound (queries q)
-      tree_sound = ind-Query (λ (i : Item). ItemSound (items i)) (λ (b : Block). BlockSound (block_steps b)) (λ (j : Join). JoinSound (joins j)) (λ (q : Query). QuerySound (queries q))
-          (λ x y is. subst (λ (z : Item-F Item Block Join Query). ItemSound (items (roll-Item z))) is
-          (subst ItemSound (sym (fold-roll-Item ItemStep BlockStep JoinStep QueryStep (item_at schema) (block_at params) join_at query_at (map-Item ItemTold BlockTold JoinTold QueryTold Item Block Join Query item_of block_of join_of query_of y))) (item_layer y)))
-          (λ x y is. subst (λ (z : Block-F Item Block Join Query). BlockSound (block_steps (roll-Block z))) is
-          (subst BlockSound (sym (fold-roll-Block ItemStep BlockStep JoinStep QueryStep (item_at schema) (block_at params) join_at query_at (map-Block ItemTold BlockTold JoinTold QueryTold Item Block Join Query item_of block_of join_of query_of y))) (block_layer y)))
-          (λ x y is. subst (λ (z : Join-F Item Block Join Query). JoinSound (joins (roll-Join z))) is
-          (subst JoinSound (sym (fold-roll-Join ItemStep BlockStep JoinStep QueryStep (item_at schema) (block_at params) join_at query_at (map-Join ItemTold BlockTold JoinTold QueryTold Item Block Join Query item_of block_of join_of query_of y))) y.item.1))
-          (λ x y is. subst (λ (z : Query-F Item Block Join Query). QuerySound (queries (roll-Query z))) is
-          (subst QuerySound (sym (fold-roll-Query ItemStep BlockStep JoinStep QueryStep (item_at schema) (block_at params) join_at query_at (map-Query ItemTold BlockTold JoinTold QueryTold Item Block Join Query item_of block_of join_of query_of y))) (query_layer y)))
+      tree_sound : (q : Query) → QuerySound (query_step schema params q)
+      tree_sound = query_holds schema params ItemSound BlockSound QuerySound table_sound derived_sound block_sound query_sound
 
       -- the leaves are tables, and what the binder makes of the whole tree is so
-      pub bound_is : (q : Query) (b : TypedQuery) → query_step schema params q [] ≡ Ok (b, all) → AllOf (IsTable schema) all × BoundIs b
-      unfolding query_step
+      pub bound_is : (q : Query) (b : TypedQuery) → query_step schema params q [] ≡ Ok (b, all) → AllByRecursion (IsTable schema) all × BoundIs b
       bound_is q b is =
           let leads : LeadsTo BoundIs [] (Ok (b, all)) = subst (LeadsTo BoundIs []) is (tree_sound q []) in
-          (subst (AllOf (IsTable schema)) (sym leads.1) leads.2, leads.3 ([], sym (append-nil all)))
+          (subst (AllByRecursion (IsTable schema)) (sym leads.1) leads.2, leads.3 ([], sym (append-nil all)))

@@ -41,7 +41,7 @@ place_within default test xs = go (position test xs) refl where
   go None is = tt {0}
   go (Some p) is = alone_within xs (list_any test (drop (p + 1) xs)) p (position-Some test xs p default is).0
 
-any_made : {A : Type 0} (r : Result A Refusal) → Made (λ (x : A). Unit {0}) r
+pub any_made : {A : Type 0} (r : Result A Refusal) → Made (λ (x : A). Unit {0}) r
 any_made (Ok x) = tt {0}
 any_made (Err why) = tt {0}
 

@@ -1,19 +1,12 @@
 -- Equal types, and tests that both pass.
-use Rattle.std.proofs.Common.{◌≡◌, refl, true, false, Bool, ◌&&◌, ◌||◌}
+use Rattle.std.proofs.Common.{◌≡◌, refl, true, false, Bool, ◌||◌}
+use Rattle.std.proofs.lemmas.Bool.{or_left, or_right}
 use Rattle.span_value.specs.declared.value.Kind.{Kind}
 use Rattle.span_value.specs.declared.value.Kind.TheVariants as kind
 use Rattle.span_soundness.specs.Types.{are_same, has_type, Typing}
 
 pub not_true : {P : Type 0} → false ≡ true → P
 not_true is = absurd cc
-
-pub both_true : (a b : Bool) → (a && b) ≡ true → (a ≡ true) × (b ≡ true)
-both_true true b is = (refl, is)
-both_true false b is = not_true is
-
-pub both_are : (a b : Bool) → a ≡ true → b ≡ true → (a && b) ≡ true
-both_are true b a_is b_is = b_is
-both_are false b a_is b_is = not_true a_is
 
 pub same_kind : (j k : Kind) → are_same j k ≡ true → j ≡ k
 same_kind kind.Int kind.Int is = refl
@@ -39,17 +32,9 @@ is_same kind.Str = refl
 is_same kind.Bytes = refl
 is_same kind.Bool = refl
 
-or_first : (a b : Bool) → a ≡ true → (a || b) ≡ true
-or_first true b is = refl
-or_first false b is = not_true is
-
-or_second : (a b : Bool) → b ≡ true → (a || b) ≡ true
-or_second true b is = refl
-or_second false b is = is
-
 -- a type of which something is
 pub of_this : (test : Typing) (k : Kind) → test k ≡ true → has_type test ≡ true
-of_this test kind.Int is = or_first (test kind.Int || test kind.Str || test kind.Bytes) (test kind.Bool) (or_first (test kind.Int || test kind.Str) (test kind.Bytes) (or_first (test kind.Int) (test kind.Str) is))
-of_this test kind.Str is = or_first (test kind.Int || test kind.Str || test kind.Bytes) (test kind.Bool) (or_first (test kind.Int || test kind.Str) (test kind.Bytes) (or_second (test kind.Int) (test kind.Str) is))
-of_this test kind.Bytes is = or_first (test kind.Int || test kind.Str || test kind.Bytes) (test kind.Bool) (or_second (test kind.Int || test kind.Str) (test kind.Bytes) is)
-of_this test kind.Bool is = or_second (test kind.Int || test kind.Str || test kind.Bytes) (test kind.Bool) is
+of_this test kind.Int is = or_left (test kind.Int || test kind.Str || test kind.Bytes) (test kind.Bool) (or_left (test kind.Int || test kind.Str) (test kind.Bytes) (or_left (test kind.Int) (test kind.Str) is))
+of_this test kind.Str is = or_left (test kind.Int || test kind.Str || test kind.Bytes) (test kind.Bool) (or_left (test kind.Int || test kind.Str) (test kind.Bytes) (or_right (test kind.Int) (test kind.Str) is))
+of_this test kind.Bytes is = or_left (test kind.Int || test kind.Str || test kind.Bytes) (test kind.Bool) (or_right (test kind.Int || test kind.Str) (test kind.Bytes) is)
+of_this test kind.Bool is = or_right (test kind.Int || test kind.Str || test kind.Bytes) (test kind.Bool) is

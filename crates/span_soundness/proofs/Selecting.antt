@@ -34,7 +34,8 @@ use Rattle.span_soundness.specs.Types.{IsOutcomeOf, IsRowOf, are_same, has_type,
 use Rattle.span_soundness.specs.Bindings.{is_aggregate_of, AreAggregatesOf}
 use Rattle.span_soundness.specs.WellTyped.{leaf_types, IsItemOf, AreJoinsOf, IsFromOf, AreColumnsOf, IsGroupedOf, AreOutputsOf, IsBlockOf, AreBlocksOf, IsLayerOf}
 use Rattle.span_soundness.specs.Results.{AreRowsOf, AreResultsOf, AreTablesOf}
-use Rattle.span_soundness.proofs.Sameness.{both_true, same_kind}
+use Rattle.span_soundness.proofs.Sameness.{same_kind}
+use Rattle.std.proofs.lemmas.Bool.{and_parts}
 use Rattle.span_soundness.proofs.Keeping.{null_of, number_kept, column_kept, kept as keeps_type}
 
 -- ---- rows
@@ -204,10 +205,10 @@ int_value k o same is = subst (λ (t : Kind). IsValueOf t o) (same_kind kind.Int
 aggregate_is : (types : List Kind) (rows : List Row) (a : Aggregate) (k : Kind) → is_aggregate_of types a k ≡ true → AreRowsOf types rows → IsValueOf k (aggregate rows a)
 aggregate_is types rows CountRows k is are = int_value k (value_of (number (pos (length rows)))) is (value_is kind.Int (number (pos (length rows))) (number_kept (pos (length rows))))
 aggregate_is types rows (Of Count e) k is are =
-    int_value k (operands e rows >>= (λ vs. value_of (of_values Count (without_nulls vs)))) (both_true (are_same kind.Int k) (has_type (is_of types e)) is).0
+    int_value k (operands e rows >>= (λ vs. value_of (of_values Count (without_nulls vs)))) (and_parts (are_same kind.Int k) (has_type (is_of types e)) is).0
     (any_value kind.Int (operands e rows) (λ vs. value_of (of_values Count (without_nulls vs))) (λ vs. count_is (without_nulls vs)))
 aggregate_is types rows (Of Sum e) k is are =
-    int_value k (operands e rows >>= (λ vs. value_of (of_values Sum (without_nulls vs)))) (both_true (are_same kind.Int k) (is_of types e kind.Int) is).0
+    int_value k (operands e rows >>= (λ vs. value_of (of_values Sum (without_nulls vs)))) (and_parts (are_same kind.Int k) (is_of types e kind.Int) is).0
     (any_value kind.Int (operands e rows) (λ vs. value_of (of_values Sum (without_nulls vs))) (λ vs. sum_is (without_nulls vs)))
 aggregate_is types rows (Of Min e) k is are =
     then_value k k (operands e rows) (λ vs. value_of (of_values Min (without_nulls vs))) (operands_are types e k rows is are)

@@ -1,12 +1,11 @@
 -- What the binder makes of a whole tree can be planned: its items are the tables that it names, and its widths are right.
-use Rattle.std.proofs.Common.{◌≡◌, ◌∙◌, sym, ap, refl, ℕ, suc, ◌+◌, ◌==◌, true, false, Bool, if◌then◌else◌, List, [], ◌∷◌, ◌++◌, length, map, Option, Result, Ok, Err, arith}
+use Rattle.std.proofs.Common.{◌≡◌, ◌∙◌, sym, ap, refl, ℕ, suc, ◌+◌, ◌==◌, true, false, Bool, if◌then◌else◌, List, [], ◌∷◌, ◌++◌, length, map, Option, Ok, Err, arith}
 use Rattle.std.specs.Prelude.{slice_get, nat_le}
 use Rattle.std.specs.Option.{unwrap_or, option_map}
-use Rattle.std.specs.List.{list_all, zip}
-use Rattle.std.proofs.lemmas.Bool.{eqb-true, eq-eqb, le-leb}
+use Rattle.std.specs.List.{AllByRecursion, list_all, zip}
+use Rattle.std.proofs.lemmas.Bool.{eqb-true, eq-eqb, le-leb, and_from, and_parts}
 use Rattle.std.proofs.lemmas.List.{length-map, length-append}
 use Rattle.span_value.specs.Results.{and_then}
-use Rattle.span_value.specs.declared.refusal.Refusal.{Refusal}
 use Rattle.span_value.specs.declared.refusal.Refusal.TheVariants.{DuplicateAlias, ColumnsDiffer}
 use Rattle.span_schema.specs.declared.table.Table.{Table}
 use Rattle.span_schema.specs.Numbers.{IsTable, columns_of}
@@ -41,20 +40,16 @@ use Rattle.span_binder.specs.Sources.{table_column, table_source, with_names, ha
 use Rattle.span_binder.specs.Blocks.{with_keys, group_places, BlockTail, bind_parts, block_of, block_in, bind_block}
 use Rattle.span_binder.specs.Aggregating.{mode_of}
 use Rattle.span_binder.specs.Queries.{have_same_kind, have_same_kinds, are_union_compatible, sort_keys, blocks_of, limit_of, query_of, bind_query, query_step}
-use Rattle.span_soundness.proofs.Sameness.{both_true, both_are}
-use Rattle.span_soundness.proofs.Agreeing.{Made, AllOf, then_made}
+use Rattle.span_soundness.proofs.Agreeing.{Made, then_made}
 use Rattle.span_soundness.proofs.Nesting.{IsFront, bound_is}
-
-any_made : {A : Type 0} (r : Result A Refusal) → Made (λ (x : A). Unit {0}) r
-any_made (Ok x) = tt {0}
-any_made (Err why) = tt {0}
+use Rattle.span_soundness.proofs.Places.{any_made}
 
 table_after : (xs : List ℕ) (n : ℕ) (later : List ℕ) → unwrap_or (slice_get ((xs ++ n ∷ []) ++ later) (length xs)) 0 ≡ n
 table_after [] n later = refl
 table_after (x ∷ xs) n later = table_after xs n later
 
 number_after : (xs : List ℕ) (n : ℕ) (later : List ℕ) → is_number ((xs ++ n ∷ []) ++ later) (length xs + 1) ≡ true
-number_after xs n later = both_are (nat_le 1 (length xs + 1)) (nat_le (length xs + 1) (length ((xs ++ n ∷ []) ++ later))) (le-leb 1 (length xs + 1) (omega arith))
+number_after xs n later = and_from (nat_le 1 (length xs + 1)) (nat_le (length xs + 1) (length ((xs ++ n ∷ []) ++ later))) (le-leb 1 (length xs + 1) (omega arith))
     (le-leb (length xs + 1) (length ((xs ++ n ∷ []) ++ later)) (rw (length-append (xs ++ n ∷ []) later, length-append xs (n ∷ [])) (omega arith)))
 
 module _ (schema : List Table) (all : List ℕ) where
@@ -96,13 +91,13 @@ module _ (schema : List Table) (all : List ℕ) where
   -- ---- joins
 
   one_more : (joins : List (Join BoundQuery)) (j : Join BoundQuery) → are_sized joins ≡ true → is_sized_join schema all (map_join shape_q j) ≡ true → are_sized (joins ++ j ∷ []) ≡ true
-  one_more [] j are is = both_are (is_sized_join schema all (map_join shape_q j)) true is refl
+  one_more [] j are is = and_from (is_sized_join schema all (map_join shape_q j)) true is refl
   one_more (i ∷ joins) j are is =
-      let parts = both_true (is_sized_join schema all (map_join shape_q i)) (are_sized joins) are in
-      both_are (is_sized_join schema all (map_join shape_q i)) (are_sized (joins ++ j ∷ [])) parts.0 (one_more joins j parts.1 is)
+      let parts = and_parts (is_sized_join schema all (map_join shape_q i)) (are_sized joins) are in
+      and_from (is_sized_join schema all (map_join shape_q i)) (are_sized (joins ++ j ∷ [])) parts.0 (one_more joins j parts.1 is)
 
   join_sized : (is_left : Bool) (s : Source) (on : Expr) → IsSource s → is_sized_join schema all (map_join shape_q (join_of is_left s on)) ≡ true
-  join_sized is_left s on is = both_are (length s.columns == (shape_of s.item).width) (shape_of s.item).is_sized (eq-eqb (length s.columns) (shape_of s.item).width is.1) is.0
+  join_sized is_left s on is = and_from (length s.columns == (shape_of s.item).width) (shape_of s.item).is_sized (eq-eqb (length s.columns) (shape_of s.item).width is.1) is.0
 
   extended_sized : (params : List Parameter) (f : FromItems) (is_left : Bool) (s : Source) (on : Tree) → IsFrom f → IsSource s → Made IsFrom (add_item params f is_left s on)
   extended_sized params f is_left s on f_is s_is = go (has_item f.scope s.name) where
@@ -115,7 +110,7 @@ module _ (schema : List Table) (all : List ℕ) where
 
   parted_sized : (f : FromItems) (is_distinct is_grouped : Bool) (keys : List ℕ) (parts : Parts) → IsFrom f → IsBlock (block_of f.first f.joins is_distinct is_grouped keys parts)
   parted_sized f is_distinct is_grouped keys parts is = (
-    both_are (shape_of f.first).is_sized (are_sized f.joins) is.0 is.1,
+    and_from (shape_of f.first).is_sized (are_sized f.joins) is.0 is.1,
     length-map parts.projection (λ (s : SelectItem). s.expr) ∙ sym (length-map parts.projection (λ (s : SelectItem). s.column)),
   )
 
@@ -131,17 +126,17 @@ module _ (schema : List Table) (all : List ℕ) where
   abbrev shapes : List BoundBlock → List (Block Shape)
   shapes others = map (map_block shape_q) (blocks_of others)
 
-  blocks_sized : (others : List BoundBlock) → AllOf IsBlock others → list_all (is_sized_block schema all) (shapes others) ≡ true
+  blocks_sized : (others : List BoundBlock) → AllByRecursion IsBlock others → list_all (is_sized_block schema all) (shapes others) ≡ true
   blocks_sized [] are = refl
-  blocks_sized (b ∷ others) are = both_are (is_sized_block schema all (map_block shape_q b.block)) (list_all (is_sized_block schema all) (shapes others)) are.0.0 (blocks_sized others are.1)
+  blocks_sized (b ∷ others) are = and_from (is_sized_block schema all (map_block shape_q b.block)) (list_all (is_sized_block schema all) (shapes others)) are.0.0 (blocks_sized others are.1)
 
-  outputs_equal : (n : ℕ) (columns : List OutputColumn) (others : List BoundBlock) → n ≡ length columns → AllOf IsBlock others → list_all (λ (other : BoundBlock). have_same_kinds columns other.columns) others ≡ true
+  outputs_equal : (n : ℕ) (columns : List OutputColumn) (others : List BoundBlock) → n ≡ length columns → AllByRecursion IsBlock others → list_all (λ (other : BoundBlock). have_same_kinds columns other.columns) others ≡ true
       → list_all (λ (b : Block Shape). length b.outputs == n) (shapes others) ≡ true
   outputs_equal n columns [] first are same = refl
   outputs_equal n columns (b ∷ others) first are same =
-      let parts = both_true (have_same_kinds columns b.columns) (list_all (λ (other : BoundBlock). have_same_kinds columns other.columns) others) same in
-      let kinds = both_true (length columns == length b.columns) (list_all have_same_kind (zip columns b.columns)) parts.0 in
-      both_are (length b.block.outputs == n) (list_all (λ (b : Block Shape). length b.outputs == n) (shapes others))
+      let parts = and_parts (have_same_kinds columns b.columns) (list_all (λ (other : BoundBlock). have_same_kinds columns other.columns) others) same in
+      let kinds = and_parts (length columns == length b.columns) (list_all have_same_kind (zip columns b.columns)) parts.0 in
+      and_from (length b.block.outputs == n) (list_all (λ (b : Block Shape). length b.outputs == n) (shapes others))
       (eq-eqb (length b.block.outputs) n (are.0.1 ∙ sym (eqb-true (length columns) (length b.columns) kinds.0) ∙ sym first))
       (outputs_equal n columns others first are.1 parts.1)
 
@@ -151,16 +146,16 @@ module _ (schema : List Table) (all : List ℕ) where
   layer_shape : (d : BoundQuery-F BoundQuery) → shape_q (roll-BoundQuery d) ≡ query_shape schema all (map_layer shape_q d)
   layer_shape d = fold-roll-BoundQuery Shape (query_shape schema all) d ∙ ap (query_shape schema all) (layer_mapped shape_q d)
 
-  layer_sized : (b : BoundBlocks) (keys : List BoundKey) (limit : Option Limit) → IsBlock b.first → AllOf IsBlock b.others → list_all (λ (other : BoundBlock). have_same_kinds b.first.columns other.columns) b.others ≡ true
+  layer_sized : (b : BoundBlocks) (keys : List BoundKey) (limit : Option Limit) → IsBlock b.first → AllByRecursion IsBlock b.others → list_all (λ (other : BoundBlock). have_same_kinds b.first.columns other.columns) b.others ≡ true
       → IsBound (query_of b keys limit)
   layer_sized b keys limit first others same = (
     ap (λ (x : Shape). x.is_sized) (layer_shape (layer_of b keys limit))
-        ∙ both_are (list_all (is_sized_block schema all) (shapes (b.first ∷ b.others))) (list_all (λ (x : Block Shape). length x.outputs == length b.first.block.outputs) (shapes b.others))
+        ∙ and_from (list_all (is_sized_block schema all) (shapes (b.first ∷ b.others))) (list_all (λ (x : Block Shape). length x.outputs == length b.first.block.outputs) (shapes b.others))
         (blocks_sized (b.first ∷ b.others) (first, others)) (outputs_equal (length b.first.block.outputs) b.first.columns b.others first.1 others same),
     sym first.1 ∙ sym (ap (λ (x : Shape). x.width) (layer_shape (layer_of b keys limit))),
   )
 
-  union_sized : (b : BoundBlocks) (order : List SortKey) (limit : Option Limit) → IsBlock b.first → AllOf IsBlock b.others → Made IsBound (bind_query b order limit)
+  union_sized : (b : BoundBlocks) (order : List SortKey) (limit : Option Limit) → IsBlock b.first → AllByRecursion IsBlock b.others → Made IsBound (bind_query b order limit)
   unfolding bind_query are_union_compatible
   union_sized b order limit first others = go (list_all (λ (other : BoundBlock). have_same_kinds b.first.columns other.columns) b.others) (λ same keys. layer_sized b keys limit first others same) where
     go : (same : Bool) → (same ≡ true → (keys : List BoundKey) → IsBound (query_of b keys limit)) → Made IsBound (if same then and_then (sort_keys b.first.columns order) (λ keys. Ok (query_of b keys limit)) else Err ColumnsDiffer)
@@ -169,9 +164,9 @@ module _ (schema : List Table) (all : List ℕ) where
 
   -- ---- trees
 
-  pub tree_sized : (params : List Parameter) (q : Query) (b : TypedQuery) → query_step schema params q [] ≡ Ok (b, all) → AllOf (IsTable schema) all × (is_sized schema all b.query ≡ true)
+  pub tree_sized : (params : List Parameter) (q : Query) (b : TypedQuery) → query_step schema params q [] ≡ Ok (b, all) → AllByRecursion (IsTable schema) all × (is_sized schema all b.query ≡ true)
   tree_sized params q b is =
-      let made : AllOf (IsTable schema) all × IsBound b =
+      let made : AllByRecursion (IsTable schema) all × IsBound b =
       bound_is schema all params IsSource IsFrom IsBlock IsBound
       table_sized
       (λ name q q_is. q_is)

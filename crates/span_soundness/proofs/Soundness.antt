@@ -1,5 +1,5 @@
 -- The laws of queries, put together.
-use Rattle.std.proofs.Common.{◌≡◌, inl, inr, ℕ, true, List, [], ◌∷◌, Result, Ok, Err, refl, sym, subst}
+use Rattle.std.proofs.Common.{◌≡◌, inl, inr, ℕ, true, List, [], Result, Ok, Err, refl, sym, subst}
 use Rattle.std.specs.List.{AllByRecursion}
 use Rattle.span_value.specs.declared.refusal.Refusal.{Refusal}
 use Rattle.span_schema.specs.declared.table.Table.{Table}
@@ -16,7 +16,6 @@ use Rattle.span_binder.specs.Understands.{IsBound, IsNotInGrammar}
 use Rattle.span_soundness.specs.Bindings.{output_types}
 use Rattle.span_soundness.specs.WellTyped.{IsQueryOf}
 use Rattle.span_soundness.specs.Laws.{LayersAreTyped, types_of_leaves, QueriesAreTyped, StatementsAreTyped, QueriesKeepTypes, ResultsAreTyped, StatementsCanBePlanned}
-use Rattle.span_soundness.proofs.Agreeing.{AllOf}
 use Rattle.span_soundness.proofs.TypedTrees.{tree_typed}
 use Rattle.span_soundness.proofs.SizedTrees.{tree_sized}
 use Rattle.span_soundness.proofs.Layering.{layer_made, layer_read, keeps_types}
@@ -50,17 +49,13 @@ results_are_typed schema params q bound leaves tables params_are is are = querie
 
 -- ---- plans
 
-all_by_recursion : {A : Type 0} (P : A → Type 0) (xs : List A) → AllOf P xs → AllByRecursion P xs
-all_by_recursion P [] are = tt
-all_by_recursion P (x ∷ xs) are = (are.0, all_by_recursion P xs are.1)
-
 bound_plannable : (schema : List Table) (params : List Parameter) (q : Query) (statement : Statement) → bound schema params q ≡ Ok statement → IsPlannable schema statement
 bound_plannable schema params q statement is = go (query_step schema params q []) (λ answer leaves made. tree_sized schema leaves params q answer made) is where
-  go : (o : Result (TypedQuery × List ℕ) Refusal) → ((answer : TypedQuery) (leaves : List ℕ) → o ≡ Ok (answer, leaves) → AllOf (IsTable schema) leaves × (is_sized schema leaves answer.query ≡ true)) → and_then o (λ p. Ok (statement_of p)) ≡ Ok statement
+  go : (o : Result (TypedQuery × List ℕ) Refusal) → ((answer : TypedQuery) (leaves : List ℕ) → o ≡ Ok (answer, leaves) → AllByRecursion (IsTable schema) leaves × (is_sized schema leaves answer.query ≡ true)) → and_then o (λ p. Ok (statement_of p)) ≡ Ok statement
       → IsPlannable schema statement
   go (Ok p) sized made =
-      let known : AllOf (IsTable schema) p.1 × (is_sized schema p.1 p.0.query ≡ true) = sized p.0 p.1 refl in
-      subst (IsPlannable schema) (ok_is (statement_of p) statement made) (record { tables = all_by_recursion (IsTable schema) p.1 known.0; sized = known.1 })
+      let known : AllByRecursion (IsTable schema) p.1 × (is_sized schema p.1 p.0.query ≡ true) = sized p.0 p.1 refl in
+      subst (IsPlannable schema) (ok_is (statement_of p) statement made) (record { tables = known.0; sized = known.1 })
   go (Err why) sized made = absurd (not_ok why statement made)
 
 pub statements_can_be_planned : StatementsCanBePlanned

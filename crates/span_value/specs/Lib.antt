@@ -3,3 +3,4 @@ pub mod Orders
 pub mod Refusals
 pub mod Truths
 pub mod Results
+pub mod Texts

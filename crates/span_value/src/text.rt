@@ -1,22 +1,35 @@
 //! Strings that contracts see as their UTF-8 bytes.
-ghost use Rattle.std.specs.Prelude.{◌≡◌, string_bytes, IfOk};
+ghost use Rattle.span_value.specs.declared.text.TheConstants.{INLINE_BYTES};
+ghost use Rattle.std.specs.Prelude.{◌≡◌, ◌<◌, length, string_bytes, IfOk, OnErr};
 
+use arrayvec::ArrayString;
 use std::alloc::{AllocError, Global};
 use std::fmt;
 use std::marker::Model;
 
-/// A string in UTF-8, whose model is its bytes.
+/// How many bytes of a text lie in the value itself: names and short texts take no memory.
+pub const INLINE_BYTES: usize = 16;
+
+/// A string in UTF-8, whose model is its bytes. A copy of up to 16 bytes takes no memory.
 #[derive(Drop)]
 pub struct Text {
-    text: String,
+    stored: Stored,
+}
+
+/// Where a text has its bytes.
+#[derive(Drop)]
+enum Stored {
+    Inline(ArrayString<INLINE_BYTES>),
+    Heap(String),
 }
 
 impl Model for Text {
-    ghost use Rattle.std.specs.Prelude.{List, ℕ, string_bytes};
+    ghost use Rattle.std.specs.Prelude.{List, ℕ};
+    ghost use Rattle.span_value.specs.Texts.{stored_bytes};
 
     ghost Value = { List ℕ };
 
-    ghost view = { λ a. string_bytes a.text };
+    ghost view = { λ a. stored_bytes a.stored };
 }
 
 impl Text {
@@ -24,23 +37,31 @@ impl Text {
     pub fn from_string(text: String) -> Text
         ensures { result ≡ string_bytes text }
     {
-        Text { text }
+        Text {
+            stored: Stored::Heap(text),
+        }
     }
 
-    /// A copy of a string.
+    /// A copy of a string. Memory is taken, and may run out, only for more than 16 bytes.
     pub fn from_str(alloc: Global, text: &str) -> Result<Text, AllocError>
-        ensures { IfOk result (λ t. t ≡ text.now) }
+        ensures bytes { IfOk result (λ t. t ≡ text.now) }
+        ensures memory { OnErr result (INLINE_BYTES < length text.now) }
     {
-        Ok(Text {
-            text: String::from_str(alloc, text)?,
-        })
+        let stored = match ArrayString::from(text) {
+            Ok(inline) => Stored::Inline(inline),
+            Err(_) => Stored::Heap(String::from_str(alloc, text)?),
+        };
+        Ok(Text { stored })
     }
 
     /// The string.
     pub fn as_str(&self) -> &str
         ensures { result.now ≡ self.now }
     {
-        self.text.as_str()
+        match &self.stored {
+            Stored::Inline(text) => text.as_str(),
+            Stored::Heap(text) => text.as_str(),
+        }
     }
 }
 
@@ -54,7 +75,7 @@ impl PartialEq for Text {
     ghost laws = { partial_equiv_from_equiv nat_list_eq_equiv };
 
     fn eq(&self, other: &Text) -> bool {
-        self.text.as_str() == other.text.as_str()
+        self.as_str() == other.as_str()
     }
 }
 
@@ -66,6 +87,6 @@ impl Eq for Text {
 
 impl fmt::Debug for Text {
     fn fmt<W: fmt::Write>(&self, f: &mut fmt::Formatter<W>) -> fmt::Result {
-        write!(f, "{:?}", self.text.as_str())
+        write!(f, "{:?}", self.as_str())
     }
 }

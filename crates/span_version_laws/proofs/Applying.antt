@@ -22,8 +22,9 @@ use Rattle.span_machine_laws.proofs.Reached.{IsReached}
 use Rattle.span_version_laws.specs.Kept.{IsCodedRoot, IsCodedCoding, is_under, MakeRows, HasRows, IsPut, IsPending, IsKeptBy, AreKept, with_change, directory_after, made}
 use Rattle.span_version_laws.proofs.Slots.{IsStill, placed_in, still_same, still_last, other_number, home}
 use Rattle.span_version_laws.proofs.Trimming.{kept_newest, is_same_of, not_same_of, made_push}
-use Rattle.span_version_laws.proofs.Keys.{same_key, applied_versions, applied_prepared, versions_at-applied, prepared_at-applied}
-use Rattle.span_version_laws.proofs.Claimers.{false_and, above_horizon}
+use Rattle.span_version_laws.proofs.Keys.{applied_versions, applied_prepared, versions_at-applied, prepared_at-applied}
+use Rattle.span_version_laws.proofs.Claimers.{above_horizon}
+use Rattle.std.proofs.lemmas.Bool.{and_left}
 use Rattle.span_version_laws.proofs.Steps.{open_of_put, kept_still, kept_under, claimers}
 use Rattle.span_version_laws.proofs.Rows.{rising_front, rows_push, rows_still, not_of_others, others_apart}
 use Rattle.std.specs.List.{AllByRecursion}
@@ -32,7 +33,7 @@ use Rattle.span_mutate.specs.declared.row.TableRow.{TableRow}
 use Rattle.span_mutate.specs.Database.{apply}
 use Rattle.span_mutate.specs.Directories.{Root}
 use Rattle.span_shard.specs.Rows.{row_coded}
-use Rattle.span_shard.proofs.InOrder.{in_order_applied}
+use Rattle.span_shard.proofs.InOrder.{in_order_applied, key_stays}
 use Rattle.span_version_laws.proofs.Roots.{coded_root}
 
 -- ---- the write of one key
@@ -105,7 +106,7 @@ keys_applied : (P : List ℕ → Type 0) (txn : ℕ) (committed : Option ℕ) (c
 keys_applied P txn committed [] all = tt
 keys_applied P txn committed (c ∷ cs) all =
     elim (is_used (applied_to_key txn committed c)) as (λ b. AllByRecursion (λ (d : KeyVersions). P d.key) (cond b (applied_to_key txn committed c ∷ shard.applied txn committed cs) (shard.applied txn committed cs))) [
-      | true ↦ (subst P (sym (same_key txn committed c)) all.0, keys_applied P txn committed cs all.1)
+      | true ↦ (subst P (sym (key_stays txn committed c)) all.0, keys_applied P txn committed cs all.1)
       | false ↦ keys_applied P txn committed cs all.1
     ]
 
@@ -116,7 +117,7 @@ module _ (schema : List Table) (m : Machine) (reached : IsReached schema m) {slo
   txn_is = number_same t.number txn (second_true (t.owner == owner) (t.number == txn) (found_passes (is_transaction owner txn) m.transactions t found))
 
   off_after : (root : Root) → claims schema root slot (without_prepared slot t) ≡ false
-  off_after root = false_and (is_prepared_at slot (without_prepared slot t)) (is_some_of (filter (is_at schema root) t.mutations)) (left_slot slot t.prepared)
+  off_after root = and_left (is_prepared_at slot (without_prepared slot t)) (is_some_of (filter (is_at schema root) t.mutations)) (left_slot slot t.prepared)
 
   -- the transaction claims no key more
   left : (root : Root) → IsCodedRoot schema root → holds schema kept.slot_state root ≡ true → claims schema root slot t ≡ true → filter (claims schema root slot) (applied m owner txn slot t) ≡ []

@@ -1,4 +1,4 @@
-use Rattle.std.proofs.Common.{◌≡◌, ℕ, ◌<◌, ◌≤◌, Bool, true, false, cond, ◌&&◌, ◌||◌, ◌==◌, List, [], ◌∷◌, ◌++◌, length, Some, refl, ap, sym, ◌∙◌, subst, arith}
+use Rattle.std.proofs.Common.{◌≡◌, ℕ, ◌<◌, ◌≤◌, Bool, true, false, cond, ◌||◌, ◌==◌, List, [], ◌∷◌, ◌++◌, length, Some, refl, ap, sym, ◌∙◌, subst, arith}
 use Rattle.std.specs.Prelude.{find, filter}
 use Rattle.std.proofs.lemmas.List.Elements.{filter-append}
 use Rattle.span_machine.specs.declared.transaction.OpenTransaction.{OpenTransaction}
@@ -18,14 +18,6 @@ use Rattle.span_version_laws.proofs.Slots.{HasRoot, placed_in}
 use Rattle.span_schema.specs.declared.table.Table.{Table}
 use Rattle.span_mutate.specs.Directories.{Root}
 use Rattle.span_machine_laws.proofs.Locality.{IsRoot}
-
-pub and_false : (a b : Bool) → b ≡ false → (a && b) ≡ false
-and_false true b e = e
-and_false false b e = refl
-
-pub false_and : (a b : Bool) → a ≡ false → (a && b) ≡ false
-false_and true b e = absurd (cc)
-false_and false b e = refl
 
 -- at most one transaction claims a directory in the slot that has it
 pub claim_here : (schema : List Table) (m : Machine) → IsReached schema m → (root : Root) → IsRoot schema root → (slot : ℕ) → HasRoot schema m slot root → (n : ℕ) × IsClaim schema root n (commits_at schema root m.log) (filter (claims schema root slot) m.transactions)

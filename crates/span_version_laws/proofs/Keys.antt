@@ -1,8 +1,7 @@
 use Rattle.std.proofs.Common.{◌≡◌, ℕ, true, false, cond, ◌==◌, List, [], ◌∷◌, Option, Some, None, refl, ap, sym, ◌∙◌, subst}
 use Rattle.std.specs.Prelude.{find, filter, map, option_map}
 use Rattle.std.specs.List.{AllByRecursion}
-use Rattle.std.specs.Ordering.{eq_by_cmp, is_eq, ordering_reverse}
-use Rattle.std.specs.declared.cmp.Ordering.{Ordering}
+use Rattle.std.specs.Ordering.{eq_by_cmp, is_eq}
 use Rattle.std.specs.declared.cmp.Ordering.TheVariants.{Less, Equal, Greater}
 use Rattle.span_shard.specs.declared.chain.Version.{Version}
 use Rattle.span_shard.specs.declared.chain.PreparedWrite.{PreparedWrite}
@@ -13,10 +12,11 @@ use Rattle.span_shard.specs.Writes.{is_of}
 use Rattle.span_shard.specs.Shard.{AreInOrder, is_key, versions_of, prepared_of, versions_at, prepared_at, by_order, with_write, with_writes, new_key, prepared_write, applied, trimmed_key, trimmed}
 use Rattle.span_machine_laws.proofs.Lists.{all_found, all_weaker}
 use Rattle.std.specs.Cmp.{eq_by_cmp_equiv}
-use Rattle.std.proofs.lemmas.Map.Lookups.{exact_bytes}
 use Rattle.span_keycode.specs.Order.{byte_order}
 use Rattle.span_shard.proofs.Bytes.{bytes_total, same_bytes}
-use Rattle.span_shard.proofs.InOrder.{in_order_with_writes}
+use Rattle.span_shard.proofs.InOrder.{in_order_with_writes, key_stays}
+use Rattle.span_shard.proofs.Undo.{equal_key}
+use Rattle.span_keyindex.proofs.Rising.{turned}
 
 -- ---- orders of keys
 
@@ -27,14 +27,8 @@ key_itself key = (eq_by_cmp_equiv bytes_total).refl key
 pub less_apart : (a b : List ℕ) → byte_order a b ≡ Less → eq_by_cmp byte_order a b ≡ false
 less_apart a b e = ap is_eq e
 
-pub turned : (a b : List ℕ) (o : Ordering) → byte_order a b ≡ o → byte_order b a ≡ ordering_reverse o
-turned a b o e = bytes_total.antisymm b a ∙ ap ordering_reverse e
-
 pub greater_apart : (a b : List ℕ) → byte_order a b ≡ Less → eq_by_cmp byte_order b a ≡ false
 greater_apart a b e = ap is_eq (turned a b Less e)
-
-pub equal_keys : (a b : List ℕ) → byte_order a b ≡ Equal → a ≡ b
-equal_keys a b e = exact_bytes a b e
 
 -- the key comes before all of these
 abbrev pub IsUnderAll : List ℕ → List KeyVersions → Type 0
@@ -80,7 +74,7 @@ find-with_write txn w (c ∷ cs) key up =
             ap (λ o. Some (written_key txn w o)) (sym (find_under key (c ∷ cs) (low, under_all_more key c.key cs low up.0)))
       ] refl
       | Equal ↦ λ e.
-          let same : is_of key w ≡ is_key key c = ap (λ (k : List ℕ). eq_by_cmp byte_order key k) (equal_keys w.key c.key e) in
+          let same : is_of key w ≡ is_key key c = ap (λ (k : List ℕ). eq_by_cmp byte_order key k) (equal_key w.key c.key e) in
           elim (is_key key c) as (λ b. is_of key w ≡ b → cond b (Some (with_prepared (prepared_write txn w) c)) (find (is_key key) cs) ≡ cond (is_of key w) (Some (written_key txn w (cond b (Some c) (find (is_key key) cs)))) (cond b (Some c) (find (is_key key) cs))) [
             | true ↦ λ at. ap (λ b. cond b (Some (with_prepared (prepared_write txn w) c)) (Some c)) (sym at)
             | false ↦ λ at. ap (λ b. cond b (Some (written_key txn w (find (is_key key) cs))) (find (is_key key) cs)) (sym at)
@@ -132,9 +126,6 @@ prepared_at-with_writes txn (w ∷ ws) cs key up =
 applied_key : (p : Option PreparedWrite) (txn : ℕ) (committed : Option ℕ) (c : KeyVersions) → (applied_write p txn committed c).key ≡ c.key
 applied_key None txn committed c = refl
 applied_key (Some w) txn committed c = elim (w.txn == txn) as (λ b. (cond b (record c { versions = with_version committed w.row c.versions; prepared = None }) c).key ≡ c.key) [ true ↦ refl | false ↦ refl ]
-
-pub same_key : (txn : ℕ) (committed : Option ℕ) (c : KeyVersions) → (applied_to_key txn committed c).key ≡ c.key
-same_key txn committed c = applied_key c.prepared txn committed c
 
 -- a change of each key that leaves the key itself
 abbrev LeavesKey : (KeyVersions → KeyVersions) → Type 0
@@ -206,7 +197,7 @@ prepared_write_left (Some w) txn committed c e =
 
 pub versions_at-applied : (txn : ℕ) (committed : Option ℕ) (cs : List KeyVersions) (key : List ℕ) → AreInOrder cs → versions_at (applied txn committed cs) key ≡ applied_versions txn committed (prepared_at cs key) (versions_at cs key)
 versions_at-applied txn committed cs key up =
-    find_changed versions_of unused_has_none (applied_to_key txn committed) (same_key txn committed) cs key up
+    find_changed versions_of unused_has_none (applied_to_key txn committed) (key_stays txn committed) cs key up
     ∙ elim (find (is_key key) cs) as (λ o. versions_of (option_map (applied_to_key txn committed) o) ≡ applied_versions txn committed (prepared_of o) (versions_of o)) [
       | None ↦ refl
       | Some c ↦ versions_write c.prepared txn committed c
@@ -214,7 +205,7 @@ versions_at-applied txn committed cs key up =
 
 pub prepared_at-applied : (txn : ℕ) (committed : Option ℕ) (cs : List KeyVersions) (key : List ℕ) → AreInOrder cs → prepared_at (applied txn committed cs) key ≡ applied_prepared txn (prepared_at cs key)
 prepared_at-applied txn committed cs key up =
-    find_changed prepared_of unused_is_free (applied_to_key txn committed) (same_key txn committed) cs key up
+    find_changed prepared_of unused_is_free (applied_to_key txn committed) (key_stays txn committed) cs key up
     ∙ elim (find (is_key key) cs) as (λ o. prepared_of (option_map (applied_to_key txn committed) o) ≡ applied_prepared txn (prepared_of o)) [
       | None ↦ refl
       | Some c ↦ prepared_write_left c.prepared txn committed c refl

@@ -48,7 +48,8 @@ use Rattle.span_version_laws.specs.Kept.{IsCodedRoot, IsCodedCoding, is_under, H
 use Rattle.span_version_laws.proofs.Slots.{HasRoot, held_of_some, none_held, still_set, state_is}
 use Rattle.span_version_laws.proofs.Cuts.{held_by_key, key_by_held}
 use Rattle.span_version_laws.proofs.Keys.{all_by_key, prepared_by, versions_at-with_writes, prepared_at-with_writes}
-use Rattle.span_version_laws.proofs.Claimers.{and_false, false_and, claimers_of}
+use Rattle.span_version_laws.proofs.Claimers.{claimers_of}
+use Rattle.std.proofs.lemmas.Bool.{and_left, and_right}
 use Rattle.span_version_laws.proofs.Roots.{coded_root, coded_root_at, root_of_coding, coding_of_row, coded_in_directory}
 use Rattle.span_version_laws.proofs.Steps.{kept_still}
 use Rattle.span_version_laws.proofs.Trimming.{not_same_of}
@@ -184,7 +185,7 @@ module _ (schema : List Table) (rules : MeetsRules schema) (m : Machine) (reache
   none_claims root is some = unclaimed schema root (coded_root schema root is) slot (mutations_in schema slot_state t.mutations) m.transactions some may.2
 
   not_yet : (root : Root) → claims schema root slot t ≡ false
-  not_yet root = false_and (is_prepared_at slot t) (is_some_of (filter (is_at schema root) t.mutations)) may.1
+  not_yet root = and_left (is_prepared_at slot t) (is_some_of (filter (is_at schema root) t.mutations)) may.1
 
   none_kept : (root : Root) (is : IsCodedRoot schema root) (k : List ℕ) (under : is_under schema root k ≡ true) → is_some_of (filter (is_at schema root) (mutations_in schema slot_state t.mutations)) ≡ true
       → (prepared_at cs k ≡ None) × HasRows schema root k slot_state.horizon (commits_at schema root m.log) (versions_at cs k)
@@ -288,7 +289,7 @@ module _ (schema : List Table) (rules : MeetsRules schema) (m : Machine) (reache
               let none : filter (is_at schema root) (mutations_in schema slot_state t.mutations) ≡ [] = whole root is_root held ∙ none_of (filter (is_at schema root) t.mutations) e in
               let nothing : find (is_of k) ws ≡ None = no_write k (row_coded schema made.0 k) (row_coded schema after k) (find (is_of k) ws) (row_stays root is_root k under none) (are k) in
               let still : filter (claims schema root slot) (changed_first (is_transaction owner txn) (add_prepared slot (prepare_timestamp slot_state)) m.transactions) ≡ filter (claims schema root slot) m.transactions =
-              them.away (add_prepared slot (prepare_timestamp slot_state)) (not_yet root) (and_false (is_prepared_at slot (add_prepared slot (prepare_timestamp slot_state) t)) (is_some_of (filter (is_at schema root) t.mutations)) e) in
+              them.away (add_prepared slot (prepare_timestamp slot_state)) (not_yet root) (and_right (is_prepared_at slot (add_prepared slot (prepare_timestamp slot_state) t)) (is_some_of (filter (is_at schema root) t.mutations)) e) in
               subst (IsKeptBy schema root k slot_state.horizon (commits_at schema root m.log) (versions_at cs k) (prepared_by txn (find (is_of k) ws) (prepared_at cs k))) (sym still)
               (subst (λ f. IsKeptBy schema root k slot_state.horizon (commits_at schema root m.log) (versions_at cs k) (prepared_by txn f (prepared_at cs k)) (filter (claims schema root slot) m.transactions)) (sym nothing) (kept_at root is_root held k under))
           | true ↦ λ e.

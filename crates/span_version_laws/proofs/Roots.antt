@@ -2,8 +2,6 @@
 use Rattle.std.proofs.Common.{◌≡◌, ℕ, ◌-◌, ◌<◌, Bool, true, false, cond, ◌==◌, List, [], ◌∷◌, ◌++◌, Option, Some, None, length, drop, get_or, refl, ap, sym, ◌∙◌, subst, arith}
 use Rattle.std.specs.Prelude.{find}
 use Rattle.std.specs.Option.{option_map}
-use Rattle.std.proofs.Math.Seq.{take-append_seam}
-use Rattle.span_value.specs.declared.value.Value.{Value}
 use Rattle.span_schema.specs.declared.table.Table.{Table}
 use Rattle.span_schema.specs.Lineages.{MeetsRules}
 use Rattle.span_schema.specs.Numbers.{root_of, path_of}
@@ -16,10 +14,12 @@ use Rattle.span_mutate.specs.declared.row.TableRow.{TableRow}
 use Rattle.span_mutate.specs.Rows.{begins}
 use Rattle.span_mutate.specs.Directories.{Root, is_in_directory, root_row, directory}
 use Rattle.span_mutate.specs.Typed.{IsTyped, AreTyped, IsTypedMutation}
-use Rattle.span_mutate.proofs.Begins.{both_make, number_itself, taken_begins}
+use Rattle.span_mutate.proofs.Begins.{number_itself}
+use Rattle.std.proofs.lemmas.Bool.{and_from}
 use Rattle.span_mutate.proofs.Filters.{filter_yes, filter_no}
 use Rattle.span_shard.specs.Rows.{begins_with, code_of, is_coded, row_coded}
 use Rattle.span_shard.proofs.Bytes.{begins_front, front_begins, same_bytes}
+use Rattle.span_shard.proofs.Under.{begins_more}
 use Rattle.span_machine.specs.Machine.{root_at}
 use Rattle.span_machine_laws.proofs.CodedRoots.{coded_root_of}
 use Rattle.span_machine_laws.proofs.Locality.{IsRoot}
@@ -32,9 +32,6 @@ pub coded_root : (schema : List Table) (root : Root) → IsCodedRoot schema root
 coded_root schema root is = keyed_of schema root.table root.key is.1
 
 -- ---- what is in a directory
-
-front_of : (vs ws : List Value) → begins vs (vs ++ ws) ≡ true
-front_of vs ws = subst (λ (us : List Value). begins us (vs ++ ws) ≡ true) (take-append_seam vs ws) (taken_begins (vs ++ ws) (length vs))
 
 first_of_front : (ms ns : List ℕ) → 0 < length ms → get_or (ms ++ ns) 0 0 ≡ get_or ms 0 0
 first_of_front [] ns h = absurd (let less : 0 < 0 = h in omega arith)
@@ -49,7 +46,7 @@ in_directory schema rules root is r typed front =
     let b : IsAtOrBelow schema root.table root.key r.table r.key = (begins_own_rows schema rules root.table r.table root.key r.key is.1.0 typed.0.0).0 (rest, whole) in
     let same_root : root_of schema r.table ≡ root.table =
     ap (λ (ns : List ℕ). get_or ns 0 0) b.path ∙ first_of_front (path_of schema root.table) b.tables_below (path_has schema (root.table - 1)) ∙ is.0 in
-    both_make (root_of schema r.table == root.table) (begins root.key r.key) (number_itself (root_of schema r.table) root.table same_root) (ap (begins root.key) b.values ∙ front_of root.key b.values_below)
+    and_from (root_of schema r.table == root.table) (begins root.key r.key) (number_itself (root_of schema r.table) root.table same_root) (ap (begins root.key) b.values ∙ begins_more root.key b.values_below)
 
 -- the row at a key of the directory is found in the directory
 pub find_in_directory : (schema : List Table) → MeetsRules schema → (root : Root) → IsCodedRoot schema root → (k : List ℕ) → is_under schema root k ≡ true → (db : List TableRow) → AreTyped schema db

@@ -19,6 +19,7 @@ use Rattle.span_shard.specs.Rows.{row_coded}
 use Rattle.span_shard.specs.Versions.{row_at}
 use Rattle.span_shard.specs.Shard.{versions_at, prepared_at, row_now, end_of_time, IsNotOf}
 use Rattle.span_shard.proofs.Undo.{IsOpenFor}
+use Rattle.span_shard.proofs.Lists.{all_filter_itself}
 use Rattle.span_machine.specs.declared.transaction.Commit.{Commit}
 use Rattle.span_machine.specs.declared.transaction.OpenTransaction.{OpenTransaction}
 use Rattle.span_machine.specs.declared.transaction.Decision.{Decision}
@@ -44,13 +45,6 @@ use Rattle.span_version_laws.proofs.Steps.{open_of_put}
 pub all_each : {A : Type 0} (P : A → Type 0) (xs : List A) → ((x : A) → IsIn x xs → P x) → AllByRecursion P xs
 all_each P [] each = tt
 all_each P (x ∷ xs) each = (each x (0, refl), all_each P xs (λ y is. each y (suc is.0, is.1)))
-
-pub all_pass : {A : Type 0} (test : A → Bool) (xs : List A) → AllByRecursion (λ x. test x ≡ true) (filter test xs)
-all_pass test [] = tt
-all_pass test (x ∷ xs) = elim (test x) as (λ b. test x ≡ b → AllByRecursion (λ y. test y ≡ true) (cond b (x ∷ filter test xs) (filter test xs))) [
-  | true ↦ λ e. (e, all_pass test xs)
-  | false ↦ λ e. all_pass test xs
-] refl
 
 all_front : {A : Type 0} (P : A → Type 0) (xs : List A) (x : A) → AllByRecursion P (xs ++ x ∷ []) → AllByRecursion P xs
 all_front P [] x all = tt
@@ -191,4 +185,4 @@ pub others_apart : (schema : List Table) (m : Machine) → IsReached schema m �
     → AllByRecursion (λ u. u.number ≢ t.number) (filter (claims schema root slot) m.transactions)
 others_apart schema m reached root slot test t found off = all_each (λ u. u.number ≢ t.number) (filter (claims schema root slot) m.transactions) (λ u is same.
     let alike : u ≡ t = same_number m reached.numbered u t (kept_in (claims schema root slot) m.transactions u is) (found_in test m.transactions t found) same in
-    not_both (claims schema root slot u) (all_in (λ x. claims schema root slot x ≡ true) (filter (claims schema root slot) m.transactions) u is (all_pass (claims schema root slot) m.transactions)) (subst (λ x. claims schema root slot x ≡ false) (sym alike) off))
+    not_both (claims schema root slot u) (all_in (λ x. claims schema root slot x ≡ true) (filter (claims schema root slot) m.transactions) u is (all_filter_itself (claims schema root slot) m.transactions)) (subst (λ x. claims schema root slot x ≡ false) (sym alike) off))

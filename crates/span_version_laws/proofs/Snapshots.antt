@@ -47,6 +47,7 @@ use Rattle.span_version_laws.specs.Kept.{IsCodedRoot, IsCodedCoding, is_under, I
 use Rattle.span_version_laws.specs.Kept as versions
 use Rattle.span_machine.specs.declared.transaction.Commit.{Commit}
 use Rattle.span_shard.specs.declared.chain.Version.{Version}
+use Rattle.span_shard.proofs.Lists.{all_filter_itself}
 use Rattle.span_version_laws.proofs.Slots.{state_is}
 use Rattle.span_version_laws.proofs.Cuts.{held_by_key}
 use Rattle.span_version_laws.proofs.Trimming.{row_kept_above}
@@ -55,7 +56,7 @@ use Rattle.span_version_laws.proofs.Keys.{IsUnderAll, all_by_key}
 use Rattle.span_machine_laws.proofs.TableOrder.{code_cmp, IsOfTable, of_table, table_rises}
 use Rattle.span_keycode.specs.declared.range.KeyRange.{KeyRange}
 use Rattle.span_version_laws.proofs.Roots.{coding_of_row, root_of_coding}
-use Rattle.span_version_laws.proofs.Rows.{all_pass, row_of_tables}
+use Rattle.span_version_laws.proofs.Rows.{row_of_tables}
 use Rattle.span_version_laws.proofs.Sorted.{in_cons, same_rising}
 
 -- ---- a commit that is not applied yet is above what is sealed
@@ -149,7 +150,7 @@ module _ (schema : List Table) (rules : MeetsRules schema) (m : Machine) {slot :
       → IsKeptBy schema root k kept.slot_state.horizon (commits_at schema root m.log) (versions_at cs k) (prepared_at cs k) us → row_at (versions_at cs k) s ≡ row_coded schema db k) [
         | [] ↦ λ e h. row_seen root is_root k under (commits_at schema root m.log) h.1 refl
         | u ∷ us ↦ λ e h.
-            let pass : AllByRecursion (λ x. claims schema root slot x ≡ true) (u ∷ us) = subst (AllByRecursion (λ x. claims schema root slot x ≡ true)) e (all_pass (claims schema root slot) m.transactions) in
+            let pass : AllByRecursion (λ x. claims schema root slot x ≡ true) (u ∷ us) = subst (AllByRecursion (λ x. claims schema root slot x ≡ true)) e (all_filter_itself (claims schema root slot) m.transactions) in
             row_under root is_root k under u u.decision refl (kept_in (claims schema root slot) m.transactions u (0, ap (λ l. slice_get l 0) e)) pass.0 h
       ] refl (kept.kept root is_root held k under)
 
@@ -303,18 +304,18 @@ module _ (schema : List Table) (rules : MeetsRules schema) (m : Machine) {slot :
         (λ r at.
         let from : IsIn r (rows_from cs) = kept_in (λ (q : TableRow). q.table == n) (rows_from cs) r at in
         let of_n : IsIn r (rows_of n db) = in_filter (λ (q : TableRow). q.table == n) db r (all_in (λ q. IsIn q db) (rows_from cs) r from (rows_of_database cs))
-        (all_in (λ (q : TableRow). (q.table == n) ≡ true) (rows_of n (rows_from cs)) r at (all_pass (λ (q : TableRow). q.table == n) (rows_from cs))) in
+        (all_in (λ (q : TableRow). (q.table == n) ≡ true) (rows_of n (rows_from cs)) r at (all_filter_itself (λ (q : TableRow). q.table == n) (rows_from cs))) in
         in_filter (row_within schema range) (filter (has_row schema kept.slot_state) (rows_of n db)) r
         (in_filter (has_row schema kept.slot_state) (rows_of n db) r of_n (all_in (λ (q : TableRow). has_row schema kept.slot_state q ≡ true) (rows_from cs) r from (rows_inside cs kept.inside)))
         (all_in (λ (q : TableRow). row_within schema range q ≡ true) (rows_from cs) r from (rows_in_range cs)))
         (λ r at.
         let held : IsIn r (filter (has_row schema kept.slot_state) (rows_of n db)) = kept_in (row_within schema range) (filter (has_row schema kept.slot_state) (rows_of n db)) r at in
         let there : IsIn r (rows_of n db) = kept_in (has_row schema kept.slot_state) (rows_of n db) r held in
-        let within : row_within schema range r ≡ true = all_in (λ (q : TableRow). row_within schema range q ≡ true) (filter (row_within schema range) (filter (has_row schema kept.slot_state) (rows_of n db))) r at (all_pass (row_within schema range) (filter (has_row schema kept.slot_state) (rows_of n db))) in
-        let has : has_row schema kept.slot_state r ≡ true = all_in (λ (q : TableRow). has_row schema kept.slot_state q ≡ true) (filter (has_row schema kept.slot_state) (rows_of n db)) r held (all_pass (has_row schema kept.slot_state) (rows_of n db)) in
+        let within : row_within schema range r ≡ true = all_in (λ (q : TableRow). row_within schema range q ≡ true) (filter (row_within schema range) (filter (has_row schema kept.slot_state) (rows_of n db))) r at (all_filter_itself (row_within schema range) (filter (has_row schema kept.slot_state) (rows_of n db))) in
+        let has : has_row schema kept.slot_state r ≡ true = all_in (λ (q : TableRow). has_row schema kept.slot_state q ≡ true) (filter (has_row schema kept.slot_state) (rows_of n db)) r held (all_filter_itself (has_row schema kept.slot_state) (rows_of n db)) in
         let is = all_in (IsOfTable schema n) (rows_of n db) r there (of_table schema n db typed) in
         in_filter (λ (q : TableRow). q.table == n) (rows_from cs) r (row_is_there r is.0 has (kept_in (λ (q : TableRow). q.table == n) db r there) within)
-        (all_in (λ (q : TableRow). (q.table == n) ≡ true) (rows_of n db) r there (all_pass (λ (q : TableRow). q.table == n) db)))
+        (all_in (λ (q : TableRow). (q.table == n) ≡ true) (rows_of n db) r there (all_filter_itself (λ (q : TableRow). q.table == n) db)))
 
     -- what a snapshot of the range has
     pub snapshot_rows : HasRowsOf schema kept.slot_state range db (snapshot range s cs)

@@ -40,7 +40,8 @@ use Rattle.span_machine_laws.proofs.Walks.{MayRefuse, Ends, answer_by}
 use Rattle.span_machine_laws.proofs.Reached.{IsReached}
 use Rattle.span_version_laws.specs.Kept.{IsCodedRoot, is_under, IsPut, IsPending, IsCodedCoding, IsKeptUnder, IsKeptBy, IsKeptAt, AreKept}
 use Rattle.span_version_laws.proofs.Slots.{IsStill, placed_in, still_same, still_set, still_last, still_risen, other_set, same_range_has, other_number, home}
-use Rattle.span_version_laws.proofs.Claimers.{Claimers, and_false, false_and, claimers_of}
+use Rattle.span_version_laws.proofs.Claimers.{Claimers, claimers_of}
+use Rattle.std.proofs.lemmas.Bool.{and_left, and_right}
 use Rattle.span_schema.specs.declared.table.Table.{Table}
 use Rattle.span_mutate.specs.Directories.{Root}
 use Rattle.span_version_laws.proofs.Roots.{coded_root}
@@ -138,7 +139,7 @@ module _ (schema : List Table) (m : Machine) (reached : IsReached schema m) {slo
         | false ↦ λ e.
             let same : commits_at schema root (m.log ++ commit_of ts t ∷ []) ≡ commits_at schema root m.log =
             commits_at-push schema root m.log (commit_of ts t) ∙ ap (λ b. commits_at schema root m.log ++ cond b (commit_of ts t ∷ []) []) e ∙ append-nil _ in
-            let off : claims schema root slot t ≡ false = and_false (is_prepared_at slot t) (is_some_of (filter (is_at schema root) t.mutations)) e in
+            let off : claims schema root slot t ≡ false = and_right (is_prepared_at slot t) (is_some_of (filter (is_at schema root) t.mutations)) e in
             subst (λ l. IsKeptBy schema root k kept.slot_state.horizon l (versions_at cs k) (prepared_at cs k) (filter (claims schema root slot) (changed_first (is_transaction owner txn) (with_decision (decision.Committed ts)) m.transactions))) (sym same)
             (subst (IsKeptBy schema root k kept.slot_state.horizon (commits_at schema root m.log) (versions_at cs k) (prepared_at cs k)) (sym (them.away (with_decision (decision.Committed ts)) off off)) (kept.kept root is_root held k under))
         | true ↦ λ e.
@@ -167,7 +168,7 @@ module _ (schema : List Table) (m : Machine) (reached : IsReached schema m) {slo
       elim (length t.prepared == 0) as (λ v. (length t.prepared == 0) ≡ v
       → IsKeptBy schema root k kept.slot_state.horizon (commits_at schema root m.log) (versions_at cs k) (prepared_at cs k) (filter (claims schema root slot) (cond v (without_first (is_transaction owner txn) m.transactions) (changed_first (is_transaction owner txn) (with_decision decision.Aborted) m.transactions)))) [
         | true ↦ λ e.
-            let off : claims schema root slot t ≡ false = false_and (is_prepared_at slot t) (is_some_of (filter (is_at schema root) t.mutations)) (none_left slot t.prepared e) in
+            let off : claims schema root slot t ≡ false = and_left (is_prepared_at slot t) (is_some_of (filter (is_at schema root) t.mutations)) (none_left slot t.prepared e) in
             subst (IsKeptBy schema root k kept.slot_state.horizon (commits_at schema root m.log) (versions_at cs k) (prepared_at cs k)) (sym (them.away_gone off)) (kept.kept root is_root held k under)
         | false ↦ λ e. elim (claims schema root slot t) as (λ v. claims schema root slot t ≡ v
             → IsKeptBy schema root k kept.slot_state.horizon (commits_at schema root m.log) (versions_at cs k) (prepared_at cs k) (filter (claims schema root slot) (changed_first (is_transaction owner txn) (with_decision decision.Aborted) m.transactions))) [
@@ -221,7 +222,7 @@ module _ (schema : List Table) (m : Machine) (reached : IsReached schema m) {slo
       by_left : (b : Bool) → (length (without_prepared i t).prepared == 0) ≡ b
           → IsKeptBy schema root k kept.slot_state.horizon (commits_at schema root m.log) (versions_at cs k) (prepared_at cs k) (filter (claims schema root slot) (cond b (without_first (is_transaction owner txn) m.transactions) (changed_first (is_transaction owner txn) (without_prepared i) m.transactions)))
       by_left true e =
-          let none : claims schema root slot t ≡ false = false_and (is_prepared_at slot t) (is_some_of (filter (is_at schema root) t.mutations)) (sym still ∙ none_left slot (without_prepared i t).prepared e) in
+          let none : claims schema root slot t ≡ false = and_left (is_prepared_at slot t) (is_some_of (filter (is_at schema root) t.mutations)) (sym still ∙ none_left slot (without_prepared i t).prepared e) in
           subst (IsKeptBy schema root k kept.slot_state.horizon (commits_at schema root m.log) (versions_at cs k) (prepared_at cs k)) (sym ((claimers root is_root held (is_transaction owner txn) t found).away_gone none)) (kept.kept root is_root held k under)
       by_left false e = changed_away root is_root held k under (is_transaction owner txn) t found (without_prepared i) (without_prepared i t).prepared refl still
 

@@ -19,6 +19,7 @@ use Rattle.span_machine_laws.proofs.Stability.{changes_at, changes_at-cons}
 use Rattle.span_machine_laws.proofs.Locality.{ok_same}
 use Rattle.span_machine_laws.proofs.InPlace.{IsUnder, front_through}
 use Rattle.span_version_laws.specs.Kept.{with_change, directory_after, made_from, made}
+use Rattle.span_version_laws.proofs.Changes.{same_row_is}
 
 -- ---- trimming
 
@@ -84,12 +85,6 @@ kept_newest h v vs high = ap (λ (b : Bool). cond b (kept_version v v.row) (v �
 
 -- ---- rows that are the same
 
-pub same_row : (a b : Option (List ℕ)) → is_same_row a b ≡ true → a ≡ b
-same_row None None e = refl
-same_row (Some a) (Some b) e = ap Some ((bytes_eq-Decides a b).0 e)
-same_row None (Some b) e = absurd (cc)
-same_row (Some a) None e = absurd (cc)
-
 pub is_same_of : (a b : Option (List ℕ)) → a ≡ b → is_same_row a b ≡ true
 is_same_of None b e = subst (λ (o : Option (List ℕ)). is_same_row None o ≡ true) e refl
 is_same_of (Some a) b e = subst (λ (o : Option (List ℕ)). is_same_row (Some a) o ≡ true) e ((bytes_eq-Decides a a).1 refl)
@@ -99,7 +94,7 @@ not_true true no_one = absurd (no_one refl)
 not_true false no_one = refl
 
 pub not_same_of : (a b : Option (List ℕ)) → b ≢ a → is_same_row a b ≡ false
-not_same_of a b off = not_true (is_same_row a b) (λ e. off (sym (same_row a b e)))
+not_same_of a b off = not_true (is_same_row a b) (λ e. off (sym (same_row_is a b e)))
 
 -- ---- the versions that commits make
 

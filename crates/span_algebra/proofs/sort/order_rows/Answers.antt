@@ -1,5 +1,5 @@
 use Rattle.std.proofs.Common.{◌≡◌, ◌∙◌, ℕ, ap, sym, List, Option, Some, drop, take, rules}
-use Rattle.span_query.specs.Rows.{Row, OrFault}
+use Rattle.span_query.specs.Rows.{Row}
 use Rattle.span_query.specs.Sorting.{sorted}
 use Rattle.span_query.specs.Meaning.{limit_rows}
 use Rattle.span_query.specs.declared.query.Limit.{Limit}

@@ -16,7 +16,8 @@ use Rattle.span_expr.specs.declared.condition.Condition.{Condition}
 use Rattle.span_expr.specs.Outcomes.{both, either, condition_of}
 use Rattle.span_expr.specs.Meaning.{and_also, or_else, or_equal}
 use Rattle.span_expr.specs.Memory.{is_memory, is_out_of_memory, is_concatenation, has_concatenation, any_concatenation, any_link_concatenation, any_arm_concatenation}
-use Rattle.span_expr.proofs.Concatenations.{first_of, second_of, by_two, by_three, operand_has, link_has, condition_has, value_has, chain_has, compare_has, prefix_has, between_has, in_has, and_has, or_has, else_has, case_has, match_has, folded_step}
+use Rattle.span_expr.proofs.Concatenations.{by_two, by_three, operand_has, link_has, condition_has, value_has, chain_has, compare_has, prefix_has, between_has, in_has, and_has, or_has, else_has, case_has, match_has, folded_step}
+use Rattle.std.proofs.lemmas.Bool.{or_right, or_left}
 use Rattle.span_expr.proofs.eval.+eval.Goals as goal
 
 pub apply_links-loop-link-preserved : goal.apply_links-loop-link-preserved
@@ -146,14 +147,14 @@ in_list-loop-member-preserved t c o given =
 pub all_of-returns-in_err-condition_of-clause-memory : goal.all_of-returns-in_err-condition_of-clause-memory
 all_of-returns-in_err-condition_of-clause-memory t c =
     let whole : IsTrue (is_memory c.in_err-condition_of.field-0.0) → IsTrue (is_out_of_memory c.args.first || any_concatenation c.args.more.now) =
-    λ ran. second_of (is_out_of_memory c.args.first) (any_concatenation c.args.more.now)
+    λ ran. or_right (is_out_of_memory c.args.first) (any_concatenation c.args.more.now)
     (operand_has c.args.more.now c.loop-operand.operand-index c.operand-item.result c.loop-operand-test.true c.operand-item.is (c.evaluate.ensures.memory (c.in_err-condition_of.ensures.memory ran))) in
     search (rules, whole)
 
 pub any_of-returns-in_err-condition_of-clause-memory : goal.any_of-returns-in_err-condition_of-clause-memory
 any_of-returns-in_err-condition_of-clause-memory t c =
     let whole : IsTrue (is_memory c.in_err-condition_of.field-0.0) → IsTrue (is_out_of_memory c.args.first || any_concatenation c.args.more.now) =
-    λ ran. second_of (is_out_of_memory c.args.first) (any_concatenation c.args.more.now)
+    λ ran. or_right (is_out_of_memory c.args.first) (any_concatenation c.args.more.now)
     (operand_has c.args.more.now c.loop-operand.operand-index c.operand-item.result c.loop-operand-test.true c.operand-item.is (c.evaluate.ensures.memory (c.in_err-condition_of.ensures.memory ran))) in
     search (rules, whole)
 
@@ -162,7 +163,7 @@ apply_links-returns-in_err-so_far-2-clause-memory t c =
     let here : IsTrue (is_memory c.in_err-so_far-2.field-0.0) → IsTrue (is_concatenation c.link-item.result.operator || has_concatenation c.link-item.result.operand) =
     by_two _ (is_concatenation c.link-item.result.operator) (has_concatenation c.link-item.result.operand) _ (is_concatenation c.link-item.result.operator) (is_out_of_memory c.evaluate-operand.result) refl c.in_err-so_far-2.ensures.memory (λ h. h) c.evaluate-operand.ensures.memory in
     let whole : IsTrue (is_memory c.in_err-so_far-2.field-0.0) → IsTrue (is_out_of_memory c.args.first || any_link_concatenation c.args.links.now) =
-    λ ran. second_of (is_out_of_memory c.args.first) (any_link_concatenation c.args.links.now)
+    λ ran. or_right (is_out_of_memory c.args.first) (any_link_concatenation c.args.links.now)
     (link_has c.args.links.now c.loop-link.link-index c.link-item.result c.loop-link-test.true c.link-item.is (here ran)) in
     search (rules, whole)
 
@@ -189,7 +190,7 @@ case_value-returns-in-Err-clause-memory t c ran =
 
 pub match_value-returns-in-Ok-true-clause-memory : goal.match_value-returns-in-Ok-true-clause-memory
 match_value-returns-in-Ok-true-clause-memory t c ran =
-    second_of (is_out_of_memory c.args.operand.now) (any_arm_concatenation c.args.arms.now)
+    or_right (is_out_of_memory c.args.operand.now) (any_arm_concatenation c.args.arms.now)
     (value_has c.args.arms.now c.loop-arm.arm-index c.arm-item.result c.loop-arm-test.true c.arm-item.is (c.evaluate-in-Ok-true.ensures.memory ran))
 
 pub match_value-returns-in-Err-clause-memory : goal.match_value-returns-in-Err-clause-memory
@@ -244,22 +245,22 @@ evaluate-returns-in-Or-clause-memory t c =
 pub evaluate-returns-in-Some-clause-memory : goal.evaluate-returns-in-Some-clause-memory
 evaluate-returns-in-Some-clause-memory t c ran =
     case_has c.args.expr.now c.in-Case.arms c.as_slice-in-Case.result.now c.in-Case.otherwise c.in-Case.is c.as_slice-in-Case.ensures
-    ∙ first_of (any_arm_concatenation c.as_slice-in-Case.result.now) (else_has c.in-Case.otherwise) (c.in-Some.ensures.memory ran)
+    ∙ or_left (any_arm_concatenation c.as_slice-in-Case.result.now) (else_has c.in-Case.otherwise) (c.in-Some.ensures.memory ran)
 
 pub evaluate-returns-in-Case-clause-memory : goal.evaluate-returns-in-Case-clause-memory
 evaluate-returns-in-Case-clause-memory t c ran =
     case_has c.args.expr.now c.in-Case.arms c.as_slice-in-Case.result.now c.in-Case.otherwise c.in-Case.is c.as_slice-in-Case.ensures
-    ∙ second_of (any_arm_concatenation c.as_slice-in-Case.result.now) (else_has c.in-Case.otherwise) (c.value_or_null.ensures.memory ran)
+    ∙ or_right (any_arm_concatenation c.as_slice-in-Case.result.now) (else_has c.in-Case.otherwise) (c.value_or_null.ensures.memory ran)
 
 pub evaluate-returns-in-Some-match_value-clause-memory : goal.evaluate-returns-in-Some-match_value-clause-memory
 evaluate-returns-in-Some-match_value-clause-memory t c ran =
     let operand : Bool = has_concatenation c.get-in-Match.result.now in
     let arms : Bool = any_arm_concatenation c.as_slice-in-Match.result.now in
     match_has c.args.expr.now c.in-Match.a c.get-in-Match.result.now c.in-Match.arms c.as_slice-in-Match.result.now c.in-Match.otherwise c.in-Match.is c.get-in-Match.ensures c.as_slice-in-Match.ensures
-    ∙ first_of (operand || arms) (else_has c.in-Match.otherwise)
+    ∙ or_left (operand || arms) (else_has c.in-Match.otherwise)
     (by_two (operand || arms) operand arms _ (is_out_of_memory c.evaluate-operand-in-Match.result) arms refl c.in-Some-match_value.ensures.memory c.evaluate-operand-in-Match.ensures.memory (λ h. h) ran)
 
 pub evaluate-returns-in-Match-clause-memory : goal.evaluate-returns-in-Match-clause-memory
 evaluate-returns-in-Match-clause-memory t c ran =
     match_has c.args.expr.now c.in-Match.a c.get-in-Match.result.now c.in-Match.arms c.as_slice-in-Match.result.now c.in-Match.otherwise c.in-Match.is c.get-in-Match.ensures c.as_slice-in-Match.ensures
-    ∙ second_of (has_concatenation c.get-in-Match.result.now || any_arm_concatenation c.as_slice-in-Match.result.now) (else_has c.in-Match.otherwise) (c.value_or_null-in-None-match_value.ensures.memory ran)
+    ∙ or_right (has_concatenation c.get-in-Match.result.now || any_arm_concatenation c.as_slice-in-Match.result.now) (else_has c.in-Match.otherwise) (c.value_or_null-in-None-match_value.ensures.memory ran)

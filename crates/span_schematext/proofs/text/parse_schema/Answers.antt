@@ -1,6 +1,5 @@
-use Rattle.std.proofs.Common.{◌≡◌, ◌⊎◌, inl, inr, subst, List}
+use Rattle.std.proofs.Common.{inl, inr, subst, List}
 use Rattle.span_schema.specs.declared.table.Table.{Table}
-use Rattle.span_schematext.specs.SchemaTexts.{AreTables}
 use Rattle.span_schematext.proofs.Tabling.{Judged, one_tables, not_refused, schema_read, schema_read_all, schema_refused, schema_refused_all}
 use Rattle.span_schematext.proofs.text.parse_schema.Goals as goal
 

@@ -1,7 +1,6 @@
-use Rattle.std.proofs.Common.{◌≡◌, ◌∙◌, sym, ap, List}
+use Rattle.std.proofs.Common.{◌≡◌, ◌∙◌, sym, ap}
 use Rattle.span_grammar.specs.Classes.{lexemes_of}
 use Rattle.span_grammar.specs.Rules.{limit}
-use Rattle.span_grammar.specs.declared.class.Lexeme.{Lexeme}
 use Rattle.span_syntax.specs.Parsed.{read_to_end}
 use Rattle.span_syntax.proofs.Parsing.{reports}
 use Rattle.span_schematext.specs.Declarations.{tables}

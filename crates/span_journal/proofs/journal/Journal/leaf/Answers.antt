@@ -1,10 +1,9 @@
-use Rattle.std.proofs.Common.{◌≡◌, List, None, Some, sym, ap, ◌∙◌, subst}
+use Rattle.std.proofs.Common.{◌≡◌, List, None, sym, ap, ◌∙◌, subst}
 use Rattle.std.specs.Prelude.{find, option_map}
 use Rattle.span_machine.specs.declared.query.ScanLeaf.{ScanLeaf}
 use Rattle.span_machine.specs.Machine.{is_query}
 use Rattle.span_machine.specs.Place.{IsPlace}
-use Rattle.span_machine.specs.Pieces.{Pieced, Journaled, machine_of}
-use Rattle.span_journal.specs.Judged.{leaf_of}
+use Rattle.span_machine.specs.Pieces.{Pieced, Journaled}
 use Rattle.span_journal.proofs.Stepping.{leaf_none, leaf_some}
 use Rattle.span_journal.proofs.journal.Journal.leaf.Goals as goal
 

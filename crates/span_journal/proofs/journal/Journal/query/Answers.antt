@@ -2,7 +2,7 @@ use Rattle.std.proofs.Common.{◌≡◌, List, None, Some, sym, ap, ◌∙◌, s
 use Rattle.std.specs.Prelude.{find}
 use Rattle.span_machine.specs.Machine.{is_query}
 use Rattle.span_machine.specs.Place.{IsPlace}
-use Rattle.span_machine.specs.Pieces.{Pieced, Journaled, machine_of}
+use Rattle.span_machine.specs.Pieces.{Pieced, Journaled}
 use Rattle.span_machine.specs.declared.query.OpenQuery.{OpenQuery}
 use Rattle.span_journal.proofs.Stepping.{found_query}
 use Rattle.span_journal.proofs.journal.Journal.query.Goals as goal
