@@ -200,22 +200,6 @@ impl Journal {
         Some(transaction.mutations())
     }
 
-    /// Where an open transaction is prepared. None where there is none of this owner and number.
-    pub fn prepared(&self, owner: u64, txn: u64) -> Option<&[Prepared]>
-        ensures { MatchOption result
-            (find (is_transaction owner txn) (machine_of self.now).transactions ≡ None)
-            (λ ps.
-            (t : OpenTransaction)
-            × (find (is_transaction owner txn) (machine_of self.now).transactions ≡ Some t)
-            × (ps.now ≡ t.prepared)) }
-    {
-        let Some((_, transaction)) = find_transaction(self.transactions.as_slice(), owner, txn)
-        else {
-            return None;
-        };
-        Some(transaction.prepared())
-    }
-
     /// How many transactions are prepared at the slot. A decided one is prepared until it is applied there.
     pub fn count_prepared(&self, slot: usize) -> usize
         ensures { result ≡ count_by (is_prepared_at slot) (machine_of self.now).transactions }

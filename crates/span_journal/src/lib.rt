@@ -7,7 +7,6 @@
 pub mod choice;
 pub mod journal;
 mod owned;
-pub mod pending;
 mod queries;
 mod query;
 mod ranges;
