@@ -4,7 +4,7 @@ use Rattle.span_shard.specs.KeyVersions.{KeyVersions}
 use Rattle.span_shard.specs.Shard.{keys_before, keys_from}
 use Rattle.span_machine.specs.Machine.{Machine, split_in_two}
 use Rattle.span_machine.specs.Pieces.{machine_of}
-use Rattle.span_parts.specs.Whole.{Shards, IsWhole}
+use Rattle.span_parts.specs.Whole.{IsWhole}
 use Rattle.span_parts.proofs.Changes.{of_some}
 use Rattle.span_parts.proofs.Splitting.{idle, split_answer, split_whole}
 use Rattle.span_parts.proofs.cut.cut_in.Goals as goal
@@ -13,7 +13,7 @@ pub split-requires : goal.split-requires
 split-requires c =
     let a = c.args in
     let b = c.requires.belongs in
-    idle a.schema.now a.journal.now b.0 b.1 a.slot a.key.now c.requires.may a.shard.now b.2
+    record { idle = idle a.schema.now a.journal.now b.0 b.1 a.slot a.key.now c.requires.may a.shard.now b.2 }
 
 pub returns-in-Ok-split-clause-step : goal.returns-in-Ok-split-clause-step
 returns-in-Ok-split-clause-step c =
