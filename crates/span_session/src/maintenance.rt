@@ -92,8 +92,6 @@ impl<J: Naming> Db<J> {
     ) -> Result<u64, Refusal> {
         let _ = me;
         let interval = clock.now();
-        self.journal
-            .lock(rt)
-            .advance(&self.board, number, interval)
+        self.journal.lock(rt).advance(&self.board, number, interval)
     }
 }

@@ -169,8 +169,14 @@ impl<J: Naming> LockedSlot<J> {
         ) {
             Ok(part) => {
                 let shard = mem::replace(&mut self.shard, Shard::new(board.alloc));
-                let (keeper, shard, part) =
-                    seats::restate_both(board, &mut self.seat, &mut next.seat, keeper, shard, part);
+                let (keeper, shard, part) = seats::restate_both(
+                    board,
+                    &mut self.seat,
+                    &mut next.seat,
+                    keeper,
+                    shard,
+                    part,
+                );
                 self.shard = shard;
                 next.shard = part;
                 journal.badge = keeper;

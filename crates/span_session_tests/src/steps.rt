@@ -26,7 +26,8 @@ use std::process::Abort;
 use std::sync::Wait;
 use std::test::Fail;
 
-const TABLES: &str = "CREATE TABLE Users (uid INT64 NOT NULL, email STRING(MAX)) PRIMARY KEY (uid); \
+const TABLES: &str =
+    "CREATE TABLE Users (uid INT64 NOT NULL, email STRING(MAX)) PRIMARY KEY (uid); \
 CREATE TABLE Albums (uid INT64 NOT NULL, aid INT64 NOT NULL) PRIMARY KEY (uid, aid), INTERLEAVE IN PARENT Users";
 
 const UIDS: &str = "SELECT uid FROM Users";
@@ -113,8 +114,14 @@ fn check_steps<J: Naming, R: Wait + Abort>(
     };
     assert_eq!(rt; db.begin(rt, &mut me, first), Ok(1));
     assert_eq!(rt; db.prepare(rt, &me, 1, 0), Ok(()));
-    assert_eq!(rt; db.decide(rt, &early, &mut me, 1, Verdict::Commit), Ok(Some(111)));
-    assert_eq!(rt; db.decide(rt, &early, &mut me, 1, Verdict::Commit), Err(Refusal::UnknownTransaction));
+    assert_eq!(rt;
+        db.decide(rt, &early, &mut me, 1, Verdict::Commit),
+        Ok(Some(111))
+    );
+    assert_eq!(rt;
+        db.decide(rt, &early, &mut me, 1, Verdict::Commit),
+        Err(Refusal::UnknownTransaction)
+    );
     assert_eq!(rt; db.apply(rt, &early, &me, 1, 0), Err(Refusal::TooEarly));
     assert_eq!(rt; db.apply(rt, &late, &me, 1, 0), Ok(()));
     assert_eq!(rt; db.begin(rt, &mut me, second), Ok(2));
@@ -176,7 +183,10 @@ fn check_slots<J: Naming, R: Wait + Abort>(
     let clock = Ticking::new();
     let params = Params::new(alloc);
     assert_eq!(rt; split(rt, db, &me, 100), Ok(1));
-    assert_eq!(rt; db.commit(rt, &clock, &mut me, wrong), Err(Refusal::ParentMissing));
+    assert_eq!(rt;
+        db.commit(rt, &clock, &mut me, wrong),
+        Err(Refusal::ParentMissing)
+    );
     assert_eq!(rt; split(rt, db, &me, 50), Ok(2));
     let early = Still {
         earliest: 100,
