@@ -28,7 +28,7 @@ Stands f (Fork l n k b r) = (f n ≡ cell_of l k b r) × Stands f l × Stands f 
 abbrev pub one_at : ℕ → ℕ → ℕ
 one_at i n = (if nat_eq n i then 1 else 0)
 
--- how often a cell stands in the tree
+-- how often a cell is in the tree
 abbrev pub count : ℕ → Tree → ℕ
 count i Leaf = 0
 count i (Fork l n k b r) = one_at i n + (count i l + count i r)

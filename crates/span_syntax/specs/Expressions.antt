@@ -34,7 +34,7 @@ use Rattle.span_syntax.specs.Pieces.{Piece, token, nothing, ◌<$>◌, ◌>>=◌
 abbrev pub span_of : Token → Span
 span_of t = record { start = t.start; end = t.end }
 
--- the spelling of a token, and its place; of a token of a text in UTF-8 the bytes that stand there (span_lexer's law
+-- the spelling of a token, and its place; of a token of a text in UTF-8 the bytes that are there (span_lexer's law
 -- tokens_are_read_unchanged)
 abbrev pub spelling_of : List ℕ → Lexeme → Spelling
 spelling_of text t = record { text = utf8_lossy (token_bytes text t.token); span = span_of t.token }
