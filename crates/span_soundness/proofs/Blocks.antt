@@ -181,7 +181,7 @@ module _ (params : List Parameter) (params_are : AreTyped params) where
 
   output_is : (scope : Scope) (m : Mode) (kinds : List Kind) (o : Output) → Keeps (column_types scope) (EachShown scope m) kinds (project_output scope params m o)
   output_is scope m kinds output.All = given_keeps (column_types scope) (EachShown scope m) kinds (project_all scope m) (λ later. all_shown_is scope m (kinds ++ later))
-  output_is scope m kinds (output.AllByRecursion name) = given_keeps (column_types scope) (EachShown scope m) kinds (project_item scope m name.text) (λ later. item_shown_is scope m (kinds ++ later) name.text)
+  output_is scope m kinds (output.AllOf name) = given_keeps (column_types scope) (EachShown scope m) kinds (project_item scope m name.text) (λ later. item_shown_is scope m (kinds ++ later) name.text)
   output_is scope m kinds (output.Value e alias) = value_shown_is scope m kinds e alias
 
   abbrev outputs_from : Scope → Mode → List Output → List SelectItem → Finds (List SelectItem)
