@@ -244,20 +244,29 @@ impl Session {
                 self.begin_load(alloc, core.schema(), number, table, columns);
                 Ok(())
             }
-            Command::Begin => add_reply(alloc, &self.begin(alloc, core), answers),
+            Command::Begin => {
+                let reply = self.begin(alloc, core);
+                add_reply(alloc, &reply, answers)
+            }
             Command::Open { bound, text } => {
-                add_reply(alloc, &self.open(alloc, core, bound, text), answers)
+                let reply = self.open(alloc, core, bound, text);
+                add_reply(alloc, &reply, answers)
             }
             Command::Query { bound, text } => {
-                add_reply(alloc, &self.query(alloc, core, bound, text), answers)
+                let reply = self.query(alloc, core, bound, text);
+                add_reply(alloc, &reply, answers)
             }
             Command::Explain { text } => self.explain(alloc, core, text, answers),
             Command::Split { table, record } => {
-                add_reply(alloc, &self.split(alloc, core, table, record), answers)
+                let reply = self.split(alloc, core, table, record);
+                add_reply(alloc, &reply, answers)
             }
             Command::Shards => answers.slots(core),
             command => match step_of(command, self.clock) {
-                Some(step) => add_reply(alloc, &take_step(alloc, core, step), answers),
+                Some(step) => {
+                    let reply = take_step(alloc, core, step);
+                    add_reply(alloc, &reply, answers)
+                }
                 None => Err(Refusal::BadCommand),
             },
         }
