@@ -114,7 +114,7 @@ def toolchain():
 def end_checks_after(rt, seconds):
     """Ends each check of an edit after so much processor time."""
     guarded = rt.rtlib.guarded
-    rt.rtlib.guarded = lambda: [*guarded(), "prlimit", f"--cpu={seconds}"]
+    rt.rtlib.guarded = lambda: [*guarded(), "prlimit", f"--cpu={seconds}:{seconds + 5}"]
 
 
 def copy_of_repository(folder, tried):

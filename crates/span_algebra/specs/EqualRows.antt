@@ -19,7 +19,9 @@ pub are_equal-same : (x y : Row) → are_equal x y ≡ true → x ≡ y
 are_equal-same [] [] e = refl
 are_equal-same [] (w ∷ ws) e = absurd (true≢false (sym e))
 are_equal-same (v ∷ vs) [] e = absurd (true≢false (sym e))
-are_equal-same (v ∷ vs) (w ∷ ws) e = λ i. is_equal-same v w (and_parts (is_equal v w) (are_equal vs ws) e).0 i ∷ are_equal-same vs ws (and_parts (is_equal v w) (are_equal vs ws) e).1 i
+are_equal-same (v ∷ vs) (w ∷ ws) e =
+    λ i. is_equal-same v w (and_parts (is_equal v w) (are_equal vs ws) e).0 i
+    ∷ are_equal-same vs ws (and_parts (is_equal v w) (are_equal vs ws) e).1 i
 
 pub are_equal-itself : (x : Row) → are_equal x x ≡ true
 are_equal-itself [] = refl
@@ -29,7 +31,9 @@ turned_same : (x y : Row) → x ≡ y → are_equal y x ≡ true
 turned_same x y e = ap (λ (z : Row). are_equal z x) (sym e) ∙ are_equal-itself x
 
 pub are_equal-reversed : (x y : Row) → are_equal x y ≡ are_equal y x
-are_equal-reversed x y = both_ways (are_equal x y) (are_equal y x) (λ e. turned_same x y (are_equal-same x y e)) (λ e. turned_same y x (are_equal-same y x e))
+are_equal-reversed x y =
+    both_ways (are_equal x y) (are_equal y x) (λ e. turned_same x y (are_equal-same x y e))
+    (λ e. turned_same y x (are_equal-same y x e))
 
 pub rows_are_equivalent : IsEquivalence are_equal
 rows_are_equivalent = record {

@@ -11,4 +11,5 @@ holds_where (Some e) row = holds e row
 
 -- what one row gives
 abbrev pub project_row : Option Expr → List Expr → Row → Rows
-project_row filter outputs row = holds_where filter row >>= (λ b. if b then option_map singleton (values outputs row) else Some [])
+project_row filter outputs row =
+    holds_where filter row >>= (λ b. if b then option_map singleton (values outputs row) else Some [])

@@ -59,7 +59,8 @@ operand_at row (Of f e) = value_of (val row e)
 -- the states of aggregates that have taken these rows
 pub record AreStatesOf (aggregates : List Aggregate) (rows : List Row) (states : List State) : Type 0 where
   pub long : length states ≡ length aggregates
-  pub each : (k : ℕ) (a : Aggregate) (s : State) → slice_get aggregates k ≡ Some a → slice_get states k ≡ Some s → IsStateOf a rows s
+  pub each : (k : ℕ) (a : Aggregate) (s : State) → slice_get aggregates k ≡ Some a → slice_get states k ≡ Some s
+      → IsStateOf a rows s
 
 -- the number of rows taken is so small that one more can be counted
 pub record CanCountOne (aggregates : List Aggregate) (states : List State) : Type 0 where

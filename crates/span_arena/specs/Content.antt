@@ -11,9 +11,9 @@ pub record Prepared : Type 0 where
   pub chain : ℕ
   pub image : Option (List ℕ)
 
--- Under a chain's number its versions, newest first, or None where it is no chain, and its key with its links, which are blank where it
--- is none; under a node's number what is prepared in it, or
--- None where it is in a chain or free; how many nodes are free; and how many may be in use.
+-- Under a chain's number its versions, newest first, or None where it is no chain, and its key with its links, which
+-- are blank where it is none; under a node's number what is prepared in it, or None where it is in a chain or free; how
+-- many nodes are free; and how many may be in use.
 pub record Content : Type 0 where
   pub chains : List (Option (List Version))
   pub cells : List Cell
@@ -99,8 +99,8 @@ with_at xs i x = (if nat_lt i (length xs) then slice_set xs i x else (xs ++ x �
 abbrev pub AreAllChains : Content → Type 0
 AreAllChains c = (d : ℕ) → d < length c.chains → IsChain c d
 
--- A number that was no chain is one now, with no version, and nothing is prepared for it. The numbers grow only where all are chains.
--- Of the keys and links nothing is said.
+-- A number that was no chain is one now, with no version, and nothing is prepared for it. The numbers grow only where
+-- all are chains. Of the keys and links nothing is said.
 pub record IsNewChain (old new : Content) (chain : ℕ) : Type 0 where
   pub number : chain ≤ length old.chains
   pub was_none : slice_index_or old.chains chain None ≡ None
@@ -116,7 +116,8 @@ abbrev pub with_cells : Content → List Cell → Content
 with_cells c cells = record c { cells = cells }
 
 abbrev pub reserved : Content → ℕ → ℕ → Option (List ℕ) → Content
-reserved c node chain image = record c { prepared = with_at c.prepared node (Some (record { chain = chain; image = image })); free = c.free - 1 }
+reserved c node chain image =
+    record c { prepared = with_at c.prepared node (Some (record { chain = chain; image = image })); free = c.free - 1 }
 
 -- An image is prepared in a node where nothing was: in a free one if there was one.
 pub record IsReserved (old new : Content) (chain : ℕ) (image : Option (List ℕ)) (node : ℕ) : Type 0 where
@@ -161,7 +162,8 @@ kept_by (Some h) vs = kept_upto h vs
 
 -- only these versions of a chain are kept, and the nodes of the others are free
 abbrev pub with_kept : Content → ℕ → List Version → Content
-with_kept c chain vs = record c { chains = slice_set c.chains chain (Some vs); free = c.free + (length (versions c chain) - length vs) }
+with_kept c chain vs =
+    record c { chains = slice_set c.chains chain (Some vs); free = c.free + (length (versions c chain) - length vs) }
 
 abbrev pub trimmed : Content → ℕ → ℕ → Content
 trimmed c chain horizon = with_kept c chain (kept_upto horizon (versions c chain))
@@ -175,7 +177,8 @@ with_free_node c = record c { prepared = c.prepared ++ None ∷ []; free = c.fre
 
 -- there are as many nodes as may be in use; or there may be more, and memory ran out
 abbrev pub IsRefusedRoom : Content → Refusal → Type 0
-IsRefusedRoom c why = ((why ≡ ShardFull) × (length c.prepared ≡ c.most)) ⊎ ((why ≡ OutOfMemory) × (length c.prepared < c.most))
+IsRefusedRoom c why =
+    ((why ≡ ShardFull) × (length c.prepared ≡ c.most)) ⊎ ((why ≡ OutOfMemory) × (length c.prepared < c.most))
 
 -- the version was the newest of its chain, which has the others now; its node is free
 pub record IsTakenFrom (old new : Content) (chain : ℕ) (v : Version) : Type 0 where

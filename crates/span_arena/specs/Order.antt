@@ -25,7 +25,8 @@ pub record IsLast (V : Type 0) (timestamp : V → ℕ) (s : ℕ) (vs : List V) (
 
 -- the last one at or below s; or all are later than s
 abbrev pub IsLastUpto : (V : Type 0) → (V → ℕ) → ℕ → List V → Option V → Type 0
-IsLastUpto V timestamp s vs found = MatchOption found (AllByRecursion (λ (w : V). s < timestamp w) vs) (IsLast V timestamp s vs)
+IsLastUpto V timestamp s vs found =
+    MatchOption found (AllByRecursion (λ (w : V). s < timestamp w) vs) (IsLast V timestamp s vs)
 
 -- the last version at or below s, where there is one
 abbrev pub IsNewestUpto : ℕ → List Version → Option Version → Type 0

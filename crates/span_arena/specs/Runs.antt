@@ -81,8 +81,8 @@ content nodes rs free_count most cells = record {
   most = most;
 }
 
--- Each chain has its versions, as many are prepared for it as it says, and each node is in a chain, prepared or in the free list. A
--- node that is linked later has the higher rank; it is kept nowhere.
+-- Each chain has its versions, as many are prepared for it as it says, and each node is in a chain, prepared or in the
+-- free list. A node that is linked later has the higher rank; it is kept nowhere.
 pub record IsSound (nodes : List NodeRecord) (rs : List ChainRecord) (free free_count most : ℕ) : Type 0 where
   pub rank : ℕ → ℕ
   pub top : ℕ
@@ -131,14 +131,15 @@ pub record IsCut (f : ℕ → NodeRecord) (h count : ℕ) (horizon : Option ℕ)
   pub same : walk f kept h ≡ kept_by horizon (walk f count h)
 
 -- the state while nodes of a chain are freed: `left` nodes from `at` on are in no chain any more
-pub record IsTrimming (nodes : List NodeRecord) (rs : List ChainRecord) (free free_count most c left at : ℕ) : Type 0 where
-  pub rank : ℕ → ℕ
-  pub top : ℕ
-  pub runs : (d : ℕ) → IsRun (node_at nodes) rank d top (links_at rs d).count (links_at rs d).newest
-  pub low : ℕ
-  pub above : IsAbove (node_at nodes) rank low (links_at rs c).count (links_at rs c).newest
-  pub loose : IsRun (node_at nodes) rank c low left at
-  pub free_list : IsFreeList (node_at nodes) free_count free
-  pub prepared : (d : ℕ) → prepared_for d (map prepared_of nodes) ≡ (links_at rs d).prepared
-  pub counted : free_count + (left + (total rs + sum_for one_if (map prepared_of nodes))) ≡ length nodes
-  pub bounded : length nodes ≤ most
+pub record IsTrimming (nodes : List NodeRecord) (rs : List ChainRecord) (free free_count most c left at : ℕ) : Type 0
+  where
+    pub rank : ℕ → ℕ
+    pub top : ℕ
+    pub runs : (d : ℕ) → IsRun (node_at nodes) rank d top (links_at rs d).count (links_at rs d).newest
+    pub low : ℕ
+    pub above : IsAbove (node_at nodes) rank low (links_at rs c).count (links_at rs c).newest
+    pub loose : IsRun (node_at nodes) rank c low left at
+    pub free_list : IsFreeList (node_at nodes) free_count free
+    pub prepared : (d : ℕ) → prepared_for d (map prepared_of nodes) ≡ (links_at rs d).prepared
+    pub counted : free_count + (left + (total rs + sum_for one_if (map prepared_of nodes))) ≡ length nodes
+    pub bounded : length nodes ≤ most

@@ -86,7 +86,9 @@ has_some (x ∷ xs) = true
 
 -- by its GROUP BY, its HAVING, its WHERE, its select list and its ONs
 abbrev pub is_grouped : List Column → Option Expr → Option Expr → List Output → List Expr → Bool
-is_grouped groups having filter outputs ons = has_some groups || is_some having || maybe_calls filter || list_any output_calls outputs || list_any calls_aggregate ons
+is_grouped groups having filter outputs ons =
+    has_some groups || is_some having || maybe_calls filter || list_any output_calls outputs
+    || list_any calls_aggregate ons
 
 -- of what rows the select list speaks
 abbrev pub mode_of : Bool → Mode

@@ -1,5 +1,5 @@
--- The typed block of a syntax tree, once its FROM is bound: faults are looked for in its select list, its WHERE, its GROUP BY and its
--- HAVING.
+-- The typed block of a syntax tree, once its FROM is bound: faults are looked for in its select list, its WHERE, its
+-- GROUP BY and its HAVING.
 use Rattle.std.specs.Prelude.{ℕ, Bool, true, false, List, [], ◌∷◌, ◌++◌, map, Option, Some, None, Result, Ok, Err}
 use Rattle.span_value.specs.declared.refusal.Refusal.{Refusal}
 use Rattle.span_syntax.specs.declared.tree.Column.{Column}
@@ -59,7 +59,8 @@ filter_of scope params (Some e) = and_then (condition scope params e) (λ x. Ok 
 -- HAVING is at rows of the groups; its aggregates follow those of the select list
 unfoldable pub having_of : Scope → List Parameter → Option Expr → Finds (Option TypedExpr)
 having_of scope params None found = Ok (None, found)
-having_of scope params (Some e) found = and_then (typing scope params e Groups found) (λ p. and_then (check_bool p.0) (λ x. Ok (Some x, p.1)))
+having_of scope params (Some e) found =
+    and_then (typing scope params e Groups found) (λ p. and_then (check_bool p.0) (λ x. Ok (Some x, p.1)))
 
 -- ---- blocks
 
@@ -123,7 +124,9 @@ block_of first joins is_distinct is_grouped keys parts =
     }
 
 unfoldable pub block_in : List Parameter → BlockTail → FromItems → List ℕ → Result BoundBlock Refusal
-block_in params b f keys = and_then (bind_parts (with_keys f.scope keys) params (mode_of b.is_grouped) b) (λ parts. Ok (block_of f.first f.joins b.is_distinct b.is_grouped keys parts))
+block_in params b f keys =
+    and_then (bind_parts (with_keys f.scope keys) params (mode_of b.is_grouped) b)
+    (λ parts. Ok (block_of f.first f.joins b.is_distinct b.is_grouped keys parts))
 
 unfoldable pub bind_block : List Parameter → BlockTail → FromItems → Result BoundBlock Refusal
 bind_block params b f = block_in params b f (group_places f.scope b.groups)

@@ -34,7 +34,8 @@ or_nameless (Some c) = c.name
 
 -- the column at a place of the FROM
 abbrev pub projected_column : Scope → Mode → ℕ → Result SelectItem Refusal
-projected_column scope m place = and_then (column_at scope m place) (λ x. Ok (projection (or_nameless (slice_get scope.columns place)) x))
+projected_column scope m place =
+    and_then (column_at scope m place) (λ x. Ok (projection (or_nameless (slice_get scope.columns place)) x))
 
 unfoldable pub projected_columns : Scope → Mode → List ℕ → Result (List SelectItem) Refusal
 projected_columns scope m places = each_of (projected_column scope m) places
@@ -45,7 +46,8 @@ all_places scope = range_with_len 0 (length scope.columns)
 -- the places of the columns of an item, of columns that begin at a place
 abbrev pub places_of : ℕ → ℕ → List ScopeColumn → List ℕ
 places_of item place [] = []
-places_of item place (c ∷ cs) = if c.item == item then place ∷ places_of item (place + 1) cs else places_of item (place + 1) cs
+places_of item place (c ∷ cs) =
+    if c.item == item then place ∷ places_of item (place + 1) cs else places_of item (place + 1) cs
 
 abbrev pub item_places : Scope → Option ℕ → Result (List ℕ) Refusal
 item_places scope None = Err NoColumn
@@ -74,8 +76,11 @@ project_output scope params m (output.AllOf item) = from_result (project_item sc
 project_output scope params m (output.Value e alias) = project_value scope params m e alias
 
 -- the output of one more item of a select list, after the output and the aggregates found before
-abbrev pub project_next : Scope → List Parameter → Mode → List SelectItem × List Aggregate → Output → Result (List SelectItem × List Aggregate) Refusal
-project_next scope params m so_far o = and_then (project_output scope params m o so_far.1) (λ p. Ok (so_far.0 ++ p.0, p.1))
+abbrev pub project_next : Scope → List Parameter → Mode → List SelectItem × List Aggregate → Output
+    → Result (List SelectItem × List Aggregate) Refusal
+project_next scope params m so_far o =
+    and_then (project_output scope params m o so_far.1) (λ p. Ok (so_far.0 ++ p.0, p.1))
 
-unfoldable pub select_list : Scope → List Parameter → Mode → List Output → Result (List SelectItem × List Aggregate) Refusal
+unfoldable pub select_list : Scope → List Parameter → Mode → List Output
+    → Result (List SelectItem × List Aggregate) Refusal
 select_list scope params m outputs = fold_results (project_next scope params m) outputs ([], [])

@@ -1,5 +1,6 @@
--- The typed query of a syntax tree, or the first fault in it. In a block faults are looked for in the items of the FROM with
--- their ONs, the select list, WHERE, GROUP BY and HAVING; after all blocks in the columns of the union; then in ORDER BY.
+-- The typed query of a syntax tree, or the first fault in it. In a block faults are looked for in the items of the FROM
+-- with their ONs, the select list, WHERE, GROUP BY and HAVING; after all blocks in the columns of the union; then in
+-- ORDER BY.
 use Rattle.std.specs.List.{list_all, zip}
 use Rattle.std.specs.Option.{option_map}
 use Rattle.std.specs.Prelude.{ℕ, ◌-◌, ◌==◌, nat_lt, Bool, ◌||◌, ◌&&◌, List, [], ◌∷◌, ◌++◌, length, map, Option, Result, Ok, Err, if◌then◌else◌}
@@ -66,7 +67,8 @@ sort_place columns (sort.Name name) = one_place (is_column_named name.text) colu
 sort_place columns (sort.Place n) = ordinal columns n.value
 
 abbrev pub sort_key : List OutputColumn → SortKey → Result BoundKey Refusal
-sort_key columns k = and_then (sort_place columns k.column) (λ p. Ok (record { column = p; is_descending = k.is_descending }))
+sort_key columns k =
+    and_then (sort_place columns k.column) (λ p. Ok (record { column = p; is_descending = k.is_descending }))
 
 unfoldable pub sort_keys : List OutputColumn → List SortKey → Result (List BoundKey) Refusal
 sort_keys columns ks = each_of (sort_key columns) ks
@@ -81,7 +83,13 @@ blocks_of bound = map (λ (b : BoundBlock). b.block) bound
 
 abbrev pub query_of : BoundBlocks → List BoundKey → Option Limit → TypedQuery
 query_of b order limit = record {
-  query = roll-BoundQuery (record { first = b.first.block; others = blocks_of b.others; order = order; limit = option_map limit_of limit });
+  query =
+      roll-BoundQuery (record {
+        first = b.first.block;
+        others = blocks_of b.others;
+        order = order;
+        limit = option_map limit_of limit;
+      });
   columns = b.first.columns;
 }
 
@@ -90,7 +98,9 @@ abbrev pub union_keys : BoundBlocks → List SortKey → Result (List BoundKey) 
 union_keys b order = if are_union_compatible b then sort_keys b.first.columns order else Err ColumnsDiffer
 
 unfoldable pub bind_query : BoundBlocks → List SortKey → Option Limit → Result TypedQuery Refusal
-bind_query b order limit = if are_union_compatible b then and_then (sort_keys b.first.columns order) (λ keys. Ok (query_of b keys limit)) else Err ColumnsDiffer
+bind_query b order limit =
+    if are_union_compatible b then and_then (sort_keys b.first.columns order) (λ keys. Ok (query_of b keys limit))
+    else Err ColumnsDiffer
 
 -- ---- blocks of a query
 
@@ -126,33 +136,42 @@ join_at j = record { is_left = j.is_left; item = j.item; on = j.on }
 
 -- the item and then its ON
 abbrev pub next_join : List Parameter → FromItems × List ℕ → JoinStep → Result (FromItems × List ℕ) Refusal
-next_join params so_far j = and_then (j.item so_far.1) (λ p. and_then (add_item params so_far.0 j.is_left p.0 j.on) (λ f. Ok (f, p.1)))
+next_join params so_far j =
+    and_then (j.item so_far.1) (λ p. and_then (add_item params so_far.0 j.is_left p.0 j.on) (λ f. Ok (f, p.1)))
 
 abbrev pub from : List Parameter → ItemStep → List JoinStep → Naming FromItems
-from params first joins leaves = and_then (and_then (first leaves) (λ p. Ok (start_from p.0, p.1))) (fold_results (next_join params) joins)
+from params first joins leaves =
+    and_then (and_then (first leaves) (λ p. Ok (start_from p.0, p.1))) (fold_results (next_join params) joins)
 
 abbrev pub block_at : List Parameter → Block-F ItemStep BlockStep JoinStep QueryStep → BlockStep
-block_at params b leaves = and_then (from params b.from b.joins leaves) (λ p. and_then (bind_block params (block_tail_of (λ (j : JoinStep). j.on) b) p.0) (λ x. Ok (x, p.1)))
+block_at params b leaves =
+    and_then (from params b.from b.joins leaves)
+    (λ p. and_then (bind_block params (block_tail_of (λ (j : JoinStep). j.on) b) p.0) (λ x. Ok (x, p.1)))
 
 -- one more block of the query
 abbrev pub next_block : BoundBlocks × List ℕ → BlockStep → Result (BoundBlocks × List ℕ) Refusal
 next_block so_far b = and_then (b so_far.1) (λ p. Ok (with_block so_far.0 p.0, p.1))
 
 abbrev pub blocks : BlockStep → List BlockStep → Naming BoundBlocks
-blocks first others leaves = and_then (and_then (first leaves) (λ p. Ok (only_block p.0, p.1))) (fold_results next_block others)
+blocks first others leaves =
+    and_then (and_then (first leaves) (λ p. Ok (only_block p.0, p.1))) (fold_results next_block others)
 
 abbrev pub query_at : Query-F ItemStep BlockStep JoinStep QueryStep → QueryStep
-query_at q leaves = and_then (blocks q.first q.others leaves) (λ p. and_then (bind_query p.0 q.order q.limit) (λ b. Ok (b, p.1)))
+query_at q leaves =
+    and_then (blocks q.first q.others leaves) (λ p. and_then (bind_query p.0 q.order q.limit) (λ b. Ok (b, p.1)))
 
 -- the typed forms of the trees on these tables and with these parameters
 unfoldable pub item_step : List Table → List Parameter → Item → ItemStep
-item_step schema params = fold-Item ItemStep BlockStep JoinStep QueryStep (item_at schema) (block_at params) join_at query_at
+item_step schema params =
+    fold-Item ItemStep BlockStep JoinStep QueryStep (item_at schema) (block_at params) join_at query_at
 
 unfoldable pub block_step : List Table → List Parameter → Block → BlockStep
-block_step schema params = fold-Block ItemStep BlockStep JoinStep QueryStep (item_at schema) (block_at params) join_at query_at
+block_step schema params =
+    fold-Block ItemStep BlockStep JoinStep QueryStep (item_at schema) (block_at params) join_at query_at
 
 unfoldable pub query_step : List Table → List Parameter → Query → QueryStep
-query_step schema params = fold-Query ItemStep BlockStep JoinStep QueryStep (item_at schema) (block_at params) join_at query_at
+query_step schema params =
+    fold-Query ItemStep BlockStep JoinStep QueryStep (item_at schema) (block_at params) join_at query_at
 
 abbrev pub join_step : List Table → List Parameter → Join → JoinStep
 join_step schema params j = record { is_left = j.is_left; item = item_step schema params j.item; on = j.on }

@@ -70,7 +70,8 @@ most_tables = 8
 -- one more table name of the query
 abbrev pub named_source : List Table → Spelling → Option Spelling → Naming Source
 named_source schema name alias leaves =
-    if nat_le most_tables (length leaves) then Err TooManyTables else numbered_source schema (name_or_alias name alias) (number_named schema name.text) leaves
+    if nat_le most_tables (length leaves) then Err TooManyTables
+    else numbered_source schema (name_or_alias name alias) (number_named schema name.text) leaves
 
 abbrev pub derived_source : Spelling → TypedQuery → Source
 derived_source name q = record { item = item.Derived q.query; name = name.text; columns = q.columns }
@@ -85,7 +86,12 @@ scope_column item c = record { item = item; name = c.name; kind = c.kind }
 
 -- the names of one more item
 abbrev pub with_names : Scope → Source → Scope
-with_names scope s = record { items = scope.items ++ (s.name ∷ []); columns = scope.columns ++ map (scope_column (length scope.items)) s.columns; keys = scope.keys }
+with_names scope s =
+    record {
+      items = scope.items ++ (s.name ∷ []);
+      columns = scope.columns ++ map (scope_column (length scope.items)) s.columns;
+      keys = scope.keys;
+    }
 
 abbrev pub has_item : Scope → List ℕ → Bool
 has_item scope name = is_some (item_named scope name)
@@ -109,9 +115,11 @@ abbrev pub join_of : Bool → Source → TypedExpr → Join BoundQuery
 join_of is_left s on = record { is_left = is_left; item = s.item; width = length s.columns; on = on }
 
 abbrev pub with_join : FromItems → Bool → Source → TypedExpr → FromItems
-with_join f is_left s on = record { scope = with_names f.scope s; first = f.first; joins = f.joins ++ (join_of is_left s on ∷ []) }
+with_join f is_left s on =
+    record { scope = with_names f.scope s; first = f.first; joins = f.joins ++ (join_of is_left s on ∷ []) }
 
 -- one more item: its name is checked, and then its ON, which may use the items up to it
 abbrev pub add_item : List Parameter → FromItems → Bool → Source → Expr → Result FromItems Refusal
 add_item params f is_left s on =
-    if has_item f.scope s.name then Err DuplicateAlias else and_then (condition (with_names f.scope s) params on) (λ e. Ok (with_join f is_left s e))
+    if has_item f.scope s.name then Err DuplicateAlias
+    else and_then (condition (with_names f.scope s) params on) (λ e. Ok (with_join f is_left s e))

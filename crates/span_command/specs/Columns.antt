@@ -21,11 +21,14 @@ AreNamed columns names places = (map (column_place columns) names ≡ map Some p
 -- no column has the name, or its place is among those before
 abbrev pub IsUnplaced : List Column → List ℕ → List ℕ → Type 0
 IsUnplaced columns before name =
-    (column_place columns name ≡ None) ⊎ ((place : ℕ) × (column_place columns name ≡ Some place) × (list_any (λ other. other == place) before ≡ true))
+    (column_place columns name ≡ None)
+    ⊎ ((place : ℕ) × (column_place columns name ≡ Some place) × (list_any (λ other. other == place) before ≡ true))
 
 -- The columns that a text names: all in order where it is `*`, else those whose names are between its commas.
 abbrev pub ArePlaces : List Column → List ℕ → List ℕ → Type 0
-ArePlaces columns text places = (text ≡ codes "*" → AreBelow (length columns) places) × ((text ≡ codes "*" → ⊥) → AreNamed columns (pieces text) places)
+ArePlaces columns text places =
+    (text ≡ codes "*" → AreBelow (length columns) places)
+    × ((text ≡ codes "*" → ⊥) → AreNamed columns (pieces text) places)
 
 -- the text names no columns, or one twice
 abbrev pub NamesNone : List Column → List ℕ → Type 0

@@ -29,8 +29,10 @@ write_word mutation.Delete = codes "delete"
 -- the line of a command
 abbrev pub command_text : Command → List ℕ
 command_text (command.Clock earliest latest) = two (codes "clock") earliest latest
-command_text (command.Param name kind cell) = spaced (codes "param") (spaced name.now (spaced (type_name kind) cell.now))
-command_text (command.Write kind table columns row) = spaced (write_word kind) (spaced table.now (spaced columns.now row.now))
+command_text (command.Param name kind cell) =
+    spaced (codes "param") (spaced name.now (spaced (type_name kind) cell.now))
+command_text (command.Write kind table columns row) =
+    spaced (write_word kind) (spaced table.now (spaced columns.now row.now))
 command_text (command.Delete table row) = spaced (codes "delete") (spaced table.now row.now)
 command_text (command.Split table row) = spaced (codes "split") (spaced table.now row.now)
 command_text (command.Load table columns) = spaced (codes "load") (spaced table.now columns.now)
@@ -49,7 +51,8 @@ command_text (command.Explain text) = spaced (codes "explain") text.now
 command_text (command.Trim slot horizon) = two (codes "trim") slot horizon
 command_text command.Shards = codes "shards"
 
--- what a line can say of a command: its numbers fit in 64 bits, its words are words, its names are names, and a write is no delete
+-- what a line can say of a command: its numbers fit in 64 bits, its words are words, its names are names, and a write
+-- is no delete
 abbrev pub IsWritable : Command → Type 0
 IsWritable (command.Clock earliest latest) = (earliest < 2 ^ 64) × (latest < 2 ^ 64)
 IsWritable (command.Param name kind cell) = is_name_text name.now ≡ true
@@ -96,4 +99,5 @@ has_only_numbers c = false
 
 -- the same, where only commands are looked for that have only numbers after their word
 abbrev pub IsNumberedReadAs : List ℕ → Option Command → Type 0
-IsNumberedReadAs line result = MatchOption result ((c : Command) → has_only_numbers c ≡ true → ¬ IsCommand line c) (IsCommand line)
+IsNumberedReadAs line result =
+    MatchOption result ((c : Command) → has_only_numbers c ≡ true → ¬ IsCommand line c) (IsCommand line)

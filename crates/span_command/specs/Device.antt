@@ -12,7 +12,8 @@ risen n = min (n + 1) (2 ^ 64 - 1)
 abbrev pub failures_of : {R : Type 0} → Counted R → ℕ
 failures_of c = c.failures
 
--- The bytes that an input still gives after `count` bytes: what its device is known to have left, where that does not go beyond what an
--- input gives.
+-- The bytes that an input still gives after `count` bytes: what its device is known to have left, where that does not
+-- go beyond what an input gives.
 abbrev pub remaining_input : ℕ → Option (List ℕ) → Option (List ℕ)
-remaining_input count known = option_and_then (λ bytes. if nat_le (count + length bytes) longest_input then Some bytes else None) known
+remaining_input count known =
+    option_and_then (λ bytes. if nat_le (count + length bytes) longest_input then Some bytes else None) known

@@ -45,12 +45,14 @@ IsColumnAt columns place column = slice_get columns place ≡ Some column
 -- the field for the key's column at a place: the first that is for it
 abbrev pub IsKeyField : List Column → List ℕ → ℕ → KeyField → Type 0
 IsKeyField columns places place part =
-    (position (λ p. p == place) places ≡ Some part.at) × ((column : Column) × IsColumnAt columns place column × (part.kind ≡ kind_of column.kind))
+    (position (λ p. p == place) places ≡ Some part.at)
+    × ((column : Column) × IsColumnAt columns place column × (part.kind ≡ kind_of column.kind))
 
 -- the field for a column outside the key
 abbrev pub IsCellField : List Column → ℕ × ℕ → CellField → Type 0
 IsCellField columns (at, place) part =
-    (part.at ≡ at) × ((column : Column) × IsColumnAt columns place column × (part.kind ≡ kind_of column.kind) × (part.column ≡ column.name))
+    (part.at ≡ at) × ((column : Column) × IsColumnAt columns place column × (part.kind ≡ kind_of column.kind)
+    × (part.column ≡ column.name))
 
 -- the fields whose columns are not in the key, each with its column's place
 abbrev pub outside_key : List ℕ → List ℕ → List (ℕ × ℕ)
@@ -79,14 +81,19 @@ HasNoPlaces columns key text why = ((why ≡ refusal.NoColumn) × NamesNone colu
 
 -- the layout of the columns that a text names, of the table with a name
 abbrev pub IsLayoutOf : List Table → List ℕ → List ℕ → Layout → Type 0
-IsLayoutOf tables table text layout = (n : ℕ) × (number_named tables table ≡ Some n) × ((places : List ℕ) × ArePlaces (columns_of tables n) text places
+IsLayoutOf tables table text layout =
+    (n : ℕ) × (number_named tables table ≡ Some n) × ((places : List ℕ) × ArePlaces (columns_of tables n) text places
     × (layout.table ≡ table) × IsLayout tables n places layout)
 
 -- the layout of the key's columns alone
 abbrev pub IsKeyLayoutOf : List Table → List ℕ → Layout → Type 0
-IsKeyLayoutOf tables table layout = (n : ℕ) × (number_named tables table ≡ Some n) × (layout.table ≡ table) × IsLayout tables n (key_places tables n) layout
+IsKeyLayoutOf tables table layout =
+    (n : ℕ) × (number_named tables table ≡ Some n) × (layout.table ≡ table)
+    × IsLayout tables n (key_places tables n) layout
 
--- Why there is no layout: no table has the name, else the text names no columns, else a column of the key is not among them.
+-- Why there is no layout: no table has the name, else the text names no columns, else a column of the key is not among
+-- them.
 abbrev pub HasNoLayout : List Table → List ℕ → List ℕ → Refusal → Type 0
 HasNoLayout tables table text why = ((why ≡ refusal.NoTable) × (number_named tables table ≡ None))
-    ⊎ ((n : ℕ) × (number_named tables table ≡ Some n) × HasNoPlaces (columns_of tables n) (key_places tables n) text why)
+    ⊎ ((n : ℕ) × (number_named tables table ≡ Some n)
+    × HasNoPlaces (columns_of tables n) (key_places tables n) text why)

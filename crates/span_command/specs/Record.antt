@@ -1,4 +1,5 @@
--- The fields of the record that a text is, and the text of a row, as `csv` reads and writes them with its default settings.
+-- The fields of the record that a text is, and the text of a row, as `csv` reads and writes them with its default
+-- settings.
 use Rattle.std.specs.Prelude.{◌≡◌, ℕ, ◌==◌, ◌||◌, Bool, true, false, List, [], map, Option, Some, None}
 use Rattle.std.specs.List.{All, flat_map, slice_split}
 use Rattle.csv.specs.Machine.{Read, next_record}

@@ -24,20 +24,21 @@ abbrev pub IsGone : Bool → List ℕ → Type 0
 IsGone true gone = HasNoLf gone × IsTooLong gone
 IsGone false gone = gone ≡ []
 
--- The parts of a text: the bytes that are gone, those that are held, and the rest, which is still to come. None is to come once the input
--- has ended.
+-- The parts of a text: the bytes that are gone, those that are held, and the rest, which is still to come. None is to
+-- come once the input has ended.
 pub record HasParts (is_cut has_ended : Bool) (held rest text : List ℕ) : Type 0 where
   pub gone : List ℕ
   pub is_gone : IsGone is_cut gone
   pub in_order : text ≡ gone ++ (held ++ rest)
   pub all_came : has_ended ≡ true → rest ≡ []
 
--- The text, the part of a script from the next line on, is what the lines hold and then the rest, the bytes that are known to be still to
--- come. It is so of no text where these are not known.
+-- The text, the part of a script from the next line on, is what the lines hold and then the rest, the bytes that are
+-- known to be still to come. It is so of no text where these are not known.
 abbrev pub Stands : Lines → Option (List ℕ) → List ℕ → Type 0
 Stands lines known text = IsSomeAnd known (λ rest. HasParts lines.is_cut lines.has_ended (held lines) rest text)
 
--- A read went on: the input has ended now, or fewer bytes are still to come than before. Nothing is said where these are not known.
+-- A read went on: the input has ended now, or fewer bytes are still to come than before. Nothing is said where these
+-- are not known.
 abbrev pub Advances : Bool → Option (List ℕ) → Option (List ℕ) → Type 0
 Advances has_ended None new = ⊤
 Advances has_ended (Some before) None = ⊥

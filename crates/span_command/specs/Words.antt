@@ -32,7 +32,8 @@ AreTwo words a b = (a < 2 ^ 64) × (b < 2 ^ 64) × (words ≡ spaced (decimal a)
 
 -- three words write these numbers
 abbrev pub AreThree : List ℕ → ℕ → ℕ → ℕ → Type 0
-AreThree words a b c = (a < 2 ^ 64) × (b < 2 ^ 64) × (c < 2 ^ 64) × (words ≡ spaced (decimal a) (spaced (decimal b) (decimal c)))
+AreThree words a b c =
+    (a < 2 ^ 64) × (b < 2 ^ 64) × (c < 2 ^ 64) × (words ≡ spaced (decimal a) (spaced (decimal b) (decimal c)))
 
 -- the word of a bound
 abbrev pub bound_text : Bound → List ℕ
@@ -59,4 +60,5 @@ type_name kind.Bool = codes "BOOL"
 
 -- the word is a name: a letter or _, then letters, digits and _, at most 128 bytes, and no reserved word
 abbrev pub is_name_text : List ℕ → Bool
-is_name_text word = begins is_letter word && nat_le (length word) longest_word && list_all is_word word && is_none (reserved_word word)
+is_name_text word =
+    begins is_letter word && nat_le (length word) longest_word && list_all is_word word && is_none (reserved_word word)

@@ -8,7 +8,8 @@ use Rattle.span_machine.specs.Machine.{statement_plan}
 use Rattle.span_binder.specs.Understands.{Understands}
 
 -- the query text is understood as a statement, whose plan this text explains
-pub record IsExplanation (schema : List Table) (query_text : List ℕ) (params : List Parameter) (text : List ℕ) : Type 0 where
-  pub statement : Statement
-  pub understood : Understands schema query_text params (Ok statement)
-  pub is : text ≡ explained schema (statement_plan schema statement)
+pub record IsExplanation (schema : List Table) (query_text : List ℕ) (params : List Parameter) (text : List ℕ) : Type 0
+  where
+    pub statement : Statement
+    pub understood : Understands schema query_text params (Ok statement)
+    pub is : text ≡ explained schema (statement_plan schema statement)

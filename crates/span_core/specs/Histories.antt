@@ -16,7 +16,7 @@ Steps schema m s r next = machine.Steps (Understands schema) schema m s r next
 abbrev pub Run : List Table → Machine → List Step → List Reply → Machine → Type 0
 Run schema m steps replies last = run.Run (Understands schema) schema m steps replies last
 
--- The headline: every reply is the machine's, and every query that is answered has exactly the rows, in order, that its text means on the
--- tables of all the commits of the run at its timestamp or earlier.
+-- The headline: every reply is the machine's, and every query that is answered has exactly the rows, in order, that its
+-- text means on the tables of all the commits of the run at its timestamp or earlier.
 abbrev pub IsHistory : List Table → List Step → List Reply → Type 0
 IsHistory schema steps replies = run.IsHistory (Understands schema) schema steps replies

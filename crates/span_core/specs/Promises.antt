@@ -32,13 +32,15 @@ asked_after asked (s ∷ ss) (r ∷ rs) = asked_after (opened_by s r ++ asked) s
 -- the number that a Trim is answered is that of the versions that the slot keeps after it, with the new horizon
 abbrev pub IsCounted : List Table → Machine → Step → Reply → Type 0
 IsCounted schema next (Trim slot h) (Trimmed kept) =
-    (slot_state : SlotState) × (slice_get next.slots slot ≡ Some slot_state) × (slot_state.horizon ≡ h) × (kept ≡ live schema next.log next.transactions slot slot_state)
+    (slot_state : SlotState) × (slice_get next.slots slot ≡ Some slot_state) × (slot_state.horizon ≡ h)
+    × (kept ≡ live schema next.log next.transactions slot slot_state)
 IsCounted schema next _ _ = Unit {0}
 
--- What is promised of a step. A query that is answered has exactly the rows, in order, that its text means on the tables of the commits
--- at its timestamp or earlier. Every commit applies at its place, so that the tables at any timestamp are made and no row keeps an Apply
--- from being done. A Trim is answered how many versions are kept.
-pub record IsPromised (schema : List Table) (asked : List OpenedQuery) (step : Step) (reply : Reply) (next : Machine) : Type 0 where
+-- What is promised of a step. A query that is answered has exactly the rows, in order, that its text means on the
+-- tables of the commits at its timestamp or earlier. Every commit applies at its place, so that the tables at any
+-- timestamp are made and no row keeps an Apply from being done. A Trim is answered how many versions are kept.
+pub record IsPromised (schema : List Table) (asked : List OpenedQuery) (step : Step) (reply : Reply)
+    (next : Machine) : Type 0 where
   pub right : IsRight (Understands schema) schema next.log asked step reply
   pub applies : (s : ℕ) → (db : List TableRow) × (tables schema next.log s ≡ Ok db)
   pub counted : IsCounted schema next step reply
@@ -46,9 +48,11 @@ pub record IsPromised (schema : List Table) (asked : List OpenedQuery) (step : S
 -- every step that the machine may take next is as promised, by whatever run the machine was reached
 abbrev pub Promises : List Table → Machine → Type 0
 Promises schema m =
-    (past : IsRunTo schema m) (step : Step) (reply : Reply) (next : Machine) → IsOfSchema schema step → Steps schema m step reply next
+    (past : IsRunTo schema m) (step : Step) (reply : Reply) (next : Machine) → IsOfSchema schema step
+    → Steps schema m step reply next
     → IsPromised schema (asked_after [] past.steps past.replies) step reply next
 
 -- by whatever run the machine was reached, it is externally consistent where the clock was honest
 abbrev pub IsConsistent : List Table → Machine → Type 0
-IsConsistent schema m = (past : IsRunTo schema m) → HonestClock past.steps → IsExternallyConsistent past.steps past.replies
+IsConsistent schema m =
+    (past : IsRunTo schema m) → HonestClock past.steps → IsExternallyConsistent past.steps past.replies

@@ -7,8 +7,8 @@ use Rattle.span_machine.specs.Machine.{Machine, is_prepared_at}
 use Rattle.span_version_laws.specs.Kept.{AreKept}
 use Rattle.span_core.specs.declared.slot.SlotView.{SlotView}
 
--- the slot is in use: its range and timestamps, how many versions it keeps, how many transactions are prepared there, and its shard, which
--- has the versions that the slot keeps of the commits
+-- the slot is in use: its range and timestamps, how many versions it keeps, how many transactions are prepared there,
+-- and its shard, which has the versions that the slot keeps of the commits
 pub record IsView (schema : List Table) (m : Machine) (slot : ℕ) (view : SlotView) : Type 0 where
   pub slot_state : SlotState
   pub here : slice_get m.slots slot ≡ Some slot_state

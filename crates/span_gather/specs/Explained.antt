@@ -37,7 +37,9 @@ range_text range = if is_nonempty range then ends_text range else codes "empty"
 
 -- the line of the leaf with a number
 abbrev pub leaf_line : List Table → ℕ → Leaf → List ℕ
-leaf_line schema number leaf = codes "leaf " ++ decimal number ++ codes " " ++ table_names schema leaf.tables ++ codes " " ++ range_text leaf.range ++ 10 ∷ []
+leaf_line schema number leaf =
+    codes "leaf " ++ decimal number ++ codes " " ++ table_names schema leaf.tables ++ codes " " ++ range_text leaf.range
+    ++ 10 ∷ []
 
 -- the lines of leaves whose numbers begin with this one
 abbrev pub leaf_lines : List Table → ℕ → List Leaf → List ℕ

@@ -9,6 +9,7 @@ use Rattle.span_fragment.specs.declared.piece.Piece.{Piece}
 abbrev pub joined_pieces : List Piece → Rows
 joined_pieces pieces = concat_map (λ (p : Piece). p.rows) pieces
 
--- the rows, in order, that the query above the leaves means where its tables are the pieces of the leaves; none is the fault
+-- the rows, in order, that the query above the leaves means where its tables are the pieces of the leaves; none is the
+-- fault
 abbrev pub gathered : List (List Piece) → BoundQuery → Rows
 gathered leaves top = meaning_over (given (map joined_pieces leaves)) top

@@ -36,13 +36,16 @@ IsTokenRefusal goal tokens refusal.TooDeep = IsTooDeep inside (goal_rule goal) t
 IsTokenRefusal goal tokens refusal.OutOfMemory = Unit {0}
 IsTokenRefusal goal tokens other = ⊥
 
--- what a refusal implies of a text: it is too long; else it does not consist of items; else no tree goes on at a token, or a token is an
--- opening that is too deep, whichever comes first; or memory ran out
+-- what a refusal implies of a text: it is too long; else it does not consist of items; else no tree goes on at a token,
+-- or a token is an opening that is too deep, whichever comes first; or memory ran out
 abbrev pub IsRefused : Goal → List ℕ → Refusal → Type 0
 IsRefused goal text refusal.TextTooLong = longest_text < length text
-IsRefused goal text refusal.BadToken = (length text ≤ longest_text) × ((items : List Item) → AreItems items → text ≡ text_of items → ⊥)
-IsRefused goal text refusal.Syntax = (items : List Item) × HasItems text items × IsWrong inside (goal_rule goal) (lexemes_in text items)
-IsRefused goal text refusal.TooDeep = (items : List Item) × HasItems text items × IsTooDeep inside (goal_rule goal) (lexemes_in text items)
+IsRefused goal text refusal.BadToken =
+    (length text ≤ longest_text) × ((items : List Item) → AreItems items → text ≡ text_of items → ⊥)
+IsRefused goal text refusal.Syntax =
+    (items : List Item) × HasItems text items × IsWrong inside (goal_rule goal) (lexemes_in text items)
+IsRefused goal text refusal.TooDeep =
+    (items : List Item) × HasItems text items × IsTooDeep inside (goal_rule goal) (lexemes_in text items)
 IsRefused goal text refusal.OutOfMemory = Unit {0}
 IsRefused goal text other = ⊥
 

@@ -139,7 +139,8 @@ starts a (t ∷ ts) = first a t
 abbrev pub read_many : (List Lexeme → Answer) → Rule → ℕ → List Lexeme → Answer
 read_many f a zero ts = Read End ts
 read_many f a (suc n) ts =
-    if starts a ts then bind (f ts) (λ x k. bind (read_many f a n k) (λ more k2. Read (More x more) k2)) else Read End ts
+    if starts a ts then bind (f ts) (λ x k. bind (read_many f a n k) (λ more k2. Read (More x more) k2))
+    else Read End ts
 
 abbrev pub one : Sort → List Lexeme → Answer
 one s [] = Wrong []
@@ -162,7 +163,8 @@ parse_with g Empty ts = Read Nothing ts
 parse_with g (One s) ts = one s ts
 parse_with g (Then a b) ts = bind (parse_with g a ts) (λ x k. bind (parse_with g b k) (λ y k2. Read (Pair x y) k2))
 parse_with g (Or a b) ts =
-    if starts a ts then bind (parse_with g a ts) (λ x k. Read (Left x) k) else bind (parse_with g b ts) (λ y k. Read (Right y) k)
+    if starts a ts then bind (parse_with g a ts) (λ x k. Read (Left x) k)
+    else bind (parse_with g b ts) (λ y k. Read (Right y) k)
 parse_with g (Many a) ts = read_many (λ us. parse_with g a us) a (length ts) ts
 parse_with g (Open s p) ts = opening g s p ts
 

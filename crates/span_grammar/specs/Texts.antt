@@ -14,7 +14,8 @@ module _ (inside : Place → Rule) (a : Rule) where
   -- No tree begins with these tokens and goes on with what comes next, a token or the end.
   abbrev pub NoneGoesOn : List Lexeme → List Lexeme → Type 0
   NoneGoesOn prefix [] = (x : Tree) → Fits inside x a → words (marks 0 x) ≡ prefix → ⊥
-  NoneGoesOn prefix (t ∷ ts) = (x : Tree) (more : List Lexeme) → Fits inside x a → words (marks 0 x) ≡ prefix ++ (t ∷ more) → ⊥
+  NoneGoesOn prefix (t ∷ ts) =
+      (x : Tree) (more : List Lexeme) → Fits inside x a → words (marks 0 x) ≡ prefix ++ (t ∷ more) → ⊥
 
   -- Up to a place some tree goes on, no deeper than the limit, and there none does.
   pub record IsWrong (text : List Lexeme) : Type 0 where

@@ -1,4 +1,5 @@
--- The laws of the grammar: the one that is read, over token classes that look ahead, is the written one, over the tokens one by one.
+-- The laws of the grammar: the one that is read, over token classes that look ahead, is the written one, over the
+-- tokens one by one.
 use Rattle.std.specs.Prelude.{ℕ, ◌<◌, ◌≤◌, ◌≡◌, ◌↔◌, length, List}
 use Rattle.span_value.specs.declared.refusal.Refusal.{Refusal}
 use Rattle.span_value.specs.declared.refusal.Refusal.TheVariants as refusal
@@ -29,9 +30,12 @@ HasSomeTree inside a tokens = (x : Tree) × HasTree inside a tokens x
 
 -- the two grammars give the same verdict on the tokens of a text
 pub record JudgesAlike (g : Goal) (text : List ℕ) (tokens : List Token) : Type 0 where
-  pub trees : HasSomeTree inside (goal_rule g) (lexemes_of text tokens) ↔ HasSomeTree written_inside (written_rule g) (plain_lexemes text tokens)
-  pub wrong : IsWrong inside (goal_rule g) (lexemes_of text tokens) ↔ IsWrong written_inside (written_rule g) (plain_lexemes text tokens)
-  pub deep : IsTooDeep inside (goal_rule g) (lexemes_of text tokens) ↔ IsTooDeep written_inside (written_rule g) (plain_lexemes text tokens)
+  pub trees : HasSomeTree inside (goal_rule g) (lexemes_of text tokens)
+      ↔ HasSomeTree written_inside (written_rule g) (plain_lexemes text tokens)
+  pub wrong : IsWrong inside (goal_rule g) (lexemes_of text tokens)
+      ↔ IsWrong written_inside (written_rule g) (plain_lexemes text tokens)
+  pub deep : IsTooDeep inside (goal_rule g) (lexemes_of text tokens)
+      ↔ IsTooDeep written_inside (written_rule g) (plain_lexemes text tokens)
 
 abbrev pub SameAsWritten : Type 0
 SameAsWritten = (g : Goal) (text : List ℕ) (tokens : List Token) → JudgesAlike g text tokens
@@ -50,13 +54,16 @@ pub record IsWrittenText (g : Goal) (text : List ℕ) : Type 0 where
 abbrev pub SameTexts : Type 0
 SameTexts = (g : Goal) (text : List ℕ) → IsText g text ↔ IsWrittenText g text
 
--- what a refusal implies of a text by the written grammar: it is too long; else it does not consist of items; else no tree goes on at a token,
--- or a token is an opening that is too deep, whichever comes first; or memory ran out
+-- what a refusal implies of a text by the written grammar: it is too long; else it does not consist of items; else no
+-- tree goes on at a token, or a token is an opening that is too deep, whichever comes first; or memory ran out
 abbrev pub IsWrittenRefused : Goal → List ℕ → Refusal → Type 0
 IsWrittenRefused g text refusal.TextTooLong = longest_text < length text
-IsWrittenRefused g text refusal.BadToken = (length text ≤ longest_text) × ((items : List Item) → AreItems items → text ≡ text_of items → ⊥)
-IsWrittenRefused g text refusal.Syntax = (items : List Item) × HasItems text items × IsWrong written_inside (written_rule g) (plain_in text items)
-IsWrittenRefused g text refusal.TooDeep = (items : List Item) × HasItems text items × IsTooDeep written_inside (written_rule g) (plain_in text items)
+IsWrittenRefused g text refusal.BadToken =
+    (length text ≤ longest_text) × ((items : List Item) → AreItems items → text ≡ text_of items → ⊥)
+IsWrittenRefused g text refusal.Syntax =
+    (items : List Item) × HasItems text items × IsWrong written_inside (written_rule g) (plain_in text items)
+IsWrittenRefused g text refusal.TooDeep =
+    (items : List Item) × HasItems text items × IsTooDeep written_inside (written_rule g) (plain_in text items)
 IsWrittenRefused g text refusal.OutOfMemory = Unit {0}
 IsWrittenRefused g text other = ⊥
 

@@ -43,13 +43,14 @@ decision_of None = decision.Aborted
 decision_of (Some ts) = decision.Committed ts
 
 -- nothing but its mutations keeps the transaction from being prepared at the slot
-pub record MayPrepare (schema : List Table) (m : Machine) (owner txn slot : ℕ) (ms : List CheckedMutation) : Type 0 where
-  pub transaction : OpenTransaction
-  pub slot_state : SlotState
-  pub found : find (is_transaction owner txn) m.transactions ≡ Some transaction
-  pub here : slice_get m.slots slot ≡ Some slot_state
-  pub accepted : prepare_refusal schema m slot transaction slot_state ≡ None
-  pub mutations : ms ≡ mutations_in schema slot_state transaction.mutations
+pub record MayPrepare (schema : List Table) (m : Machine) (owner txn slot : ℕ) (ms : List CheckedMutation) : Type 0
+  where
+    pub transaction : OpenTransaction
+    pub slot_state : SlotState
+    pub found : find (is_transaction owner txn) m.transactions ≡ Some transaction
+    pub here : slice_get m.slots slot ≡ Some slot_state
+    pub accepted : prepare_refusal schema m slot transaction slot_state ≡ None
+    pub mutations : ms ≡ mutations_in schema slot_state transaction.mutations
 
 -- the transaction may not be prepared at the slot: it is decided, or prepared there
 abbrev pub has_wrong_state : ℕ → OpenTransaction → Bool
@@ -57,12 +58,15 @@ has_wrong_state slot t = not (is_undecided t) || is_prepared_at slot t
 
 -- why the transaction is not noted as prepared at the slot: its state, or no prepare timestamp left
 abbrev pub note_cause : ℕ → OpenTransaction → SlotState → Option Refusal
-note_cause slot t slot_state = first_cause ((has_wrong_state slot t, WrongState) ∷ (nat_le timestamp_end (prepare_timestamp slot_state), TimestampRange) ∷ [])
+note_cause slot t slot_state =
+    first_cause ((has_wrong_state slot t, WrongState)
+    ∷ (nat_le timestamp_end (prepare_timestamp slot_state), TimestampRange) ∷ [])
 
 -- the same of the transaction of this owner and number, which may not be there, nor the slot
 abbrev pub note_refusal : Machine → ℕ → ℕ → ℕ → Option Refusal
 note_refusal m owner txn slot =
-    if_some (find (is_transaction owner txn) m.transactions) (Some UnknownTransaction) (λ t. if_some (slice_get m.slots slot) (Some NoSlot) (note_cause slot t))
+    if_some (find (is_transaction owner txn) m.transactions) (Some UnknownTransaction)
+    (λ t. if_some (slice_get m.slots slot) (Some NoSlot) (note_cause slot t))
 
 -- the transaction is noted as prepared at the slot
 pub record IsNoted (old : Machine) (owner txn slot ts : ℕ) (new : Machine) : Type 0 where
@@ -83,7 +87,8 @@ abbrev pub IsUnprepared : List Table → Machine → ℕ → ℕ → ℕ → Ref
 IsUnprepared schema m owner txn slot why = (why ≡ OutOfMemory) ⊎ (prepare schema m owner txn slot ≡ refused m why)
 
 -- the decided transaction is noted as applied at the slot
-pub record IsApplied (old : Machine) (owner txn slot : ℕ) (interval : Interval) (committed : Option ℕ) (new : Machine) : Type 0 where
+pub record IsApplied (old : Machine) (owner txn slot : ℕ) (interval : Interval) (committed : Option ℕ)
+    (new : Machine) : Type 0 where
   pub transaction : OpenTransaction
   pub slot_state : SlotState
   pub found : find (is_transaction owner txn) old.transactions ≡ Some transaction
@@ -92,8 +97,8 @@ pub record IsApplied (old : Machine) (owner txn slot : ℕ) (interval : Interval
   pub decision : transaction.decision ≡ decision_of committed
   pub after : new ≡ (applied_at (decision_of committed) old owner txn slot transaction).1
 
--- this range is the lowest uncovered part of the query's leaf in the slot, a piece of it may be taken, the query's timestamp s is not below the slot's horizon, and
--- safe time reaches it once the floor has risen
+-- this range is the lowest uncovered part of the query's leaf in the slot, a piece of it may be taken, the query's
+-- timestamp s is not below the slot's horizon, and safe time reaches it once the floor has risen
 pub record MayScan (m : Machine) (query leaf slot : ℕ) (interval : Interval) (range : KeyRange) (s : ℕ) : Type 0 where
   pub question : OpenQuery
   pub gap : ScanLeaf
@@ -128,7 +133,9 @@ IsUnclaimed m query leaf slot interval why next =
 
 -- the leaf of a query at a place
 abbrev pub leaf_of : Machine → ℕ → ℕ → Option Leaf
-leaf_of m query leaf = if_some (find (is_query query) m.queries) None (λ q. option_map (λ (l : ScanLeaf). l.leaf) (slice_get q.leaves leaf))
+leaf_of m query leaf =
+    if_some (find (is_query query) m.queries) None
+    (λ q. option_map (λ (l : ScanLeaf). l.leaf) (slice_get q.leaves leaf))
 
 -- the query above the leaves at s, with the pieces that cover them
 pub record IsCovered (j : Journaled) (query s : ℕ) (top : BoundQuery) (pieces : List (List Piece)) : Type 0 where
@@ -149,7 +156,8 @@ pub record IsTaken (old : Journaled) (query : ℕ) (taken : Taken) (new : Journa
 
 -- a piece of this range covers a part of the query's leaf that no piece covered, and the slot's floor has risen to the
 -- query's timestamp, which safe time has reached
-pub record IsRegistered (old : Journaled) (query leaf slot : ℕ) (interval : Interval) (range : KeyRange) (piece : Piece) (new : Journaled) : Type 0 where
+pub record IsRegistered (old : Journaled) (query leaf slot : ℕ) (interval : Interval) (range : KeyRange) (piece : Piece)
+    (new : Journaled) : Type 0 where
   pub question : Pieced
   pub gap : ScanLeaf
   pub slot_state : SlotState
@@ -158,7 +166,8 @@ pub record IsRegistered (old : Journaled) (query leaf slot : ℕ) (interval : In
   pub here : slice_get old.slots slot ≡ Some slot_state
   pub free : is_free slot_state gap range ≡ true
   pub above : nat_lt question.query.s slot_state.horizon ≡ false
-  pub safe : is_safe (machine_of old) slot (with_risen_floor slot_state question.query.s interval) question.query.s ≡ true
+  pub safe : is_safe (machine_of old) slot (with_risen_floor slot_state question.query.s interval) question.query.s
+      ≡ true
   pub after : new ≡ record old {
     slots = (with_slot_state (machine_of old) slot (with_risen_floor slot_state question.query.s interval)).slots;
     queries = changed_first (λ p. is_query query p.query) (covered_by leaf range piece) old.queries;
@@ -166,9 +175,11 @@ pub record IsRegistered (old : Journaled) (query leaf slot : ℕ) (interval : In
 
 -- why a piece is not registered: out of memory, or its refusal
 abbrev pub IsUnregistered : Journaled → ℕ → ℕ → ℕ → Interval → KeyRange → Refusal → Type 0
-IsUnregistered j query leaf slot interval range why = (why ≡ OutOfMemory) ⊎ (register_refusal (machine_of j) query leaf slot interval range ≡ Some why)
+IsUnregistered j query leaf slot interval range why =
+    (why ≡ OutOfMemory) ⊎ (register_refusal (machine_of j) query leaf slot interval range ≡ Some why)
 
--- the journal after a refusal: as it was, or the slot's floor has risen where safe time has not reached the query's timestamp
+-- the journal after a refusal: as it was, or the slot's floor has risen where safe time has not reached the query's
+-- timestamp
 abbrev pub IsUnchanged : Journaled → ℕ → ℕ → Interval → Refusal → Journaled → Type 0
 IsUnchanged old query slot interval why new = (new ≡ old) ⊎ ((why ≡ NotYet) × IsRisen old query slot interval new)
 

@@ -10,11 +10,13 @@ use Rattle.span_machine.specs.Machine.{holds, is_at, root_at, if_some}
 
 -- the slot is in use, and the directory of the mutation is in it
 abbrev pub slot_has : List Table → List SlotState → CheckedMutation → ℕ → Bool
-slot_has schema slots m slot = if_some (slice_get slots slot) false (λ slot_state. holds schema slot_state (root_at schema m))
+slot_has schema slots m slot =
+    if_some (slice_get slots slot) false (λ slot_state. holds schema slot_state (root_at schema m))
 
 -- a directory that lies in the slot has mutations of both lists
 abbrev pub share_directory_in : List Table → SlotState → List CheckedMutation → List CheckedMutation → Bool
-share_directory_in schema slot_state ms ns = list_any (λ m. holds schema slot_state (root_at schema m) && list_any (is_at schema (root_at schema m)) ns) ms
+share_directory_in schema slot_state ms ns =
+    list_any (λ m. holds schema slot_state (root_at schema m) && list_any (is_at schema (root_at schema m)) ns) ms
 
 -- the slots where a transaction is prepared
 abbrev pub slots_of : List Prepared → List ℕ

@@ -22,10 +22,12 @@ use Rattle.span_journal.specs.declared.taken.Taken.{Taken}
 abbrev pub target_refusal : List Pieced → List SlotState → ℕ → ℕ → ℕ → Option Refusal
 target_refusal queries slots query leaf slot =
     if_some (find (λ p. is_query query p.query) queries) (Some UnknownQuery)
-    (λ p. if_some (slice_get p.query.leaves leaf) (Some UnknownQuery) (λ l. if_some (slice_get slots slot) (Some NoSlot) (λ b. None)))
+    (λ p. if_some (slice_get p.query.leaves leaf) (Some UnknownQuery)
+    (λ l. if_some (slice_get slots slot) (Some NoSlot) (λ b. None)))
 
 -- the query of this number, at its place, its leaf, whose pieces are in order, and the state of the slot
-pub record IsTarget (queries : List Pieced) (slots : List SlotState) (query leaf slot at : ℕ) (question : Pieced) (part : ScanLeaf) (slot_state : SlotState) : Type 0 where
+pub record IsTarget (queries : List Pieced) (slots : List SlotState) (query leaf slot at : ℕ) (question : Pieced)
+    (part : ScanLeaf) (slot_state : SlotState) : Type 0 where
   pub place : IsPlace (λ p. is_query query p.query) queries at question
   pub there : slice_get question.query.leaves leaf ≡ Some part
   pub apart : AreApart part.covered
@@ -48,7 +50,8 @@ is_inside slot_state l range =
 abbrev pub is_free : SlotState → ScanLeaf → KeyRange → Bool
 is_free slot_state l range = is_inside slot_state l range && is_uncovered l range
 
--- why a piece of this range, read at s, is not taken: the range is not free; s is below the slot's horizon; safe time has not reached s
+-- why a piece of this range, read at s, is not taken: the range is not free; s is below the slot's horizon; safe time
+-- has not reached s
 abbrev pub piece_refusal : Machine → ℕ → Interval → KeyRange → ℕ → ScanLeaf → SlotState → Option Refusal
 piece_refusal m slot interval range s l slot_state = first_cause (
     (not (is_free slot_state l range), Incomplete)
@@ -59,7 +62,8 @@ piece_refusal m slot interval range s l slot_state = first_cause (
 abbrev pub register_refusal : Machine → ℕ → ℕ → ℕ → Interval → KeyRange → Option Refusal
 register_refusal m query leaf slot interval range =
     if_some (find (is_query query) m.queries) (Some UnknownQuery)
-    (λ q. if_some (slice_get q.leaves leaf) (Some UnknownQuery) (λ l. if_some (slice_get m.slots slot) (Some NoSlot) (piece_refusal m slot interval range q.s l)))
+    (λ q. if_some (slice_get q.leaves leaf) (Some UnknownQuery)
+    (λ l. if_some (slice_get m.slots slot) (Some NoSlot) (piece_refusal m slot interval range q.s l)))
 
 -- the slot's floor has risen to the timestamp of the query where the clock has passed it, and nothing else has changed
 pub record IsRisen (old : Journaled) (query slot : ℕ) (interval : Interval) (new : Journaled) : Type 0 where
@@ -67,9 +71,20 @@ pub record IsRisen (old : Journaled) (query slot : ℕ) (interval : Interval) (n
   pub slot_state : SlotState
   pub found : find (λ p. is_query query p.query) old.queries ≡ Some question
   pub here : slice_get old.slots slot ≡ Some slot_state
-  pub after : new ≡ record old { slots = slice_set old.slots slot (with_risen_floor slot_state question.query.s interval) }
+  pub after : new ≡ record old {
+    slots = slice_set old.slots slot
+        (with_risen_floor slot_state question.query.s interval);
+  }
 
 -- ---- what is taken out of a query
 
 abbrev pub taken_of : Pieced → Taken
-taken_of p = record { text = p.query.text; params = p.query.params; statement = p.query.statement; s = p.query.s; top = p.query.top; pieces = p.pieces }
+taken_of p =
+    record {
+      text = p.query.text;
+      params = p.query.params;
+      statement = p.query.statement;
+      s = p.query.s;
+      top = p.query.top;
+      pieces = p.pieces;
+    }

@@ -17,7 +17,7 @@ one_same i n e = rw e (one_here n)
 pub one_other : (i n : ℕ) → i ≢ n → one_at i n ≡ 0
 one_other i n differs = let t : nat_eq n i ≡ false = grind (arith, nat_tests) in rw t refl
 
--- a cell that stands elsewhere already
+-- a cell that is elsewhere already
 pub differ : (i n x : ℕ) → one_at i n + x ≤ 1 → 0 < x → i ≢ n
 differ i n x le some same = absurd (omega (arith, one_same i n same))
 

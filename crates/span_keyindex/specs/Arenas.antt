@@ -15,15 +15,17 @@ pub record IsArenaOf (es : List Entry) (a : Content) : Type 0 where
 
 -- the same numbers are chains
 abbrev pub HasSameChains : Content → Content → Type 0
-HasSameChains old new = (c : ℕ) → one_if_chain (slice_index_or new.chains c None) ≡ one_if_chain (slice_index_or old.chains c None)
+HasSameChains old new =
+    (c : ℕ) → one_if_chain (slice_index_or new.chains c None) ≡ one_if_chain (slice_index_or old.chains c None)
 
 -- the entries whose chains have a version, or something prepared for them
 abbrev pub in_use : Content → List Entry → List Entry
 in_use a es = filter (λ e. not (is_unused a e.chain.number)) es
 
--- A number whose chain has no version and nothing prepared is no chain any more, and nothing else is changed. Of the keys and links
--- nothing is said.
+-- A number whose chain has no version and nothing prepared is no chain any more, and nothing else is changed. Of the
+-- keys and links nothing is said.
 pub record IsWithoutUnused (old new : Content) : Type 0 where
-  pub chains : (c : ℕ) → slice_index_or new.chains c None ≡ (if is_unused old c then None else slice_index_or old.chains c None)
+  pub chains : (c : ℕ) → slice_index_or new.chains c None
+      ≡ (if is_unused old c then None else slice_index_or old.chains c None)
   pub numbers : length new.chains ≡ length old.chains
   pub others : new ≡ record old { chains = new.chains; cells = new.cells }

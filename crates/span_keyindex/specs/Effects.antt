@@ -23,7 +23,9 @@ abbrev pub lifted_right_cells : List Cell → ℕ → ℕ → Option ℕ → Opt
 lifted_right_cells cs at left right None = with_links cs at (links_with (Some left) right LeftHigh)
 lifted_right_cells cs at left right (Some inner) =
     with_links
-    (with_links (with_links cs left (links_with (links_of cs left).left (links_of cs inner).left (after_left (links_of cs inner).balance))) at (links_with (links_of cs inner).right right (after_right (links_of cs inner).balance)))
+    (with_links (with_links cs left
+    (links_with (links_of cs left).left (links_of cs inner).left (after_left (links_of cs inner).balance))) at
+    (links_with (links_of cs inner).right right (after_right (links_of cs inner).balance)))
     inner
     (links_with (Some left) (Some at) Even)
 
@@ -32,7 +34,9 @@ lifted_root None at = at
 lifted_root (Some inner) at = inner
 
 abbrev pub turned_right_by : Balance → List Cell → ℕ → ℕ → Option ℕ → List Cell
-turned_right_by LeftHigh cs at left right = with_links (with_links cs at (links_with (links_of cs left).right right Even)) left (links_with (links_of cs left).left (Some at) Even)
+turned_right_by LeftHigh cs at left right =
+    with_links (with_links cs at (links_with (links_of cs left).right right Even)) left
+    (links_with (links_of cs left).left (Some at) Even)
 turned_right_by Even cs at left right = with_links cs at (links_with (Some left) right LeftHigh)
 turned_right_by RightHigh cs at left right = lifted_right_cells cs at left right (links_of cs left).right
 
@@ -51,12 +55,16 @@ abbrev pub lifted_left_cells : List Cell → ℕ → Option ℕ → ℕ → Opti
 lifted_left_cells cs at left right None = with_links cs at (links_with left (Some right) RightHigh)
 lifted_left_cells cs at left right (Some inner) =
     with_links
-    (with_links (with_links cs right (links_with (links_of cs inner).right (links_of cs right).right (after_right (links_of cs inner).balance))) at (links_with left (links_of cs inner).left (after_left (links_of cs inner).balance)))
+    (with_links (with_links cs right
+    (links_with (links_of cs inner).right (links_of cs right).right (after_right (links_of cs inner).balance))) at
+    (links_with left (links_of cs inner).left (after_left (links_of cs inner).balance)))
     inner
     (links_with (Some at) (Some right) Even)
 
 abbrev pub turned_left_by : Balance → List Cell → ℕ → Option ℕ → ℕ → List Cell
-turned_left_by RightHigh cs at left right = with_links (with_links cs at (links_with left (links_of cs right).left Even)) right (links_with (Some at) (links_of cs right).right Even)
+turned_left_by RightHigh cs at left right =
+    with_links (with_links cs at (links_with left (links_of cs right).left Even)) right
+    (links_with (Some at) (links_of cs right).right Even)
 turned_left_by Even cs at left right = with_links cs at (links_with left (Some right) RightHigh)
 turned_left_by LeftHigh cs at left right = lifted_left_cells cs at left right (links_of cs right).left
 

@@ -28,13 +28,15 @@ IsAbsent es key = All (λ e. e.key ≢ key) es
 
 -- the entries with smaller keys, the entry, those with greater ones
 abbrev pub with_entry : List Entry → Entry → List Entry
-with_entry es new = filter (λ e. is_lt (byte_order e.key new.key)) es ++ new ∷ filter (λ e. is_gt (byte_order e.key new.key)) es
+with_entry es new =
+    filter (λ e. is_lt (byte_order e.key new.key)) es ++ new ∷ filter (λ e. is_gt (byte_order e.key new.key)) es
 
 -- the key has the chain, and nothing changed; or it was not there, and is now, with a new chain
 abbrev pub IsSlotFor : List Entry → List Entry → Content → Content → List ℕ → Chain → Type 0
 IsSlotFor old new before after key chain =
     (HasChain old key chain × (new ≡ old) × (after ≡ before))
-    ⊎ (IsAbsent old key × IsNewChain before after chain.number × (new ≡ with_entry old (record { key = key; chain = chain })))
+    ⊎ (IsAbsent old key × IsNewChain before after chain.number
+    × (new ≡ with_entry old (record { key = key; chain = chain })))
 
 -- at or above the first bytes of a range, and before the first after it
 abbrev pub is_within : KeyRange → List ℕ → Bool

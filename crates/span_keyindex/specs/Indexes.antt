@@ -46,7 +46,8 @@ pub record IsMore (old new : Content) (before after : TreeRoot) (key : List ℕ)
   pub now : entries_at new.cells after ≡ with_entry (entries_at old.cells before) (entry key cell)
 
 abbrev pub IsSlot : Content → Content → Nexts → Nexts → TreeRoot → TreeRoot → List ℕ → ℕ → Type 0
-IsSlot old new ns ms before after key cell = IsSame old new ns ms before after key cell ⊎ IsMore old new before after key cell
+IsSlot old new ns ms before after key cell =
+    IsSame old new ns ms before after key cell ⊎ IsMore old new before after key cell
 
 -- where there are fewer than 2 ^ d keys
 pub record IsSlotCost (d : ℕ) (old new : Count) : Type 0 where
@@ -64,7 +65,8 @@ pub record IsSearchCost (d : ℕ) (old new : Count) : Type 0 where
 abbrev pub entries_of : KeyIndex → Content → List Entry
 entries_of i a = entries_at a.cells i.tree
 
--- the index is a balanced tree of the arena's keys with links from each to the next, and its chains are those of the arena
+-- the index is a balanced tree of the arena's keys with links from each to the next, and its chains are those of the
+-- arena
 pub record IsIndexOf (i : KeyIndex) (a : Content) : Type 0 where
   pub index : IsIndex a.cells i.nexts i.tree
   pub own : IsArenaOf (entries_of i a) a

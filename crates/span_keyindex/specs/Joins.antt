@@ -17,7 +17,8 @@ higher_left_cells Even cs at root = with_links cs at (links_with (Some root) (li
 higher_left_cells RightHigh cs at root = with_links cs at (links_with (Some root) (links_of cs at).right Even)
 
 abbrev pub joined_left_cells : Bool → List Cell → ℕ → ℕ → List Cell
-joined_left_cells false cs at root = with_links cs at (links_with (Some root) (links_of cs at).right (links_of cs at).balance)
+joined_left_cells false cs at root =
+    with_links cs at (links_with (Some root) (links_of cs at).right (links_of cs at).balance)
 joined_left_cells true cs at root = higher_left_cells (links_of cs at).balance cs at root
 
 abbrev pub higher_left_root : Balance → List Cell → ℕ → Part → Part
@@ -35,7 +36,8 @@ higher_right_cells Even cs at root = with_links cs at (links_with (links_of cs a
 higher_right_cells LeftHigh cs at root = with_links cs at (links_with (links_of cs at).left (Some root) Even)
 
 abbrev pub joined_right_cells : Bool → List Cell → ℕ → ℕ → List Cell
-joined_right_cells false cs at root = with_links cs at (links_with (links_of cs at).left (Some root) (links_of cs at).balance)
+joined_right_cells false cs at root =
+    with_links cs at (links_with (links_of cs at).left (Some root) (links_of cs at).balance)
 joined_right_cells true cs at root = higher_right_cells (links_of cs at).balance cs at root
 
 abbrev pub higher_right_root : Balance → List Cell → ℕ → Part → Part

@@ -33,7 +33,8 @@ with_place n cell = (if nat_lt cell (length n.next) then n else with_room n)
 -- the cell is after another, or first
 abbrev pub with_cell : Nexts → Option ℕ → ℕ → Nexts
 with_cell n None cell = record { first = Some cell; next = slice_set n.next cell n.first }
-with_cell n (Some before) cell = record { first = n.first; next = slice_set (slice_set n.next cell (next_of n before)) before (Some cell) }
+with_cell n (Some before) cell =
+    record { first = n.first; next = slice_set (slice_set n.next cell (next_of n before)) before (Some cell) }
 
 -- the cell of the last key below a key that the tree has not, or what is given where no key is below it
 abbrev pub before_in : List ℕ → Option ℕ → Tree → Option ℕ

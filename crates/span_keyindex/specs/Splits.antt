@@ -5,7 +5,8 @@ use Rattle.span_keyindex.specs.declared.index.KeyIndex.{KeyIndex}
 use Rattle.span_keyindex.specs.Entries.{Entry, entries_from, keys_of}
 use Rattle.span_keyindex.specs.Indexes.{IsIndexOf, entries_of}
 
--- the index has the keys from one on, in an arena of its own: their chains have no version, nothing is prepared, and no node is free
+-- the index has the keys from one on, in an arena of its own: their chains have no version, nothing is prepared, and no
+-- node is free
 pub record IsPartFrom (key : List ℕ) (es : List Entry) (limit : ℕ) (i : KeyIndex) (a : Content) : Type 0 where
   pub own : IsIndexOf i a
   pub keys : keys_of (entries_of i a) ≡ keys_of (entries_from key es)

@@ -28,7 +28,7 @@ Stands f (Fork l n k b r) = (f n ≡ cell_of l k b r) × Stands f l × Stands f 
 abbrev pub one_at : ℕ → ℕ → ℕ
 one_at i n = (if nat_eq n i then 1 else 0)
 
--- how often a cell stands in the tree
+-- how often a cell is in the tree
 abbrev pub count : ℕ → Tree → ℕ
 count i Leaf = 0
 count i (Fork l n k b r) = one_at i n + (count i l + count i r)
@@ -56,7 +56,8 @@ IsAvl (Fork l n k b r) = IsBalance b (height l) (height r) × IsAvl l × IsAvl r
 abbrev pub shape : (ℕ → Cell) → ℕ → Option ℕ → Tree
 shape f zero at = Leaf
 shape f (suc n) None = Leaf
-shape f (suc n) (Some i) = Fork (shape f n (f i).links.left) i (f i).key (f i).links.balance (shape f n (f i).links.right)
+shape f (suc n) (Some i) =
+    Fork (shape f n (f i).links.left) i (f i).key (f i).links.balance (shape f n (f i).links.right)
 
 -- ---- a key more
 
@@ -77,7 +78,8 @@ after_right RightHigh = Even
 
 abbrev pub lifted_inner : Tree → ℕ → List ℕ → Tree → ℕ → List ℕ → Tree → Tree
 lifted_inner ll m mk Leaf n k r = Fork (Fork ll m mk RightHigh Leaf) n k LeftHigh r
-lifted_inner ll m mk (Fork a p pk pb b) n k r = Fork (Fork ll m mk (after_left pb) a) p pk Even (Fork b n k (after_right pb) r)
+lifted_inner ll m mk (Fork a p pk pb b) n k r =
+    Fork (Fork ll m mk (after_left pb) a) p pk Even (Fork b n k (after_right pb) r)
 
 abbrev pub lifted_by : Balance → Tree → ℕ → List ℕ → Tree → ℕ → List ℕ → Tree → Tree
 lifted_by LeftHigh ll m mk lr n k r = Fork ll m mk Even (Fork lr n k Even r)
@@ -99,7 +101,8 @@ joined_left true l n k b r = higher_left l n k b r
 
 abbrev pub sunk_inner : Tree → ℕ → List ℕ → Tree → ℕ → List ℕ → Tree → Tree
 sunk_inner l n k Leaf m mk rr = Fork l n k RightHigh (Fork Leaf m mk LeftHigh rr)
-sunk_inner l n k (Fork a p pk pb b) m mk rr = Fork (Fork l n k (after_left pb) a) p pk Even (Fork b m mk (after_right pb) rr)
+sunk_inner l n k (Fork a p pk pb b) m mk rr =
+    Fork (Fork l n k (after_left pb) a) p pk Even (Fork b m mk (after_right pb) rr)
 
 abbrev pub sunk_by : Balance → Tree → ℕ → List ℕ → Tree → ℕ → List ℕ → Tree → Tree
 sunk_by RightHigh l n k rl m mk rr = Fork (Fork l n k Even rl) m mk Even rr

@@ -169,7 +169,7 @@ item_is i rest h is = subst IsUtf8 (take_whole (item_bytes i) rest) (IsUtf8-take
 rest_is : (i : Item) (rest : List ℕ) → IsItem i rest → IsUtf8 (item_bytes i ++ rest) → IsUtf8 rest
 rest_is i rest h is = subst IsUtf8 (drop_whole (item_bytes i) rest) (IsUtf8-drop (item_bytes i ++ rest) (length (item_bytes i)) is (item_ends i rest h is))
 
--- what stands at a place of a text
+-- what is at a place of a text
 part_is : (text front bytes rest : List ℕ) (at : ℕ) → text ≡ front ++ (bytes ++ rest) → length front ≡ at → part_of text at (at + length bytes) ≡ bytes
 part_is text front bytes rest at e l =
     ap (λ (w : List ℕ). part_of w at (at + length bytes)) e

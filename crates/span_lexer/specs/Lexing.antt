@@ -31,11 +31,15 @@ word_or_name (Some w) = kind.Word w
 
 -- a reserved word or a name
 unfoldable pub lex_word : List ℕ → LexResult
-lex_word bs = if nat_lt longest_word (word_length bs) then lex_result.Wrong else lex_result.Lexeme (word_or_name (reserved_word (take (word_length bs) bs))) (word_length bs)
+lex_word bs =
+    if nat_lt longest_word (word_length bs) then lex_result.Wrong
+    else lex_result.Lexeme (word_or_name (reserved_word (take (word_length bs) bs))) (word_length bs)
 
 -- the number that a digit more makes, where it is a digit and the number is not too great
 unfoldable pub next_integer : ℕ → ℕ → Option ℕ
-next_integer n c = if is_digit c then (if nat_lt greatest_integer (n * 10 + (c - 48)) then None else Some (n * 10 + (c - 48))) else None
+next_integer n c =
+    if is_digit c then (if nat_lt greatest_integer (n * 10 + (c - 48)) then None else Some (n * 10 + (c - 48)))
+    else None
 
 -- the number that the digits write, when n was written before them
 unfoldable pub integer : ℕ → List ℕ → Option ℕ
@@ -56,7 +60,8 @@ name_or_wrong n (Some w) = lex_result.Wrong
 -- a parameter: what is after @
 unfoldable pub lex_parameter : List ℕ → LexResult
 lex_parameter bs =
-    if not (begins is_letter bs) || nat_lt longest_word (word_length bs) then lex_result.Wrong else name_or_wrong (word_length bs) (reserved_word (take (word_length bs) bs))
+    if not (begins is_letter bs) || nat_lt longest_word (word_length bs) then lex_result.Wrong
+    else name_or_wrong (word_length bs) (reserved_word (take (word_length bs) bs))
 
 abbrev pub literal_or_wrong : TokenKind → ℕ → Option ℕ → LexResult
 literal_or_wrong k before None = lex_result.Wrong
@@ -74,10 +79,15 @@ lex_sign b bs =
     else (if b == 43 then lex_result.Lexeme (kind.Sign sign.Plus) 1
     else (if b == 45 then lex_result.Lexeme (kind.Sign sign.Minus) 1
     else (if b == 61 then lex_result.Lexeme (kind.Sign sign.Equal) 1
-    else (if b == 60 then (if begins (λ c. c == 61) bs then lex_result.Lexeme (kind.Sign sign.LessEqual) 2 else (if begins (λ c. c == 62) bs then lex_result.Lexeme (kind.Sign sign.LessGreater) 2 else lex_result.Lexeme (kind.Sign sign.Less) 1))
-    else (if b == 62 then (if begins (λ c. c == 61) bs then lex_result.Lexeme (kind.Sign sign.GreaterEqual) 2 else lex_result.Lexeme (kind.Sign sign.Greater) 1)
-    else (if b == 33 then (if begins (λ c. c == 61) bs then lex_result.Lexeme (kind.Sign sign.BangEqual) 2 else lex_result.Wrong)
-    else (if b == 124 then (if begins (λ c. c == 124) bs then lex_result.Lexeme (kind.Sign sign.Concat) 2 else lex_result.Wrong)
+    else (if b == 60 then (if begins (λ c. c == 61) bs then lex_result.Lexeme (kind.Sign sign.LessEqual) 2
+    else (if begins (λ c. c == 62) bs then lex_result.Lexeme (kind.Sign sign.LessGreater) 2
+    else lex_result.Lexeme (kind.Sign sign.Less) 1))
+    else (if b == 62 then (if begins (λ c. c == 61) bs then lex_result.Lexeme (kind.Sign sign.GreaterEqual) 2
+    else lex_result.Lexeme (kind.Sign sign.Greater) 1)
+    else (if b == 33 then (if begins (λ c. c == 61) bs then lex_result.Lexeme (kind.Sign sign.BangEqual) 2
+    else lex_result.Wrong)
+    else (if b == 124 then (if begins (λ c. c == 124) bs then lex_result.Lexeme (kind.Sign sign.Concat) 2
+    else lex_result.Wrong)
     else lex_result.Wrong))))))))))))
 
 -- not LF

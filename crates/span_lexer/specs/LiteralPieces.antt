@@ -35,8 +35,12 @@ quoted q pieces = q ∷ (flat_map spelling pieces ++ q ∷ [])
 
 -- the value of a string is the values of its pieces, in order
 abbrev pub TextByPieces : Type 0
-TextByPieces = (q : ℕ) (pieces : List Piece) → AllByRecursion IsPiece pieces → all_scalars (quoted q pieces) ≡ true → text_of (encode_utf8_all (quoted q pieces)) ≡ encode_utf8_all (map piece_char pieces)
+TextByPieces =
+    (q : ℕ) (pieces : List Piece) → AllByRecursion IsPiece pieces → all_scalars (quoted q pieces) ≡ true
+    → text_of (encode_utf8_all (quoted q pieces)) ≡ encode_utf8_all (map piece_char pieces)
 
 -- so is that of bytes, after their mark
 abbrev pub BytesByPieces : Type 0
-BytesByPieces = (b q : ℕ) (pieces : List Piece) → AllByRecursion IsPiece pieces → all_scalars (b ∷ quoted q pieces) ≡ true → bytes_of (encode_utf8_all (b ∷ quoted q pieces)) ≡ as_bytes (map piece_char pieces)
+BytesByPieces =
+    (b q : ℕ) (pieces : List Piece) → AllByRecursion IsPiece pieces → all_scalars (b ∷ quoted q pieces) ≡ true
+    → bytes_of (encode_utf8_all (b ∷ quoted q pieces)) ≡ as_bytes (map piece_char pieces)

@@ -2,10 +2,12 @@
 use Rattle.std.specs.Prelude.{ℕ, zero, suc, ◌+◌, ◌-◌, ◌*◌, ◌%◌, ◌==◌, nat_lt, nat_le, ◌&&◌, List, [], ◌∷◌, length, take, drop, map, chars, Option, Some, None, if◌then◌else◌}
 use Rattle.std.specs.Str.{encode_utf8_all}
 
--- the value of a hexadecimal digit in either case: 0 to 9 from 48 on, A to F from 65 on, a to f from 97 on; no literal has
--- another character as a digit
+-- the value of a hexadecimal digit in either case: 0 to 9 from 48 on, A to F from 65 on, a to f from 97 on; no literal
+-- has another character as a digit
 unfoldable pub digit : ℕ → ℕ
-digit c = if nat_le 48 c && nat_lt c 58 then c - 48 else (if nat_le 65 c && nat_lt c 71 then c - 55 else (if nat_le 97 c && nat_lt c 103 then c - 87 else 0))
+digit c =
+    if nat_le 48 c && nat_lt c 58 then c - 48
+    else (if nat_le 65 c && nat_lt c 71 then c - 55 else (if nat_le 97 c && nat_lt c 103 then c - 87 else 0))
 
 -- the character with this code; no literal has the code of a surrogate
 abbrev pub character : ℕ → ℕ

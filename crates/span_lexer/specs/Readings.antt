@@ -15,6 +15,7 @@ ReadsOrOutOfMemory ts (Err e) = e.refusal ≡ refusal.OutOfMemory
 -- the refusal of a text: it is too long; or it is not, and does not consist of items; or memory ran out
 abbrev pub IsReadError : List ℕ → Refusal → Type 0
 IsReadError text refusal.TextTooLong = longest_text < length text
-IsReadError text refusal.BadToken = (length text ≤ longest_text) × ((is : List Item) → AreItems is → text ≡ text_of is → ⊥)
+IsReadError text refusal.BadToken =
+    (length text ≤ longest_text) × ((is : List Item) → AreItems is → text ≡ text_of is → ⊥)
 IsReadError text refusal.OutOfMemory = Unit {0}
 IsReadError text other = ⊥

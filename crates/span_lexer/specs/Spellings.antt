@@ -65,7 +65,8 @@ sign s.Concat = 124 ∷ 124 ∷ []
 -- the first of some words that the bytes spell in any case
 unfoldable pub matching_word : List Word → List ℕ → Option Word
 matching_word [] bytes = None
-matching_word (v ∷ vs) bytes = if bytes_eq (str_to_ascii_lowercase bytes) (word v) then Some v else matching_word vs bytes
+matching_word (v ∷ vs) bytes =
+    if bytes_eq (str_to_ascii_lowercase bytes) (word v) then Some v else matching_word vs bytes
 
 -- the reserved words
 abbrev pub reserved_words : List Word

@@ -13,4 +13,5 @@ IsWithinInt64 (kind.Int v) = v ≤ greatest_integer
 IsWithinInt64 k = Unit {0}
 
 abbrev pub IntegersAreInt64 : Type 0
-IntegersAreInt64 = (is : List Item) → AreItems is → AllByRecursion (λ (t : Token). IsWithinInt64 t.kind) (tokens_of 0 is)
+IntegersAreInt64 =
+    (is : List Item) → AreItems is → AllByRecursion (λ (t : Token). IsWithinInt64 t.kind) (tokens_of 0 is)

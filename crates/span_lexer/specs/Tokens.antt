@@ -36,13 +36,15 @@ piece_bytes (Escaped e) = 92 ∷ e ∷ []
 piece_bytes (Hex h l) = 92 ∷ 120 ∷ h ∷ l ∷ []
 piece_bytes (Unicode a b c d) = 92 ∷ 117 ∷ a ∷ b ∷ c ∷ d ∷ []
 
--- A plain byte is neither the quote nor a backslash nor LF, and in bytes it is ASCII. \x is any byte in bytes and 00 to 7f
--- in a string; \u is allowed in strings only, and is no surrogate.
+-- A plain byte is neither the quote nor a backslash nor LF, and in bytes it is ASCII. \x is any byte in bytes and 00 to
+-- 7f in a string; \u is allowed in strings only, and is no surrogate.
 abbrev pub IsPiece : Literal → ℕ → Piece → Type 0
 IsPiece t q (Plain b) = ((b == q) ≡ false) × ((b == 92) ≡ false) × ((b == 10 || (is_bytes t && nat_lt 127 b)) ≡ false)
 IsPiece t q (Escaped e) = is_escape e ≡ true
 IsPiece t q (Hex h l) = ((is_hex h && is_hex l) && (is_bytes t || is_octal h)) ≡ true
-IsPiece t q (Unicode a b c d) = (is_bytes t ≡ false) × ((((is_hex a && is_hex b) && (is_hex c && is_hex d)) && not (is_d a && not (is_octal b))) ≡ true)
+IsPiece t q (Unicode a b c d) =
+    (is_bytes t ≡ false) × ((((is_hex a && is_hex b) && (is_hex c && is_hex d)) && not (is_d a && not (is_octal b)))
+    ≡ true)
 
 abbrev pub ArePieces : Literal → ℕ → List Piece → Type 0
 ArePieces t q [] = Unit {0}
@@ -87,7 +89,9 @@ pub record IsInteger (bytes : List ℕ) (value : ℕ) (rest : List ℕ) : Type 0
 
 -- the signs of two bytes, and --, which begins a comment
 unfoldable pub is_pair : ℕ → ℕ → Bool
-is_pair a b = ((a == 60 && (b == 61 || b == 62)) || (a == 62 && b == 61)) || ((a == 33 && b == 61) || ((a == 124 && b == 124) || (a == 45 && b == 45)))
+is_pair a b =
+    ((a == 60 && (b == 61 || b == 62)) || (a == 62 && b == 61))
+    || ((a == 33 && b == 61) || ((a == 124 && b == 124) || (a == 45 && b == 45)))
 
 -- a sign of one byte is not followed by a byte with which it is a sign of two bytes or begins a comment
 abbrev pub NoPair : List ℕ → List ℕ → Type 0
@@ -101,8 +105,11 @@ IsToken (kind.Word w) bytes rest = IsName bytes rest × NoMark bytes rest × (re
 IsToken kind.Name bytes rest = IsName bytes rest × NoMark bytes rest × (reserved_word bytes ≡ None)
 IsToken kind.Parameter bytes rest = (w : List ℕ) × (bytes ≡ 64 ∷ w) × IsName w rest × (reserved_word w ≡ None)
 IsToken (kind.Int v) bytes rest = IsInteger bytes v rest
-IsToken kind.Str bytes rest = (q : ℕ) × (body : List ℕ) × (is_quote q ≡ true) × (bytes ≡ q ∷ body) × IsBody literal.Text q body
-IsToken kind.Bytes bytes rest = (m : ℕ) × (q : ℕ) × (body : List ℕ) × (is_mark m ≡ true) × (is_quote q ≡ true) × (bytes ≡ m ∷ q ∷ body) × IsBody literal.Bytes q body
+IsToken kind.Str bytes rest =
+    (q : ℕ) × (body : List ℕ) × (is_quote q ≡ true) × (bytes ≡ q ∷ body) × IsBody literal.Text q body
+IsToken kind.Bytes bytes rest =
+    (m : ℕ) × (q : ℕ) × (body : List ℕ) × (is_mark m ≡ true) × (is_quote q ≡ true) × (bytes ≡ m ∷ q ∷ body)
+    × IsBody literal.Bytes q body
 IsToken (kind.Sign s) bytes rest = (bytes ≡ sign s) × NoPair bytes rest
 
 -- ---- texts
@@ -137,4 +144,5 @@ abbrev pub tokens_of : ℕ → List Item → List Token
 tokens_of at [] = []
 tokens_of at (Blank b ∷ is) = tokens_of (at + 1) is
 tokens_of at (Comment bytes ∷ is) = tokens_of (at + (length bytes + 2)) is
-tokens_of at (Lexeme k bytes ∷ is) = record { kind = k; start = at; end = at + length bytes } ∷ tokens_of (at + length bytes) is
+tokens_of at (Lexeme k bytes ∷ is) =
+    record { kind = k; start = at; end = at + length bytes } ∷ tokens_of (at + length bytes) is

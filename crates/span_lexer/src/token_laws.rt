@@ -3,7 +3,7 @@ ghost use Rattle.span_lexer.specs.TokenIntegers.{IntegersAreInt64};
 ghost use Rattle.span_lexer.specs.TokenTexts.{PartsAreReadUnchanged, TokensAreReadUnchanged};
 
 /// A part of a text in UTF-8 that begins and ends between characters is in UTF-8: a lossy reading of it gives the bytes that
-/// stand there, and no replacement character.
+/// are there, and no replacement character.
 pub fn parts_are_read_unchanged()
     ensures { PartsAreReadUnchanged }
 {}

@@ -19,11 +19,13 @@ begun_by _ _ = []
 
 abbrev pub commit_by : ℕ → ℕ → ℕ → Option BegunTransaction → List Commit
 commit_by ts owner number None = []
-commit_by ts owner number (Some b) = (record { timestamp = ts; number = number; owner = owner; mutations = b.mutations }) ∷ []
+commit_by ts owner number (Some b) =
+    (record { timestamp = ts; number = number; owner = owner; mutations = b.mutations }) ∷ []
 
 -- what a Decide that was answered Decided commits: the mutations that were begun under the number
 abbrev pub committed_by : List BegunTransaction → Step → Reply → List Commit
-committed_by begun (Decide owner txn v interval) (Decided ts) = commit_by ts owner txn (find (λ b. b.number == txn) begun)
+committed_by begun (Decide owner txn v interval) (Decided ts) =
+    commit_by ts owner txn (find (λ b. b.number == txn) begun)
 committed_by begun _ _ = []
 
 -- the commits of steps and the replies to them, in order, after what was begun before
@@ -45,5 +47,6 @@ pub record OpenedQuery : Type 0 where
 
 -- what an Open that was answered Opened asks
 abbrev pub opened_by : Step → Reply → List OpenedQuery
-opened_by (Open text params bound interval) (Opened query s leaves) = (record { number = query; text = text; params = params; s = s }) ∷ []
+opened_by (Open text params bound interval) (Opened query s leaves) =
+    (record { number = query; text = text; params = params; s = s }) ∷ []
 opened_by _ _ = []

@@ -40,7 +40,8 @@ AreTrueTimes from [] (t ∷ ts) = ⊥
 AreTrueTimes from (s ∷ ss) [] = ⊥
 AreTrueTimes from (s ∷ ss) (t ∷ ts) = (from ≤ t) × MayBeTakenAt s t × AreTrueTimes t ss ts
 
--- the clock may have been honest: there are true times of the steps, in order, each in the interval that the clock answered for its step
+-- the clock may have been honest: there are true times of the steps, in order, each in the interval that the clock
+-- answered for its step
 abbrev pub HonestClock : List Step → Type 0
 HonestClock steps = (times : List ℕ) × AreTrueTimes 0 steps times
 
@@ -79,8 +80,8 @@ AreDecidedInOrder steps replies =
     (place : ℕ) (a b : Commit) → Contains (commits_of steps replies) a → IsAppliedBefore steps replies place a
     → IsDecidedAt steps replies place b → a.timestamp < b.timestamp
 
--- A commit of the run that is applied before a strong query is opened has a timestamp below the query's, and so is among the commits
--- that make the tables which the query reads.
+-- A commit of the run that is applied before a strong query is opened has a timestamp below the query's, and so is
+-- among the commits that make the tables which the query reads.
 abbrev pub AreSeen : List Step → List Reply → Type 0
 AreSeen steps replies =
     (place : ℕ) (c : Commit) (s : ℕ) → Contains (commits_of steps replies) c → IsAppliedBefore steps replies place c

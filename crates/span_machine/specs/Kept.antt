@@ -20,8 +20,8 @@ use Rattle.span_machine.specs.Tables.{is_before}
 
 -- ---- changes
 
--- A commit changed the row at a key: the coding of the key, the commit timestamp, and the packed row that it left there, none for
--- a deletion.
+-- A commit changed the row at a key: the coding of the key, the commit timestamp, and the packed row that it left
+-- there, none for a deletion.
 pub record Change : Type 0 where
   pub key : List ℕ
   pub timestamp : ℕ
@@ -59,7 +59,9 @@ after_mutations schema db ms = ok_or (apply schema db ms) db
 -- what commits change, one after another
 abbrev pub changes_from : List Table → List TableRow → List Commit → List Change
 changes_from schema db [] = []
-changes_from schema db (c ∷ cs) = changes_between schema c.timestamp db (after_mutations schema db c.mutations) ++ changes_from schema (after_mutations schema db c.mutations) cs
+changes_from schema db (c ∷ cs) =
+    changes_between schema c.timestamp db (after_mutations schema db c.mutations)
+    ++ changes_from schema (after_mutations schema db c.mutations) cs
 
 abbrev pub database_after : List Table → List TableRow → List Commit → List TableRow
 database_after schema db [] = db
@@ -100,13 +102,15 @@ count_changes schema db ms = length (changes_between schema 0 db (after_mutation
 abbrev pub changes_in : SlotState → List Change → List Change
 changes_in slot_state cs = filter (λ (c : Change). has_key slot_state c.key) cs
 
--- how many changes the transaction has prepared in the slot, where it is not committed: its commit's are among those of the log
+-- how many changes the transaction has prepared in the slot, where it is not committed: its commit's are among those of
+-- the log
 abbrev pub count_prepared_changes : List Table → List TableRow → ℕ → SlotState → OpenTransaction → ℕ
 count_prepared_changes schema db slot slot_state t =
-    if list_any (λ p. p.slot == slot) t.prepared && not (is_committed t.decision) then count_changes schema db (mutations_in schema slot_state t.mutations) else 0
+    if list_any (λ p. p.slot == slot) t.prepared && not (is_committed t.decision)
+    then count_changes schema db (mutations_in schema slot_state t.mutations) else 0
 
--- how many versions a slot with this state keeps: one for each kept change of a key in its range, also one that is prepared and not
--- applied yet
+-- how many versions a slot with this state keeps: one for each kept change of a key in its range, also one that is
+-- prepared and not applied yet
 abbrev pub live : List Table → List Commit → List OpenTransaction → ℕ → SlotState → ℕ
 live schema log transactions slot slot_state =
     length (kept slot_state.horizon (changes_in slot_state (changes_of schema log)))
@@ -118,4 +122,5 @@ most_versions = 2 ^ 24
 
 -- how many versions the slot would keep once the mutations, all of its range, are prepared there too
 abbrev pub live_with : List Table → List Commit → List OpenTransaction → ℕ → SlotState → List CheckedMutation → ℕ
-live_with schema log transactions slot slot_state ms = live schema log transactions slot slot_state + count_changes schema (database_of schema log) ms
+live_with schema log transactions slot slot_state ms =
+    live schema log transactions slot slot_state + count_changes schema (database_of schema log) ms

@@ -84,7 +84,8 @@ is_query number q = q.number == number
 
 -- the answer for the transaction of this owner and number
 abbrev pub for_transaction : Machine → ℕ → ℕ → (OpenTransaction → Answer) → Answer
-for_transaction m owner number make = if_some (find (is_transaction owner number) m.transactions) (refused m refusal.UnknownTransaction) make
+for_transaction m owner number make =
+    if_some (find (is_transaction owner number) m.transactions) (refused m refusal.UnknownTransaction) make
 
 abbrev pub for_slot : Machine → ℕ → (SlotState → Answer) → Answer
 for_slot m slot make = if_some (slice_get m.slots slot) (refused m refusal.NoSlot) make
@@ -113,7 +114,9 @@ have_common_root schema ms ns = list_any (λ m. list_any (is_at schema (root_at 
 
 -- s is at most the safe time of the slot
 abbrev pub is_safe : Machine → ℕ → SlotState → ℕ → Bool
-is_safe m slot slot_state s = nat_le s slot_state.floor && list_all (λ t. list_all (λ p. not (p.slot == slot) || nat_lt s p.timestamp) t.prepared) m.transactions
+is_safe m slot slot_state s =
+    nat_le s slot_state.floor
+    && list_all (λ t. list_all (λ p. not (p.slot == slot) || nat_lt s p.timestamp) t.prepared) m.transactions
 
 -- ---- steps
 
@@ -126,15 +129,25 @@ abbrev pub is_undecided : OpenTransaction → Bool
 is_undecided t = undecided t.decision
 
 abbrev pub begin_refusal : Machine → Option Refusal
-begin_refusal m = first_cause (
-    (nat_le most_transactions (length m.transactions) || nat_le number_end m.next_transaction, refusal.TransactionTableFull)
+begin_refusal m = first_cause ((
+  nat_le most_transactions (length m.transactions)
+      || nat_le number_end m.next_transaction,
+  refusal.TransactionTableFull,
+)
     ∷ (nat_le most_commits (length m.log + count_by is_undecided m.transactions), refusal.LogFull) ∷ [])
 
 abbrev pub begun : Machine → ℕ → List CheckedMutation → Answer
 begun m owner ms = (
   reply.Began m.next_transaction,
   record m {
-    transactions = m.transactions ++ (record { owner = owner; number = m.next_transaction; mutations = ms; decision = Undecided; prepared = [] }) ∷ [];
+    transactions =
+        m.transactions ++ (record {
+          owner = owner;
+          number = m.next_transaction;
+          mutations = ms;
+          decision = Undecided;
+          prepared = [];
+        }) ∷ [];
     next_transaction = m.next_transaction + 1;
   },
 )
@@ -144,10 +157,12 @@ begin m owner ms = unless_refused m (begin_refusal m) (begun m owner ms)
 
 -- the fault that the mutations meet on the tables as they are, if any
 abbrev pub mutations_refusal : List Table → Machine → List CheckedMutation → Option Refusal
-mutations_refusal schema m ms = refusal_of (and_then (tables schema m.log (timestamp_end - 1)) (λ db. apply schema db ms))
+mutations_refusal schema m ms =
+    refusal_of (and_then (tables schema m.log (timestamp_end - 1)) (λ db. apply schema db ms))
 
 abbrev pub has_conflict : List Table → Machine → ℕ → List CheckedMutation → Bool
-has_conflict schema m slot ms = list_any (λ t. is_prepared_at slot t && have_common_root schema ms t.mutations) m.transactions
+has_conflict schema m slot ms =
+    list_any (λ t. is_prepared_at slot t && have_common_root schema ms t.mutations) m.transactions
 
 abbrev pub add_prepared : ℕ → ℕ → OpenTransaction → OpenTransaction
 add_prepared slot ts t = record t { prepared = t.prepared ++ (record { slot = slot; timestamp = ts }) ∷ [] }
@@ -157,20 +172,28 @@ prepare_timestamp slot_state = max slot_state.last slot_state.floor + 1
 
 -- why a Prepare is refused before its mutations are checked
 abbrev pub prepare_refusal : List Table → Machine → ℕ → OpenTransaction → SlotState → Option Refusal
-prepare_refusal schema m slot t slot_state = first_cause (
-    (not (is_undecided t) || is_prepared_at slot t || (length (mutations_in schema slot_state t.mutations) == 0), refusal.WrongState)
+prepare_refusal schema m slot t slot_state = first_cause ((
+  not (is_undecided t) || is_prepared_at slot t
+      || (length (mutations_in schema slot_state t.mutations) == 0),
+  refusal.WrongState,
+)
     ∷ (has_conflict schema m slot (mutations_in schema slot_state t.mutations), refusal.Conflict) ∷ [])
 
 -- the slot would keep more versions than it may
 abbrev pub capacity_refusal : List Table → Machine → ℕ → SlotState → List CheckedMutation → Option Refusal
-capacity_refusal schema m slot slot_state ms = first_cause ((nat_lt kept.most_versions (kept.live_with schema m.log m.transactions slot slot_state ms), refusal.ShardFull) ∷ [])
+capacity_refusal schema m slot slot_state ms =
+    first_cause ((
+      nat_lt kept.most_versions (kept.live_with schema m.log m.transactions slot slot_state ms),
+      refusal.ShardFull,
+    ) ∷ [])
 
 abbrev pub prepared : Machine → ℕ → ℕ → ℕ → SlotState → Answer
 prepared m owner txn slot slot_state = (
   reply.Prepared (prepare_timestamp slot_state),
   record m {
     slots = slice_set m.slots slot (record slot_state { last = prepare_timestamp slot_state });
-    transactions = changed_first (is_transaction owner txn) (add_prepared slot (prepare_timestamp slot_state)) m.transactions;
+    transactions =
+        changed_first (is_transaction owner txn) (add_prepared slot (prepare_timestamp slot_state)) m.transactions;
   },
 )
 
@@ -183,11 +206,14 @@ prepare_transaction schema m owner txn slot t slot_state =
     (prepared m owner txn slot slot_state))))
 
 abbrev pub prepare : List Table → Machine → ℕ → ℕ → ℕ → Answer
-prepare schema m owner txn slot = for_transaction m owner txn (λ t. for_slot m slot (prepare_transaction schema m owner txn slot t))
+prepare schema m owner txn slot =
+    for_transaction m owner txn (λ t. for_slot m slot (prepare_transaction schema m owner txn slot t))
 
 -- every mutation is of a slot where the transaction is prepared
 abbrev pub is_prepared_for : List Table → Machine → OpenTransaction → CheckedMutation → Bool
-is_prepared_for schema m t mutation = list_any (λ p. if_some (slice_get m.slots p.slot) false (λ slot_state. holds schema slot_state (root_at schema mutation))) t.prepared
+is_prepared_for schema m t mutation =
+    list_any (λ p. if_some (slice_get m.slots p.slot) false
+    (λ slot_state. holds schema slot_state (root_at schema mutation))) t.prepared
 
 abbrev pub is_all_prepared : List Table → Machine → OpenTransaction → Bool
 is_all_prepared schema m t = not (length t.prepared == 0) && list_all (is_prepared_for schema m t) t.mutations
@@ -207,11 +233,15 @@ coordinator_slot [] = 0
 coordinator_slot (p ∷ ps) = lowest_slot p.slot ps
 
 abbrev pub with_last : List SlotState → ℕ → ℕ → List SlotState
-with_last slots slot ts = if_some (slice_get slots slot) slots (λ slot_state. slice_set slots slot (record slot_state { last = max slot_state.last ts }))
+with_last slots slot ts =
+    if_some (slice_get slots slot) slots
+    (λ slot_state. slice_set slots slot (record slot_state { last = max slot_state.last ts }))
 
 abbrev pub commit_timestamp : Machine → OpenTransaction → Interval → ℕ
 commit_timestamp m t interval =
-    max (greatest t.prepared) (max (interval.latest + 1) (if_some (slice_get m.slots (coordinator_slot t.prepared)) 0 (λ slot_state. slot_state.last) + 1))
+    max (greatest t.prepared)
+    (max (interval.latest + 1)
+    (if_some (slice_get m.slots (coordinator_slot t.prepared)) 0 (λ slot_state. slot_state.last) + 1))
 
 abbrev pub with_decision : Decision → OpenTransaction → OpenTransaction
 with_decision o t = record t { decision = o }
@@ -285,10 +315,12 @@ apply_refusal slot t interval = first_cause (
     ∷ (is_early interval t.decision, refusal.TooEarly) ∷ [])
 
 abbrev pub apply_transaction : Machine → ℕ → ℕ → ℕ → Interval → OpenTransaction → SlotState → Answer
-apply_transaction m owner txn slot interval t slot_state = unless_refused m (apply_refusal slot t interval) (applied_at t.decision m owner txn slot t)
+apply_transaction m owner txn slot interval t slot_state =
+    unless_refused m (apply_refusal slot t interval) (applied_at t.decision m owner txn slot t)
 
 abbrev pub apply_step : Machine → ℕ → ℕ → ℕ → Interval → Answer
-apply_step m owner txn slot interval = for_transaction m owner txn (λ t. for_slot m slot (apply_transaction m owner txn slot interval t))
+apply_step m owner txn slot interval =
+    for_transaction m owner txn (λ t. for_slot m slot (apply_transaction m owner txn slot interval t))
 
 abbrev pub advanced : Machine → ℕ → Interval → SlotState → Answer
 advanced m slot interval slot_state = (
@@ -320,7 +352,8 @@ trimmed schema m slot h slot_state = (
 )
 
 abbrev pub trim_slot : List Table → Machine → ℕ → ℕ → SlotState → Answer
-trim_slot schema m slot h slot_state = unless_refused m (trim_refusal m slot h slot_state) (trimmed schema m slot h slot_state)
+trim_slot schema m slot h slot_state =
+    unless_refused m (trim_refusal m slot h slot_state) (trimmed schema m slot h slot_state)
 
 abbrev pub trim : List Table → Machine → ℕ → ℕ → Answer
 trim schema m slot h = for_slot m slot (trim_slot schema m slot h)
@@ -360,13 +393,16 @@ opened schema m text params q s = (
 )
 
 -- where the query text is understood as this; the refusal of a query text comes first
-abbrev pub open_query : List Table → Machine → Result Statement Refusal → List ℕ → List Parameter → Bound → Interval → Answer
+abbrev pub open_query : List Table → Machine → Result Statement Refusal → List ℕ → List Parameter → Bound → Interval
+    → Answer
 open_query schema m (Err why) text params bound interval = refused m why
-open_query schema m (Ok q) text params bound interval = unless_refused m (open_refusal m bound interval) (opened schema m text params q (timestamp_of bound interval))
+open_query schema m (Ok q) text params bound interval =
+    unless_refused m (open_refusal m bound interval) (opened schema m text params q (timestamp_of bound interval))
 
 -- the floor rises to s where the clock has passed it
 abbrev pub with_risen_floor : SlotState → ℕ → Interval → SlotState
-with_risen_floor slot_state s interval = if nat_lt slot_state.floor s && nat_le s interval.latest then record slot_state { floor = s } else slot_state
+with_risen_floor slot_state s interval =
+    if nat_lt slot_state.floor s && nat_le s interval.latest then record slot_state { floor = s } else slot_state
 
 abbrev pub with_slot_state : Machine → ℕ → SlotState → Machine
 with_slot_state m slot slot_state = record m { slots = slice_set m.slots slot slot_state }
@@ -394,13 +430,20 @@ gap_in slot_state l = lowest_gap (part_between slot_state.lo slot_state.hi l.lea
 abbrev pub scanned : Machine → ℕ → ℕ → KeyRange → ℕ → SlotState → ℕ → Answer
 scanned m query leaf part slot slot_state s =
     if is_safe m slot slot_state s
-    then (reply.Scanned, record (with_slot_state m slot slot_state) { queries = changed_first (is_query query) (cover leaf part) m.queries })
+    then (
+      reply.Scanned,
+      record (with_slot_state m slot slot_state) {
+        queries = changed_first (is_query query)
+            (cover leaf part) m.queries;
+      },
+    )
     else (Refused refusal.NotYet, with_slot_state m slot slot_state)
 
 -- below the horizon nothing is read, and the floor stays
 abbrev pub scan_gap : Machine → ℕ → ℕ → ℕ → Interval → OpenQuery → SlotState → KeyRange → Answer
 scan_gap m query leaf slot interval q slot_state part =
-    if nat_lt q.s slot_state.horizon then refused m refusal.Trimmed else scanned m query leaf part slot (with_risen_floor slot_state q.s interval) q.s
+    if nat_lt q.s slot_state.horizon then refused m refusal.Trimmed
+    else scanned m query leaf part slot (with_risen_floor slot_state q.s interval) q.s
 
 abbrev pub scan_leaf : Machine → ℕ → ℕ → ℕ → Interval → OpenQuery → ScanLeaf → SlotState → Answer
 scan_leaf m query leaf slot interval q l slot_state =
@@ -409,7 +452,8 @@ scan_leaf m query leaf slot interval q l slot_state =
 -- leaves are counted from 0
 abbrev pub scan_query : Machine → ℕ → ℕ → ℕ → Interval → OpenQuery → Answer
 scan_query m query leaf slot interval q =
-    if_some (slice_get q.leaves leaf) (refused m refusal.UnknownQuery) (λ l. for_slot m slot (scan_leaf m query leaf slot interval q l))
+    if_some (slice_get q.leaves leaf) (refused m refusal.UnknownQuery)
+    (λ l. for_slot m slot (scan_leaf m query leaf slot interval q l))
 
 abbrev pub scan : Machine → ℕ → ℕ → ℕ → Interval → Answer
 scan m query leaf slot interval = for_query m query (scan_query m query leaf slot interval)
@@ -426,10 +470,12 @@ rows_or_refusal (Some rows) = Ok rows
 
 -- what the query means on the tables at its timestamp, by the log so far
 abbrev pub meaning : List Table → Machine → OpenQuery → Result (List Row) Refusal
-meaning schema m q = and_then (tables schema m.log q.s) (λ db. rows_or_refusal (means schema q.statement.query q.statement.leaves db))
+meaning schema m q =
+    and_then (tables schema m.log q.s) (λ db. rows_or_refusal (means schema q.statement.query q.statement.leaves db))
 
 abbrev pub finish_query : List Table → Machine → OpenQuery → Answer
-finish_query schema m q = if list_all is_covered q.leaves then (answer_on q.s (meaning schema m q), m) else refused m refusal.Incomplete
+finish_query schema m q =
+    if list_all is_covered q.leaves then (answer_on q.s (meaning schema m q), m) else refused m refusal.Incomplete
 
 abbrev pub finish : List Table → Machine → ℕ → Answer
 finish schema m query = for_query m query (finish_query schema m)
@@ -457,15 +503,20 @@ split_refusal m slot key slot_state = first_cause (
 abbrev pub split_in_two : Machine → ℕ → List ℕ → SlotState → Answer
 split_in_two m slot key slot_state = (
   reply.Split (length m.slots),
-  record m { slots = slice_set m.slots slot (record slot_state { hi = Some key }) ++ (record slot_state { lo = Some key }) ∷ [] },
+  record m {
+    slots = slice_set m.slots slot (record slot_state { hi = Some key })
+        ++ (record slot_state { lo = Some key }) ∷ [];
+  },
 )
 
 abbrev pub split_slot : Machine → ℕ → List ℕ → SlotState → Answer
-split_slot m slot key slot_state = unless_refused m (split_refusal m slot key slot_state) (split_in_two m slot key slot_state)
+split_slot m slot key slot_state =
+    unless_refused m (split_refusal m slot key slot_state) (split_in_two m slot key slot_state)
 
 -- in the slot whose range has the key
 abbrev pub split_at : Machine → List ℕ → Answer
-split_at m key = if_some (slot_of m.slots key) (refused m refusal.BadSplit) (λ slot. for_slot m slot (split_slot m slot key))
+split_at m key =
+    if_some (slot_of m.slots key) (refused m refusal.BadSplit) (λ slot. for_slot m slot (split_slot m slot key))
 
 -- at the key of a root table with these values
 abbrev pub split : List Table → Machine → List ℕ → List Value → Answer
@@ -499,8 +550,8 @@ may_take_memory (Finish query) = true
 may_take_memory (Close query) = false
 may_take_memory (Split table key) = true
 
--- Which query texts, with which parameters, are understood as which statements, and which are refused why. The definitions below are for
--- any such relation.
+-- Which query texts, with which parameters, are understood as which statements, and which are refused why. The
+-- definitions below are for any such relation.
 abbrev pub Understanding : Type 1
 Understanding = List ℕ → List Parameter → Result Statement Refusal → Type 0
 
@@ -521,7 +572,8 @@ MayRunOutOfMemory m r next = (r ≡ Refused refusal.OutOfMemory) × (next ≡ m)
 abbrev pub Answers : Machine → Answer → Reply → Machine → Type 0
 Answers m a r next = IsAnswer a r next ⊎ MayRunOutOfMemory m r next
 
--- from m, the reply to the step and the machine after it: the machine's answer, or out of memory where the step may run out of it
+-- from m, the reply to the step and the machine after it: the machine's answer, or out of memory where the step may run
+-- out of it
 abbrev pub Steps : Understanding → List Table → Machine → Step → Reply → Machine → Type 0
 Steps understands schema m s r next =
     ((u : Result Statement Refusal) × IsUnderstood understands s u × IsAnswer (answer schema m u s) r next)
@@ -532,4 +584,5 @@ abbrev pub first_slot : SlotState
 first_slot = record { lo = None; hi = None; last = 0; floor = 0; horizon = 0 }
 
 abbrev pub start : Machine
-start = record { slots = first_slot ∷ []; transactions = []; log = []; queries = []; next_transaction = 1; next_query = 1 }
+start =
+    record { slots = first_slot ∷ []; transactions = []; log = []; queries = []; next_transaction = 1; next_query = 1 }

@@ -39,4 +39,5 @@ leaf_within schema db leaf range = leaf_rows leaf (tables_within schema db leaf.
 
 -- what a plan gives on a database: the leaves on their ranges, and then the query above them
 abbrev pub plan_means : List Table → Plan → List TableRow → Rows
-plan_means schema plan db = meaning_over (given (map (λ (l : Leaf). leaf_within schema db l l.range) plan.leaves)) plan.top
+plan_means schema plan db =
+    meaning_over (given (map (λ (l : Leaf). leaf_within schema db l l.range) plan.leaves)) plan.top

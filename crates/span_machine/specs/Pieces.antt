@@ -33,7 +33,8 @@ no_pieces leaf = []
 
 -- a query text with its parameters, understood as a statement, as an open query that has no piece yet
 abbrev pub unread : List Table → ℕ → ℕ → List ℕ → List Parameter → Statement → Pieced
-unread schema number s text params q = record { query = as_opened schema number s text params q; pieces = map no_pieces (statement_plan schema q).leaves }
+unread schema number s text params q =
+    record { query = as_opened schema number s text params q; pieces = map no_pieces (statement_plan schema q).leaves }
 
 -- a leaf's pieces, with that of this range at its place among them
 abbrev pub insert_piece : ScanLeaf → KeyRange → Piece → List Piece → List Piece
@@ -41,11 +42,13 @@ insert_piece l part piece pieces = insert pieces (place_among l.covered part) pi
 
 abbrev pub insert_piece_at : List ScanLeaf → ℕ → KeyRange → Piece → List (List Piece) → List (List Piece)
 insert_piece_at leaves leaf part piece pieces =
-    if_some (slice_get leaves leaf) pieces (λ l. if_some (slice_get pieces leaf) pieces (λ ps. slice_set pieces leaf (insert_piece l part piece ps)))
+    if_some (slice_get leaves leaf) pieces
+    (λ l. if_some (slice_get pieces leaf) pieces (λ ps. slice_set pieces leaf (insert_piece l part piece ps)))
 
 -- the open query, with this piece of the leaf at a place
 abbrev pub covered_by : ℕ → KeyRange → Piece → Pieced → Pieced
-covered_by leaf part piece p = record { query = cover leaf part p.query; pieces = insert_piece_at p.query.leaves leaf part piece p.pieces }
+covered_by leaf part piece p =
+    record { query = cover leaf part p.query; pieces = insert_piece_at p.query.leaves leaf part piece p.pieces }
 
 -- the open queries alone
 abbrev pub queries_of : List Pieced → List OpenQuery
@@ -53,4 +56,12 @@ queries_of ps = map (λ p. p.query) ps
 
 -- the machine's state alone
 abbrev pub machine_of : Journaled → Machine
-machine_of j = record { slots = j.slots; transactions = j.transactions; log = j.log; queries = queries_of j.queries; next_transaction = j.next_transaction; next_query = j.next_query }
+machine_of j =
+    record {
+      slots = j.slots;
+      transactions = j.transactions;
+      log = j.log;
+      queries = queries_of j.queries;
+      next_transaction = j.next_transaction;
+      next_query = j.next_query;
+    }

@@ -38,18 +38,21 @@ AreOfSchema schema steps = AllByRecursion (IsOfSchema schema) steps
 
 -- each statement that a query text is understood as can be planned
 abbrev pub CanPlan : Understanding → List Table → Type 0
-CanPlan understands schema = (text : List ℕ) (params : List Parameter) (q : Statement) → understands text params (Ok q) → IsPlannable schema q
+CanPlan understands schema =
+    (text : List ℕ) (params : List Parameter) (q : Statement) → understands text params (Ok q) → IsPlannable schema q
 
 -- the machine may give these replies to these steps, one after another
 abbrev pub Run : Understanding → List Table → Machine → List Step → List Reply → Machine → Type 0
 Run understands schema m [] [] last = last ≡ m
 Run understands schema m [] (r ∷ rs) last = ⊥
 Run understands schema m (s ∷ ss) [] last = ⊥
-Run understands schema m (s ∷ ss) (r ∷ rs) last = (mid : Machine) × Steps understands schema m s r mid × Run understands schema mid ss rs last
+Run understands schema m (s ∷ ss) (r ∷ rs) last =
+    (mid : Machine) × Steps understands schema m s r mid × Run understands schema mid ss rs last
 
--- This is what the query of this number means, its rows in order or the fault: its query text is understood as a statement that means it on
--- the tables of the commits, at the timestamp that the query was opened at.
-pub record IsMeant (understands : Understanding) (schema : List Table) (commits : List Commit) (asked : List OpenedQuery) (query s : ℕ) (meant : rows.Rows) : Type 0 where
+-- This is what the query of this number means, its rows in order or the fault: its query text is understood as a
+-- statement that means it on the tables of the commits, at the timestamp that the query was opened at.
+pub record IsMeant (understands : Understanding) (schema : List Table) (commits : List Commit)
+    (asked : List OpenedQuery) (query s : ℕ) (meant : rows.Rows) : Type 0 where
   pub question : OpenedQuery
   pub opened : find (λ a. a.number == query) asked ≡ Some question
   pub at : s ≡ question.s
@@ -61,21 +64,25 @@ pub record IsMeant (understands : Understanding) (schema : List Table) (commits 
 
 -- a query that was answered with rows, or refused for an arithmetic fault, was answered rightly by these commits
 abbrev pub IsRight : Understanding → List Table → List Commit → List OpenedQuery → Step → Reply → Type 0
-IsRight understands schema commits asked (Finish query) (Rows s found) = IsMeant understands schema commits asked query s (Some found.rows)
-IsRight understands schema commits asked (Finish query) (Refused why) = why ≡ ArithmeticFault → (s : ℕ) × IsMeant understands schema commits asked query s None
+IsRight understands schema commits asked (Finish query) (Rows s found) =
+    IsMeant understands schema commits asked query s (Some found.rows)
+IsRight understands schema commits asked (Finish query) (Refused why) =
+    why ≡ ArithmeticFault → (s : ℕ) × IsMeant understands schema commits asked query s None
 IsRight understands schema commits asked _ _ = Unit {0}
 
 -- every answer of a run is right by these commits
 abbrev pub AreRight : Understanding → List Table → List Commit → List OpenedQuery → List Step → List Reply → Type 0
 AreRight understands schema commits asked [] replies = Unit {0}
 AreRight understands schema commits asked (s ∷ ss) [] = Unit {0}
-AreRight understands schema commits asked (s ∷ ss) (r ∷ rs) = IsRight understands schema commits asked s r × AreRight understands schema commits (opened_by s r ++ asked) ss rs
+AreRight understands schema commits asked (s ∷ ss) (r ∷ rs) =
+    IsRight understands schema commits asked s r × AreRight understands schema commits (opened_by s r ++ asked) ss rs
 
--- The headline. The replies are the machine's; the log of the machine holds just the commits that were answered Decided, in order;
--- every one of them applies at its place, so that the tables at any timestamp are made; and every answer has exactly the rows, in
--- order, that its query text means on the tables of the commits of the whole run, also those decided after it. Where a query is
--- refused for an arithmetic fault, its query text means the fault there.
-pub record IsHistory (understands : Understanding) (schema : List Table) (steps : List Step) (replies : List Reply) : Type 0 where
+-- The headline. The replies are the machine's; the log of the machine holds just the commits that were answered
+-- Decided, in order; every one of them applies at its place, so that the tables at any timestamp are made; and every
+-- answer has exactly the rows, in order, that its query text means on the tables of the commits of the whole run, also
+-- those decided after it. Where a query is refused for an arithmetic fault, its query text means the fault there.
+pub record IsHistory (understands : Understanding) (schema : List Table) (steps : List Step)
+    (replies : List Reply) : Type 0 where
   pub last : Machine
   pub run : Run understands schema start steps replies last
   pub log : last.log ≡ commits_of steps replies

@@ -1,7 +1,7 @@
 -- The ranges of slots: which directories each of them has.
 --
--- A range is cut at coded root keys alone, so that a directory, whose keys all begin with the coding of its root row, is in one slot as a
--- whole.
+-- A range is cut at coded root keys alone, so that a directory, whose keys all begin with the coding of its root row,
+-- is in one slot as a whole.
 use Rattle.std.specs.Prelude.{◌≡◌, ℕ, Bool, true, List, map, filter, position, slice_get, Option, Some, None}
 use Rattle.std.specs.List.{AllByRecursion}
 use Rattle.span_schema.specs.declared.table.Table.{Table}

@@ -21,7 +21,8 @@ abbrev pub unless : {A : Type 0} → Option Refusal → A → Result A Refusal
 unless None x = Ok x
 unless (Some why) x = Err why
 
--- the whole key of table n: one value of the right type for each key column; then NOT NULL, the lengths, the length of its coding
+-- the whole key of table n: one value of the right type for each key column; then NOT NULL, the lengths, the length of
+-- its coding
 abbrev pub key_causes : List Table → ℕ → Table → List Value → List (Bool × Refusal)
 key_causes tables n t key =
     (not (are_of_kinds (key_columns tables n) key), WrongType)
@@ -30,7 +31,8 @@ key_causes tables n t key =
     ∷ (nat_lt longest_key (length (key_code tables n key)), KeyTooLong)
     ∷ []
 
--- a cell, given those before it: it names a column outside the key that none before it names, and a Delete has none; then its value
+-- a cell, given those before it: it names a column outside the key that none before it names, and a Delete has none;
+-- then its value
 abbrev pub cell_causes : Table → MutationKind → List NamedValue → NamedValue → List (Bool × Refusal)
 cell_causes t kind before c =
     (is_delete kind || is_none (cell_column t c.column) || is_named before c.column, NoColumn)
@@ -42,7 +44,8 @@ cell_causes t kind before c =
 -- the cells in turn
 abbrev pub cells_cause : Table → MutationKind → List NamedValue → List NamedValue → Option Refusal
 cells_cause t kind before [] = None
-cells_cause t kind before (c ∷ cs) = option_or (first_cause (cell_causes t kind before c)) (cells_cause t kind (before ++ c ∷ []) cs)
+cells_cause t kind before (c ∷ cs) =
+    option_or (first_cause (cell_causes t kind before c)) (cells_cause t kind (before ++ c ∷ []) cs)
 
 -- what may make a new row names each NOT NULL column
 abbrev pub lack_causes : Table → Mutation → List (Bool × Refusal)
@@ -51,7 +54,8 @@ lack_causes t m = (may_insert m.kind && lacks_cell t.key m.cells t.columns, Null
 -- a mutation of table n: its key, its cells, and what they lack
 abbrev pub mutation_cause : List Table → ℕ → Table → Mutation → Option Refusal
 mutation_cause tables n t m =
-    option_or (first_cause (key_causes tables n t m.key)) (option_or (cells_cause t m.kind [] m.cells) (first_cause (lack_causes t m)))
+    option_or (first_cause (key_causes tables n t m.key))
+    (option_or (cells_cause t m.kind [] m.cells) (first_cause (lack_causes t m)))
 
 abbrev pub typed : ℕ → Table → Mutation → CheckedMutation
 typed n t m = record { kind = m.kind; table = n; key = m.key; cells = values_named t.key m.cells t.columns }
@@ -79,5 +83,6 @@ checked_transaction tables [] = Err EmptyTransaction
 checked_transaction tables (m ∷ ms) = checked_all tables (m ∷ ms)
 
 -- with these in front
-abbrev pub with_front : List CheckedMutation → Result (List CheckedMutation) Refusal → Result (List CheckedMutation) Refusal
+abbrev pub with_front : List CheckedMutation → Result (List CheckedMutation) Refusal
+    → Result (List CheckedMutation) Refusal
 with_front front rest = and_then rest (λ cs. Ok (front ++ cs))

@@ -81,7 +81,8 @@ lacks_cell key cells columns = list_any (is_lacking key cells) columns
 
 -- the value that the cells give the column with a name
 abbrev pub value_named : List NamedValue → List ℕ → Option Value
-value_named cells name = option_map (λ (c : NamedValue). c.value) (find (λ (c : NamedValue). is_same_name c.column name) cells)
+value_named cells name =
+    option_map (λ (c : NamedValue). c.value) (find (λ (c : NamedValue). is_same_name c.column name) cells)
 
 -- the columns outside the key, in the order of declaration
 abbrev pub other_columns : List KeyColumn → List Column → List Column

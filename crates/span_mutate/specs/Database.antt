@@ -1,6 +1,7 @@
 -- Databases, and what mutations make of them.
 --
--- A database is the list of the rows of all tables: those of table 1 in the order of its primary key, then those of table 2, and so on.
+-- A database is the list of the rows of all tables: those of table 1 in the order of its primary key, then those of
+-- table 2, and so on.
 use Rattle.std.specs.Prelude.{ℕ, ◌==◌, not, ◌&&◌, nat_lt, Bool, true, false, List, [], ◌∷◌, length, take, filter, Option, Some, None, is_some, is_none, Result, Ok, if◌then◌else◌}
 use Rattle.std.specs.List.{list_any, range_with_len}
 use Rattle.std.specs.Option.{unwrap_or}
@@ -45,7 +46,8 @@ abbrev pub cascades : Option Table → Bool
 cascades None = true
 cascades (Some t) = is_cascading t.parent
 
--- a row of table m stays where a row above it, of table n, is to be deleted: the table is below, without ON DELETE CASCADE
+-- a row of table m stays where a row above it, of table n, is to be deleted: the table is below, without ON DELETE
+-- CASCADE
 abbrev pub blocks_delete : List Table → ℕ → ℕ → Bool
 blocks_delete tables n m = is_at_or_below tables n m && not (m == n) && not (cascades (table_at tables m))
 
@@ -111,7 +113,8 @@ without_rows tables n key (Some r) db = filter (λ (q : TableRow). not (is_under
 -- what a mutation makes of a database in which its key has this row
 abbrev pub changed : List Table → List TableRow → CheckedMutation → Option TableRow → List TableRow
 changed tables db m before =
-    (if is_delete m.kind then without_rows tables m.table m.key before db else with_row (key_columns tables m.table) (row_after m before) db)
+    (if is_delete m.kind then without_rows tables m.table m.key before db
+    else with_row (key_columns tables m.table) (row_after m before) db)
 
 abbrev pub apply_to : List Table → List TableRow → CheckedMutation → Option TableRow → Result (List TableRow) Refusal
 apply_to tables db m before = unless (first_cause (causes tables db m before)) (changed tables db m before)

@@ -64,17 +64,20 @@ AreKeyed tables ms = AllByRecursion (λ (m : CheckedMutation). IsKeyed tables m.
 
 -- each directory of the database makes these of it, by its own mutations
 abbrev pub RunsTo : List Table → List TableRow → List CheckedMutation → List TableRow → Type 0
-RunsTo tables db ms after = (root : Root) → IsKeyed tables root.table root.key → apply tables (directory tables root db) (mutations_in tables root ms) ≡ Ok (directory tables root after)
+RunsTo tables db ms after =
+    (root : Root) → IsKeyed tables root.table root.key
+    → apply tables (directory tables root db) (mutations_in tables root ms) ≡ Ok (directory tables root after)
 
 -- the first mutation that has a fault: each directory runs up to it, and it has the same fault in its own directory
-pub record FirstFault (tables : List Table) (db : List TableRow) (ms : List CheckedMutation) (why : Refusal) : Type 0 where
-  pub before : List CheckedMutation
-  pub here : CheckedMutation
-  pub rest : List CheckedMutation
-  pub mutations : ms ≡ before ++ here ∷ rest
-  pub reached : List TableRow
-  pub runs : RunsTo tables db before reached
-  pub fault : apply_one tables (directory tables (root_row tables here.table here.key) reached) here ≡ Err why
+pub record FirstFault (tables : List Table) (db : List TableRow) (ms : List CheckedMutation) (why : Refusal) : Type 0
+  where
+    pub before : List CheckedMutation
+    pub here : CheckedMutation
+    pub rest : List CheckedMutation
+    pub mutations : ms ≡ before ++ here ∷ rest
+    pub reached : List TableRow
+    pub runs : RunsTo tables db before reached
+    pub fault : apply_one tables (directory tables (root_row tables here.table here.key) reached) here ≡ Err why
 
 -- an outcome that is put together of the outcomes of the directories
 abbrev pub IsPutTogether : List Table → List TableRow → List CheckedMutation → Result (List TableRow) Refusal → Type 0
@@ -83,12 +86,15 @@ IsPutTogether tables db ms (Err why) = FirstFault tables db ms why
 
 -- Apply's outcome on a database is the outcomes of its directories put together, the first fault included
 abbrev pub RootByRoot : Type 0
-RootByRoot = (tables : List Table) → MeetsRules tables → (db : List TableRow) (ms : List CheckedMutation) → IsDatabase tables db → AreKeyed tables ms
+RootByRoot =
+    (tables : List Table) → MeetsRules tables → (db : List TableRow) (ms : List CheckedMutation) → IsDatabase tables db
+    → AreKeyed tables ms
     → IsPutTogether tables db ms (apply tables db ms)
 
 -- a database is put together of its directories in one way
 abbrev pub OneDatabase : Type 0
-OneDatabase = (tables : List Table) → MeetsRules tables → (a b : List TableRow) → IsDatabase tables a → IsDatabase tables b
+OneDatabase =
+    (tables : List Table) → MeetsRules tables → (a b : List TableRow) → IsDatabase tables a → IsDatabase tables b
     → ((root : Root) → IsKeyed tables root.table root.key → directory tables root a ≡ directory tables root b) → a ≡ b
 
 -- rows of table n by their keys
@@ -97,13 +103,18 @@ by_key tables n q r = key_order (key_columns tables n) q.key r.key
 
 -- the list of a table's rows in a database is in the order of its primary key, with one row at each key
 abbrev pub RowsInOrder : Type 0
-RowsInOrder = (tables : List Table) (db : List TableRow) → IsDatabase tables db → (n : ℕ) → IsRising (by_key tables n) (rows_of n db)
+RowsInOrder =
+    (tables : List Table) (db : List TableRow) → IsDatabase tables db → (n : ℕ)
+    → IsRising (by_key tables n) (rows_of n db)
 
 -- no row is without its parent row
 abbrev pub HasParents : List Table → List TableRow → Type 0
-HasParents tables db = AllByRecursion (λ (r : TableRow). lacks_parent tables (parent_of tables r.table) r.key db ≡ false) db
+HasParents tables db =
+    AllByRecursion (λ (r : TableRow). lacks_parent tables (parent_of tables r.table) r.key db ≡ false) db
 
 -- Apply leaves no row without its parent row
 abbrev pub ParentsStay : Type 0
-ParentsStay = (tables : List Table) (db : List TableRow) (ms : List CheckedMutation) (after : List TableRow) → IsDatabase tables db → AreKeyed tables ms → HasParents tables db
+ParentsStay =
+    (tables : List Table) (db : List TableRow) (ms : List CheckedMutation) (after : List TableRow)
+    → IsDatabase tables db → AreKeyed tables ms → HasParents tables db
     → apply tables db ms ≡ Ok after → HasParents tables after

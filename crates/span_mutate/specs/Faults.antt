@@ -18,4 +18,6 @@ is_mutation_fault why = false
 
 -- Apply has these faults alone
 abbrev pub FaultsAreNamed : Type 0
-FaultsAreNamed = (tables : List Table) (db : List TableRow) (ms : List CheckedMutation) (why : Refusal) → apply tables db ms ≡ Err why → is_mutation_fault why ≡ true
+FaultsAreNamed =
+    (tables : List Table) (db : List TableRow) (ms : List CheckedMutation) (why : Refusal)
+    → apply tables db ms ≡ Err why → is_mutation_fault why ≡ true

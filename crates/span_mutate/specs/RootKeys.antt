@@ -19,6 +19,7 @@ abbrev pub root_key_in : List Table → Option ℕ → List Value → Option (Li
 root_key_in tables None key = None
 root_key_in tables (Some n) key = root_key_at tables n (table_at tables n) key
 
--- the coding of the key with these values of the root table with this name, if there is such a table, and they are a key of it
+-- the coding of the key with these values of the root table with this name, if there is such a table, and they are a
+-- key of it
 abbrev pub root_key : List Table → List ℕ → List Value → Option (List ℕ)
 root_key tables name key = root_key_in tables (number_named tables name) key

@@ -35,7 +35,9 @@ abbrev pub order_from : List KeyPart → ℕ → List Value → List Value → O
 order_from columns i [] [] = Equal
 order_from columns i [] (w ∷ ws) = Less
 order_from columns i (v ∷ vs) [] = Greater
-order_from columns i (v ∷ vs) (w ∷ ws) = ordering_then (apply_direction (is_descending (slice_get columns i)) (value_order v w)) (order_from columns (i + 1) vs ws)
+order_from columns i (v ∷ vs) (w ∷ ws) =
+    ordering_then (apply_direction (is_descending (slice_get columns i)) (value_order v w))
+    (order_from columns (i + 1) vs ws)
 
 abbrev pub key_order : List KeyPart → List Value → List Value → Ordering
 key_order columns vs ws = order_from columns 0 vs ws
@@ -46,4 +48,6 @@ row_order columns q r = ordering_then (nat_cmp q.table r.table) (key_order colum
 
 -- the rows before a row, the row, and the rows after it; a row that was at its key is gone
 abbrev pub with_row : List KeyPart → TableRow → List TableRow → List TableRow
-with_row columns r db = filter (λ (q : TableRow). is_lt (row_order columns q r)) db ++ r ∷ filter (λ (q : TableRow). is_gt (row_order columns q r)) db
+with_row columns r db =
+    filter (λ (q : TableRow). is_lt (row_order columns q r)) db ++ r
+    ∷ filter (λ (q : TableRow). is_gt (row_order columns q r)) db

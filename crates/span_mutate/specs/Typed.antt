@@ -46,5 +46,7 @@ AreTypedMutations tables ms = AllByRecursion (IsTypedMutation tables) ms
 
 -- Apply of typed mutations on a typed database leaves a typed database
 abbrev pub TypedStay : Type 0
-TypedStay = (tables : List Table) (db : List TableRow) (ms : List CheckedMutation) (after : List TableRow) → AreTyped tables db → AreTypedMutations tables ms
+TypedStay =
+    (tables : List Table) (db : List TableRow) (ms : List CheckedMutation) (after : List TableRow) → AreTyped tables db
+    → AreTypedMutations tables ms
     → apply tables db ms ≡ Ok after → AreTyped tables after

@@ -6,7 +6,10 @@ use Rattle.span_params.specs.Parameters.{parameter_named, with_parameter}
 
 -- by its name, in any case of its letters, the added one is found; by each other name, what was found before
 abbrev pub AddedIsFound : Type 0
-AddedIsFound = (p : Parameter) (ps : List Parameter) (name : List ℕ) → parameter_named (with_parameter p ps) name ≡ (if is_same_name p.name name then Some p else parameter_named ps name)
+AddedIsFound =
+    (p : Parameter) (ps : List Parameter) (name : List ℕ)
+    → parameter_named (with_parameter p ps) name
+    ≡ (if is_same_name p.name name then Some p else parameter_named ps name)
 
 -- no two have one name
 abbrev pub AreDistinct : List Parameter → Type 0

@@ -42,7 +42,9 @@ required_alias text = either part.AsName (as_name text) (spelling text sort.Name
 -- ---- ORDER BY and LIMIT
 
 unfoldable pub sort_column : List ℕ → Piece SortColumn
-sort_column text = either (part.Token sort.Name) (by.Name <$> spelling text sort.Name) ((λ t. by.Place (integer_of false t)) <$> token sort.Int)
+sort_column text =
+    either (part.Token sort.Name) (by.Name <$> spelling text sort.Name)
+    ((λ t. by.Place (integer_of false t)) <$> token sort.Int)
 
 unfoldable pub sort_key : List ℕ → Piece SortKey
 sort_key text = do
@@ -173,7 +175,9 @@ module _ (text : List ℕ) (left : ℕ) where
   output_expression = expr >>= (λ value. (λ both. output_item.Value both.0 both.1) <$> pair_with value (alias text))
 
   unfoldable pub output : Piece Output
-  output = either (part.Token (sort.Sign sign.Star)) ((λ t. output_item.All) <$> token (sort.Sign sign.Star)) (either part.AllOfTable (all_of_table text) output_expression)
+  output =
+      either (part.Token (sort.Sign sign.Star)) ((λ t. output_item.All) <$> token (sort.Sign sign.Star))
+      (either part.AllOfTable (all_of_table text) output_expression)
 
   unfoldable pub output_more : Piece Output
   output_more = token (sort.Sign sign.Comma) >> output
@@ -203,13 +207,16 @@ module _ (text : List ℕ) (left : ℕ) where
     named_item = spelling text sort.Name >>= (λ name. source.Table name <$> alias text)
 
     unfoldable pub derived_item : Piece Item
-    derived_item = subquery >>= (λ query. (λ both. source.Derived both.0 both.1) <$> pair_with query (required_alias text))
+    derived_item =
+        subquery >>= (λ query. (λ both. source.Derived both.0 both.1) <$> pair_with query (required_alias text))
 
     unfoldable pub item : Piece Item
     item = either part.NamedItem named_item derived_item
 
     unfoldable pub join : Piece Join
-    join = join_kind >>= (λ is_left. item >>= (λ joined. (λ both. join_of is_left both.0 both.1) <$> pair_with joined join_on))
+    join =
+        join_kind >>= (λ is_left. item
+        >>= (λ joined. (λ both. join_of is_left both.0 both.1) <$> pair_with joined join_on))
 
     -- the joins, and what is after them
     unfoldable pub block_joins : Piece (List Join × Conditions)
@@ -221,7 +228,9 @@ module _ (text : List ℕ) (left : ℕ) where
 
     -- what is after SELECT
     unfoldable pub block_body : Piece Block
-    block_body = quantifier >>= (λ is_distinct. outputs >>= (λ output_list. block_of is_distinct <$> pair_with output_list block_from))
+    block_body =
+        quantifier >>= (λ is_distinct. outputs
+        >>= (λ output_list. block_of is_distinct <$> pair_with output_list block_from))
 
     unfoldable pub block : Piece Block
     block = token (sort.Word word.Select) >> block_body
@@ -240,7 +249,16 @@ pub no_spelling : Spelling
 no_spelling = record { text = []; span = record { start = 0; end = 0 } }
 
 pub no_block : Block
-no_block = roll-Block (record { is_distinct = false; outputs = []; from = source.Table no_spelling None; joins = []; filter = None; groups = []; having = None })
+no_block =
+    roll-Block (record {
+      is_distinct = false;
+      outputs = [];
+      from = source.Table no_spelling None;
+      joins = [];
+      filter = None;
+      groups = [];
+      having = None;
+    })
 
 -- a query after an opening, with a number of openings left
 unfoldable pub nested_query : List ℕ → ℕ → Piece Query

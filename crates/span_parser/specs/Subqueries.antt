@@ -22,7 +22,8 @@ module _ {F A : Type 0} (r : Reading F) where
 
   -- the same of the piece, which is the part, any number of times
   abbrev pub ReadsEachQuery : Part → (List ℕ → ℕ → Piece Query → Piece A) → List Lexeme → Returned (List A) → Type 0
-  ReadsEachQuery a piece tokens result = Gives result ((each a (piece r.text r.left (nested_query r.text r.left))).read tokens)
+  ReadsEachQuery a piece tokens result =
+      Gives result ((each a (piece r.text r.left (nested_query r.text r.left))).read tokens)
 
 -- the arguments of a call: the allocator, the text, the number of openings left and the tokens
 abbrev Arguments : Type 0
@@ -31,6 +32,9 @@ Arguments = Global × (Bor (List ℕ) × (ℕ × (Bor (List Lexeme) × Unit {0})
 -- the reader's function reads a query of its text, with one opening fewer left
 pub record NestsQueries {F : Type 0} (call : Shared F Arguments (Returned Query)) (r : Reading F) : Type 0 where
   pub limited : r.left ≤ limit
-  pub callable : (alloc : Global) (t : Bor (List ℕ)) (ts : Bor (List Lexeme)) → 0 < r.left → call.pre r.read (alloc, (t, (r.left - 1, (ts, tt))))
-  pub gives : (alloc : Global) (t : Bor (List ℕ)) (ts : Bor (List Lexeme)) (v : Returned Query) → t.now ≡ r.text → 0 < r.left
-      → call.post r.read (alloc, (t, (r.left - 1, (ts, tt)))) v → Gives v ((query r.text (r.left - 1) (nested_query r.text (r.left - 1))).read ts.now)
+  pub callable : (alloc : Global) (t : Bor (List ℕ)) (ts : Bor (List Lexeme)) → 0 < r.left
+      → call.pre r.read (alloc, (t, (r.left - 1, (ts, tt))))
+  pub gives : (alloc : Global) (t : Bor (List ℕ)) (ts : Bor (List Lexeme)) (v : Returned Query) → t.now ≡ r.text
+      → 0 < r.left
+      → call.post r.read (alloc, (t, (r.left - 1, (ts, tt)))) v
+      → Gives v ((query r.text (r.left - 1) (nested_query r.text (r.left - 1))).read ts.now)

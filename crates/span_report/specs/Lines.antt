@@ -14,7 +14,8 @@ place_text (place.Line line byte) = codes ", line " ++ decimal line ++ codes ", 
 
 -- the number, the name and the message
 abbrev pub refusal_text : Refusal → List ℕ
-refusal_text why = codes "refused " ++ decimal (number_of why) ++ codes " " ++ name_of why ++ codes ": " ++ message_of why
+refusal_text why =
+    codes "refused " ++ decimal (number_of why) ++ codes " " ++ name_of why ++ codes ": " ++ message_of why
 
 -- the program, the input, the place, and the refusal
 abbrev pub report_text : List ℕ → List ℕ → Place → Refusal → List ℕ

@@ -16,7 +16,8 @@ pub struct Report<'a> {
 }
 
 impl Report<'_> {
-    /// Writes the report as a line on standard error. Where that device fails, the line is lost: the answer on standard output is not.
+    /// Writes the report as a line on standard error. Where that device fails, the line is lost: the answer on standard output is not. What
+    /// the line says is the contract of `Display`; what standard error takes no contract can say.
     pub fn write(&self, rt: &impl Eprint) {
         let _ = eprintln!(rt; "{self}");
     }

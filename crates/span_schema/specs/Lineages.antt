@@ -42,7 +42,11 @@ abbrev pub path_below : List Lineage → Option ℕ → List ℕ
 path_below lines parent = above (λ p. path_of_line (slice_get lines p)) parent
 
 abbrev pub lineage_in : List Table → Table → List Lineage → Lineage
-lineage_in before t lines = record { parent = parent_place before t; path = path_below lines (parent_place before t) ++ (length before + 1) ∷ [] }
+lineage_in before t lines =
+    record {
+      parent = parent_place before t;
+      path = path_below lines (parent_place before t) ++ (length before + 1) ∷ [];
+    }
 
 abbrev pub judged_in : List Table → Table → List Lineage → Option Refusal
 judged_in before t lines = first_cause (causes_of before t (length (path_below lines (parent_place before t)) + 1))

@@ -62,7 +62,9 @@ is_same_direction false b = not b
 
 -- key columns of two tables are equal: in name, direction, and type with its length
 abbrev pub is_same_key_column : List Column → List Column → KeyColumn → KeyColumn → Bool
-is_same_key_column cs ds k l = is_same_name k.name l.name && is_same_direction k.desc l.desc && is_same_type (type_named cs k.name) (type_named ds l.name)
+is_same_key_column cs ds k l =
+    is_same_name k.name l.name && is_same_direction k.desc l.desc
+    && is_same_type (type_named cs k.name) (type_named ds l.name)
 
 abbrev pub begins_key : List Column → List Column → List KeyColumn → List KeyColumn → Bool
 begins_key cs ds [] ls = true

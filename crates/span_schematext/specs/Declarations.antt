@@ -34,14 +34,17 @@ unbounded t = None
 
 -- the greatest length; none for MAX
 unfoldable pub length_bound : Piece (Option ℕ)
-length_bound = either (part.Token sort.Int) (at_most <$> token sort.Int) (unbounded <$> token (sort.Context context.Max))
+length_bound =
+    either (part.Token sort.Int) (at_most <$> token sort.Int) (unbounded <$> token (sort.Context context.Max))
 
 unfoldable pub in_length : Piece (Option ℕ)
 in_length = length_bound >>= (λ most. (λ t. most) <$> token (sort.Sign sign.Close))
 
 -- whether it is STRING, and else BYTES
 unfoldable pub long_kind : Piece Bool
-long_kind = either (part.Token (sort.Context context.String)) ((λ t. true) <$> token (sort.Context context.String)) ((λ t. false) <$> token (sort.Context context.Bytes))
+long_kind =
+    either (part.Token (sort.Context context.String)) ((λ t. true) <$> token (sort.Context context.String))
+    ((λ t. false) <$> token (sort.Context context.Bytes))
 
 abbrev pub long_of : Bool → Option ℕ → ColumnType
 long_of true most = kind.Str most
@@ -61,7 +64,8 @@ no_action = token (sort.Context context.No) >> ((λ t. false) <$> token (sort.Co
 
 -- whether it is CASCADE
 unfoldable pub action : Piece Bool
-action = either (part.Token (sort.Context context.Cascade)) ((λ t. true) <$> token (sort.Context context.Cascade)) no_action
+action =
+    either (part.Token (sort.Context context.Cascade)) ((λ t. true) <$> token (sort.Context context.Cascade)) no_action
 
 unfoldable pub on_delete : Piece Bool
 on_delete = token (sort.Word word.On) >> (token (sort.Context context.Delete) >> action)
@@ -84,7 +88,8 @@ module _ (left : ℕ) where
   unfoldable pub column_type : Piece ColumnType
   column_type =
       either (part.Token (sort.Context context.Int64)) ((λ t. kind.Int) <$> token (sort.Context context.Int64))
-      (either (part.Token (sort.Context context.Bool)) ((λ t. kind.Bool) <$> token (sort.Context context.Bool)) long_type)
+      (either (part.Token (sort.Context context.Bool)) ((λ t. kind.Bool) <$> token (sort.Context context.Bool))
+      long_type)
 
 module _ (text : List ℕ) where
   unfoldable pub parent : Piece Parent
@@ -108,7 +113,9 @@ module _ (text : List ℕ) where
   key_column_more = token (sort.Sign sign.Comma) >> key_column
 
   unfoldable pub in_key_columns : Piece (List KeyColumn)
-  in_key_columns = key_column >>= (λ first. each part.KeyColumnMore key_column_more >>= (λ more. (λ t. first ∷ more) <$> token (sort.Sign sign.Close)))
+  in_key_columns =
+      key_column >>= (λ first. each part.KeyColumnMore key_column_more
+      >>= (λ more. (λ t. first ∷ more) <$> token (sort.Sign sign.Close)))
 
   -- ---- tables, with a number of openings left
 
@@ -123,7 +130,9 @@ module _ (text : List ℕ) where
     table_column_more = token (sort.Sign sign.Comma) >> table_column
 
     unfoldable pub in_table_columns : Piece (List Column)
-    in_table_columns = table_column >>= (λ first. each part.TableColumnMore table_column_more >>= (λ more. (λ t. first ∷ more) <$> token (sort.Sign sign.Close)))
+    in_table_columns =
+        table_column >>= (λ first. each part.TableColumnMore table_column_more
+        >>= (λ more. (λ t. first ∷ more) <$> token (sort.Sign sign.Close)))
 
     unfoldable pub key_columns : Piece (List KeyColumn)
     key_columns = opening left (sort.Sign sign.Open) in_key_columns
@@ -134,11 +143,14 @@ module _ (text : List ℕ) where
   module _ (left : ℕ) where
     -- what is after PRIMARY KEY
     unfoldable pub key_and_parent : List ℕ → List Column → Piece Table
-    key_and_parent table columns = key_columns left >>= (λ key. (λ above. record { name = table; columns = columns; key = key; parent = above }) <$> maybe_interleave)
+    key_and_parent table columns =
+        key_columns left >>= (λ key. (λ above. record { name = table; columns = columns; key = key; parent = above })
+        <$> maybe_interleave)
 
     -- what is after the columns
     unfoldable pub primary_key : List ℕ → List Column → Piece Table
-    primary_key table columns = token (sort.Context context.Primary) >> (token (sort.Context context.Key) >> key_and_parent table columns)
+    primary_key table columns =
+        token (sort.Context context.Primary) >> (token (sort.Context context.Key) >> key_and_parent table columns)
 
     -- what is after CREATE TABLE
     unfoldable pub named_table : Piece Table
@@ -151,4 +163,5 @@ module _ (text : List ℕ) where
     table_more = token sort.Separator >> table
 
     unfoldable pub tables : Piece (List Table)
-    tables = table >>= (λ first. each part.TableMore table_more >>= (λ more. (λ u. first ∷ more) <$> maybe_last_semicolon))
+    tables =
+        table >>= (λ first. each part.TableMore table_more >>= (λ more. (λ u. first ∷ more) <$> maybe_last_semicolon))

@@ -20,7 +20,8 @@ IsSchemaText text found = AreTables text found × MeetsRules found
 
 -- the refusal of a text that has no tree, or the first rule that its tables break
 abbrev pub IsSchemaRefused : List ℕ → Refusal → Type 0
-IsSchemaRefused text why = IsRefused goal.Schema text why ⊎ ((found : List Table) × AreTables text found × IsFirstCause found why)
+IsSchemaRefused text why =
+    IsRefused goal.Schema text why ⊎ ((found : List Table) × AreTables text found × IsFirstCause found why)
 
 -- these tables, unless memory ran out
 abbrev pub IsSchemaOrOutOfMemory : Result (List Table) Refusal → List Table → Type 0

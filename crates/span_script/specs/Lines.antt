@@ -31,7 +31,8 @@ refused_line why = number_line (codes "refused") (number_of why)
 
 -- the line of an open query
 abbrev pub opened_line : ℕ → ℕ → ℕ → List ℕ
-opened_line query s leaves = word_number (codes "query") query ++ word_number (codes " at") s ++ number_line (codes " leaves") leaves
+opened_line query s leaves =
+    word_number (codes "query") query ++ word_number (codes " at") s ++ number_line (codes " leaves") leaves
 
 -- an end of a range: the key in lower-case hexadecimal; there may be none
 abbrev pub end_text : Option (List ℕ) → List ℕ
@@ -40,10 +41,12 @@ end_text (Some key) = hex_pairs key
 
 -- a slot's number and range
 abbrev pub slot_range : ℕ → Option (List ℕ) → Option (List ℕ) → List ℕ
-slot_range slot lo hi = word_number (codes "shard") slot ++ codes " [" ++ end_text lo ++ codes "," ++ end_text hi ++ codes ")"
+slot_range slot lo hi =
+    word_number (codes "shard") slot ++ codes " [" ++ end_text lo ++ codes "," ++ end_text hi ++ codes ")"
 
 abbrev pub slot_times : ℕ → ℕ → ℕ → List ℕ
-slot_times last floor horizon = word_number (codes " last") last ++ word_number (codes " floor") floor ++ word_number (codes " horizon") horizon
+slot_times last floor horizon =
+    word_number (codes " last") last ++ word_number (codes " floor") floor ++ word_number (codes " horizon") horizon
 
 abbrev pub slot_counts : ℕ → ℕ → List ℕ
 slot_counts live prepared = word_number (codes " live") live ++ number_line (codes " prepared") prepared
@@ -76,7 +79,8 @@ reply_text (reply.Refused why) = refused_line why
 
 -- the line of a slot in this state
 abbrev pub line_of : List Table → Machine → ℕ → SlotState → List ℕ
-line_of schema m slot state = slot_line slot state (live schema m.log m.transactions slot state) (count_by (is_prepared_at slot) m.transactions)
+line_of schema m slot state =
+    slot_line slot state (live schema m.log m.transactions slot state) (count_by (is_prepared_at slot) m.transactions)
 
 -- the lines of the slots from this one on
 abbrev pub slot_lines : List Table → Machine → ℕ → List SlotState → List ℕ

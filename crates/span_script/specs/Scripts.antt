@@ -33,7 +33,8 @@ use Rattle.span_command.specs.Texts.{NextLine}
 use Rattle.span_script.specs.Lines.{shards_text, number_line, word_line, refused_line, reply_text}
 use Rattle.span_script.specs.Steps.{Takes, IsBegun, IsQueried}
 
--- a load whose lines are read: how its records are read, or why it is refused; and how many mutations were gathered before it
+-- a load whose lines are read: how its records are read, or why it is refused; and how many mutations were gathered
+-- before it
 pub record OpenLoad : Type 0 where
   pub layout : Result Layout Refusal
   pub before : ℕ
@@ -49,16 +50,20 @@ pub record ScriptState : Type 0 where
 
 abbrev pub SetsClock : ℕ → ℕ → ScriptState → ScriptState → Type 0
 SetsClock earliest latest state next =
-    (earliest ≤ latest) × (latest < timestamp_end) × (clock : Interval) × (clock.earliest ≡ earliest) × (clock.latest ≡ latest)
+    (earliest ≤ latest) × (latest < timestamp_end) × (clock : Interval) × (clock.earliest ≡ earliest)
+    × (clock.latest ≡ latest)
     × (next ≡ record state { clock = clock })
 
 abbrev pub RefusesClock : ℕ → ℕ → Refusal → Type 0
 RefusesClock earliest latest why =
-    ((why ≡ BadInterval) × (latest < earliest)) ⊎ ((why ≡ TimestampRange) × (earliest ≤ latest) × (timestamp_end ≤ latest))
+    ((why ≡ BadInterval) × (latest < earliest))
+    ⊎ ((why ≡ TimestampRange) × (earliest ≤ latest) × (timestamp_end ≤ latest))
 
 abbrev pub SetsParam : List ℕ → Kind → List ℕ → ScriptState → ScriptState → Type 0
 SetsParam name kind cell state next = (value : Value) × IsCell kind value cell
-    × (next ≡ record state { params = with_parameter (record { name = name; kind = kind; value = value }) state.params })
+    × (next ≡ record state {
+      params = with_parameter (record { name = name; kind = kind; value = value }) state.params;
+    })
 
 abbrev pub RefusesParam : Kind → List ℕ → Refusal → Type 0
 RefusesParam kind cell why = (why ≡ WrongType) × ((value : Value) → ¬ IsCell kind value cell)
@@ -66,21 +71,26 @@ RefusesParam kind cell why = (why ≡ WrongType) × ((value : Value) → ¬ IsCe
 -- the mutation of a record is gathered
 abbrev pub Gathers : Layout → MutationKind → List ℕ → ScriptState → ScriptState → Type 0
 Gathers layout kind row state next =
-    (m : Mutation) × IsOfRecord layout kind (record_fields row) m × (next ≡ record state { gathered = state.gathered ++ m ∷ [] })
+    (m : Mutation) × IsOfRecord layout kind (record_fields row) m
+    × (next ≡ record state { gathered = state.gathered ++ m ∷ [] })
 
 -- the record makes no mutation
 abbrev pub RefusesRecord : Layout → MutationKind → List ℕ → Refusal → Type 0
-RefusesRecord layout kind row why = (why ≡ WrongType) × ((m : Mutation) → ¬ IsOfRecord layout kind (record_fields row) m)
+RefusesRecord layout kind row why =
+    (why ≡ WrongType) × ((m : Mutation) → ¬ IsOfRecord layout kind (record_fields row) m)
 
 abbrev pub Writes : List Table → MutationKind → List ℕ → List ℕ → List ℕ → ScriptState → ScriptState → Type 0
-Writes schema kind table columns row state next = (layout : Layout) × IsLayoutOf schema table columns layout × Gathers layout kind row state next
+Writes schema kind table columns row state next =
+    (layout : Layout) × IsLayoutOf schema table columns layout × Gathers layout kind row state next
 
 abbrev pub RefusesWrite : List Table → MutationKind → List ℕ → List ℕ → List ℕ → Refusal → Type 0
 RefusesWrite schema kind table columns row why =
-    HasNoLayout schema table columns why ⊎ ((layout : Layout) × IsLayoutOf schema table columns layout × RefusesRecord layout kind row why)
+    HasNoLayout schema table columns why
+    ⊎ ((layout : Layout) × IsLayoutOf schema table columns layout × RefusesRecord layout kind row why)
 
 abbrev pub Deletes : List Table → List ℕ → List ℕ → ScriptState → ScriptState → Type 0
-Deletes schema table row state next = (layout : Layout) × IsKeyLayoutOf schema table layout × Gathers layout mutation.Delete row state next
+Deletes schema table row state next =
+    (layout : Layout) × IsKeyLayoutOf schema table layout × Gathers layout mutation.Delete row state next
 
 abbrev pub RefusesDelete : List Table → List ℕ → List ℕ → Refusal → Type 0
 RefusesDelete schema table row why =
@@ -89,9 +99,11 @@ RefusesDelete schema table row why =
 
 -- the record is that of a key of the table, and this is the deletion of its row
 abbrev pub IsDeletion : List Table → List ℕ → List ℕ → Mutation → Type 0
-IsDeletion schema table row m = (layout : Layout) × IsKeyLayoutOf schema table layout × IsOfRecord layout mutation.Delete (record_fields row) m
+IsDeletion schema table row m =
+    (layout : Layout) × IsKeyLayoutOf schema table layout × IsOfRecord layout mutation.Delete (record_fields row) m
 
--- A slot is split at the key that a record has. It is no step where the record has no key, or where memory runs out before it.
+-- A slot is split at the key that a record has. It is no step where the record has no key, or where memory runs out
+-- before it.
 abbrev pub IsSplit : List Table → Machine → List ℕ → List ℕ → Reply → Machine → Type 0
 IsSplit schema m table row answered last =
     ((d : Mutation) × IsDeletion schema table row d × Takes schema m (step.Split d.table d.key) answered last)
@@ -110,27 +122,35 @@ IsChanged Sets Refuses state answer next =
 abbrev pub BeginsLoad : List Table → List ℕ → List ℕ → ScriptState → ScriptState → Type 0
 BeginsLoad schema table columns state next =
     (load : OpenLoad) × (load.before ≡ length state.gathered) × (next ≡ record state { load = Some load })
-    × MatchResult load.layout (IsLayoutOf schema table columns) (λ why. (why ≡ OutOfMemory) ⊎ HasNoLayout schema table columns why)
+    × MatchResult load.layout (IsLayoutOf schema table columns)
+    (λ why. (why ≡ OutOfMemory) ⊎ HasNoLayout schema table columns why)
 
 -- the load will be refused, and what it gathered is let go
 abbrev pub refused_load : OpenLoad → Refusal → ScriptState → ScriptState
 refused_load load why state =
-    record state { gathered = take load.before state.gathered; load = Some (record { layout = Err why; before = load.before }) }
+    record state {
+      gathered = take load.before state.gathered;
+      load = Some (record { layout = Err why; before = load.before });
+    }
 
--- A record of a load is gathered as an insert, or is why the load is refused. A load that is refused already passes over it.
+-- A record of a load is gathered as an insert, or is why the load is refused. A load that is refused already passes
+-- over it.
 abbrev pub LoadsRecord : OpenLoad → List ℕ → ScriptState → ScriptState → Type 0
 LoadsRecord load row state next =
     MatchResult load.layout
     (λ layout. Gathers layout mutation.Insert row (record state { load = Some load }) next
-    ⊎ ((why : Refusal) × ((why ≡ OutOfMemory) ⊎ RefusesRecord layout mutation.Insert row why) × (next ≡ refused_load load why state)))
+    ⊎ ((why : Refusal) × ((why ≡ OutOfMemory) ⊎ RefusesRecord layout mutation.Insert row why)
+    × (next ≡ refused_load load why state)))
     (λ _. next ≡ record state { load = Some load })
 
 -- The end of a load: how many mutations it gathered, or why it is refused.
 abbrev pub EndsLoad : OpenLoad → ScriptState → List ℕ → ScriptState → Type 0
 EndsLoad load state answer next =
     MatchResult load.layout
-    (λ _. ((answer ≡ number_line (codes "loaded") (length state.gathered - load.before)) × (next ≡ record state { load = None }))
-    ⊎ ((answer ≡ refused_line OutOfMemory) × (next ≡ record state { gathered = take load.before state.gathered; load = None })))
+    (λ _. ((answer ≡ number_line (codes "loaded") (length state.gathered - load.before))
+    × (next ≡ record state { load = None }))
+    ⊎ ((answer ≡ refused_line OutOfMemory)
+    × (next ≡ record state { gathered = take load.before state.gathered; load = None })))
     (λ why. (answer ≡ refused_line why) × (next ≡ record state { load = None }))
 
 -- A line of a load. One that has no text is why the load is refused, before all other causes.
@@ -176,22 +196,28 @@ IsDone schema (command.Clock earliest latest) state m answer next last =
 IsDone schema (command.Param name kind cell) state m answer next last =
     IsChanged (SetsParam name.now kind cell.now state) (RefusesParam kind cell.now) state answer next × (last ≡ m)
 IsDone schema (command.Write kind table columns row) state m answer next last =
-    IsChanged (Writes schema kind table.now columns.now row.now state) (RefusesWrite schema kind table.now columns.now row.now) state answer next
+    IsChanged (Writes schema kind table.now columns.now row.now state)
+    (RefusesWrite schema kind table.now columns.now row.now) state answer next
     × (last ≡ m)
 IsDone schema (command.Delete table row) state m answer next last =
-    IsChanged (Deletes schema table.now row.now state) (RefusesDelete schema table.now row.now) state answer next × (last ≡ m)
+    IsChanged (Deletes schema table.now row.now state) (RefusesDelete schema table.now row.now) state answer next
+    × (last ≡ m)
 IsDone schema (command.Split table row) state m answer next last =
     (answered : Reply) × IsSplit schema m table.now row.now answered last × IsReplied answered answer × (next ≡ state)
 IsDone schema (command.Load table columns) state m answer next last =
     BeginsLoad schema table.now columns.now state next × (answer ≡ []) × (last ≡ m)
 IsDone schema command.Begin state m answer next last =
-    (answered : Reply) × IsBegun schema m state.gathered answered last × IsReplied answered answer × (next ≡ record state { gathered = [] })
+    (answered : Reply) × IsBegun schema m state.gathered answered last × IsReplied answered answer
+    × (next ≡ record state { gathered = [] })
 IsDone schema (command.Open bound text) state m answer next last =
-    (answered : Reply) × Takes schema m (step.Open text.now state.params bound state.clock) answered last × IsReplied answered answer × (next ≡ state)
-IsDone schema (command.Query bound text) state m answer next last =
-    (answered : Reply) × IsQueried schema m state.clock (step.Open text.now state.params bound state.clock) answered last
+    (answered : Reply) × Takes schema m (step.Open text.now state.params bound state.clock) answered last
     × IsReplied answered answer × (next ≡ state)
-IsDone schema (command.Explain text) state m answer next last = IsExplained schema text.now state.params answer × (next ≡ state) × (last ≡ m)
+IsDone schema (command.Query bound text) state m answer next last =
+    (answered : Reply) × IsQueried schema m state.clock (step.Open text.now state.params bound state.clock) answered
+    last
+    × IsReplied answered answer × (next ≡ state)
+IsDone schema (command.Explain text) state m answer next last =
+    IsExplained schema text.now state.params answer × (next ≡ state) × (last ≡ m)
 IsDone schema command.Shards state m answer next last =
     ((answer ≡ shards_text schema m) ⊎ (answer ≡ refused_line OutOfMemory)) × (next ≡ state) × (last ≡ m)
 IsDone schema c state m answer next last =
@@ -217,11 +243,13 @@ IsDoneIfRead schema None state m answer next last = IsRefused BadCommand state m
 IsDoneIfRead schema (Some c) state m answer next last = IsDone schema c state m answer next last
 
 -- a line outside a load
-abbrev pub IsCommandLine : List Table → Option (List ℕ) → ScriptState → Machine → List ℕ → ScriptState → Machine → Type 0
+abbrev pub IsCommandLine : List Table → Option (List ℕ) → ScriptState → Machine → List ℕ → ScriptState → Machine
+    → Type 0
 IsCommandLine schema None state m answer next last = IsRefused BadCommand state m answer next last
 IsCommandLine schema (Some text) state m answer next last =
     ((is_passed_over text ≡ true) × (answer ≡ []) × (next ≡ state) × (last ≡ m))
-    ⊎ ((is_passed_over text ≡ false) × (c : Option Command) × IsReadAs text c × IsDoneIfRead schema c state m answer next last)
+    ⊎ ((is_passed_over text ≡ false) × (c : Option Command) × IsReadAs text c
+    × IsDoneIfRead schema c state m answer next last)
 
 -- the answer to a line that has this text, or none
 abbrev pub IsAnswered : List Table → Option (List ℕ) → ScriptState → Machine → List ℕ → ScriptState → Machine → Type 0
@@ -251,7 +279,9 @@ AreAnswers schema (line ∷ lines) state m answers last =
 
 -- before the first line: the clock is at 0, nothing is set and nothing gathered, and no load is read
 abbrev pub IsFirst : ScriptState → Type 0
-IsFirst state = (state.clock.earliest ≡ 0) × (state.clock.latest ≡ 0) × (state.params ≡ []) × (state.gathered ≡ []) × (state.load ≡ None)
+IsFirst state =
+    (state.clock.earliest ≡ 0) × (state.clock.latest ≡ 0) × (state.params ≡ []) × (state.gathered ≡ [])
+    × (state.load ≡ None)
 
 -- Answer text: the bytes of a script are answered by these, from the machine on, and lead to the last machine.
 pub record IsAnswerText (schema : List Table) (m : Machine) (script answers : List ℕ) (last : Machine) : Type 0 where

@@ -22,7 +22,13 @@ abbrev pub load_of : Load → OpenLoad
 load_of load = record { layout = layout_of load.layout; before = load.before }
 
 abbrev pub state_of : Session → ScriptState
-state_of session = record { clock = session.clock; params = session.params; gathered = session.gathered.items; load = option_map load_of session.load }
+state_of session =
+    record {
+      clock = session.clock;
+      params = session.params;
+      gathered = session.gathered.items;
+      load = option_map load_of session.load;
+    }
 
 -- the text of a line, which an unreadable one does not have
 abbrev pub text_of : Line → Option (List ℕ)
@@ -30,20 +36,26 @@ text_of (Text text) = Some text.now
 text_of Unreadable = None
 
 -- a change of the state is made, or refused: then nothing is changed
-abbrev pub Changes : {T : Type 0} → (ScriptState → Type 0) → (Refusal → Type 0) → Session → Session → Result T Refusal → Type 0
+abbrev pub Changes : {T : Type 0} → (ScriptState → Type 0) → (Refusal → Type 0) → Session → Session → Result T Refusal
+    → Type 0
 Changes Sets Refuses old new result =
-    MatchResult result (λ _. Sets (state_of new)) (λ why. ((why ≡ OutOfMemory) ⊎ Refuses why) × (state_of new ≡ state_of old))
+    MatchResult result (λ _. Sets (state_of new))
+    (λ why. ((why ≡ OutOfMemory) ⊎ Refuses why) × (state_of new ≡ state_of old))
 
 -- what is the answer was added, or `refused N` is, where N is returned
 abbrev pub Adds : {T : Type 0} → (List ℕ → Type 0) → List ℕ → List ℕ → Result T Refusal → Type 0
-Adds Is old new result = MatchResult result (λ _. (answer : List ℕ) × Is answer × (new ≡ old ++ answer)) (λ why. Is (refused_line why))
+Adds Is old new result =
+    MatchResult result (λ _. (answer : List ℕ) × Is answer × (new ≡ old ++ answer)) (λ why. Is (refused_line why))
 
 -- the same, where it is returned with the number of a line
 abbrev pub AddsAt : {T : Type 0} → (List ℕ → Type 0) → List ℕ → List ℕ → Result T Refused → Type 0
-AddsAt Is old new result = MatchResult result (λ _. (answer : List ℕ) × Is answer × (new ≡ old ++ answer)) (λ refused. Is (refused_line refused.why))
+AddsAt Is old new result =
+    MatchResult result (λ _. (answer : List ℕ) × Is answer × (new ≡ old ++ answer))
+    (λ refused. Is (refused_line refused.why))
 
 -- the answer to a line was added
-pub record AddsLine (schema : List Table) (text : Option (List ℕ)) (state : ScriptState) (m : Machine) (next : ScriptState) (last : Machine) (old new : List ℕ) : Type 0 where
+pub record AddsLine (schema : List Table) (text : Option (List ℕ)) (state : ScriptState) (m : Machine)
+    (next : ScriptState) (last : Machine) (old new : List ℕ) : Type 0 where
   pub answer : List ℕ
   pub is : IsAnswered schema text state m answer next last
   pub added : new ≡ old ++ answer

@@ -15,11 +15,12 @@ use Rattle.span_machine.specs.Machine.{Machine}
 use Rattle.span_core.specs.Histories.{Steps}
 use Rattle.span_core.specs.Promises.{IsRunTo, IsPromised, asked_after}
 
--- The machine's reply to a step, and the machine after it. They are as is promised of a step, by whatever run the machine was reached: rows
--- are those that the query means.
+-- The machine's reply to a step, and the machine after it. They are as is promised of a step, by whatever run the
+-- machine was reached: rows are those that the query means.
 unfoldable pub Takes : List Table → Machine → Step → Reply → Machine → Type 0
 Takes schema m taken answered next =
-    Steps schema m taken answered next × ((past : IsRunTo schema m) → IsPromised schema (asked_after [] past.steps past.replies) taken answered next)
+    Steps schema m taken answered next
+    × ((past : IsRunTo schema m) → IsPromised schema (asked_after [] past.steps past.replies) taken answered next)
 
 abbrev pub is_refused : Reply → Bool
 is_refused (reply.Refused why) = true
@@ -29,17 +30,19 @@ is_refused _ = false
 abbrev pub AreTaken : List Table → Machine → List Step → Machine → Type 0
 AreTaken schema m [] last = last ≡ m
 AreTaken schema m (s ∷ steps) last =
-    (answered : Reply) × (next : Machine) × Takes schema m s answered next × (is_refused answered ≡ false) × AreTaken schema next steps last
+    (answered : Reply) × (next : Machine) × Takes schema m s answered next × (is_refused answered ≡ false)
+    × AreTaken schema next steps last
 
 -- the steps are taken one after another up to the first that is refused, and this is why
-pub record AreRefused (schema : List Table) (m : Machine) (steps : List Step) (why : Refusal) (last : Machine) : Type 0 where
-  pub before : List Step
-  pub first : Step
-  pub after : List Step
-  pub in_order : steps ≡ before ++ first ∷ after
-  pub mid : Machine
-  pub taken : AreTaken schema m before mid
-  pub refused : Takes schema mid first (reply.Refused why) last
+pub record AreRefused (schema : List Table) (m : Machine) (steps : List Step) (why : Refusal) (last : Machine) : Type 0
+  where
+    pub before : List Step
+    pub first : Step
+    pub after : List Step
+    pub in_order : steps ≡ before ++ first ∷ after
+    pub mid : Machine
+    pub taken : AreTaken schema m before mid
+    pub refused : Takes schema mid first (reply.Refused why) last
 
 -- a scan of a leaf in each of the slots, by their numbers
 abbrev pub scans_of_leaf : Interval → ℕ → ℕ → ℕ → List Step
@@ -52,21 +55,26 @@ scans clock query slots leaves = flat_map (scans_of_leaf clock query slots) (ran
 -- An open query is scanned and finished, which gives its rows; or a step of these is refused.
 abbrev pub IsRead : List Table → Machine → Interval → ℕ → ℕ → Reply → Machine → Type 0
 IsRead schema m clock query leaves answered last =
-    ((mid : Machine) × AreTaken schema m (scans clock query (length m.slots) leaves) mid × Takes schema mid (step.Finish query) answered last)
-    ⊎ ((why : Refusal) × (answered ≡ reply.Refused why) × AreRefused schema m (scans clock query (length m.slots) leaves) why last)
+    ((mid : Machine) × AreTaken schema m (scans clock query (length m.slots) leaves) mid
+    × Takes schema mid (step.Finish query) answered last)
+    ⊎ ((why : Refusal) × (answered ≡ reply.Refused why)
+    × AreRefused schema m (scans clock query (length m.slots) leaves) why last)
 
 -- What was opened is read, and closed whatever was answered. What was not opened is answered so.
 abbrev pub IsReadAndClosed : List Table → Machine → Interval → Reply → Reply → Machine → Type 0
 IsReadAndClosed schema m clock (reply.Opened query s leaves) answered last =
-    (mid : Machine) × IsRead schema m clock query leaves answered mid × ((closed : Reply) × Takes schema mid (step.Close query) closed last)
+    (mid : Machine) × IsRead schema m clock query leaves answered mid
+    × ((closed : Reply) × Takes schema mid (step.Close query) closed last)
 IsReadAndClosed schema m clock opened answered last = (answered ≡ opened) × (last ≡ m)
 
 -- a query that is opened, read and closed
 abbrev pub IsQueried : List Table → Machine → Interval → Step → Reply → Machine → Type 0
 IsQueried schema m clock opening answered last =
-    (opened : Reply) × (mid : Machine) × Takes schema m opening opened mid × IsReadAndClosed schema mid clock opened answered last
+    (opened : Reply) × (mid : Machine) × Takes schema m opening opened mid
+    × IsReadAndClosed schema mid clock opened answered last
 
--- A transaction of the mutations is begun. It is no step where they are no transaction, or where memory runs out before it.
+-- A transaction of the mutations is begun. It is no step where they are no transaction, or where memory runs out before
+-- it.
 abbrev pub IsBegun : List Table → Machine → List Mutation → Reply → Machine → Type 0
 IsBegun schema m gathered answered last =
     MatchResult (checked_transaction schema gathered)

@@ -47,7 +47,7 @@ count_append : (a : Content) (xs ys : List Entry) → versions_count a (xs ++ ys
 count_append a [] ys = omega arith
 count_append a (x ∷ xs) ys = omega (arith, count_append a xs ys)
 
--- there is room for the versions of the first keys, and these chains are left
+-- there is capacity for the versions of the first keys, and these chains are left
 pub record IsRoomSoFar (es : List Entry) (chains : List Chain) (a : Content) (old new : Content) : Type 0 where
   pub done : List Entry
   pub left : List Entry

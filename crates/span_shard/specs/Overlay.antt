@@ -29,8 +29,8 @@ use Rattle.span_shard.specs.Shard.{row_now, IsNow}
 use Rattle.span_shard.specs.Writes.{is_of}
 use Rattle.span_shard.specs.Reading.{row_of, is_same_row, is_prepare_refusal, AreUnreadable}
 
--- what mutations make of rows: by coded keys the packed rows that they made, the keys at which they removed one, maybe before they made
--- one there, and the keys from which on down they removed all
+-- what mutations make of rows: by coded keys the packed rows that they made, the keys at which they removed one, maybe
+-- before they made one there, and the keys from which on down they removed all
 pub record Changes : Type 0 where
   pub made : List (List ℕ × List ℕ)
   pub removed : List (List ℕ)
@@ -68,7 +68,8 @@ is_unchanged es c = is_none (changed_at es c.key) && is_some (row_of c)
 
 -- every row that the store has from a key on down was changed
 abbrev pub AreChangedUnder : List KeyVersions → Changes → List ℕ → Type 0
-AreChangedUnder cs es front = (k : List ℕ) → begins_with k front ≡ true → is_some (row_now cs k) ≡ true → is_some (changed_at es k) ≡ true
+AreChangedUnder cs es front =
+    (k : List ℕ) → begins_with k front ≡ true → is_some (row_now cs k) ≡ true → is_some (changed_at es k) ≡ true
 
 -- so from each of the cleared keys on down
 abbrev pub AreCleared : List KeyVersions → Changes → Type 0
@@ -80,22 +81,27 @@ HasSameCleared es fs = fs.cleared ≡ es.cleared
 
 -- a key is among the cleared ones too
 abbrev pub AddsCleared : List ℕ → Changes → Changes → Type 0
-AddsCleared key es fs = (k : List ℕ) → list_any (is_same k) fs.cleared ≡ (if is_same key k then true else list_any (is_same k) es.cleared)
+AddsCleared key es fs =
+    (k : List ℕ) → list_any (is_same k) fs.cleared ≡ (if is_same key k then true else list_any (is_same k) es.cleared)
 
 -- the keys with a row that begin with these bytes
 pub record AreUnder (cs : List KeyVersions) (es : Changes) (front : List ℕ) (ks : List (List ℕ)) : Type 0 where
   pub sound : AllByRecursion (λ (k : List ℕ). (begins_with k front ≡ true) × (is_some (row_over cs es k) ≡ true)) ks
-  pub complete : (k : List ℕ) → begins_with k front ≡ true → is_some (row_over cs es k) ≡ true → list_any (is_same k) ks ≡ true
+  pub complete : (k : List ℕ) → begins_with k front ≡ true → is_some (row_over cs es k) ≡ true
+      → list_any (is_same k) ks ≡ true
 
 -- the keys of the store with a row that begin with these bytes, of which no mutation changed one
 pub record AreUnchangedUnder (cs : List KeyVersions) (es : Changes) (front : List ℕ) (ks : List (List ℕ)) : Type 0 where
   pub sound : AllByRecursion (λ (k : List ℕ). (begins_with k front ≡ true) × (is_some (row_over cs es k) ≡ true)) ks
-  pub complete : (k : List ℕ) → begins_with k front ≡ true → changed_at es k ≡ None → is_some (row_now cs k) ≡ true → list_any (is_same k) ks ≡ true
+  pub complete : (k : List ℕ) → begins_with k front ≡ true → changed_at es k ≡ None → is_some (row_now cs k) ≡ true
+      → list_any (is_same k) ks ≡ true
 
 -- keys that begin with these bytes, at which mutations made a row
 pub record AreMadeUnder (made : List (List ℕ × List ℕ)) (front : List ℕ) (ks : List (List ℕ)) : Type 0 where
-  pub sound : AllByRecursion (λ (k : List ℕ). (begins_with k front ≡ true) × ((row : List ℕ) × (made_at made k ≡ Some row))) ks
-  pub complete : (k row : List ℕ) → begins_with k front ≡ true → made_at made k ≡ Some row → list_any (is_same k) ks ≡ true
+  pub sound : AllByRecursion
+      (λ (k : List ℕ). (begins_with k front ≡ true) × ((row : List ℕ) × (made_at made k ≡ Some row))) ks
+  pub complete : (k row : List ℕ) → begins_with k front ≡ true → made_at made k ≡ Some row
+      → list_any (is_same k) ks ≡ true
 
 -- ... added to these keys
 pub record AddsMade (made : List (List ℕ × List ℕ)) (front : List ℕ) (old new : List (List ℕ)) : Type 0 where
@@ -105,7 +111,8 @@ pub record AddsMade (made : List (List ℕ × List ℕ)) (front : List ℕ) (old
 
 -- it is a key of a table whose rows stay where a row of table n above them is to be deleted
 abbrev pub BlocksDelete : List Table → ℕ → Bool → List ℕ → Type 0
-BlocksDelete tables n b k = (m : ℕ) (ws : List Value) → IsCodedKey tables m ws → k ≡ key_code tables m ws → blocks_delete tables n m ≡ b
+BlocksDelete tables n b k =
+    (m : ℕ) (ws : List Value) → IsCodedKey tables m ws → k ≡ key_code tables m ws → blocks_delete tables n m ≡ b
 
 -- whether one of the keys is of such a table
 abbrev pub IsBlocked : List Table → ℕ → List (List ℕ) → Bool → Type 0
@@ -154,9 +161,11 @@ row_before tables cs es m = row_over cs es (own_code tables m)
 -- the parent row of a row with this key is absent
 abbrev pub lacks_parent_over : List Table → List KeyVersions → Changes → Option ℕ → List Value → Bool
 lacks_parent_over tables cs es None key = false
-lacks_parent_over tables cs es (Some p) key = is_none (row_over cs es (key_code tables p (take (length (key_columns tables p)) key)))
+lacks_parent_over tables cs es (Some p) key =
+    is_none (row_over cs es (key_code tables p (take (length (key_columns tables p)) key)))
 
--- what refuses to make a row of these cells, in the order of the checks: whether its key has a row, whether its parent row is absent
+-- what refuses to make a row of these cells, in the order of the checks: whether its key has a row, whether its parent
+-- row is absent
 abbrev pub put_cause : CheckedMutation → Bool → Bool → List Value → Option Refusal
 put_cause m present lacking old = first_cause (
     (is_insert m.kind && present, Exists)
@@ -167,10 +176,13 @@ put_cause m present lacking old = first_cause (
     )
 
 abbrev pub cause_over : List Table → List KeyVersions → Changes → CheckedMutation → List Value → Option Refusal
-cause_over tables cs es m old = put_cause m (is_some (row_before tables cs es m)) (lacks_parent_over tables cs es (parent_of tables m.table) m.key) old
+cause_over tables cs es m old =
+    put_cause m (is_some (row_before tables cs es m)) (lacks_parent_over tables cs es (parent_of tables m.table) m.key)
+    old
 
 -- the row that a mutation makes of the cells that were there
-pub record IsPutRow (tables : List Table) (cs : List KeyVersions) (es : Changes) (m : CheckedMutation) (row : List ℕ) : Type 0 where
+pub record IsPutRow (tables : List Table) (cs : List KeyVersions) (es : Changes) (m : CheckedMutation)
+    (row : List ℕ) : Type 0 where
   pub old : List Value
   pub cells : AreCellsOf tables m.table (row_before tables cs es m) old
   pub cause : cause_over tables cs es m old ≡ None
@@ -178,24 +190,30 @@ pub record IsPutRow (tables : List Table) (cs : List KeyVersions) (es : Changes)
 
 -- whichever cells were there, the mutation is refused so
 abbrev pub IsPutFault : List Table → List KeyVersions → Changes → CheckedMutation → Refusal → Type 0
-IsPutFault tables cs es m why = (old : List Value) → AreCellsOf tables m.table (row_before tables cs es m) old → cause_over tables cs es m old ≡ Some why
+IsPutFault tables cs es m why =
+    (old : List Value) → AreCellsOf tables m.table (row_before tables cs es m) old
+    → cause_over tables cs es m old ≡ Some why
 
 -- out of memory, the fault, or bytes that are no row
 abbrev pub IsNoPut : List Table → List KeyVersions → Changes → CheckedMutation → Refusal → Type 0
-IsNoPut tables cs es m why = (why ≡ OutOfMemory) ⊎ (((is_mutation_fault why ≡ true) × IsPutFault tables cs es m why) ⊎ ((why ≡ BadRow) × IsUnpacked tables m.table (row_before tables cs es m)))
+IsNoPut tables cs es m why =
+    (why ≡ OutOfMemory) ⊎ (((is_mutation_fault why ≡ true) × IsPutFault tables cs es m why)
+    ⊎ ((why ≡ BadRow) × IsUnpacked tables m.table (row_before tables cs es m)))
 
 -- ---- the rows that a mutation deletes
 
 -- none where its own row is absent; else all keys from its own on down, none of which holds it
 abbrev pub AreDeleted : List Table → List KeyVersions → Changes → CheckedMutation → List (List ℕ) → Type 0
 AreDeleted tables cs es m ks = ((row_before tables cs es m ≡ None) × (ks ≡ []))
-    ⊎ ((is_some (row_before tables cs es m) ≡ true) × AreUnder cs es (own_code tables m) ks × IsBlocked tables m.table ks false)
+    ⊎ ((is_some (row_before tables cs es m) ≡ true) × AreUnder cs es (own_code tables m) ks
+    × IsBlocked tables m.table ks false)
 
 -- at these keys, and no others, no row is left
-pub record HasDeleted (tables : List Table) (cs : List KeyVersions) (m : CheckedMutation) (es fs : Changes) : Type 0 where
-  pub keys : List (List ℕ)
-  pub are : AreDeleted tables cs es m keys
-  pub removed : AreRemoved es keys fs
+pub record HasDeleted (tables : List Table) (cs : List KeyVersions) (m : CheckedMutation) (es fs : Changes) : Type 0
+  where
+    pub keys : List (List ℕ)
+    pub are : AreDeleted tables cs es m keys
+    pub removed : AreRemoved es keys fs
 
 -- a key below holds the row
 pub record IsHeld (tables : List Table) (cs : List KeyVersions) (es : Changes) (m : CheckedMutation) : Type 0 where
@@ -212,7 +230,8 @@ pub record IsStray (tables : List Table) (cs : List KeyVersions) (es : Changes) 
 
 -- out of memory, a row that holds it, or bytes that are no key
 abbrev pub IsNoDelete : List Table → List KeyVersions → Changes → CheckedMutation → Refusal → Type 0
-IsNoDelete tables cs es m why = (why ≡ OutOfMemory) ⊎ (((why ≡ HasChildren) × IsHeld tables cs es m) ⊎ ((why ≡ BadKey) × IsStray tables cs es m))
+IsNoDelete tables cs es m why =
+    (why ≡ OutOfMemory) ⊎ (((why ≡ HasChildren) × IsHeld tables cs es m) ⊎ ((why ≡ BadKey) × IsStray tables cs es m))
 
 -- ---- mutations one after another
 
@@ -238,19 +257,26 @@ AreTableRows tables es = (k row : List ℕ) → changed_at es k ≡ Some (Some r
 -- what a mutation makes of what those before it left
 pub record IsRunOf (tables : List Table) (cs : List KeyVersions) (m : CheckedMutation) (es fs : Changes) : Type 0 where
   pub rows : AreTableRows tables fs
-  pub here : (k : List ℕ) → is_some (changed_at fs k) ≡ true → (is_some (changed_at es k) || begins_with k (root_code tables m)) ≡ true
-  pub applied : (dir : List ℕ → Bool) → HasDirectory tables dir m → (db : List TableRow) → IsDatabase tables db → AreTyped tables db → IsOver tables dir cs es db → (next : List TableRow) × (apply_one tables db m ≡ Ok next) × IsOver tables dir cs fs next
+  pub here : (k : List ℕ) → is_some (changed_at fs k) ≡ true
+      → (is_some (changed_at es k) || begins_with k (root_code tables m)) ≡ true
+  pub applied : (dir : List ℕ → Bool) → HasDirectory tables dir m → (db : List TableRow) → IsDatabase tables db
+      → AreTyped tables db → IsOver tables dir cs es db → (next : List TableRow) × (apply_one tables db m ≡ Ok next)
+      × IsOver tables dir cs fs next
 
--- why a mutation is refused: its fault on each database with these rows, or out of memory; bytes that are no row where none has them
-pub record IsRunFault (tables : List Table) (cs : List KeyVersions) (m : CheckedMutation) (es : Changes) (why : Refusal) : Type 0 where
-  pub fault : (dir : List ℕ → Bool) → HasDirectory tables dir m → (db : List TableRow) → IsDatabase tables db → AreTyped tables db → IsOver tables dir cs es db → (why ≡ OutOfMemory) ⊎ (apply_one tables db m ≡ Err why)
+-- why a mutation is refused: its fault on each database with these rows, or out of memory; bytes that are no row where
+-- none has them
+pub record IsRunFault (tables : List Table) (cs : List KeyVersions) (m : CheckedMutation) (es : Changes)
+    (why : Refusal) : Type 0 where
+  pub fault : (dir : List ℕ → Bool) → HasDirectory tables dir m → (db : List TableRow) → IsDatabase tables db
+      → AreTyped tables db → IsOver tables dir cs es db → (why ≡ OutOfMemory) ⊎ (apply_one tables db m ≡ Err why)
   pub number : (is_prepare_refusal why ≡ true) ⊎ AreUnreadable tables (m ∷ []) cs why
 
 -- what mutations make, one after another, of the rows that are there now
-pub record AreRunsOf (tables : List Table) (ms : List CheckedMutation) (cs : List KeyVersions) (es : Changes) : Type 0 where
-  pub touched : (k : List ℕ) → is_some (changed_at es k) ≡ true → is_touched tables ms k ≡ true
-  pub applied : (db : List TableRow) → IsDatabase tables db → AreTyped tables db → IsNow tables ms db cs
-      → (after : List TableRow) × (apply tables db ms ≡ Ok after) × IsOver tables (is_touched tables ms) cs es after
+pub record AreRunsOf (tables : List Table) (ms : List CheckedMutation) (cs : List KeyVersions) (es : Changes) : Type 0
+  where
+    pub touched : (k : List ℕ) → is_some (changed_at es k) ≡ true → is_touched tables ms k ≡ true
+    pub applied : (db : List TableRow) → IsDatabase tables db → AreTyped tables db → IsNow tables ms db cs
+        → (after : List TableRow) × (apply tables db ms ≡ Ok after) × IsOver tables (is_touched tables ms) cs es after
 
 -- ---- what is written
 
@@ -269,7 +295,9 @@ write_at cs es k = write_if k (row_now cs k) (changed_at es k)
 
 -- at a key: not looked at yet, or done
 abbrev pub IsWrittenAt : List KeyVersions → Changes → Changes → List Write → List ℕ → Type 0
-IsWrittenAt cs es left ws k = ((changed_at left k ≡ changed_at es k) × (find (is_of k) ws ≡ None)) ⊎ ((changed_at left k ≡ None) × (find (is_of k) ws ≡ write_at cs es k))
+IsWrittenAt cs es left ws k =
+    ((changed_at left k ≡ changed_at es k) × (find (is_of k) ws ≡ None))
+    ⊎ ((changed_at left k ≡ None) × (find (is_of k) ws ≡ write_at cs es k))
 
 -- the changes that are not left are written
 pub record AreWrittenFrom (cs : List KeyVersions) (es left : Changes) (ws : List Write) : Type 0 where

@@ -53,16 +53,21 @@ pub record IsNoTableRow (tables : List Table) (key row : List ℕ) : Type 0 wher
   pub none : (r : TableRow) → IsTyped tables r → key ≡ code_of tables r → row ≡ row_code r.cells → ⊥
 
 -- what mutations write: in touched directories alone; of each database whose rows these are now, what changes of it
-pub record AreWrites (tables : List Table) (ms : List CheckedMutation) (cs : List KeyVersions) (ws : List Write) : Type 0 where
+pub record AreWrites (tables : List Table) (ms : List CheckedMutation) (cs : List KeyVersions) (ws : List Write) : Type
+    0 where
   pub touched : AllByRecursion (λ (w : Write). is_touched tables ms w.key ≡ true) ws
-  pub changes : (db : List TableRow) → IsDatabase tables db → AreTyped tables db → IsNow tables ms db cs → (after : List TableRow) × (apply tables db ms ≡ Ok after) × AreChanges tables db after ws
+  pub changes : (db : List TableRow) → IsDatabase tables db → AreTyped tables db → IsNow tables ms db cs
+      → (after : List TableRow) × (apply tables db ms ≡ Ok after) × AreChanges tables db after ws
 
 -- the fault that the mutations meet on each database whose rows these are now, or out of memory
 abbrev pub IsFault : List Table → List CheckedMutation → List KeyVersions → Refusal → Type 0
-IsFault tables ms cs why = (db : List TableRow) → IsDatabase tables db → AreTyped tables db → IsNow tables ms db cs → (why ≡ OutOfMemory) ⊎ (apply tables db ms ≡ Err why)
+IsFault tables ms cs why =
+    (db : List TableRow) → IsDatabase tables db → AreTyped tables db → IsNow tables ms db cs → (why ≡ OutOfMemory)
+    ⊎ (apply tables db ms ≡ Err why)
 
 -- the writes of the mutations would bring the number of kept versions over the most that a shard keeps
-pub record IsFull (tables : List Table) (ms : List CheckedMutation) (txn : ℕ) (cs : List KeyVersions) (why : Refusal) : Type 0 where
+pub record IsFull (tables : List Table) (ms : List CheckedMutation) (txn : ℕ) (cs : List KeyVersions)
+    (why : Refusal) : Type 0 where
   pub full : why ≡ ShardFull
   pub writes : List Write
   pub of : AreWrites tables ms cs writes
@@ -75,7 +80,8 @@ is_prepare_refusal ShardFull = true
 is_prepare_refusal why = is_mutation_fault why
 
 -- under a key that the mutations touch there are bytes now that are no row of a table
-pub record AreUnreadable (tables : List Table) (ms : List CheckedMutation) (cs : List KeyVersions) (why : Refusal) : Type 0 where
+pub record AreUnreadable (tables : List Table) (ms : List CheckedMutation) (cs : List KeyVersions)
+    (why : Refusal) : Type 0 where
   pub key : List ℕ
   pub row : List ℕ
   pub touched : is_touched tables ms key ≡ true

@@ -39,4 +39,5 @@ is_touched tables ms k = list_any (λ (m : CheckedMutation). begins_with k (root
 
 -- at each key the write of the row after, where it is another one than the row before
 abbrev pub AreChanges : List Table → List TableRow → List TableRow → List Write → Type 0
-AreChanges tables db after ws = (k : List ℕ) → IsWrite k (row_coded tables db k) (row_coded tables after k) (find (is_of k) ws)
+AreChanges tables db after ws =
+    (k : List ℕ) → IsWrite k (row_coded tables db k) (row_coded tables after k) (find (is_of k) ws)

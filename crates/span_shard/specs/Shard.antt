@@ -76,7 +76,9 @@ new_key txn w = record { key = w.key; versions = []; prepared = Some (prepared_w
 -- with the write prepared at its key, which takes its place in order if it was not there
 abbrev pub with_write : ℕ → Write → List KeyVersions → List KeyVersions
 with_write txn w [] = new_key txn w ∷ []
-with_write txn w (c ∷ cs) = by_order (byte_order w.key c.key) (new_key txn w ∷ c ∷ cs) (with_prepared (prepared_write txn w) c ∷ cs) (c ∷ with_write txn w cs)
+with_write txn w (c ∷ cs) =
+    by_order (byte_order w.key c.key) (new_key txn w ∷ c ∷ cs) (with_prepared (prepared_write txn w) c ∷ cs)
+    (c ∷ with_write txn w cs)
 
 -- with all the writes prepared
 abbrev pub with_writes : ℕ → List Write → List KeyVersions → List KeyVersions
@@ -120,7 +122,8 @@ IsInUse c = is_used c ≡ true
 abbrev pub applied : ℕ → Option ℕ → List KeyVersions → List KeyVersions
 applied txn committed cs = filter is_used (map (applied_to_key txn committed) cs)
 
--- the commit timestamp, where there is one, is later than the versions of every key where the transaction has a write prepared
+-- the commit timestamp, where there is one, is later than the versions of every key where the transaction has a write
+-- prepared
 abbrev pub IsLaterCommit : ℕ → Option ℕ → List KeyVersions → Type 0
 IsLaterCommit txn None cs = Unit {0}
 IsLaterCommit txn (Some ts) cs = AllByRecursion (λ c. IsLaterWrite txn ts c.versions c.prepared) cs
@@ -163,7 +166,8 @@ pub record KeyRow : Type 0 where
 abbrev pub seen_at : ℕ → KeyVersions → Option KeyRow
 seen_at s c = option_map (λ (row : List ℕ). record { key = c.key; row = row }) (row_at c.versions s)
 
--- the rows in the range at s: of every key there the newest version at or below s, without deletions, in order of the keys
+-- the rows in the range at s: of every key there the newest version at or below s, without deletions, in order of the
+-- keys
 abbrev pub snapshot : KeyRange → ℕ → List KeyVersions → List KeyRow
 snapshot range s cs = filter_map (seen_at s) (filter (λ c. is_within range c.key) cs)
 
@@ -176,7 +180,8 @@ live cs = sum_by kept_of cs
 
 -- out of memory; or nothing is prepared at the key, and as many versions are kept as may be
 abbrev pub IsPutRefused : List KeyVersions → List ℕ → Refusal → Type 0
-IsPutRefused cs key why = (why ≡ OutOfMemory) ⊎ ((why ≡ ShardFull) × (prepared_at cs key ≡ None) × (live cs ≡ most_nodes))
+IsPutRefused cs key why =
+    (why ≡ OutOfMemory) ⊎ ((why ≡ ShardFull) × (prepared_at cs key ≡ None) × (live cs ≡ most_nodes))
 
 -- out of memory; or the writes would bring the number of kept versions over the most
 abbrev pub ArePutsRefused : ℕ → List Write → List KeyVersions → Refusal → Type 0

@@ -1,5 +1,5 @@
--- How a shard keeps its keys: in an index with their chains, whose versions are in an arena, with the nodes in which something is
--- prepared. No public clause cites this module.
+-- How a shard keeps its keys: in an index with their chains, whose versions are in an arena, with the nodes in which
+-- something is prepared. No public clause cites this module.
 use Rattle.std.specs.Prelude.{◌≡◌, ◌⊎◌, ℕ, ◌+◌, ◌<◌, ◌≤◌, ◌==◌, nat_eq, Bool, not, List, [], ◌∷◌, ◌++◌, length, take, drop, map, filter, Option, Some, None, slice_index_or, if◌then◌else◌}
 use Rattle.std.specs.List.{AllByRecursion}
 use Rattle.span_value.specs.declared.refusal.Refusal.{Refusal}
@@ -100,7 +100,8 @@ pub record HasPrepared (a b : Content) (ps qs : List PreparedNode) (c : ℕ) (wr
 
 -- out of memory; or nothing is prepared for the chain, and as many nodes are in use as may be
 abbrev pub IsRefusedFor : Content → ℕ → Refusal → Type 0
-IsRefusedFor a c why = (why ≡ OutOfMemory) ⊎ ((why ≡ ShardFull) × (prepared_for c a.prepared ≡ 0) × IsInOrder a × (live a ≡ a.most))
+IsRefusedFor a c why =
+    (why ≡ OutOfMemory) ⊎ ((why ≡ ShardFull) × (prepared_for c a.prepared ≡ 0) × IsInOrder a × (live a ≡ a.most))
 
 -- ---- apply
 
@@ -118,7 +119,8 @@ abbrev pub IsLaterEnd : ℕ → Option ℕ → List Version → Option PreparedW
 IsLaterEnd txn None vs write = Unit {0}
 IsLaterEnd txn (Some timestamp) vs write = IsLaterWrite txn timestamp vs write
 
--- the commit timestamp, where there is one, is later than the versions of every chain for which the transaction has a node
+-- the commit timestamp, where there is one, is later than the versions of every chain for which the transaction has a
+-- node
 abbrev pub AreLaterEnds : ℕ → Option ℕ → Content → List PreparedNode → Type 0
 AreLaterEnds txn committed a ps = (c : ℕ) → IsLaterEnd txn committed (chain_versions a c) (write_for a ps c)
 
@@ -136,11 +138,13 @@ pub record HasEnded (txn : ℕ) (committed : Option ℕ) (a b : Content) (ps qs 
   pub most : b.most ≡ a.most
   pub same : HasSameChains a b
   pub cells : b.cells ≡ a.cells
-  pub keys : (key : List ℕ) (c : ℕ) → applied_to_key txn committed (kept b qs key c) ≡ applied_to_key txn committed (kept a ps key c)
+  pub keys : (key : List ℕ) (c : ℕ)
+      → applied_to_key txn committed (kept b qs key c) ≡ applied_to_key txn committed (kept a ps key c)
 
 -- ---- trim
 
--- Some of the chains were trimmed; those that were not are as they were. With the others trimmed too each chain is what it is to be.
+-- Some of the chains were trimmed; those that were not are as they were. With the others trimmed too each chain is what
+-- it is to be.
 pub record HasTrimmed (h : ℕ) (a b : Content) : Type 0 where
   pub same : HasSameChains a b
   pub cells : b.cells ≡ a.cells

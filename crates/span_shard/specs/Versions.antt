@@ -33,7 +33,8 @@ with_version (Some ts) row versions = (record { timestamp = ts; row = row }) ∷
 -- the key once this prepared write is applied
 abbrev pub applied_write : Option PreparedWrite → ℕ → Option ℕ → KeyVersions → KeyVersions
 applied_write None txn committed c = c
-applied_write (Some w) txn committed c = if w.txn == txn then record c { versions = with_version committed w.row c.versions; prepared = None } else c
+applied_write (Some w) txn committed c =
+    if w.txn == txn then record c { versions = with_version committed w.row c.versions; prepared = None } else c
 
 -- the key once the transaction's write there is applied, at its commit timestamp, or given up where there is none
 abbrev pub applied_to_key : ℕ → Option ℕ → KeyVersions → KeyVersions

@@ -110,7 +110,8 @@ typing_at types (Expr-F.Not a) k = are_same kind.Bool k && a kind.Bool
 typing_at types (Expr-F.And first more) k = are_same kind.Bool k && are_conditions first more
 typing_at types (Expr-F.Or first more) k = are_same kind.Bool k && are_conditions first more
 typing_at types (Expr-F.Case arms otherwise) k = list_all has_condition arms && all_values_are arms otherwise k
-typing_at types (Expr-F.Match a arms otherwise) k = has_type a && list_all (is_compared_with a) arms && all_values_are arms otherwise k
+typing_at types (Expr-F.Match a arms otherwise) k =
+    has_type a && list_all (is_compared_with a) arms && all_values_are arms otherwise k
 typing_at types (Expr-F.Coalesce operands) k = all_are operands k
 
 -- whether an expression is of a type at rows of these types

@@ -1,4 +1,5 @@
--- Which queries give rows of which types. What a derived table gives is handed in, so that a query is typed layer by layer.
+-- Which queries give rows of which types. What a derived table gives is handed in, so that a query is typed layer by
+-- layer.
 use Rattle.std.specs.Prelude.{◌≡◌, ◌<◌, ℕ, zero, suc, Bool, true, List, [], ◌∷◌, ◌++◌, length, Option, Some, None, slice_get}
 use Rattle.std.specs.Option.{unwrap_or}
 use Rattle.span_value.specs.declared.value.Kind.{Kind}
@@ -28,13 +29,17 @@ IsItemOf gives leaves (item.Table n) types = leaf_types leaves n ≡ types
 IsItemOf gives leaves (item.Derived q) types = gives q types
 
 -- each ON is a condition at rows of the items up to its own
-abbrev pub AreJoinsOf : {Q : Type 0} → (Q → List Kind → Type 0) → List (List Kind) → List Kind → List (Join Q) → List Kind → Type 0
+abbrev pub AreJoinsOf : {Q : Type 0} → (Q → List Kind → Type 0) → List (List Kind) → List Kind → List (Join Q)
+    → List Kind → Type 0
 AreJoinsOf gives leaves left [] types = left ≡ types
 AreJoinsOf gives leaves left (j ∷ joins) types =
-    (right : List Kind) × IsItemOf gives leaves j.item right × (length right ≡ j.width) × (is_of (left ++ right) j.on kind.Bool ≡ true) × AreJoinsOf gives leaves (left ++ right) joins types
+    (right : List Kind) × IsItemOf gives leaves j.item right × (length right ≡ j.width)
+    × (is_of (left ++ right) j.on kind.Bool ≡ true) × AreJoinsOf gives leaves (left ++ right) joins types
 
-abbrev pub IsFromOf : {Q : Type 0} → (Q → List Kind → Type 0) → List (List Kind) → Item Q → List (Join Q) → List Kind → Type 0
-IsFromOf gives leaves first joins types = (left : List Kind) × IsItemOf gives leaves first left × AreJoinsOf gives leaves left joins types
+abbrev pub IsFromOf : {Q : Type 0} → (Q → List Kind → Type 0) → List (List Kind) → Item Q → List (Join Q) → List Kind
+    → Type 0
+IsFromOf gives leaves first joins types =
+    (left : List Kind) × IsItemOf gives leaves first left × AreJoinsOf gives leaves left joins types
 
 -- ---- conditions and groups
 
@@ -53,7 +58,8 @@ AreColumnsOf types places ks = ⊥
 abbrev pub IsGroupedOf : List Kind → Option Grouping → List Kind → Type 0
 IsGroupedOf from None types = from ≡ types
 IsGroupedOf from (Some g) types =
-    (keys : List Kind) × (aggregates : List Kind) × AreColumnsOf from g.keys keys × AreAggregatesOf from g.aggregates aggregates × (keys ++ aggregates ≡ types) × (is_condition types g.having ≡ true)
+    (keys : List Kind) × (aggregates : List Kind) × AreColumnsOf from g.keys keys
+    × AreAggregatesOf from g.aggregates aggregates × (keys ++ aggregates ≡ types) × (is_condition types g.having ≡ true)
 
 -- ---- blocks and queries
 
@@ -65,9 +71,11 @@ AreOutputsOf types es ks = ⊥
 
 abbrev pub IsBlockOf : {Q : Type 0} → (Q → List Kind → Type 0) → List (List Kind) → Block Q → List Kind → Type 0
 IsBlockOf gives leaves b types =
-    (from : List Kind) × (shown : List Kind) × IsFromOf gives leaves b.from b.joins from × (is_condition from b.filter ≡ true) × IsGroupedOf from b.grouping shown × AreOutputsOf shown b.outputs types
+    (from : List Kind) × (shown : List Kind) × IsFromOf gives leaves b.from b.joins from
+    × (is_condition from b.filter ≡ true) × IsGroupedOf from b.grouping shown × AreOutputsOf shown b.outputs types
 
-abbrev pub AreBlocksOf : {Q : Type 0} → (Q → List Kind → Type 0) → List (List Kind) → List (Block Q) → List Kind → Type 0
+abbrev pub AreBlocksOf : {Q : Type 0} → (Q → List Kind → Type 0) → List (List Kind) → List (Block Q) → List Kind
+    → Type 0
 AreBlocksOf gives leaves [] types = Unit {0}
 AreBlocksOf gives leaves (b ∷ blocks) types = IsBlockOf gives leaves b types × AreBlocksOf gives leaves blocks types
 
@@ -81,7 +89,8 @@ abbrev pub IsLayerOf : {Q : Type 0} → (Q → List Kind → Type 0) → List (L
 IsLayerOf gives leaves q types = AreBlocksOf gives leaves (q.first ∷ q.others) types × AreKeysOf types q.order
 
 -- What a derived table gives is what its query gives.
-abbrev pub layer_of : List (List Kind) → (Q : Type 0) → (Q → BoundQuery) → (Q → List Kind → Type 0) → BoundQuery-F Q → List Kind → Type 0
+abbrev pub layer_of : List (List Kind) → (Q : Type 0) → (Q → BoundQuery) → (Q → List Kind → Type 0) → BoundQuery-F Q
+    → List Kind → Type 0
 layer_of leaves Q query gives layer types = IsLayerOf gives leaves layer types
 
 -- a query gives rows of these types, where its leaves have columns of those

@@ -34,7 +34,7 @@ use Rattle.span_syntax.specs.Pieces.{Piece, token, nothing, ◌<$>◌, ◌>>=◌
 abbrev pub span_of : Token → Span
 span_of t = record { start = t.start; end = t.end }
 
--- the spelling of a token, and its place; of a token of a text in UTF-8 the bytes that stand there (span_lexer's law
+-- the spelling of a token, and its place; of a token of a text in UTF-8 the bytes that are there (span_lexer's law
 -- tokens_are_read_unchanged)
 abbrev pub spelling_of : List ℕ → Lexeme → Spelling
 spelling_of text t = record { text = utf8_lossy (token_bytes text t.token); span = span_of t.token }
@@ -114,10 +114,14 @@ apply_test x question = negate_if question.0 (test_of x question.1)
 -- ---- operators
 
 unfoldable pub term_sign : Piece Operator
-term_sign = either (part.Token (sort.Sign sign.Star)) ((λ t. operator.Times) <$> token (sort.Sign sign.Star)) ((λ t. operator.Concat) <$> token (sort.Sign sign.Concat))
+term_sign =
+    either (part.Token (sort.Sign sign.Star)) ((λ t. operator.Times) <$> token (sort.Sign sign.Star))
+    ((λ t. operator.Concat) <$> token (sort.Sign sign.Concat))
 
 unfoldable pub sum_sign : Piece Operator
-sum_sign = either (part.Token (sort.Sign sign.Plus)) ((λ t. operator.Plus) <$> token (sort.Sign sign.Plus)) ((λ t. operator.Minus) <$> token (sort.Sign sign.Minus))
+sum_sign =
+    either (part.Token (sort.Sign sign.Plus)) ((λ t. operator.Plus) <$> token (sort.Sign sign.Plus))
+    ((λ t. operator.Minus) <$> token (sort.Sign sign.Minus))
 
 abbrev compares : ComparisonOperator → Sign → Piece ComparisonOperator
 compares c s = (λ t. c) <$> token (sort.Sign s)
@@ -168,7 +172,8 @@ case_end p = case_else p >>= (λ otherwise. (λ both. both.0) <$> pair_with othe
 
 -- the arms, and what ends them
 unfoldable pub case_arms : Piece Expr → Piece (List Arm × Option Expr)
-case_arms p = when p >>= (λ arm. pair_with arm (each part.When (when p)) >>= (λ all. pair_with (all.0 ∷ all.1) (case_end p)))
+case_arms p =
+    when p >>= (λ arm. pair_with arm (each part.When (when p)) >>= (λ all. pair_with (all.0 ∷ all.1) (case_end p)))
 
 unfoldable pub case_of : Option Expr × (List Arm × Option Expr) → Expr
 case_of parts = e.Case parts.0 parts.1.0 parts.1.1
@@ -225,7 +230,8 @@ module _ (text : List ℕ) (left : ℕ) (inner : Inner) where
   unfoldable pub word_literal : Piece Expr
   word_literal =
       either (part.Token (sort.Word word.True)) ((λ t. e.Truth true (span_of t.token)) <$> token (sort.Word word.True))
-      (either (part.Token (sort.Word word.False)) ((λ t. e.Truth false (span_of t.token)) <$> token (sort.Word word.False))
+      (either (part.Token (sort.Word word.False))
+      ((λ t. e.Truth false (span_of t.token)) <$> token (sort.Word word.False))
       (either (part.Token (sort.Word word.Null)) ((λ t. e.Null (span_of t.token)) <$> token (sort.Word word.Null))
       (either (part.Token sort.Parameter) (e.Parameter <$> spelling text sort.Parameter) compound)))
 
@@ -246,7 +252,9 @@ module _ (text : List ℕ) (left : ℕ) (inner : Inner) where
 
   -- after a minus: the minus directly before an integer belongs to it
   unfoldable pub signed : Piece Expr
-  signed = either (part.Token sort.Int) ((λ t. e.Integer (integer_of true t)) <$> token sort.Int) (e.Negative <$> other_unary)
+  signed =
+      either (part.Token sort.Int) ((λ t. e.Integer (integer_of true t)) <$> token sort.Int)
+      (e.Negative <$> other_unary)
 
   unfoldable pub term_more : Piece Link
   term_more = term_sign >>= (λ o. (λ x. roll-Link (record { operator = o; operand = x })) <$> unary)
@@ -276,7 +284,9 @@ module _ (text : List ℕ) (left : ℕ) (inner : Inner) where
   high_end = token (sort.Word word.And) >> sum
 
   unfoldable pub between : Piece PredicateTest
-  between = token (sort.Word word.Between) >> (sum >>= (λ low. (λ ends. predicate_test.Between ends.0 ends.1) <$> pair_with low high_end))
+  between =
+      token (sort.Word word.Between) >>
+      (sum >>= (λ low. (λ ends. predicate_test.Between ends.0 ends.1) <$> pair_with low high_end))
 
   unfoldable pub within : Piece PredicateTest
   within = token (sort.Word word.In) >> (predicate_test.In <$> members)
@@ -288,7 +298,9 @@ module _ (text : List ℕ) (left : ℕ) (inner : Inner) where
   maybe_not_test = maybe_not >>= (λ is_not. (λ question. (is_not, question)) <$> negatable_test)
 
   unfoldable pub predicate_rest : Piece (Bool × PredicateTest)
-  predicate_rest = either part.Compared comparison_test (either part.IsNull is_null (either part.MaybeNotTest maybe_not_test (nothing (false, predicate_test.Nothing))))
+  predicate_rest =
+      either part.Compared comparison_test
+      (either part.IsNull is_null (either part.MaybeNotTest maybe_not_test (nothing (false, predicate_test.Nothing))))
 
   unfoldable pub predicate : Piece Expr
   predicate = sum >>= (λ x. (λ both. apply_test both.0 both.1) <$> pair_with x predicate_rest)
@@ -300,13 +312,17 @@ module _ (text : List ℕ) (left : ℕ) (inner : Inner) where
   conjunction_more = token (sort.Word word.And) >> negated
 
   unfoldable pub conjunction : Piece Expr
-  conjunction = negated >>= (λ first. (λ all. conjunction_of all.0 all.1) <$> pair_with first (each part.ConjunctionMore conjunction_more))
+  conjunction =
+      negated >>= (λ first. (λ all. conjunction_of all.0 all.1) <$> pair_with first
+      (each part.ConjunctionMore conjunction_more))
 
   unfoldable pub expression_more : Piece Expr
   expression_more = token (sort.Word word.Or) >> conjunction
 
   unfoldable pub expression : Piece Expr
-  expression = conjunction >>= (λ first. (λ all. disjunction_of all.0 all.1) <$> pair_with first (each part.ExpressionMore expression_more))
+  expression =
+      conjunction >>= (λ first. (λ all. disjunction_of all.0 all.1) <$> pair_with first
+      (each part.ExpressionMore expression_more))
 
 -- nothing is read where no opening is left
 abbrev pub too_deep : Piece Expr

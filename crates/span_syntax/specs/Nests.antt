@@ -35,6 +35,8 @@ Arguments = Global × (Bor (List ℕ) × (ℕ × (Level × (Bor (List Lexeme) ×
 -- the reader's function reads what is after an opening of its text, with one opening fewer left
 pub record Nests {F : Type 0} (call : Shared F Arguments (Returned Expr)) (r : Reading F) : Type 0 where
   pub limited : r.left ≤ limit
-  pub callable : (alloc : Global) (t : Bor (List ℕ)) (l : Level) (ts : Bor (List Lexeme)) → 0 < r.left → call.pre r.read (alloc, (t, (r.left - 1, (l, (ts, tt)))))
-  pub gives : (alloc : Global) (t : Bor (List ℕ)) (l : Level) (ts : Bor (List Lexeme)) (v : Returned Expr) → t.now ≡ r.text → 0 < r.left
+  pub callable : (alloc : Global) (t : Bor (List ℕ)) (l : Level) (ts : Bor (List Lexeme)) → 0 < r.left
+      → call.pre r.read (alloc, (t, (r.left - 1, (l, (ts, tt)))))
+  pub gives : (alloc : Global) (t : Bor (List ℕ)) (l : Level) (ts : Bor (List Lexeme)) (v : Returned Expr)
+      → t.now ≡ r.text → 0 < r.left
       → call.post r.read (alloc, (t, (r.left - 1, (l, (ts, tt))))) v → Gives v ((at l r.text (r.left - 1)).read ts.now)

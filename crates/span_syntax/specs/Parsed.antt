@@ -94,7 +94,8 @@ is_before_star None = false
 
 -- the tokens up to the dot of a name before `.*`, and where the star starts, if the error is at such a name
 abbrev pub before_star : SyntaxError → List Lexeme → List Token → Option (List Token × ℕ)
-before_star (fault.Syntax n) found ts = if is_before_star (token_at n found) then split_tokens ((length found - n) + 2) ts else None
+before_star (fault.Syntax n) found ts =
+    if is_before_star (token_at n found) then split_tokens ((length found - n) + 2) ts else None
 before_star fault.OutOfMemory found ts = None
 before_star (fault.TooDeep n) found ts = None
 

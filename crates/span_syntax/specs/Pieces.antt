@@ -53,15 +53,19 @@ token_read s (t ∷ ts) = if is_of s t then Ok (t, ts) else Err (fault.Syntax (l
 
 -- an opening token, with `left` openings left
 unfoldable pub enter_read : ℕ → Sort → List Lexeme → ReadResult Lexeme
-enter_read left s ts = and_then (token_read s ts) (λ t k. if left == 0 then Err (fault.TooDeep (length ts)) else Ok (t, k))
+enter_read left s ts =
+    and_then (token_read s ts) (λ t k. if left == 0 then Err (fault.TooDeep (length ts)) else Ok (t, k))
 
 -- after what was read: a piece, which is the part, as long as it can begin, at most n times
-unfoldable pub read_times : {A : Type 0} → (List Lexeme → ReadResult A) → Part → ℕ → List A → List Lexeme → ReadResult (List A)
+unfoldable pub read_times : {A : Type 0} → (List Lexeme → ReadResult A) → Part → ℕ → List A → List Lexeme
+    → ReadResult (List A)
 read_times f a zero found ts = Ok (found, ts)
-read_times f a (suc n) found ts = if starts (rule_of a) ts then and_then (f ts) (λ x k. read_times f a n (found ++ (x ∷ [])) k) else Ok (found, ts)
+read_times f a (suc n) found ts =
+    if starts (rule_of a) ts then and_then (f ts) (λ x k. read_times f a n (found ++ (x ∷ [])) k) else Ok (found, ts)
 
 -- each time takes a token
-unfoldable pub each_read : {A : Type 0} → (List Lexeme → ReadResult A) → Part → List A → List Lexeme → ReadResult (List A)
+unfoldable pub each_read : {A : Type 0} → (List Lexeme → ReadResult A) → Part → List A → List Lexeme
+    → ReadResult (List A)
 each_read f a found ts = read_times f a (length ts) found ts
 
 -- ---- pieces
@@ -82,7 +86,11 @@ f <$> p = record { of = λ x. f (p.of x); read = λ ts. and_then (p.read ts) (λ
 
 infixl 10 ◌>>=◌
 abbrev pub ◌>>=◌ : {A B : Type 0} → Piece A → (A → Piece B) → Piece B
-p >>= f = record { of = λ x. (f (p.of (first_of x))).of (second_of x); read = λ ts. and_then (p.read ts) (λ x k. (f x).read k) }
+p >>= f =
+    record {
+      of = λ x. (f (p.of (first_of x))).of (second_of x);
+      read = λ ts. and_then (p.read ts) (λ x k. (f x).read k);
+    }
 
 infixl 10 ◌>>◌
 abbrev pub ◌>>◌ : {A B : Type 0} → Piece A → Piece B → Piece B
@@ -106,7 +114,8 @@ pair_with x p = record { of = λ t. (x, p.of t); read = λ ts. and_then (p.read 
 
 -- an opening, with `left` openings left, and what is after it
 abbrev pub opening : {A : Type 0} → ℕ → Sort → Piece A → Piece A
-opening left s p = record { of = λ x. p.of (nested_of x); read = λ ts. and_then (enter_read left s ts) (λ t k. p.read k) }
+opening left s p =
+    record { of = λ x. p.of (nested_of x); read = λ ts. and_then (enter_read left s ts) (λ t k. p.read k) }
 
 -- ---- the result of the grammar's reading, as a result of a piece
 

@@ -23,7 +23,9 @@ name_of called.IfNull = codes "IFNULL"
 name_of called.Coalesce = codes "COALESCE"
 
 abbrev pub functions : List CalledFunction
-functions = called.Aggregate Count ∷ called.Aggregate Sum ∷ called.Aggregate Min ∷ called.Aggregate Max ∷ called.Divide ∷ called.Modulo ∷ called.Length ∷ called.StartsWith ∷ called.If ∷ called.IfNull ∷ called.Coalesce ∷ []
+functions =
+    called.Aggregate Count ∷ called.Aggregate Sum ∷ called.Aggregate Min ∷ called.Aggregate Max ∷ called.Divide
+    ∷ called.Modulo ∷ called.Length ∷ called.StartsWith ∷ called.If ∷ called.IfNull ∷ called.Coalesce ∷ []
 
 abbrev pub first_named : List ℕ → List CalledFunction → Option CalledFunction
 first_named name fs = find (λ (f : CalledFunction). is_same_name (name_of f) name) fs

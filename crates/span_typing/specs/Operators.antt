@@ -69,14 +69,19 @@ comparison_of tree.Greater = compares.Greater
 comparison_of tree.AtLeast = compares.AtLeast
 
 unfoldable pub comparison_test : ComparisonOperator → Typed → Typed → Result Typed Refusal
-comparison_test c x y = and_then (common_kind x.kind y.kind) (λ k. Ok (of_kind (expr.Compare x.expr (comparison_of c) y.expr) kind.Bool))
+comparison_test c x y =
+    and_then (common_kind x.kind y.kind) (λ k. Ok (of_kind (expr.Compare x.expr (comparison_of c) y.expr) kind.Bool))
 
 -- the operands are checked together
 unfoldable pub between : Typed → Typed → Typed → Result Typed Refusal
-between x low high = and_then (common_kind_of_all (x.kind ∷ low.kind ∷ high.kind ∷ [])) (λ k. Ok (of_kind (expr.Between x.expr low.expr high.expr) kind.Bool))
+between x low high =
+    and_then (common_kind_of_all (x.kind ∷ low.kind ∷ high.kind ∷ []))
+    (λ k. Ok (of_kind (expr.Between x.expr low.expr high.expr) kind.Bool))
 
 unfoldable pub in_list : Typed → List Typed → Result Typed Refusal
-in_list x members = and_then (common_kind_of_all (x.kind ∷ kinds_of members)) (λ k. Ok (of_kind (expr.In x.expr (exprs_of members)) kind.Bool))
+in_list x members =
+    and_then (common_kind_of_all (x.kind ∷ kinds_of members))
+    (λ k. Ok (of_kind (expr.In x.expr (exprs_of members)) kind.Bool))
 
 abbrev pub like_test_of : Expr → Option (List PatternPart) → Result Typed Refusal
 like_test_of e None = Err BadPattern
@@ -84,7 +89,8 @@ like_test_of e (Some parts) = Ok (of_kind (expr.Like e parts) kind.Bool)
 
 -- the pattern is a string literal as it is spelt
 unfoldable pub like_test : List ℕ → Typed → Result Typed Refusal
-like_test spelled x = if takes kind.Str x.kind then like_test_of x.expr (parts_of (chars (text_of spelled))) else Err TypeMismatch
+like_test spelled x =
+    if takes kind.Str x.kind then like_test_of x.expr (parts_of (chars (text_of spelled))) else Err TypeMismatch
 
 -- the operands of an AND or an OR
 abbrev pub are_conditions : Option Kind → Option Kind → Bool
@@ -115,7 +121,9 @@ otherwise_of other = option_map (λ (x : Typed). x.expr) other
 
 -- the one type of the values of all arms and of ELSE
 abbrev pub value_kind : List TypedArm → Option Typed → Result Kind Refusal
-value_kind arms other = and_then (common_kind_of_all (otherwise_kind other ∷ map (λ (a : TypedArm). a.value.kind) arms)) (λ k. Ok (or_int k))
+value_kind arms other =
+    and_then (common_kind_of_all (otherwise_kind other ∷ map (λ (a : TypedArm). a.value.kind) arms))
+    (λ k. Ok (or_int k))
 
 abbrev pub has_condition : TypedArm → Bool
 has_condition a = takes kind.Bool a.condition.kind
@@ -124,24 +132,32 @@ abbrev pub case_kind : List TypedArm → Option Typed → Result Kind Refusal
 case_kind arms other = if list_all has_condition arms then value_kind arms other else Err TypeMismatch
 
 unfoldable pub case_of : List TypedArm → Option Typed → Result Typed Refusal
-case_of arms other = and_then (case_kind arms other) (λ k. Ok (of_kind (expr.Case (map arm_of arms) (otherwise_of other)) k))
+case_of arms other =
+    and_then (case_kind arms other) (λ k. Ok (of_kind (expr.Case (map arm_of arms) (otherwise_of other)) k))
 
 unfoldable pub match_of : Typed → List TypedArm → Option Typed → Result Typed Refusal
-match_of x arms other = and_then (value_kind arms other) (λ k. Ok (of_kind (expr.Match x.expr (map arm_of arms) (otherwise_of other)) k))
+match_of x arms other =
+    and_then (value_kind arms other) (λ k. Ok (of_kind (expr.Match x.expr (map arm_of arms) (otherwise_of other)) k))
 
 -- ---- calls
 
 unfoldable pub calculation_of : Calculates → Typed → Typed → Result Typed Refusal
-calculation_of op x y = if takes kind.Int x.kind && takes kind.Int y.kind then Ok (of_kind (expr.Chain x.expr (record { operator = op; operand = y.expr } ∷ [])) kind.Int) else Err TypeMismatch
+calculation_of op x y =
+    if takes kind.Int x.kind && takes kind.Int y.kind
+    then Ok (of_kind (expr.Chain x.expr (record { operator = op; operand = y.expr } ∷ [])) kind.Int)
+    else Err TypeMismatch
 
 unfoldable pub length_of : Typed → Result Typed Refusal
 length_of x = and_then (text_kind x.kind) (λ k. Ok (of_kind (expr.Length x.expr) kind.Int))
 
 unfoldable pub starts_with : Typed → Typed → Result Typed Refusal
-starts_with x front = and_then (and_then (common_kind x.kind front.kind) text_kind) (λ k. Ok (of_kind (expr.StartsWith x.expr front.expr) kind.Bool))
+starts_with x front =
+    and_then (and_then (common_kind x.kind front.kind) text_kind)
+    (λ k. Ok (of_kind (expr.StartsWith x.expr front.expr) kind.Bool))
 
 unfoldable pub coalesce_of : List Typed → Result Typed Refusal
-coalesce_of xs = and_then (common_kind_of_all (kinds_of xs)) (λ k. Ok (of_kind (expr.Coalesce (exprs_of xs)) (or_int k)))
+coalesce_of xs =
+    and_then (common_kind_of_all (kinds_of xs)) (λ k. Ok (of_kind (expr.Coalesce (exprs_of xs)) (or_int k)))
 
 -- ---- operands by their number; a wrong number is a wrong type
 

@@ -109,7 +109,12 @@ some_true x es = of_kind (expr.Or x.expr es) kind.Bool
 
 -- a chain, one operator on
 unfoldable pub append_link : Chain → Operator → Typed → Result Chain Refusal
-append_link c op x = and_then (link_kind op c.kind x.kind) (λ k. Ok (record { kind = Some k; links = c.links ++ (record { operator = operator_of op; operand = x.expr } ∷ []) }))
+append_link c op x =
+    and_then (link_kind op c.kind x.kind)
+    (λ k. Ok (record {
+      kind = Some k;
+      links = c.links ++ (record { operator = operator_of op; operand = x.expr } ∷ []);
+    }))
 
 unfoldable pub chain_of : Typed → Chain → Typed
 chain_of x c = record { expr = expr.Chain x.expr c.links; kind = c.kind }
@@ -136,7 +141,8 @@ check_kind k x = and_then (common_kind k x.kind) (λ j. Ok x)
 
 -- a WHEN is compared with the operand, of this type, before its THEN
 abbrev pub compared_arm : Option Kind → Operand × Operand → Mode → Finds TypedArm
-compared_arm k a m = a.0 m >>= (λ x. from_result (check_kind k x)) >>= (λ c. a.1 m >>= (λ v. from_result (Ok (arm_typed c v))))
+compared_arm k a m =
+    a.0 m >>= (λ x. from_result (check_kind k x)) >>= (λ c. a.1 m >>= (λ v. from_result (Ok (arm_typed c v))))
 
 abbrev pub compared_arms : Option Kind → List (Operand × Operand) → Mode → Finds (List TypedArm)
 compared_arms k os m = all_of (λ (a : Operand × Operand). compared_arm k a m) os
@@ -172,7 +178,8 @@ searched_case os other m = arms os m >>= (λ xs. optional other m >>= (λ y. fro
 
 -- a CASE with an operand
 unfoldable pub simple_case : Operand → List (Operand × Operand) → Option Operand → Operand
-simple_case a os other m = a m >>= (λ x. compared_arms x.kind os m >>= (λ xs. optional other m >>= (λ y. from_result (match_of x xs y))))
+simple_case a os other m =
+    a m >>= (λ x. compared_arms x.kind os m >>= (λ xs. optional other m >>= (λ y. from_result (match_of x xs y))))
 
 abbrev pub case : Option Operand → List (Operand × Operand) → Option Operand → Operand
 case None os other = searched_case os other
@@ -188,10 +195,12 @@ next_place scope Groups found = Ok (length scope.keys + length found)
 -- a new aggregate of the block; its place is after the grouped columns and the aggregates before it
 unfoldable pub new_aggregate : Scope → Mode → Aggregate → Kind → Finds Typed
 new_aggregate scope Rows a k found = Err NotGrouped
-new_aggregate scope Groups a k found = Ok (of_kind (expr.Column (length scope.keys + length found)) k, found ++ (a ∷ []))
+new_aggregate scope Groups a k found =
+    Ok (of_kind (expr.Column (length scope.keys + length found)) k, found ++ (a ∷ []))
 
 unfoldable pub aggregate : Scope → Mode → Function → List Typed → Finds Typed
-aggregate scope m f xs = from_result (operand_of f xs) >>= (λ x. new_aggregate scope m (Of f x.expr) (aggregate_kind f x.kind))
+aggregate scope m f xs =
+    from_result (operand_of f xs) >>= (λ x. new_aggregate scope m (Of f x.expr) (aggregate_kind f x.kind))
 
 -- a call of a name that is no function
 unfoldable pub unknown_call : List Operand → Operand
@@ -247,7 +256,8 @@ at_operands scope params (Expr-F.Or a os) = junction some_true a os
 
 -- the typed form of a tree in a block of these names, with these parameters
 abbrev pub typing : Scope → List Parameter → Expr → Operand
-typing scope params = fold-Expr Operand (Operand × Operand) (Operator × Operand) (at_operands scope params) arm_at link_at
+typing scope params =
+    fold-Expr Operand (Operand × Operand) (Operator × Operand) (at_operands scope params) arm_at link_at
 
 abbrev pub arm_typing : Scope → List Parameter → Arm → Operand × Operand
 arm_typing scope params a = (typing scope params a.condition, typing scope params a.value)

@@ -1,5 +1,5 @@
--- A shard has of each key the versions that the log's commits made there, trimmed at the horizon, one that is not applied yet left out,
--- and the write that the transaction prepared there is to leave.
+-- A shard has of each key the versions that the log's commits made there, trimmed at the horizon, one that is not
+-- applied yet left out, and the write that the transaction prepared there is to leave.
 use Rattle.std.proofs.Common.{◌≡◌, ◌≢◌, ℕ, Bool, true, nat_le, if◌then◌else◌, List, [], ◌∷◌, ◌++◌, length, ◌≤◌, Option, Some, None, Ok}
 use Rattle.std.specs.Prelude.{filter, map, slice_get}
 use Rattle.std.specs.List.{AllByRecursion}
@@ -64,17 +64,22 @@ directory_after schema root db c = after_mutations schema db (filter (is_at sche
 abbrev pub made_from : List Table → Root → List ℕ → List TableRow → List Commit → List Version → List Version
 made_from schema root k db [] vs = vs
 made_from schema root k db (c ∷ cs) vs =
-    made_from schema root k (directory_after schema root db c) cs (with_change c.timestamp (row_coded schema db k) (row_coded schema (directory_after schema root db c) k) vs)
+    made_from schema root k (directory_after schema root db c) cs
+    (with_change c.timestamp (row_coded schema db k) (row_coded schema (directory_after schema root db c) k) vs)
 
 abbrev pub made : List Table → Root → List ℕ → List Commit → List Version
 made schema root k commits = made_from schema root k [] commits []
 
 -- at every s the versions have the row that the directory's commits up to s make
-pub record MakeRows (schema : List Table) (root : Root) (k : List ℕ) (commits : List Commit) (vs : List Version) : Type 0 where
-  pub rows : (s : ℕ) → (db : List TableRow) × (apply schema [] (changes_at schema root (filter (λ c. nat_le c.timestamp s) commits)) ≡ Ok db) × (row_coded schema db k ≡ row_at vs s)
+pub record MakeRows (schema : List Table) (root : Root) (k : List ℕ) (commits : List Commit) (vs : List Version) : Type
+    0 where
+  pub rows : (s : ℕ) → (db : List TableRow)
+      × (apply schema [] (changes_at schema root (filter (λ c. nat_le c.timestamp s) commits)) ≡ Ok db)
+      × (row_coded schema db k ≡ row_at vs s)
 
 -- the versions are those that the directory's commits make, trimmed at the horizon h
-pub record HasRows (schema : List Table) (root : Root) (k : List ℕ) (h : ℕ) (commits : List Commit) (vs : List Version) : Type 0 where
+pub record HasRows (schema : List Table) (root : Root) (k : List ℕ) (h : ℕ) (commits : List Commit)
+    (vs : List Version) : Type 0 where
   pub versions : vs ≡ kept_upto h (made schema root k commits)
   pub makes : MakeRows schema root k commits (made schema root k commits)
 
@@ -84,7 +89,8 @@ IsPut txn before after None = after ≡ before
 IsPut txn before after (Some w) = (w.txn ≡ txn) × (w.row ≡ after) × (after ≢ before)
 
 -- what is prepared is what the transaction's mutations make of the directory after its commits
-pub record IsPreparedBy (schema : List Table) (root : Root) (k : List ℕ) (commits : List Commit) (txn : ℕ) (ms : List CheckedMutation) (prepared : Option PreparedWrite) : Type 0 where
+pub record IsPreparedBy (schema : List Table) (root : Root) (k : List ℕ) (commits : List Commit) (txn : ℕ)
+    (ms : List CheckedMutation) (prepared : Option PreparedWrite) : Type 0 where
   pub before : List TableRow
   pub after : List TableRow
   pub now : apply schema [] (changes_at schema root commits) ≡ Ok before
@@ -92,29 +98,38 @@ pub record IsPreparedBy (schema : List Table) (root : Root) (k : List ℕ) (comm
   pub put : IsPut txn (row_coded schema before k) (row_coded schema after k) prepared
 
 -- the last commit is not applied yet: it is above the horizon, and what is prepared is what it makes
-pub record IsPending (schema : List Table) (root : Root) (k : List ℕ) (h : ℕ) (commits : List Commit) (vs : List Version) (prepared : Option PreparedWrite) (t : OpenTransaction) (ts : ℕ) : Type 0 where
+pub record IsPending (schema : List Table) (root : Root) (k : List ℕ) (h : ℕ) (commits : List Commit)
+    (vs : List Version) (prepared : Option PreparedWrite) (t : OpenTransaction) (ts : ℕ) : Type 0 where
   pub front : List Commit
   pub whole : commits ≡ front ++ commit_of ts t ∷ []
   pub put : IsPreparedBy schema root k front t.number t.mutations prepared
   pub rows : HasRows schema root k h front vs
 
 -- what is kept at a key of a directory that a transaction claims, by what was decided of it
-abbrev pub IsKeptUnder : List Table → Root → List ℕ → ℕ → List Commit → List Version → Option PreparedWrite → OpenTransaction → Decision → Type 0
-IsKeptUnder schema root k h commits vs prepared t decision.Undecided = IsPreparedBy schema root k commits t.number t.mutations prepared × HasRows schema root k h commits vs
-IsKeptUnder schema root k h commits vs prepared t decision.Aborted = IsPreparedBy schema root k commits t.number t.mutations prepared × HasRows schema root k h commits vs
-IsKeptUnder schema root k h commits vs prepared t (decision.Committed ts) = IsPending schema root k h commits vs prepared t ts
+abbrev pub IsKeptUnder : List Table → Root → List ℕ → ℕ → List Commit → List Version → Option PreparedWrite
+    → OpenTransaction → Decision → Type 0
+IsKeptUnder schema root k h commits vs prepared t decision.Undecided =
+    IsPreparedBy schema root k commits t.number t.mutations prepared × HasRows schema root k h commits vs
+IsKeptUnder schema root k h commits vs prepared t decision.Aborted =
+    IsPreparedBy schema root k commits t.number t.mutations prepared × HasRows schema root k h commits vs
+IsKeptUnder schema root k h commits vs prepared t (decision.Committed ts) =
+    IsPending schema root k h commits vs prepared t ts
 
 -- what is kept at a key, by the commits of its directory and the transactions that claim it
-abbrev pub IsKeptBy : List Table → Root → List ℕ → ℕ → List Commit → List Version → Option PreparedWrite → List OpenTransaction → Type 0
+abbrev pub IsKeptBy : List Table → Root → List ℕ → ℕ → List Commit → List Version → Option PreparedWrite
+    → List OpenTransaction → Type 0
 IsKeptBy schema root k h commits vs prepared [] = (prepared ≡ None) × HasRows schema root k h commits vs
 IsKeptBy schema root k h commits vs prepared (t ∷ ts) = IsKeptUnder schema root k h commits vs prepared t t.decision
 
 -- what is kept at a key by a machine, in a slot that has this horizon
 abbrev pub IsKeptAt : List Table → Machine → ℕ → ℕ → List KeyVersions → Root → List ℕ → Type 0
-IsKeptAt schema m slot horizon cs root k = IsKeptBy schema root k horizon (commits_at schema root m.log) (versions_at cs k) (prepared_at cs k) (filter (claims schema root slot) m.transactions)
+IsKeptAt schema m slot horizon cs root k =
+    IsKeptBy schema root k horizon (commits_at schema root m.log) (versions_at cs k) (prepared_at cs k)
+    (filter (claims schema root slot) m.transactions)
 
--- The slot is in use, and its shard is what the log and the open transactions make it there: it has no key outside the slot's range, and
--- at each key of the directories that the range has it keeps what they make, at the slot's own horizon.
+-- The slot is in use, and its shard is what the log and the open transactions make it there: it has no key outside the
+-- slot's range, and at each key of the directories that the range has it keeps what they make, at the slot's own
+-- horizon.
 pub record AreKept (schema : List Table) (m : Machine) (slot : ℕ) (cs : List KeyVersions) : Type 0 where
   pub slot_state : SlotState
   pub here : slice_get m.slots slot ≡ Some slot_state
@@ -122,7 +137,8 @@ pub record AreKept (schema : List Table) (m : Machine) (slot : ℕ) (cs : List K
   pub used : AllByRecursion IsInUse cs
   pub coded : AllByRecursion (λ c. IsCodedCoding schema c.key) cs
   pub inside : AllByRecursion (λ c. has_key slot_state c.key ≡ true) cs
-  pub kept : (root : Root) → IsCodedRoot schema root → holds schema slot_state root ≡ true → (k : List ℕ) → is_under schema root k ≡ true → IsKeptAt schema m slot slot_state.horizon cs root k
+  pub kept : (root : Root) → IsCodedRoot schema root → holds schema slot_state root ≡ true → (k : List ℕ)
+      → is_under schema root k ≡ true → IsKeptAt schema m slot slot_state.horizon cs root k
 
 -- the shards of all slots in use are what the log and the open transactions make them
 pub record AreAllKept (schema : List Table) (m : Machine) (shards : List (List KeyVersions)) : Type 0 where
@@ -132,7 +148,8 @@ pub record AreAllKept (schema : List Table) (m : Machine) (shards : List (List K
 -- ---- the pieces of open queries
 
 -- the piece has what the leaf gives on the rows of the range, at s
-pub record HasRowsIn (schema : List Table) (log : List Commit) (s : ℕ) (leaf : Leaf) (range : KeyRange) (piece : Piece) : Type 0 where
+pub record HasRowsIn (schema : List Table) (log : List Commit) (s : ℕ) (leaf : Leaf) (range : KeyRange)
+    (piece : Piece) : Type 0 where
   pub db : List TableRow
   pub made : tables schema log s ≡ Ok db
   pub whole : piece.rows ≡ leaf_within schema db leaf range
@@ -149,7 +166,8 @@ abbrev pub AreLeafPieces : List Table → List Commit → ℕ → List ScanLeaf 
 AreLeafPieces schema log s [] [] = Unit {0}
 AreLeafPieces schema log s [] (pieces ∷ ps) = ⊥
 AreLeafPieces schema log s (l ∷ ls) [] = ⊥
-AreLeafPieces schema log s (l ∷ ls) (pieces ∷ ps) = AreRead schema log s l.leaf l.covered pieces × AreLeafPieces schema log s ls ps
+AreLeafPieces schema log s (l ∷ ls) (pieces ∷ ps) =
+    AreRead schema log s l.leaf l.covered pieces × AreLeafPieces schema log s ls ps
 
 -- the leaves are those of the plan of a statement that can be planned, and each has its pieces
 pub record IsPieced (schema : List Table) (log : List Commit) (p : Pieced) : Type 0 where
@@ -165,9 +183,12 @@ ArePieced schema m ps = AllByRecursion (IsPieced schema m.log) ps
 abbrev pub has_row : List Table → SlotState → TableRow → Bool
 has_row schema slot_state r = has_key slot_state (code_of schema r)
 
--- entries that are rows of a range in the slot's range, those of each table being all that the database has there, in its order
-pub record HasRowsOf (schema : List Table) (slot_state : SlotState) (range : KeyRange) (db : List TableRow) (entries : List KeyRow) : Type 0 where
+-- entries that are rows of a range in the slot's range, those of each table being all that the database has there, in
+-- its order
+pub record HasRowsOf (schema : List Table) (slot_state : SlotState) (range : KeyRange) (db : List TableRow)
+    (entries : List KeyRow) : Type 0 where
   pub rows : List TableRow
   pub typed : AreTyped schema rows
   pub entries_are : entries ≡ map (key_row schema) rows
-  pub of_table : (n : ℕ) → rows_of n rows ≡ filter (row_within schema range) (filter (has_row schema slot_state) (rows_of n db))
+  pub of_table : (n : ℕ) → rows_of n rows
+      ≡ filter (row_within schema range) (filter (has_row schema slot_state) (rows_of n db))

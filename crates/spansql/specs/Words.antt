@@ -25,7 +25,9 @@ run =
 -- the program, which wants a subcommand and has `run`
 abbrev pub program : App
 program =
-    let top = on_top (λ s. record s { subcommand_required = true; arg_required_else_help = true }) (new_app (codes "spansql")) in
+    let top =
+    on_top (λ s. record s { subcommand_required = true; arg_required_else_help = true }) (new_app (codes "spansql"))
+    in
     with_subcommand top run.top
 
 -- the value of an argument that must be there

@@ -3,7 +3,7 @@ use Rattle.span_keyindex.specs.Indexes.{entries_of}
 use Rattle.span_shard.proofs.Moving.{IsRoomSoFar}
 use Rattle.span_shard.proofs.split.add_room.Given as goal
 
--- there is room for the versions of the keys so far
+-- there is capacity for the versions of the keys so far
 abbrev pub invariant-loop-chain : goal.invariant-loop-chain
 invariant-loop-chain l = record {
   can_next : (goal.iterator-loop-chain).can_next l.chains;
