@@ -159,12 +159,6 @@ masked_length [] (v ∷ vs) = ap suc (masked_length [] vs)
 masked_length (true ∷ ms) (v ∷ vs) = ap suc (masked_length ms vs)
 masked_length (false ∷ ms) (v ∷ vs) = ap suc (masked_length ms vs)
 
--- a mask that has all places leaves a row as it is
-pub masked_all : (n : ℕ) (vs : List Value) → length vs ≤ n → masked (replicate n true) vs ≡ vs
-masked_all n [] long = refl
-masked_all zero (v ∷ vs) long = absurd (let less : suc (length vs) ≤ 0 = long in omega arith)
-masked_all (suc n) (v ∷ vs) long = ap (λ (l : List Value). v ∷ l) (masked_all n vs (omega arith))
-
 -- ---- the row
 
 one_value : (b : Bool) (o p : Option Value) → (if b then unwrap_or o (if b then unwrap_or p Null else Null) else (if b then unwrap_or p Null else Null)) ≡ (if b then unwrap_or (option_or o p) Null else Null)
