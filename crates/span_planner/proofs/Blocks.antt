@@ -1,7 +1,7 @@
 -- A block above its leaves gives what the block gives on whole tables, where each derived table does so.
-use Rattle.std.proofs.Common.{◌≡◌, ℕ, ◌+◌, ◌-◌, ◌==◌, suc, zero, nat_le, nat_lt, Bool, true, false, cond, not, ◌&&◌, List, [], ◌∷◌, ◌++◌, map, take, drop, length, Option, Some, None, refl, ap, sym, ◌∙◌, subst, append_assoc, length-append, arith}
+use Rattle.std.proofs.Common.{◌≡◌, ℕ, ◌+◌, ◌==◌, suc, zero, Bool, true, false, ◌&&◌, List, [], ◌∷◌, ◌++◌, map, take, drop, length, Option, Some, None, refl, ap, sym, ◌∙◌, subst, arith}
 use Rattle.std.specs.Prelude.{filter as filter_list, if◌then◌else◌}
-use Rattle.std.specs.List.{AllByRecursion, list_all, fold}
+use Rattle.std.specs.List.{AllByRecursion, fold}
 use Rattle.std.proofs.lemmas.Bool.Decides.{nat_tests}
 use Rattle.span_schema.specs.declared.table.Table.{Table}
 use Rattle.span_expr.specs.declared.expr.Expr.{Expr}
@@ -12,15 +12,15 @@ use Rattle.span_query.specs.declared.query.Block.{Block}
 use Rattle.span_query.specs.declared.query.Item.{Item}
 use Rattle.span_query.specs.declared.query.Item.TheVariants as item
 use Rattle.span_query.specs.declared.query.Join.{Join}
-use Rattle.span_query.specs.Rows.{Row, OrFault, Rows, ◌>>=◌, filter_rows, filter_where, project_rows}
+use Rattle.span_query.specs.Rows.{Row, OrFault, Rows, ◌>>=◌, filter_where, project_rows}
 use Rattle.span_query.specs.Groups.{group_rows}
 use Rattle.span_query.specs.Meaning.{item_rows, join_rows, join_next, from, distinct_if, block_rows, meaning_over}
 use Rattle.span_query.proofs.Layers.{map_item, map_join, map_block}
 use Rattle.span_query.proofs.Results.{bind-assoc, bind-Some}
 use Rattle.span_planner.specs.declared.leaf.LeafJoin.{LeafJoin}
 use Rattle.span_planner.specs.declared.leaf.Leaf.{Leaf}
-use Rattle.span_planner.specs.Conditions.{have_total_ons, pushable, where_conjuncts, conjuncts_on}
-use Rattle.span_planner.specs.Leaves.{Planned, table_of, width_of, is_joined, leaf_len, leaf_join, item_table, join_table, widths, reads_of, first_leaf, table_leaf, unless_left, join_leaves, rest_leaves, leaves_from, block_leaves, top_item, count_leaves, top_join, top_joins, with_from, top_from, top_block}
+use Rattle.span_planner.specs.Conditions.{have_total_ons, where_conjuncts, conjuncts_on}
+use Rattle.span_planner.specs.Leaves.{Planned, table_of, width_of, is_joined, leaf_len, leaf_join, join_table, widths, reads_of, first_leaf, unless_left, join_leaves, rest_leaves, leaves_from, block_leaves, count_leaves, top_join, top_joins, top_from, top_block}
 use Rattle.span_planner.specs.Results.{as_join, join_tables, leaf_rows}
 use Rattle.span_planner.proofs.Joins.{Joined, run_join, run_joins, run_where, AreGiven, AreTotal, AllGiven, all_map}
 use Rattle.span_planner.proofs.Pushing.{is_kept, AreOfWidth, filter_where-all_true, left_out_below}

@@ -1,23 +1,19 @@
 -- A mask changes no value of an expression that reads within it, and so neither joins nor conditions, groups nor a select list.
-use Rattle.std.proofs.Common.{◌≡◌, ℕ, ◌+◌, suc, zero, Bool, true, false, cond, not, ◌&&◌, List, [], ◌∷◌, ◌++◌, map, length, replicate, Option, Some, None, refl, ap, sym, ◌∙◌, subst, append_assoc, length-append, arith}
-use Rattle.std.specs.Prelude.{pos, flat_map, filter, if◌then◌else◌}
-use Rattle.std.specs.List.{AllByRecursion, list_all}
-use Rattle.std.specs.Option.{option_map}
+use Rattle.std.proofs.Common.{◌≡◌, ℕ, ◌+◌, suc, zero, Bool, true, false, List, [], ◌∷◌, ◌++◌, map, length, replicate, Option, Some, None, refl, ap, sym, ◌∙◌, subst, length-append, arith}
+use Rattle.std.specs.List.{AllByRecursion}
 use Rattle.std.proofs.lemmas.List.{map-append}
-use Rattle.span_value.specs.declared.value.Value.{Value}
 use Rattle.span_value.specs.declared.value.Value.TheVariants.{Null}
 use Rattle.span_value.specs.declared.truth.Outcome.{Outcome}
 use Rattle.span_expr.specs.declared.expr.Expr.{Expr}
 use Rattle.span_expr.specs.Operators.{column_of}
 use Rattle.span_expr.specs.Meaning.{val}
-use Rattle.span_expr.specs.Places.{reads_only}
 use Rattle.span_expr.proofs.Places.{val-reads, reads_only-wider}
 use Rattle.span_query.specs.declared.query.Join.{Join}
 use Rattle.span_query.specs.Rows.{Row, OrFault, Rows, ◌>>=◌, value_of, is_true, append_results, concat_map, keep_if, holds, filter_rows, filter_where}
 use Rattle.span_query.specs.Meaning.{or_unmatched, pairs_of, join_rows}
 use Rattle.span_planner.specs.Masks.{masked}
 use Rattle.span_planner.specs.Reads.{has_place, reads_within, mask_rows, condition_reads}
-use Rattle.span_planner.proofs.Joins.{all_map, all_append}
+use Rattle.span_planner.proofs.Joins.{all_map}
 use Rattle.span_planner.proofs.Pushing.{AreOfWidth}
 use Rattle.span_planner.proofs.Narrowing.{IsWide}
 use Rattle.span_planner.proofs.Widths.{wide_concat_map}

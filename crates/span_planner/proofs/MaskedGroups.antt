@@ -1,17 +1,16 @@
 -- Groups and a select list of masked rows are those of the rows, where what is read of the rows is in the mask.
-use Rattle.std.proofs.Common.{◌≡◌, ℕ, suc, zero, Bool, true, false, cond, ◌&&◌, List, [], ◌∷◌, ◌++◌, map, length, Option, Some, None, refl, ap, sym, ◌∙◌}
-use Rattle.std.specs.Prelude.{pos, filter}
+use Rattle.std.proofs.Common.{◌≡◌, ℕ, suc, Bool, true, false, cond, ◌&&◌, List, [], ◌∷◌, ◌++◌, map, length, Option, Some, None, refl, ap, ◌∙◌}
+use Rattle.std.specs.Prelude.{pos}
 use Rattle.std.specs.List.{AllByRecursion, list_all}
 use Rattle.std.specs.Option.{option_map}
 use Rattle.span_value.specs.declared.value.Value.{Value}
 use Rattle.span_expr.specs.declared.expr.Expr.{Expr}
 use Rattle.span_expr.specs.Operators.{number, column_of}
 use Rattle.span_expr.specs.Meaning.{val}
-use Rattle.span_expr.specs.Places.{reads_only}
 use Rattle.span_query.specs.declared.query.Aggregate.{Aggregate}
 use Rattle.span_query.specs.declared.query.Aggregate.TheVariants.{CountRows, Of}
 use Rattle.span_query.specs.declared.query.Grouping.{Grouping}
-use Rattle.span_query.specs.Rows.{Row, OrFault, Rows, ◌>>=◌, value_of, singleton, concat_map, each, values, project_rows, filter_where}
+use Rattle.span_query.specs.Rows.{Row, OrFault, Rows, ◌>>=◌, value_of, singleton, each, values, project_rows, filter_where}
 use Rattle.span_query.specs.Groups.{are_equal, distinct, columns_at, group_keys, rows_with, operands, without_nulls, of_values, aggregate, group_row, groups, group_rows}
 use Rattle.span_query.proofs.Results.{concat_map-same}
 use Rattle.span_planner.proofs.Joins.{all_map}

@@ -1,8 +1,8 @@
 -- The law of a plan whose leaves give masked rows, and masked tables below a leaf.
 use Rattle.std.proofs.Common.{◌≡◌, ◌∙◌, ℕ, zero, suc, ◌+◌, Bool, true, false, ◌&&◌, List, [], ◌∷◌, ◌++◌, map, take, drop, length, Option, Some, None, refl, ap, sym, subst, add-one, append_assoc, length-append, arith}
-use Rattle.std.specs.Prelude.{slice_get, ◌≤◌, ◌<◌}
+use Rattle.std.specs.Prelude.{slice_get, ◌<◌}
 use Rattle.std.specs.List.{AllByRecursion, list_all}
-use Rattle.std.specs.Option.{unwrap_or, option_map}
+use Rattle.std.specs.Option.{unwrap_or}
 use Rattle.span_schema.specs.declared.table.Table.{Table}
 use Rattle.span_schema.specs.Numbers.{key_places}
 use Rattle.span_expr.specs.declared.expr.Expr.{Expr}
@@ -14,7 +14,7 @@ use Rattle.span_planner.specs.declared.leaf.Leaf.{Leaf}
 use Rattle.span_planner.specs.declared.leaf.LeafJoin.{LeafJoin}
 use Rattle.span_planner.specs.Leaves.{table_of, width_of, planned}
 use Rattle.span_planner.specs.Masks.{masked}
-use Rattle.span_planner.specs.Reads.{has_place, reads_within, mask_rows, condition_reads, leaf_widths, leaf_on_reads, leaf_reads, reads_own, masks_of, is_within, join_masks, leaf_masks, mask_tables}
+use Rattle.span_planner.specs.Reads.{has_place, reads_within, mask_rows, condition_reads, leaf_widths, leaf_on_reads, leaf_reads, masks_of, is_within, join_masks, mask_tables}
 use Rattle.span_planner.specs.Results.{as_join, join_tables, leaf_rows}
 use Rattle.span_planner.specs.Sizes.{is_sized}
 use Rattle.span_planner.proofs.Blocks.{AgreesAt}

@@ -2,7 +2,6 @@
 use Rattle.std.proofs.Common.{◌≡◌, ◌∙◌, ℕ, ◌+◌, ◌==◌, suc, zero, Bool, true, false, ◌&&◌, List, [], ◌∷◌, ◌++◌, map, length, replicate, Option, Some, None, refl, ap, sym, subst, append_assoc, length-append, arith}
 use Rattle.std.specs.Prelude.{flat_map}
 use Rattle.std.specs.List.{AllByRecursion, list_all, fold}
-use Rattle.std.specs.Option.{option_map}
 use Rattle.std.proofs.lemmas.Bool.Decides.{nat_tests}
 use Rattle.span_expr.specs.declared.expr.Expr.{Expr}
 use Rattle.span_query.specs.declared.query.BoundQuery.{BoundQuery}
@@ -14,7 +13,7 @@ use Rattle.span_query.specs.declared.query.Grouping.{Grouping}
 use Rattle.span_query.specs.declared.query.Item.{Item}
 use Rattle.span_query.specs.declared.query.Item.TheVariants as item
 use Rattle.span_query.specs.declared.query.Join.{Join}
-use Rattle.span_query.specs.Rows.{Row, OrFault, Rows, ◌>>=◌, append_results, concat_map, filter_where, project_rows}
+use Rattle.span_query.specs.Rows.{Row, Rows, ◌>>=◌, append_results, concat_map, filter_where, project_rows}
 use Rattle.span_query.specs.Groups.{group_rows}
 use Rattle.span_query.specs.Sorting.{sorted}
 use Rattle.span_query.specs.Meaning.{item_rows, join_rows, join_next, from, distinct_if, block_rows, limit_rows, query_rows, meaning_over}

@@ -1,10 +1,9 @@
 -- What is known of the leaves of a plan: their tables are joined by their root keys, and rows out of a narrowed range are lost.
-use Rattle.std.proofs.Common.{◌≡◌, ◌≢◌, ◌∙◌, ℕ, ◌+◌, ◌-◌, ◌<◌, ◌≤◌, ◌==◌, suc, zero, nat_le, nat_lt, Bool, true, false, cond, not, ◌&&◌, ◌||◌, List, [], ◌∷◌, ◌++◌, map, take, drop, length, Option, Some, None, refl, ap, sym, subst, arith, ◌⊎◌, inl, inr, append_assoc}
+use Rattle.std.proofs.Common.{◌≡◌, ◌∙◌, ℕ, ◌+◌, ◌<◌, ◌≤◌, ◌==◌, suc, zero, Bool, true, false, ◌&&◌, List, [], ◌∷◌, ◌++◌, map, take, drop, length, Option, Some, None, refl, ap, sym, subst, arith, ◌⊎◌, inl, inr}
 use Rattle.std.specs.Prelude.{filter, flat_map, replicate, if◌then◌else◌}
-use Rattle.std.specs.List.{AllByRecursion, list_all, list_any}
+use Rattle.std.specs.List.{AllByRecursion, list_all}
 use Rattle.std.proofs.lemmas.Bool.Decides.{nat_tests}
 use Rattle.std.proofs.lemmas.List.FromFn.{length-map-range_with_len}
-use Rattle.span_value.specs.declared.value.Value.{Value}
 use Rattle.span_value.specs.declared.value.Value.TheVariants.{Null}
 use Rattle.span_schema.specs.declared.table.Table.{Table}
 use Rattle.span_schema.specs.declared.layout.KeyPart.{KeyPart}
@@ -14,27 +13,24 @@ use Rattle.span_keycode.specs.declared.range.KeyRange.{KeyRange}
 use Rattle.span_keycode.specs.Parts.{family}
 use Rattle.span_expr.specs.declared.expr.Expr.{Expr}
 use Rattle.span_expr.specs.Operators.{column_of}
-use Rattle.span_expr.specs.Meaning.{val, is_total}
-use Rattle.span_expr.specs.Conjuncts.{conjuncts, is_refused, all_true}
+use Rattle.span_expr.specs.Meaning.{is_total}
+use Rattle.span_expr.specs.Conjuncts.{conjuncts, all_true}
 use Rattle.span_expr.specs.Places.{is_in}
 use Rattle.span_expr.proofs.Conjuncts.{is_refused-conjuncts, is_refused-all_true}
 use Rattle.span_query.specs.declared.query.BoundQuery.{BoundQuery}
-use Rattle.span_query.specs.declared.query.BoundQuery.TheOpen.{BoundQuery-F}
-use Rattle.span_query.specs.declared.query.BoundQuery.TheViews.{roll-BoundQuery}
-use Rattle.span_query.specs.declared.query.BoundQuery.TheFolds.{ind-BoundQuery}
 use Rattle.span_query.specs.declared.query.Block.{Block}
 use Rattle.span_query.specs.declared.query.Item.{Item}
 use Rattle.span_query.specs.declared.query.Item.TheVariants as item
 use Rattle.span_query.specs.declared.query.Join.{Join}
 use Rattle.span_query.specs.Rows.{Row}
-use Rattle.span_query.proofs.Layers.{map_item, map_join, map_block, map_layer}
+use Rattle.span_query.proofs.Layers.{map_item, map_join, map_block}
 use Rattle.span_planner.specs.declared.leaf.LeafJoin.{LeafJoin}
 use Rattle.span_planner.specs.declared.leaf.Leaf.{Leaf}
 use Rattle.span_planner.specs.Conditions.{equates_all, have_total_ons, where_conjuncts, pushable, conjuncts_on}
 use Rattle.span_planner.specs.Ranges.{Bound, is_of_type, bounds, bounds_by, range_by, narrowed, leaf_range}
-use Rattle.span_planner.specs.Leaves.{Planned, table_of, width_of, root_places, is_joined_table, is_joined, leaf_len, leaf_join, item_table, join_table, widths, reads_of, first_leaf, table_leaf, unless_left, join_leaves, rest_leaves, leaves_from, block_leaves, planned_query, planned}
+use Rattle.span_planner.specs.Leaves.{Planned, table_of, width_of, root_places, is_joined_table, leaf_len, leaf_join, join_table, widths, reads_of, first_leaf, table_leaf, unless_left, join_leaves, rest_leaves, leaves_from, block_leaves, planned}
 use Rattle.span_planner.specs.Reads.{is_read, leaf_widths}
-use Rattle.span_planner.specs.Sizes.{Shape, item_shape, is_sized_join, is_sized_block, query_shape, shape, is_sized}
+use Rattle.span_planner.specs.Sizes.{Shape, item_shape, is_sized_join, is_sized_block, shape, is_sized}
 use Rattle.span_planner.proofs.Pushing.{is_left_out, column_of-append, column_of-after}
 use Rattle.span_planner.proofs.Narrowing.{are_on, own, left_out_among, left_out-own}
 use Rattle.span_planner.proofs.Bounding.{is_in_bounds, left_out_of_bounds}

@@ -1,5 +1,5 @@
 -- The query above the leaves of a plan reads within their masks.
-use Rattle.std.proofs.Common.{◌≡◌, ◌∙◌, ℕ, zero, suc, ◌+◌, ◌==◌, ◌≤◌, Bool, true, false, ◌&&◌, List, [], ◌∷◌, ◌++◌, map, take, drop, length, replicate, Option, Some, None, refl, ap, sym, subst, arith}
+use Rattle.std.proofs.Common.{◌≡◌, ◌∙◌, ℕ, zero, suc, ◌+◌, ◌==◌, ◌≤◌, Bool, true, false, ◌&&◌, List, [], ◌∷◌, ◌++◌, map, take, drop, length, replicate, Option, None, refl, ap, sym, subst, arith}
 use Rattle.std.specs.Prelude.{flat_map, if◌then◌else◌}
 use Rattle.std.specs.List.{list_all}
 use Rattle.std.proofs.lemmas.Bool.Decides.{nat_tests}
@@ -17,10 +17,9 @@ use Rattle.span_query.specs.declared.query.Join.{Join}
 use Rattle.span_query.proofs.Layers.{map_item, map_join, map_block, map_layer, layer_mapped}
 use Rattle.span_planner.specs.declared.leaf.Leaf.{Leaf}
 use Rattle.span_planner.specs.Conditions.{pushable}
-use Rattle.span_planner.specs.Leaves.{Planned, table_of, width_of, leaf_len, widths, reads_of, join_leaves, rest_leaves, leaves_from, block_leaves, top_item, count_leaves, top_joins, filter_above, top_from, top_block, top_blocks, top_query, planned_query, planned}
+use Rattle.span_planner.specs.Leaves.{Planned, table_of, width_of, leaf_len, widths, reads_of, join_leaves, rest_leaves, leaves_from, block_leaves, top_item, count_leaves, top_joins, filter_above, top_from, top_block, top_blocks, planned_query, planned}
 use Rattle.span_planner.specs.Reads.{has_place, condition_reads, on_reads, selection_reads, block_reads, Reading, item_mask, join_mask, from_mask, item_within, join_within, block_within, query_reading, reading, is_within}
 use Rattle.span_planner.specs.Sizes.{Shape, item_shape, is_sized_join, is_sized_block, query_shape, shape, is_sized}
-use Rattle.span_planner.proofs.Loops.{list_all-map}
 use Rattle.span_planner.proofs.Extents.{all_dropped}
 use Rattle.span_planner.proofs.Planned.{part_len, widths_split, reads_of_len}
 use Rattle.span_planner.proofs.Queries.{layer_twice}

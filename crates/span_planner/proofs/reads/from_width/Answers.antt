@@ -1,4 +1,4 @@
-use Rattle.std.proofs.Common.{◌≡◌, ◌+◌, take, arith}
+use Rattle.std.proofs.Common.{arith}
 use Rattle.span_planner.proofs.Extents.{widths_next}
 use Rattle.span_planner.proofs.reads.from_width.Goals as goal
 
