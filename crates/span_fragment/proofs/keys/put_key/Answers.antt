@@ -1,7 +1,7 @@
 use Rattle.std.proofs.Common.{◌≡◌, ◌<◌, ◌≤◌, ◌+◌, ℕ, List, arith, sym, ap, ◌∙◌, subst, length, length-drop, drop, get_or}
 use Rattle.std.proofs.lemmas.Option.{MatchOption-at_some, MatchOption-at_none}
 use Rattle.span_schema.specs.declared.layout.KeyPart.{KeyPart}
-use Rattle.span_schema.specs.Numbers.{path_of, own_key_columns, key_places}
+use Rattle.span_schema.specs.Numbers.{path_of, own_key_columns}
 use Rattle.span_fragment.specs.Placed.{IsLevelPut, IsNoLevel}
 use Rattle.span_fragment.proofs.Placing.{LevelsLeftAt, all_levels_left, level_at, no_level_at, levels_end}
 use Rattle.span_fragment.proofs.keys.put_key.Goals as goal
