@@ -1,16 +1,14 @@
 -- The rows that entries are, one after another.
-use Rattle.std.proofs.Common.{◌≡◌, ℕ, zero, suc, ◌+◌, ◌<◌, ◌≤◌, ◌==◌, Bool, true, false, cond, List, [], ◌∷◌, ◌++◌, length, take, drop, get_or, map, refl, sym, ap, subst, ◌∙◌, arith}
+use Rattle.std.proofs.Common.{◌≡◌, ℕ, zero, suc, ◌+◌, ◌<◌, ◌≤◌, ◌==◌, Bool, true, false, cond, List, [], ◌∷◌, ◌++◌, length, drop, get_or, map, refl, sym, ap, subst, ◌∙◌, arith}
 use Rattle.std.specs.List.{AllByRecursion}
 use Rattle.std.proofs.lemmas.Bool.{eqb-true}
 use Rattle.std.proofs.lemmas.List.{append-nil, append_assoc, length-map, drop_all, drop_more}
 use Rattle.span_value.specs.declared.value.Value.{Value}
 use Rattle.span_schema.specs.declared.table.Table.{Table}
 use Rattle.span_schema.specs.Numbers.{IsTable}
-use Rattle.span_rowcode.specs.Rows.{row_code}
 use Rattle.span_mutate.specs.declared.row.TableRow.{TableRow}
 use Rattle.span_mutate.specs.Database.{rows_of}
 use Rattle.span_mutate.specs.Typed.{IsTyped, AreTyped}
-use Rattle.span_shard.specs.Rows.{code_of}
 use Rattle.span_shard.specs.Shard.{KeyRow}
 use Rattle.span_shard.specs.declared.shard.Entry.{Entry}
 use Rattle.span_shard.specs.Reading.{entry_row, IsNoTableRow}

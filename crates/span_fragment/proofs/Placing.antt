@@ -1,5 +1,5 @@
 -- Values put at their places one after another.
-use Rattle.std.proofs.Common.{◌≡◌, ◌≢◌, ℕ, zero, suc, ◌+◌, ◌-◌, ◌<◌, ◌≤◌, ◌^◌, List, [], ◌∷◌, ◌++◌, Bool, true, false, not, refl, sym, ◌∙◌, ap, subst, append_assoc, arith, length, length-append, length-drop, drop, get_or, set, if◌then◌else◌}
+use Rattle.std.proofs.Common.{◌≡◌, ℕ, suc, ◌+◌, ◌-◌, ◌<◌, ◌≤◌, ◌^◌, List, [], ◌∷◌, ◌++◌, Bool, true, false, not, refl, sym, ◌∙◌, ap, subst, append_assoc, arith, length, length-append, length-drop, drop, get_or, set, if◌then◌else◌}
 use Rattle.std.proofs.lemmas.Bool.{and_parts, not-true}
 use Rattle.std.proofs.lemmas.List.{drop_more, drop-drop, drop_all}
 use Rattle.span_value.specs.declared.value.Value.{Value}
@@ -8,7 +8,7 @@ use Rattle.span_schema.specs.declared.table.Table.{Table}
 use Rattle.span_schema.specs.declared.layout.KeyPart.{KeyPart}
 use Rattle.span_schema.specs.Lineages.{path_at, MeetsRules}
 use Rattle.span_schema.specs.Numbers.{path_of, own_key_columns, key_columns, key_places}
-use Rattle.span_keycode.specs.Coding.{Fits, AreFit, column_code, tuple_code}
+use Rattle.span_keycode.specs.Coding.{AreFit, column_code, tuple_code}
 use Rattle.span_keycode.specs.Keys.{Level, IsKey, code_of, key_code}
 use Rattle.span_keycode.specs.Reads.{IsNoColumn, IsColumn, IsNoTuple}
 use Rattle.span_keycode.specs.Roots.{IsSkip}
@@ -17,7 +17,7 @@ use Rattle.span_keycode.proofs.Levels.{levels_at}
 use Rattle.span_keycode.proofs.LevelLaws.{AreLevels, fit_length}
 use Rattle.span_keycode.proofs.Going.{tables_of, tables_back, levels_on}
 use Rattle.span_keycode.proofs.KeyLaws.{values_of, values_back, place_within}
-use Rattle.span_rowcode.specs.Rows.{AreCells, IsRow, IsNoCell, IsCell, IsCellSkip, cell_code, row_code}
+use Rattle.span_rowcode.specs.Rows.{AreCells, IsRow, IsNoCell, IsCell, IsCellSkip, row_code}
 use Rattle.span_rowcode.specs.Limits.{longest_row}
 use Rattle.span_rowcode.proofs.CellSkips.{cell_once}
 use Rattle.span_fragment.specs.Placed.{is_wanted, wants_none, put, placed, IsColumnPut, AreColumnsPut, IsLevelPut, IsNoLevel, IsKeyPut, IsCellPut, AreCellsPut}
