@@ -12,7 +12,14 @@ use Rattle.span_query.specs.contracts.query.Join as Join
 use Rattle.span_query.specs.contracts.query.Grouping as Grouping
 use Rattle.span_query.specs.contracts.query.Block as Block
 use Rattle.span_query.specs.contracts.query.BoundQuery as BoundQuery
+use Rattle.span_query.specs.contracts.query.Statement as Statement
 use Rattle.span_query.proofs.query.BoundQuery.TheLaws.TheKnot as of_query
+use Rattle.span_planner.specs.contracts.leaf.LeafJoin as LeafJoin
+use Rattle.span_planner.specs.contracts.leaf.Leaf as Leaf
+use Rattle.span_planner.specs.contracts.leaf.Plan as Plan
+use Rattle.span_machine.specs.contracts.query.OpenQuery as OpenQuery
+use Rattle.span_machine.specs.contracts.query.ScanLeaf as ScanLeaf
+use Rattle.span_journal.specs.contracts.journal.Journal as Journal
 
 -- ---- expressions and queries
 
@@ -51,3 +58,33 @@ bound_query_send = of_query.send-BoundQuery block_send blocks_send (search (cros
 
 pub bound_query_sync : IsSync (BoundQuery.the_field).row
 bound_query_sync = of_query.sync-BoundQuery block_sync blocks_sync (search (crosses, sendable) depth 60 fits 20000) (search (crosses, sendable) depth 60 fits 20000)
+
+statement_send : IsSend (Statement.the_field).row
+statement_send = search (crosses, bound_query_send, sendable) depth 60 fits 20000
+
+-- ---- plans, and open queries
+
+leaf_join_send : IsSend (LeafJoin.the_field).row
+leaf_join_send = search (crosses, expr_send, sendable) depth 60 fits 20000
+
+leaf_join_sync : IsSync (LeafJoin.the_field).row
+leaf_join_sync = search (crosses, expr_sync, sendable) depth 60 fits 20000
+
+pub leaf_send : IsSend (Leaf.the_field).row
+leaf_send = search (crosses, expr_send, leaf_join_send, sendable) depth 60 fits 20000
+
+pub leaf_sync : IsSync (Leaf.the_field).row
+leaf_sync = search (crosses, expr_sync, leaf_join_sync, sendable) depth 60 fits 20000
+
+-- the workers of a query share its plan
+pub plan_sync : IsSync (Plan.the_field).row
+plan_sync = search (crosses, leaf_sync, bound_query_sync, sendable) depth 60 fits 20000
+
+scan_leaf_send : IsSend (ScanLeaf.the_field).row
+scan_leaf_send = search (crosses, leaf_send, sendable) depth 60 fits 20000
+
+open_query_send : IsSend (OpenQuery.the_field).row
+open_query_send = search (crosses, statement_send, scan_leaf_send, bound_query_send, sendable) depth 60 fits 20000
+
+pub journal_send : IsSend Journal.the_row
+journal_send = search (crosses, open_query_send, sendable) depth 60 fits 20000
