@@ -1,7 +1,7 @@
 -- What a session knows after a step.
 use Rattle.std.proofs.Common.{◌≡◌, ◌==◌, ℕ, Option, Some, None, get_or, Result, Ok, Err, List, [], ◌∷◌, ◌++◌, refl, sym, ap, ◌∙◌, subst}
 use Rattle.std.specs.Prelude.{IfOk, IfSome, OnErr, MatchResult, position, remove, slice_get}
-use Rattle.std.proofs.lemmas.Option.{slice_get-get_or}
+use Rattle.std.proofs.lemmas.Option.{slice_get-get_or, get_or_from_slice_get}
 use Rattle.std.proofs.lemmas.List.Quantifiers.{position-Some}
 use Rattle.span_value.specs.declared.refusal.Refusal.{Refusal}
 use mathlib.Core.List.{IsPrefix}
@@ -22,6 +22,20 @@ extended o seen mine log d c v begun left e is p s m = (
   ap mine_of e ∙ ap (λ (x : Commit). mine ++ x ∷ []) is,
   (p.0, ap seen_of e ∙ (ap (λ (x : Commit). log ++ x ∷ []) is ∙ ap (λ l. l ++ c ∷ []) (sym p.1)), owned_between o seen p.0 (ap (owned o) p.1 ∙ (m ∙ sym s))),
 )
+
+-- the same of what the session has begun at a place, and keeps no more
+pub extended_begun : (o : ℕ) (seen mine log : List Commit) (d : Commit) (ts : ℕ) (r : Begun) (v : List Role) (begun left : List Begun) (place : ℕ) (s : SessionHistory)
+    → record { owner = o; seen = seen; mine = mine; begun = begun } ≡ s → v ≡ Client o (log ++ d ∷ []) (mine ++ d ∷ []) ∷ []
+    → d ≡ record { timestamp = ts; number = r.number; owner = o; mutations = r.mutations } → IsPrefix seen log → owned o seen ≡ mine → owned o log ≡ mine
+    → slice_get begun place ≡ Some r → left ≡ remove begun place
+    → IfSome (slice_get s.begun place) (λ b. Extends s (record { timestamp = ts; number = b.number; owner = s.owner; mutations = b.mutations }) record { owner = o; seen = seen_of v; mine = mine_of v; begun = left }
+    × (left ≡ remove s.begun place))
+extended_begun o seen mine log d ts r v begun left place s is e made p own all there gone =
+    let after : SessionHistory = record { owner = o; seen = seen_of v; mine = mine_of v; begun = left } in
+    let Told : SessionHistory → Begun → Type 0 = λ x b. Extends x (record { timestamp = ts; number = b.number; owner = x.owner; mutations = b.mutations }) after × (left ≡ remove x.begun place) in
+    let before : SessionHistory = record { owner = o; seen = seen; mine = mine; begun = begun } in
+    let told : Told before r = (extended o seen mine log d (record { timestamp = ts; number = r.number; owner = o; mutations = r.mutations }) v begun left e made p own all, gone) in
+    subst (λ (x : SessionHistory). IfSome (slice_get x.begun place) (Told x)) is (subst (λ (b : Option Begun). IfSome b (Told before)) (sym there) told)
 
 -- a session that has seen the whole log
 pub caught : (o : ℕ) (seen mine log : List Commit) (v : List Role) (begun : List Begun) → v ≡ Client o log mine ∷ [] → IsPrefix seen log
@@ -50,3 +64,10 @@ begun_there v number (Some at) e =
     let none : Begun = record { number = 0; mutations = [] } in
     let says = position-Some (λ (b : Begun). b.number == number) v.begun at none (sym e) in
     record { begun = get_or v.begun at none; there = slice_get-get_or v.begun at none says.0; numbered = number_same (get_or v.begun at none).number number says.1 }
+
+-- what was removed at a place is what was read there
+pub begun_same : (xs : List Begun) (place : ℕ) (b r : Begun) → Some b ≡ slice_get xs place → r ≡ get_or xs place r → b ≡ r
+begun_same xs place b r there read = sym (get_or_from_slice_get xs place b r (sym there)) ∙ sym read
+
+pub begun_taken : (xs : List Begun) (place : ℕ) (b r : Begun) → Some b ≡ slice_get xs place → r ≡ get_or xs place r → slice_get xs place ≡ Some r
+begun_taken xs place b r there read = sym there ∙ ap (λ (x : Begun). Some x) (begun_same xs place b r there read)

@@ -123,9 +123,9 @@ pub(crate) fn restate_both<J: Naming>(
     ensures shard { result.1 ≡ shard }
     ensures part { result.2 ≡ part }
 {
-    let (keeper, shard) = restate(board, seat, keeper, shard);
-    let (keeper, part) = restate(board, next, keeper, part);
-    (keeper, shard, part)
+    let (between, shard) = restate(board, seat, keeper, shard);
+    let (after, part) = restate(board, next, between, part);
+    (after, shard, part)
 }
 
 /// The shard of which a step said that it is so now.
