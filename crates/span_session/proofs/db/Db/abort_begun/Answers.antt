@@ -1,5 +1,5 @@
 use Rattle.std.proofs.lemmas.Option.{slice_get_within}
-use Rattle.span_session.proofs.transactions.Db.abort_begun.Goals as goal
+use Rattle.span_session.proofs.db.Db.abort_begun.Goals as goal
 
 pub forget-requires : goal.forget-requires
 forget-requires g c = slice_get_within c.args.me.now.begun c.args.place c.requires.begun c.requires.there

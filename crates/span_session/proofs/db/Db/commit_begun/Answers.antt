@@ -1,6 +1,6 @@
 use Rattle.std.proofs.lemmas.Option.{slice_get_within}
 use Rattle.span_session.proofs.Stories.{decides_begun}
-use Rattle.span_session.proofs.transactions.Db.commit_begun.Goals as goal
+use Rattle.span_session.proofs.db.Db.commit_begun.Goals as goal
 
 pub publish_begun-requires : goal.publish_begun-requires
 publish_begun-requires g c = slice_get_within c.args.me.now.begun c.args.place c.requires.begun c.requires.there

@@ -1,6 +1,6 @@
 use Rattle.std.proofs.Common.{sym, ap, ◌∙◌}
 use Rattle.span_mutate.specs.RootKeys.{root_key}
-use Rattle.span_session.proofs.maintenance.Db.split.Goals as goal
+use Rattle.span_session.proofs.db.Db.split.Goals as goal
 
 pub split_at-requires : goal.split_at-requires
 split_at-requires g c =
