@@ -1,7 +1,7 @@
 -- What a session knows after a step.
-use Rattle.std.proofs.Common.{◌≡◌, ◌==◌, ℕ, Option, Some, None, get_or, Result, Ok, Err, List, [], ◌∷◌, ◌++◌, refl, sym, ap, ◌∙◌, subst}
+use Rattle.std.proofs.Common.{◌≡◌, ◌==◌, ◌<◌, length, ℕ, Option, Some, None, get_or, Result, Ok, Err, List, [], ◌∷◌, ◌++◌, refl, sym, ap, ◌∙◌, subst}
 use Rattle.std.specs.Prelude.{IfOk, IfSome, OnErr, MatchResult, position, remove, slice_get}
-use Rattle.std.proofs.lemmas.Option.{slice_get-get_or, get_or_from_slice_get}
+use Rattle.std.proofs.lemmas.Option.{slice_get-get_or}
 use Rattle.std.proofs.lemmas.List.Quantifiers.{position-Some}
 use Rattle.span_value.specs.declared.refusal.Refusal.{Refusal}
 use mathlib.Core.List.{IsPrefix}
@@ -66,8 +66,8 @@ begun_there v number (Some at) e =
     record { begun = get_or v.begun at none; there = slice_get-get_or v.begun at none says.0; numbered = number_same (get_or v.begun at none).number number says.1 }
 
 -- what was removed at a place is what was read there
-pub begun_same : (xs : List Begun) (place : ℕ) (b r : Begun) → Some b ≡ slice_get xs place → r ≡ get_or xs place r → b ≡ r
-begun_same xs place b r there read = sym (get_or_from_slice_get xs place b r (sym there)) ∙ sym read
+pub begun_same : (xs ys : List Begun) (place : ℕ) (b r : Begun) → ys ≡ xs → ((d : Begun) → b ≡ get_or ys place d) → r ≡ get_or xs place r → b ≡ r
+begun_same xs ys place b r e there read = there r ∙ ap (λ (l : List Begun). get_or l place r) e ∙ sym read
 
-pub begun_taken : (xs : List Begun) (place : ℕ) (b r : Begun) → Some b ≡ slice_get xs place → r ≡ get_or xs place r → slice_get xs place ≡ Some r
-begun_taken xs place b r there read = sym there ∙ ap (λ (x : Begun). Some x) (begun_same xs place b r there read)
+pub begun_taken : (xs ys : List Begun) (place : ℕ) (r : Begun) → ys ≡ xs → place < length ys → r ≡ get_or xs place r → slice_get xs place ≡ Some r
+begun_taken xs ys place r e within read = slice_get-get_or xs place r (subst (λ (l : List Begun). place < length l) e within) ∙ ap (λ (x : Begun). Some x) (sym read)

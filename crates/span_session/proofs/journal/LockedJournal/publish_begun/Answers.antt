@@ -28,12 +28,12 @@ invariant_of-self g c =
     let owner = c.me.inside.owner in
     let k = c.commit.new.journal in
     let made = c.commit_of-made.result in
-    let log = kept_commit_is here.journal owner c.in-Ok.timestamp k c.in-Some.found.now c.remove-begun.result made (begun_same c.me.inside.begun.items c.args.place c.in-Some.found.now c.remove-begun.result c.in-Some.ensures.value c.remove-begun.ensures.value) (c.is_kept.ensures c.if-not-is_kept.false) c.in-Ok.ensures.committed c.commit_of-made.ensures in
+    let log = kept_commit_is here.journal owner c.in-Ok.timestamp k c.in-Some.found.now c.remove-begun.result made (begun_same c.me.inside.begun.items c.as_slice.result.now c.args.place c.in-Some.found.now c.remove-begun.result c.as_slice.ensures.value c.in-Some.ensures.lookup.3.1 c.remove-begun.ensures.value) (c.is_kept.ensures c.if-not-is_kept.false) c.in-Ok.ensures.committed c.commit_of-made.ensures in
     let views = c.grow.ensures.keeper ∙ ap (λ b. (Keeper (grown (known_at b.views) made) ∷ []) ∷ []) c.replace-keeper.ensures.value in
     keeper_grown schema board.schema g.J.Naming.table here.badge.table_id here.badge.views here.journal board.schema_is c.self.invariant c.grow.result.table_id c.grow.result.views k made c.grow.ensures.tables.1 views log c.in-Ok.ensures.committed.queries c.in-Ok.ensures.whole
 
-pub invariant_of-self-in-Err-1 : goal.invariant_of-self-in-Err-1
-invariant_of-self-in-Err-1 g c =
+pub invariant_of-self-in-Err : goal.invariant_of-self-in-Err
+invariant_of-self-in-Err g c =
     let schema = g.J.Naming.schema in
     let here = c.self.inside in
     let board = c.args.board.now in
@@ -48,4 +48,4 @@ returns-in-Ok-clause-ok g c =
     let known = c.grow.ensures.known in
     let v = c.grow.new.seat.me.0 in
     extended_begun me.owner (seen_of me.seat.me.0) (mine_of me.seat.me.0) _ c.commit_of-made.result c.in-Ok.timestamp c.remove-begun.result v me.begun.items _ c.args.place c.args.me.now
-    c.me.view_is (ap (λ z. z.0) c.grow.ensures.client) c.commit_of-made.ensures known.0 known.1 known.2 (begun_taken me.begun.items c.args.place c.in-Some.found.now c.remove-begun.result c.in-Some.ensures.value c.remove-begun.ensures.value) c.remove-begun.ensures.items
+    c.me.view_is (ap (λ z. z.0) c.grow.ensures.client) c.commit_of-made.ensures known.0 known.1 known.2 (begun_taken me.begun.items c.as_slice.result.now c.args.place c.remove-begun.result c.as_slice.ensures.value c.in-Some.ensures.lookup.3.0 c.remove-begun.ensures.value) c.remove-begun.ensures.items
