@@ -1,13 +1,14 @@
 //! Splits: a slot is cut in two at a root key.
-ghost use Rattle.std.specs.Prelude.{◌≡◌, ℕ, List, Some};
+ghost use Rattle.std.specs.Prelude.{◌≡◌, ℕ, List, Some, IfOk, OnErr, OnOk, length};
 ghost use Rattle.span_keycode.specs.Coding.{AreValues};
-ghost use Rattle.span_machine.specs.Machine.{Answers, split, split_at};
+ghost use Rattle.span_journal.specs.Judged.{MaySplit};
+ghost use Rattle.span_machine.specs.Machine.{Answers, IsAnswer, split, split_at};
 ghost use Rattle.span_machine.specs.Pieces.{machine_of};
 ghost use Rattle.span_mutate.specs.RootKeys.{root_key};
 ghost use Rattle.span_value.specs.declared.value.Value.{Value};
 ghost use Rattle.span_machine.specs.declared.step.Reply.TheVariants as reply_of;
 ghost use Rattle.span_parts.specs.Replies.{as_reply};
-ghost use Rattle.span_parts.specs.Whole.{IsWhole};
+ghost use Rattle.span_parts.specs.Whole.{IsWhole, BelongsAt, IsCutAt};
 
 use super::shards::cut_at;
 use span_journal::journal::Journal;
@@ -66,6 +67,38 @@ fn split_at(
                 Ok(()) => Ok(journal.finish_split(slot, cut)),
                 Err(why) => Err(why),
             },
+            Err(why) => Err(why),
+        },
+        Err(why) => Err(why),
+    }
+}
+
+/// Cuts the shard of a slot in two at the coded root key, for a caller that has the journal and that shard alone: returns the shard of the
+/// new slot. The refusal is `OutOfMemory`, which leaves all as it was.
+pub fn cut_in(
+    alloc: Global,
+    schema: &Schema,
+    journal: &mut Journal,
+    shard: &mut Shard,
+    slot: usize,
+    key: &Key,
+) -> Result<Shard, Refusal>
+    requires belongs { BelongsAt schema.now journal.old slot shard.old }
+    requires coded { (name : List ℕ) × (values : List Value) × AreValues values × (root_key schema.now name values ≡ Some key.now) }
+    requires may { MaySplit (machine_of journal.old) slot key.now }
+    ensures step { OnOk result (IsAnswer (split_at (machine_of journal.old) key.now)
+        (reply_of.Split (length journal.old.slots))
+        (machine_of journal.new)) }
+    ensures cut { IfOk result (IsCutAt schema.now slot journal.old journal.new shard.old shard.new) }
+    ensures err { OnErr result ((journal.new ≡ journal.old) × (shard.new ≡ shard.old)) }
+{
+    schema.meets_rules();
+    match journal.reserve_split(alloc, slot, key) {
+        Ok(cut) => match shard.split(alloc, key.as_slice()) {
+            Ok(part) => {
+                journal.finish_split(slot, cut);
+                Ok(part)
+            }
             Err(why) => Err(why),
         },
         Err(why) => Err(why),

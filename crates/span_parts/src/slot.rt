@@ -9,7 +9,7 @@ ghost use Rattle.span_shard.specs.KeyVersions.{KeyVersions};
 ghost use Rattle.span_shard.specs.Reading.{AreWrites, IsFault, IsFull};
 ghost use Rattle.span_shard.specs.Shard.{with_writes, live, IsFree, HasNoneOf};
 ghost use Rattle.span_shard.specs.declared.write.Write.{Write};
-ghost use Rattle.span_machine.specs.Machine.{Answers, IsAnswer, prepare, apply_step, scan};
+ghost use Rattle.span_machine.specs.Machine.{Answers, IsAnswer, prepare, apply_step, trim, scan};
 ghost use Rattle.span_machine.specs.Pieces.{machine_of};
 ghost use Rattle.span_machine.specs.declared.step.Reply.TheVariants as reply_of;
 ghost use Rattle.span_journal.specs.Judged.{IsGap, leaf_of};
@@ -151,6 +151,31 @@ pub fn apply_in(
         Ok(committed) => {
             shard.apply(txn, committed);
             Ok(())
+        }
+        Err(why) => Err(why),
+    }
+}
+
+/// Trims a slot to the horizon h, in the slot's shard, and returns how many versions it keeps.
+pub fn trim_in(
+    schema: &Schema,
+    journal: &mut Journal,
+    shard: &mut Shard,
+    slot: usize,
+    h: u64,
+) -> Result<usize, Refusal>
+    requires { BelongsAt schema.now journal.old slot shard.old }
+    ensures step { IsAnswer
+        (trim schema.now (machine_of journal.old) slot h)
+        (as_reply reply_of.Trimmed result)
+        (machine_of journal.new) }
+    ensures whole { GoesAt schema.now slot journal.old journal.new shard.old shard.new }
+{
+    schema.meets_rules();
+    match journal.raise_horizon(slot, h) {
+        Ok(()) => {
+            shard.trim(h);
+            Ok(shard.live())
         }
         Err(why) => Err(why),
     }

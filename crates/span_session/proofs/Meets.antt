@@ -114,3 +114,7 @@ client_shape me o seen mine e = e ∙ ap (λ (k : Me Change (List Role)). (Clien
 
 pub keeper_shape : (views looked : List (List Role)) → looked ≡ views → views ≡ (Keeper (known_at views) ∷ []) ∷ [] → looked ≡ (Keeper (known_at looked) ∷ []) ∷ []
 keeper_shape views looked e knows = subst (λ (v : List (List Role)). v ≡ (Keeper (known_at v) ∷ []) ∷ []) (sym e) knows
+
+-- the same of what is known to be the keeper's
+pub keeper_read : (views : List (List Role)) (b : Known) → views ≡ (Keeper b ∷ []) ∷ [] → views ≡ (Keeper (known_at views) ∷ []) ∷ []
+keeper_read views b e = e ∙ ap (λ (v : List (List Role)). (Keeper (known_at v) ∷ []) ∷ []) (sym e)

@@ -1,5 +1,5 @@
 -- The rule of the table.
-use Rattle.std.specs.Prelude.{◌≡◌, ◌≢◌, ◌+◌, ◌*◌, ◌<◌, ◌^◌, ℕ, List, [], ◌∷◌, ◌++◌, length, zero, suc, replicate}
+use Rattle.std.specs.Prelude.{◌≡◌, ◌≢◌, ◌+◌, ◌*◌, ◌<◌, ◌^◌, ℕ, List, [], ◌∷◌, ◌++◌, length, zero, suc, replicate, Some, slice_get, remove}
 use mathlib.Core.Option.{Option, some, none}
 use mathlib.Core.List.{IsPrefix}
 use lib.ListN.{get_elem?}
@@ -7,6 +7,7 @@ use Rattle.atomic_table.specs.Seated.{TableId}
 use Rattle.span_schema.specs.declared.table.Table.{Table}
 use Rattle.span_machine.specs.declared.transaction.Commit.{Commit}
 use Rattle.span_shard.specs.KeyVersions.{KeyVersions}
+use Rattle.span_session.specs.declared.begun.Begun.{Begun}
 use Rattle.span_session.specs.declared.board.Role.{Role}
 use Rattle.span_session.specs.declared.board.Role.TheVariants.{Keeper, Holder, Client}
 use Rattle.span_session.specs.declared.board.Change.{Change}
@@ -86,11 +87,13 @@ abbrev pub Agrees : List Role → Type 0
 Agrees (Keeper b ∷ Holder i vs ∷ []) = (vs ≡ kept b i) × (i < length b.slots)
 Agrees v = Unit {0}
 
--- what a session knows
+-- What a session knows: the commits that it has seen, and its own among them. It has copies of the transactions that it has begun and not
+-- decided.
 pub record SessionHistory : Type 0 where
   pub owner : ℕ
   pub seen : List Commit
   pub mine : List Commit
+  pub begun : List Begun
 
 abbrev pub seen_of : List Role → List Commit
 seen_of (Client o seen mine ∷ []) = seen
@@ -110,6 +113,25 @@ Extends v c w =
 abbrev pub Sees : SessionHistory → SessionHistory → Type 0
 Sees v w = (w.owner ≡ v.owner) × (w.mine ≡ v.mine) × IsPrefix v.seen w.seen
 
+-- the session has begun a transaction under the number, and keeps it at this place
+pub record IsBegunAt (v : SessionHistory) (number place : ℕ) : Type 0 where
+  pub begun : Begun
+  pub there : slice_get v.begun place ≡ Some begun
+  pub numbered : begun.number ≡ number
+
+-- what the session had begun under the number was committed at ts, as it was handed in, and is kept no more
+pub record Decides (v : SessionHistory) (number ts : ℕ) (w : SessionHistory) : Type 0 where
+  pub place : ℕ
+  pub at : IsBegunAt v number place
+  pub extends : Extends v (record { timestamp = ts; number = number; owner = v.owner; mutations = at.begun.mutations }) w
+  pub left : w.begun ≡ remove v.begun place
+
+-- what the session had begun under the number is kept no more
+pub record Forgets (v : SessionHistory) (number : ℕ) (w : SessionHistory) : Type 0 where
+  pub place : ℕ
+  pub at : IsBegunAt v number place
+  pub left : w ≡ record v { begun = remove v.begun place }
+
 abbrev pub Catches : List Role → List Role → Type 0
 Catches (Keeper b ∷ Client o seen mine ∷ []) w =
     (w ≡ Keeper b ∷ Client o b.commits mine ∷ []) × IsPrefix seen b.commits × (owned o b.commits ≡ mine)
@@ -122,7 +144,7 @@ pub record SlotVersions : Type 0 where
 
 -- a session that has seen and made nothing
 abbrev pub newcomer : ℕ → SessionHistory
-newcomer k = record { owner = k; seen = []; mine = [] }
+newcomer k = record { owner = k; seen = []; mine = []; begun = [] }
 
 -- sessions of the owners k to k + n, which have seen and made nothing
 abbrev pub newcomers : ℕ → ℕ → List SessionHistory

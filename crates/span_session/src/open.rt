@@ -163,6 +163,7 @@ fn sessions_of<J: Naming>(
         sessions.push(Session {
             owner,
             seat,
+            begun: Vec::new(board.alloc),
             of: PhantomData,
         })?;
     }

@@ -106,6 +106,32 @@ pub(crate) fn restate<J: Naming>(
     (keeper, shard_in(said, board.alloc))
 }
 
+/// The seats of a slot that was cut and of the new slot, and the keeper's, take over what the shards are now, one after the other.
+pub(crate) fn restate_both<J: Naming>(
+    board: &Board<J>,
+    seat: &mut Place,
+    next: &mut Place,
+    keeper: Badge<View>,
+    shard: Shard,
+    part: Shard,
+) -> (Badge<View>, Shard, Shard)
+    requires tables { (seat.old.table_id ≡ J.table) × (next.old.table_id ≡ J.table) × (keeper.table_id ≡ J.table) }
+    requires holder { seat.old.me ≡ (Holder (number_of seat.old.me.0) (versions_of seat.old.me.0) ∷ [], []) }
+    requires next { next.old.me ≡ (Holder (number_of next.old.me.0) (versions_of next.old.me.0) ∷ [], []) }
+    requires keeper { keeper.views ≡ (Keeper (known_at keeper.views) ∷ []) ∷ [] }
+    ensures tables { (seat.new.table_id ≡ J.table) × (next.new.table_id ≡ J.table) × (result.0.table_id ≡ J.table) }
+    ensures room { number_of next.old.me.0 < length (restated (known_at keeper.views) (number_of seat.old.me.0) shard).slots }
+    ensures holder { seat.new.me ≡ (Holder (number_of seat.old.me.0) shard ∷ [], []) }
+    ensures next { next.new.me ≡ (Holder (number_of next.old.me.0) part ∷ [], []) }
+    ensures keeper { result.0.views ≡ (Keeper (restated (restated (known_at keeper.views) (number_of seat.old.me.0) shard) (number_of next.old.me.0) part) ∷ []) ∷ [] }
+    ensures shard { result.1 ≡ shard }
+    ensures part { result.2 ≡ part }
+{
+    let (between, shard) = restate(board, seat, keeper, shard);
+    let (after, part) = restate(board, next, between, part);
+    (after, shard, part)
+}
+
 /// The shard of which a step said that it is so now.
 fn shard_in(said: Change, alloc: Global) -> Shard
     ensures { result ≡ shard_of_change said }

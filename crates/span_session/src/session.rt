@@ -1,8 +1,9 @@
 //! A session: its seat, whose view is what it has seen and made.
-ghost use Rattle.std.specs.Prelude.{◌≡◌, length};
+ghost use Rattle.std.specs.Prelude.{◌≡◌, ◌<◌, length, remove, IfSome};
 ghost use mathlib.Core.List.{IsPrefix};
-ghost use Rattle.span_session.specs.Rule.{Sees};
+ghost use Rattle.span_session.specs.Rule.{Sees, IsBegunAt};
 
+use crate::begun::{Begun, place_of};
 use crate::board::{Board, Look, Naming, Place};
 use std::marker::{Model, PhantomData};
 
@@ -10,6 +11,7 @@ use std::marker::{Model, PhantomData};
 pub struct Session<J: Naming> {
     pub(crate) owner: u64,
     pub(crate) seat: Place,
+    pub(crate) begun: Vec<Begun>,
     pub(crate) of: PhantomData<J>,
 }
 
@@ -20,7 +22,7 @@ impl<J: Naming> Model for Session<J> {
 
     ghost Value = { SessionHistory };
 
-    ghost view = { λ s. record { owner = s.owner; seen = seen_of s.seat.me.0; mine = mine_of s.seat.me.0 } };
+    ghost view = { λ s. record { owner = s.owner; seen = seen_of s.seat.me.0; mine = mine_of s.seat.me.0; begun = s.begun.items } };
 
     ghost invariant = { λ s. (s.seat.table_id ≡ J.table) × (s.seat.me ≡ (Client s.owner (seen_of s.seat.me.0) (mine_of s.seat.me.0) ∷ [], [])) };
 }
@@ -30,6 +32,7 @@ impl<J: Naming> Session<J> {
     pub fn look(&mut self, board: &Board<J>) -> u64
         ensures count { result ≡ length self.new.seen }
         ensures seen { Sees self.old self.new }
+        ensures begun { self.new.begun ≡ self.old.begun }
     {
         board.table.shared.load::<Look>(&mut self.seat, 0)
     }
@@ -38,5 +41,20 @@ impl<J: Naming> Session<J> {
         ensures { result ≡ self.now.owner }
     {
         self.owner
+    }
+
+    /// The place of what the session has begun under the number.
+    pub(crate) fn begun_at(&self, number: u64) -> Option<usize>
+        ensures { IfSome result (IsBegunAt self.now number) }
+    {
+        place_of(self.begun.as_slice(), number)
+    }
+
+    /// Forgets what was begun at a place.
+    pub(crate) fn forget(&mut self, place: usize)
+        requires { place < length self.old.begun }
+        ensures { self.new ≡ record self.old { begun = remove self.old.begun place } }
+    {
+        let _ = self.begun.remove(place);
     }
 }

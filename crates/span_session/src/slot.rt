@@ -1,6 +1,11 @@
 //! What lies under a slot's lock: its shard, and the seat that knows it.
-ghost use Rattle.std.specs.Prelude.{◌≡◌, ◌<◌, ℕ, true, List, IfOk, length};
+ghost use Rattle.std.specs.Prelude.{◌≡◌, ◌<◌, ℕ, true, List, IfOk, Some, length};
+ghost use Rattle.span_value.specs.declared.value.Value.{Value};
+ghost use Rattle.span_keycode.specs.Coding.{AreValues};
+ghost use Rattle.span_mutate.specs.RootKeys.{root_key};
 ghost use Rattle.span_params.specs.declared.params.Parameter.{Parameter};
+ghost use Rattle.span_machine.specs.Pieces.{machine_of};
+ghost use Rattle.span_journal.specs.Judged.{MaySplit};
 ghost use Rattle.span_parts.specs.Whole.{IsRead};
 ghost use Rattle.span_session.specs.Answers.{IsLeafOf};
 
@@ -12,7 +17,9 @@ use atomic_table::Badge;
 use span_binder::understand::understanding_is_unique;
 use span_fragment::piece::Piece;
 use span_journal::journal::{Gap, Journal};
+use span_keycode::key::Key;
 use span_params::params::Params;
+use span_parts::cut::cut_in;
 use span_parts::read::read_leaf;
 use span_parts::slot;
 use span_planner::leaf::Leaf;
@@ -107,6 +114,81 @@ impl<J: Naming> LockedSlot<J> {
         applied
     }
 
+    /// Trims the slot to the horizon h, and returns how many versions it keeps. `NoSlot` where the slot is not in use.
+    pub(crate) fn trim(
+        &mut self,
+        board: &Board<J>,
+        journal: &mut LockedJournal<J>,
+        h: u64,
+    ) -> Result<usize, Refusal>
+        ensures commits { journal.new.commits ≡ journal.old.commits }
+    {
+        if !is_used(&journal.journal, self.number) {
+            return Err(Refusal::NoSlot);
+        }
+        let keeper = mem::replace(&mut journal.badge, Badge::blank());
+        let keeper = seats::agree(board, &mut self.seat, keeper);
+        let trimmed = slot::trim_in(
+            &board.schema,
+            &mut journal.journal,
+            &mut self.shard,
+            self.number,
+            h,
+        );
+        let shard = mem::replace(&mut self.shard, Shard::new(board.alloc));
+        let (keeper, shard) = seats::restate(board, &mut self.seat, keeper, shard);
+        self.shard = shard;
+        journal.badge = keeper;
+        trimmed
+    }
+
+    /// Cuts the slot in two at a coded root key: the keys from it on go to the next slot, whose number is returned. None where another
+    /// slot has the key by now, or another one is the first that is not in use.
+    pub(crate) fn split(
+        &mut self,
+        board: &Board<J>,
+        next: &mut LockedSlot<J>,
+        journal: &mut LockedJournal<J>,
+        key: &Key,
+    ) -> Result<Option<usize>, Refusal>
+        requires coded { (name : List ℕ) × (values : List Value) × AreValues values × (root_key J.schema name values ≡ Some key.now) }
+        ensures commits { journal.new.commits ≡ journal.old.commits }
+    {
+        if !may_cut(&journal.journal, key, self.number, next.number)? {
+            return Ok(None);
+        }
+        let keeper = mem::replace(&mut journal.badge, Badge::blank());
+        let keeper = seats::agree(board, &mut self.seat, keeper);
+        match cut_in(
+            board.alloc,
+            &board.schema,
+            &mut journal.journal,
+            &mut self.shard,
+            self.number,
+            key,
+        ) {
+            Ok(part) => {
+                let shard = mem::replace(&mut self.shard, Shard::new(board.alloc));
+                let (keeper, shard, part) = seats::restate_both(
+                    board,
+                    &mut self.seat,
+                    &mut next.seat,
+                    keeper,
+                    shard,
+                    part,
+                );
+                self.shard = shard;
+                next.shard = part;
+                journal.badge = keeper;
+                Ok(Some(next.number))
+            }
+            Err(why) => {
+                journal.badge = keeper;
+                Err(why)
+            }
+        }
+    }
+
     /// What a leaf of a query gives on a part of its range, as far as this slot has it.
     pub(crate) fn read(&self, board: &Board<J>, leaf: &Leaf, gap: &Gap) -> Result<Piece, Refusal>
         requires { (text : List ℕ) × (params : List Parameter) × (place : ℕ) × IsLeafOf J.schema text params place leaf.now }
@@ -164,4 +246,20 @@ fn is_used(journal: &Journal, number: usize) -> bool
     ensures { result ≡ true → number < length journal.now.slots }
 {
     number < journal.slots().len()
+}
+
+/// Whether the slot of this number may be cut at a coded root key, and the next one is the first that is not in use. The refusal of a split.
+fn may_cut(journal: &Journal, key: &Key, number: usize, next: usize) -> Result<bool, Refusal>
+    ensures { IfOk result
+        (λ yes. yes ≡ true → MaySplit (machine_of journal.now) number key.now × (next ≡ length journal.now.slots)) }
+{
+    match journal.check_split(key) {
+        Ok(slot) => {
+            if slot != number {
+                return Ok(false);
+            }
+            Ok(next == journal.slots().len())
+        }
+        Err(why) => Err(why),
+    }
 }

@@ -6,4 +6,6 @@
 #[cfg(test)]
 mod clock;
 #[cfg(test)]
+mod steps;
+#[cfg(test)]
 mod two_sessions;

@@ -29,7 +29,7 @@ const USERS: &str = "CREATE TABLE Users (uid INT64 NOT NULL, email STRING(MAX)) 
 const UIDS: &str = "SELECT uid FROM Users";
 
 // A transaction that inserts a user.
-fn insert(alloc: Global, schema: &Schema, uid: i64) -> Result<Transaction, Refusal>
+pub(crate) fn insert(alloc: Global, schema: &Schema, uid: i64) -> Result<Transaction, Refusal>
     ensures { IfOk result (λ t. AreTypedMutations schema.now t) }
 {
     let mut key = Seq::new(alloc);
@@ -45,7 +45,7 @@ fn insert(alloc: Global, schema: &Schema, uid: i64) -> Result<Transaction, Refus
 }
 
 // Whether the rows are these, of one column.
-fn are_uids(rows: &Rows, wanted: &[i64]) -> bool {
+pub(crate) fn are_uids(rows: &Rows, wanted: &[i64]) -> bool {
     let rows = rows.as_slice();
     if rows.len() != wanted.len() {
         return false;
@@ -93,7 +93,7 @@ fn by_two<J: Naming, R: Wait + Abort>(
 }
 
 // Drops a value, and gives another: a proof of a drop where the type is known takes minutes.
-fn give_after<A: Drop, B>(dropped: A, given: B) -> B {
+pub(crate) fn give_after<A: Drop, B>(dropped: A, given: B) -> B {
     let _ = dropped;
     given
 }

@@ -19,7 +19,7 @@ loop-owner-preserved g c =
     let shape = ap (λ z. z.0) i.1 ∙ next_client n c.args.count c.loop-owner-test.true in (
       p.0 ∙ i.0,
       rw add-one (p.2 ∙ ap (λ z. (others_of z.0, z.1)) (i.1 ∙ ap (λ l. (l, [])) (next_client n c.args.count c.loop-owner-test.true))),
-      rw add-one (more_newcomers n c.args.count c.loop-owner.sessions.items c.push.new.self.items _ c.loop-owner-test.true i.2 c.in_ok-push.ensures.items (client_history n n c.split_seat-seat.result.me.0 (ap (λ z. z.0) p.4 ∙ ap first_of shape) refl)),
+      rw add-one (more_newcomers n c.args.count c.loop-owner.sessions.items c.push.new.self.items _ c.loop-owner-test.true i.2 c.in_ok-push.ensures.items (client_history n n c.split_seat-seat.result.me.0 _ (ap (λ z. z.0) p.4 ∙ ap first_of shape) refl c.new.ensures.items)),
     )
 
 pub invariant_of-push : goal.invariant_of-push

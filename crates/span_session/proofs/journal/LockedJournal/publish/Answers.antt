@@ -50,8 +50,8 @@ returns-in-Ok-clause-ok g c =
     let made : Commit = record { timestamp = c.in-Ok.timestamp; number = c.args.number; owner = me.owner; mutations = c.into_mutations.result } in
     let known = c.grow.ensures.known in
     let v = c.grow.new.seat.me.0 in
-    let after : SessionHistory = record { owner = me.owner; seen = seen_of v; mine = mine_of v } in
-    let before : SessionHistory = record { owner = me.owner; seen = seen_of me.seat.me.0; mine = mine_of me.seat.me.0 } in
-    let all = extended me.owner (seen_of me.seat.me.0) (mine_of me.seat.me.0) _ made made v (ap (λ z. z.0) c.grow.ensures.client) refl known.0 known.1 known.2 in
+    let after : SessionHistory = record { owner = me.owner; seen = seen_of v; mine = mine_of v; begun = me.begun.items } in
+    let before : SessionHistory = record { owner = me.owner; seen = seen_of me.seat.me.0; mine = mine_of me.seat.me.0; begun = me.begun.items } in
+    let all = extended me.owner (seen_of me.seat.me.0) (mine_of me.seat.me.0) _ made made v me.begun.items me.begun.items (ap (λ z. z.0) c.grow.ensures.client) refl known.0 known.1 known.2 in
     let handed = subst (λ (ms : List CheckedMutation). Extends before (record { timestamp = c.in-Ok.timestamp; number = c.args.number; owner = me.owner; mutations = ms }) after) c.into_mutations.ensures all in
     subst (λ (s : SessionHistory). Extends s (record { timestamp = c.in-Ok.timestamp; number = c.args.number; owner = s.owner; mutations = c.args.copy }) after) c.me.view_is handed

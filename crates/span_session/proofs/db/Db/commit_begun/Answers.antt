@@ -1,0 +1,9 @@
+use Rattle.std.proofs.lemmas.Option.{slice_get_within}
+use Rattle.span_session.proofs.Stories.{decides_begun}
+use Rattle.span_session.proofs.db.Db.commit_begun.Goals as goal
+
+pub publish_begun-requires : goal.publish_begun-requires
+publish_begun-requires g c = slice_get_within c.args.me.now.begun c.args.place c.requires.begun c.requires.there
+
+pub returns : goal.returns
+returns g c = decides_begun c.args.me.now c.publish_begun.new.me c.args.number c.args.place c.requires c.publish_begun.result c.publish_begun.ensures.ok c.publish_begun.ensures.err

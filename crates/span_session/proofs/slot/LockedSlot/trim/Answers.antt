@@ -1,0 +1,74 @@
+use Rattle.std.proofs.Common.{◌≡◌, ◌∷◌, [], sym, ap, ◌∙◌, subst, inl}
+use Rattle.span_machine.specs.declared.step.Step.TheVariants as step
+use Rattle.span_machine.specs.Pieces.{machine_of}
+use Rattle.span_parts.proofs.Passing.{passed}
+use Rattle.span_parts.proofs.Wholes.{no_text}
+use Rattle.span_session.specs.declared.board.Role.TheVariants.{Holder, Keeper}
+use Rattle.span_session.specs.Held.{IsUnderstoodAs}
+use Rattle.span_session.specs.Known.{kept, restated}
+use Rattle.span_session.specs.Rule.{number_of, versions_of, known_at}
+use Rattle.span_session.proofs.Held.{slot_belongs, keeper_restated}
+use Rattle.span_session.proofs.Meets.{holder_shape, keeper_shape}
+use Rattle.span_session.proofs.slot.LockedSlot.trim.Goals as goal
+
+pub agree-keeper-requires-clause-tables : goal.agree-keeper-requires-clause-tables
+agree-keeper-requires-clause-tables g c = (c.self.invariant.0, ap (λ b. b.table_id) c.replace-keeper.ensures.value ∙ c.journal.invariant.at)
+
+pub agree-keeper-requires-clause-holder : goal.agree-keeper-requires-clause-holder
+agree-keeper-requires-clause-holder g c = holder_shape c.self.inside.seat.me c.self.inside.number c.self.inside.shard c.self.invariant.1
+
+pub agree-keeper-requires-clause-keeper : goal.agree-keeper-requires-clause-keeper
+agree-keeper-requires-clause-keeper g c = keeper_shape c.journal.inside.badge.views _ (ap (λ b. b.views) c.replace-keeper.ensures.value) c.journal.invariant.knows
+
+pub trim_in-trimmed-requires : goal.trim_in-trimmed-requires
+trim_in-trimmed-requires g c =
+    let me = c.self.inside in
+    let j = c.journal.inside in
+    let schema = g.J.Naming.schema in
+    let board = c.args.board.now in
+    let views = ap (λ b. b.views) c.replace-keeper.ensures.value in
+    let number = ap (λ k. number_of k.0) c.self.invariant.1 in
+    let is : me.shard ≡ kept (known_at j.badge.views) me.number =
+    sym (ap (λ k. versions_of k.0) c.self.invariant.1) ∙ c.agree-keeper.ensures.known.0 ∙ ap (λ v. kept (known_at v) (number_of me.seat.me.0)) views ∙ ap (kept (known_at j.badge.views)) number in
+    let within = c.is_used.ensures c.if-not-is_used.false in
+    slot_belongs schema board.schema g.J.Naming.table j.badge.table_id j.badge.views j.journal board.schema_is c.journal.invariant me.number me.shard within is
+
+pub restate-keeper-requires-clause-tables : goal.restate-keeper-requires-clause-tables
+restate-keeper-requires-clause-tables g c = (c.agree-keeper.ensures.tables.0, c.agree-keeper.ensures.tables.1)
+
+pub restate-keeper-requires-clause-holder : goal.restate-keeper-requires-clause-holder
+restate-keeper-requires-clause-holder g c = holder_shape c.agree-keeper.new.seat.me c.self.inside.number c.self.inside.shard (c.agree-keeper.ensures.holder ∙ c.self.invariant.1)
+
+pub restate-keeper-requires-clause-keeper : goal.restate-keeper-requires-clause-keeper
+restate-keeper-requires-clause-keeper g c = keeper_shape c.journal.inside.badge.views _ (c.agree-keeper.ensures.keeper ∙ ap (λ b. b.views) c.replace-keeper.ensures.value) c.journal.invariant.knows
+
+pub invariant_of-self : goal.invariant_of-self
+invariant_of-self g c =
+    let number = ap (λ k. number_of k.0) (c.agree-keeper.ensures.holder ∙ c.self.invariant.1) in (
+      c.restate-keeper.ensures.tables.0,
+      c.restate-keeper.ensures.holder
+          ∙ ap (λ i. (Holder i c.replace-shard.result ∷ [], [])) number
+          ∙ ap (λ cs. (Holder c.self.inside.number cs ∷ [], [])) (sym c.restate-keeper.ensures.shard),
+    )
+
+pub invariant_of-journal : goal.invariant_of-journal
+invariant_of-journal g c =
+    let me = c.self.inside in
+    let j = c.journal.inside in
+    let schema = g.J.Naming.schema in
+    let board = c.args.board.now in
+    let views = ap (λ b. b.views) c.replace-keeper.ensures.value in
+    let number = ap (λ k. number_of k.0) c.self.invariant.1 in
+    let is : me.shard ≡ kept (known_at j.badge.views) me.number =
+    sym (ap (λ k. versions_of k.0) c.self.invariant.1) ∙ c.agree-keeper.ensures.known.0 ∙ ap (λ v. kept (known_at v) (number_of me.seat.me.0)) views ∙ ap (kept (known_at j.badge.views)) number in
+    let within = c.is_used.ensures c.if-not-is_used.false in
+    let held = c.agree-keeper.ensures.keeper ∙ ap (λ b. b.views) c.replace-keeper.ensures.value in
+    let numbered = ap (λ k. number_of k.0) (c.agree-keeper.ensures.holder ∙ c.self.invariant.1) in
+    let after =
+    c.restate-keeper.ensures.keeper
+    ∙ ap (λ v. (Keeper (restated (known_at v) (number_of c.agree-keeper.new.seat.me.0) c.replace-shard.result) ∷ []) ∷ []) held
+    ∙ ap (λ n. (Keeper (restated (known_at j.badge.views) n c.replace-shard.result) ∷ []) ∷ []) numbered
+    ∙ ap (λ cs. (Keeper (restated (known_at j.badge.views) me.number cs) ∷ []) ∷ []) c.replace-shard.ensures.value in
+    keeper_restated schema board.schema g.J.Naming.table j.badge.table_id j.badge.views j.journal board.schema_is c.journal.invariant me.number me.shard within is _ _ c.trim_in-trimmed.new.journal c.trim_in-trimmed.new.shard c.restate-keeper.ensures.tables.1 after
+    (passed (IsUnderstoodAs schema) board.schema (machine_of j.journal) c.journal.invariant.asked no_text (step.Trim me.number c.args.h) tt _ (machine_of c.trim_in-trimmed.new.journal) (inl c.trim_in-trimmed.ensures.step))
+    c.trim_in-trimmed.ensures.whole

@@ -1,0 +1,133 @@
+//! Transactions one step at a time.
+ghost use Rattle.std.specs.Prelude.{◌≡◌, ◌++◌, ◌∷◌, [], MatchOption, MatchResult};
+ghost use Rattle.span_mutate.specs.Typed.{AreTypedMutations};
+ghost use Rattle.span_session.specs.Rule.{Decides, Forgets, IsBegunAt};
+
+use crate::board::Naming;
+use crate::db::Db;
+use crate::session::Session;
+use span_machine::step::Verdict;
+use span_mutate::transaction::Transaction;
+use span_truetime::clock::Clock;
+use span_truetime::interval::Interval;
+use span_value::refusal::Refusal;
+use std::sync::Wait;
+
+impl<J: Naming> Db<J> {
+    /// Begins a transaction, and returns its number. The session keeps a copy of it until it is decided.
+    pub fn begin<R: Wait>(
+        &self,
+        rt: &R,
+        me: &mut Session<J>,
+        transaction: Transaction,
+    ) -> Result<u64, Refusal>
+        requires { AreTypedMutations J.schema transaction }
+        ensures { MatchResult result
+            (λ number. me.new ≡ record me.old { begun = me.old.begun ++ (record { number = number; mutations = transaction }) ∷ [] })
+            (λ why. me.new ≡ me.old) }
+    {
+        match transaction.copy(self.board.alloc) {
+            Ok(copy) => self
+                .journal
+                .lock(rt)
+                .begin_of(&self.board, me, transaction, copy),
+            Err(why) => Err(why),
+        }
+    }
+
+    /// Prepares a transaction of the session at a slot.
+    pub fn prepare<R: Wait>(
+        &self,
+        rt: &R,
+        me: &Session<J>,
+        number: u64,
+        slot: usize,
+    ) -> Result<(), Refusal> {
+        let owner = me.owner();
+        let mut slot = self.slot(slot)?.lock(rt);
+        let mut journal = self.journal.lock(rt);
+        slot.prepare(&self.board, &mut journal, owner, number)?;
+        Ok(())
+    }
+
+    /// Decides a transaction that the session began: returns its commit timestamp, or None for an abort. What is committed is what the
+    /// session handed in: `UnknownTransaction` where the journal has another one, or the session began none under the number.
+    pub fn decide<R: Wait, C: Clock>(
+        &self,
+        rt: &R,
+        clock: &C,
+        me: &mut Session<J>,
+        number: u64,
+        verdict: Verdict,
+    ) -> Result<Option<u64>, Refusal>
+        ensures { MatchResult result
+            (λ decided. MatchOption decided (Forgets me.old number me.new) (λ ts. Decides me.old number ts me.new))
+            (λ why. me.new ≡ me.old) }
+    {
+        match me.begun_at(number) {
+            Some(place) => {
+                let interval = clock.now();
+                match verdict {
+                    Verdict::Commit => match self.commit_begun(rt, me, number, place, interval) {
+                        Ok(timestamp) => Ok(Some(timestamp)),
+                        Err(why) => Err(why),
+                    },
+                    Verdict::Abort => match self.abort_begun(rt, me, number, place, interval) {
+                        Ok(()) => Ok(None),
+                        Err(why) => Err(why),
+                    },
+                }
+            }
+            None => Err(Refusal::UnknownTransaction),
+        }
+    }
+
+    fn commit_begun<R: Wait>(
+        &self,
+        rt: &R,
+        me: &mut Session<J>,
+        number: u64,
+        place: usize,
+        interval: Interval,
+    ) -> Result<u64, Refusal>
+        requires { IsBegunAt me.old number place }
+        ensures { MatchResult result (λ ts. Decides me.old number ts me.new) (λ why. me.new ≡ me.old) }
+    {
+        self.journal
+            .lock(rt)
+            .publish_begun(&self.board, me, place, interval)
+    }
+
+    fn abort_begun<R: Wait>(
+        &self,
+        rt: &R,
+        me: &mut Session<J>,
+        number: u64,
+        place: usize,
+        interval: Interval,
+    ) -> Result<(), Refusal>
+        requires { IsBegunAt me.old number place }
+        ensures { MatchResult result (λ _. Forgets me.old number me.new) (λ why. me.new ≡ me.old) }
+    {
+        match self.abort(rt, me.owner(), number, interval) {
+            Ok(_) => {
+                me.forget(place);
+                Ok(())
+            }
+            Err(why) => Err(why),
+        }
+    }
+
+    /// Applies at a slot what was decided of a transaction of the session.
+    pub fn apply<R: Wait, C: Clock>(
+        &self,
+        rt: &R,
+        clock: &C,
+        me: &Session<J>,
+        number: u64,
+        slot: usize,
+    ) -> Result<(), Refusal> {
+        let interval = clock.now();
+        self.end_at(rt, me.owner(), number, slot, interval)
+    }
+}

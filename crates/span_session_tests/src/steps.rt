@@ -1,0 +1,221 @@
+//! Transactions of one session step by step, and over two slots.
+ghost use Rattle.std.specs.Prelude.{◌≡◌, IfOk};
+ghost use Rattle.span_mutate.specs.Typed.{AreTypedMutations};
+
+use crate::clock::{OpenGate, Still, Ticking};
+use crate::two_sessions::{are_uids, give_after, insert};
+use span_keycode::laws::are_values;
+use span_machine::step::Verdict;
+use span_mutate::mutation::{Mutation, MutationKind};
+use span_mutate::transaction::Transaction;
+use span_params::params::Params;
+use span_schema::schema::Schema;
+use span_schematext::text::parse_schema;
+use span_session::board::Naming;
+use span_session::db::Db;
+use span_session::open::Opened;
+use span_session::session::Session;
+use span_truetime::bound::Bound;
+use span_value::refusal::Refusal;
+use span_value::seq::Seq;
+use span_value::text::Text;
+use span_value::value::Value;
+use std::alloc::{AllocError, Global};
+use std::marker::Brand;
+use std::process::Abort;
+use std::sync::Wait;
+use std::test::Fail;
+
+const TABLES: &str =
+    "CREATE TABLE Users (uid INT64 NOT NULL, email STRING(MAX)) PRIMARY KEY (uid); \
+CREATE TABLE Albums (uid INT64 NOT NULL, aid INT64 NOT NULL) PRIMARY KEY (uid, aid), INTERLEAVE IN PARENT Users";
+
+const UIDS: &str = "SELECT uid FROM Users";
+
+// An Insert of a row that has key columns alone.
+fn insert_into(alloc: Global, table: &str, key: &[i64]) -> Result<Mutation, AllocError> {
+    let mut values = Seq::new(alloc);
+    for value in key {
+        values.push(Value::Int(*value))?;
+    }
+    Ok(Mutation {
+        kind: MutationKind::Insert,
+        table: Text::from_str(alloc, table)?,
+        key: values,
+        cells: Seq::new(alloc),
+    })
+}
+
+// A transaction of two Inserts.
+fn both(
+    alloc: Global,
+    schema: &Schema,
+    first: Mutation,
+    second: Mutation,
+) -> Result<Transaction, Refusal>
+    ensures { IfOk result (λ t. AreTypedMutations schema.now t) }
+{
+    let mut mutations = Vec::new(alloc);
+    mutations.push(first)?;
+    mutations.push(second)?;
+    Transaction::new(alloc, schema, mutations)
+}
+
+/// Begin, Prepare, Decide and Apply of one transaction, each by a call of its own.
+#[test]
+fn step_by_step(rt: HostRuntime) -> Result<(), Fail> {
+    let alloc = rt.alloc();
+    let schema = parse_schema(alloc, TABLES)?;
+    let first = insert(alloc, &schema, 1)?;
+    let second = insert(alloc, &schema, 2)?;
+    let opened = Opened::new(alloc, schema, 1)?;
+    by_one::<Brand, _>(&rt, alloc, opened, first, second)
+}
+
+fn by_one<J: Naming, R: Wait + Abort>(
+    rt: &R,
+    alloc: Global,
+    opened: Opened,
+    first: Transaction,
+    second: Transaction,
+) -> Result<(), Fail>
+    requires table { opened.table ≡ J.table }
+    requires schema { opened.schema ≡ J.schema }
+    requires first { AreTypedMutations J.schema first }
+    requires second { AreTypedMutations J.schema second }
+{
+    let (db, mut sessions) = opened.named::<J>()?;
+    let Some(me) = sessions.pop() else {
+        return Err(Fail::from("a session"));
+    };
+    let checked = check_steps(rt, alloc, &db, me, first, second);
+    give_after(db, checked)
+}
+
+fn check_steps<J: Naming, R: Wait + Abort>(
+    rt: &R,
+    alloc: Global,
+    db: &Db<J>,
+    me: Session<J>,
+    first: Transaction,
+    second: Transaction,
+) -> Result<(), Fail>
+    requires first { AreTypedMutations J.schema first }
+    requires second { AreTypedMutations J.schema second }
+{
+    let mut me = me;
+    let early = Still {
+        earliest: 100,
+        latest: 110,
+    };
+    let late = Still {
+        earliest: 200,
+        latest: 210,
+    };
+    assert_eq!(rt; db.begin(rt, &mut me, first), Ok(1));
+    assert_eq!(rt; db.prepare(rt, &me, 1, 0), Ok(()));
+    assert_eq!(rt;
+        db.decide(rt, &early, &mut me, 1, Verdict::Commit),
+        Ok(Some(111))
+    );
+    assert_eq!(rt;
+        db.decide(rt, &early, &mut me, 1, Verdict::Commit),
+        Err(Refusal::UnknownTransaction)
+    );
+    assert_eq!(rt; db.apply(rt, &early, &me, 1, 0), Err(Refusal::TooEarly));
+    assert_eq!(rt; db.apply(rt, &late, &me, 1, 0), Ok(()));
+    assert_eq!(rt; db.begin(rt, &mut me, second), Ok(2));
+    assert_eq!(rt; db.decide(rt, &late, &mut me, 2, Verdict::Abort), Ok(None));
+    assert_eq!(rt; db.look(&mut me), 1);
+    let params = Params::new(alloc);
+    let answer = db.query(rt, &late, &OpenGate, &mut me, UIDS, &params, Bound::Strong)?;
+    assert!(rt; are_uids(&answer.rows, &[1]));
+    Ok(())
+}
+
+/// A commit over two slots; one that is refused at its second slot leaves nothing prepared; a trim and a risen floor.
+#[test]
+fn two_slots(rt: HostRuntime) -> Result<(), Fail> {
+    let alloc = rt.alloc();
+    let schema = parse_schema(alloc, TABLES)?;
+    let first = insert_into(alloc, "Users", &[1])?;
+    let orphan = insert_into(alloc, "Albums", &[300, 1])?;
+    let wrong = both(alloc, &schema, first, orphan)?;
+    let first = insert_into(alloc, "Users", &[1])?;
+    let second = insert_into(alloc, "Users", &[200])?;
+    let right = both(alloc, &schema, first, second)?;
+    let opened = Opened::new(alloc, schema, 1)?;
+    by_slots::<Brand, _>(&rt, alloc, opened, wrong, right)
+}
+
+fn by_slots<J: Naming, R: Wait + Abort>(
+    rt: &R,
+    alloc: Global,
+    opened: Opened,
+    wrong: Transaction,
+    right: Transaction,
+) -> Result<(), Fail>
+    requires table { opened.table ≡ J.table }
+    requires schema { opened.schema ≡ J.schema }
+    requires wrong { AreTypedMutations J.schema wrong }
+    requires right { AreTypedMutations J.schema right }
+{
+    let (db, mut sessions) = opened.named::<J>()?;
+    let Some(me) = sessions.pop() else {
+        return Err(Fail::from("a session"));
+    };
+    let checked = check_slots(rt, alloc, &db, me, wrong, right);
+    give_after(db, checked)
+}
+
+fn check_slots<J: Naming, R: Wait + Abort>(
+    rt: &R,
+    alloc: Global,
+    db: &Db<J>,
+    me: Session<J>,
+    wrong: Transaction,
+    right: Transaction,
+) -> Result<(), Fail>
+    requires wrong { AreTypedMutations J.schema wrong }
+    requires right { AreTypedMutations J.schema right }
+{
+    let mut me = me;
+    let clock = Ticking::new();
+    let params = Params::new(alloc);
+    assert_eq!(rt; split(rt, db, &me, 100), Ok(1));
+    assert_eq!(rt;
+        db.commit(rt, &clock, &mut me, wrong),
+        Err(Refusal::ParentMissing)
+    );
+    assert_eq!(rt; split(rt, db, &me, 50), Ok(2));
+    let early = Still {
+        earliest: 100,
+        latest: 110,
+    };
+    let none = db.query(rt, &early, &OpenGate, &mut me, UIDS, &params, Bound::Strong)?;
+    assert!(rt; are_uids(&none.rows, &[]));
+    assert_eq!(rt; db.commit(rt, &clock, &mut me, right), Ok(211));
+    let late = Still {
+        earliest: 900,
+        latest: 910,
+    };
+    let answer = db.query(rt, &late, &OpenGate, &mut me, UIDS, &params, Bound::Strong)?;
+    assert!(rt; are_uids(&answer.rows, &[1, 200]));
+    assert_eq!(rt; db.advance(rt, &late, &me, 0), Ok(910));
+    assert_eq!(rt; db.trim(rt, &me, 0, 900), Ok(1));
+    let old = db.query(rt, &late, &OpenGate, &mut me, UIDS, &params, Bound::At(400));
+    assert_eq!(rt; old.err(), Some(Refusal::Trimmed));
+    Ok(())
+}
+
+// Cuts at a user.
+fn split<J: Naming, R: Wait>(
+    rt: &R,
+    db: &Db<J>,
+    me: &Session<J>,
+    uid: i64,
+) -> Result<usize, Refusal> {
+    let key = [Value::Int(uid)];
+    are_values(&key);
+    db.split(rt, me, "Users", &key)
+}
