@@ -19,6 +19,11 @@ use Rattle.span_planner.specs.contracts.leaf.Leaf as Leaf
 use Rattle.span_planner.specs.contracts.leaf.Plan as Plan
 use Rattle.span_machine.specs.contracts.query.OpenQuery as OpenQuery
 use Rattle.span_machine.specs.contracts.query.ScanLeaf as ScanLeaf
+use Rattle.span_machine.specs.contracts.slot.SlotState as SlotState
+use Rattle.span_machine.specs.contracts.transaction.Commit as Commit
+use Rattle.span_fragment.specs.contracts.piece.Piece as Piece
+use Rattle.span_journal.specs.contracts.query.KeptQuery as KeptQuery
+use Rattle.span_journal.specs.contracts.transaction.KeptTransaction as KeptTransaction
 use Rattle.span_journal.specs.contracts.journal.Journal as Journal
 
 -- ---- expressions and queries
@@ -86,5 +91,22 @@ scan_leaf_send = search (crosses, leaf_send, sendable) depth 60 fits 20000
 open_query_send : IsSend (OpenQuery.the_field).row
 open_query_send = search (crosses, statement_send, scan_leaf_send, bound_query_send, sendable) depth 60 fits 20000
 
+-- ---- the journal
+
+piece_send : IsSend (Piece.the_field).row
+piece_send = search (crosses, sendable) depth 60 fits 20000
+
+kept_query_send : IsSend KeptQuery.the_row
+kept_query_send = search (crosses, open_query_send, piece_send, sendable) depth 60 fits 20000
+
+kept_transaction_send : IsSend KeptTransaction.the_row
+kept_transaction_send = search (crosses, sendable) depth 60 fits 20000
+
+commit_send : IsSend (Commit.the_field).row
+commit_send = search (crosses, sendable) depth 60 fits 20000
+
+slot_state_send : IsSend (SlotState.the_field).row
+slot_state_send = search (crosses, sendable) depth 60 fits 20000
+
 pub journal_send : IsSend Journal.the_row
-journal_send = search (crosses, open_query_send, sendable) depth 60 fits 20000
+journal_send = search (crosses, kept_query_send, kept_transaction_send, commit_send, slot_state_send, sendable) depth 60 fits 20000
