@@ -37,18 +37,14 @@ impl Clock for Ticking {
 /// A clock that always reads the same.
 #[derive(Drop)]
 pub struct Still {
-    pub earliest: u64,
-    pub latest: u64,
+    pub reading: Interval,
 }
 
 impl Clock for Still {
     ghost may_give = { λ _ _. Unit {0} };
 
     fn now(&self) -> Interval {
-        Interval {
-            earliest: self.earliest,
-            latest: self.latest,
-        }
+        self.reading
     }
 }
 

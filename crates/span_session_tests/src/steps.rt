@@ -16,6 +16,7 @@ use span_session::db::Db;
 use span_session::open::Opened;
 use span_session::session::Session;
 use span_truetime::bound::Bound;
+use span_truetime::interval::Interval;
 use span_value::refusal::Refusal;
 use span_value::seq::Seq;
 use span_value::text::Text;
@@ -105,12 +106,16 @@ fn check_steps<J: Naming, R: Wait + Abort>(
 {
     let mut me = me;
     let early = Still {
-        earliest: 100,
-        latest: 110,
+        reading: Interval {
+            earliest: 100,
+            latest: 110,
+        },
     };
     let late = Still {
-        earliest: 200,
-        latest: 210,
+        reading: Interval {
+            earliest: 200,
+            latest: 210,
+        },
     };
     assert_eq!(rt; db.begin(rt, &mut me, first), Ok(1));
     assert_eq!(rt; db.prepare(rt, &me, 1, 0), Ok(()));
@@ -189,15 +194,19 @@ fn check_slots<J: Naming, R: Wait + Abort>(
     );
     assert_eq!(rt; split(rt, db, &me, 50), Ok(2));
     let early = Still {
-        earliest: 100,
-        latest: 110,
+        reading: Interval {
+            earliest: 100,
+            latest: 110,
+        },
     };
     let none = db.query(rt, &early, &OpenGate, &mut me, UIDS, &params, Bound::Strong)?;
     assert!(rt; are_uids(&none.rows, &[]));
     assert_eq!(rt; db.commit(rt, &clock, &mut me, right), Ok(211));
     let late = Still {
-        earliest: 900,
-        latest: 910,
+        reading: Interval {
+            earliest: 900,
+            latest: 910,
+        },
     };
     let answer = db.query(rt, &late, &OpenGate, &mut me, UIDS, &params, Bound::Strong)?;
     assert!(rt; are_uids(&answer.rows, &[1, 200]));
