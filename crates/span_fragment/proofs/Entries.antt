@@ -1,14 +1,14 @@
 -- The rows that entries are, one after another.
-use Rattle.std.proofs.Common.{◌≡◌, ℕ, zero, suc, ◌+◌, ◌<◌, ◌≤◌, ◌==◌, Bool, true, false, cond, List, [], ◌∷◌, ◌++◌, length, take, drop, get_or, map, refl, sym, ap, subst, ◌∙◌, arith}
+use Rattle.std.proofs.Common.{◌≡◌, ℕ, zero, suc, ◌+◌, ◌<◌, ◌≤◌, ◌==◌, Bool, true, false, cond, List, [], ◌∷◌, ◌++◌, length, drop, get_or, map, refl, sym, ap, subst, ◌∙◌, arith}
+use Rattle.std.specs.List.{AllByRecursion}
 use Rattle.std.proofs.lemmas.Bool.{eqb-true}
 use Rattle.std.proofs.lemmas.List.{append-nil, append_assoc, length-map, drop_all, drop_more}
 use Rattle.span_value.specs.declared.value.Value.{Value}
 use Rattle.span_schema.specs.declared.table.Table.{Table}
-use Rattle.span_rowcode.specs.Rows.{row_code}
+use Rattle.span_schema.specs.Numbers.{IsTable}
 use Rattle.span_mutate.specs.declared.row.TableRow.{TableRow}
 use Rattle.span_mutate.specs.Database.{rows_of}
 use Rattle.span_mutate.specs.Typed.{IsTyped, AreTyped}
-use Rattle.span_shard.specs.Rows.{code_of}
 use Rattle.span_shard.specs.Shard.{KeyRow}
 use Rattle.span_shard.specs.declared.shard.Entry.{Entry}
 use Rattle.span_shard.specs.Reading.{entry_row, IsNoTableRow}
@@ -106,6 +106,10 @@ not_of_table schema n entries i d less whether none =
     not_rows schema entries i d less (record { none = λ r typed key row. none.none r typed (eqb-true r.table n (sym (whether.of r typed key))) key row })
 
 -- ---- the rows of several tables
+
+-- the tables that are left after one
+pub all_next : (schema : List Table) (ts : List ℕ) (i : ℕ) → i < length ts → AllByRecursion (IsTable schema) (drop i ts) → AllByRecursion (IsTable schema) (drop (i + 1) ts)
+all_next schema ts i less all = (subst (AllByRecursion (IsTable schema)) (drop_more ts i 0 less) all).1
 
 abbrev pub TablesLeft : List Table → List KeyRow → List Bool → List ℕ → List Bool → List ℕ → List (List Row) → Type 0
 TablesLeft schema entries ms ts rest left found = OfRows schema entries (λ rows. found ++ masked_tables schema rows rest left ≡ masked_tables schema rows ms ts)

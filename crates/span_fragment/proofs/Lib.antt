@@ -7,4 +7,3 @@ mod Running
 mod Fronts
 mod PlacedRows
 mod Placing
-mod Masks

@@ -1,6 +1,6 @@
 -- A row whose values were put at their places is the row as it is declared, as far as the mask has its places.
-use Rattle.std.proofs.Common.{◌≡◌, ◌≢◌, ℕ, zero, suc, ◌+◌, ◌-◌, ◌<◌, ◌≤◌, ◌==◌, List, [], ◌∷◌, Bool, true, false, Option, Some, None, refl, sym, ◌∙◌, ap, subst, arith, length, get_or, set, map, replicate, if◌then◌else◌, inl, inr}
-use Rattle.std.specs.List.{AllByRecursion, range_with_len}
+use Rattle.std.proofs.Common.{◌≡◌, ◌≢◌, ℕ, zero, suc, ◌+◌, ◌<◌, ◌==◌, List, [], ◌∷◌, Bool, true, false, Option, Some, None, refl, sym, ◌∙◌, ap, subst, arith, length, get_or, set, replicate, if◌then◌else◌, inl, inr}
+use Rattle.std.specs.List.{AllByRecursion}
 use Rattle.std.specs.Option.{unwrap_or, option_or}
 use Rattle.std.proofs.lemmas.Bool.{ne_eqb, eq-eqb, cases_eq}
 use Rattle.std.proofs.lemmas.Bool.Decides.{nat_tests}
@@ -8,14 +8,13 @@ use Rattle.std.proofs.lemmas.List.{ext_get_or, get_or-set_same, get_or-set_other
 use Rattle.std.proofs.lemmas.List.FromFn.{get_or-map-range_with_len}
 use Rattle.span_value.specs.declared.value.Value.{Value}
 use Rattle.span_value.specs.declared.value.Value.TheVariants.{Null}
-use Rattle.span_value.specs.declared.value.Kind.{Kind}
 use Rattle.span_schema.specs.declared.table.Table.{Table}
 use Rattle.span_schema.specs.declared.table.Column.{Column}
 use Rattle.span_schema.specs.declared.table.KeyColumn.{KeyColumn}
 use Rattle.span_schema.specs.Tables.{kind_of, is_key_name}
 use Rattle.span_schema.specs.Layouts as layout
 use Rattle.span_schema.specs.Lineages.{MeetsRules}
-use Rattle.span_schema.specs.Numbers.{IsTable, columns_of, key_in, table_at, key_places, other_places, other_kinds}
+use Rattle.span_schema.specs.Numbers.{columns_of, key_in, table_at, key_places, other_places, other_kinds}
 use Rattle.span_mutate.specs.declared.row.TableRow.{TableRow}
 use Rattle.span_mutate.specs.Typed.{IsTyped}
 use Rattle.span_planner.specs.Leaves.{width_of}
@@ -158,12 +157,6 @@ masked_length ms [] = refl
 masked_length [] (v ∷ vs) = ap suc (masked_length [] vs)
 masked_length (true ∷ ms) (v ∷ vs) = ap suc (masked_length ms vs)
 masked_length (false ∷ ms) (v ∷ vs) = ap suc (masked_length ms vs)
-
--- a mask that has all places leaves a row as it is
-pub masked_all : (n : ℕ) (vs : List Value) → length vs ≤ n → masked (replicate n true) vs ≡ vs
-masked_all n [] long = refl
-masked_all zero (v ∷ vs) long = absurd (let less : suc (length vs) ≤ 0 = long in omega arith)
-masked_all (suc n) (v ∷ vs) long = ap (λ (l : List Value). v ∷ l) (masked_all n vs (omega arith))
 
 -- ---- the row
 

@@ -1,5 +1,6 @@
 -- Values put at their places one after another.
-use Rattle.std.proofs.Common.{◌≡◌, ◌≢◌, ℕ, zero, suc, ◌+◌, ◌-◌, ◌<◌, ◌≤◌, ◌^◌, List, [], ◌∷◌, ◌++◌, Bool, true, false, refl, sym, ◌∙◌, ap, subst, append_assoc, arith, length, length-append, length-drop, drop, get_or, set, if◌then◌else◌}
+use Rattle.std.proofs.Common.{◌≡◌, ℕ, suc, ◌+◌, ◌-◌, ◌<◌, ◌≤◌, ◌^◌, List, [], ◌∷◌, ◌++◌, Bool, true, false, not, refl, sym, ◌∙◌, ap, subst, append_assoc, arith, length, length-append, length-drop, drop, get_or, set, if◌then◌else◌}
+use Rattle.std.proofs.lemmas.Bool.{and_parts, not-true}
 use Rattle.std.proofs.lemmas.List.{drop_more, drop-drop, drop_all}
 use Rattle.span_value.specs.declared.value.Value.{Value}
 use Rattle.span_value.specs.declared.value.Kind.{Kind}
@@ -7,7 +8,7 @@ use Rattle.span_schema.specs.declared.table.Table.{Table}
 use Rattle.span_schema.specs.declared.layout.KeyPart.{KeyPart}
 use Rattle.span_schema.specs.Lineages.{path_at, MeetsRules}
 use Rattle.span_schema.specs.Numbers.{path_of, own_key_columns, key_columns, key_places}
-use Rattle.span_keycode.specs.Coding.{Fits, AreFit, column_code, tuple_code}
+use Rattle.span_keycode.specs.Coding.{AreFit, column_code, tuple_code}
 use Rattle.span_keycode.specs.Keys.{Level, IsKey, code_of, key_code}
 use Rattle.span_keycode.specs.Reads.{IsNoColumn, IsColumn, IsNoTuple}
 use Rattle.span_keycode.specs.Roots.{IsSkip}
@@ -16,10 +17,10 @@ use Rattle.span_keycode.proofs.Levels.{levels_at}
 use Rattle.span_keycode.proofs.LevelLaws.{AreLevels, fit_length}
 use Rattle.span_keycode.proofs.Going.{tables_of, tables_back, levels_on}
 use Rattle.span_keycode.proofs.KeyLaws.{values_of, values_back, place_within}
-use Rattle.span_rowcode.specs.Rows.{AreCells, IsRow, IsNoCell, IsCell, IsCellSkip, cell_code, row_code}
+use Rattle.span_rowcode.specs.Rows.{AreCells, IsRow, IsNoCell, IsCell, IsCellSkip, row_code}
 use Rattle.span_rowcode.specs.Limits.{longest_row}
 use Rattle.span_rowcode.proofs.CellSkips.{cell_once}
-use Rattle.span_fragment.specs.Placed.{is_wanted, put, placed, IsColumnPut, AreColumnsPut, IsLevelPut, IsNoLevel, IsKeyPut, IsCellPut, AreCellsPut}
+use Rattle.span_fragment.specs.Placed.{is_wanted, wants_none, put, placed, IsColumnPut, AreColumnsPut, IsLevelPut, IsNoLevel, IsKeyPut, IsCellPut, AreCellsPut}
 use Rattle.span_fragment.proofs.KeyPlaces.{has_key_columns}
 
 -- ---- one value
@@ -48,6 +49,14 @@ cell_put ms k place bs old new v n small wanted read e = record {
 
 pub cell_skipped : (ms : List Bool) (k : Kind) (place : ℕ) (bs : List ℕ) (old : List Value) (n : ℕ) → is_wanted ms place ≡ false → IsCellSkip k bs n → IsCellPut ms k place bs old old n
 cell_skipped ms k place bs old n not_wanted skip = record { within = skip.within; put = λ w more f code. (put_not ms place w old not_wanted, skip.past w more f code) }
+
+-- a row is as it was where the mask has none of the places
+pub none_put : (ms : List Bool) (ps : List ℕ) (vs row : List Value) → wants_none ms ps ≡ true → row ≡ placed ms ps vs row
+none_put ms [] vs row none = refl
+none_put ms (p ∷ ps) [] row none = refl
+none_put ms (p ∷ ps) (v ∷ vs) row none =
+    let parts = and_parts (not (is_wanted ms p)) (wants_none ms ps) none in
+    none_put ms ps vs row parts.1 ∙ ap (placed ms ps vs) (put_not ms p v row (not-true (is_wanted ms p) parts.0))
 
 -- ---- columns one after another
 

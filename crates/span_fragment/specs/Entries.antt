@@ -1,5 +1,5 @@
 -- Rows as a shard has them.
-use Rattle.std.specs.Prelude.{◌≡◌, ◌==◌, ◌+◌, ℕ, Bool, List, [], ◌∷◌, drop, map}
+use Rattle.std.specs.Prelude.{◌≡◌, ◌==◌, ℕ, Bool, List, [], ◌∷◌, drop, map}
 use Rattle.span_schema.specs.declared.table.Table.{Table}
 use Rattle.span_rowcode.specs.Rows.{row_code}
 use Rattle.span_mutate.specs.declared.row.TableRow.{TableRow}
@@ -27,11 +27,6 @@ pub record AreReadOf (schema : List Table) (n : ℕ) (ms : List Bool) (entries :
 -- of whatever row this is the coded key, the answer is whether it is one of table n
 pub record IsWhetherOf (schema : List Table) (n : ℕ) (key : List ℕ) (found : Bool) : Type 0 where
   pub of : (r : TableRow) → IsTyped schema r → key ≡ code_of schema r → found ≡ (r.table == n)
-
--- how many columns the tables have together
-abbrev pub total_width : List Table → List ℕ → ℕ
-total_width schema [] = 0
-total_width schema (t ∷ ts) = width_of schema t + total_width schema ts
 
 -- the rows of tables, each with NULL at the places that its part of the mask does not have
 abbrev pub masked_tables : List Table → List TableRow → List Bool → List ℕ → List (List Row)

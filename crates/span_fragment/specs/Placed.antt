@@ -1,5 +1,6 @@
 -- The values of a row put at their places among the columns of its table, as far as a mask has the places.
-use Rattle.std.specs.Prelude.{◌≡◌, ℕ, ◌≤◌, List, [], ◌∷◌, ◌++◌, Bool, true, false, length, drop, slice_set, slice_index_or, if◌then◌else◌}
+use Rattle.std.specs.Prelude.{◌≡◌, ℕ, ◌≤◌, List, [], ◌∷◌, ◌++◌, Bool, true, false, not, length, drop, slice_set, slice_index_or, if◌then◌else◌}
+use Rattle.std.specs.List.{list_all}
 use Rattle.span_value.specs.declared.value.Value.{Value}
 use Rattle.span_value.specs.declared.value.Kind.{Kind}
 use Rattle.span_schema.specs.declared.table.Table.{Table}
@@ -17,6 +18,10 @@ use Rattle.span_fragment.specs.Meaning.{declared_row}
 -- a mask has a place
 abbrev pub is_wanted : List Bool → ℕ → Bool
 is_wanted ms place = slice_index_or ms place false
+
+-- a mask has none of the places
+abbrev pub wants_none : List Bool → List ℕ → Bool
+wants_none ms places = list_all (λ p. not (is_wanted ms p)) places
 
 -- a row with a value at a place, if the mask has it
 abbrev pub put : List Bool → ℕ → Value → List Value → List Value

@@ -4,7 +4,7 @@ ghost use Rattle.span_rowcode.specs.declared.pack.TheConstants.{MOST_BYTES};
 ghost use Rattle.span_rowcode.specs.Rows.{IsNoCell};
 ghost use Rattle.span_fragment.specs.Placed.{IsCellPut, AreCellsPut};
 
-use super::place::{is_wanted, put_value};
+use super::place::{is_wanted, put_value, wants_none};
 use span_rowcode::cell::{after, read_cell, skip_cell};
 use span_rowcode::pack::MOST_BYTES;
 use span_value::value::{Kind, Value};
@@ -54,6 +54,9 @@ pub(crate) fn put_cells(
 {
     if bytes.len() > MOST_BYTES {
         return Ok(false);
+    }
+    if wants_none(wanted, places) {
+        return Ok(true);
     }
     let mut at = 0;
     for i in 0..kinds.len() {

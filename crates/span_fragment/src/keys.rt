@@ -4,7 +4,7 @@ ghost use Rattle.span_schema.specs.Numbers.{IsTable};
 ghost use Rattle.span_keycode.specs.Reads.{IsNoColumn, IsNoTuple};
 ghost use Rattle.span_fragment.specs.Placed.{IsColumnPut, AreColumnsPut, IsLevelPut, IsNoLevel, IsKeyPut};
 
-use super::place::{is_wanted, put_value};
+use super::place::{is_wanted, put_value, wants_none};
 use span_keycode::root::skip_value;
 use span_keycode::value::{after, read_value};
 use span_schema::layout::KeyPart;
@@ -113,6 +113,9 @@ pub(crate) fn put_key(
     schema.meets_rules();
     let path = schema.path_of(table);
     let mut places = schema.key_places(table);
+    if wants_none(wanted, places) {
+        return Ok(true);
+    }
     let mut at = 0;
     for i in 0..path.len() {
         let columns = schema.own_key_columns(path[i]);

@@ -6,7 +6,6 @@ mod decode;
 mod directory;
 mod joined;
 mod keys;
-mod mask;
 pub mod piece;
 mod place;
 mod rooted;

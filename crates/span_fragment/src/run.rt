@@ -5,6 +5,7 @@ ghost use Rattle.span_schema.specs.Numbers.{IsTable};
 ghost use Rattle.span_shard.specs.Reading.{entry_row};
 ghost use Rattle.span_query.specs.Rows.{Rows};
 ghost use Rattle.span_algebra.specs.Answers.{Gives};
+ghost use Rattle.span_planner.specs.Maskable.{IsMaskable};
 ghost use Rattle.span_fragment.specs.Entries.{AreNoRows};
 ghost use Rattle.span_fragment.specs.Pieces.{IsPieceOf};
 
@@ -38,7 +39,8 @@ pub fn run_leaf(
     leaf: &Leaf,
     entries: &[Entry],
 ) -> Result<Piece, Refusal>
-    requires { AllByRecursion (IsTable schema.now) leaf.now.tables }
+    requires tables { AllByRecursion (IsTable schema.now) leaf.now.tables }
+    requires maskable { IsMaskable schema.now leaf.now }
     ensures { MatchResult result
         (IsPieceOf schema.now leaf.now (map entry_row entries.now))
         (λ why. (why ≡ Refusal.OutOfMemory) ⊎ AreNoRows schema.now (map entry_row entries.now)) }

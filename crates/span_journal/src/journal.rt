@@ -14,6 +14,7 @@ ghost use Rattle.span_journal.specs.Choices.{chosen_mutations};
 ghost use Rattle.span_journal.specs.Judged.{as_reply, decision_reply, MayPrepare, IsUnprepared, IsNoted, IsUnnoted, IsApplied, IsGap, IsUnclaimed, IsRaised, leaf_of, IsRegistered, IsUnregistered, IsUnchanged, IsCovered, IsTaken, MaySplit, IsCutOf};
 
 use super::choice::{Chosen, has_any, mutations_in};
+use super::commit::KeptCommit;
 use super::owned::{append, drop_at, pair_with};
 use super::queries::{cover_at, find_query, find_target, take_at};
 use super::query::KeptQuery;
@@ -35,7 +36,7 @@ use span_keycode::range::KeyRange;
 use span_machine::query::OpenQuery;
 use span_machine::slot::SlotState;
 use span_machine::step::Verdict;
-use span_machine::transaction::{Commit, Prepared};
+use span_machine::transaction::Prepared;
 use span_mutate::mutation::CheckedMutation;
 use span_mutate::transaction::Transaction;
 use span_params::params::Params;
@@ -110,7 +111,7 @@ pub struct Journal {
     slots: Vec<SlotState>,
     transactions: Vec<KeptTransaction>,
     /// It has reserved capacity for each undecided transaction.
-    log: Vec<Commit>,
+    log: Vec<KeptCommit>,
     queries: Vec<KeptQuery>,
     next_transaction: u64,
     next_query: u64,
@@ -178,7 +179,7 @@ impl Journal {
     }
 
     /// The commits, in the order in which they joined.
-    pub fn log(&self) -> &[Commit]
+    pub fn log(&self) -> &[KeptCommit]
         ensures { result.now ≡ self.now.log }
     {
         self.log.as_slice()
@@ -208,7 +209,7 @@ impl Journal {
     }
 
     /// Begins a transaction, and returns its number. It reserves the capacity that its prepares and its commit take,
-    /// and makes the mutations of the log's entry. `TransactionTableFull`, then `LogFull`, then `OutOfMemory`; a
+    /// and makes the log's share of its mutations. `TransactionTableFull`, then `LogFull`, then `OutOfMemory`; a
     /// refusal leaves all as it was.
     pub fn begin(
         &mut self,
@@ -248,10 +249,9 @@ impl Journal {
         ensures err { OnErr result (machine_of self.new ≡ machine_of self.old) }
         ensures pieces { self.new.queries ≡ self.old.queries }
     {
-        let entry = transaction.copy(alloc)?.into_mutations();
         self.log.reserve(undecided + 1)?;
         let number = self.next_transaction;
-        let kept = KeptTransaction::new(alloc, owner, number, transaction.into_mutations(), entry)?;
+        let kept = KeptTransaction::new(alloc, owner, number, transaction.into_mutations())?;
         self.transactions.push(kept)?;
         self.next_transaction += 1;
         Ok(number)
@@ -275,7 +275,7 @@ impl Journal {
         ensures pieces { self.new.queries ≡ self.old.queries }
     {
         match verdict {
-            Verdict::Commit => Ok(Some(self.commit(alloc, schema, owner, txn, interval)?)),
+            Verdict::Commit => Ok(Some(self.commit(schema, owner, txn, interval)?)),
             Verdict::Abort => {
                 self.abort(schema, owner, txn, interval)?;
                 Ok(None)
@@ -316,7 +316,6 @@ impl Journal {
 
     fn commit(
         &mut self,
-        alloc: Global,
         schema: &Schema,
         owner: u64,
         txn: u64,
@@ -336,7 +335,7 @@ impl Journal {
             Ok(timestamp) => {
                 let coordinator = coordinator_slot(transaction.prepared());
                 raise_last(&mut self.slots, coordinator, timestamp);
-                let commit = commit_at(alloc, &mut self.transactions, at, timestamp);
+                let commit = commit_at(&mut self.transactions, at, timestamp);
                 self.log.push(commit).unwrap();
                 Ok(timestamp)
             }

@@ -5,6 +5,7 @@
 #![tactic(auto)]
 
 pub mod choice;
+pub mod commit;
 pub mod journal;
 mod owned;
 mod queries;

@@ -3,29 +3,32 @@ ghost use Rattle.std.specs.Prelude.{◌≡◌, ◌<◌, [], true, false, filter,
 ghost use Rattle.span_machine.specs.Limits.{most_slots};
 ghost use Rattle.span_machine.specs.Machine.{with_decision, is_undecided, is_prepared_at, commit_of, add_prepared, without_prepared};
 
+use super::commit::KeptCommit;
 use super::journal::MOST_SLOTS;
-use span_machine::transaction::{Commit, Decision, Prepared};
+use super::owned::share;
+use span_machine::transaction::{Decision, Prepared};
 use span_mutate::mutation::CheckedMutation;
 use span_value::seq::Seq;
 use std::alloc::{AllocError, Global};
 use std::marker::Model;
-use std::mem;
+use std::sync::Arc;
 
-/// An open transaction, with the mutations that its log entry takes over.
+/// An open transaction, with the share of its mutations that its log entry takes over.
 #[derive(Debug, Drop)]
 pub struct KeptTransaction {
     owner: u64,
     number: u64,
-    mutations: Seq<CheckedMutation>,
+    mutations: Arc<Seq<CheckedMutation>>,
     decision: Decision,
     /// Where it is prepared. It has reserved capacity for every slot that there may be.
     prepared: Vec<Prepared>,
-    /// The same mutations once more, until the transaction is committed.
-    entry: Seq<CheckedMutation>,
+    /// The log's share of the same list, until the transaction is committed.
+    entry: Option<Arc<Seq<CheckedMutation>>>,
 }
 
 impl Model for KeptTransaction {
-    ghost use Rattle.std.specs.Prelude.{◌≡◌, ◌≤◌, true, vec_capacity};
+    ghost use Rattle.std.specs.Prelude.{◌≡◌, ◌≤◌, true, IsSomeAnd, vec_capacity};
+    ghost use Rattle.std.specs.Arc.{arc_value};
     ghost use Rattle.span_machine.specs.Limits.{most_slots};
     ghost use Rattle.span_machine.specs.declared.transaction.OpenTransaction.{OpenTransaction};
     ghost use Rattle.span_machine.specs.Machine.{undecided};
@@ -36,28 +39,26 @@ impl Model for KeptTransaction {
     ghost view = { λ a. record {
       owner = a.owner;
       number = a.number;
-      mutations = a.mutations;
+      mutations = arc_value a.mutations;
       decision = a.decision;
       prepared = a.prepared.items;
     } };
 
     ghost invariant = { λ a. record {
-      entry : undecided a.decision ≡ true → a.entry ≡ a.mutations;
+      entry : undecided a.decision ≡ true → IsSomeAnd a.entry (λ e. arc_value e ≡ arc_value a.mutations);
       room : most_slots ≤ vec_capacity a.prepared;
       slots : AreOfSlots a.prepared.items;
     } };
 }
 
 impl KeptTransaction {
-    /// A transaction that is begun, with a copy of its mutations for the log.
+    /// A transaction that is begun, with a share of its mutations for the log.
     pub(crate) fn new(
         alloc: Global,
         owner: u64,
         number: u64,
         mutations: Seq<CheckedMutation>,
-        entry: Seq<CheckedMutation>,
     ) -> Result<KeptTransaction, AllocError>
-        requires { entry ≡ mutations }
         ensures { IfOk result
             (λ t.
             t
@@ -70,29 +71,26 @@ impl KeptTransaction {
             }) }
     {
         let prepared = Vec::with_capacity(alloc, MOST_SLOTS)?;
+        let (mutations, entry) = share(alloc, mutations)?;
         Ok(KeptTransaction {
             owner,
             number,
             mutations,
             decision: Decision::Undecided,
             prepared,
-            entry,
+            entry: Some(entry),
         })
     }
 
     /// Commits at the timestamp, and gives the log's entry. It takes no memory.
-    pub(crate) fn commit(&mut self, alloc: Global, timestamp: u64) -> Commit
+    pub(crate) fn commit(&mut self, timestamp: u64) -> KeptCommit
         requires { is_undecided self.old ≡ true }
         ensures commit { result ≡ commit_of timestamp self.old }
         ensures after { self.new ≡ with_decision (Decision.Committed timestamp) self.old }
     {
+        let mutations = self.entry.take().unwrap();
         self.decision = Decision::Committed(timestamp);
-        Commit {
-            timestamp,
-            number: self.number,
-            owner: self.owner,
-            mutations: mem::replace(&mut self.entry, Seq::new(alloc)),
-        }
+        KeptCommit::new(timestamp, self.number, self.owner, mutations)
     }
 
     /// Aborts. It takes no memory.

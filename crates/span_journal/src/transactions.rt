@@ -7,16 +7,16 @@ ghost use Rattle.span_machine.specs.Place.{IsPlace};
 ghost use Rattle.span_journal.specs.Judged.{decision_of, has_wrong_state};
 ghost use Rattle.span_journal.specs.Places.{share_directory_in};
 
+use super::commit::KeptCommit;
 use super::slots::holds;
 use super::transaction::KeptTransaction;
 use span_machine::slot::SlotState;
-use span_machine::transaction::{Commit, Decision, Prepared};
+use span_machine::transaction::{Decision, Prepared};
 use span_mutate::directory::is_in_directory_of;
 use span_mutate::mutation::CheckedMutation;
 use span_schema::schema::Schema;
 use span_truetime::interval::Interval;
 use span_value::refusal::Refusal;
-use std::alloc::Global;
 
 /// How many transactions are undecided.
 #[tactic(auto, using(std::proofs::lemmas::List::Sums::count_by_more_yes, std::proofs::lemmas::List::Sums::count_by_more_no))]
@@ -85,11 +85,10 @@ pub(crate) fn is_any_prepared(transactions: &[KeptTransaction], slot: usize) -> 
 
 /// Commits the transaction at a place.
 pub(crate) fn commit_at(
-    alloc: Global,
     transactions: &mut Vec<KeptTransaction>,
     at: usize,
     timestamp: u64,
-) -> Commit
+) -> KeptCommit
     requires within { at < length transactions.old.items }
     requires open { IfSome (slice_get transactions.old.items at) (λ t. is_undecided t ≡ true) }
     ensures commit { IfSome (slice_get transactions.old.items at) (λ t. result ≡ commit_of timestamp t) }
@@ -98,7 +97,7 @@ pub(crate) fn commit_at(
         transactions.new.items ≡ slice_set transactions.old.items at (with_decision (Decision.Committed timestamp) t)) }
     ensures fewer { count_by is_undecided transactions.new.items + 1 ≡ count_by is_undecided transactions.old.items }
 {
-    transactions[at].commit(alloc, timestamp)
+    transactions[at].commit(timestamp)
 }
 
 /// Whether a transaction that is prepared at the slot has a mutation in a directory of those of these mutations that

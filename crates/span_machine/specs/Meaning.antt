@@ -12,6 +12,7 @@ use Rattle.span_query.specs.Rows.{Rows}
 use Rattle.span_query.specs.Meaning.{meaning_over, meaning, given}
 use Rattle.span_planner.specs.declared.leaf.Leaf.{Leaf}
 use Rattle.span_planner.specs.declared.leaf.Plan.{Plan}
+use Rattle.span_planner.specs.Reads.{mask_rows}
 use Rattle.span_planner.specs.Results.{leaf_rows}
 pub use Rattle.span_fragment.specs.Meaning.{value_for, value_at, declared_row, whole_table}
 
@@ -33,9 +34,9 @@ rows_within schema db table range = map (declared_row schema) (filter (row_withi
 abbrev pub tables_within : List Table → List TableRow → List ℕ → KeyRange → List (List (List Value))
 tables_within schema db tables range = map (λ table. rows_within schema db table range) tables
 
--- what a leaf gives on the rows in a range
+-- what a leaf gives on the rows in a range: NULL at the columns that nothing reads
 abbrev pub leaf_within : List Table → List TableRow → Leaf → KeyRange → Rows
-leaf_within schema db leaf range = leaf_rows leaf (tables_within schema db leaf.tables range)
+leaf_within schema db leaf range = mask_rows leaf.reads (leaf_rows leaf (tables_within schema db leaf.tables range))
 
 -- what a plan gives on a database: the leaves on their ranges, and then the query above them
 abbrev pub plan_means : List Table → Plan → List TableRow → Rows

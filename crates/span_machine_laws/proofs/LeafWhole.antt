@@ -26,7 +26,7 @@ use Rattle.span_planner.specs.Results.{leaf_rows}
 use Rattle.span_planner.proofs.Bounding.{is_in_bounds}
 use Rattle.span_planner.proofs.Narrowed.{AreEquated, AreWideTables, AreTotalJoins, IsLost, filter_tables, passes_at, leaf_narrowed}
 use Rattle.span_planner.proofs.Planned.{AreRooted, IsNarrowed, IsPlanned}
-use Rattle.span_machine.specs.Meaning.{declared_row, whole_table, row_within, rows_within, tables_within, leaf_within}
+use Rattle.span_machine.specs.Meaning.{declared_row, whole_table, row_within, rows_within, tables_within}
 use Rattle.span_machine_laws.proofs.FirstColumns.{first_place, IsOfFamily, HasFirst, first_of_family, root_places_first}
 use Rattle.span_machine_laws.proofs.TableOrder.{IsOfTable, of_table, all_in_family}
 use Rattle.span_fragment.proofs.DeclaredRows.{row_width}
@@ -153,7 +153,7 @@ module _ (schema : List Table) (db : List TableRow) (are_typed : AreTyped schema
 
 -- THE LAW OF A WHOLE LEAF: on its range a leaf gives what it gives on whole tables.
 pub leaf_whole : (schema : List Table) → MeetsRules schema → (db : List TableRow) → AreTyped schema db → (leaf : Leaf) → IsPlanned schema leaf
-    → leaf_within schema db leaf leaf.range ≡ leaf_rows leaf (map (whole_table schema db) leaf.tables)
+    → leaf_rows leaf (tables_within schema db leaf.tables leaf.range) ≡ leaf_rows leaf (map (whole_table schema db) leaf.tables)
 leaf_whole schema rules db typed leaf is =
     ap (λ (ts : List ℕ). leaf_rows leaf (tables_within schema db ts leaf.range)) is.tables
     ∙ on_range is.narrowed

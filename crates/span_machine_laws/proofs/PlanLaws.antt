@@ -17,11 +17,11 @@ use Rattle.span_planner.specs.declared.leaf.Leaf.{Leaf}
 use Rattle.span_planner.specs.declared.leaf.Plan.{Plan}
 use Rattle.span_planner.specs.Leaves.{table_of}
 use Rattle.span_planner.specs.Plannable.{IsPlannable}
+use Rattle.span_planner.specs.Reads.{mask_rows}
 use Rattle.span_planner.specs.Results.{leaf_rows}
-use Rattle.span_planner.proofs.Blocks.{AgreesAt}
 use Rattle.span_planner.proofs.Known.{leaves_known}
 use Rattle.span_planner.proofs.Planned.{IsPlanned}
-use Rattle.span_planner.proofs.Queries.{query_above}
+use Rattle.span_planner.proofs.MaskedPlan.{query_above_masked}
 use Rattle.span_machine.specs.Machine.{statement_plan}
 use Rattle.span_machine.specs.Meaning.{declared_row, whole_table, means, rows_within, tables_within, leaf_within, plan_means}
 use Rattle.span_fragment.proofs.KeyPlaces.{keyed}
@@ -33,35 +33,19 @@ pub use Rattle.span_machine_laws.proofs.LeafTiled.{leaf_tiled}
 pub plan_leaves : (schema : List Table) → MeetsRules schema → (q : Statement) → IsPlannable schema q → AllByRecursion (IsPlanned schema) (statement_plan schema q).leaves
 plan_leaves schema rules q can = leaves_known schema q.leaves (keyed schema) q.query can.sized
 
--- ---- results by their numbers
-
-given_at : (results : List Rows) (n : ℕ) (o : Rows) (os : List Rows) → drop n results ≡ o ∷ os → given results (suc n) ≡ o
-given_at [] zero o os is = absurd (let e : [] ≡ o ∷ os = is in cc)
-given_at [] (suc n) o os is = absurd (let e : [] ≡ o ∷ os = is in cc)
-given_at (r ∷ results) zero o os is = let e : r ∷ results ≡ o ∷ os = is in cc
-given_at (r ∷ results) (suc n) o os is = given_at results n o os is
-
-rest_dropped : (results : List Rows) (n : ℕ) (o : Rows) (os : List Rows) → drop n results ≡ o ∷ os → drop (suc n) results ≡ os
-rest_dropped [] zero o os is = absurd (let e : [] ≡ o ∷ os = is in cc)
-rest_dropped [] (suc n) o os is = absurd (let e : [] ≡ o ∷ os = is in cc)
-rest_dropped (r ∷ results) zero o os is = let e : r ∷ results ≡ o ∷ os = is in cc
-rest_dropped (r ∷ results) (suc n) o os is = rest_dropped results n o os is
-
 -- ---- the law
 
 module _ (schema : List Table) (rules : MeetsRules schema) (db : List TableRow) (typed : AreTyped schema db) where
   abbrev whole : ℕ → List Row
   whole t = whole_table schema db t
 
+  -- what a leaf gives before its rows are masked
   abbrev on_range : Leaf → Rows
-  on_range l = leaf_within schema db l l.range
+  on_range l = leaf_rows l (tables_within schema db l.tables l.range)
 
-  leaves_agree : (before : ℕ) (ls : List Leaf) (results : List Rows) → drop before results ≡ map on_range ls → AllByRecursion (IsPlanned schema) ls → AgreesAt whole before ls (given results)
-  leaves_agree before [] results is known = tt {0}
-  leaves_agree before (l ∷ ls) results is known = (
-    ap (given results) (add-one before) ∙ given_at results before (on_range l) (map on_range ls) is ∙ leaf_whole schema rules db typed l known.0,
-    leaves_agree (before + 1) ls results (ap (λ (n : ℕ). drop n results) (add-one before) ∙ rest_dropped results before (on_range l) (map on_range ls) is) known.1,
-  )
+  leaves_whole : (ls : List Leaf) → AllByRecursion (IsPlanned schema) ls → AllByRecursion (λ (l : Leaf). on_range l ≡ leaf_rows l (map whole l.tables)) ls
+  leaves_whole [] known = tt {0}
+  leaves_whole (l ∷ ls) known = (leaf_whole schema rules db typed l known.0, leaves_whole ls known.1)
 
   -- no row is of table 0
   none_of_zero : whole 0 ≡ []
@@ -81,10 +65,8 @@ module _ (schema : List Table) (rules : MeetsRules schema) (db : List TableRow) 
 
   meaning_of_plan : (q : Statement) → IsPlannable schema q → plan_means schema (statement_plan schema q) db ≡ means schema q.query q.leaves db
   meaning_of_plan q can =
-      let plan : Plan = statement_plan schema q in
-      let results : List Rows = map on_range plan.leaves in
-      query_above schema q.leaves whole (λ (n : ℕ). Some (table_rows (map whole q.leaves) n)) (given results) (table_given q.leaves) (table_width schema db typed) q.query can.sized 0
-      (leaves_agree 0 plan.leaves results refl (plan_leaves schema rules q can))
+      query_above_masked schema whole (table_width schema db typed) q.leaves (λ (n : ℕ). Some (table_rows (map whole q.leaves) n)) (table_given q.leaves) (keyed schema) q.query can.sized on_range
+      (leaves_whole (statement_plan schema q).leaves (plan_leaves schema rules q can))
 
 -- THE LAW OF A PLAN: what the plan of a statement gives on a database is what its query means there
 pub planned_meaning : (schema : List Table) → MeetsRules schema → (q : Statement) → IsPlannable schema q → (db : List TableRow) → IsDatabase schema db → AreTyped schema db → plan_means schema (statement_plan schema q) db ≡ means schema q.query q.leaves db
@@ -108,5 +90,5 @@ plan_alike schema plan a b alike = ap (λ (results : List Rows). meaning_over (g
     leaves_alike : (ls : List Leaf) → AllByRecursion (IsAlikeIn schema a b) ls → map (λ (l : Leaf). leaf_within schema a l l.range) ls ≡ map (λ (l : Leaf). leaf_within schema b l l.range) ls
     leaves_alike [] alike = refl
     leaves_alike (l ∷ ls) alike =
-        ap (λ (tables : List (List Row)). leaf_rows l tables ∷ map (λ (l : Leaf). leaf_within schema a l l.range) ls) (tables_alike l l.tables alike.0)
+        ap (λ (tables : List (List Row)). mask_rows l.reads (leaf_rows l tables) ∷ map (λ (l : Leaf). leaf_within schema a l l.range) ls) (tables_alike l l.tables alike.0)
         ∙ ap (λ (results : List Rows). leaf_within schema b l l.range ∷ results) (leaves_alike ls alike.1)

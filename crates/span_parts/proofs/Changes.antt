@@ -68,7 +68,7 @@ pub shard_there : (schema : List Table) (j : Journaled) (shards : Shards) → Is
     → (cs : List KeyVersions) × (slice_get shards slot ≡ Some cs)
 shard_there schema j shards w slot slot_state here = there_is shards slot (within schema (machine_of j) shards w.kept slot slot_state here)
 
--- what is found at a place is there, whatever stands for what is not
+-- what is found at a place is there, whatever is given for a place that is not
 pub at_index : {A : Type 0} (xs : List A) (i : ℕ) (d x : A) → slice_get xs i ≡ Some x → get_or xs i d ≡ x
 at_index [] i d x here = absurd (cc here)
 at_index (y ∷ xs) zero d x here = some_same y x here

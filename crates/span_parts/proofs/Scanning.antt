@@ -4,6 +4,7 @@ use Rattle.std.specs.Prelude.{IfSome, MatchOption, Result, Err, find, slice_get,
 use Rattle.std.specs.List.{AllByRecursion}
 use Rattle.span_schema.specs.Numbers.{IsTable}
 use Rattle.span_planner.specs.declared.leaf.Leaf.{Leaf}
+use Rattle.span_planner.specs.Maskable.{IsMaskable}
 use Rattle.std.proofs.lemmas.Bool.Decides.{nat_tests}
 use Rattle.span_value.specs.declared.refusal.Refusal.{Refusal}
 use Rattle.span_value.specs.declared.refusal.Refusal.TheVariants as refusal
@@ -25,7 +26,7 @@ use Rattle.span_machine_laws.proofs.Reached.{IsReached, answer_reached, reached_
 use Rattle.span_version_laws.specs.Kept.{AreAllKept, ArePieced}
 use Rattle.span_version_laws.proofs.AllKept.{all_kept_by_step}
 use Rattle.span_version_laws.proofs.Snapshots.{snapshot_when_safe}
-use Rattle.span_version_laws.proofs.Covers.{pieced_tables, pieced_scanned, covered-queries, find-queries, found_query}
+use Rattle.span_version_laws.proofs.Covers.{pieced_tables, pieced_maskable, pieced_scanned, covered-queries, find-queries, found_query}
 use Rattle.span_journal.specs.Judged.{leaf_of, MayScan, IsRegistered}
 use Rattle.span_parts.specs.Whole.{Shards, IsWhole, IsRead, IsUnread}
 use Rattle.span_parts.proofs.Changes.{some_same}
@@ -82,6 +83,13 @@ module _ (schema : List Table) (j : Journaled) (shards : Shards) (w : IsWhole sc
       let p = piece_of j.queries query d.question d.found in
       let there : slice_get p.0.query.leaves leaf ≡ Some d.gap = ap (λ (q : OpenQuery). slice_get q.leaves leaf) p.2 ∙ d.there in
       subst (λ (o : Option Leaf). IfSome o (λ l. AllByRecursion (IsTable schema) l.tables)) (sym scanned_leaf) (pieced_tables schema m j.queries query p.0 leaf d.gap w.pieced p.1 there)
+
+  -- it is maskable
+  pub scanned_maskable : IfSome (leaf_of m query leaf) (IsMaskable schema)
+  scanned_maskable =
+      let p = piece_of j.queries query d.question d.found in
+      let there : slice_get p.0.query.leaves leaf ≡ Some d.gap = ap (λ (q : OpenQuery). slice_get q.leaves leaf) p.2 ∙ d.there in
+      subst (λ (o : Option Leaf). IfSome o (IsMaskable schema)) (sym scanned_leaf) (pieced_maskable schema m j.queries query p.0 leaf d.gap w.pieced p.1 there)
 
   -- where a leaf may be scanned, memory alone may run out
   pub reads : (cs : List KeyVersions) → slice_get shards slot ≡ Some cs → (why : Refusal) → IsUnread schema cs range s why → why ≡ refusal.OutOfMemory

@@ -2,6 +2,7 @@
 ghost use Rattle.std.specs.Prelude.{◌≡◌, Err, IfSome, MatchOption, MatchResult};
 ghost use Rattle.std.specs.List.{AllByRecursion};
 ghost use Rattle.span_schema.specs.Numbers.{IsTable};
+ghost use Rattle.span_planner.specs.Maskable.{IsMaskable};
 ghost use Rattle.span_machine.specs.Pieces.{machine_of};
 ghost use Rattle.span_journal.specs.Judged.{leaf_of};
 ghost use Rattle.span_parts.specs.Whole.{IsRead, IsUnread};
@@ -26,7 +27,8 @@ pub(crate) fn read_gap(
     leaf: usize,
     gap: &Gap,
 ) -> Result<Piece, Refusal>
-    requires { IfSome (leaf_of (machine_of journal.now) query leaf) (λ l. AllByRecursion (IsTable schema.now) l.tables) }
+    requires tables { IfSome (leaf_of (machine_of journal.now) query leaf) (λ l. AllByRecursion (IsTable schema.now) l.tables) }
+    requires maskable { IfSome (leaf_of (machine_of journal.now) query leaf) (IsMaskable schema.now) }
     ensures { MatchOption (leaf_of (machine_of journal.now) query leaf)
         (result ≡ Err Refusal.UnknownQuery)
         (λ l.
@@ -49,7 +51,8 @@ pub fn read_leaf(
     leaf: &Leaf,
     gap: &Gap,
 ) -> Result<Piece, Refusal>
-    requires { AllByRecursion (IsTable schema.now) leaf.now.tables }
+    requires tables { AllByRecursion (IsTable schema.now) leaf.now.tables }
+    requires maskable { IsMaskable schema.now leaf.now }
     ensures { MatchResult result
         (λ piece. IsRead schema.now shard.now gap.now.range gap.now.s piece leaf.now)
         (IsUnread schema.now shard.now gap.now.range gap.now.s) }

@@ -1,7 +1,7 @@
 -- A block above its leaves gives what the block gives on whole tables, where each derived table does so.
-use Rattle.std.proofs.Common.{◌≡◌, ℕ, ◌+◌, ◌-◌, ◌==◌, suc, zero, nat_le, nat_lt, Bool, true, false, cond, not, ◌&&◌, List, [], ◌∷◌, ◌++◌, map, take, drop, length, Option, Some, None, refl, ap, sym, ◌∙◌, subst, append_assoc, length-append, arith}
+use Rattle.std.proofs.Common.{◌≡◌, ℕ, ◌+◌, ◌==◌, suc, zero, Bool, true, false, ◌&&◌, List, [], ◌∷◌, ◌++◌, map, take, drop, length, Option, Some, None, refl, ap, sym, ◌∙◌, subst, arith}
 use Rattle.std.specs.Prelude.{filter as filter_list, if◌then◌else◌}
-use Rattle.std.specs.List.{AllByRecursion, list_all, fold}
+use Rattle.std.specs.List.{AllByRecursion, fold}
 use Rattle.std.proofs.lemmas.Bool.Decides.{nat_tests}
 use Rattle.span_schema.specs.declared.table.Table.{Table}
 use Rattle.span_expr.specs.declared.expr.Expr.{Expr}
@@ -12,15 +12,15 @@ use Rattle.span_query.specs.declared.query.Block.{Block}
 use Rattle.span_query.specs.declared.query.Item.{Item}
 use Rattle.span_query.specs.declared.query.Item.TheVariants as item
 use Rattle.span_query.specs.declared.query.Join.{Join}
-use Rattle.span_query.specs.Rows.{Row, OrFault, Rows, ◌>>=◌, filter_rows, filter_where, project_rows}
+use Rattle.span_query.specs.Rows.{Row, OrFault, Rows, ◌>>=◌, filter_where, project_rows}
 use Rattle.span_query.specs.Groups.{group_rows}
 use Rattle.span_query.specs.Meaning.{item_rows, join_rows, join_next, from, distinct_if, block_rows, meaning_over}
 use Rattle.span_query.proofs.Layers.{map_item, map_join, map_block}
 use Rattle.span_query.proofs.Results.{bind-assoc, bind-Some}
 use Rattle.span_planner.specs.declared.leaf.LeafJoin.{LeafJoin}
 use Rattle.span_planner.specs.declared.leaf.Leaf.{Leaf}
-use Rattle.span_planner.specs.Conditions.{have_total_ons, pushable, where_conjuncts, conjuncts_on}
-use Rattle.span_planner.specs.Leaves.{Planned, table_of, width_of, is_joined, leaf_len, leaf_join, item_table, join_table, widths, first_leaf, table_leaf, unless_left, join_leaves, rest_leaves, leaves_from, block_leaves, top_item, count_leaves, top_join, top_joins, with_from, top_from, top_block}
+use Rattle.span_planner.specs.Conditions.{have_total_ons, where_conjuncts, conjuncts_on}
+use Rattle.span_planner.specs.Leaves.{Planned, table_of, width_of, is_joined, leaf_len, leaf_join, join_table, widths, reads_of, first_leaf, unless_left, join_leaves, rest_leaves, leaves_from, block_leaves, count_leaves, top_join, top_joins, top_from, top_block}
 use Rattle.span_planner.specs.Results.{as_join, join_tables, leaf_rows}
 use Rattle.span_planner.proofs.Joins.{Joined, run_join, run_joins, run_where, AreGiven, AreTotal, AllGiven, all_map}
 use Rattle.span_planner.proofs.Pushing.{is_kept, AreOfWidth, filter_where-all_true, left_out_below}
@@ -97,32 +97,32 @@ module _ (schema : List Table) (tables : List ℕ) (w : ℕ → List Row) (f0 f 
   abbrev above : Join BoundQuery → Joined
   above j = joined_item f (map_join (meaning_over f) j)
 
-  one_above : (given : IsTableGiven) (es : List Expr) (at before : ℕ) (is_left : Bool) (i : Item Q) (width : ℕ) (on : Expr) → KeepsItem i
-      → AgreesAt w before (join_leaves schema tables at es is_left width (map_item plan_q i)) f
+  one_above : (given : IsTableGiven) (rs : List Bool) (es : List Expr) (at before : ℕ) (is_left : Bool) (i : Item Q) (width : ℕ) (on : Expr) → KeepsItem i
+      → AgreesAt w before (join_leaves schema tables rs at es is_left width (map_item plan_q i)) f
       → above (top_join before (record { is_left = is_left; item = map_item plan_q i; width = width; on = on })) ≡ narrow_item es at (joined_item f0 (record { is_left = is_left; item = map_item mean i; width = width; on = on })) (is_table i)
-  one_above given es at before is_left (item.Table n) width on keeps agrees =
+  one_above given rs es at before is_left (item.Table n) width on keeps agrees =
       ap (λ (o : Rows). record { join = record { is_left = is_left; width = width; on = on }; rows = o })
       (agrees.0 ∙ ap (λ (o : Rows). o >>= filter_where (all_true (narrowing es at (record { is_left = is_left; width = width; on = on })))) (sym (given n)))
-  one_above given es at before is_left (item.Derived q) width on keeps agrees =
+  one_above given rs es at before is_left (item.Derived q) width on keeps agrees =
       ap (λ (o : Rows). record { join = record { is_left = is_left; width = width; on = on }; rows = o }) (keeps before agrees)
 
-  counted : (es : List Expr) (at : ℕ) (is_left : Bool) (width : ℕ) (i : Item Planned) → length (join_leaves schema tables at es is_left width i) ≡ count_leaves i
-  counted es at is_left width (item.Table n) = refl
-  counted es at is_left width (item.Derived p) = refl
+  counted : (rs : List Bool) (es : List Expr) (at : ℕ) (is_left : Bool) (width : ℕ) (i : Item Planned) → length (join_leaves schema tables rs at es is_left width i) ≡ count_leaves i
+  counted rs es at is_left width (item.Table n) = refl
+  counted rs es at is_left width (item.Derived p) = refl
 
   -- the items after the first leaf, above the leaves, are the narrowed ones
-  rest_above : IsTableGiven → (es : List Expr) (at before : ℕ) (joins : List (Join Q)) → AllByRecursion KeepsJoin joins
-      → AgreesAt w before (rest_leaves schema tables es at (map planned_join joins)) f
+  rest_above : IsTableGiven → (rs : List Bool) (es : List Expr) (at before : ℕ) (joins : List (Join Q)) → AllByRecursion KeepsJoin joins
+      → AgreesAt w before (rest_leaves schema tables rs es at (map planned_join joins)) f
       → map above (top_joins before (map planned_join joins)) ≡ narrow es at (map further joins)
-  rest_above given es at before [] keeps agrees = refl
-  rest_above given es at before (j ∷ joins) keeps agrees =
-      let leaves : List Leaf = join_leaves schema tables at es j.is_left j.width (map_item plan_q j.item) in
-      let rest : List Leaf = rest_leaves schema tables es (at + j.width) (map planned_join joins) in
+  rest_above given rs es at before [] keeps agrees = refl
+  rest_above given rs es at before (j ∷ joins) keeps agrees =
+      let leaves : List Leaf = join_leaves schema tables rs at es j.is_left j.width (map_item plan_q j.item) in
+      let rest : List Leaf = rest_leaves schema tables rs es (at + j.width) (map planned_join joins) in
       let after : AgreesAt w (before + count_leaves (map_item plan_q j.item)) rest f =
-      subst (λ (n : ℕ). AgreesAt w (before + n) rest f) (counted es at j.is_left j.width (map_item plan_q j.item)) (agrees_rest w before leaves rest f agrees) in
+      subst (λ (n : ℕ). AgreesAt w (before + n) rest f) (counted rs es at j.is_left j.width (map_item plan_q j.item)) (agrees_rest w before leaves rest f agrees) in
       ap (λ (x : Joined). x ∷ map above (top_joins (before + count_leaves (map_item plan_q j.item)) (map planned_join joins)))
-      (one_above given es at before j.is_left j.item j.width j.on keeps.0 (agrees_front w before leaves rest f agrees))
-      ∙ ap (λ (xs : List Joined). narrow_item es at (further j).0 (further j).1 ∷ xs) (rest_above given es (at + j.width) (before + count_leaves (map_item plan_q j.item)) joins keeps.1 after)
+      (one_above given rs es at before j.is_left j.item j.width j.on keeps.0 (agrees_front w before leaves rest f agrees))
+      ∙ ap (λ (xs : List Joined). narrow_item es at (further j).0 (further j).1 ∷ xs) (rest_above given rs es (at + j.width) (before + count_leaves (map_item plan_q j.item)) joins keeps.1 after)
 
   narrow-none : (at : ℕ) (items : List Further) → narrow [] at items ≡ joined_of items
   narrow-none at [] = refl
@@ -264,12 +264,12 @@ module _ (schema : List Table) (tables : List ℕ) (w : ℕ → List Row) (f0 f 
   pushed filter all = if have_total_ons (map planned_join all) then where_conjuncts filter else []
 
   -- after rows of a width
-  rest_same : IsTableGiven → (filter : Option Expr) (all rest : List (Join Q)) → (have_total_ons (map planned_join all) ≡ true → AreTotal (joined_items rest)) → AllByRecursion KeepsJoin rest → AreWide (map further rest)
-      → (before at : ℕ) → AgreesAt w before (rest_leaves schema tables (pushed filter all) at (map planned_join rest)) f
+  rest_same : IsTableGiven → (rs : List Bool) (filter : Option Expr) (all rest : List (Join Q)) → (have_total_ons (map planned_join all) ≡ true → AreTotal (joined_items rest)) → AllByRecursion KeepsJoin rest → AreWide (map further rest)
+      → (before at : ℕ) → AgreesAt w before (rest_leaves schema tables rs (pushed filter all) at (map planned_join rest)) f
       → (rows : List Row) → (have_total_ons (map planned_join all) ≡ true → AreOfWidth at rows)
       → run_where filter (top_items before rest) rows ≡ run_where filter (joined_items rest) rows
-  rest_same given filter all rest total keeps wide before at agrees rows rows_wide =
-      ap (λ (xs : List Joined). run_where filter xs rows) (rest_above given (pushed filter all) at before rest keeps agrees)
+  rest_same given rs filter all rest total keeps wide before at agrees rows rows_wide =
+      ap (λ (xs : List Joined). run_where filter xs rows) (rest_above given rs (pushed filter all) at before rest keeps agrees)
       ∙ of_cases filter (have_total_ons (map planned_join all)) total rows_wide where
         of_cases : (w' : Option Expr) (b : Bool) → (b ≡ true → AreTotal (joined_items rest)) → (b ≡ true → AreOfWidth at rows) → run_where w' (narrow (if b then where_conjuncts w' else []) at (map further rest)) rows ≡ run_where w' (joined_items rest) rows
         of_cases w' false total is = ap (λ (xs : List Joined). run_where w' xs rows) (narrow-none at (map further rest))
@@ -280,12 +280,12 @@ module _ (schema : List Table) (tables : List ℕ) (w : ℕ → List Row) (f0 f 
   abbrev first_rows : Option Expr → List (Join Q) → ℕ → List Row → Rows
   first_rows filter all n rows = filter_where (all_true (conjuncts_on 0 n (pushed filter all))) rows
 
-  after_first : IsTableGiven → (filter : Option Expr) (all rest : List (Join Q)) → (have_total_ons (map planned_join all) ≡ true → AreTotal (joined_items rest)) → AllByRecursion KeepsJoin rest → AreWide (map further rest)
-      → (before at : ℕ) → AgreesAt w before (rest_leaves schema tables (pushed filter all) at (map planned_join rest)) f
+  after_first : IsTableGiven → (rs : List Bool) (filter : Option Expr) (all rest : List (Join Q)) → (have_total_ons (map planned_join all) ≡ true → AreTotal (joined_items rest)) → AllByRecursion KeepsJoin rest → AreWide (map further rest)
+      → (before at : ℕ) → AgreesAt w before (rest_leaves schema tables rs (pushed filter all) at (map planned_join rest)) f
       → (rows : List Row) → (have_total_ons (map planned_join all) ≡ true → AreOfWidth at rows)
       → (first_rows filter all at rows >>= run_where filter (top_items before rest)) ≡ run_where filter (joined_items rest) rows
-  after_first given filter all rest total keeps wide before at agrees rows rows_wide =
-      of_cases filter (have_total_ons (map planned_join all)) refl total rows_wide (λ next next_wide. rest_same given filter all rest total keeps wide before at agrees next next_wide) where
+  after_first given rs filter all rest total keeps wide before at agrees rows rows_wide =
+      of_cases filter (have_total_ons (map planned_join all)) refl total rows_wide (λ next next_wide. rest_same given rs filter all rest total keeps wide before at agrees next next_wide) where
         IsSame : Option Expr → Type 0
         IsSame w' = (next : List Row) → (have_total_ons (map planned_join all) ≡ true → AreOfWidth at next) → run_where w' (top_items before rest) next ≡ run_where w' (joined_items rest) next
 
@@ -415,16 +415,20 @@ module _ (schema : List Table) (tables : List ℕ) (w : ℕ → List Row) (f0 f 
     abbrev after_leaf : ℕ → List Row → Rows
     after_leaf before rows = first_rows b.filter b.joins leaf_width rows >>= run_where b.filter (top_items before (drop len b.joins))
 
-    part_found : IsTableGiven → KeepsBlock b → IsSized b → AreOfWidth wide_first (w table) → (before : ℕ) → AgreesAt w before (rest_leaves schema tables (pushed b.filter b.joins) leaf_width (drop len planned_joins)) f
+    -- the columns of the FROM that the block reads
+    abbrev first_reads : List Bool
+    first_reads = reads_of wide_first (map_block plan_q b)
+
+    part_found : IsTableGiven → KeepsBlock b → IsSized b → AreOfWidth wide_first (w table) → (before : ℕ) → AgreesAt w before (rest_leaves schema tables first_reads (pushed b.filter b.joins) leaf_width (drop len planned_joins)) f
         → (o : Rows) → leaf_found ≡ o → (o >>= after_leaf before) ≡ (o >>= run_where b.filter (joined_items (drop len b.joins)))
     part_found given keeps sized first_wide before agrees None is = refl
     part_found given keeps sized first_wide before agrees (Some rows) is =
-        after_first given b.filter b.joins (drop len b.joins)
+        after_first given first_reads b.filter b.joins (drop len b.joins)
         (λ total. drop_total len b.joins (all_total_ons b.joins total)) (all_drop KeepsJoin len b.joins keeps.rest) (drop_wide len b.joins sized.rest) before leaf_width
-        (subst (λ (js : List (Join Planned)). AgreesAt w before (rest_leaves schema tables (pushed b.filter b.joins) leaf_width js) f) (map_drop planned_join len b.joins) agrees)
+        (subst (λ (js : List (Join Planned)). AgreesAt w before (rest_leaves schema tables first_reads (pushed b.filter b.joins) leaf_width js) f) (map_drop planned_join len b.joins) agrees)
         rows (λ total. leaf_wide given sized first_wide total rows is)
 
-    part_leaf : IsTableGiven → KeepsBlock b → IsSized b → AreOfWidth wide_first (w table) → (before : ℕ) → AgreesAt w before (rest_leaves schema tables (pushed b.filter b.joins) leaf_width (drop len planned_joins)) f
+    part_leaf : IsTableGiven → KeepsBlock b → IsSized b → AreOfWidth wide_first (w table) → (before : ℕ) → AgreesAt w before (rest_leaves schema tables first_reads (pushed b.filter b.joins) leaf_width (drop len planned_joins)) f
         → ((leaf_found >>= filter_where (all_true (conjuncts_on 0 leaf_width (pushed b.filter b.joins)))) >>= run_where b.filter (map above (top_joins before (drop len planned_joins)))) ≡ (Some (w table) >>= run_where b.filter (joined_items b.joins))
     part_leaf given keeps sized first_wide before agrees =
         bind-assoc leaf_found (first_rows b.filter b.joins leaf_width) (run_where b.filter (map above (top_joins before (drop len planned_joins))))
@@ -433,7 +437,7 @@ module _ (schema : List Table) (tables : List ℕ) (w : ℕ → List Row) (f0 f 
         ∙ sym (ap (λ (o : Rows). o >>= filter_where b.filter) (run-split len b.joins (w table)) ∙ bind-assoc leaf_found (run_joins (joined_items (drop len b.joins))) (filter_where b.filter))
 
     -- by whether the leaf is the whole FROM
-    either_leaf : IsTableGiven → KeepsBlock b → IsSized b → AreOfWidth wide_first (w table) → (before : ℕ) → AgreesAt w before (rest_leaves schema tables (pushed b.filter b.joins) leaf_width (drop len planned_joins)) f
+    either_leaf : IsTableGiven → KeepsBlock b → IsSized b → AreOfWidth wide_first (w table) → (before : ℕ) → AgreesAt w before (rest_leaves schema tables first_reads (pushed b.filter b.joins) leaf_width (drop len planned_joins)) f
         → (whole : Bool) → (len == length planned_joins) ≡ whole
         → ((leaf_found >>= filter_where (leaf_filter whole)) >>= run_where (top_filter whole) (map above (top_joins before (drop len planned_joins)))) ≡ (Some (w table) >>= run_where b.filter (joined_items b.joins))
     either_leaf given keeps sized first_wide before agrees true is = whole_leaf is before
@@ -453,13 +457,13 @@ module _ (schema : List Table) (tables : List ℕ) (w : ℕ → List Row) (f0 f 
       → AgreesAt w before (leaves_from schema tables (map_block plan_q b) (item.Derived (plan_q q))) f
       → (meaning_over f ((plan_q q).top before) >>= run_where b.filter (top_items (before + length (plan_q q).leaves) b.joins)) ≡ (mean q >>= run_where b.filter (joined_items b.joins))
   derived_above given b q keeps_first keeps first_wide wide before agrees =
-      ap (λ (o : Rows). o >>= run_where b.filter (top_items (before + length (plan_q q).leaves) b.joins)) (keeps_first before (agrees_front w before (plan_q q).leaves (rest_leaves schema tables (pushed b.filter b.joins) (plan_q q).width (map planned_join b.joins)) f agrees))
+      ap (λ (o : Rows). o >>= run_where b.filter (top_items (before + length (plan_q q).leaves) b.joins)) (keeps_first before (agrees_front w before (plan_q q).leaves (rest_leaves schema tables (reads_of (plan_q q).width (map_block plan_q b)) (pushed b.filter b.joins) (plan_q q).width (map planned_join b.joins)) f agrees))
       ∙ of_found (mean q) first_wide where
         of_found : (o : Rows) → IsWide (plan_q q).width o → (o >>= run_where b.filter (top_items (before + length (plan_q q).leaves) b.joins)) ≡ (o >>= run_where b.filter (joined_items b.joins))
         of_found None is = refl
         of_found (Some rows) is =
-            rest_same given b.filter b.joins b.joins (all_total_ons b.joins) keeps wide (before + length (plan_q q).leaves) (plan_q q).width
-            (agrees_rest w before (plan_q q).leaves (rest_leaves schema tables (pushed b.filter b.joins) (plan_q q).width (map planned_join b.joins)) f agrees) rows (λ _. is)
+            rest_same given (reads_of (plan_q q).width (map_block plan_q b)) b.filter b.joins b.joins (all_total_ons b.joins) keeps wide (before + length (plan_q q).leaves) (plan_q q).width
+            (agrees_rest w before (plan_q q).leaves (rest_leaves schema tables (reads_of (plan_q q).width (map_block plan_q b)) (pushed b.filter b.joins) (plan_q q).width (map planned_join b.joins)) f agrees) rows (λ _. is)
 
   -- ---- FROM and WHERE of any block
 

@@ -1,11 +1,11 @@
 -- A condition that bounds a column is refused at a row whose column is out of the bound.
-use Rattle.std.proofs.Common.{◌≡◌, ◌≢◌, ◌∙◌, ℕ, ℤ, pos, negsuc, ◌+◌, ◌^◌, ◌==◌, nat_lt, Bool, true, false, not, ◌&&◌, ◌||◌, List, [], ◌∷◌, ◌++◌, map, Option, Some, None, refl, ap, sym, subst, arith, ◌⊎◌, inl, inr}
+use Rattle.std.proofs.Common.{◌≡◌, ◌∙◌, ℕ, ℤ, pos, negsuc, ◌==◌, nat_lt, Bool, true, false, not, ◌&&◌, ◌||◌, List, [], ◌∷◌, ◌++◌, Option, Some, None, refl, ap, sym, subst, arith, ◌⊎◌, inl, inr}
 use Rattle.std.specs.Prelude.{filter, flat_map, if◌then◌else◌, FitsSigned}
 use Rattle.std.specs.Option.{option_map}
-use Rattle.std.specs.List.{AllByRecursion, list_all, list_any}
+use Rattle.std.specs.List.{AllByRecursion, list_all}
 use Rattle.std.specs.Int.{w64}
-use Rattle.std.specs.Str.{is_utf8, IsUtf8}
-use Rattle.std.specs.Ordering.{is_eq, is_lt, is_gt, int_cmp, nat_cmp, bool_cmp, ordering_reverse}
+use Rattle.std.specs.Str.{is_utf8}
+use Rattle.std.specs.Ordering.{bool_cmp, ordering_reverse}
 use Rattle.std.specs.declared.cmp.Ordering.{Ordering}
 use Rattle.std.specs.declared.cmp.Ordering.TheVariants.{Less, Equal, Greater}
 use Rattle.std.proofs.lemmas.Bool.Decides.{nat_tests}
@@ -15,7 +15,7 @@ use Rattle.span_value.specs.declared.value.Kind.TheVariants as kind
 use Rattle.span_value.specs.declared.value.Value.{Value}
 use Rattle.span_value.specs.declared.value.Value.TheVariants as value
 use Rattle.span_value.specs.declared.truth.Outcome.{Outcome}
-use Rattle.span_value.specs.declared.truth.Outcome.TheVariants.{Val, Fault}
+use Rattle.span_value.specs.declared.truth.Outcome.TheVariants.{Val}
 use Rattle.span_value.specs.Orders.{value_order}
 use Rattle.span_value.proofs.Total.{turned_is}
 use Rattle.span_schema.specs.Fitting.{Fits, AreBytes}

@@ -1,6 +1,6 @@
 -- Every leaf of a plan is known, where the sizes in the query are right.
 use Rattle.std.proofs.Common.{◌≡◌, ◌∙◌, ℕ, ◌<◌, Bool, true, false, ◌&&◌, List, [], ◌∷◌, map, length, refl, ap, sym, subst}
-use Rattle.std.specs.Prelude.{flat_map, ◌==◌}
+use Rattle.std.specs.Prelude.{◌==◌}
 use Rattle.std.specs.List.{AllByRecursion, list_all}
 use Rattle.span_schema.specs.declared.table.Table.{Table}
 use Rattle.span_schema.specs.Numbers.{key_places}
@@ -13,7 +13,6 @@ use Rattle.span_query.specs.declared.query.Item.{Item}
 use Rattle.span_query.specs.declared.query.Item.TheVariants as item
 use Rattle.span_query.specs.declared.query.Join.{Join}
 use Rattle.span_query.proofs.Layers.{map_block, map_layer}
-use Rattle.span_planner.specs.declared.leaf.Leaf.{Leaf}
 use Rattle.span_planner.specs.Leaves.{Planned, width_of, planned_query, planned}
 use Rattle.span_planner.specs.Sizes.{Shape, is_sized_block, query_shape, shape, is_sized}
 use Rattle.span_planner.proofs.Queries.{layer_twice}

@@ -17,3 +17,12 @@ pub mod Numbering
 pub mod Ranged
 pub mod SizedNumbers
 pub mod Tabled
+pub mod Masked
+pub mod MaskedGroups
+pub mod MaskedQuery
+pub mod Reading
+pub mod ReadAbove
+pub mod MaskedPlan
+pub mod OwnReads
+pub mod OwnChecks
+pub mod MaskableLeaves

@@ -1,5 +1,5 @@
 -- The tables of a query have numbers of the statement's tables where those of its parts have.
-use Rattle.std.proofs.Common.{◌≡◌, ◌∙◌, ℕ, zero, suc, ◌≤◌, ◌<◌, Bool, true, false, ◌&&◌, List, [], ◌∷◌, map, length, refl, ap, sym, arith}
+use Rattle.std.proofs.Common.{◌≡◌, ◌∙◌, ℕ, zero, suc, ◌<◌, Bool, true, false, ◌&&◌, List, [], ◌∷◌, map, length, refl, ap, sym, arith}
 use Rattle.std.specs.Prelude.{nat_le, slice_get}
 use Rattle.std.specs.Option.{unwrap_or}
 use Rattle.std.specs.List.{list_all, AllByRecursion}
@@ -11,11 +11,9 @@ use Rattle.span_query.specs.declared.query.BoundQuery.TheFolds.{fold_out-BoundQu
 use Rattle.span_query.specs.declared.query.BoundQuery.TheOpen.{BoundQuery-F}
 use Rattle.span_query.specs.declared.query.BoundQuery.TheViews.{out-BoundQuery}
 use Rattle.span_query.specs.declared.query.Block.{Block}
-use Rattle.span_query.specs.declared.query.Item.{Item}
-use Rattle.span_query.specs.declared.query.Join.{Join}
-use Rattle.span_query.specs.Layers.{map_item, map_join, map_block, map_layer}
+use Rattle.span_query.specs.Layers.{map_join, map_block}
 use Rattle.span_query.proofs.Layers.{layer_mapped}
-use Rattle.span_planner.specs.Numbered.{is_number, numbered_item, numbered_join, numbered_block, numbered_query, is_numbered, is_numbered_item, is_numbered_join, are_numbered_joins, is_numbered_block, are_numbered_blocks}
+use Rattle.span_planner.specs.Numbered.{is_number, numbered_join, numbered_block, numbered_query, is_numbered, is_numbered_item, is_numbered_block, are_numbered_blocks}
 use Rattle.span_planner.specs.Leaves.{table_of}
 use Rattle.span_planner.proofs.Loops.{list_all-map}
 

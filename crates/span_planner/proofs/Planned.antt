@@ -1,9 +1,9 @@
 -- What is known of the leaves of a plan: their tables are joined by their root keys, and rows out of a narrowed range are lost.
-use Rattle.std.proofs.Common.{◌≡◌, ◌≢◌, ◌∙◌, ℕ, ◌+◌, ◌-◌, ◌<◌, ◌≤◌, ◌==◌, suc, zero, nat_le, nat_lt, Bool, true, false, cond, not, ◌&&◌, ◌||◌, List, [], ◌∷◌, ◌++◌, map, take, drop, length, Option, Some, None, refl, ap, sym, subst, arith, ◌⊎◌, inl, inr, append_assoc}
+use Rattle.std.proofs.Common.{◌≡◌, ◌∙◌, ℕ, ◌+◌, ◌<◌, ◌≤◌, ◌==◌, suc, zero, Bool, true, false, ◌&&◌, List, [], ◌∷◌, ◌++◌, map, take, drop, length, Option, Some, None, refl, ap, sym, subst, arith, ◌⊎◌, inl, inr}
 use Rattle.std.specs.Prelude.{filter, flat_map, replicate, if◌then◌else◌}
-use Rattle.std.specs.List.{AllByRecursion, list_all, list_any}
+use Rattle.std.specs.List.{AllByRecursion, list_all}
 use Rattle.std.proofs.lemmas.Bool.Decides.{nat_tests}
-use Rattle.span_value.specs.declared.value.Value.{Value}
+use Rattle.std.proofs.lemmas.List.FromFn.{length-map-range_with_len}
 use Rattle.span_value.specs.declared.value.Value.TheVariants.{Null}
 use Rattle.span_schema.specs.declared.table.Table.{Table}
 use Rattle.span_schema.specs.declared.layout.KeyPart.{KeyPart}
@@ -13,26 +13,24 @@ use Rattle.span_keycode.specs.declared.range.KeyRange.{KeyRange}
 use Rattle.span_keycode.specs.Parts.{family}
 use Rattle.span_expr.specs.declared.expr.Expr.{Expr}
 use Rattle.span_expr.specs.Operators.{column_of}
-use Rattle.span_expr.specs.Meaning.{val, is_total}
-use Rattle.span_expr.specs.Conjuncts.{conjuncts, is_refused, all_true}
+use Rattle.span_expr.specs.Meaning.{is_total}
+use Rattle.span_expr.specs.Conjuncts.{conjuncts, all_true}
 use Rattle.span_expr.specs.Places.{is_in}
 use Rattle.span_expr.proofs.Conjuncts.{is_refused-conjuncts, is_refused-all_true}
 use Rattle.span_query.specs.declared.query.BoundQuery.{BoundQuery}
-use Rattle.span_query.specs.declared.query.BoundQuery.TheOpen.{BoundQuery-F}
-use Rattle.span_query.specs.declared.query.BoundQuery.TheViews.{roll-BoundQuery}
-use Rattle.span_query.specs.declared.query.BoundQuery.TheFolds.{ind-BoundQuery}
 use Rattle.span_query.specs.declared.query.Block.{Block}
 use Rattle.span_query.specs.declared.query.Item.{Item}
 use Rattle.span_query.specs.declared.query.Item.TheVariants as item
 use Rattle.span_query.specs.declared.query.Join.{Join}
 use Rattle.span_query.specs.Rows.{Row}
-use Rattle.span_query.proofs.Layers.{map_item, map_join, map_block, map_layer}
+use Rattle.span_query.proofs.Layers.{map_item, map_join, map_block}
 use Rattle.span_planner.specs.declared.leaf.LeafJoin.{LeafJoin}
 use Rattle.span_planner.specs.declared.leaf.Leaf.{Leaf}
 use Rattle.span_planner.specs.Conditions.{equates_all, have_total_ons, where_conjuncts, pushable, conjuncts_on}
 use Rattle.span_planner.specs.Ranges.{Bound, is_of_type, bounds, bounds_by, range_by, narrowed, leaf_range}
-use Rattle.span_planner.specs.Leaves.{Planned, table_of, width_of, root_places, is_joined_table, is_joined, leaf_len, leaf_join, item_table, join_table, widths, first_leaf, table_leaf, unless_left, join_leaves, rest_leaves, leaves_from, block_leaves, planned_query, planned}
-use Rattle.span_planner.specs.Sizes.{Shape, item_shape, is_sized_join, is_sized_block, query_shape, shape, is_sized}
+use Rattle.span_planner.specs.Leaves.{Planned, table_of, width_of, root_places, is_joined_table, leaf_len, leaf_join, join_table, widths, reads_of, first_leaf, table_leaf, unless_left, join_leaves, rest_leaves, leaves_from, block_leaves, planned}
+use Rattle.span_planner.specs.Reads.{is_read, leaf_widths}
+use Rattle.span_planner.specs.Sizes.{Shape, item_shape, is_sized_join, is_sized_block, shape, is_sized}
 use Rattle.span_planner.proofs.Pushing.{is_left_out, column_of-append, column_of-after}
 use Rattle.span_planner.proofs.Narrowing.{are_on, own, left_out_among, left_out-own}
 use Rattle.span_planner.proofs.Bounding.{is_in_bounds, left_out_of_bounds}
@@ -69,6 +67,38 @@ pub record IsPlanned (schema : List Table) (leaf : Leaf) : Type 0 where
   pub tables : leaf.tables ≡ first ∷ rest
   pub rooted : AreRooted schema first (width_of schema first) leaf.joins rest
   pub narrowed : (leaf.range ≡ family (root_of schema first)) ⊎ IsNarrowed schema first leaf
+  pub reads_len : length leaf.reads ≡ width_of schema first + leaf_widths leaf.joins
+
+-- ---- which columns are read
+
+taken_len : {A : Type 0} (n : ℕ) (xs : List A) → n ≤ length xs → length (take n xs) ≡ n
+taken_len zero xs fits = refl
+taken_len (suc n) [] fits = absurd (omega arith)
+taken_len (suc n) (x ∷ xs) fits = ap suc (taken_len n xs (omega arith))
+
+pub part_len : {A : Type 0} (xs : List A) (at width : ℕ) → at + width ≤ length xs → length (take width (drop at xs)) ≡ width
+part_len xs zero width fits = taken_len width xs (omega arith)
+part_len [] (suc at) width fits = absurd (omega arith)
+part_len (x ∷ xs) (suc at) width fits = part_len xs at width (omega arith)
+
+pub leaf_widths_of : {Q : Type 0} (js : List (Join Q)) → leaf_widths (map leaf_join js) ≡ widths js
+leaf_widths_of [] = refl
+leaf_widths_of (j ∷ js) = ap (λ (n : ℕ). j.width + n) (leaf_widths_of js)
+
+-- the columns of the first items, and those of the others
+pub widths_split : {Q : Type 0} (n : ℕ) (js : List (Join Q)) → widths (take n js) + widths (drop n js) ≡ widths js
+widths_split zero js = omega arith
+widths_split (suc n) [] = refl
+widths_split (suc n) (j ∷ js) = let rest : widths (take n js) + widths (drop n js) ≡ widths js = widths_split n js in omega arith
+
+pub reads_of_len : {Q : Type 0} (width : ℕ) (b : Block Q) → length (reads_of width b) ≡ width + widths b.joins
+reads_of_len width b = length-map-range_with_len (is_read b) 0 (width + widths b.joins)
+
+pub first_reads_len : {Q : Type 0} (width n : ℕ) (b : Block Q) → length (take (width + widths (take n b.joins)) (reads_of width b)) ≡ width + leaf_widths (map leaf_join (take n b.joins))
+first_reads_len width n b =
+    let split : widths (take n b.joins) + widths (drop n b.joins) ≡ widths b.joins = widths_split n b.joins in
+    let all : length (reads_of width b) ≡ width + widths b.joins = reads_of_len width b in
+    taken_len (width + widths (take n b.joins)) (reads_of width b) (omega arith) ∙ ap (λ (m : ℕ). width + m) (sym (leaf_widths_of (take n b.joins)))
 
 -- ---- ranges
 
@@ -123,11 +153,11 @@ module _ (schema : List Table) (tables : List ℕ) where
     first_place : (t place : ℕ) (places : List ℕ) → key_places schema t ≡ place ∷ places → place < width_of schema t
     first_place t place places is = (subst (AllByRecursion (λ (p : ℕ). p < width_of schema t)) is (keyed t)).0
 
-    table_narrowed : (t at width : ℕ) (es : List Expr) → width ≡ width_of schema t → (parts : List KeyPart) (places : List ℕ) → key_columns schema t ≡ parts → key_places schema t ≡ places
-        → ((table_leaf schema t at width es).range ≡ family (root_of schema t)) ⊎ IsNarrowed schema t (table_leaf schema t at width es)
-    table_narrowed t at width es same [] places cs ps = inl (ap (λ (parts : List KeyPart). narrowed (root_of schema t) parts (key_places schema t) at es) cs)
-    table_narrowed t at width es same (part ∷ parts) [] cs ps = inl (ap (λ (parts : List KeyPart). narrowed (root_of schema t) parts (key_places schema t) at es) cs ∙ ap (λ (places : List ℕ). narrowed (root_of schema t) (part ∷ parts) places at es) ps)
-    table_narrowed t at width es same (part ∷ parts) (place ∷ places) cs ps =
+    table_narrowed : (t : ℕ) (rs : List Bool) (at width : ℕ) (es : List Expr) → width ≡ width_of schema t → (parts : List KeyPart) (places : List ℕ) → key_columns schema t ≡ parts → key_places schema t ≡ places
+        → ((table_leaf schema t rs at width es).range ≡ family (root_of schema t)) ⊎ IsNarrowed schema t (table_leaf schema t rs at width es)
+    table_narrowed t rs at width es same [] places cs ps = inl (ap (λ (parts : List KeyPart). narrowed (root_of schema t) parts (key_places schema t) at es) cs)
+    table_narrowed t rs at width es same (part ∷ parts) [] cs ps = inl (ap (λ (parts : List KeyPart). narrowed (root_of schema t) parts (key_places schema t) at es) cs ∙ ap (λ (places : List ℕ). narrowed (root_of schema t) (part ∷ parts) places at es) ps)
+    table_narrowed t rs at width es same (part ∷ parts) (place ∷ places) cs ps =
         let below : place < width_of schema t = first_place t place places ps in
         let short : place < width = omega arith in
         inr (record {
@@ -144,13 +174,14 @@ module _ (schema : List Table) (tables : List ℕ) where
           lost = λ x within fits out. table_lost part at width place es short x within fits out;
         })
 
-    table_planned : (t at width : ℕ) (es : List Expr) → width ≡ width_of schema t → IsPlanned schema (table_leaf schema t at width es)
-    table_planned t at width es same = record {
+    table_planned : (t : ℕ) (rs : List Bool) (at width : ℕ) (es : List Expr) → at + width ≤ length rs → width ≡ width_of schema t → IsPlanned schema (table_leaf schema t rs at width es)
+    table_planned t rs at width es fits same = record {
       first = t;
       rest = [];
       tables = refl;
       rooted = tt {0};
-      narrowed = table_narrowed t at width es same (key_columns schema t) (key_places schema t) refl refl;
+      narrowed = table_narrowed t rs at width es same (key_columns schema t) (key_places schema t) refl refl;
+      reads_len = (let len : length (take width (drop at rs)) ≡ width = part_len rs at width fits in omega arith);
     }
 
     -- ---- the first leaf
@@ -302,18 +333,18 @@ module _ (schema : List Table) (tables : List ℕ) where
       sized_drop (suc n) [] sized = sized
       sized_drop (suc n) (j ∷ js) sized = sized_drop n js (both_true (is_sized_join schema tables (map_join shape_t j)) (are_sized js) sized).1
 
-      item_leaves : (at : ℕ) (es : List Expr) (is_left : Bool) (width : ℕ) (i : Item T) → KnowsItem i → (width == (item_shape schema tables (map_item shape_t i)).width) ≡ true → (item_shape schema tables (map_item shape_t i)).is_sized ≡ true
-          → AllByRecursion (IsPlanned schema) (join_leaves schema tables at es is_left width (map_item plan_t i))
-      item_leaves at es is_left width (item.Table n) knows same sized = (table_planned (table_of tables n) at width (unless_left is_left es) (grind (arith, nat_tests)), tt {0})
-      item_leaves at es is_left width (item.Derived t) knows same sized = knows sized
+      item_leaves : (rs : List Bool) (at : ℕ) (es : List Expr) (is_left : Bool) (width : ℕ) (i : Item T) → at + width ≤ length rs → KnowsItem i → (width == (item_shape schema tables (map_item shape_t i)).width) ≡ true → (item_shape schema tables (map_item shape_t i)).is_sized ≡ true
+          → AllByRecursion (IsPlanned schema) (join_leaves schema tables rs at es is_left width (map_item plan_t i))
+      item_leaves rs at es is_left width (item.Table n) fits knows same sized = (table_planned (table_of tables n) rs at width (unless_left is_left es) fits (grind (arith, nat_tests)), tt {0})
+      item_leaves rs at es is_left width (item.Derived t) fits knows same sized = knows sized
 
-      rest_planned : (es : List Expr) (at : ℕ) (js : List (Join T)) → AllByRecursion KnowsJoin js → are_sized js ≡ true → AllByRecursion (IsPlanned schema) (rest_leaves schema tables es at (planned_joins js))
-      rest_planned es at [] knows sized = tt {0}
-      rest_planned es at (j ∷ js) knows sized =
+      rest_planned : (rs : List Bool) (es : List Expr) (at : ℕ) (js : List (Join T)) → at + widths (planned_joins js) ≤ length rs → AllByRecursion KnowsJoin js → are_sized js ≡ true → AllByRecursion (IsPlanned schema) (rest_leaves schema tables rs es at (planned_joins js))
+      rest_planned rs es at [] fits knows sized = tt {0}
+      rest_planned rs es at (j ∷ js) fits knows sized =
           let parts = both_true (is_sized_join schema tables (map_join shape_t j)) (are_sized js) sized in
           let here = both_true (j.width == (item_shape schema tables (map_item shape_t j.item)).width) ((item_shape schema tables (map_item shape_t j.item)).is_sized) parts.0 in
-          all_append (IsPlanned schema) (join_leaves schema tables at es j.is_left j.width (map_item plan_t j.item)) (rest_leaves schema tables es (at + j.width) (planned_joins js))
-          (item_leaves at es j.is_left j.width j.item knows.0 here.0 here.1) (rest_planned es (at + j.width) js knows.1 parts.1)
+          all_append (IsPlanned schema) (join_leaves schema tables rs at es j.is_left j.width (map_item plan_t j.item)) (rest_leaves schema tables rs es (at + j.width) (planned_joins js))
+          (item_leaves rs at es j.is_left j.width j.item (omega arith) knows.0 here.0 here.1) (rest_planned rs es (at + j.width) js (omega arith) knows.1 parts.1)
 
       first_planned : (b : Block T) (n : ℕ) → are_sized b.joins ≡ true → let t : ℕ = table_of tables n in let len : ℕ = leaf_len schema tables t (width_of schema t) (planned_joins b.joins) in IsPlanned schema (first_leaf schema tables (map_block plan_t b) t len)
       first_planned b n sized =
@@ -325,18 +356,24 @@ module _ (schema : List Table) (tables : List ℕ) where
             tables = refl;
             rooted = leaf_rooted t (width_of schema t) b.joins sized;
             narrowed = first_leaf_narrowed (map_block plan_t b) t len b.filter refl (have_total_ons (planned_joins b.joins)) refl;
+            reads_len = first_reads_len (width_of schema t) len (map_block plan_t b);
           }
 
       from_planned : (b : Block T) (i : Item T) → KnowsItem i → (item_shape schema tables (map_item shape_t i)).is_sized ≡ true → AllByRecursion KnowsJoin b.joins → are_sized b.joins ≡ true → AllByRecursion (IsPlanned schema) (leaves_from schema tables (map_block plan_t b) (map_item plan_t i))
       from_planned b (item.Table n) knows first_sized knows_rest sized =
           let t : ℕ = table_of tables n in
-          let len : ℕ = leaf_len schema tables t (width_of schema t) (planned_joins b.joins) in (
+          let len : ℕ = leaf_len schema tables t (width_of schema t) (planned_joins b.joins) in
+          let rs : List Bool = reads_of (width_of schema t) (map_block plan_t b) in
+          let all : length rs ≡ width_of schema t + widths (planned_joins b.joins) = reads_of_len (width_of schema t) (map_block plan_t b) in
+          let split : widths (take len (planned_joins b.joins)) + widths (planned_joins (drop len b.joins)) ≡ widths (planned_joins b.joins) =
+          ap (λ (js : List (Join Planned)). widths (take len (planned_joins b.joins)) + widths js) (sym (drop_map (map_join plan_t) len b.joins)) ∙ widths_split len (planned_joins b.joins) in (
             first_planned b n sized,
-            subst (λ (js : List (Join Planned)). AllByRecursion (IsPlanned schema) (rest_leaves schema tables (pushable (map_block plan_t b)) (width_of schema t + widths (take len (planned_joins b.joins))) js)) (sym (drop_map (map_join plan_t) len b.joins))
-                (rest_planned (pushable (map_block plan_t b)) (width_of schema t + widths (take len (planned_joins b.joins))) (drop len b.joins) (all_drop KnowsJoin len b.joins knows_rest) (sized_drop len b.joins sized)),
+            subst (λ (js : List (Join Planned)). AllByRecursion (IsPlanned schema) (rest_leaves schema tables rs (pushable (map_block plan_t b)) (width_of schema t + widths (take len (planned_joins b.joins))) js)) (sym (drop_map (map_join plan_t) len b.joins))
+                (rest_planned rs (pushable (map_block plan_t b)) (width_of schema t + widths (take len (planned_joins b.joins))) (drop len b.joins) (omega arith) (all_drop KnowsJoin len b.joins knows_rest) (sized_drop len b.joins sized)),
           )
       from_planned b (item.Derived t) knows first_sized knows_rest sized =
-          all_append (IsPlanned schema) (plan_t t).leaves (rest_leaves schema tables (pushable (map_block plan_t b)) (plan_t t).width (planned_joins b.joins)) (knows first_sized) (rest_planned (pushable (map_block plan_t b)) (plan_t t).width b.joins knows_rest sized)
+          all_append (IsPlanned schema) (plan_t t).leaves (rest_leaves schema tables (reads_of (plan_t t).width (map_block plan_t b)) (pushable (map_block plan_t b)) (plan_t t).width (planned_joins b.joins)) (knows first_sized)
+          (rest_planned (reads_of (plan_t t).width (map_block plan_t b)) (pushable (map_block plan_t b)) (plan_t t).width b.joins (let all : length (reads_of (plan_t t).width (map_block plan_t b)) ≡ (plan_t t).width + widths (planned_joins b.joins) = reads_of_len (plan_t t).width (map_block plan_t b) in omega arith) knows_rest sized)
 
       pub record KnowsBlock (b : Block T) : Type 0 where
         pub first : KnowsItem b.from

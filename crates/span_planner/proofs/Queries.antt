@@ -1,9 +1,7 @@
 -- A query above its leaves means what it means on whole tables.
-use Rattle.std.proofs.Common.{◌≡◌, ◌∙◌, ℕ, ◌+◌, ◌==◌, suc, zero, Bool, true, false, ◌&&◌, List, [], ◌∷◌, ◌++◌, map, length, Option, Some, None, refl, ap, sym, subst, arith}
-use Rattle.std.specs.Prelude.{flat_map, slice_get}
+use Rattle.std.proofs.Common.{◌≡◌, ◌∙◌, ℕ, ◌+◌, ◌==◌, Bool, true, false, ◌&&◌, List, [], ◌∷◌, map, length, Some, refl, ap, sym, subst, arith}
+use Rattle.std.specs.Prelude.{flat_map}
 use Rattle.std.specs.List.{AllByRecursion, list_all}
-use Rattle.std.specs.Option.{unwrap_or, option_map}
-use Rattle.std.proofs.lemmas.Option.{slice_get-map}
 use Rattle.std.proofs.lemmas.Bool.Decides.{nat_tests}
 use Rattle.span_schema.specs.declared.table.Table.{Table}
 use Rattle.span_query.specs.declared.query.BoundQuery.{BoundQuery}
@@ -14,18 +12,16 @@ use Rattle.span_query.specs.declared.query.Block.{Block}
 use Rattle.span_query.specs.declared.query.Item.{Item}
 use Rattle.span_query.specs.declared.query.Item.TheVariants as item
 use Rattle.span_query.specs.declared.query.Join.{Join}
-use Rattle.span_query.specs.Rows.{Row, OrFault, Rows, ◌>>=◌, append_results, concat_map}
-use Rattle.span_query.specs.Meaning.{table_rows, item_rows, block_rows, limit_rows, query_rows, meaning_over, meaning, given}
+use Rattle.span_query.specs.Rows.{Row, Rows, ◌>>=◌, append_results, concat_map}
+use Rattle.span_query.specs.Meaning.{item_rows, block_rows, limit_rows, query_rows, meaning_over}
 use Rattle.span_query.specs.Sorting.{sorted}
 use Rattle.span_query.proofs.Layers.{map_item, map_join, map_block, map_layer, layer_mapped}
 use Rattle.span_planner.specs.declared.leaf.Leaf.{Leaf}
-use Rattle.span_planner.specs.Leaves.{Planned, table_of, width_of, block_leaves, top_block, top_blocks, top_query, planned_query, planned, leaves_of, plan_of}
+use Rattle.span_planner.specs.Leaves.{Planned, table_of, width_of, block_leaves, top_block, top_blocks, planned_query, planned}
 use Rattle.span_planner.specs.Sizes.{Shape, item_shape, is_sized_join, is_sized_block, query_shape, shape, is_sized}
-use Rattle.span_planner.specs.Results.{leaf_rows}
-use Rattle.span_planner.proofs.Joins.{all_map}
 use Rattle.span_planner.proofs.Pushing.{AreOfWidth}
 use Rattle.span_planner.proofs.Narrowing.{IsWide, AreWide}
-use Rattle.span_planner.proofs.Blocks.{AgreesAt, agrees_front, agrees_rest, IsTableGiven, Keeps, KeepsItem, KeepsJoin, KeepsBlock, further, IsSizedFirst, IsSized, block_above}
+use Rattle.span_planner.proofs.Blocks.{AgreesAt, agrees_front, agrees_rest, KeepsItem, KeepsJoin, further, IsSizedFirst, block_above}
 use Rattle.span_planner.proofs.Widths.{wide_query}
 
 both : (a b : Bool) → (a && b) ≡ true → (a ≡ true) × (b ≡ true)

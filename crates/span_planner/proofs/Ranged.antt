@@ -16,7 +16,7 @@ use Rattle.span_query.proofs.Layers.{map_item, map_join, map_block, map_layer}
 use Rattle.span_planner.specs.declared.leaf.Leaf.{Leaf}
 use Rattle.span_planner.specs.Conditions.{pushable}
 use Rattle.span_planner.specs.Ranges.{leaf_range}
-use Rattle.span_planner.specs.Leaves.{Planned, table_of, width_of, widths, leaf_len, unless_left, join_leaves, rest_leaves, leaves_from, block_leaves, planned_query, planned}
+use Rattle.span_planner.specs.Leaves.{Planned, table_of, width_of, widths, reads_of, leaf_len, unless_left, join_leaves, rest_leaves, leaves_from, block_leaves, planned_query, planned}
 use Rattle.span_planner.proofs.Queries.{layer_twice}
 
 -- the range is that of a table, whose columns begin at a place, by conditions
@@ -47,25 +47,25 @@ module _ (schema : List Table) (tables : List ℕ) where
   abbrev IsRangedJoin : Join Planned → Type 0
   IsRangedJoin j = IsRangedItem j.item
 
-  join_ranged : (at : ℕ) (es : List Expr) (is_left : Bool) (width : ℕ) (i : Item Planned) → IsRangedItem i → AllByRecursion (IsRanged schema) (join_leaves schema tables at es is_left width i)
-  join_ranged at es is_left width (item.Table n) is = (record { table = table_of tables n; at = at; conditions = unless_left is_left es; is = refl }, tt {0})
-  join_ranged at es is_left width (item.Derived p) is = is
+  join_ranged : (rs : List Bool) (at : ℕ) (es : List Expr) (is_left : Bool) (width : ℕ) (i : Item Planned) → IsRangedItem i → AllByRecursion (IsRanged schema) (join_leaves schema tables rs at es is_left width i)
+  join_ranged rs at es is_left width (item.Table n) is = (record { table = table_of tables n; at = at; conditions = unless_left is_left es; is = refl }, tt {0})
+  join_ranged rs at es is_left width (item.Derived p) is = is
 
-  rest_ranged : (es : List Expr) (at : ℕ) (js : List (Join Planned)) → AllByRecursion IsRangedJoin js → AllByRecursion (IsRanged schema) (rest_leaves schema tables es at js)
-  rest_ranged es at [] are = tt {0}
-  rest_ranged es at (j ∷ js) are =
-      all_append (IsRanged schema) (join_leaves schema tables at es j.is_left j.width j.item) (rest_leaves schema tables es (at + j.width) js)
-      (join_ranged at es j.is_left j.width j.item are.0) (rest_ranged es (at + j.width) js are.1)
+  rest_ranged : (rs : List Bool) (es : List Expr) (at : ℕ) (js : List (Join Planned)) → AllByRecursion IsRangedJoin js → AllByRecursion (IsRanged schema) (rest_leaves schema tables rs es at js)
+  rest_ranged rs es at [] are = tt {0}
+  rest_ranged rs es at (j ∷ js) are =
+      all_append (IsRanged schema) (join_leaves schema tables rs at es j.is_left j.width j.item) (rest_leaves schema tables rs es (at + j.width) js)
+      (join_ranged rs at es j.is_left j.width j.item are.0) (rest_ranged rs es (at + j.width) js are.1)
 
   from_ranged : (b : Block Planned) (i : Item Planned) → IsRangedItem i → AllByRecursion IsRangedJoin b.joins → AllByRecursion (IsRanged schema) (leaves_from schema tables b i)
   from_ranged b (item.Table n) is are =
       let table : ℕ = table_of tables n in
       let len : ℕ = leaf_len schema tables table (width_of schema table) b.joins in (
         record { table = table; at = 0; conditions = pushable b; is = refl },
-        rest_ranged (pushable b) (width_of schema table + widths (take len b.joins)) (drop len b.joins) (all_drop IsRangedJoin len b.joins are),
+        rest_ranged (reads_of (width_of schema table) b) (pushable b) (width_of schema table + widths (take len b.joins)) (drop len b.joins) (all_drop IsRangedJoin len b.joins are),
       )
   from_ranged b (item.Derived p) is are =
-      all_append (IsRanged schema) p.leaves (rest_leaves schema tables (pushable b) p.width b.joins) is (rest_ranged (pushable b) p.width b.joins are)
+      all_append (IsRanged schema) p.leaves (rest_leaves schema tables (reads_of p.width b) (pushable b) p.width b.joins) is (rest_ranged (reads_of p.width b) (pushable b) p.width b.joins are)
 
   pub record IsRangedBlock (b : Block Planned) : Type 0 where
     pub first : IsRangedItem b.from

@@ -16,7 +16,7 @@ use Rattle.span_query.specs.declared.query.Join.{Join}
 use Rattle.span_query.proofs.Layers.{map_item, map_join, map_block, map_layer}
 use Rattle.span_planner.specs.declared.leaf.Leaf.{Leaf}
 use Rattle.span_planner.specs.Conditions.{pushable}
-use Rattle.span_planner.specs.Leaves.{Planned, table_of, width_of, widths, is_joined_table, is_joined, leaf_len, join_table, join_leaves, rest_leaves, leaves_from, block_leaves, planned_query, planned}
+use Rattle.span_planner.specs.Leaves.{Planned, table_of, width_of, widths, reads_of, is_joined_table, leaf_len, join_table, join_leaves, rest_leaves, leaves_from, block_leaves, planned_query, planned}
 use Rattle.span_planner.specs.Sizes.{Shape, item_shape, is_sized_join, is_sized_block, query_shape, shape, is_sized}
 use Rattle.span_planner.proofs.Numbering.{table_is}
 use Rattle.span_planner.proofs.Queries.{layer_twice}
@@ -64,16 +64,16 @@ module _ (schema : List Table) (tables : List ℕ) (are : AllByRecursion (IsTabl
       let parts = both (is_sized_join schema tables (map_join told_shape j)) (are_sized js) is in
       ((both (j.width == (item_shape schema tables (map_item told_shape j.item)).width) ((item_shape schema tables (map_item told_shape j.item)).is_sized) parts.0).1, parts.1)
 
-  item_tabled : (at : ℕ) (es : List Expr) (is_left : Bool) (width : ℕ) (i : Item Told) → (item_shape schema tables (map_item told_shape i)).is_sized ≡ true → AllByRecursion HasTables (join_leaves schema tables at es is_left width (map_item told_plan i))
-  item_tabled at es is_left width (item.Table n) is = ((table_is schema tables n are is, tt {0}), tt {0})
-  item_tabled at es is_left width (item.Derived t) is = t.1 is
+  item_tabled : (rs : List Bool) (at : ℕ) (es : List Expr) (is_left : Bool) (width : ℕ) (i : Item Told) → (item_shape schema tables (map_item told_shape i)).is_sized ≡ true → AllByRecursion HasTables (join_leaves schema tables rs at es is_left width (map_item told_plan i))
+  item_tabled rs at es is_left width (item.Table n) is = ((table_is schema tables n are is, tt {0}), tt {0})
+  item_tabled rs at es is_left width (item.Derived t) is = t.1 is
 
-  rest_tabled : (es : List Expr) (at : ℕ) (js : List (Join Told)) → are_sized js ≡ true → AllByRecursion HasTables (rest_leaves schema tables es at (planned_joins js))
-  rest_tabled es at [] is = tt {0}
-  rest_tabled es at (j ∷ js) is =
+  rest_tabled : (rs : List Bool) (es : List Expr) (at : ℕ) (js : List (Join Told)) → are_sized js ≡ true → AllByRecursion HasTables (rest_leaves schema tables rs es at (planned_joins js))
+  rest_tabled rs es at [] is = tt {0}
+  rest_tabled rs es at (j ∷ js) is =
       let parts = join_sized j js is in
-      all_append HasTables (join_leaves schema tables at es j.is_left j.width (map_item told_plan j.item)) (rest_leaves schema tables es (at + j.width) (planned_joins js))
-      (item_tabled at es j.is_left j.width j.item parts.0) (rest_tabled es (at + j.width) js parts.1)
+      all_append HasTables (join_leaves schema tables rs at es j.is_left j.width (map_item told_plan j.item)) (rest_leaves schema tables rs es (at + j.width) (planned_joins js))
+      (item_tabled rs at es j.is_left j.width j.item parts.0) (rest_tabled rs es (at + j.width) js parts.1)
 
   sized_drop : (n : ℕ) (js : List (Join Told)) → are_sized js ≡ true → are_sized (drop n js) ≡ true
   sized_drop zero js is = is
@@ -107,11 +107,11 @@ module _ (schema : List Table) (tables : List ℕ) (are : AllByRecursion (IsTabl
       let t : ℕ = table_of tables n in
       let len : ℕ = leaf_len schema tables t (width_of schema t) (planned_joins b.joins) in (
         (table_is schema tables n are first_sized, joined_tabled t (width_of schema t) b.joins sized),
-        subst (λ (js : List (Join Planned)). AllByRecursion HasTables (rest_leaves schema tables (pushable (map_block told_plan b)) (width_of schema t + widths (take len (planned_joins b.joins))) js)) (sym (drop_map (map_join told_plan) len b.joins))
-            (rest_tabled (pushable (map_block told_plan b)) (width_of schema t + widths (take len (planned_joins b.joins))) (drop len b.joins) (sized_drop len b.joins sized)),
+        subst (λ (js : List (Join Planned)). AllByRecursion HasTables (rest_leaves schema tables (reads_of (width_of schema t) (map_block told_plan b)) (pushable (map_block told_plan b)) (width_of schema t + widths (take len (planned_joins b.joins))) js)) (sym (drop_map (map_join told_plan) len b.joins))
+            (rest_tabled (reads_of (width_of schema t) (map_block told_plan b)) (pushable (map_block told_plan b)) (width_of schema t + widths (take len (planned_joins b.joins))) (drop len b.joins) (sized_drop len b.joins sized)),
       )
   from_tabled b (item.Derived t) first_sized sized =
-      all_append HasTables (told_plan t).leaves (rest_leaves schema tables (pushable (map_block told_plan b)) (told_plan t).width (planned_joins b.joins)) (t.1 first_sized) (rest_tabled (pushable (map_block told_plan b)) (told_plan t).width b.joins sized)
+      all_append HasTables (told_plan t).leaves (rest_leaves schema tables (reads_of (told_plan t).width (map_block told_plan b)) (pushable (map_block told_plan b)) (told_plan t).width (planned_joins b.joins)) (t.1 first_sized) (rest_tabled (reads_of (told_plan t).width (map_block told_plan b)) (pushable (map_block told_plan b)) (told_plan t).width b.joins sized)
 
   blocks_tabled : (bs : List (Block Told)) → list_all (is_sized_block schema tables) (map (map_block told_shape) bs) ≡ true → AllByRecursion HasTables (flat_map (block_leaves schema tables) (map (map_block told_plan) bs))
   blocks_tabled [] is = tt {0}

@@ -1,6 +1,6 @@
 -- The rows that a query means have the columns of its select list.
-use Rattle.std.proofs.Common.{◌≡◌, ℕ, ◌+◌, suc, zero, Bool, true, false, cond, List, [], ◌∷◌, ◌++◌, map, take, drop, length, Option, Some, None, refl, ap, sym, ◌∙◌, subst, arith}
-use Rattle.std.specs.Prelude.{filter, not, if◌then◌else◌}
+use Rattle.std.proofs.Common.{◌≡◌, ℕ, suc, zero, Bool, true, false, List, [], ◌∷◌, take, drop, length, Option, Some, None, refl, ap, subst}
+use Rattle.std.specs.Prelude.{not, if◌then◌else◌}
 use Rattle.std.specs.List.{AllByRecursion}
 use Rattle.std.specs.Option.{option_map}
 use Rattle.span_expr.specs.declared.expr.Expr.{Expr}
@@ -8,8 +8,7 @@ use Rattle.span_expr.specs.Meaning.{val}
 use Rattle.span_query.specs.declared.query.BoundQuery.TheOpen.{BoundQuery-F}
 use Rattle.span_query.specs.declared.query.Block.{Block}
 use Rattle.span_query.specs.declared.query.Limit.{Limit}
-use Rattle.span_query.specs.declared.query.SortKey.{SortKey}
-use Rattle.span_query.specs.Rows.{Row, OrFault, Rows, ◌>>=◌, value_of, singleton, append_results, concat_map, each, values, project_rows, filter_where}
+use Rattle.span_query.specs.Rows.{Row, OrFault, Rows, ◌>>=◌, value_of, singleton, append_results, concat_map, values, project_rows, filter_where}
 use Rattle.span_query.specs.Groups.{are_equal, distinct, group_rows}
 use Rattle.span_query.specs.Sorting.{comes_before, insert_sorted, insertion_sort, sorted}
 use Rattle.span_query.specs.Meaning.{from, distinct_if, block_rows, limit_rows, query_rows}

@@ -1,5 +1,6 @@
 -- The leaves of a query, and the query above them.
-use Rattle.std.specs.Prelude.{ℕ, zero, suc, ◌+◌, ◌-◌, ◌==◌, Bool, true, false, ◌&&◌, List, [], ◌∷◌, ◌++◌, length, take, drop, map, Option, Some, None, flat_map, slice_get, if◌then◌else◌}
+use Rattle.std.specs.Prelude.{ℕ, zero, suc, ◌+◌, ◌-◌, ◌==◌, Bool, true, false, ◌&&◌, List, [], ◌∷◌, ◌++◌, length, take, drop, map, Option, None, flat_map, slice_get, if◌then◌else◌}
+use Rattle.std.specs.List.{range_with_len}
 use Rattle.std.specs.Option.{unwrap_or}
 use Rattle.span_schema.specs.declared.table.Table.{Table}
 use Rattle.span_schema.specs.Numbers.{root_of, columns_of, key_columns, key_places}
@@ -19,6 +20,7 @@ use Rattle.span_planner.specs.declared.leaf.Leaf.{Leaf}
 use Rattle.span_planner.specs.declared.leaf.Plan.{Plan}
 use Rattle.span_planner.specs.Conditions.{equates_all, pushable, conjuncts_on}
 use Rattle.span_planner.specs.Ranges.{leaf_range}
+use Rattle.span_planner.specs.Reads.{is_read}
 
 -- ---- tables
 
@@ -66,6 +68,10 @@ abbrev pub widths : {Q : Type 0} → List (Join Q) → ℕ
 widths [] = 0
 widths (j ∷ joins) = j.width + widths joins
 
+-- the columns of the rows of a FROM, whose first item has the given number of columns: TRUE at those that the block reads
+abbrev pub reads_of : {Q : Type 0} → ℕ → Block Q → List Bool
+reads_of width b = map (is_read b) (range_with_len 0 (width + widths b.joins))
+
 -- Where these items are the whole FROM, the leaf evaluates the whole WHERE.
 abbrev pub first_filter : {Q : Type 0} → Block Q → ℕ → ℕ → List Expr → Option Expr
 first_filter b len width es = if len == length b.joins then b.filter else all_true (conjuncts_on 0 width es)
@@ -77,17 +83,20 @@ first_leaf schema tables b table len = record {
   joins = map leaf_join (take len b.joins);
   filter = first_filter b len (width_of schema table + widths (take len b.joins)) (pushable b);
   range = leaf_range schema table 0 (pushable b);
+  reads = take (width_of schema table + widths (take len b.joins)) (reads_of (width_of schema table) b);
 }
 
 -- ---- the other leaves
 
--- A table alone, whose columns begin at a place: its rows are left out by the conjuncts on its columns, which are evaluated at its own row.
-abbrev pub table_leaf : List Table → ℕ → ℕ → ℕ → List Expr → Leaf
-table_leaf schema table at width es = record {
+-- A table alone, whose columns begin at a place: its rows are left out by the conjuncts on its columns, which are evaluated at its own row. Which
+-- columns of the FROM are read is handed in.
+abbrev pub table_leaf : List Table → ℕ → List Bool → ℕ → ℕ → List Expr → Leaf
+table_leaf schema table rs at width es = record {
   tables = table ∷ [];
   joins = [];
   filter = all_true (map (moved (λ place. place - at)) (conjuncts_on at (at + width) es));
   range = leaf_range schema table at es;
+  reads = take width (drop at rs);
 }
 
 -- a query with its derived tables planned: the number of its columns, its leaves, and the query above them, after the given number of leaves
@@ -101,21 +110,21 @@ abbrev pub unless_left : Bool → List Expr → List Expr
 unless_left true es = []
 unless_left false es = es
 
-abbrev pub join_leaves : List Table → List ℕ → ℕ → List Expr → Bool → ℕ → Item Planned → List Leaf
-join_leaves schema tables at es is_left width (item.Table n) = table_leaf schema (table_of tables n) at width (unless_left is_left es) ∷ []
-join_leaves schema tables at es is_left width (item.Derived p) = p.leaves
+abbrev pub join_leaves : List Table → List ℕ → List Bool → ℕ → List Expr → Bool → ℕ → Item Planned → List Leaf
+join_leaves schema tables rs at es is_left width (item.Table n) = table_leaf schema (table_of tables n) rs at width (unless_left is_left es) ∷ []
+join_leaves schema tables rs at es is_left width (item.Derived p) = p.leaves
 
 -- the leaves of items after a first leaf or a derived table, where their columns begin at a place
-abbrev pub rest_leaves : List Table → List ℕ → List Expr → ℕ → List (Join Planned) → List Leaf
-rest_leaves schema tables es at [] = []
-rest_leaves schema tables es at (j ∷ joins) = join_leaves schema tables at es j.is_left j.width j.item ++ rest_leaves schema tables es (at + j.width) joins
+abbrev pub rest_leaves : List Table → List ℕ → List Bool → List Expr → ℕ → List (Join Planned) → List Leaf
+rest_leaves schema tables rs es at [] = []
+rest_leaves schema tables rs es at (j ∷ joins) = join_leaves schema tables rs at es j.is_left j.width j.item ++ rest_leaves schema tables rs es (at + j.width) joins
 
 abbrev pub leaves_from : List Table → List ℕ → Block Planned → Item Planned → List Leaf
 leaves_from schema tables b (item.Table n) =
     let table = table_of tables n in
     let len = leaf_len schema tables table (width_of schema table) b.joins in
-    first_leaf schema tables b table len ∷ rest_leaves schema tables (pushable b) (width_of schema table + widths (take len b.joins)) (drop len b.joins)
-leaves_from schema tables b (item.Derived p) = p.leaves ++ rest_leaves schema tables (pushable b) p.width b.joins
+    first_leaf schema tables b table len ∷ rest_leaves schema tables (reads_of (width_of schema table) b) (pushable b) (width_of schema table + widths (take len b.joins)) (drop len b.joins)
+leaves_from schema tables b (item.Derived p) = p.leaves ++ rest_leaves schema tables (reads_of p.width b) (pushable b) p.width b.joins
 
 abbrev pub block_leaves : List Table → List ℕ → Block Planned → List Leaf
 block_leaves schema tables b = leaves_from schema tables b b.from

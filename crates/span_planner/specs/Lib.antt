@@ -6,3 +6,5 @@ pub mod Sizes
 pub mod Plannable
 pub mod Numbered
 pub mod Masks
+pub mod Reads
+pub mod Maskable

@@ -1,5 +1,5 @@
 -- Queries whose tables are those of the statement, whose joins state how many columns their items have, and whose blocks have as many columns as one another.
-use Rattle.std.specs.Prelude.{ℕ, ◌==◌, Bool, ◌&&◌, List, [], ◌∷◌, length}
+use Rattle.std.specs.Prelude.{ℕ, ◌==◌, Bool, ◌&&◌, List, ◌∷◌, length}
 use Rattle.std.specs.List.{list_all}
 use Rattle.span_schema.specs.declared.table.Table.{Table}
 use Rattle.span_query.specs.declared.query.BoundQuery.{BoundQuery}

@@ -27,6 +27,8 @@ pub struct Leaf {
     pub filter: Option<Expr>,
     /// The coded keys that are read.
     pub range: KeyRange,
+    /// The columns of its rows: TRUE at those that something reads, a condition or ON of the leaf or the query above the leaves.
+    pub reads: Seq<bool>,
 }
 
 /// How a query is answered: first its leaves, then the query whose tables are the rows of the leaves.

@@ -7,4 +7,5 @@ pub mod first;
 pub mod leaf;
 pub mod plan;
 mod range;
+mod reads;
 pub mod table;

@@ -103,7 +103,7 @@ abbrev pub mine_of : List Role → List Commit
 mine_of (Client o seen mine ∷ []) = mine
 mine_of v = []
 
--- the session's commit was added behind all that it had seen; between stand commits of others
+-- the session's commit was added after all that it had seen; commits of others may come between
 abbrev pub Extends : SessionHistory → Commit → SessionHistory → Type 0
 Extends v c w =
     (w.owner ≡ v.owner) × (w.mine ≡ v.mine ++ c ∷ [])
@@ -157,7 +157,7 @@ pub record Named : Type 0 where
   pub schema : List Table
   pub sessions : ℕ
 
--- what a slot's seat, or the keeper's, stands for
+-- what a slot's seat, or the keeper's, says
 abbrev pub number_of : List Role → ℕ
 number_of (Holder i vs ∷ []) = i
 number_of v = 0

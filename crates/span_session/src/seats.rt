@@ -26,7 +26,9 @@ pub(crate) fn grow<J: Naming>(
     requires owner { commit.owner ≡ owner }
     requires count { (length (known_at keeper.views).commits ≡ count) × (count < 2 ^ 62) }
     ensures tables { (seat.new.table_id ≡ J.table) × (result.table_id ≡ J.table) }
-    ensures known { IsPrefix (seen_of seat.old.me.0) (known_at keeper.views).commits × (owned owner (seen_of seat.old.me.0) ≡ mine_of seat.old.me.0) × (owned owner (known_at keeper.views).commits ≡ mine_of seat.old.me.0) }
+    ensures known { IsPrefix (seen_of seat.old.me.0) (known_at keeper.views).commits
+        × (owned owner (seen_of seat.old.me.0) ≡ mine_of seat.old.me.0)
+        × (owned owner (known_at keeper.views).commits ≡ mine_of seat.old.me.0) }
     ensures client { seat.new.me ≡ (Client owner ((known_at keeper.views).commits ++ commit ∷ []) (mine_of seat.old.me.0 ++ commit ∷ []) ∷ [], []) }
     ensures keeper { result.views ≡ (Keeper (grown (known_at keeper.views) commit) ∷ []) ∷ [] }
 {
@@ -68,7 +70,8 @@ pub(crate) fn agree<J: Naming>(
     requires holder { seat.old.me ≡ (Holder (number_of seat.old.me.0) (versions_of seat.old.me.0) ∷ [], []) }
     requires keeper { keeper.views ≡ (Keeper (known_at keeper.views) ∷ []) ∷ [] }
     ensures tables { (seat.new.table_id ≡ J.table) × (result.table_id ≡ J.table) }
-    ensures known { (versions_of seat.old.me.0 ≡ kept (known_at keeper.views) (number_of seat.old.me.0)) × (number_of seat.old.me.0 < length (known_at keeper.views).slots) }
+    ensures known { (versions_of seat.old.me.0 ≡ kept (known_at keeper.views) (number_of seat.old.me.0))
+        × (number_of seat.old.me.0 < length (known_at keeper.views).slots) }
     ensures holder { seat.new.me ≡ seat.old.me }
     ensures keeper { result.views ≡ keeper.views }
 {
@@ -89,7 +92,8 @@ pub(crate) fn restate<J: Naming>(
     requires holder { seat.old.me ≡ (Holder (number_of seat.old.me.0) (versions_of seat.old.me.0) ∷ [], []) }
     requires keeper { keeper.views ≡ (Keeper (known_at keeper.views) ∷ []) ∷ [] }
     ensures tables { (seat.new.table_id ≡ J.table) × (result.0.table_id ≡ J.table) }
-    ensures known { (versions_of seat.old.me.0 ≡ kept (known_at keeper.views) (number_of seat.old.me.0)) × (number_of seat.old.me.0 < length (known_at keeper.views).slots) }
+    ensures known { (versions_of seat.old.me.0 ≡ kept (known_at keeper.views) (number_of seat.old.me.0))
+        × (number_of seat.old.me.0 < length (known_at keeper.views).slots) }
     ensures holder { seat.new.me ≡ (Holder (number_of seat.old.me.0) shard ∷ [], []) }
     ensures keeper { result.0.views ≡ (Keeper (restated (known_at keeper.views) (number_of seat.old.me.0) shard) ∷ []) ∷ [] }
     ensures shard { result.1 ≡ shard }

@@ -4,7 +4,7 @@ use span_truetime::clock::Clock;
 use span_truetime::interval::Interval;
 use std::cell::Cell;
 
-// After so many readings the clock begins again.
+// The number of readings after which the clock begins again.
 const READINGS: u64 = 1000;
 
 /// A clock whose n-th reading is [100 n, 100 n + 10].

@@ -18,15 +18,19 @@ use Rattle.span_mutate.proofs.Filters.{filter_within}
 use Rattle.span_mutate.proofs.TypedRows.{typed_stay}
 use Rattle.span_params.specs.declared.params.Parameter.{Parameter}
 use Rattle.span_query.specs.declared.query.Statement.{Statement}
-use Rattle.span_query.specs.Rows.{Rows, append_results, concat_map}
+use Rattle.span_query.specs.Rows.{Row, Rows, append_results, concat_map}
 use Rattle.span_query.specs.Meaning.{meaning_over, given}
 use Rattle.span_planner.specs.declared.leaf.Leaf.{Leaf}
+use Rattle.span_planner.specs.Maskable.{IsMaskable}
 use Rattle.span_planner.specs.Plannable.{IsPlannable}
+use Rattle.span_planner.specs.Reads.{mask_rows}
 use Rattle.span_planner.specs.Results.{leaf_rows}
+use Rattle.span_planner.proofs.MaskableLeaves.{leaves_maskable}
 use Rattle.span_planner.proofs.Planned.{IsPlanned}
 use Rattle.span_planner.proofs.Tabled.{leaves_tabled}
 use Rattle.span_fragment.specs.declared.piece.Piece.{Piece}
 use Rattle.span_fragment.specs.Pieces.{IsPieceOf}
+use Rattle.span_fragment.proofs.KeyPlaces.{keyed}
 use Rattle.span_gather.specs.Gathered.{joined_pieces, gathered}
 use Rattle.span_shard.specs.KeyVersions.{KeyVersions}
 use Rattle.span_shard.specs.Rows.{code_of}
@@ -218,6 +222,13 @@ pieced_tables schema m ps query p leaf l pieced found here =
     let all = leaves_tabled schema p.query.statement.leaves is.plannable.tables p.query.statement.query is.plannable.sized in
     leaf_among (λ (k : Leaf). AllByRecursion (IsTable schema) k.tables) p.query.leaves leaf l (subst (AllByRecursion (λ (k : Leaf). AllByRecursion (IsTable schema) k.tables)) (sym is.of_plan) all) here
 
+-- a leaf of an open query is maskable
+pub pieced_maskable : (schema : List Table) (m : Machine) (ps : List Pieced) (query : ℕ) (p : Pieced) (leaf : ℕ) (l : ScanLeaf) → ArePieced schema m ps → find (λ x. is_query query x.query) ps ≡ Some p → slice_get p.query.leaves leaf ≡ Some l → IsMaskable schema l.leaf
+pieced_maskable schema m ps query p leaf l pieced found here =
+    let is = all_found (IsPieced schema m.log) (λ x. is_query query x.query) ps p found pieced in
+    let all = leaves_maskable schema p.query.statement.leaves (keyed schema) p.query.statement.query is.plannable.sized in
+    leaf_among (IsMaskable schema) p.query.leaves leaf l (subst (AllByRecursion (IsMaskable schema)) (sym is.of_plan) all) here
+
 -- the rows that a leaf reads of a part of a slot's range are those of its tables there
 tables_read : (schema : List Table) (db rows : List TableRow) (part : KeyRange) (ns : List ℕ) → ((n : ℕ) → rows_of n rows ≡ filter (row_within schema part) (rows_of n db)) → map (whole_table schema rows) ns ≡ tables_within schema db ns part
 tables_read schema db rows part [] same = refl
@@ -238,7 +249,7 @@ pieced_scanned schema rules m {slot} cs ps reached kept pieced query p slot_stat
     let has : HasRowsIn schema m.log p.query.s l.leaf part piece = record {
       db = made.0;
       made = made.1;
-      whole = reading seen.rows seen.typed seen.entries_are ∙ ap (leaf_rows l.leaf) (tables_read schema made.0 seen.rows part l.leaf.tables rows);
+      whole = reading seen.rows seen.typed seen.entries_are ∙ ap (λ (ts : List (List Row)). mask_rows l.leaf.reads (leaf_rows l.leaf ts)) (tables_read schema made.0 seen.rows part l.leaf.tables rows);
     } in
     let old = all_found (IsPieced schema m.log) (λ x. is_query query x.query) ps p found pieced in
     all_changed_found (IsPieced schema m.log) (λ x. is_query query x.query) (covered_by leaf part piece) ps p found
@@ -274,7 +285,7 @@ module _ (schema : List Table) (rules : MeetsRules schema) (m : Machine) (reache
       record {
         db = made.0;
         made = made.1;
-        whole = has.whole ∙ ap (leaf_rows leaf) (tables_sealed s c seal ends has.db made.0 has.made made.1 leaf.tables);
+        whole = has.whole ∙ ap (λ (ts : List (List Row)). mask_rows leaf.reads (leaf_rows leaf ts)) (tables_sealed s c seal ends has.db made.0 has.made made.1 leaf.tables);
       }
 
   pieced_still : (ps : List Pieced) → AllByRecursion (IsCoveredSealed schema m) (queries_of ps) → AllByRecursion (HasLeaves schema) (queries_of ps) → ArePieced schema m ps → ArePieced schema (answer schema m u step).1 ps

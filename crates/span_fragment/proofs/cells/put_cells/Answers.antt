@@ -1,13 +1,16 @@
-use Rattle.std.proofs.Common.{◌≡◌, ◌<◌, ◌≤◌, ◌+◌, ℕ, List, arith, subst, length, length-drop, drop, get_or}
+use Rattle.std.proofs.Common.{◌<◌, ℕ, List, arith, refl, sym, ◌∙◌, subst, length, length-drop, get_or}
 use Rattle.std.proofs.lemmas.Option.{MatchOption-at_some, MatchOption-at_none}
 use Rattle.span_value.specs.declared.value.Kind.TheVariants as kind
 use Rattle.span_rowcode.specs.Rows.{IsNoCell}
 use Rattle.span_fragment.specs.Placed.{IsCellPut}
-use Rattle.span_fragment.proofs.Placing.{all_cells_left, cell_at, no_cell_at, cells_end, too_long}
+use Rattle.span_fragment.proofs.Placing.{none_put, all_cells_left, cell_at, no_cell_at, cells_end, too_long}
 use Rattle.span_fragment.proofs.cells.put_cells.Goals as goal
 
 pub returns-then-bytes-gt-MOST_BYTES : goal.returns-then-bytes-gt-MOST_BYTES
 returns-then-bytes-gt-MOST_BYTES c = too_long c.args.wanted.now c.args.kinds.now c.args.places.now c.args.bytes.now c.args.row.now.items c.if-bytes-gt-MOST_BYTES.true
+
+pub returns-then-wants_none : goal.returns-then-wants_none
+returns-then-wants_none c = record { put = λ vs is code. (refl, none_put c.args.wanted.now c.args.places.now vs c.args.row.now.items (sym c.wants_none.ensures ∙ c.if-wants_none.true)) }
 
 pub loop-i-init : goal.loop-i-init
 loop-i-init c = record { within = omega arith; left = all_cells_left c.args.wanted.now c.args.kinds.now c.args.places.now c.args.bytes.now c.args.row.now.items }

@@ -1,6 +1,5 @@
-use Rattle.std.proofs.Common.{◌≡◌, ◌∙◌, ◌+◌, Bool, true, false, List, get_or, [], inl, inr, ap, sym, subst, arith, map}
+use Rattle.std.proofs.Common.{◌∙◌, ◌+◌, Bool, get_or, [], inl, inr, ap, sym, subst, arith, map}
 use Rattle.std.proofs.lemmas.Result.{err_from_is_err_and}
-use Rattle.span_value.specs.declared.value.Value.{Value}
 use Rattle.span_shard.specs.declared.shard.Entry.{Entry}
 use Rattle.span_shard.specs.Reading.{entry_row}
 use Rattle.span_fragment.specs.Entries.{AreReadOf, IsWhetherOf}

@@ -1,8 +1,6 @@
-use Rattle.std.proofs.Common.{◌≡◌, ◌∙◌, ◌<◌, map, drop, get_or, arith, sym, ap, length}
-use Rattle.std.proofs.lemmas.List.{drop_more}
+use Rattle.std.proofs.Common.{◌∙◌, map, drop, arith, ap}
 use Rattle.span_shard.specs.Reading.{entry_row}
-use Rattle.span_fragment.proofs.Entries.{table_read, tables_read}
-use Rattle.span_fragment.proofs.Masks.{all_next}
+use Rattle.span_fragment.proofs.Entries.{all_next, table_read, tables_read}
 use Rattle.span_fragment.proofs.decode.read_tables.Goals as goal
 
 pub loop-table-preserved : goal.loop-table-preserved

@@ -1,4 +1,4 @@
-use Rattle.std.proofs.Common.{◌≡◌, ◌<◌, ◌+◌, ℕ, List, false, arith, subst, length, length-drop, drop, get_or}
+use Rattle.std.proofs.Common.{◌≡◌, ◌<◌, ℕ, List, false, arith, subst, length, length-drop, get_or}
 use Rattle.std.proofs.lemmas.Option.{MatchOption-at_some, MatchOption-at_none}
 use Rattle.span_value.specs.declared.value.Kind.TheVariants as kind
 use Rattle.span_schema.specs.declared.layout.KeyPart.{KeyPart}

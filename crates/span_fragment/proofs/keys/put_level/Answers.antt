@@ -1,4 +1,4 @@
-use Rattle.std.proofs.Common.{◌≡◌, ◌<◌, ◌≤◌, ℕ, List, arith, sym, subst, length, drop}
+use Rattle.std.proofs.Common.{◌<◌, ◌≤◌, ℕ, List, arith, subst, length}
 use Rattle.std.proofs.lemmas.Option.{MatchOption-at_some, MatchOption-at_none}
 use Rattle.span_keycode.specs.Reads.{IsNoTuple}
 use Rattle.span_fragment.specs.Placed.{AreColumnsPut}

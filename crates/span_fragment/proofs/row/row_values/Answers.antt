@@ -1,4 +1,4 @@
-use Rattle.std.proofs.Common.{◌≡◌, ◌≤◌, ℕ, List, replicate, arith, sym, ap, ◌∙◌, subst, length, inl, inr}
+use Rattle.std.proofs.Common.{◌≡◌, ℕ, List, replicate, arith, sym, ap, ◌∙◌, subst, length}
 use Rattle.span_value.specs.declared.value.Kind.{Kind}
 use Rattle.span_value.specs.declared.value.Value.{Value}
 use Rattle.span_value.specs.declared.value.Value.TheVariants.{Null}

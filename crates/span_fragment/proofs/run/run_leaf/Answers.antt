@@ -1,5 +1,5 @@
-use Rattle.span_fragment.specs.Given.{rows_given}
+use Rattle.span_fragment.specs.Given.{masked_given}
 use Rattle.span_fragment.proofs.run.run_leaf.Goals as goal
 
 pub returns : goal.returns
-returns c = λ rows typed is. c.in_ok-piece_of.ensures (rows_given c.args.schema.now c.args.leaf.now rows) (c.in_ok-found.ensures.ok.of rows typed is)
+returns c = λ rows typed is. c.in_ok-piece_of.ensures (masked_given c.args.schema.now c.args.leaf.now rows) (c.in_ok-found.ensures.ok.of rows typed is)

@@ -7,12 +7,12 @@ use Rattle.span_machine.specs.Pieces.{machine_of}
 use Rattle.span_journal.specs.Judged.{IsGap, MayScan, leaf_of}
 use Rattle.span_parts.specs.Whole.{IsRead, IsUnread}
 use Rattle.span_parts.proofs.Changes.{shard_there, at_index}
-use Rattle.span_parts.proofs.Scanning.{of_leaf, scanned_leaf, scanned_tables, reads, scanned_answer, scanned_whole}
+use Rattle.span_parts.proofs.Scanning.{of_leaf, scanned_leaf, scanned_tables, scanned_maskable, reads, scanned_answer, scanned_whole}
 use Rattle.span_parts.proofs.Wholes.{no_text, goes_same, goes_by, pieces_same}
 use Rattle.span_parts.proofs.steps.scan.Goals as goal
 
-pub read_gap-requires : goal.read_gap-requires
-read_gap-requires c =
+pub read_gap-requires-clause-tables : goal.read_gap-requires-clause-tables
+read_gap-requires-clause-tables c =
     let a = c.args in
     let gap = c.in-Ok-Some.gap in
     let k = c.claim_gap.new.self in
@@ -21,6 +21,17 @@ read_gap-requires c =
     let may_then = subst (λ (m : Machine). MayScan m a.query a.leaf a.slot a.interval gap.range gap.s) (sym same) may in
     let w = goes_same a.schema.now a.journal.now k same c.in-Ok-Some.ensures.pieces a.shards.now c.requires in
     scanned_tables a.schema.now k a.shards.now w a.query a.leaf a.slot a.interval gap.range gap.s may_then
+
+pub read_gap-requires-clause-maskable : goal.read_gap-requires-clause-maskable
+read_gap-requires-clause-maskable c =
+    let a = c.args in
+    let gap = c.in-Ok-Some.gap in
+    let k = c.claim_gap.new.self in
+    let same = c.in-Ok-Some.ensures.ok in
+    let may = subst (IsGap (machine_of a.journal.now) a.query a.leaf a.slot a.interval) c.in-Ok-Some.field-0-is c.in-Ok-Some.ensures.gap in
+    let may_then = subst (λ (m : Machine). MayScan m a.query a.leaf a.slot a.interval gap.range gap.s) (sym same) may in
+    let w = goes_same a.schema.now a.journal.now k same c.in-Ok-Some.ensures.pieces a.shards.now c.requires in
+    scanned_maskable a.schema.now k a.shards.now w a.query a.leaf a.slot a.interval gap.range gap.s may_then
 
 pub returns-in-Ok-register-clause-step : goal.returns-in-Ok-register-clause-step
 returns-in-Ok-register-clause-step c =
