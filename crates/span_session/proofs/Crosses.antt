@@ -20,8 +20,8 @@ use Rattle.span_planner.specs.contracts.leaf.Plan as Plan
 use Rattle.span_machine.specs.contracts.query.OpenQuery as OpenQuery
 use Rattle.span_machine.specs.contracts.query.ScanLeaf as ScanLeaf
 use Rattle.span_machine.specs.contracts.slot.SlotState as SlotState
-use Rattle.span_machine.specs.contracts.transaction.Commit as Commit
 use Rattle.span_fragment.specs.contracts.piece.Piece as Piece
+use Rattle.span_journal.specs.contracts.commit.KeptCommit as KeptCommit
 use Rattle.span_journal.specs.contracts.query.KeptQuery as KeptQuery
 use Rattle.span_journal.specs.contracts.transaction.KeptTransaction as KeptTransaction
 use Rattle.span_journal.specs.contracts.journal.Journal as Journal
@@ -102,11 +102,11 @@ kept_query_send = search (crosses, open_query_send, piece_send, sendable) depth 
 kept_transaction_send : IsSend KeptTransaction.the_row
 kept_transaction_send = search (crosses, sendable) depth 60 fits 20000
 
-commit_send : IsSend (Commit.the_field).row
-commit_send = search (crosses, sendable) depth 60 fits 20000
+kept_commit_send : IsSend KeptCommit.the_row
+kept_commit_send = search (crosses, sendable) depth 60 fits 20000
 
 slot_state_send : IsSend (SlotState.the_field).row
 slot_state_send = search (crosses, sendable) depth 60 fits 20000
 
 pub journal_send : IsSend Journal.the_row
-journal_send = search (crosses, kept_query_send, kept_transaction_send, commit_send, slot_state_send, sendable) depth 60 fits 20000
+journal_send = search (crosses, kept_query_send, kept_transaction_send, kept_commit_send, slot_state_send, sendable) depth 60 fits 20000
