@@ -1,4 +1,4 @@
--- A database may be shared by threads: what lies under its locks may cross to another thread.
+-- What a query of several threads wants: open queries and plans may cross to another thread.
 --
 -- `search` goes down through the fields of a type, and gives up at a limit where they are many. So each type that has expressions or queries
 -- in it has a line of its own here.
@@ -19,12 +19,6 @@ use Rattle.span_planner.specs.contracts.leaf.Leaf as Leaf
 use Rattle.span_planner.specs.contracts.leaf.Plan as Plan
 use Rattle.span_machine.specs.contracts.query.OpenQuery as OpenQuery
 use Rattle.span_machine.specs.contracts.query.ScanLeaf as ScanLeaf
-use Rattle.span_machine.specs.contracts.slot.SlotState as SlotState
-use Rattle.span_fragment.specs.contracts.piece.Piece as Piece
-use Rattle.span_journal.specs.contracts.commit.KeptCommit as KeptCommit
-use Rattle.span_journal.specs.contracts.query.KeptQuery as KeptQuery
-use Rattle.span_journal.specs.contracts.transaction.KeptTransaction as KeptTransaction
-use Rattle.span_journal.specs.contracts.journal.Journal as Journal
 
 -- ---- expressions and queries
 
@@ -88,25 +82,5 @@ plan_sync = search (crosses, leaf_sync, bound_query_sync, sendable) depth 60 fit
 scan_leaf_send : IsSend (ScanLeaf.the_field).row
 scan_leaf_send = search (crosses, leaf_send, sendable) depth 60 fits 20000
 
-open_query_send : IsSend (OpenQuery.the_field).row
+pub open_query_send : IsSend (OpenQuery.the_field).row
 open_query_send = search (crosses, statement_send, scan_leaf_send, bound_query_send, sendable) depth 60 fits 20000
-
--- ---- the journal
-
-piece_send : IsSend (Piece.the_field).row
-piece_send = search (crosses, sendable) depth 60 fits 20000
-
-kept_query_send : IsSend KeptQuery.the_row
-kept_query_send = search (crosses, open_query_send, piece_send, sendable) depth 60 fits 20000
-
-kept_transaction_send : IsSend KeptTransaction.the_row
-kept_transaction_send = search (crosses, sendable) depth 60 fits 20000
-
-kept_commit_send : IsSend KeptCommit.the_row
-kept_commit_send = search (crosses, sendable) depth 60 fits 20000
-
-slot_state_send : IsSend (SlotState.the_field).row
-slot_state_send = search (crosses, sendable) depth 60 fits 20000
-
-pub journal_send : IsSend Journal.the_row
-journal_send = search (crosses, kept_query_send, kept_transaction_send, kept_commit_send, slot_state_send, sendable) depth 60 fits 20000
