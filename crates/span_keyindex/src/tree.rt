@@ -19,23 +19,23 @@ pub struct TreeRoot {
     pub levels: usize,
 }
 
-/// The number of a key's chain: its own, or a new one where the key is not there. `Refusal::OutOfMemory` leaves all as it was; it
-/// comes only where the key is not there.
+/// The number of a key's chain: its own, or a new one where the key is not there, which takes the key. `Refusal::OutOfMemory` leaves
+/// all but the key as it was; it comes only where the key is not there.
 pub(crate) fn slot_for<C: Ledger, W: Ledger>(
     arena: &mut Arena,
     nexts: &mut NextLinks,
     index: &mut TreeRoot,
-    key: Key,
+    key: &mut Key,
     steps: &mut Steps<C, W>,
 ) -> Result<usize, Refusal>
     requires own { IsIndex arena.old.cells nexts.old index.old }
     requires chains { AreChains arena.old (tree_of arena.old.cells index.old) }
-    ensures ok { IfOk result (IsSlot arena.old arena.new nexts.old nexts.new index.old index.new key) }
+    ensures ok { IfOk result (IsSlot arena.old arena.new nexts.old nexts.new index.old index.new key.old) }
     ensures arena { OnErr result (arena.new ≡ arena.old) }
     ensures nexts { OnErr result (nexts.new ≡ nexts.old) }
     ensures index { OnErr result (index.new ≡ index.old) }
     ensures memory { IfErr result (λ why. why ≡ Refusal.OutOfMemory) }
-    ensures absent { OnErr result (IsAbsent (entries_at arena.old.cells index.old) key) }
+    ensures absent { OnErr result (IsAbsent (entries_at arena.old.cells index.old) key.old) }
     ensures own { IsIndex arena.new.cells nexts.new index.new }
     ensures cost { (d : ℕ) → length (entries_at arena.old.cells index.old) < 2 ^ d
         → IsSlotCost d steps.old steps.new }
