@@ -8,7 +8,7 @@ returns-in-Some-clause-ok c =
     let cs = c.args.store.now in
     let m = c.args.mutation.now in
     let es = c.args.changes.now in
-    let alone = alone_at tables cs es m c.in_ok-row_alone.field-0 c.in-Some.row c.in-Some.is c.in_ok-row_alone.ensures.ok in
+    let alone = alone_at tables cs es m c.in_ok-row.field-0 c.in-Some.row c.in-Some.is c.in_ok-row.ensures.ok in
     on_ok_weaker c.add_row.result (λ a. alone_added tables cs m es c.add_row.new.changes c.args.key c.in-Some.row c.requires.key alone a) c.add_row.ensures.added
 
 pub returns-in-Some-clause-refused : goal.returns-in-Some-clause-refused
@@ -17,7 +17,7 @@ returns-in-Some-clause-refused c =
     let cs = c.args.store.now in
     let m = c.args.mutation.now in
     let es = c.args.changes.now in
-    let alone = alone_at tables cs es m c.in_ok-row_alone.field-0 c.in-Some.row c.in-Some.is c.in_ok-row_alone.ensures.ok in
+    let alone = alone_at tables cs es m c.in_ok-row.field-0 c.in-Some.row c.in-Some.is c.in_ok-row.ensures.ok in
     IfErr-weaker c.add_row.result _ _ (λ why e. alone_refused tables cs m es c.args.key c.in-Some.row why c.requires.key alone e) c.add_row.ensures.refused
 
 pub returns-in_ok-put-in-None-clause-ok : goal.returns-in_ok-put-in-None-clause-ok
