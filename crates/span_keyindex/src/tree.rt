@@ -4,8 +4,9 @@ ghost use Rattle.span_keyindex.specs.Entries.{IsAbsent};
 ghost use Rattle.span_keyindex.specs.Indexes.{IsIndex, IsSlot, IsSlotCost, entries_at, tree_of};
 ghost use Rattle.span_keyindex.specs.Puts.{AreChains};
 
+use crate::join::Part;
 use crate::next::NextLinks;
-use crate::put::{Put, add_key};
+use crate::put::add_key;
 use span_arena::arena::Arena;
 use span_arena::steps::Steps;
 use span_keycode::key::Key;
@@ -42,14 +43,27 @@ pub(crate) fn slot_for<C: Ledger, W: Ledger>(
 {
     // The count of numbers fits, and with it that of the levels.
     let _count = arena.numbers();
-    match add_key(arena, nexts, index.root, None, index.levels, key, steps)? {
-        Put::Found(cell) => Ok(cell),
-        Put::Added(part) => {
-            index.root = Some(part.root);
-            if part.grew {
-                index.levels += 1;
-            }
-            Ok(part.cell)
-        }
+    let mut part = Part {
+        cell: 0,
+        root: 0,
+        grew: false,
+    };
+    let is_added = add_key(
+        arena,
+        nexts,
+        index.root,
+        None,
+        index.levels,
+        key,
+        &mut part,
+        steps,
+    )?;
+    if !is_added {
+        return Ok(part.cell);
     }
+    index.root = Some(part.root);
+    if part.grew {
+        index.levels += 1;
+    }
+    Ok(part.cell)
 }
