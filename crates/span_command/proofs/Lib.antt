@@ -8,3 +8,4 @@ pub mod Within
 pub mod Zips
 pub mod Plain
 pub mod Refusing
+pub mod Commas

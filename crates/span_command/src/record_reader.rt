@@ -5,7 +5,7 @@ ghost use Rattle.csv.specs.Records.{fields_of};
 ghost use Rattle.span_command.specs.Record.{pieces, record_fields, IsPlain};
 
 use csv::{Error, ReaderBuilder, StringRecord};
-use memchr::memchr3;
+use memchr::{memchr, memchr3};
 use span_value::refusal::Refusal;
 use std::alloc::{AllocError, Global};
 
@@ -71,7 +71,8 @@ pub fn at_comma(text: &str) -> Option<(&str, &str)>
     ensures cut { MatchOption result (pieces text.now ≡ text.now ∷ []) (λ x. pieces text.now ≡ x.0.now ∷ pieces x.1.now) }
     ensures shorter { IfSome result (λ x. length x.1.now < length text.now) }
 {
-    text.split_once(',')
+    let at = memchr(b',', text.as_bytes())?;
+    Some((&text[..at], &text[at + 1..]))
 }
 
 /// Reads the text's first record; whether it is the only one.
