@@ -48,6 +48,9 @@ text_at fields i = field_is (texts fields) i ∙ slice_get-map (λ (field : Bor 
 some_is : {X : Type 0} (x y : X) → (let o : Option X = Some x in o) ≡ Some y → x ≡ y
 some_is x y e = cc
 
+err_is : (x y : Refusal) → (let s : Result Value Refusal = Err x in s) ≡ Err y → x ≡ y
+err_is x y e = cc
+
 -- where there is no field, no value is that of its cell
 pub no_field : (fields : List (List ℕ)) (at : ℕ) (kind : Kind) → field_at fields at ≡ None → (value : Value) → IsFieldCell fields at kind value → ⊥
 no_field fields at kind none value h = absurd (let e : None ≡ Some h.0 = sym none ∙ h.1 in cc)
@@ -68,6 +71,3 @@ no_other fields at text kind (Err refused) is all (inl wrong) = inr (wrong, none
           | inl ok ↦ absurd cc
           | inr memory ↦ absurd (let e : refusal.WrongType ≡ refusal.OutOfMemory = sym wrong ∙ err_is refused refusal.OutOfMemory memory in cc)
         ]
-
-    err_is : (x y : Refusal) → (let s : Result Value Refusal = Err x in s) ≡ Err y → x ≡ y
-    err_is x y e = cc
