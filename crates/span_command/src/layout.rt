@@ -177,11 +177,7 @@ fn key_of(alloc: Global, parts: &[KeyField], fields: &[&str]) -> Result<Seq<Valu
 }
 
 /// The cells of the columns outside the key. `WrongType`: a field is no cell of its column's type.
-fn cells_of(
-    alloc: Global,
-    parts: &[CellField],
-    fields: &[&str],
-) -> Result<Seq<NamedValue>, Refusal>
+fn cells_of(alloc: Global, parts: &[CellField], fields: &[&str]) -> Result<Seq<NamedValue>, Refusal>
     ensures read { IfOk result (λ cells. AllZip (IsColumnCell (texts fields.now)) parts.now cells) }
     ensures refusals { IfErr result
         (λ why.
