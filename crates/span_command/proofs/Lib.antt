@@ -9,3 +9,4 @@ pub mod Zips
 pub mod Plain
 pub mod Refusing
 pub mod Commas
+pub mod Lent
