@@ -8,3 +8,5 @@ pub mod Within
 pub mod Zips
 pub mod Plain
 pub mod Refusing
+pub mod Commas
+pub mod Lent

@@ -1,5 +1,6 @@
 -- The fields of the record that a text is, and the text of a row, as `csv` reads and writes them with its default
 -- settings.
+use denote.Ref.{Bor}
 use Rattle.std.specs.Prelude.{◌≡◌, ℕ, ◌==◌, ◌||◌, Bool, true, false, List, [], map, Option, Some, None}
 use Rattle.std.specs.List.{All, flat_map, slice_split}
 use Rattle.csv.specs.Machine.{Read, next_record}
@@ -14,6 +15,10 @@ use Rattle.span_value.specs.Cells.{cell_of}
 -- the pieces of a text between its commas
 abbrev pub pieces : List ℕ → List (List ℕ)
 pieces text = slice_split (λ b. b == 44) text
+
+-- texts that are lent
+abbrev pub texts : List (Bor (List ℕ)) → List (List ℕ)
+texts fields = map (λ (field : Bor (List ℕ)). field.now) fields
 
 -- the next record of what is left of a text
 abbrev pub next : State → List ℕ → Option Read

@@ -5,12 +5,12 @@ ghost use Rattle.csv.specs.Records.{fields_of};
 ghost use Rattle.span_value.specs.declared.value.Value.{Value};
 ghost use Rattle.span_mutate.specs.declared.mutation.NamedValue.{NamedValue};
 ghost use Rattle.span_mutate.specs.declared.mutation.Mutation.{Mutation};
-ghost use Rattle.span_command.specs.Record.{pieces};
+ghost use Rattle.span_command.specs.Record.{pieces, record_fields, texts};
 ghost use Rattle.span_schema.specs.Numbers.{IsTable, columns_of, column_named, number_named, key_places};
 ghost use Rattle.span_command.specs.Columns.{AreBelow, ArePlaces, AreNamed, IsUnplaced, NamesNone};
 ghost use Rattle.span_command.specs.Layouts.{IsFieldCell, IsKeyCell, IsColumnCell, IsOfRecord, IsKeyField, IsCellField, outside_key, AreWithin, IsLayout, IsLayoutOf, IsKeyLayoutOf, LacksKey, HasNoLayout};
 
-use crate::record_reader::at_comma;
+use crate::record_reader::{at_comma, lent_fields, plain_fields, read_fields};
 use csv::StringRecord;
 use span_mutate::mutation::{Mutation, MutationKind, NamedValue};
 use span_schema::schema::Schema;
@@ -102,6 +102,49 @@ impl Layout {
             ⊎ ((why ≡ Refusal.WrongType)
             × ((m : Mutation) → ¬ IsOfRecord self.now kind (fields_of fields.now) m))) }
     {
+        let fields = lent_fields(alloc, fields)?;
+        self.mutation_of(alloc, kind, fields.as_slice())
+    }
+
+    /// The mutation of the record that a text is, as `mutation` makes it of the fields that `csv` reads. A text whose fields are its pieces
+    /// between commas is not copied; `fields` is for the others, and what it then holds means nothing.
+    pub fn read_mutation(
+        &self,
+        alloc: Global,
+        kind: MutationKind,
+        text: &str,
+        fields: &mut StringRecord,
+    ) -> Result<Mutation, Refusal>
+        ensures read { IfOk result (λ m. IsOfRecord self.now kind (record_fields text.now) m) }
+        ensures refusals { IfErr result
+            (λ why.
+            (why ≡ Refusal.OutOfMemory)
+            ⊎ ((why ≡ Refusal.WrongType)
+            × ((m : Mutation) → ¬ IsOfRecord self.now kind (record_fields text.now) m))) }
+    {
+        match plain_fields(alloc, text)? {
+            Some(pieces) => self.mutation_of(alloc, kind, pieces.as_slice()),
+            None => {
+                read_fields(alloc, text, fields)?;
+                self.mutation(alloc, kind, fields)
+            }
+        }
+    }
+
+    /// The mutation of these fields of a record. `WrongType`: a wrong number of fields, or a field that is no cell of its column's type.
+    fn mutation_of(
+        &self,
+        alloc: Global,
+        kind: MutationKind,
+        fields: &[&str],
+    ) -> Result<Mutation, Refusal>
+        ensures read { IfOk result (λ m. IsOfRecord self.now kind (texts fields.now) m) }
+        ensures refusals { IfErr result
+            (λ why.
+            (why ≡ Refusal.OutOfMemory)
+            ⊎ ((why ≡ Refusal.WrongType)
+            × ((m : Mutation) → ¬ IsOfRecord self.now kind (texts fields.now) m))) }
+    {
         if fields.len() != self.fields {
             return Err(Refusal::WrongType);
         }
@@ -118,13 +161,13 @@ impl Layout {
 }
 
 /// The values of the key. `WrongType`: a field is no cell of its column's type.
-fn key_of(alloc: Global, parts: &[KeyField], fields: &StringRecord) -> Result<Seq<Value>, Refusal>
-    ensures read { IfOk result (λ key. AllZip (IsKeyCell (fields_of fields.now)) parts.now key) }
+fn key_of(alloc: Global, parts: &[KeyField], fields: &[&str]) -> Result<Seq<Value>, Refusal>
+    ensures read { IfOk result (λ key. AllZip (IsKeyCell (texts fields.now)) parts.now key) }
     ensures refusals { IfErr result
         (λ why.
         (why ≡ Refusal.OutOfMemory)
         ⊎ ((why ≡ Refusal.WrongType)
-        × ((key : List Value) → ¬ AllZip (IsKeyCell (fields_of fields.now)) parts.now key))) }
+        × ((key : List Value) → ¬ AllZip (IsKeyCell (texts fields.now)) parts.now key))) }
 {
     let mut key = Vec::with_capacity(alloc, parts.len())?;
     for part in parts {
@@ -134,17 +177,13 @@ fn key_of(alloc: Global, parts: &[KeyField], fields: &StringRecord) -> Result<Se
 }
 
 /// The cells of the columns outside the key. `WrongType`: a field is no cell of its column's type.
-fn cells_of(
-    alloc: Global,
-    parts: &[CellField],
-    fields: &StringRecord,
-) -> Result<Seq<NamedValue>, Refusal>
-    ensures read { IfOk result (λ cells. AllZip (IsColumnCell (fields_of fields.now)) parts.now cells) }
+fn cells_of(alloc: Global, parts: &[CellField], fields: &[&str]) -> Result<Seq<NamedValue>, Refusal>
+    ensures read { IfOk result (λ cells. AllZip (IsColumnCell (texts fields.now)) parts.now cells) }
     ensures refusals { IfErr result
         (λ why.
         (why ≡ Refusal.OutOfMemory)
         ⊎ ((why ≡ Refusal.WrongType)
-        × ((cells : List NamedValue) → ¬ AllZip (IsColumnCell (fields_of fields.now)) parts.now cells))) }
+        × ((cells : List NamedValue) → ¬ AllZip (IsColumnCell (texts fields.now)) parts.now cells))) }
 {
     let mut cells = Vec::with_capacity(alloc, parts.len())?;
     for part in parts {
@@ -154,13 +193,13 @@ fn cells_of(
 }
 
 /// The cell of a column outside the key. `WrongType`: its field is no cell of its type.
-fn cell_of(alloc: Global, part: &CellField, fields: &StringRecord) -> Result<NamedValue, Refusal>
-    ensures read { IfOk result (λ cell. IsColumnCell (fields_of fields.now) part.now cell) }
+fn cell_of(alloc: Global, part: &CellField, fields: &[&str]) -> Result<NamedValue, Refusal>
+    ensures read { IfOk result (λ cell. IsColumnCell (texts fields.now) part.now cell) }
     ensures refusals { IfErr result
         (λ why.
         (why ≡ Refusal.OutOfMemory)
         ⊎ ((why ≡ Refusal.WrongType)
-        × ((cell : NamedValue) → ¬ IsColumnCell (fields_of fields.now) part.now cell))) }
+        × ((cell : NamedValue) → ¬ IsColumnCell (texts fields.now) part.now cell))) }
 {
     let value = value_at(alloc, fields, part.at, part.kind)?;
     Ok(NamedValue {
@@ -357,15 +396,15 @@ fn cell_field(
 }
 
 /// The value of the field at a place. `WrongType`: it is no cell of the type, or there is no such field.
-fn value_at(alloc: Global, fields: &StringRecord, at: usize, kind: Kind) -> Result<Value, Refusal>
-    ensures read { IfOk result (λ value. IsFieldCell (fields_of fields.now) at kind value) }
+fn value_at(alloc: Global, fields: &[&str], at: usize, kind: Kind) -> Result<Value, Refusal>
+    ensures read { IfOk result (λ value. IsFieldCell (texts fields.now) at kind value) }
     ensures refusals { IfErr result
         (λ why.
         (why ≡ Refusal.OutOfMemory)
-        ⊎ ((why ≡ Refusal.WrongType) × ((value : Value) → ¬ IsFieldCell (fields_of fields.now) at kind value))) }
+        ⊎ ((why ≡ Refusal.WrongType) × ((value : Value) → ¬ IsFieldCell (texts fields.now) at kind value))) }
 {
     match fields.get(at) {
-        Some(field) => read_cell(alloc, kind, field),
+        Some(field) => read_cell(alloc, kind, *field),
         None => Err(Refusal::WrongType),
     }
 }

@@ -2,12 +2,19 @@
 ghost use Rattle.std.specs.Prelude.{◌≡◌, ◌<◌, ◌++◌, [], ◌∷◌, length, true, false, if◌then◌else◌, IfOk, IfSome, OnOk, MatchOption, IsOkUnless};
 ghost use Rattle.csv.specs.Reading.{strip_bom};
 ghost use Rattle.csv.specs.Records.{fields_of};
-ghost use Rattle.span_command.specs.Record.{pieces, record_fields, IsPlain};
+ghost use Rattle.span_command.specs.Record.{pieces, record_fields, texts, IsPlain};
 
 use csv::{Error, ReaderBuilder, StringRecord};
-use memchr::memchr3;
+use memchr::{memchr, memchr3};
+use smallvec::SmallVec;
 use span_value::refusal::Refusal;
 use std::alloc::{AllocError, Global};
+
+/// How many fields of a record are lent without an allocation.
+const INLINE_FIELDS: usize = 16;
+
+/// Fields of a record, lent.
+pub(crate) type Texts<'a> = SmallVec<&'a str, INLINE_FIELDS>;
 
 /// The first byte of a byte order mark.
 const MARK: u8 = 0xef;
@@ -34,6 +41,42 @@ pub fn read_fields(alloc: Global, text: &str, fields: &mut StringRecord) -> Resu
         // The text is in memory and its fields are text, so that only memory can run out.
         Err(_) => Err(Refusal::OutOfMemory),
     }
+}
+
+/// The fields of the record that a text is, where they are its pieces between commas; None where the text is empty or has a quote, a CR,
+/// an LF, or a byte order mark at its front. Up to 16 fields take no memory.
+pub(crate) fn plain_fields(alloc: Global, text: &str) -> Result<Option<Texts<'_>>, AllocError>
+    ensures { IfOk result (λ found. IfSome found (λ fields. texts fields.items ≡ record_fields text.now)) }
+{
+    if text.is_empty() || !is_plain(text) {
+        return Ok(None);
+    }
+    Ok(Some(pieces_of(alloc, text)?))
+}
+
+/// The pieces of the text between its commas: one more than it has commas.
+fn pieces_of(alloc: Global, text: &str) -> Result<Texts<'_>, AllocError>
+    ensures { IfOk result (λ found. texts found.items ≡ pieces text.now) }
+{
+    let mut found = SmallVec::new(alloc);
+    let mut rest = text;
+    while let Some((piece, following)) = at_comma(rest) {
+        found.push(piece)?;
+        rest = following;
+    }
+    found.push(rest)?;
+    Ok(found)
+}
+
+/// The fields of a record, lent.
+pub(crate) fn lent_fields(alloc: Global, fields: &StringRecord) -> Result<Texts<'_>, AllocError>
+    ensures { IfOk result (λ found. texts found.items ≡ fields_of fields.now) }
+{
+    let mut found = SmallVec::new(alloc);
+    for i in 0..fields.len() {
+        found.push(fields.get(i).unwrap())?;
+    }
+    Ok(found)
 }
 
 /// Whether the text has no quote, no CR, no LF and no byte order mark at its front: then its fields are its pieces between commas.
@@ -71,7 +114,8 @@ pub fn at_comma(text: &str) -> Option<(&str, &str)>
     ensures cut { MatchOption result (pieces text.now ≡ text.now ∷ []) (λ x. pieces text.now ≡ x.0.now ∷ pieces x.1.now) }
     ensures shorter { IfSome result (λ x. length x.1.now < length text.now) }
 {
-    text.split_once(',')
+    let at = memchr(b',', text.as_bytes())?;
+    Some((&text[..at], &text[at + 1..]))
 }
 
 /// Reads the text's first record; whether it is the only one.

@@ -5,6 +5,7 @@ pub mod KindTests
 pub mod Levels
 pub mod Lengths
 pub mod LevelLaws
+pub mod CodeLengths
 pub mod Exact
 pub mod Plains
 pub mod Eights

@@ -1,5 +1,5 @@
 -- The coding of a whole key: a level for its root row, and one for each table below it.
-use Rattle.std.specs.Prelude.{ℕ, ◌-◌, ◌≤◌, List, [], ◌∷◌, ◌++◌, map, length, take, drop, Option, Some, None, nat_lt, if◌then◌else◌}
+use Rattle.std.specs.Prelude.{ℕ, ◌+◌, ◌-◌, ◌≤◌, List, [], ◌∷◌, ◌++◌, map, length, take, drop, Option, Some, None, nat_lt, if◌then◌else◌}
 use Rattle.span_value.specs.declared.refusal.Refusal.{Refusal}
 use Rattle.span_value.specs.declared.refusal.Refusal.TheVariants.{WrongType, KeyTooLong}
 use Rattle.std.specs.Ordering.{nat_cmp, ordering_then}
@@ -9,7 +9,7 @@ use Rattle.span_value.specs.declared.value.Value.{Value}
 use Rattle.span_schema.specs.declared.table.Table.{Table}
 use Rattle.span_schema.specs.Lineages.{parent_at}
 use Rattle.span_schema.specs.Numbers.{IsTable, key_at, key_columns, own_key_columns, columns_above, path_of}
-use Rattle.span_keycode.specs.Coding.{AreFit, are_of_kinds, tuple_code, tuple_cmp}
+use Rattle.span_keycode.specs.Coding.{AreFit, are_of_kinds, plain, tuple_code, tuple_cmp}
 use Rattle.span_keycode.specs.Limits.{longest_key}
 
 -- a table's number, and the values of the key columns that are its own
@@ -26,6 +26,11 @@ own_values tables n vs = own_values_at tables (n - 1) vs
 
 abbrev pub level_of : List Table → List Value → ℕ → Level
 level_of tables vs n = record { table = n; values = own_values tables n vs }
+
+-- how many bytes code values, whatever the directions of their columns
+abbrev pub values_len : List Value → ℕ
+values_len [] = 0
+values_len (v ∷ vs) = length (plain v) + values_len vs
 
 -- the levels of a key, from that of its root row down
 abbrev pub levels_of : List Table → ℕ → List Value → List Level

@@ -7,6 +7,7 @@ pub mod decode;
 pub mod encode;
 pub mod key;
 pub mod laws;
+pub mod length;
 pub mod parts;
 pub mod range;
 pub mod root;

@@ -5,8 +5,7 @@ use Rattle.std.proofs.Math.Nat.{le-max_left, le-max_right}
 use Rattle.span_value.specs.declared.refusal.Refusal.{Refusal}
 use Rattle.span_arena.specs.declared.cell.Cell.{Cell}
 use Rattle.span_keyindex.specs.declared.join.Part.{Part}
-use Rattle.span_keyindex.specs.declared.put.Put.{Put}
-use Rattle.span_keyindex.specs.declared.put.Put.TheVariants.{Added}
+use Rattle.span_keyindex.specs.Puts.{Put, Added}
 use Rattle.span_keyindex.specs.Trees.{Tree, Leaf, Fork, root_of, Stands, count, height, inserted}
 use Rattle.span_arena.specs.Counts.{Count}
 use Rattle.span_arena.specs.Cells.{cell_at, IsCompared}

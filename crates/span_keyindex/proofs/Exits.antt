@@ -6,8 +6,7 @@ use Rattle.std.specs.declared.cmp.Ordering.{Ordering}
 use Rattle.std.specs.declared.cmp.Ordering.TheVariants.{Less, Greater}
 use Rattle.span_keycode.specs.Order.{byte_order}
 use Rattle.span_keyindex.specs.declared.join.Part.{Part}
-use Rattle.span_keyindex.specs.declared.put.Put.{Put}
-use Rattle.span_keyindex.specs.declared.put.Put.TheVariants.{Found, Added}
+use Rattle.span_keyindex.specs.Puts.{Put, Found, Added}
 use Rattle.span_keyindex.specs.Joins.{joined_left_cells, joined_left_root, joined_right_cells, joined_right_root}
 use Rattle.span_arena.specs.Content.{Content, IsNewChain, with_at, with_cells}
 use Rattle.span_arena.specs.Cells.{cell_at, is_past}

@@ -5,8 +5,7 @@ use Rattle.span_value.specs.declared.refusal.Refusal.{Refusal}
 use Rattle.span_arena.specs.declared.cell.Cell.{Cell}
 use Rattle.span_arena.specs.declared.cell.Links.{Links}
 use Rattle.span_keyindex.specs.declared.join.Part.{Part}
-use Rattle.span_keyindex.specs.declared.put.Put.{Put}
-use Rattle.span_keyindex.specs.declared.put.Put.TheVariants.{Found, Added}
+use Rattle.span_keyindex.specs.Puts.{Put, Found, Added}
 use Rattle.span_arena.specs.Counts.{Count}
 use Rattle.span_keyindex.specs.Trees.{height, Tree}
 use Rattle.span_keyindex.specs.Joins.{joined_left_root, joined_right_root, IsJoinCost}

@@ -8,8 +8,7 @@ use Rattle.std.proofs.lemmas.List.{length-set}
 use Rattle.span_value.specs.declared.refusal.Refusal.{Refusal}
 use Rattle.span_arena.specs.declared.cell.Cell.{Cell}
 use Rattle.span_keyindex.specs.declared.join.Part.{Part}
-use Rattle.span_keyindex.specs.declared.put.Put.{Put}
-use Rattle.span_keyindex.specs.declared.put.Put.TheVariants.{Found, Added}
+use Rattle.span_keyindex.specs.Puts.{Put, Found, Added}
 use Rattle.span_keyindex.specs.declared.tree.TreeRoot.{TreeRoot}
 use Rattle.span_keyindex.specs.Trees.{Tree, Leaf, Fork, Grown, root_of, Stands, one_at, count, shape, height, size, IsAvl, inserted, search_in}
 use Rattle.span_keyindex.specs.Avl.{grown_height}

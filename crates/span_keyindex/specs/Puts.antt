@@ -2,14 +2,25 @@
 use Rattle.std.specs.Prelude.{◌≡◌, ◌≢◌, ℕ, ◌+◌, ◌<◌, ◌≤◌, List, length, Option, Some, None, Result, Ok, Err, Bool, true, false}
 use Rattle.span_arena.specs.declared.cell.Cell.{Cell}
 use Rattle.span_keyindex.specs.declared.join.Part.{Part}
-use Rattle.span_keyindex.specs.declared.put.Put.{Put}
-use Rattle.span_keyindex.specs.declared.put.Put.TheVariants.{Found, Added}
 use Rattle.span_value.specs.declared.refusal.Refusal.{Refusal}
 use Rattle.span_keyindex.specs.Trees.{Tree, root_of, Stands, count, height, shape, inserted, search_in}
 use Rattle.span_arena.specs.Counts.{Count}
 use Rattle.span_arena.specs.Cells.{cell_at}
 use Rattle.span_arena.specs.Content.{Content, IsChain, IsNewChain}
 use Rattle.span_keyindex.specs.Nexts.{Nexts, places_with, with_place, with_cell}
+
+-- what came of a key that was put into a tree: it is that of this chain, or it has a new one
+pub data Put : Type 0 where
+  Found : (cell : ℕ) → Put
+  Added : (part : Part) → Put
+
+abbrev pub put_of : Bool → Part → Put
+put_of false part = Found part.cell
+put_of true part = Added part
+
+abbrev pub put_result : Result Bool Refusal → Part → Result Put Refusal
+put_result (Ok is_added) part = Ok (put_of is_added part)
+put_result (Err why) part = Err why
 
 -- the tree below a link
 abbrev pub tree_at : List Cell → ℕ → Option ℕ → Tree

@@ -192,7 +192,8 @@ impl KeyIndex {
         ensures cost { (d : ℕ) → length (entries_of self.old arena.old) < 2 ^ d
             → IsSlotCost d steps.old steps.new }
     {
-        let number = slot_for(arena, &mut self.nexts, &mut self.tree, key, steps)?;
+        let mut key = key;
+        let number = slot_for(arena, &mut self.nexts, &mut self.tree, &mut key, steps)?;
         Ok(Chain { number })
     }
 

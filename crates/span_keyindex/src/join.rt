@@ -1,9 +1,9 @@
 //! A part that may have grown, joined to its cell again.
-ghost use Rattle.std.specs.Prelude.{◌≡◌, ◌<◌, ◌≤◌, ◌+◌, length, IfSome, Some};
+ghost use Rattle.std.specs.Prelude.{◌≡◌, ◌<◌, ◌≤◌, ◌+◌, length, false, true, IfSome, IsTrue, Some};
 ghost use Rattle.span_keyindex.specs.Trees as trees;
 ghost use Rattle.span_arena.specs.Content.{with_cells};
-ghost use Rattle.span_arena.specs.Cells.{cell_at, with_links, IsWritten};
-ghost use Rattle.span_keyindex.specs.Effects.{turned_right_cells, turned_right_root, turned_left_cells, turned_left_root, lifted_right_cells, lifted_left_cells, lifted_root, IsInside, IsWithin};
+ghost use Rattle.span_arena.specs.Cells.{cell_at, with_links};
+ghost use Rattle.span_keyindex.specs.Effects.{turned_right_cells, turned_right_root, turned_left_cells, turned_left_root, lifted_right_cells, lifted_left_cells, lifted_root, links_with, IsInside, IsWithin};
 ghost use Rattle.span_keyindex.specs.Joins.{joined_left_cells, joined_right_cells, joined_left_root, joined_right_root, IsJoinCost};
 
 use span_arena::arena::Arena;
@@ -263,166 +263,180 @@ fn after_right(balance: Balance) -> Balance
     }
 }
 
-// Links a cell to its parts anew. The result is the part that begins with it, which is one level higher or not.
-fn link_part<C: Ledger, W: Ledger>(
-    arena: &mut Arena,
-    at: usize,
-    cell: usize,
-    links: Links,
-    grew: bool,
-    steps: &mut Steps<C, W>,
-) -> Part
-    requires { at < length arena.old.cells }
-    ensures arena { arena.new ≡ with_cells arena.old (with_links arena.old.cells at links) }
-    ensures part { result ≡ record { cell = cell; root = at; grew = grew } }
-    ensures steps { IsWritten steps.old steps.new }
+fn links_to(left: Option<usize>, right: Option<usize>, balance: Balance) -> Links
+    ensures { result ≡ links_with left right balance }
 {
-    arena.set_links(at, links, steps);
-    Part {
-        cell,
-        root: at,
-        grew,
+    Links {
+        left,
+        right,
+        balance,
     }
 }
 
-/// Joins the left part of a cell to it again, after a key more in it.
-pub(crate) fn join_left<C: Ledger, W: Ledger>(
+// Whether a link leads to a cell.
+fn leads_to(link: Option<usize>, cell: usize) -> bool
+    ensures { IsTrue result → link ≡ Some cell }
+{
+    match link {
+        None => false,
+        Some(other) => other == cell,
+    }
+}
+
+// Joins a left part to its cell that has as many levels as before. Most such parts begin with the cell that they began with: nothing
+// is written then.
+fn keep_left<C: Ledger, W: Ledger>(
     arena: &mut Arena,
     at: usize,
-    part: Part,
+    part: &mut Part,
     steps: &mut Steps<C, W>,
-) -> Part
+)
     requires at { at < length arena.old.cells }
-    requires root { part.root < length arena.old.cells }
-    requires inner { IsInside arena.old.cells (cell_at arena.old.cells part.root).links.right }
-    ensures arena { arena.new ≡ with_cells arena.old (joined_left_cells part.grew arena.old.cells at part.root) }
-    ensures part { result ≡ joined_left_root part.grew arena.old.cells at part }
-    ensures steps { IsJoinCost part.grew result.grew steps.old steps.new }
+    ensures arena { arena.new ≡ with_cells arena.old (joined_left_cells false arena.old.cells at part.old.root) }
+    ensures part { part.new ≡ joined_left_root false arena.old.cells at part.old }
+    ensures steps { IsWithin 1 steps.old steps.new }
+{
+    let links = arena.links(at);
+    let root = part.root;
+    part.root = at;
+    part.grew = false;
+    if leads_to(links.left, root) {
+        return;
+    }
+    arena.set_links(at, links_to(Some(root), links.right, links.balance), steps);
+}
+
+// Joins a right part to its cell that has as many levels as before. Most such parts begin with the cell that they began with: nothing
+// is written then.
+fn keep_right<C: Ledger, W: Ledger>(
+    arena: &mut Arena,
+    at: usize,
+    part: &mut Part,
+    steps: &mut Steps<C, W>,
+)
+    requires at { at < length arena.old.cells }
+    ensures arena { arena.new ≡ with_cells arena.old (joined_right_cells false arena.old.cells at part.old.root) }
+    ensures part { part.new ≡ joined_right_root false arena.old.cells at part.old }
+    ensures steps { IsWithin 1 steps.old steps.new }
+{
+    let links = arena.links(at);
+    let root = part.root;
+    part.root = at;
+    part.grew = false;
+    if leads_to(links.right, root) {
+        return;
+    }
+    arena.set_links(at, links_to(links.left, Some(root), links.balance), steps);
+}
+
+// Joins a left part to its cell that has one level more.
+fn raise_left<C: Ledger, W: Ledger>(
+    arena: &mut Arena,
+    at: usize,
+    part: &mut Part,
+    steps: &mut Steps<C, W>,
+)
+    requires at { at < length arena.old.cells }
+    requires root { part.old.root < length arena.old.cells }
+    requires inner { IsInside arena.old.cells (cell_at arena.old.cells part.old.root).links.right }
+    ensures arena { arena.new ≡ with_cells arena.old (joined_left_cells true arena.old.cells at part.old.root) }
+    ensures part { part.new ≡ joined_left_root true arena.old.cells at part.old }
+    ensures steps { IsJoinCost true part.new.grew steps.old steps.new }
 {
     let links = arena.links(at);
     let left = Some(part.root);
     let right = links.right;
-    let balance = links.balance;
-    if !part.grew {
-        return link_part(
-            arena,
-            at,
-            part.cell,
-            Links {
-                left,
-                right,
-                balance,
-            },
-            false,
-            steps,
-        );
-    }
-    match balance {
+    match links.balance {
         Balance::RightHigh => {
-            let balance = Balance::Even;
-            link_part(
-                arena,
-                at,
-                part.cell,
-                Links {
-                    left,
-                    right,
-                    balance,
-                },
-                false,
-                steps,
-            )
+            arena.set_links(at, links_to(left, right, Balance::Even), steps);
+            part.root = at;
+            part.grew = false;
         }
         Balance::Even => {
-            let balance = Balance::LeftHigh;
-            link_part(
-                arena,
-                at,
-                part.cell,
-                Links {
-                    left,
-                    right,
-                    balance,
-                },
-                true,
-                steps,
-            )
+            arena.set_links(at, links_to(left, right, Balance::LeftHigh), steps);
+            part.root = at;
+            part.grew = true;
         }
-        Balance::LeftHigh => Part {
-            cell: part.cell,
-            root: turn_right(arena, at, part.root, right, steps),
-            grew: false,
-        },
+        Balance::LeftHigh => {
+            part.root = turn_right(arena, at, part.root, right, steps);
+            part.grew = false;
+        }
     }
 }
 
-/// Joins the right part of a cell to it again, after a key more in it.
-pub(crate) fn join_right<C: Ledger, W: Ledger>(
+// Joins a right part to its cell that has one level more.
+fn raise_right<C: Ledger, W: Ledger>(
     arena: &mut Arena,
     at: usize,
-    part: Part,
+    part: &mut Part,
     steps: &mut Steps<C, W>,
-) -> Part
+)
     requires at { at < length arena.old.cells }
-    requires root { part.root < length arena.old.cells }
-    requires inner { IsInside arena.old.cells (cell_at arena.old.cells part.root).links.left }
-    ensures arena { arena.new ≡ with_cells arena.old (joined_right_cells part.grew arena.old.cells at part.root) }
-    ensures part { result ≡ joined_right_root part.grew arena.old.cells at part }
-    ensures steps { IsJoinCost part.grew result.grew steps.old steps.new }
+    requires root { part.old.root < length arena.old.cells }
+    requires inner { IsInside arena.old.cells (cell_at arena.old.cells part.old.root).links.left }
+    ensures arena { arena.new ≡ with_cells arena.old (joined_right_cells true arena.old.cells at part.old.root) }
+    ensures part { part.new ≡ joined_right_root true arena.old.cells at part.old }
+    ensures steps { IsJoinCost true part.new.grew steps.old steps.new }
 {
     let links = arena.links(at);
     let left = links.left;
     let right = Some(part.root);
-    let balance = links.balance;
-    if !part.grew {
-        return link_part(
-            arena,
-            at,
-            part.cell,
-            Links {
-                left,
-                right,
-                balance,
-            },
-            false,
-            steps,
-        );
-    }
-    match balance {
+    match links.balance {
         Balance::LeftHigh => {
-            let balance = Balance::Even;
-            link_part(
-                arena,
-                at,
-                part.cell,
-                Links {
-                    left,
-                    right,
-                    balance,
-                },
-                false,
-                steps,
-            )
+            arena.set_links(at, links_to(left, right, Balance::Even), steps);
+            part.root = at;
+            part.grew = false;
         }
         Balance::Even => {
-            let balance = Balance::RightHigh;
-            link_part(
-                arena,
-                at,
-                part.cell,
-                Links {
-                    left,
-                    right,
-                    balance,
-                },
-                true,
-                steps,
-            )
+            arena.set_links(at, links_to(left, right, Balance::RightHigh), steps);
+            part.root = at;
+            part.grew = true;
         }
-        Balance::RightHigh => Part {
-            cell: part.cell,
-            root: turn_left(arena, at, left, part.root, steps),
-            grew: false,
-        },
+        Balance::RightHigh => {
+            part.root = turn_left(arena, at, left, part.root, steps);
+            part.grew = false;
+        }
+    }
+}
+
+/// Joins the left part of a cell to it again, after a key more in it: the part is then the cell's.
+pub(crate) fn join_left<C: Ledger, W: Ledger>(
+    arena: &mut Arena,
+    at: usize,
+    part: &mut Part,
+    steps: &mut Steps<C, W>,
+)
+    requires at { at < length arena.old.cells }
+    requires root { part.old.root < length arena.old.cells }
+    requires inner { IsInside arena.old.cells (cell_at arena.old.cells part.old.root).links.right }
+    ensures arena { arena.new ≡ with_cells arena.old (joined_left_cells part.old.grew arena.old.cells at part.old.root) }
+    ensures part { part.new ≡ joined_left_root part.old.grew arena.old.cells at part.old }
+    ensures steps { IsJoinCost part.old.grew part.new.grew steps.old steps.new }
+{
+    if part.grew {
+        raise_left(arena, at, part, steps);
+    } else {
+        keep_left(arena, at, part, steps);
+    }
+}
+
+/// Joins the right part of a cell to it again, after a key more in it: the part is then the cell's.
+pub(crate) fn join_right<C: Ledger, W: Ledger>(
+    arena: &mut Arena,
+    at: usize,
+    part: &mut Part,
+    steps: &mut Steps<C, W>,
+)
+    requires at { at < length arena.old.cells }
+    requires root { part.old.root < length arena.old.cells }
+    requires inner { IsInside arena.old.cells (cell_at arena.old.cells part.old.root).links.left }
+    ensures arena { arena.new ≡ with_cells arena.old (joined_right_cells part.old.grew arena.old.cells at part.old.root) }
+    ensures part { part.new ≡ joined_right_root part.old.grew arena.old.cells at part.old }
+    ensures steps { IsJoinCost part.old.grew part.new.grew steps.old steps.new }
+{
+    if part.grew {
+        raise_right(arena, at, part, steps);
+    } else {
+        keep_right(arena, at, part, steps);
     }
 }

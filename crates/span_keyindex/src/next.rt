@@ -32,6 +32,11 @@ impl NextLinks {
         }
     }
 
+    /// What the links take memory from.
+    pub(crate) fn allocator(&self) -> Global {
+        *self.next.allocator()
+    }
+
     /// The first chain.
     pub fn first(&self) -> Option<usize>
         ensures { result ≡ self.now.first }

@@ -2,7 +2,7 @@
 ghost use Rattle.std.specs.Prelude.{◌≡◌, ◌⊎◌, [], IfOk, MatchResult, None, Some, Ok, Err, take};
 ghost use Rattle.span_value.specs.Results.{first_cause};
 ghost use Rattle.span_schema.specs.Numbers.{IsTable, table_at};
-ghost use Rattle.span_keycode.specs.Keys.{IsCodedKey, key_code};
+ghost use Rattle.span_keycode.specs.Keys.{IsCodedKey};
 ghost use Rattle.span_mutate.specs.Typed.{IsTypedMutation};
 ghost use Rattle.span_mutate.specs.Checking.{key_causes, cell_causes, cells_cause, lack_causes, mutation_cause, checked, checked_at};
 
@@ -12,8 +12,7 @@ use super::column::{
 };
 use super::mutation::{CheckedMutation, Mutation, MutationKind, NamedValue, is_delete, may_insert};
 use span_keycode::column::have_kinds;
-use span_keycode::encode::encode_key;
-use span_keycode::key::Key;
+use span_keycode::length::code_len;
 use span_schema::schema::Schema;
 use span_schema::table::Table;
 use span_value::refusal::Refusal;
@@ -21,21 +20,19 @@ use span_value::seq::Seq;
 use span_value::value::Value;
 use std::alloc::Global;
 
-/// The coded key of the table with this number that has these values, if they may be a key of it.
+/// Whether these values may be a key of the table with this number. The key is not coded: the length of its coding
+/// follows from the values.
 pub(crate) fn check_key(
-    alloc: Global,
     schema: &Schema,
     number: usize,
     table: &Table,
     key: &[Value],
-) -> Result<Key, Refusal>
+) -> Result<(), Refusal>
     requires { IsTable schema.now number }
     ensures cause { MatchResult result
         (λ _. first_cause (key_causes schema.now number table.now key.now) ≡ None)
-        (λ why.
-        (first_cause (key_causes schema.now number table.now key.now) ≡ Some why) ⊎ (why ≡ Refusal.OutOfMemory)) }
+        (λ why. first_cause (key_causes schema.now number table.now key.now) ≡ Some why) }
     ensures coded { IfOk result (λ _. IsCodedKey schema.now number key.now) }
-    ensures code { IfOk result (λ coded. coded ≡ key_code schema.now number key.now) }
 {
     if !have_kinds(schema.key_columns(number), key) {
         return Err(Refusal::WrongType);
@@ -46,7 +43,10 @@ pub(crate) fn check_key(
     if has_long(table.columns.as_slice(), table.key.as_slice(), key) {
         return Err(Refusal::ValueTooLong);
     }
-    encode_key(alloc, schema, number, key)
+    if code_len(schema, number, key).is_none() {
+        return Err(Refusal::KeyTooLong);
+    }
+    Ok(())
 }
 
 // Whether a cell may follow those before it.
@@ -106,7 +106,6 @@ fn check_required(table: &Table, mutation: &Mutation) -> Result<(), Refusal>
 
 // Whether a mutation of the table with this number breaks no rule.
 fn check_rules(
-    alloc: Global,
     schema: &Schema,
     number: usize,
     table: &Table,
@@ -115,10 +114,10 @@ fn check_rules(
     requires { IsTable schema.now number }
     ensures cause { MatchResult result
         (λ _. mutation_cause schema.now number table.now mutation.now ≡ None)
-        (λ why. (mutation_cause schema.now number table.now mutation.now ≡ Some why) ⊎ (why ≡ Refusal.OutOfMemory)) }
+        (λ why. mutation_cause schema.now number table.now mutation.now ≡ Some why) }
     ensures coded { IfOk result (λ _. IsCodedKey schema.now number mutation.now.key) }
 {
-    let _coded = check_key(alloc, schema, number, table, mutation.key.as_slice())?;
+    check_key(schema, number, table, mutation.key.as_slice())?;
     check_cells(table, mutation.kind, mutation.cells.as_slice())?;
     check_required(table, mutation)?;
     Ok(())
@@ -141,7 +140,7 @@ fn check_at(
 {
     schema.meets_rules();
     let table = schema.table(number);
-    check_rules(alloc, schema, number, table, &mutation)?;
+    check_rules(schema, number, table, &mutation)?;
     let Mutation {
         kind,
         key,

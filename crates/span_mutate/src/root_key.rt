@@ -8,6 +8,7 @@ ghost use Rattle.span_mutate.specs.RootKeys.{root_key, root_key_at};
 
 use super::check::check_key;
 use super::mutation::CheckedMutation;
+use span_keycode::encode::encode_key;
 use span_keycode::key::Key;
 use span_keycode::root_order::compare_root;
 use span_schema::schema::Schema;
@@ -42,7 +43,10 @@ fn root_key_at(alloc: Global, schema: &Schema, number: usize, key: &[Value]) -> 
     if schema.root_of(number) != number {
         return Err(Refusal::BadSplit);
     }
-    match check_key(alloc, schema, number, schema.table(number), key) {
+    if check_key(schema, number, schema.table(number), key).is_err() {
+        return Err(Refusal::BadSplit);
+    }
+    match encode_key(alloc, schema, number, key) {
         Ok(coded) => Ok(coded),
         Err(Refusal::OutOfMemory) => Err(Refusal::OutOfMemory),
         Err(_) => Err(Refusal::BadSplit),

@@ -17,7 +17,6 @@ use csv::StringRecord;
 use span_command::command::{Command, read_command};
 use span_command::layout::Layout;
 use span_command::line::Line;
-use span_command::record_reader::read_fields;
 use span_core::database::Core;
 use span_core::{
     Bound, Interval, Kind, Mutation, MutationKind, Params, Refusal, Reply, Schema, Step, Text,
@@ -364,8 +363,7 @@ impl Session {
             (λ why. (why ≡ Refusal.OutOfMemory) ⊎ RefusesRecord layout.now kind text.now why) }
         ensures kept { state_of self.new ≡ state_of self.old }
     {
-        read_fields(alloc, text, &mut self.fields)?;
-        layout.mutation(alloc, kind, &self.fields)
+        layout.read_mutation(alloc, kind, text, &mut self.fields)
     }
 
     /// The deletion of the row whose key a record has. `NoTable` and `WrongType` as `Layout::of_key` and `read_record`.

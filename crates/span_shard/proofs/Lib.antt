@@ -1,3 +1,4 @@
+pub mod Alone
 pub mod Bytes
 pub mod Codes
 pub mod Databases

@@ -1,5 +1,5 @@
 -- The rows at keys as mutations leave them, over those that are there now.
-use Rattle.std.specs.Prelude.{◌≡◌, ◌⊎◌, ℕ, Bool, true, false, if◌then◌else◌, ◌&&◌, ◌||◌, List, [], ◌∷◌, ◌++◌, length, find, take, is_some, is_none, not, nat_lt, Option, Some, None, Ok, Err}
+use Rattle.std.specs.Prelude.{◌≡◌, ◌⊎◌, ℕ, ◌≤◌, Bool, true, false, if◌then◌else◌, ◌&&◌, ◌||◌, List, [], ◌∷◌, ◌++◌, length, find, take, is_some, is_none, not, nat_lt, Option, Some, None, Ok, Err}
 use Rattle.std.specs.List.{list_any, AllByRecursion}
 use Rattle.std.specs.Option.{unwrap_or}
 use Rattle.std.specs.Ordering.{eq_by_cmp}
@@ -59,6 +59,10 @@ changed_at es k = change_of (made_at es.made k) (list_any (is_same k) es.removed
 -- the row at a key: what mutations leave there, and else what is there now
 abbrev pub row_over : List KeyVersions → Changes → List ℕ → Option (List ℕ)
 row_over cs es k = unwrap_or (changed_at es k) (row_now cs k)
+
+-- the row at a key at which mutations made none: none where they removed one, and else what is there now
+abbrev pub row_under : List KeyVersions → Changes → List ℕ → Option (List ℕ)
+row_under cs es k = unwrap_or (change_of None (list_any (is_same k) es.removed)) (row_now cs k)
 
 -- ---- the keys below one
 
@@ -128,6 +132,11 @@ without_if false left = left
 abbrev pub IsPutAt : List ℕ → List ℕ → Changes → Changes → Type 0
 IsPutAt key row es fs = (k : List ℕ) → changed_at fs k ≡ (if is_same key k then Some (Some row) else changed_at es k)
 
+-- ... and mutations had made none there
+pub record IsAddedAt (key row : List ℕ) (es fs : Changes) : Type 0 where
+  pub none : made_at es.made key ≡ None
+  pub put : IsPutAt key row es fs
+
 -- no row is left at these keys, and the others are as before
 abbrev pub AreRemoved : Changes → List (List ℕ) → Changes → Type 0
 AreRemoved es ks fs = (k : List ℕ) → changed_at fs k ≡ without_if (list_any (is_same k) ks) (changed_at es k)
@@ -164,6 +173,16 @@ lacks_parent_over tables cs es None key = false
 lacks_parent_over tables cs es (Some p) key =
     is_none (row_over cs es (key_code tables p (take (length (key_columns tables p)) key)))
 
+-- the parent row of a mutation's row is there, or it has none
+abbrev pub HasParent : List Table → List KeyVersions → Changes → Option CheckedMutation → Type 0
+HasParent tables cs es None = Unit {0}
+HasParent tables cs es (Some m) = lacks_parent_over tables cs es (parent_of tables m.table) m.key ≡ false
+
+-- a mutation of table n, the key of which begins with these values, as many as len
+abbrev pub HasFront : ℕ → ℕ → List Value → Option CheckedMutation → Type 0
+HasFront n len values None = ⊥
+HasFront n len values (Some m) = (m.table ≡ n) × (take len m.key ≡ values)
+
 -- what refuses to make a row of these cells, in the order of the checks: whether its key has a row, whether its parent
 -- row is absent
 abbrev pub put_cause : CheckedMutation → Bool → Bool → List Value → Option Refusal
@@ -199,6 +218,22 @@ abbrev pub IsNoPut : List Table → List KeyVersions → Changes → CheckedMuta
 IsNoPut tables cs es m why =
     (why ≡ OutOfMemory) ⊎ (((is_mutation_fault why ≡ true) × IsPutFault tables cs es m why)
     ⊎ ((why ≡ BadRow) × IsUnpacked tables m.table (row_before tables cs es m)))
+
+-- the row that an insert makes where no mutation made one at its key
+pub record IsRowAlone (tables : List Table) (cs : List KeyVersions) (es : Changes) (m : CheckedMutation)
+    (row : List ℕ) : Type 0 where
+  pub insert : is_insert m.kind ≡ true
+  pub under : row_under cs es (own_code tables m) ≡ None
+  pub parent : lacks_parent_over tables cs es (parent_of tables m.table) m.key ≡ false
+  pub is : row ≡ row_code (merge_cells m.cells [])
+  pub fits : length (row_code (merge_cells m.cells [])) ≤ longest_row
+
+-- the row that a mutation makes is at its key, and the others are as before
+pub record HasPutRow (tables : List Table) (cs : List KeyVersions) (m : CheckedMutation) (es fs : Changes) : Type 0
+  where
+    pub row : List ℕ
+    pub made : IsPutRow tables cs es m row
+    pub put : IsPutAt (own_code tables m) row es fs
 
 -- ---- the rows that a mutation deletes
 

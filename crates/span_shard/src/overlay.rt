@@ -1,9 +1,9 @@
 //! The rows at keys as mutations leave them, over those that are there now.
-ghost use Rattle.std.specs.Prelude.{◌≡◌, ◌++◌, None, map, filter, is_some, IfOk, IsTrue, OnOk};
+ghost use Rattle.std.specs.Prelude.{◌≡◌, ◌++◌, None, map, filter, is_none, is_some, IfOk, IsTrue, OnOk};
 ghost use Rattle.std.specs.Option.{option_copied};
 ghost use Rattle.span_shard.specs.Rows.{begins_with};
 ghost use Rattle.span_shard.specs.Shard.{AreInOrder};
-ghost use Rattle.span_shard.specs.Overlay.{no_change, changed_at, made_at, row_over, is_unchanged, AreCleared, HasSameCleared, AddsCleared, AreUnder, AreUnchangedUnder, AddsMade, IsPutAt, AreRemoved};
+ghost use Rattle.span_shard.specs.Overlay.{no_change, changed_at, made_at, row_over, row_under, is_unchanged, AreCleared, HasSameCleared, AddsCleared, AreUnder, AreUnchangedUnder, AddsMade, IsPutAt, AreRemoved};
 
 use super::lookups::Lookups;
 use super::place::StoredKey;
@@ -61,6 +61,16 @@ impl Changes {
         Ok(())
     }
 
+    /// Leaves a row at a key, and tells whether mutations had made none there. It takes one search.
+    pub(crate) fn add(&mut self, key: Key, row: Seq<u8>) -> Result<bool, AllocError>
+        ensures absent { IfOk result (λ absent. absent ≡ is_none (made_at self.old.made key)) }
+        ensures put { OnOk result (IsPutAt key row self.old self.new) }
+        ensures cleared { OnOk result (HasSameCleared self.old self.new) }
+    {
+        let before = self.made.insert(key, row)?;
+        Ok(before.is_none())
+    }
+
     // Leaves no row at these keys.
     fn remove(&mut self, keys: Vec<Key>) -> Result<(), AllocError>
         ensures removed { OnOk result (AreRemoved self.old keys.items self.new) }
@@ -103,6 +113,21 @@ fn made_at<'a>(made: &'a BTreeMap<Key, Seq<u8>>, key: &Key) -> Option<&'a Seq<u8
         return None;
     }
     made.get(key)
+}
+
+/// The row at a key at which the mutations made none: none where they removed one, and else what is there now.
+pub(crate) fn row_under<'a>(
+    store: &'a Lookups<'a>,
+    changes: &'a Changes,
+    key: &Key,
+) -> Option<&'a Seq<u8>>
+    requires { AreInOrder store.now }
+    ensures { option_copied result ≡ row_under store.now changes.now key.now }
+{
+    if changes.removed.contains(key) {
+        return None;
+    }
+    store.row_now(key.as_slice())
 }
 
 /// The row at a key: what the mutations left there, and else what is there now.

@@ -1,5 +1,5 @@
 //! Mutations one after another, on the rows at the keys that they touch.
-ghost use Rattle.std.specs.Prelude.{◌≡◌, ◌⊎◌, ◌≤◌, ◌<◌, ◌&&◌, not, take, length, is_some, true, false, IfOk, IfErr, OnOk, MatchResult};
+ghost use Rattle.std.specs.Prelude.{◌≡◌, ◌⊎◌, ◌≤◌, ◌<◌, ◌&&◌, not, take, length, is_some, true, false, IfOk, IfErr, IfSome, IsTrue, OnOk, MatchResult};
 ghost use Rattle.std.specs.Option.{option_copied};
 ghost use Rattle.span_schema.specs.Numbers.{IsTable, parent_of};
 ghost use Rattle.span_rowcode.specs.Rows.{row_code};
@@ -8,12 +8,12 @@ ghost use Rattle.span_mutate.specs.Columns.{is_delete};
 ghost use Rattle.span_mutate.specs.Database.{is_insert, is_update, merge_cells};
 ghost use Rattle.span_mutate.specs.Typed.{IsTypedMutation, AreTypedMutations};
 ghost use Rattle.span_shard.specs.Shard.{AreInOrder};
-ghost use Rattle.span_shard.specs.Overlay.{lacks_parent_over, own_code, AreCellsOf, IsUnpacked, IsBlocked, HasNoKey, IsPutRow, IsNoPut, row_over, AreCleared, AreUnder, HasDeleted, IsNoDelete, AreTableRows, IsRunOf, IsRunFault, AreRunsOf};
+ghost use Rattle.span_shard.specs.Overlay.{lacks_parent_over, made_at, own_code, HasFront, HasParent, HasPutRow, HasSameCleared, IsAddedAt, IsRowAlone, AreCellsOf, IsUnpacked, IsBlocked, HasNoKey, IsPutRow, IsNoPut, row_over, AreCleared, AreUnder, HasDeleted, IsNoDelete, AreTableRows, IsRunOf, IsRunFault, AreRunsOf};
 ghost use Rattle.span_shard.specs.Reading.{IsFault, IsPrepareRefusal};
 
 use super::lookups::Lookups;
 use super::merge::pack_merged;
-use super::overlay::{Changes, has_row, keys_under, row_over};
+use super::overlay::{Changes, has_row, keys_under, row_over, row_under};
 use span_keycode::decode::decode_key;
 use span_keycode::encode::encode_key;
 use span_keycode::key::Key;
@@ -33,16 +33,47 @@ fn first_values(values: &[Value], len: usize) -> &[Value]
     &values[..len.min(values.len())]
 }
 
-// Whether the parent row of a mutation's row is absent.
+// Whether two lists have the same values.
+fn are_same(left: &[Value], right: &[Value]) -> bool
+    ensures { IsTrue result → left.now ≡ right.now }
+{
+    if left.len() != right.len() {
+        return false;
+    }
+    for i in 0..left.len() {
+        if !left[i].is_same(&right[i]) {
+            return false;
+        }
+    }
+    true
+}
+
+// Whether a mutation is there, is of this table, and the first `len` values of its key are these.
+fn has_front(mutation: Option<&CheckedMutation>, table: usize, len: usize, values: &[Value]) -> bool
+    ensures { IsTrue result → HasFront table len values.now (option_copied mutation.entry) }
+{
+    let Some(mutation) = mutation else {
+        return false;
+    };
+    if mutation.table != table {
+        return false;
+    }
+    are_same(first_values(mutation.key.as_slice(), len), values)
+}
+
+// Whether the parent row of a mutation's row is absent. `known` is a mutation whose parent row is there: where both have the same one,
+// it is not looked for.
 fn lacks_parent(
     alloc: Global,
     schema: &Schema,
     store: &Lookups<'_>,
     changes: &Changes,
+    known: Option<&CheckedMutation>,
     mutation: &CheckedMutation,
 ) -> Result<bool, Refusal>
     requires order { AreInOrder store.now }
     requires typed { IsTypedMutation schema.now mutation.now }
+    requires known { HasParent schema.now store.now changes.now (option_copied known) }
     ensures { MatchResult result
         (λ b. b ≡ lacks_parent_over schema.now store.now changes.now (parent_of schema.now mutation.now.table) mutation.now.key)
         (λ why. why ≡ Refusal.OutOfMemory) }
@@ -53,6 +84,9 @@ fn lacks_parent(
         Some(parent) => {
             let len = schema.key_columns(parent).len();
             let values = first_values(mutation.key.as_slice(), len);
+            if has_front(known, mutation.table, len, values) {
+                return Ok(false);
+            }
             let key = encode_key(alloc, schema, parent, values)?;
             Ok(!has_row(store, changes, &key))
         }
@@ -116,11 +150,13 @@ fn row_put(
     schema: &Schema,
     store: &Lookups<'_>,
     changes: &Changes,
+    known: Option<&CheckedMutation>,
     mutation: &CheckedMutation,
     key: &Key,
 ) -> Result<Seq<u8>, Refusal>
     requires order { AreInOrder store.now }
     requires typed { IsTypedMutation schema.now mutation.now }
+    requires known { HasParent schema.now store.now changes.now (option_copied known) }
     requires key { key.now ≡ own_code schema.now mutation.now }
     ensures { MatchResult result
         (IsPutRow schema.now store.now changes.now mutation.now)
@@ -128,11 +164,96 @@ fn row_put(
 {
     let before = row_over(store, changes, key);
     check_presence(mutation.kind, before.is_some())?;
-    if lacks_parent(alloc, schema, store, changes, mutation)? {
+    if lacks_parent(alloc, schema, store, changes, known, mutation)? {
         return Err(Refusal::ParentMissing);
     }
     let old = cells_of(alloc, schema, mutation.table, before)?;
     new_row(alloc, mutation, old.as_slice())
+}
+
+fn is_insert(kind: MutationKind) -> bool
+    ensures { result ≡ is_insert kind }
+{
+    match kind {
+        MutationKind::Insert => true,
+        _ => false,
+    }
+}
+
+// The packed row that an insert makes where mutations made none at its key. None where it makes none even so: why, is not said.
+fn row_alone(
+    alloc: Global,
+    schema: &Schema,
+    store: &Lookups<'_>,
+    changes: &Changes,
+    known: Option<&CheckedMutation>,
+    mutation: &CheckedMutation,
+    key: &Key,
+) -> Result<Option<Seq<u8>>, Refusal>
+    requires order { AreInOrder store.now }
+    requires typed { IsTypedMutation schema.now mutation.now }
+    requires known { HasParent schema.now store.now changes.now (option_copied known) }
+    requires key { key.now ≡ own_code schema.now mutation.now }
+    ensures ok { IfOk result
+        (λ row. IfSome row (IsRowAlone schema.now store.now changes.now mutation.now)) }
+    ensures memory { IfErr result (λ why. why ≡ Refusal.OutOfMemory) }
+{
+    if !is_insert(mutation.kind) {
+        return Ok(None);
+    }
+    if row_under(store, changes, key).is_some() {
+        return Ok(None);
+    }
+    if lacks_parent(alloc, schema, store, changes, known, mutation)? {
+        return Ok(None);
+    }
+    match new_row(alloc, mutation, &[]) {
+        Ok(row) => Ok(Some(row)),
+        Err(_) => Ok(None),
+    }
+}
+
+// Leaves a row at a key, at which mutations are to have made none: `Exists` where they did.
+fn add_row(changes: &mut Changes, key: Key, row: Seq<u8>) -> Result<(), Refusal>
+    ensures added { OnOk result (IsAddedAt key row changes.old changes.new) }
+    ensures cleared { OnOk result (HasSameCleared changes.old changes.new) }
+    ensures refused { IfErr result (λ why.
+        (why ≡ Refusal.OutOfMemory)
+        ⊎ ((why ≡ Refusal.Exists) × (is_some (made_at changes.old.made key) ≡ true))) }
+{
+    if changes.add(key, row)? {
+        Ok(())
+    } else {
+        Err(Refusal::Exists)
+    }
+}
+
+// Puts the row of a mutation at its key. An insert mostly finds none there, and none that mutations made: so its row is made as if
+// there were none, and the search for its place tells whether there was one.
+fn run_put(
+    alloc: Global,
+    schema: &Schema,
+    store: &Lookups<'_>,
+    changes: &mut Changes,
+    known: Option<&CheckedMutation>,
+    mutation: &CheckedMutation,
+    key: Key,
+) -> Result<(), Refusal>
+    requires order { AreInOrder store.now }
+    requires typed { IsTypedMutation schema.now mutation.now }
+    requires known { HasParent schema.now store.now changes.old (option_copied known) }
+    requires key { key ≡ own_code schema.now mutation.now }
+    ensures ok { OnOk result (HasPutRow schema.now store.now mutation.now changes.old changes.new) }
+    ensures cleared { OnOk result (HasSameCleared changes.old changes.new) }
+    ensures refused { IfErr result (IsNoPut schema.now store.now changes.old mutation.now) }
+{
+    match row_alone(alloc, schema, store, changes, known, mutation, &key)? {
+        Some(row) => add_row(changes, key, row),
+        None => {
+            let row = row_put(alloc, schema, store, changes, known, mutation, &key)?;
+            Ok(changes.put(key, row)?)
+        }
+    }
 }
 
 // Whether one of the keys is of a table whose rows stay where a row of this table, above them, is to be deleted.
@@ -198,30 +319,36 @@ fn run_delete(
     Ok(changes.clear(key, keys)?)
 }
 
-// Runs one mutation.
-fn run_one(
+// Runs one mutation. `known` is one whose parent row is there, and so is the result.
+fn run_one<'a>(
     alloc: Global,
     schema: &Schema,
     store: &Lookups<'_>,
     changes: &mut Changes,
-    mutation: &CheckedMutation,
-) -> Result<(), Refusal>
+    known: Option<&'a CheckedMutation>,
+    mutation: &'a CheckedMutation,
+) -> Result<Option<&'a CheckedMutation>, Refusal>
     requires order { AreInOrder store.now }
     requires typed { IsTypedMutation schema.now mutation.now }
     requires rows { AreTableRows schema.now changes.old }
     requires cleared { AreCleared store.now changes.old }
+    requires known { HasParent schema.now store.now changes.old (option_copied known) }
     ensures ok { OnOk result
         (IsRunOf schema.now store.now mutation.now changes.old changes.new) }
     ensures cleared { OnOk result (AreCleared store.now changes.new) }
+    ensures known { IfOk result
+        (λ next. HasParent schema.now store.now changes.new (option_copied next)) }
     ensures refused { IfErr result (IsRunFault schema.now store.now mutation.now changes.old) }
 {
     schema.meets_rules();
     let key = encode_key(alloc, schema, mutation.table, mutation.key.as_slice())?;
     if is_delete(mutation.kind) {
-        return run_delete(alloc, schema, store, changes, mutation, key);
+        run_delete(alloc, schema, store, changes, mutation, key)?;
+        // The parent row may have been deleted.
+        return Ok(None);
     }
-    let row = row_put(alloc, schema, store, changes, mutation, &key)?;
-    Ok(changes.put(key, row)?)
+    run_put(alloc, schema, store, changes, known, mutation, key)?;
+    Ok(Some(mutation))
 }
 
 /// Runs mutations one after another, up to the first fault, and gives what they leave at the keys whose rows they change.
@@ -241,8 +368,9 @@ pub(crate) fn run(
 {
     schema.meets_rules();
     let mut changes = Changes::new(alloc);
+    let mut known = None;
     for mutation in mutations {
-        run_one(alloc, schema, store, &mut changes, mutation)?;
+        known = run_one(alloc, schema, store, &mut changes, known, mutation)?;
     }
     Ok(changes)
 }

@@ -86,7 +86,7 @@ half_nil : unescaped [] ≡ Some []
 unfolding unescaped_after
 half_nil = refl
 
-half_last : (xs : List ℕ) → IsClean xs → unescaped xs ≡ Some xs
+pub half_last : (xs : List ℕ) → IsClean xs → unescaped xs ≡ Some xs
 half_last xs h = ap unescaped (sym (append_nil xs)) ∙ half_clean xs [] h ∙ ap (λ o. put xs o) half_nil ∙ ap Some (append_nil xs)
 
 -- what was read so far, and what is left

@@ -1,15 +1,20 @@
 -- Cells of numbers: what was written is read; and no other cell is that of NULL.
-use Rattle.std.proofs.Common.{◌≡◌, ◌≢◌, ◌==◌, eq-eqb, if◌then◌else◌, ℕ, suc, ◌^◌, ◌<◌, ℤ, pos, negsuc, true, false, List, [], ◌∷◌, get_or, Result, Ok, refl, sym, ap, subst, arith, w64, FitsSigned}
+use Rattle.std.proofs.Common.{◌≡◌, ◌≢◌, ◌==◌, eq-eqb, if◌then◌else◌, ℕ, zero, suc, ◌^◌, ◌<◌, ◌≤◌, ℤ, pos, negsuc, neg_ℤ, true, false, List, [], ◌∷◌, get_or, length, drop, Result, Ok, refl, sym, ap, ◌∙◌, subst, arith, w64, FitsSigned, inl, inr}
 use Rattle.std.specs.Fmt.{decimal, signed_decimal}
-use Rattle.std.specs.Str.Parse.{ParsesSigned, AllDigits}
-use Rattle.std.proofs.lemmas.Str.Parse.{digit_from_value}
+use Rattle.std.specs.Str.Parse.{ParsesSigned, AllDigits, digits_value}
+use Rattle.std.proofs.lemmas.Str.Parse.{digit_from_value, IsNumeralModel, numerals_by_value, tells_digits, parse_signed_plain, parse_signed_plus, parse_signed_minus}
+use Rattle.std.proofs.lemmas.Result.{OkIff-at_ok}
+use Rattle.std.proofs.lemmas.List.{length-drop}
+use Rattle.std.proofs.lemmas.Bool.{cases_eq}
+use Rattle.std.proofs.lemmas.Bool.Decides.{nat_tests}
+use Rattle.std.proofs.lemmas.Grind.{get_or_after_one}
 use Rattle.std.specs.Int.Signed.{mag}
-use Rattle.std.proofs.lemmas.Fmt.{parse-signed_decimal, decimal_is_IsNumeral}
+use Rattle.std.proofs.lemmas.Fmt.{parse-signed_decimal, decimal_is_IsNumeral, decimal-digits_value, decimal_digit, first_decimal}
 use Rattle.span_value.specs.declared.value.Value.{Value}
 use Rattle.span_value.specs.declared.value.Value.TheVariants as value
 use Rattle.span_value.specs.declared.value.Kind.{Kind}
 use Rattle.span_value.specs.declared.value.Kind.TheVariants as kind
-use Rattle.span_value.specs.Cells.{IsCell, escaped, hex_pairs}
+use Rattle.span_value.specs.Cells.{IsCell, escaped, hex_pairs, is_shortest}
 
 mag_small : (n : ℤ) → FitsSigned w64 n → mag n < 2 ^ 63
 mag_small (pos n) h = omega (arith, h)
@@ -63,3 +68,70 @@ null_alone kind.Str (value.Bytes n) h = absurd h.0
 null_alone kind.Bytes (value.Bool n) h = absurd h.0
 null_alone kind.Bytes (value.Int n) h = absurd h.0
 null_alone kind.Bytes (value.Str n) h = absurd h.0
+
+-- ---- numbers as the library reads them
+
+model : IsNumeralModel (AllDigits 10) (digits_value 10)
+model = numerals_by_value (AllDigits 10) tells_digits
+
+pub ok_is : {E : Type 0} (x y : ℤ) → (let r : Result ℤ E = Ok x in r) ≡ Ok y → x ≡ y
+ok_is x y e = cc
+
+-- a shortest text, by its first bytes
+record Shortest (bs : List ℕ) : Type 0 where
+  pub plus : get_or bs 0 0 ≡ 43 → length bs < 2
+  pub zero_first : get_or bs 0 0 ≡ 48 → length bs < 2
+  pub minus_zero : get_or bs 0 0 ≡ 45 → get_or bs 1 0 ≡ 48 → length bs < 2
+
+shortest : (bs : List ℕ) → is_shortest bs ≡ true → Shortest bs
+shortest bs e = record {
+  plus = λ h. grind (arith, nat_tests);
+  zero_first = λ h. grind (arith, nat_tests);
+  minus_zero = λ h g. grind (arith, nat_tests);
+}
+
+plain_is : (bs : List ℕ) → AllDigits 10 bs → 0 < length bs → digits_value 10 bs < 2 ^ 63 → Shortest bs → signed_decimal (pos (digits_value 10 bs)) ≡ bs
+plain_is bs digits some small short = decimal-digits_value model bs digits some (λ z. omega (arith, short.zero_first z)) (omega arith)
+
+minus_is : (ds : List ℕ) → AllDigits 10 ds → 0 < length ds → digits_value 10 ds ≤ 2 ^ 63 → get_or ds 0 0 ≢ 48 → signed_decimal (neg_ℤ (pos (digits_value 10 ds))) ≡ 45 ∷ ds
+minus_is ds digits some small lead = by_value (digits_value 10 ds) refl
+  where
+    spelled : decimal (digits_value 10 ds) ≡ ds
+    spelled = decimal-digits_value model ds digits some (λ z. absurd (lead z)) (omega arith)
+
+    by_value : (n : ℕ) → digits_value 10 ds ≡ n → signed_decimal (neg_ℤ (pos n)) ≡ 45 ∷ ds
+    by_value zero e = absurd (lead (ap (λ (w : List ℕ). get_or w 0 0) (sym spelled ∙ ap decimal e ∙ decimal_digit 0 (omega arith))))
+    by_value (suc n) e = ap (λ (w : List ℕ). 45 ∷ w) (ap decimal (sym e) ∙ spelled)
+
+minus_front : (bs : List ℕ) → get_or bs 0 0 ≡ 45 → bs ≡ 45 ∷ drop 1 bs
+minus_front [] e = absurd (omega arith)
+minus_front (b ∷ bs) e = ap (λ (n : ℕ). n ∷ bs) e
+
+-- what the library reads of a shortest text is the number whose cell it is
+pub shortest_read : {E : Type 0} (bs : List ℕ) (n : ℤ) (r : Result ℤ E) → ParsesSigned w64 10 bs r → r ≡ Ok n → is_shortest bs ≡ true → signed_decimal n ≡ bs
+shortest_read bs n r parses e s =
+    let short = shortest bs s in
+    elim (cases_eq (get_or bs 0 0) 43) [
+      | inl plus ↦ (let p = OkIff-at_ok r _ _ n (parse_signed_plus model w64 bs r parses plus) e in
+          absurd (omega (arith, p.0.1, length-drop 1 bs, short.plus plus)))
+      | inr other ↦ elim (cases_eq (get_or bs 0 0) 45) [
+        | inl minus ↦ (let p = OkIff-at_ok r _ _ n (parse_signed_minus model w64 bs r parses minus) e in
+            let lead : get_or (drop 1 bs) 0 0 ≢ 48 = λ z. omega (arith, p.0.1, length-drop 1 bs, short.minus_zero minus (sym (get_or_after_one bs 0 0) ∙ z)) in
+            ap signed_decimal p.1 ∙ minus_is (drop 1 bs) p.0.0 p.0.1 p.0.2 lead ∙ sym (minus_front bs minus))
+        | inr digit ↦ (let p = OkIff-at_ok r _ _ n (parse_signed_plain model w64 bs r parses other digit) e in
+            ap signed_decimal p.1 ∙ plain_is bs p.0.0 p.0.1 p.0.2 short)
+      ]
+    ]
+
+-- a number's cell is shortest
+pub cell_shortest : (n : ℤ) (bs : List ℕ) → FitsSigned w64 n → signed_decimal n ≡ bs → is_shortest bs ≡ true
+cell_shortest n bs fits e = ap is_shortest (sym e) ∙ each n fits
+  where
+    each : (n : ℤ) → FitsSigned w64 n → is_shortest (signed_decimal n) ≡ true
+    each (pos zero) fits = ap is_shortest (decimal_digit 0 (omega arith))
+    each (pos (suc m)) fits =
+        let first : 48 < get_or (decimal (suc m)) 0 0 = first_decimal (suc m) (omega arith) (omega (arith, fits)) in
+        grind (arith, nat_tests, first)
+    each (negsuc m) fits =
+        let first : 48 < get_or (decimal (suc m)) 0 0 = first_decimal (suc m) (omega arith) (omega (arith, fits)) in
+        grind (arith, nat_tests, first)

@@ -1,5 +1,5 @@
 -- The cell that a value is written as in a record, and of which kinds a value is.
-use Rattle.std.specs.Prelude.{◌≡◌, ◌≢◌, ℕ, length, slice_index, ◌+◌, ◌-◌, ◌*◌, ◌/◌, ◌%◌, ◌<◌, ◌==◌, nat_lt, Bool, true, false, List, [], ◌∷◌, if◌then◌else◌, Option, Some, None, FitsSigned}
+use Rattle.std.specs.Prelude.{◌≡◌, ◌≢◌, ℕ, length, slice_index, ◌+◌, ◌-◌, ◌*◌, ◌/◌, ◌%◌, ◌<◌, ◌==◌, nat_lt, Bool, true, false, not, ◌&&◌, ◌||◌, List, [], ◌∷◌, if◌then◌else◌, Option, Some, None, FitsSigned}
 use Rattle.std.specs.Int.{w64}
 use Rattle.std.specs.Option.{option_map}
 use Rattle.std.specs.Fmt.{signed_decimal}
@@ -44,6 +44,10 @@ abbrev pub IsCell : Kind → Value → List ℕ → Type 0
 IsCell kind v text = IsOfKind kind v × (cell_of v ≡ text)
 
 -- ---- reading
+
+-- of a number with a sign or none: no plus, no leading zero but where it is all, and no minus before zero
+abbrev pub is_shortest : List ℕ → Bool
+is_shortest bs = nat_lt (length bs) 2 || (if slice_index bs 0 == 45 then not (slice_index bs 1 == 48) else not (slice_index bs 0 == 48) && not (slice_index bs 0 == 43))
 
 -- the text before its backslashes were doubled, if there is one; true: the byte before is the first backslash of a pair
 unfoldable pub unescaped_after : Bool → List ℕ → Option (List ℕ)

@@ -2,9 +2,9 @@
 //!
 //! NULL is `\N`, a BOOL `true` or `false`, an INT64 its decimal digits, a STRING its text with each backslash doubled, BYTES
 //! `\x` and two hexadecimal digits a byte, in lower case.
-ghost use Rattle.std.specs.Prelude.{◌≡◌, ◌≢◌, [], ◌∷◌, ◌++◌, ◌+◌, ◌*◌, ◌/◌, ◌%◌, ◌⊎◌, ◌<◌, ℕ, ℤ, Bool, List, IfOk, OnOk, IfErr, IfSome, IsOkUnless, MatchOption, string_bytes};
+ghost use Rattle.std.specs.Prelude.{◌≡◌, ◌≢◌, [], ◌∷◌, ◌++◌, ◌+◌, ◌*◌, ◌/◌, ◌%◌, ◌⊎◌, ◌<◌, ℕ, ℤ, Bool, List, IfOk, OnOk, IfErr, IfSome, IsTrue, IsOkUnless, MatchOption, string_bytes};
 ghost use Rattle.std.specs.Char.{digit_char};
-ghost use Rattle.span_value.specs.Cells.{cell_of, IsCell, IsClean, escaped, hex_pairs, unescaped, decoded_hex, half_byte};
+ghost use Rattle.span_value.specs.Cells.{cell_of, IsCell, IsClean, escaped, hex_pairs, is_shortest, unescaped, decoded_hex, half_byte};
 
 use super::refusal::Refusal;
 use super::seq::Seq;
@@ -106,11 +106,24 @@ fn read_int(text: &str) -> Result<Value, Refusal>
         return Err(Refusal::WrongType);
     };
     // The library's reader also takes a plus and leading zeros.
-    if Buffer::new().format(number) == text {
+    if is_shortest(text.as_bytes()) {
         Ok(Value::Int(number))
     } else {
         Err(Refusal::WrongType)
     }
+}
+
+// Whether a number, as the library reads it, is written without a plus, a leading zero, or a minus before zero.
+fn is_shortest(digits: &[u8]) -> bool
+    ensures { result ≡ is_shortest digits.now }
+{
+    if digits.len() < 2 {
+        return true;
+    }
+    if digits[0] == b'-' {
+        return digits[1] != b'0';
+    }
+    digits[0] != b'0' && digits[0] != b'+'
 }
 
 fn read_bool(text: &str) -> Result<Value, Refusal>
@@ -132,6 +145,13 @@ fn split_at_backslash(text: &str) -> Option<(&str, &str)>
     text.split_once('\\')
 }
 
+/// Whether there is no backslash in the text.
+fn is_clean(text: &str) -> bool
+    ensures { IsTrue result → IsClean text.now }
+{
+    split_at_backslash(text).is_none()
+}
+
 /// What is after the backslash that the text begins with.
 fn strip_backslash(text: &str) -> Option<&str>
     ensures { MatchOption result ((rest : List ℕ) → text.now ≢ 92 ∷ rest) (λ rest. text.now ≡ 92 ∷ rest.now) }
@@ -146,6 +166,10 @@ fn read_text(alloc: Global, text: &str) -> Result<Value, Refusal>
         → (result ≡ Ok (Value.Str w)) ⊎ (result ≡ Err Refusal.OutOfMemory) }
     ensures refusals { IfErr result (λ why. (why ≡ Refusal.WrongType) ⊎ (why ≡ Refusal.OutOfMemory)) }
 {
+    // Most texts have no backslash. A short one then takes no memory.
+    if is_clean(text) {
+        return Ok(Value::Str(Text::from_str(alloc, text)?));
+    }
     match unescape_text(alloc, text)? {
         Some(unescaped) => Ok(Value::Str(Text::from_string(unescaped))),
         None => Err(Refusal::WrongType),

@@ -1,21 +1,33 @@
-use Rattle.std.proofs.Common.{◌≡◌, ◌≢◌, ◌∙◌, ◌==◌, ◌<◌, ℕ, List, [], ◌∷◌, Bor, Option, Some, None, MatchOption, false, get_or, length, lit<, sym, ap, arith}
-use Rattle.std.specs.List.{All, after_first}
-use Rattle.std.proofs.lemmas.Grind.{common_steps}
-use Rattle.std.proofs.lemmas.List.Splits.{slice_split_none, slice_split_first}
-use Rattle.std.proofs.lemmas.Str.Pattern.{IsSplitOnceResult, split_parts, split_once_first}
+use Rattle.std.proofs.Common.{◌≡◌, ◌∙◌, ◌+◌, ◌-◌, ◌<◌, ℕ, List, ◌∷◌, arith, sym, ap, subst, get_or, length, take, Option, Some, None}
+use Rattle.std.proofs.lemmas.Bool.{eqb-true}
+use Rattle.std.proofs.lemmas.Str.{IsCharBoundary-after_ascii}
+use Rattle.memchr.specs.Find.{IsFirstByte, is_byte}
 use Rattle.span_command.specs.Record.{pieces}
+use Rattle.span_command.proofs.Commas.{no_comma, first_comma}
 use Rattle.span_command.proofs.record_reader.at_comma.Goals as goal
 
-no_comma : (bs : List ℕ) → ((i : ℕ) → i < length bs → get_or bs i 0 ≢ 44) → All (λ b. (b == 44) ≡ false) bs
-no_comma bs h = λ k d l. let apart = h k l in grind (arith, common_steps)
+-- the search is one of the text
+of_text : (text bytes : List ℕ) (r s : Option ℕ) → bytes ≡ text → r ≡ s → IsFirstByte (is_byte 44) bytes r → IsFirstByte (is_byte 44) text s
+of_text text bytes r s same is found = subst (IsFirstByte (is_byte 44) text) is (subst (λ (w : List ℕ). IsFirstByte (is_byte 44) w r) same found)
 
-cut_of : (bs : List ℕ) (r : Option (Bor (List ℕ) × Bor (List ℕ))) → IsSplitOnceResult 44 bs r → MatchOption r (pieces bs ≡ bs ∷ []) (λ x. pieces bs ≡ x.0.now ∷ pieces x.1.now)
-cut_of bs None h = slice_split_none (λ b. b == 44) bs (no_comma bs (split_parts 44 bs None h (lit< tt)))
-cut_of bs (Some x) h =
-    let first = split_once_first 44 bs (Some x) h (lit< tt) in
-    slice_split_first (λ b. b == 44) bs 0 first.0
-    ∙ ap (λ (w : List ℕ). w ∷ pieces (after_first (λ b. b == 44) bs)) (sym first.1)
-    ∙ ap (λ (w : List ℕ). x.0.now ∷ pieces w) (sym first.2)
+pub returns-in_err-at-clause-cut : goal.returns-in_err-at-clause-cut
+returns-in_err-at-clause-cut c =
+    rw c.from_residual.ensures (no_comma c.args.text.now (of_text c.args.text.now c.as_bytes.result.now c.memchr.result None c.as_bytes.ensures.value c.in_err-at.was c.memchr.ensures))
+
+pub range_from-requires : goal.range_from-requires
+range_from-requires c =
+    let text = c.args.text.now in
+    let found = of_text text c.as_bytes.result.now c.memchr.result (Some c.in_ok-at.at) c.as_bytes.ensures.value c.in_ok-at.was c.memchr.ensures in
+    let comma : get_or text c.in_ok-at.at 0 ≡ 44 = eqb-true (get_or text c.in_ok-at.at 0) 44 found.1 in
+    λ _. IsCharBoundary-after_ascii text c.in_ok-at.at c.utf8.text found.0.high (omega (arith, comma))
 
 pub returns-clause-cut : goal.returns-clause-cut
-returns-clause-cut c = cut_of c.args.text.now c.split_once.result c.split_once.ensures.cases
+returns-clause-cut c =
+    let text = c.args.text.now in
+    let at = c.in_ok-at.at in
+    let found = of_text text c.as_bytes.result.now c.memchr.result (Some at) c.as_bytes.ensures.value c.in_ok-at.was c.memchr.ensures in
+    let end : at - 0 ≡ at = omega arith in
+    let front : c.range.result.now ≡ take at text = c.range.ensures.value ∙ ap (λ (n : ℕ). take n text) end in
+    first_comma text at found.0.high found.1 found.0.before
+    ∙ ap (λ (w : List ℕ). take at text ∷ pieces w) (sym c.range_from.ensures.value)
+    ∙ ap (λ (w : List ℕ). w ∷ pieces c.range_from.result.now) (sym front)

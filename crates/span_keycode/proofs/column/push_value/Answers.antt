@@ -1,4 +1,4 @@
-use Rattle.std.proofs.Common.{◌≡◌, ℕ, List, ◌++◌, ◌∷◌, [], Bool, true, false, rules, refl, sym, ◌∙◌, ap, append_assoc}
+use Rattle.std.proofs.Common.{◌≡◌, ℕ, List, ◌++◌, ◌∷◌, rules, sym, ◌∙◌, ap}
 use Rattle.std.specs.Int.{to_be_bytes, w64}
 use Rattle.std.proofs.lemmas.Int.{to_z-of_z}
 use Rattle.std.proofs.lemmas.Result.{on_ok_weaker}
@@ -7,21 +7,14 @@ use Rattle.span_value.specs.declared.value.Value.{Value}
 use Rattle.span_keycode.specs.Coding.{to_unsigned, in_direction, column_code}
 use Rattle.span_keycode.proofs.column.push_value.Goals as goal
 
-after_first : (d : Bool) (a : ℕ) (xs : List ℕ) → in_direction d (a ∷ []) ++ in_direction d xs ≡ in_direction d (a ∷ xs)
-after_first false a xs = refl
-after_first true a xs = refl
-
-pub returns-in_ok-push_directed-in-Int-clause-bytes : goal.returns-in_ok-push_directed-in-Int-clause-bytes
-returns-in_ok-push_directed-in-Int-clause-bytes c =
+pub returns-in-Int-clause-bytes : goal.returns-in-Int-clause-bytes
+returns-in-Int-clause-bytes c =
     let d = c.args.column.desc in
     let old = c.args.out.now.items in
     let fits : FitsSigned w64 c.in-Int.number = search rules in
     let number : c.to_unsigned.result ≡ to_unsigned c.in-Int.number = c.to_unsigned.ensures ∙ ap to_unsigned (to_z-of_z w64 c.in-Int.number fits) in
     on_ok_weaker c.push_number.result
     (λ e. e
-    ∙ ap (λ (xs : List ℕ). xs ++ in_direction d (to_be_bytes w64 c.to_unsigned.result)) c.in_ok-push_directed-in-Int.ensures.bytes
-    ∙ append_assoc old (in_direction d (1 ∷ [])) (in_direction d (to_be_bytes w64 c.to_unsigned.result))
-    ∙ ap (λ (xs : List ℕ). old ++ xs) (after_first d 1 (to_be_bytes w64 c.to_unsigned.result))
     ∙ ap (λ (n : ℕ). old ++ in_direction d (1 ∷ to_be_bytes w64 n)) number
     ∙ ap (λ (v : Value). old ++ column_code c.args.column v) (sym c.in-Int.is))
     c.push_number.ensures.bytes

@@ -4,6 +4,7 @@ use Rattle.span_value.specs.declared.value.Value.{Value}
 use Rattle.span_keycode.specs.Keys.{key_code, encode_cause}
 use Rattle.span_shard.specs.Overlay.{changed_at, is_same, own_code}
 use Rattle.span_shard.proofs.Codes.{never_refused}
+use Rattle.span_shard.proofs.Alone.{put_known}
 use Rattle.span_shard.proofs.RunPuts.{put_run}
 use Rattle.span_shard.proofs.RunDeletes.{delete_run}
 use Rattle.span_shard.proofs.RunAll.{memory_refused, put_refused, delete_refused}
@@ -19,25 +20,25 @@ returns-in_err-key-clause-refused c =
       | inr e ↦ e
     ]))
 
+pub returns-in_err-run_delete-clause-refused : goal.returns-in_err-run_delete-clause-refused
+returns-in_err-run_delete-clause-refused c =
+    let p = err_from_is_err_and c.from_residual-in_err-run_delete.result c.from_residual-in_err-run_delete.ensures.1 in
+    rw (p.1, p.2) (delete_refused c.args.schema.now c.meets_rules.ensures c.args.store.now c.args.changes.now c.args.mutation.now c.in_err-run_delete.field-0.0 c.requires.typed (sym c.is_delete.ensures ∙ c.if-is_delete.true) c.requires.rows c.in_err-run_delete.ensures.refused)
+
 pub returns-then-is_delete-clause-ok : goal.returns-then-is_delete-clause-ok
 returns-then-is_delete-clause-ok c =
-    on_ok_weaker c.run_delete.result
-    (λ d. delete_run c.args.schema.now c.meets_rules.ensures c.args.store.now c.args.changes.now c.run_delete.new.changes c.args.mutation.now d.keys c.requires.typed (sym c.is_delete.ensures ∙ c.if-is_delete.true) c.requires.rows d.are d.removed) c.run_delete.ensures.ok
+    let d = c.in_ok-run_delete.ensures.ok in
+    delete_run c.args.schema.now c.meets_rules.ensures c.args.store.now c.args.changes.now c.run_delete.new.changes c.args.mutation.now d.keys c.requires.typed (sym c.is_delete.ensures ∙ c.if-is_delete.true) c.requires.rows d.are d.removed
 
-pub returns-then-is_delete-clause-refused : goal.returns-then-is_delete-clause-refused
-returns-then-is_delete-clause-refused c =
-    IfErr-weaker c.run_delete.result _ _
-    (λ why e. delete_refused c.args.schema.now c.meets_rules.ensures c.args.store.now c.args.changes.now c.args.mutation.now why c.requires.typed (sym c.is_delete.ensures ∙ c.if-is_delete.true) c.requires.rows e) c.run_delete.ensures.refused
-
-pub returns-in_err-row-clause-refused : goal.returns-in_err-row-clause-refused
-returns-in_err-row-clause-refused c =
-    let p = err_from_is_err_and c.from_residual-in_err-row.result c.from_residual-in_err-row.ensures.1 in
-    rw (p.1, p.2) (put_refused c.args.schema.now c.meets_rules.ensures c.args.store.now c.args.changes.now c.args.mutation.now c.in_err-row.field-0.0 c.requires.typed (sym c.is_delete.ensures ∙ c.if-is_delete.false) c.requires.rows c.in_err-row.ensures)
+pub returns-in_err-run_put-clause-refused : goal.returns-in_err-run_put-clause-refused
+returns-in_err-run_put-clause-refused c =
+    let p = err_from_is_err_and c.from_residual-in_err-run_put.result c.from_residual-in_err-run_put.ensures.1 in
+    rw (p.1, p.2) (put_refused c.args.schema.now c.meets_rules.ensures c.args.store.now c.args.changes.now c.args.mutation.now c.in_err-run_put.field-0.0 c.requires.typed (sym c.is_delete.ensures ∙ c.if-is_delete.false) c.requires.rows c.in_err-run_put.ensures.refused)
 
 pub returns-clause-ok : goal.returns-clause-ok
 returns-clause-ok c =
-    let tables = c.args.schema.now in
-    let m = c.args.mutation.now in
-    let key : c.in_ok-key.key ≡ own_code tables m = c.in_ok-key.ensures.coded.2 ∙ ap (key_code tables m.table) c.as_slice.ensures in
-    put_run tables c.meets_rules.ensures c.args.store.now c.args.changes.now c.put.new.self m c.in_ok-row.row c.requires.typed (sym c.is_delete.ensures ∙ c.if-is_delete.false) c.requires.rows c.in_ok-row.ensures
-    (λ k. c.in_ok-put.ensures.put k ∙ ap (λ (l : List ℕ). cond (is_same l k) (Some (Some c.in_ok-row.row)) (changed_at c.args.changes.now k)) key)
+    let p = c.in_ok-run_put.ensures.ok in
+    put_run c.args.schema.now c.meets_rules.ensures c.args.store.now c.args.changes.now c.run_put.new.changes c.args.mutation.now p.row c.requires.typed (sym c.is_delete.ensures ∙ c.if-is_delete.false) c.requires.rows p.made p.put
+
+pub returns-clause-known : goal.returns-clause-known
+returns-clause-known c = put_known c.args.schema.now c.args.store.now c.args.mutation.now c.args.changes.now c.run_put.new.changes c.in_ok-run_put.ensures.ok
