@@ -7,6 +7,7 @@ pub mod Families
 pub mod Faults
 pub mod Filters
 pub mod Fronts
+pub mod InOrder
 pub mod Keyed
 pub mod Keys
 pub mod Local
