@@ -2,10 +2,12 @@ pub mod Apart
 pub mod Begins
 pub mod Breaks
 pub mod ByRoots
+pub mod Chars
 pub mod Deletes
 pub mod Families
 pub mod Faults
 pub mod Filters
+pub mod Finding
 pub mod Fronts
 pub mod InOrder
 pub mod Keyed

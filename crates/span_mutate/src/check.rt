@@ -1,8 +1,8 @@
 //! The check of one mutation against the schema, before any row is looked at.
-ghost use Rattle.std.specs.Prelude.{◌≡◌, ◌⊎◌, [], true, false, IfOk, MatchResult, None, Some, Ok, Err, take};
+ghost use Rattle.std.specs.Prelude.{◌≡◌, ◌⊎◌, [], true, false, All, IfOk, IfSome, IsTrue, MatchResult, None, Some, Ok, Err, take};
 ghost use Rattle.std.specs.Option.{option_copied, option_or};
 ghost use Rattle.span_value.specs.Results.{first_cause};
-ghost use Rattle.span_schema.specs.Numbers.{IsTable, table_at};
+ghost use Rattle.span_schema.specs.Numbers.{IsTable, number_named, table_at};
 ghost use Rattle.span_keycode.specs.Keys.{IsCodedKey};
 ghost use Rattle.span_mutate.specs.Typed.{IsTypedMutation};
 ghost use Rattle.span_mutate.specs.Checking.{key_causes, cell_causes, cells_cause, lack_causes, mutation_cause, checked, checked_at};
@@ -250,20 +250,45 @@ fn check_at(
     })
 }
 
-/// A mutation, checked against the schema. `docs/REFUSALS.md` has the order of the refusals; `OutOfMemory`: memory
+// Whether the table with this number has the name. Then no other has.
+fn is_table_named(schema: &Schema, number: usize, name: &str) -> bool
+    requires { IsTable schema.now number }
+    ensures { IsTrue result → number_named schema.now name.now ≡ Some number }
+{
+    schema.meets_rules();
+    schema.table(number).name.as_str() == name
+}
+
+// The number of the table with a name: mostly that of the last of these mutations, and then no other is looked at.
+fn table_number(schema: &Schema, before: &[CheckedMutation], name: &str) -> Option<usize>
+    requires { All (λ m. IsTable schema.now m.table) before.now }
+    ensures number { result ≡ number_named schema.now name.now }
+    ensures table { IfSome result (λ n. IsTable schema.now n) }
+{
+    if let Some(last) = before.last() {
+        if is_table_named(schema, last.table, name) {
+            return Some(last.table);
+        }
+    }
+    schema.find(name)
+}
+
+/// A mutation, checked against the schema. Those before it were. `docs/REFUSALS.md` has the order of the refusals; `OutOfMemory`: memory
 /// ran out.
 pub(crate) fn check(
     alloc: Global,
     schema: &Schema,
+    before: &[CheckedMutation],
     mutation: Mutation,
 ) -> Result<CheckedMutation, Refusal>
+    requires { All (λ m. IsTable schema.now m.table) before.now }
     ensures checked { MatchResult result
         (λ c. checked schema.now mutation ≡ Ok c)
         (λ why. (checked schema.now mutation ≡ Err why) ⊎ (why ≡ Refusal.OutOfMemory)) }
     ensures table { IfOk result (λ c. IsTable schema.now c.table) }
     ensures typed { IfOk result (λ c. IsTypedMutation schema.now c) }
 {
-    match schema.find(mutation.table.as_str()) {
+    match table_number(schema, before, mutation.table.as_str()) {
         None => Err(Refusal::NoTable),
         Some(number) => check_at(alloc, schema, number, mutation),
     }

@@ -1,5 +1,5 @@
 //! What a column takes, and which columns cells name.
-ghost use Rattle.std.specs.Prelude.{◌≡◌, ℕ, List, Some, false, map, position, slice_get, IfSome, IsTrue, MatchResult, length};
+ghost use Rattle.std.specs.Prelude.{◌≡◌, ℕ, List, Some, false, map, nat_lt, position, slice_get, IfSome, IsTrue, MatchResult, length};
 ghost use Rattle.std.specs.Option.{option_copied};
 ghost use Rattle.std.specs.Str.{chars};
 ghost use Rattle.span_schema.specs.Fitting.{Fits};
@@ -77,11 +77,31 @@ fn char_count(text: &str) -> usize
     text.chars().count()
 }
 
+// Whether the text has more characters than `most`.
+fn is_text_longer(most: u64, text: &str) -> bool
+    ensures { result ≡ nat_lt most (length (chars text.now)) }
+{
+    // No character has less than a byte.
+    if text.len() as u64 <= most {
+        return false;
+    }
+    most < char_count(text) as u64
+}
+
+fn exceeds_chars(most: Option<u64>, text: &str) -> bool
+    ensures { result ≡ exceeds most (length (chars text.now)) }
+{
+    match most {
+        None => false,
+        Some(most) => is_text_longer(most, text),
+    }
+}
+
 fn exceeds_type(kind: ColumnType, value: &Value) -> bool
     ensures { result ≡ exceeds_type kind value.now }
 {
     match (kind, value) {
-        (ColumnType::Str(most), Value::Str(text)) => exceeds(most, char_count(text.as_str())),
+        (ColumnType::Str(most), Value::Str(text)) => exceeds_chars(most, text.as_str()),
         (ColumnType::Bytes(most), Value::Bytes(bytes)) => exceeds(most, bytes.len()),
         _ => false,
     }
