@@ -251,7 +251,7 @@ fn values_in_order(alloc: Global, cells: Vec<NamedValue>) -> Result<Vec<Option<V
     let mut values = Vec::with_capacity(alloc, cells.len())?;
     for cell in cells {
         let NamedValue { value, .. } = cell;
-        values.push(Some(value))?;
+        values.push_reserved(Some(value));
     }
     Ok(values)
 }
