@@ -1,7 +1,7 @@
 -- Cells that name the columns outside the key in their order, and keys by the places of their columns.
 use Rattle.std.proofs.Common.{◌≡◌, ℕ, zero, suc, ◌+◌, ◌-◌, ◌<◌, ◌≤◌, ◌==◌, ◌≢◌, Bool, true, false, ◌&&◌, ◌||◌, not, cond, List, [], ◌∷◌, ◌++◌, Option, Some, None, is_none, is_some, length, drop, get_or, min, map, refl, sym, ap, subst, ◌∙◌, arith, append_assoc, length-append}
-use Rattle.std.specs.Prelude.{slice_get, position, bytes_eq}
-use Rattle.std.specs.List.{AllByRecursion, find, filter, filter_map, cons_option, list_any}
+use Rattle.std.specs.Prelude.{slice_get, bytes_eq}
+use Rattle.std.specs.List.{AllByRecursion, find, filter, cons_option, list_any}
 use Rattle.std.specs.Option.{option_or, option_map}
 use Rattle.std.proofs.lemmas.Bool.{and_parts, or_parts, or_from, and_left, and_right}
 use Rattle.std.proofs.lemmas.Option.{slice_get-get_or}

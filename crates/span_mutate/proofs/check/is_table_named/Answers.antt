@@ -1,4 +1,4 @@
-use Rattle.std.proofs.Common.{◌≡◌, ◌∙◌, ℕ, List, Some, true, sym, ap}
+use Rattle.std.proofs.Common.{◌≡◌, ◌∙◌, sym, ap}
 use Rattle.std.proofs.lemmas.Slice.Eq.{bytes_eq-Decides}
 use Rattle.span_schema.specs.Numbers.{number_named}
 use Rattle.span_mutate.proofs.Finding.{named_itself}

@@ -1,4 +1,4 @@
-use Rattle.std.proofs.Common.{◌≡◌, ◌∙◌, ℕ, List, ap}
+use Rattle.std.proofs.Common.{◌∙◌, ℕ, List, ap}
 use Rattle.span_schema.specs.declared.table.Column.{Column}
 use Rattle.span_mutate.specs.Columns.{is_null_refused}
 use Rattle.span_mutate.specs.InOrder.{places_break}

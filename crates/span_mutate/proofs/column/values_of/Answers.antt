@@ -1,5 +1,5 @@
 use Rattle.std.proofs.Common.{◌≡◌, ◌∙◌, List, Option, sym, subst}
-use Rattle.std.specs.Prelude.{MatchResult, map, Some}
+use Rattle.std.specs.Prelude.{MatchResult}
 use Rattle.span_value.specs.declared.value.Value.{Value}
 use Rattle.span_value.specs.declared.refusal.Refusal.TheVariants as refusal
 use Rattle.span_mutate.proofs.InOrder.{values_given}
