@@ -1,7 +1,6 @@
 -- The bytes at which the fields of a record end, and those that a plain text has not.
-use Rattle.std.proofs.Common.{◌≡◌, ◌∙◌, ◌==◌, ◌||◌, ◌+◌, ◌-◌, ◌<◌, ◌≤◌, ℕ, suc, List, [], ◌∷◌, ◌++◌, Bool, true, false, ◌⊎◌, inl, inr, refl, sym, ap, arith, get_or, length, take, drop, length-drop, get_or-drop}
-use Rattle.std.specs.List.{All}
-use Rattle.std.proofs.lemmas.Bool.{or_parts, cases_order}
+use Rattle.std.proofs.Common.{◌≡◌, ◌∙◌, ◌==◌, ◌+◌, ◌-◌, ◌<◌, ℕ, List, [], ◌∷◌, true, false, ◌⊎◌, inl, inr, sym, ap, arith, get_or, length, take, drop, length-drop, get_or-drop}
+use Rattle.std.proofs.lemmas.Bool.{or_parts}
 use Rattle.std.proofs.lemmas.List.{get_or_default}
 use Rattle.memchr.specs.Find.{Nowhere, Passes, is_byte}
 use Rattle.span_command.specs.Record.{pieces, is_mark, is_special, IsFree, IsUnmarked}

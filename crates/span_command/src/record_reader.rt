@@ -48,10 +48,7 @@ pub fn read_fields(alloc: Global, text: &str, fields: &mut StringRecord) -> Resu
 pub(crate) fn plain_fields(alloc: Global, text: &str) -> Result<Option<Texts<'_>>, AllocError>
     ensures { IfOk result (λ found. IfSome found (λ fields. texts fields.items ≡ record_fields text.now)) }
 {
-    if text.is_empty() {
-        return Ok(None);
-    }
-    if may_be_marked(text.as_bytes()) {
+    if text.is_empty() || may_be_marked(text.as_bytes()) {
         return Ok(None);
     }
     pieces_of(alloc, text)
@@ -91,11 +88,11 @@ fn at_plain_comma(text: &str) -> Option<(&str, &str)>
     ensures unmarked { IfSome result (λ x. IsUnmarked x.1.now → IsUnmarked text.now) }
 {
     let bytes = text.as_bytes();
-    let at = special_place(bytes)?;
-    if bytes[at] != b',' {
+    let end = special_place(bytes)?;
+    if bytes[end] != b',' {
         return None;
     }
-    Some((&text[..at], &text[at + 1..]))
+    Some((&text[..end], &text[end + 1..]))
 }
 
 /// The place of the first comma, quote, CR or LF.
