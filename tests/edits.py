@@ -444,6 +444,13 @@ def unproved(rt, crates, jobs):
         return [crate.name for crate, tried in zip(crates, found) if not tried[0][0]]
 
 
+def is_out_of_date(crate):
+    """Whether the library that stands is one of other files of the crate, as after `rt ci` in a clone in which something was built before:
+    then it may have other contracts. (`rt ci` writes no stamp beside those that it builds.)"""
+    stamp = os.path.join(crate.folder, "out", "rlib", "stamp")
+    return os.path.exists(stamp) and read(stamp).strip() != crate.stamp()
+
+
 def main():
     words, rt = arguments(), toolchain()
     rt.rtlib.guarded()
@@ -463,8 +470,7 @@ def main():
             build_libraries(crates)
             lacking = unproved(rt, crates, words.jobs)
         else:
-            # An older library has other contracts.
-            lacking = sorted({low.name for crate in crates for low in crate.below() if low is not crate and not low.is_built()})
+            lacking = sorted({low.name for crate in crates for low in crate.below() if is_out_of_date(low)})
         if lacking:
             sys.exit(f"edits: not proved as they are: {', '.join(lacking)}")
         tried = try_all(rt, crates, edits, words, is_kept, None if words.gate else commit_here())
