@@ -8,6 +8,7 @@ mod FirstRows
 pub mod Limits
 pub mod Alike
 mod Filtering
+mod Fusing
 pub mod Firsts
 pub mod Taking
 pub mod Together

@@ -48,26 +48,27 @@ pub(crate) fn copy_of(alloc: Global, value: &Value) -> Result<Value, AllocError>
     }
 }
 
-/// The values and then more.
-pub(crate) fn extend_row(
+/// Adds copies of the values at the end.
+pub(crate) fn extend(
     alloc: Global,
-    mut row: Vec<Value>,
+    row: &mut Vec<Value>,
     more: &[Value],
-) -> Result<Vec<Value>, AllocError>
-    ensures { IfOk result (λ all. all.items ≡ row.items ++ more.now) }
+) -> Result<(), AllocError>
+    ensures { OnOk result (row.new.items ≡ row.old.items ++ more.now) }
 {
     for value in more {
         row.push(copy_of(alloc, value)?)?;
     }
-    Ok(row)
+    Ok(())
 }
 
 /// A copy of the row.
 pub fn copy_row(alloc: Global, row: &[Value]) -> Result<Row, AllocError>
     ensures { IfOk result (λ copy. copy ≡ row.now) }
 {
-    let room = Vec::with_capacity(alloc, row.len())?;
-    Ok(Seq::from_vec(extend_row(alloc, room, row)?))
+    let mut copy = Vec::with_capacity(alloc, row.len())?;
+    extend(alloc, &mut copy, row)?;
+    Ok(Seq::from_vec(copy))
 }
 
 /// A row, and `width` NULLs after it.
@@ -75,8 +76,8 @@ pub fn copy_row(alloc: Global, row: &[Value]) -> Result<Row, AllocError>
 pub(crate) fn pad_row(alloc: Global, left: &[Value], width: usize) -> Result<Row, AllocError>
     ensures { IfOk result (λ row. row ≡ left.now ++ replicate width Value.Null) }
 {
-    let room = Vec::with_capacity(alloc, left.len().saturating_add(width))?;
-    let mut row = extend_row(alloc, room, left)?;
+    let mut row = Vec::with_capacity(alloc, left.len().saturating_add(width))?;
+    extend(alloc, &mut row, left)?;
     for _ in 0..width {
         row.push(Value::Null)?;
     }

@@ -7,5 +7,6 @@ mod Running
 mod Fronts
 mod KeptRows
 mod KeyLengths
+mod LastJoins
 mod PlacedRows
 mod Placing

@@ -1,5 +1,5 @@
 use Rattle.std.proofs.Common.{◌≡◌, ◌++◌, drop}
-use Rattle.span_algebra.proofs.row.extend_row.Given as goal
+use Rattle.span_algebra.proofs.row.extend.Given as goal
 
 -- what was added and what is left are all
 abbrev pub invariant-loop-value : goal.invariant-loop-value
