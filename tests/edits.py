@@ -47,13 +47,17 @@ GATE = os.path.join(EDITS, "gate.txt")
 BY_NAMES = "only because a proof file names"
 FLAGS = ["--jobs", "1"]
 FUNCTION = re.compile(r"^ *(?:pub(?:\([a-z]+\))? )?fn (\w+)", re.M)
-TYPE = re.compile(r"^impl(?:<[^{]*?>)? (?:\S+ for )?(\w+)", re.M)
+# (the parameters of an impl end in a line of its own where they take several)
+TYPE = re.compile(r"^(?:impl(?:<[^{\n]*?>)?|>) (?:\S+ for )?(\w+)", re.M)
 CONSTANT = re.compile(r"const (\w+): ")
+DECLARED = re.compile(r"^(?:pub(?:\([a-z]+\))? )?(?:struct|enum|union) (\w+)", re.M)
 CYCLE = re.compile(r"^ *#\[cycle\((\w+)\)\]", re.M)
 # A proof that is left out: what the function's statement says is taken as it stands.
 HOLE = "use {module}.{{statement}}\n\npub {name}_spec : {{M : Type 1}} → statement M\n{name}_spec = ?\n"
 # A proof that no longer fits since it names what is gone.
-NAMES_GONE = re.compile(r".*(has no field|is not in scope|has no `|was not admitted)")
+NAMES_GONE = re.compile(r"has no field|is not in scope|has no `|was not admitted")
+# Where a report of the prover begins.
+PLACE = re.compile(r"(note: )?\S+:\d+:\d+:")
 # How many edits are tried together at most, where no number is given.
 TOGETHER = 12
 # What is found of an edit: it is refused, or not, or its check gave no verdict.
@@ -157,11 +161,13 @@ class Function:
         itself = rf"\b(self\.|Self::|{types[-1]}::)" if types else r"(?<![.:\w])"
         calls_itself = re.search(rf"{itself}{self.short}\(", self.text.partition("{\n")[2])
         self.cycle = next(iter(CYCLE.findall(text[above + 1 : self.start])), self.short if calls_itself else None)
+        # Others may have given their cycle this function's name.
+        self.lends_name = not self.cycle and f"#[cycle({self.short})]" in text
 
     def proof(self, proofs):
         """The name of its proof in the folder of its module's proofs: its own, or that of the cycle of calls that it is in."""
         *types, short = self.name.split("::")
-        is_cycle = self.cycle or os.path.isdir(os.path.join(proofs, *types, f"+{short}"))
+        is_cycle = self.cycle or (not self.lends_name and os.path.isdir(os.path.join(proofs, *types, f"+{short}")))
         return "/".join([*types, f"+{self.cycle or short}" if is_cycle else short])
 
     def has_in_body(self, text, at):
@@ -170,18 +176,33 @@ class Function:
         return "{\n" in before and f"\n{self.indent}}}\n" not in before
 
     def goal(self, path, lines):
-        """The first goal of the function that the prover leaves open, as it says; None where it has none."""
+        """The first goal of the function that the prover leaves open, as it says: one that names nothing that is gone, where there is one. None
+        where it has none."""
         if not any(re.match(rf"fn (\S+::)?{re.escape(self.short)}: (no proof|not proved)", line) for line in lines):
             return None
-        return next((line for line in lines if self.has_goal(path, line)), None)
+        goals = [text for text in reports(lines) if self.has_goal(path, text)]
+        by_names = f"({BY_NAMES} what the edit took away) "
+        return next((it for it in goals if not NAMES_GONE.search(it)), None) or next((by_names + it for it in goals), None)
 
-    def has_goal(self, path, line):
-        """Whether a line of the prover is of a goal in the function's lines, or in a file of its proof, that names nothing that is gone."""
-        source = re.match(r"note: (\S+?):(\d+):\d+: it is not proved", line)
+    def has_goal(self, path, report):
+        """Whether a report of the prover is of a goal in the function's lines, or in a file of its proof."""
+        source = re.match(r"note: (\S+?):(\d+):\d+: it is not proved", report)
         if source:
             return source.group(1) == path and self.first <= int(source.group(2)) <= self.last
-        proof = re.match(rf"(\./)?proofs/(\S+/)?{re.escape(self.short)}/\w+\.antt:\d+:\d+: error", line)
-        return bool(proof) and not NAMES_GONE.match(line)
+        return bool(re.match(rf"(\./)?proofs/(\S+/)?({self.short}|\+{self.cycle or self.short})/\w+\.antt:\d+:\d+: error", report))
+
+
+def reports(lines):
+    """What the prover reports, each in one line: the place of an error or a note, and what the lines below it say."""
+    found = []
+    for line in lines:
+        if PLACE.match(line):
+            found.append(line)
+        elif found and line.startswith(" "):
+            found[-1] += " " + line.strip()
+        elif line:
+            found.append(line)
+    return found
 
 
 def functions_of(text):
@@ -200,12 +221,20 @@ def module_of(path):
     return "" if module in ("lib", "main") else module
 
 
-def proofs_of(crate):
-    """The proofs of the crate's functions, each by its place below proofs/, with the path of the functions' file and their names."""
+def modules_of_types(crate):
+    """The module in which each type of the crate is declared: the proofs of its methods are there, in whatever file they stand."""
     found = {}
     for path in files_below(crate.folder, "src"):
-        module = module_of(path)
+        found.update((name, module_of(path)) for name in DECLARED.findall(read(os.path.join(crate.folder, path))))
+    return found
+
+
+def proofs_of(crate):
+    """The proofs of the crate's functions, each by its place below proofs/, with the path of the functions' file and their names."""
+    found, declared = {}, modules_of_types(crate)
+    for path in files_below(crate.folder, "src"):
         for function in functions_of(read(os.path.join(crate.folder, path))):
+            module = declared.get(function.name.split("::")[0], module_of(path))
             proof = function.proof(os.path.join(crate.folder, "proofs", module))
             found.setdefault(os.path.join(module, proof), set()).add((path, function.name))
     return found

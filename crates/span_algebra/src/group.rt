@@ -96,6 +96,10 @@ fn group_of<'a>(
     ensures indexed { OnOk result (index.new.keys ≡ keys_of groups.new.items) }
 {
     let places = grouping.keys.as_slice();
+    if places.is_empty() {
+        // There is one group.
+        return Ok(0);
+    }
     let (at, _) = index.insert_full(LentKey::new(row, places))?;
     if at == groups.len() {
         let key = key_of(alloc, places, row)?;

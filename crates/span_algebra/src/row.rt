@@ -14,7 +14,7 @@ use span_value::value::{Row, Value};
 use std::alloc::{AllocError, Global};
 
 /// Whether the condition is TRUE at the row.
-pub(crate) fn is_met(alloc: Global, condition: &Expr, row: &[Value]) -> Result<bool, Failure>
+pub fn is_met(alloc: Global, condition: &Expr, row: &[Value]) -> Result<bool, Failure>
     ensures holds { Gives result (holds condition.now row.now) }
     ensures memory { RunsOutOnlyIf result (has_concatenation condition.now) }
 {

@@ -1,5 +1,5 @@
 -- A text is cut at its first comma.
-use Rattle.std.proofs.Common.{◌≡◌, ◌∙◌, ◌==◌, ◌+◌, ◌<◌, ℕ, suc, List, [], ◌∷◌, ◌++◌, Bool, true, false, refl, sym, ap, arith, get_or, length, take, drop, slice_index}
+use Rattle.std.proofs.Common.{◌≡◌, ◌∙◌, ◌==◌, ◌+◌, ◌<◌, ℕ, suc, List, [], ◌∷◌, Bool, true, false, refl, ap, arith, get_or, length, take, drop}
 use Rattle.std.specs.List.{All}
 use Rattle.std.proofs.Math.Seq.{split_at}
 use Rattle.std.proofs.lemmas.List.{get_or-take, get_or_default, length-take}

@@ -1,5 +1,5 @@
 -- Fields that are lent.
-use Rattle.std.proofs.Common.{◌≡◌, ◌∙◌, ◌+◌, ◌<◌, ◌≤◌, ℕ, suc, List, [], ◌∷◌, ◌++◌, Bor, Option, Some, None, Result, Ok, Err, IfErr, ◌⊎◌, subst, refl, sym, ap, arith, get_or, length, drop, slice_get, append_assoc, inl, inr}
+use Rattle.std.proofs.Common.{◌≡◌, ◌∙◌, ◌+◌, ◌<◌, ℕ, suc, List, [], ◌∷◌, ◌++◌, Bor, Option, Some, None, Result, Ok, Err, IfErr, ◌⊎◌, subst, refl, sym, ap, arith, length, drop, slice_get, append_assoc, inl, inr}
 use Rattle.std.specs.Option.{option_map}
 use Rattle.std.proofs.Math.Seq.{drop-cons}
 use Rattle.std.proofs.lemmas.Bool.{cases_lt}

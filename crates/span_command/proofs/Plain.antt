@@ -1,21 +1,18 @@
 -- A plain text is read as its pieces between commas.
 use Rattle.std.proofs.Common.{◌≡◌, ◌∙◌, ◌==◌, ◌||◌, ◌<◌, ℕ, List, [], ◌∷◌, ◌++◌, Bool, true, false, Option, Some, refl, sym, ap, append_assoc, length, arith}
-use Rattle.std.specs.List.{All, onto_first}
+use Rattle.std.specs.List.{onto_first}
 use Rattle.std.proofs.lemmas.List.{append-nil}
 use Rattle.std.proofs.lemmas.List.Elements.{All-head, All-tail}
 use Rattle.std.proofs.lemmas.List.Splits.{slice_split-cons_yes, slice_split-cons_no, length-slice_split}
 use Rattle.csv.specs.Machine.{Read, next_record}
 use Rattle.csv.specs.Reading.{default_config}
 use Rattle.csv.specs.declared.parser.State.TheVariants as state
-use Rattle.span_command.specs.Record.{pieces, next, is_mark, record_fields, fields_alone, IsPlain}
+use Rattle.span_command.specs.Record.{pieces, next, is_mark, record_fields, fields_alone, IsUnmarked, IsPlain}
 
 -- what was read of a field is before the first piece of what is left
 abbrev onto : List ℕ → List (List ℕ) → List (List ℕ)
 onto field [] = field ∷ []
 onto field (piece ∷ others) = (field ++ piece) ∷ others
-
-abbrev IsUnmarked : List ℕ → Type 0
-IsUnmarked text = All (λ b. is_mark b ≡ false) text
 
 each : (x y z : Bool) → (x || y || z) ≡ false → (x ≡ false) × (y ≡ false) × (z ≡ false)
 each true y z e = cc e

@@ -1,7 +1,7 @@
 -- The fields of the record that a text is, and the text of a row, as `csv` reads and writes them with its default
 -- settings.
 use denote.Ref.{Bor}
-use Rattle.std.specs.Prelude.{◌≡◌, ℕ, ◌==◌, ◌||◌, Bool, true, false, List, [], map, Option, Some, None}
+use Rattle.std.specs.Prelude.{◌≡◌, ℕ, ◌<◌, ◌==◌, ◌||◌, Bool, true, false, List, [], map, Option, Some, None, slice_index}
 use Rattle.std.specs.List.{All, flat_map, slice_split}
 use Rattle.csv.specs.Machine.{Read, next_record}
 use Rattle.csv.specs.Reading.{default_config, strip_bom}
@@ -42,7 +42,19 @@ record_fields text = fields_alone (next state.StartRecord (strip_bom text))
 abbrev pub is_mark : ℕ → Bool
 is_mark b = (b == 34) || (b == 13) || (b == 10)
 
--- none of these is in the text, and no byte order mark at its front
+-- a field ends at the byte, or it is one of these
+abbrev pub is_special : ℕ → Bool
+is_special b = (b == 44) || is_mark b
+
+-- no such byte is among the first n
+abbrev pub IsFree : List ℕ → ℕ → Type 0
+IsFree bytes n = (k : ℕ) → k < n → is_special (slice_index bytes k) ≡ false
+
+-- no quote, CR or LF is in the text
+abbrev pub IsUnmarked : List ℕ → Type 0
+IsUnmarked text = All (λ b. is_mark b ≡ false) text
+
+-- and no byte order mark at its front
 abbrev pub IsPlain : List ℕ → Type 0
 IsPlain text = All (λ b. is_mark b ≡ false) text × (strip_bom text ≡ text)
 

@@ -2,7 +2,7 @@
 ghost use Rattle.std.specs.Prelude.{◌≡◌, ◌<◌, ◌++◌, [], ◌∷◌, length, true, false, if◌then◌else◌, IfOk, IfSome, OnOk, MatchOption, IsOkUnless};
 ghost use Rattle.csv.specs.Reading.{strip_bom};
 ghost use Rattle.csv.specs.Records.{fields_of};
-ghost use Rattle.span_command.specs.Record.{pieces, record_fields, texts, IsPlain};
+ghost use Rattle.span_command.specs.Record.{pieces, record_fields, texts, is_special, IsFree, IsPlain, IsUnmarked};
 
 use csv::{Error, ReaderBuilder, StringRecord};
 use memchr::{memchr, memchr3};
@@ -48,24 +48,70 @@ pub fn read_fields(alloc: Global, text: &str, fields: &mut StringRecord) -> Resu
 pub(crate) fn plain_fields(alloc: Global, text: &str) -> Result<Option<Texts<'_>>, AllocError>
     ensures { IfOk result (λ found. IfSome found (λ fields. texts fields.items ≡ record_fields text.now)) }
 {
-    if text.is_empty() || !is_plain(text) {
+    if text.is_empty() || may_be_marked(text.as_bytes()) {
         return Ok(None);
     }
-    Ok(Some(pieces_of(alloc, text)?))
+    pieces_of(alloc, text)
 }
 
-/// The pieces of the text between its commas: one more than it has commas.
-fn pieces_of(alloc: Global, text: &str) -> Result<Texts<'_>, AllocError>
-    ensures { IfOk result (λ found. texts found.items ≡ pieces text.now) }
+/// The pieces of the text between its commas, one more than it has commas; None where it has a quote, a CR or an LF.
+fn pieces_of(alloc: Global, text: &str) -> Result<Option<Texts<'_>>, AllocError>
+    ensures { IfOk result (λ found. IfSome found (λ fields. (texts fields.items ≡ pieces text.now) × IsUnmarked text.now)) }
 {
     let mut found = SmallVec::new(alloc);
     let mut rest = text;
-    while let Some((piece, following)) = at_comma(rest) {
+    while let Some((piece, following)) = at_plain_comma(rest) {
         found.push(piece)?;
         rest = following;
     }
+    if !is_piece(rest) {
+        return Ok(None);
+    }
     found.push(rest)?;
-    Ok(found)
+    Ok(Some(found))
+}
+
+/// Whether the text has no comma, no quote, no CR and no LF.
+fn is_piece(text: &str) -> bool
+    ensures { (result ≡ true) → (pieces text.now ≡ text.now ∷ []) × IsUnmarked text.now }
+{
+    match special_place(text.as_bytes()) {
+        None => true,
+        Some(_) => false,
+    }
+}
+
+/// What is before the first comma and after it; None where there is no comma, or a quote, a CR or an LF before it.
+fn at_plain_comma(text: &str) -> Option<(&str, &str)>
+    ensures cut { IfSome result (λ x. pieces text.now ≡ x.0.now ∷ pieces x.1.now) }
+    ensures shorter { IfSome result (λ x. length x.1.now < length text.now) }
+    ensures unmarked { IfSome result (λ x. IsUnmarked x.1.now → IsUnmarked text.now) }
+{
+    let bytes = text.as_bytes();
+    let end = special_place(bytes)?;
+    if bytes[end] != b',' {
+        return None;
+    }
+    Some((&text[..end], &text[end + 1..]))
+}
+
+/// The place of the first comma, quote, CR or LF.
+fn special_place(bytes: &[u8]) -> Option<usize>
+    ensures { MatchOption result (IsFree bytes.now (length bytes.now)) (λ at. (at < length bytes.now) × IsFree bytes.now at) }
+{
+    for i in 0..bytes.len() {
+        if is_special(bytes[i]) {
+            return Some(i);
+        }
+    }
+    None
+}
+
+/// Whether a byte is a comma, a quote, a CR or an LF. Most bytes of a record come after these.
+fn is_special(byte: u8) -> bool
+    ensures { result ≡ is_special byte }
+{
+    byte <= b',' && (byte == b',' || byte == b'"' || byte == b'\r' || byte == b'\n')
 }
 
 /// The fields of a record, lent.

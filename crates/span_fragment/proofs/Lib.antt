@@ -5,5 +5,7 @@ mod Entries
 pub mod KeyPlaces
 mod Running
 mod Fronts
+mod KeptRows
+mod KeyLengths
 mod PlacedRows
 mod Placing

@@ -4,3 +4,5 @@ pub mod Entries
 pub mod Given
 pub mod Pieces
 pub mod Directories
+pub mod Longest
+pub mod Kept

@@ -1,6 +1,6 @@
 //! The values of a row of a table, read of its coded key and its packed cells in the order in which the columns are
 //! declared.
-ghost use Rattle.std.specs.Prelude.{◌≡◌, ◌⊎◌, IfOk, MatchResult, replicate};
+ghost use Rattle.std.specs.Prelude.{◌≡◌, ◌⊎◌, OnOk, MatchResult, replicate};
 ghost use Rattle.span_value.specs.declared.value.Value.TheVariants.{Null};
 ghost use Rattle.span_schema.specs.Numbers.{IsTable};
 ghost use Rattle.span_fragment.specs.Placed.{AreValuesOf, IsNoRowOf};
@@ -14,15 +14,43 @@ use span_value::seq::Seq;
 use span_value::value::{Row, Value};
 use std::alloc::{AllocError, Global};
 
-/// A row of NULLs.
-fn nulls(alloc: Global, len: usize) -> Result<Vec<Value>, AllocError>
-    ensures { IfOk result (λ row. row.items ≡ replicate len Null) }
+/// Makes a row one of NULLs.
+fn put_nulls(row: &mut Vec<Value>, len: usize) -> Result<(), AllocError>
+    ensures { OnOk result (row.new.items ≡ replicate len Null) }
 {
-    let mut row = Vec::with_capacity(alloc, len)?;
+    row.clear();
     for _ in 0..len {
         row.push(Value::Null)?;
     }
-    Ok(row)
+    Ok(())
+}
+
+/// Makes a row the values of a row of a table, as `row_values` gives them. What the row was is dropped; its memory is used again.
+pub(crate) fn read_row(
+    alloc: Global,
+    schema: &Schema,
+    table: usize,
+    wanted: &[bool],
+    key: &[u8],
+    cells: &[u8],
+    row: &mut Vec<Value>,
+) -> Result<(), Refusal>
+    requires { IsTable schema.now table }
+    ensures { MatchResult result
+        (λ done. AreValuesOf schema.now table wanted.now key.now cells.now row.new.items)
+        (λ why. (why ≡ Refusal.OutOfMemory) ⊎ IsNoRowOf schema.now table key.now cells.now) }
+{
+    schema.meets_rules();
+    put_nulls(row, width_of(schema, table))?;
+    let kinds = schema.other_kinds(table);
+    let places = schema.other_places(table);
+    if !put_cells(alloc, kinds, places, wanted, cells, row)? {
+        return Err(Refusal::BadRow);
+    }
+    if !put_key(alloc, schema, table, wanted, key, row)? {
+        return Err(Refusal::BadKey);
+    }
+    Ok(())
 }
 
 /// The values of a row of a table, in the order in which its columns are declared: those that are wanted, and NULL for
@@ -43,15 +71,7 @@ pub fn row_values(
         (AreValuesOf schema.now table wanted.now key.now row.now)
         (λ why. (why ≡ Refusal.OutOfMemory) ⊎ IsNoRowOf schema.now table key.now row.now) }
 {
-    schema.meets_rules();
-    let mut values = nulls(alloc, width_of(schema, table))?;
-    let kinds = schema.other_kinds(table);
-    let places = schema.other_places(table);
-    if !put_cells(alloc, kinds, places, wanted, row, &mut values)? {
-        return Err(Refusal::BadRow);
-    }
-    if !put_key(alloc, schema, table, wanted, key, &mut values)? {
-        return Err(Refusal::BadKey);
-    }
+    let mut values = Vec::with_capacity(alloc, width_of(schema, table))?;
+    read_row(alloc, schema, table, wanted, key, row, &mut values)?;
     Ok(Seq::from_vec(values))
 }

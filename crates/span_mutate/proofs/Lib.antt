@@ -2,11 +2,14 @@ pub mod Apart
 pub mod Begins
 pub mod Breaks
 pub mod ByRoots
+pub mod Chars
 pub mod Deletes
 pub mod Families
 pub mod Faults
 pub mod Filters
+pub mod Finding
 pub mod Fronts
+pub mod InOrder
 pub mod Keyed
 pub mod Keys
 pub mod Local

@@ -97,10 +97,10 @@ all_both P Q [] h g = tt
 all_both P Q (x ∷ xs) h g = ((h.0, g.0), all_both P Q xs h.1 g.1)
 
 -- the column with the name of a column is that column
-abbrev IsNamedSelf : List Column → Column → Type 0
+abbrev pub IsNamedSelf : List Column → Column → Type 0
 IsNamedSelf columns c = column_named columns c.name ≡ Some c
 
-names_apart : (columns : List Column) → has_repeated_column columns ≡ false → AllByRecursion (IsNamedSelf columns) columns
+pub names_apart : (columns : List Column) → has_repeated_column columns ≡ false → AllByRecursion (IsNamedSelf columns) columns
 names_apart [] h = tt
 names_apart (c ∷ cs) h =
     let parts = or_parts (is_some (column_place cs c.name)) (has_repeated_column cs) h in
@@ -191,7 +191,7 @@ values_kinds t cells h (c ∷ cs) g = cases (is_key_name t.key c.name) (values_k
     cases false again = and_from _ _ (value_kind t c g.0 cells h) again
 
 -- a table that breaks no rule has no two columns of one name
-columns_differ : (t : Table) → has_bad_column t ≡ false → has_repeated_column t.columns ≡ false
+pub columns_differ : (t : Table) → has_bad_column t ≡ false → has_repeated_column t.columns ≡ false
 columns_differ t h =
     let a = or_parts (has_repeated_column t.columns || (length t.key == 0) || has_unknown_key t.columns t.key || has_repeated_key t.key) (has_bad_lengths t.columns) h in
     let b = or_parts (has_repeated_column t.columns || (length t.key == 0) || has_unknown_key t.columns t.key) (has_repeated_key t.key) a.0 in

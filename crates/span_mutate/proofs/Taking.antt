@@ -22,7 +22,7 @@ find_without p [] i d lt isnt = absurd (let less : i < 0 = lt in omega arith)
 find_without p (x ∷ xs) zero d lt isnt = rw isnt refl
 find_without {X} p (x ∷ xs) (suc i) d lt isnt = ap (λ (o : Option X). cond (p x) (Some x) o) (find_without p xs i d (omega arith) isnt)
 
-find_first : {X : Type 0} (p : X → Bool) (xs : List X) (i : ℕ) (d : X) → i < length xs → p (get_or xs i d) ≡ true → ((k : ℕ) → k < i → p (get_or xs k d) ≡ false) → find p xs ≡ Some (get_or xs i d)
+pub find_first : {X : Type 0} (p : X → Bool) (xs : List X) (i : ℕ) (d : X) → i < length xs → p (get_or xs i d) ≡ true → ((k : ℕ) → k < i → p (get_or xs k d) ≡ false) → find p xs ≡ Some (get_or xs i d)
 find_first p [] i d lt hit before = absurd (let less : i < 0 = lt in omega arith)
 find_first p (x ∷ xs) zero d lt hit before = rw hit refl
 find_first p (x ∷ xs) (suc i) d lt hit before =

@@ -1,5 +1,6 @@
 pub mod Columns
 pub mod Checking
+pub mod InOrder
 pub mod RootKeys
 pub mod Rows
 pub mod Database

@@ -1,12 +1,14 @@
 //! What a column takes, and which columns cells name.
-ghost use Rattle.std.specs.Prelude.{◌≡◌, ℕ, List, false, position, IfSome, IsTrue, MatchResult, length};
+ghost use Rattle.std.specs.Prelude.{◌≡◌, ℕ, List, Some, false, map, nat_lt, position, slice_get, IfSome, IsTrue, MatchResult, length};
 ghost use Rattle.std.specs.Option.{option_copied};
 ghost use Rattle.std.specs.Str.{chars};
 ghost use Rattle.span_schema.specs.Fitting.{Fits};
 ghost use Rattle.span_schema.specs.Tables.{is_same_name};
 ghost use Rattle.span_schema.specs.Rules.{has_repeated_column};
 ghost use Rattle.span_mutate.specs.Typed.{AreNamed, is_named_kind, are_named_kinds};
-ghost use Rattle.span_mutate.specs.Columns.{column_named, cell_column, has_wrong_type, is_null, is_null_refused, exceeds, exceeds_type, is_too_long, key_breaks, is_named, is_lacking, lacks_cell, value_named, values_named};
+ghost use Rattle.span_mutate.specs.declared.mutation.NamedValue.{NamedValue};
+ghost use Rattle.span_mutate.specs.Columns.{column_named, cell_column, has_wrong_type, is_null, is_null_refused, exceeds, exceeds_type, is_too_long, is_named, is_lacking, lacks_cell, value_named, values_named};
+ghost use Rattle.span_mutate.specs.InOrder.{is_cell_of, are_cells_at, are_in_order, places_break};
 
 use super::mutation::NamedValue;
 use span_schema::fitting::is_of_kind;
@@ -75,11 +77,31 @@ fn char_count(text: &str) -> usize
     text.chars().count()
 }
 
+// Whether the text has more characters than `most`.
+fn is_text_longer(most: u64, text: &str) -> bool
+    ensures { result ≡ nat_lt most (length (chars text.now)) }
+{
+    // No character has less than a byte.
+    if text.len() as u64 <= most {
+        return false;
+    }
+    most < char_count(text) as u64
+}
+
+fn exceeds_chars(most: Option<u64>, text: &str) -> bool
+    ensures { result ≡ exceeds most (length (chars text.now)) }
+{
+    match most {
+        None => false,
+        Some(most) => is_text_longer(most, text),
+    }
+}
+
 fn exceeds_type(kind: ColumnType, value: &Value) -> bool
     ensures { result ≡ exceeds_type kind value.now }
 {
     match (kind, value) {
-        (ColumnType::Str(most), Value::Str(text)) => exceeds(most, char_count(text.as_str())),
+        (ColumnType::Str(most), Value::Str(text)) => exceeds_chars(most, text.as_str()),
         (ColumnType::Bytes(most), Value::Bytes(bytes)) => exceeds(most, bytes.len()),
         _ => false,
     }
@@ -95,28 +117,60 @@ pub(crate) fn is_too_long(column: Option<&Column>, value: &Value) -> bool
     }
 }
 
-/// Whether NULL is in a NOT NULL column of the key.
-pub(crate) fn has_null(columns: &[Column], key: &[KeyColumn], values: &[Value]) -> bool
-    ensures { result ≡ key_breaks is_null_refused columns.now key.now values.now }
+/// The column at a place.
+pub(crate) fn column_at(columns: &[Column], place: usize) -> Option<&Column>
+    ensures { option_copied result ≡ slice_get columns.now place }
 {
-    for i in 0..key.len().min(values.len()) {
-        if is_null_refused(column_of(columns, key[i].name.as_str()), &values[i]) {
+    columns.get(place)
+}
+
+/// Whether NULL is in a NOT NULL column of the key, whose columns are at these places.
+pub(crate) fn has_null(columns: &[Column], places: &[usize], values: &[Value]) -> bool
+    ensures { result ≡ places_break is_null_refused columns.now places.now values.now }
+{
+    for i in 0..places.len().min(values.len()) {
+        if is_null_refused(column_at(columns, places[i]), &values[i]) {
             return true;
         }
     }
     false
 }
 
-/// Whether a value of the key is longer than its column allows.
-pub(crate) fn has_long(columns: &[Column], key: &[KeyColumn], values: &[Value]) -> bool
-    ensures { result ≡ key_breaks is_too_long columns.now key.now values.now }
+/// Whether a value of the key, whose columns are at these places, is longer than its column allows.
+pub(crate) fn has_long(columns: &[Column], places: &[usize], values: &[Value]) -> bool
+    ensures { result ≡ places_break is_too_long columns.now places.now values.now }
 {
-    for i in 0..key.len().min(values.len()) {
-        if is_too_long(column_of(columns, key[i].name.as_str()), &values[i]) {
+    for i in 0..places.len().min(values.len()) {
+        if is_too_long(column_at(columns, places[i]), &values[i]) {
             return true;
         }
     }
     false
+}
+
+// Whether the cell names the column, letter by letter.
+fn is_cell_of(column: Option<&Column>, cell: &NamedValue) -> bool
+    ensures { result ≡ is_cell_of (option_copied column.entry) cell.now }
+{
+    match column {
+        None => false,
+        Some(c) => cell.column.as_str() == c.name.as_str(),
+    }
+}
+
+/// Whether there is one cell for the column at each of these places, in order.
+pub(crate) fn are_cells_at(columns: &[Column], places: &[usize], cells: &[NamedValue]) -> bool
+    ensures { result ≡ are_cells_at columns.now places.now cells.now }
+{
+    if places.len() != cells.len() {
+        return false;
+    }
+    for i in 0..places.len() {
+        if !is_cell_of(column_at(columns, places[i]), &cells[i]) {
+            return false;
+        }
+    }
+    true
 }
 
 /// Whether a cell is of the column with this name.
@@ -164,9 +218,9 @@ fn take_value(cells: &mut Vec<NamedValue>, name: &str) -> Option<Value>
     }
 }
 
-/// For each column outside the key, in the order of declaration, the value that the cells give it. The values are moved. `OutOfMemory`:
-/// memory ran out.
-pub(crate) fn values_named(
+// For each column outside the key, in the order of declaration, the value that the cells give it. The values are moved. `OutOfMemory`:
+// memory ran out.
+fn values_named(
     alloc: Global,
     key: &[KeyColumn],
     cells: Vec<NamedValue>,
@@ -186,6 +240,40 @@ pub(crate) fn values_named(
         }
     }
     Ok(values)
+}
+
+// The values of cells, in order. They are moved.
+fn values_in_order(alloc: Global, cells: Vec<NamedValue>) -> Result<Vec<Option<Value>>, Refusal>
+    ensures { MatchResult result
+        (λ values. values.items ≡ map (λ (c : NamedValue). Some c.value) cells.items)
+        (λ why. why ≡ Refusal.OutOfMemory) }
+{
+    let mut values = Vec::with_capacity(alloc, cells.len())?;
+    for cell in cells {
+        let NamedValue { value, .. } = cell;
+        values.push_reserved(Some(value));
+    }
+    Ok(values)
+}
+
+/// For each column outside the key, in the order of declaration, the value that the cells give it. The values are moved. `in_order` is
+/// whether the cells name these columns in their order: then nothing is looked for. `OutOfMemory`: memory ran out.
+pub(crate) fn values_of(
+    alloc: Global,
+    table: &Table,
+    in_order: bool,
+    cells: Vec<NamedValue>,
+) -> Result<Vec<Option<Value>>, Refusal>
+    requires once { has_repeated_column table.now.columns ≡ false }
+    requires order { in_order ≡ are_in_order table.now cells.items }
+    ensures { MatchResult result
+        (λ values. values.items ≡ values_named table.now.key cells.items table.now.columns)
+        (λ why. why ≡ Refusal.OutOfMemory) }
+{
+    if in_order {
+        return values_in_order(alloc, cells);
+    }
+    values_named(alloc, table.key.as_slice(), cells, table.columns.as_slice())
 }
 
 // Whether the value that is named, if one is, is NULL or of the kind. Then it fits a column of the kind.

@@ -98,7 +98,7 @@ fn check_all(
 {
     let mut checked = Vec::with_capacity(alloc, mutations.len())?;
     for mutation in mutations {
-        checked.push(check(alloc, schema, mutation)?)?;
+        checked.push_reserved(check(alloc, schema, checked.as_slice(), mutation)?);
     }
     Ok(checked)
 }

@@ -1,12 +1,8 @@
-use Rattle.std.proofs.Common.{◌≡◌, ◌⊎◌, ◌∙◌, ℕ, List, Bor, Option, Some, None, inl, inr, refl, sym, ap, length, slice_get}
+use Rattle.std.proofs.Common.{◌≡◌, ◌∙◌, ℕ, List, Bor, Some, None, inr, refl, ap, length, slice_get}
 use Rattle.std.specs.Option.{option_map}
 use Rattle.std.proofs.lemmas.Option.{slice_get_read, slice_get_past}
-use Rattle.std.proofs.lemmas.Result.{IfOk-weaker, IfErr-weaker}
+use Rattle.std.proofs.lemmas.Result.{IfOk-weaker}
 use Rattle.csv.specs.Records.{field_at}
-use Rattle.span_value.specs.declared.refusal.Refusal.{Refusal}
-use Rattle.span_value.specs.declared.refusal.Refusal.TheVariants as refusal
-use Rattle.span_value.specs.declared.value.Kind.{Kind}
-use Rattle.span_value.specs.declared.value.Value.{Value}
 use Rattle.span_value.specs.Cells.{IsCell}
 use Rattle.span_command.specs.Record.{texts}
 use Rattle.span_command.specs.Layouts.{IsFieldCell}

@@ -13,10 +13,10 @@ prove-unreachable-requires c =
     let n = c.args.number in
     let fit = mutation_kinds tables c.meets_rules.ensures n t c.args.mutation c.table-table.ensures c.in_ok-check_rules.ensures.cause in
     let items : c.in_ok-cells.cells.items ≡ values_named t.key c.args.mutation.cells t.columns = c.in_ok-cells.ensures ∙ cc in
-    let all : are_named_kinds c.other_kinds.result.now c.as_slice-3.result.now ≡ true =
-    ap (λ (ks : List Kind). are_named_kinds ks c.as_slice-3.result.now) c.other_kinds.ensures ∙ ap (are_named_kinds (other_kinds tables n)) (c.as_slice-3.ensures.value ∙ items) ∙ fit in
+    let all : are_named_kinds c.other_kinds.result.now c.as_slice-2.result.now ≡ true =
+    ap (λ (ks : List Kind). are_named_kinds ks c.as_slice-2.result.now) c.other_kinds.ensures ∙ ap (are_named_kinds (other_kinds tables n)) (c.as_slice-2.ensures.value ∙ items) ∙ fit in
     let bad : false ≡ true = sym c.if-prove.true ∙ c.have_named_kinds.ensures.kinds ∙ all in
     absurd (cc)
 
-pub values_named-requires : goal.values_named-requires
-values_named-requires c = rw c.as_slice-2.ensures (columns_apart c.args.schema.now c.meets_rules.ensures c.args.number c.table-table.result.now c.table-table.ensures)
+pub values_of-requires-clause-once : goal.values_of-requires-clause-once
+values_of-requires-clause-once c = columns_apart c.args.schema.now c.meets_rules.ensures c.args.number c.table-table.result.now c.table-table.ensures

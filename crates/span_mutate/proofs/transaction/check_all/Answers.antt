@@ -31,13 +31,14 @@ loop-mutation-preserved c =
     let front = c.loop-mutation.checked.items in
     let rest = into_iter_items c.next.new.self in
     record {
-      so_far = ap (λ (l : List CheckedMutation). with_front l (checked_all c.args.schema.now rest)) c.in_ok-push.ensures.items
+      so_far = ap (λ (l : List CheckedMutation). with_front l (checked_all c.args.schema.now rest)) c.push_reserved.ensures.items
           ∙ front_more c.args.schema.now front c.in-Some.mutation rest c.in_ok-check.field-0 c.in_ok-check.ensures.checked
           ∙ ap (λ (l : List Mutation). with_front front (checked_all c.args.schema.now l)) (sym next.0) ∙ c.loop-mutation.invariant.so_far;
       tables = let P : CheckedMutation → Type 0 = λ m. IsTable c.args.schema.now m.table in
           let Q : List CheckedMutation → Type 0 = All P in
-          subst Q (sym c.in_ok-push.ensures.items) (All-push P front c.in_ok-check.field-0 c.loop-mutation.invariant.tables c.in_ok-check.ensures.table);
-      typed = subst (AreTypedMutations c.args.schema.now) (sym c.in_ok-push.ensures.items) (all_push (IsTypedMutation c.args.schema.now) front c.in_ok-check.field-0 c.loop-mutation.invariant.typed c.in_ok-check.ensures.typed);
+          subst Q (sym c.push_reserved.ensures.items) (All-push P front c.in_ok-check.field-0 c.loop-mutation.invariant.tables c.in_ok-check.ensures.table);
+      typed = subst (AreTypedMutations c.args.schema.now) (sym c.push_reserved.ensures.items) (all_push (IsTypedMutation c.args.schema.now) front c.in_ok-check.field-0 c.loop-mutation.invariant.typed c.in_ok-check.ensures.typed);
+      room = omega (arith, next.1, c.push_reserved.ensures.len, c.push_reserved.ensures.capacity, c.loop-mutation.invariant.room);
       count = omega (arith, ap length next.0, next.1, c.loop-mutation.invariant.count);
     }
 

@@ -8,7 +8,7 @@ use Rattle.span_rowcode.specs.Rows.{IsRow}
 use Rattle.span_planner.specs.Leaves.{width_of}
 use Rattle.span_fragment.specs.Placed.{placed}
 use Rattle.span_fragment.proofs.PlacedRows.{others_placed, row_placed}
-use Rattle.span_fragment.proofs.row.row_values.Goals as goal
+use Rattle.span_fragment.proofs.row.read_row.Goals as goal
 
 pub put_cells-requires : goal.put_cells-requires
 put_cells-requires c =
@@ -26,7 +26,7 @@ returns c = record {
       let R : ℕ → Type 0 = λ t. IsKey schema t r.key in
       let coded = c.in_ok-put_key.ensures.put r.key (subst R is typed.0.0) (key ∙ ap (λ (t : ℕ). key_code schema t r.key) is) in
       let first : c.put_cells.new.row.items ≡ placed ms (other_places schema n) r.cells (replicate (width_of schema n) Null) =
-      packed.1 ∙ ap (λ (ps : List ℕ). placed ms ps r.cells c.in_ok-values.values.items) c.other_places-places.ensures
-      ∙ ap (λ (l : List Value). placed ms (other_places schema n) r.cells l) (c.in_ok-values.ensures ∙ ap (λ (w : ℕ). replicate w Null) c.width_of.ensures) in
-      c.from_vec.ensures ∙ coded.1 ∙ ap (λ (l : List Value). placed ms (key_places schema n) r.key l) first ∙ row_placed schema c.meets_rules.ensures n ms r typed is;
+      packed.1 ∙ ap (λ (ps : List ℕ). placed ms ps r.cells c.put_nulls.new.row.items) c.other_places-places.ensures
+      ∙ ap (λ (l : List Value). placed ms (other_places schema n) r.cells l) (c.in_ok-put_nulls.ensures ∙ ap (λ (w : ℕ). replicate w Null) c.width_of.ensures) in
+      coded.1 ∙ ap (λ (l : List Value). placed ms (key_places schema n) r.key l) first ∙ row_placed schema c.meets_rules.ensures n ms r typed is;
 }
