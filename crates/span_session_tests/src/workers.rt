@@ -73,13 +73,30 @@ fn check_workers<J: Naming + Send + Sync, R: Threads + Wait + Abort + Sync>(
     let met = db.query_by(rt, &clock, &gate, &mut me, UIDS, &params, Bound::Strong, 2)?;
     assert!(rt; are_uids(&met.rows, &[1, 200]));
     assert_eq!(rt; gate.met(), 2);
-    let open = OpenGate;
-    let one = db.query_by(rt, &clock, &open, &mut me, UIDS, &params, Bound::Strong, 1)?;
+    let one = db.query_by(
+        rt,
+        &clock,
+        &OpenGate,
+        &mut me,
+        UIDS,
+        &params,
+        Bound::Strong,
+        1,
+    )?;
     assert!(rt; are_uids(&one.rows, &[1, 200]));
-    let eight = db.query_by(rt, &clock, &open, &mut me, UIDS, &params, Bound::Strong, 8)?;
+    let eight = db.query_by(
+        rt,
+        &clock,
+        &OpenGate,
+        &mut me,
+        UIDS,
+        &params,
+        Bound::Strong,
+        8,
+    )?;
     assert!(rt; are_uids(&eight.rows, &[1, 200]));
     let early = Bound::At(1_000_000_000);
-    let refused = db.query_by(rt, &clock, &open, &mut me, UIDS, &params, early, 8);
+    let refused = db.query_by(rt, &clock, &OpenGate, &mut me, UIDS, &params, early, 8);
     assert_eq!(rt; refused.err(), Some(Refusal::NotYet));
     assert_eq!(rt; db.look(&mut me), 2);
     Ok(())
