@@ -1,7 +1,7 @@
 -- A leaf of one table with a condition gives the rows that are kept, one after another.
 use Rattle.std.proofs.Common.{◌≡◌, ◌∙◌, ℕ, zero, suc, ◌+◌, ◌<◌, ◌≤◌, ◌==◌, Bool, true, false, cond, List, [], ◌∷◌, length, drop, get_or, map, Option, Some, None, Result, Ok, Err, refl, sym, ap, subst, arith, if◌then◌else◌}
-use Rattle.std.specs.List.{range_with_len}
-use Rattle.std.proofs.lemmas.Bool.{eqb-true}
+use Rattle.std.specs.List.{range_with_len, list_all}
+use Rattle.std.proofs.lemmas.Bool.{eqb-true, and_parts}
 use Rattle.std.proofs.lemmas.List.FromFn.{length-map-range_with_len}
 use Rattle.span_value.specs.declared.truth.Outcome.{Outcome}
 use Rattle.span_schema.specs.declared.table.Table.{Table}
@@ -22,8 +22,9 @@ use Rattle.span_algebra.proofs.Gathering.{nil-append_results, one_adds, one_fail
 use Rattle.span_planner.specs.declared.leaf.Leaf.{Leaf}
 use Rattle.span_planner.specs.declared.leaf.LeafJoin.{LeafJoin}
 use Rattle.span_planner.specs.Leaves.{width_of}
+use Rattle.span_planner.specs.Maskable.{IsMaskable}
 use Rattle.span_planner.specs.Masks.{masked}
-use Rattle.span_planner.specs.Reads.{has_place, reads_within, mask_rows}
+use Rattle.span_planner.specs.Reads.{has_place, reads_within, mask_rows, condition_reads, leaf_widths, leaf_on_reads, leaf_reads}
 use Rattle.span_planner.specs.Results.{join_tables, leaf_rows}
 use Rattle.span_planner.proofs.Masked.{val-masked, mask_rows-append}
 use Rattle.span_fragment.specs.Meaning.{declared_row, whole_table}
@@ -46,6 +47,19 @@ mask_between low high width e ms reads is = record {
   long = ap (length {A = Bool}) is ∙ length-map-range_with_len (is_in low high) 0 width;
   reads = ap (λ (l : List Bool). reads_within l e) is ∙ reads_only-wider (is_in low high) (has_place (map (is_in low high) (range_with_len 0 width))) e (λ k in_it. let same : 0 + k ≡ k = omega arith in has_in_range (is_in low high) 0 width k (ap (is_in low high) same ∙ in_it)) reads;
 }
+
+-- the mask of a leaf of one table
+pub whole_mask : (schema : List Table) (leaf : Leaf) (n : ℕ) (e : Expr) → IsMaskable schema leaf → leaf.tables ≡ n ∷ [] → leaf.joins ≡ [] → leaf.filter ≡ Some e → IsMaskOf (width_of schema n) e leaf.reads
+whole_mask schema leaf n e is tables joins filter = record {
+  long = is.reads_len ∙ ap (λ (js : List LeafJoin). width_of schema is.first + leaf_widths js) joins ∙ ap (λ (k : ℕ). k + 0) (ap (width_of schema) (heads is.first n (sym is.tables ∙ tables))) ∙ plus_none (width_of schema n);
+  reads = (and_parts (list_all (leaf_on_reads (has_place leaf.reads)) leaf.joins) (condition_reads (has_place leaf.reads) (Some e)) (ap (λ (f : Option Expr). leaf_reads (has_place leaf.reads) leaf.joins f) (sym filter) ∙ is.own)).1;
+}
+  where
+    heads : (a b : ℕ) {xs ys : List ℕ} → a ∷ xs ≡ b ∷ ys → a ≡ b
+    heads a b same = cc
+
+    plus_none : (k : ℕ) → k + 0 ≡ k
+    plus_none k = omega arith
 
 -- ---- one entry
 

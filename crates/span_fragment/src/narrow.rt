@@ -4,6 +4,7 @@ ghost use Rattle.std.specs.List.{range_with_len};
 ghost use Rattle.span_expr.specs.Places as places;
 ghost use Rattle.span_fragment.specs.Kept.{IsMaskOf};
 
+use super::place::is_wanted;
 use span_expr::expr::Expr;
 use span_expr::reads::reads_within;
 use std::alloc::{AllocError, Global};
@@ -66,4 +67,14 @@ pub(crate) fn mask_of(
         return Ok(None);
     }
     Ok(Some(mask_between(alloc, low, high, width)?))
+}
+
+/// Whether a mask leaves out a place that another has.
+pub(crate) fn is_narrower(mask: &[bool], other: &[bool]) -> bool {
+    for place in 0..other.len() {
+        if is_wanted(other, place) && !is_wanted(mask, place) {
+            return true;
+        }
+    }
+    false
 }

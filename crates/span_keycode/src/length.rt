@@ -24,7 +24,7 @@ pub fn code_len(schema: &Schema, table: usize, values: &[Value]) -> Option<usize
     Some(MOST_BYTES - left)
 }
 
-// What is left of so many bytes.
+// The rest of a number of bytes after some of them; nothing where there are fewer.
 fn left_after(left: usize, len: usize) -> Option<usize>
     ensures { MatchOption result (left < len) (λ rest. rest + len ≡ left) }
 {

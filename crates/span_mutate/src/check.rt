@@ -140,8 +140,14 @@ fn check_required(table: &Table, mutation: &Mutation) -> Result<(), Refusal>
 // Whether cells in any order break no rule.
 fn check_any_order(table: &Table, mutation: &Mutation) -> Result<(), Refusal>
     ensures { MatchResult result
-        (λ _. option_or (cells_cause table.now mutation.now.kind [] mutation.now.cells) (first_cause (lack_causes table.now mutation.now)) ≡ None)
-        (λ why. option_or (cells_cause table.now mutation.now.kind [] mutation.now.cells) (first_cause (lack_causes table.now mutation.now)) ≡ Some why) }
+        (λ _.
+        option_or (cells_cause table.now mutation.now.kind [] mutation.now.cells)
+        (first_cause (lack_causes table.now mutation.now))
+        ≡ None)
+        (λ why.
+        option_or (cells_cause table.now mutation.now.kind [] mutation.now.cells)
+        (first_cause (lack_causes table.now mutation.now))
+        ≡ Some why) }
 {
     check_cells(table, mutation.kind, mutation.cells.as_slice())?;
     check_required(table, mutation)?;
@@ -172,8 +178,14 @@ fn check_in_order(
     requires put { is_delete mutation.now.kind ≡ false }
     requires order { are_in_order table.now mutation.now.cells ≡ true }
     ensures { MatchResult result
-        (λ _. option_or (cells_cause table.now mutation.now.kind [] mutation.now.cells) (first_cause (lack_causes table.now mutation.now)) ≡ None)
-        (λ why. option_or (cells_cause table.now mutation.now.kind [] mutation.now.cells) (first_cause (lack_causes table.now mutation.now)) ≡ Some why) }
+        (λ _.
+        option_or (cells_cause table.now mutation.now.kind [] mutation.now.cells)
+        (first_cause (lack_causes table.now mutation.now))
+        ≡ None)
+        (λ why.
+        option_or (cells_cause table.now mutation.now.kind [] mutation.now.cells)
+        (first_cause (lack_causes table.now mutation.now))
+        ≡ Some why) }
 {
     schema.meets_rules();
     check_values(
@@ -273,8 +285,8 @@ fn table_number(schema: &Schema, before: &[CheckedMutation], name: &str) -> Opti
     schema.find(name)
 }
 
-/// A mutation, checked against the schema. Those before it were. `docs/REFUSALS.md` has the order of the refusals; `OutOfMemory`: memory
-/// ran out.
+/// A mutation, checked against the schema, as those before it were. `docs/REFUSALS.md` has the order of the refusals;
+/// `OutOfMemory`: memory ran out.
 pub(crate) fn check(
     alloc: Global,
     schema: &Schema,

@@ -55,7 +55,7 @@ module _ (give : Leaf → Rows) where
     at (l ∷ ls) wide zero = wide.0
     at (l ∷ ls) wide (suc k) = at ls wide.1 k
 
--- the item after so many others of a list
+-- an item of a list, by the number of those before it
 item_at : {A : Type 0} (xs : List A) (n : ℕ) (other x : A) (rest : List A) → drop n xs ≡ x ∷ rest → unwrap_or (slice_get xs n) other ≡ x
 item_at [] zero other x rest is = absurd (let e : [] ≡ x ∷ rest = is in cc)
 item_at [] (suc n) other x rest is = absurd (let e : [] ≡ x ∷ rest = is in cc)

@@ -40,7 +40,7 @@ impl Model for Account {
     ghost view = { λ _. record { commits = []; slots = [] } };
 }
 
-/// What a seat stands for. No value of it is made.
+/// The owner of a seat. No value of it is made.
 pub enum Role {
     Keeper(Account),
     Holder(usize, Shard),

@@ -94,7 +94,7 @@ pub put_known : (tables : List Table) (cs : List KeyVersions) (m : CheckedMutati
 put_known tables cs m es fs p =
     parent_stays tables cs es fs (own_code tables m) p.row (parent_of tables m.table) m.key p.put (parent_of_put tables cs es m p.row p.made)
 
--- two mutations of one table, whose keys begin alike, have the same parent row
+-- two mutations of one table, the beginnings of whose keys are equal, have the same parent row
 pub front_known : (tables : List Table) (cs : List KeyVersions) (es : Changes) (known : Option CheckedMutation) (n p : ℕ) (key : List Value) → HasParent tables cs es known → parent_of tables n ≡ Some p
     → HasFront n (length (key_columns tables p)) (take (length (key_columns tables p)) key) known → lacks_parent_over tables cs es (Some p) key ≡ false
 front_known tables cs es None n p key has e front = absurd front
