@@ -66,4 +66,7 @@ def main():
 
 
 if __name__ == "__main__":
+    if sys.argv[1:]:
+        print(f"scans.py: takes no words, and was given {' '.join(sys.argv[1:])}", file=sys.stderr)
+        sys.exit(2)
     sys.exit(main())
