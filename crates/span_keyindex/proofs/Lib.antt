@@ -6,9 +6,11 @@ pub mod Counts
 pub mod Exits
 pub mod Freeing
 pub mod Fronts
+pub mod Hanging
 pub mod Holders
 pub mod Joined
 pub mod Keeping
+pub mod Lasts
 pub mod Linking
 pub mod Owning
 pub mod Placing
