@@ -20,6 +20,7 @@ pub mod Searching
 pub mod Sizes
 pub mod Spent
 pub mod Splitting
+pub mod Stopping
 pub mod Turned
 pub mod Unlinking
 pub mod Walking

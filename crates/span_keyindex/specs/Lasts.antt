@@ -4,6 +4,8 @@ use Rattle.std.specs.Ordering.{is_gt}
 use Rattle.std.specs.declared.cmp.Ordering.TheVariants.{Greater}
 use Rattle.span_keycode.specs.Order.{byte_order}
 use Rattle.span_arena.specs.declared.cell.Cell.{Cell}
+use Rattle.span_arena.specs.declared.cell.Balance.{Balance}
+use Rattle.span_arena.specs.declared.cell.Balance.TheVariants.{LeftHigh, Even, RightHigh}
 use Rattle.span_arena.specs.Cells.{cell_at, new_cell}
 use Rattle.span_arena.specs.Counts.{Count}
 use Rattle.span_keyindex.specs.declared.join.Part.{Part}
@@ -25,6 +27,23 @@ pub record IsNewPart (cs : List Cell) (part : Part) : Type 0 where
   pub here : part.cell < length cs
   pub root : part.root ≡ part.cell
   pub grew : part.grew ≡ true
+
+-- ---- where a new cell changes the tree
+
+abbrev pub stop_by : Balance → Option ℕ → Option ℕ → Option ℕ
+stop_by LeftHigh stop above = above
+stop_by Even stop above = stop
+stop_by RightHigh stop above = above
+
+-- along the right links, the cell above the last one whose parts differ in height
+abbrev pub stop_in : Option ℕ → Option ℕ → Tree → Option ℕ
+stop_in stop above Leaf = stop
+stop_in stop above (Fork l n k b r) = stop_in (stop_by b stop above) (Some n) r
+
+-- a part that begins with this cell, if one is given
+abbrev pub with_root : Option ℕ → Part → Part
+with_root None part = part
+with_root (Some root) part = record { cell = part.cell; root = root; grew = part.grew }
 
 -- ---- what it costs
 

@@ -7,7 +7,7 @@ ghost use Rattle.span_keyindex.specs.Effects.{IsInside};
 ghost use Rattle.span_keyindex.specs.Entries.{IsAbsent};
 ghost use Rattle.span_keyindex.specs.Indexes.{IsIndex, IsSlot, entries_at, tree_of};
 ghost use Rattle.span_keyindex.specs.Items.{items};
-ghost use Rattle.span_keyindex.specs.Lasts.{is_after, IsAboveRight, IsAfterCost, IsHangCost, IsNewPart, IsTreeCost};
+ghost use Rattle.span_keyindex.specs.Lasts.{is_after, IsAboveRight, IsAfterCost, IsHangCost, IsNewPart, IsTreeCost, stop_by, stop_in, with_root};
 ghost use Rattle.span_keyindex.specs.Nexts.{last_cell};
 ghost use Rattle.span_keyindex.specs.Puts.{tree_at, AreChains, IsAdded, IsTree};
 ghost use Rattle.span_keyindex.specs.Trees.{count};
@@ -17,6 +17,7 @@ use crate::next::NextLinks;
 use crate::put::add_cell;
 use crate::tree::TreeRoot;
 use span_arena::arena::Arena;
+use span_arena::cell::Balance;
 use span_arena::steps::Steps;
 use span_keycode::key::Key;
 use span_value::refusal::Refusal;
@@ -84,7 +85,7 @@ pub(crate) fn put_last<C: Ledger, W: Ledger>(
         root: cell,
         grew: true,
     };
-    hang(arena, index.root, index.levels, &mut part, steps);
+    hang_last(arena, index.root, index.levels, &mut part, steps);
     *index = TreeRoot {
         root: Some(part.root),
         levels: grown(index.levels, part.grew),
@@ -100,8 +101,73 @@ fn grown(levels: usize, grew: bool) -> usize
     if grew { levels + 1 } else { levels }
 }
 
-// Joins a new cell to the right end of the tree below a link: its key is above all those of the tree. `part` is the new cell alone, and
-// then what became of the tree.
+// As `hang`, of a whole tree. What is above the last cell on its right side whose parts differ in height stays as it was,
+// since that cell takes up one level more below it: so most of the right side is only gone along.
+fn hang_last<C: Ledger, W: Ledger>(
+    arena: &mut Arena,
+    root: Option<usize>,
+    levels: usize,
+    part: &mut Part,
+    steps: &mut Steps<C, W>,
+)
+    requires tree { IsTree arena.old.cells root (tree_at arena.old.cells levels root) }
+    requires part { IsNewPart arena.old.cells part.old }
+    requires free { count part.old.cell (tree_at arena.old.cells levels root) ≡ 0 }
+    requires above { IsAboveRight (cell_at arena.old.cells part.old.cell).key (tree_at arena.old.cells levels root) }
+    ensures added { IsAdded arena.old.cells arena.new.cells (tree_at arena.old.cells levels root)
+        (cell_at arena.old.cells part.old.cell).key part.new }
+    ensures arena { arena.new ≡ with_cells arena.old arena.new.cells }
+    ensures cell { part.new.cell ≡ part.old.cell }
+    ensures steps { IsHangCost (tree_at arena.old.cells levels root) part.new steps.old steps.new }
+{
+    let Some(above) = stop_below(arena, root, None, levels, None) else {
+        hang(arena, root, levels, part, steps);
+        return;
+    };
+    let right = arena.links(above).right;
+    hang(arena, right, levels, part, steps);
+    join_right(arena, above, part, steps);
+    begin_with(part, root);
+}
+
+// Along the right links, the cell above the last one whose parts differ in height.
+fn stop_below(
+    arena: &Arena,
+    at: Option<usize>,
+    above: Option<usize>,
+    levels: usize,
+    stop: Option<usize>,
+) -> Option<usize>
+    requires { IsTree arena.now.cells at (tree_at arena.now.cells levels at) }
+    ensures { result ≡ stop_in stop above (tree_at arena.now.cells levels at) }
+{
+    let Some(at) = at else {
+        return stop;
+    };
+    let links = arena.links(at);
+    let next = stop_by(links.balance, stop, above);
+    stop_below(arena, links.right, Some(at), levels - 1, next)
+}
+
+fn stop_by(balance: Balance, stop: Option<usize>, above: Option<usize>) -> Option<usize>
+    ensures { result ≡ stop_by balance stop above }
+{
+    match balance {
+        Balance::Even => stop,
+        Balance::LeftHigh | Balance::RightHigh => above,
+    }
+}
+
+fn begin_with(part: &mut Part, root: Option<usize>)
+    ensures { part.new ≡ with_root root part.old }
+{
+    if let Some(root) = root {
+        part.root = root;
+    }
+}
+
+// Joins a new cell to the right end of the tree below a link: its key is above all those of the tree. `part` is the new
+// cell alone, and then what became of the tree.
 fn hang<C: Ledger, W: Ledger>(
     arena: &mut Arena,
     at: Option<usize>,

@@ -9,29 +9,29 @@ add_cell-requires-clause-before g c = last_inside c.args.arena.now.cells c.args.
 pub returns-in_err-cell-clause-absent : goal.returns-in_err-cell-clause-absent
 returns-in_err-cell-clause-absent g c = on_err c.from_residual.result _ (absent_after c.args.arena.now.cells c.args.nexts.now c.args.index.now c.args.key.now c.requires.own c.requires.after)
 
-pub hang-requires-clause-tree : goal.hang-requires-clause-tree
-hang-requires-clause-tree g c = beside_tree c.args.arena.now c.add_cell.new.arena c.args.nexts.now c.args.index.now c.args.key.now c.in_ok-cell.cell c.requires.own c.requires.chains c.in_ok-cell.ensures.chain c.in_ok-cell.ensures.cells c.in_ok-cell.ensures.same
+pub hang_last-requires-clause-tree : goal.hang_last-requires-clause-tree
+hang_last-requires-clause-tree g c = beside_tree c.args.arena.now c.add_cell.new.arena c.args.nexts.now c.args.index.now c.args.key.now c.in_ok-cell.cell c.requires.own c.requires.chains c.in_ok-cell.ensures.chain c.in_ok-cell.ensures.cells c.in_ok-cell.ensures.same
 
-pub hang-requires-clause-free : goal.hang-requires-clause-free
-hang-requires-clause-free g c = beside_free c.args.arena.now c.add_cell.new.arena c.args.nexts.now c.args.index.now c.args.key.now c.in_ok-cell.cell c.requires.own c.requires.chains c.in_ok-cell.ensures.chain c.in_ok-cell.ensures.cells c.in_ok-cell.ensures.same
+pub hang_last-requires-clause-free : goal.hang_last-requires-clause-free
+hang_last-requires-clause-free g c = beside_free c.args.arena.now c.add_cell.new.arena c.args.nexts.now c.args.index.now c.args.key.now c.in_ok-cell.cell c.requires.own c.requires.chains c.in_ok-cell.ensures.chain c.in_ok-cell.ensures.cells c.in_ok-cell.ensures.same
 
-pub hang-requires-clause-above : goal.hang-requires-clause-above
-hang-requires-clause-above g c = beside_above c.args.arena.now c.add_cell.new.arena c.args.nexts.now c.args.index.now c.args.key.now c.in_ok-cell.cell c.requires.own c.requires.chains c.in_ok-cell.ensures.chain c.in_ok-cell.ensures.cells c.in_ok-cell.ensures.same c.requires.after
+pub hang_last-requires-clause-above : goal.hang_last-requires-clause-above
+hang_last-requires-clause-above g c = beside_above c.args.arena.now c.add_cell.new.arena c.args.nexts.now c.args.index.now c.args.key.now c.in_ok-cell.cell c.requires.own c.requires.chains c.in_ok-cell.ensures.chain c.in_ok-cell.ensures.cells c.in_ok-cell.ensures.same c.requires.after
 
 pub grown-requires : goal.grown-requires
 grown-requires g c = omega (arith, levels_fit c.args.arena.now.cells c.args.index.now c.requires.own.search c.numbers-count.ensures.fits)
 
 pub returns-clause-ok : goal.returns-clause-ok
 returns-clause-ok g c =
-    inr (last_added c.args.arena.now c.add_cell.new.arena c.hang.new.arena c.args.nexts.now c.add_cell.new.nexts c.args.index.now (record { root = Some c.hang.new.part.root; levels = c.grown.result; last = Some c.hang.new.part.cell }) c.args.key.now c.in_ok-cell.cell c.hang.new.part c.requires.own c.requires.chains c.requires.after
-    c.in_ok-cell.ensures.chain c.in_ok-cell.ensures.cells c.in_ok-cell.ensures.same c.in_ok-cell.ensures.nexts c.hang.ensures.arena c.hang.ensures.cell c.hang.ensures.added refl c.grown.ensures refl).more
+    inr (last_added c.args.arena.now c.add_cell.new.arena c.hang_last.new.arena c.args.nexts.now c.add_cell.new.nexts c.args.index.now (record { root = Some c.hang_last.new.part.root; levels = c.grown.result; last = Some c.hang_last.new.part.cell }) c.args.key.now c.in_ok-cell.cell c.hang_last.new.part c.requires.own c.requires.chains c.requires.after
+    c.in_ok-cell.ensures.chain c.in_ok-cell.ensures.cells c.in_ok-cell.ensures.same c.in_ok-cell.ensures.nexts c.hang_last.ensures.arena c.hang_last.ensures.cell c.hang_last.ensures.added refl c.grown.ensures refl).more
 
 pub returns-clause-own : goal.returns-clause-own
 returns-clause-own g c =
-    (last_added c.args.arena.now c.add_cell.new.arena c.hang.new.arena c.args.nexts.now c.add_cell.new.nexts c.args.index.now (record { root = Some c.hang.new.part.root; levels = c.grown.result; last = Some c.hang.new.part.cell }) c.args.key.now c.in_ok-cell.cell c.hang.new.part c.requires.own c.requires.chains c.requires.after
-    c.in_ok-cell.ensures.chain c.in_ok-cell.ensures.cells c.in_ok-cell.ensures.same c.in_ok-cell.ensures.nexts c.hang.ensures.arena c.hang.ensures.cell c.hang.ensures.added refl c.grown.ensures refl).own
+    (last_added c.args.arena.now c.add_cell.new.arena c.hang_last.new.arena c.args.nexts.now c.add_cell.new.nexts c.args.index.now (record { root = Some c.hang_last.new.part.root; levels = c.grown.result; last = Some c.hang_last.new.part.cell }) c.args.key.now c.in_ok-cell.cell c.hang_last.new.part c.requires.own c.requires.chains c.requires.after
+    c.in_ok-cell.ensures.chain c.in_ok-cell.ensures.cells c.in_ok-cell.ensures.same c.in_ok-cell.ensures.nexts c.hang_last.ensures.arena c.hang_last.ensures.cell c.hang_last.ensures.added refl c.grown.ensures refl).own
 
 pub returns-clause-cost : goal.returns-clause-cost
-returns-clause-cost g c = last_cost c.args.arena.now.cells c.add_cell.new.arena.cells c.args.index.now c.hang.new.part c.args.steps.now c.add_cell.new.steps c.hang.new.steps
+returns-clause-cost g c = last_cost c.args.arena.now.cells c.add_cell.new.arena.cells c.args.index.now c.hang_last.new.part c.args.steps.now c.add_cell.new.steps c.hang_last.new.steps
     (beside_same c.args.arena.now c.add_cell.new.arena c.args.nexts.now c.args.index.now c.args.key.now c.in_ok-cell.cell c.requires.own c.requires.chains c.in_ok-cell.ensures.chain c.in_ok-cell.ensures.cells c.in_ok-cell.ensures.same)
-    c.in_ok-cell.ensures.steps c.hang.ensures.steps
+    c.in_ok-cell.ensures.steps c.hang_last.ensures.steps
