@@ -44,6 +44,27 @@ few_levels t d avl few = elim (cases_lt (2 * d) (height t)) [
   | inr low ↦ low
 ]
 
+-- a tree that has cells has 2 ^ k of them already at 2 * k levels
+full_levels : (l : Tree) (n : ℕ) (key : List ℕ) (b : Balance) (r : Tree) (k : ℕ) → IsAvl (Fork l n key b r) → 2 * suc k ≤ height (Fork l n key b r) → 2 ^ suc k ≤ size (Fork l n key b r)
+full_levels l n key b r k avl tall =
+    let near = parts_near b (height l) (height r) avl.0 in
+    let p : 2 ^ suc k ≡ 2 ^ k * 2 = pow-suc 2 k in
+    elim (cases_lt (2 * k) (height l)) [
+      | inl high ↦ (let hr : 2 * k ≤ height r = omega (arith, near.0, near.1) in omega (arith, p, more_cells l k avl.1 high, many_cells r k avl.2 hr))
+      | inr low ↦ (let hl : 2 * k ≤ height l = omega (arith, near.0, near.1) in
+          let hr : 2 * k < height r = omega (arith, near.0, near.1) in
+          omega (arith, p, many_cells l k avl.1 hl, more_cells r k avl.2 hr))
+    ]
+
+-- among fewer than 2 ^ d cells, and at least one, there are fewer than 2 * d levels
+pub fewer_levels : (t : Tree) (d : ℕ) → IsAvl t → 0 < size t → size t < 2 ^ d → height t < 2 * d
+fewer_levels Leaf d avl some few = absurd (omega arith)
+fewer_levels (Fork l n key b r) zero avl some few = absurd (omega arith)
+fewer_levels (Fork l n key b r) (suc d) avl some few = elim (cases_lt (height (Fork l n key b r)) (2 * suc d)) [
+  | inl low ↦ low
+  | inr tall ↦ (let full : 2 ^ suc d ≤ size (Fork l n key b r) = full_levels l n key b r d avl tall in absurd (omega arith))
+]
+
 -- ---- a turn
 
 pub turned_right_avl : (l : Tree) (n : ℕ) (k : List ℕ) (r : Tree) → IsAvl l → IsAvl r → height l ≡ suc (suc (height r)) → IsLeaned l → IsAvl (turned_right l n k r) × (height (turned_right l n k r) ≡ suc (suc (height r)))

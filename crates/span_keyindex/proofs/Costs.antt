@@ -75,7 +75,7 @@ cost_joined t l part after s0 s1 s2 s3 low one cost join same =
 still_left : (cs : List Cell) (i : ℕ) (part after : Part) (g : Bool) → after ≡ joined_left_root g cs i part → g ≡ false → after.grew ≡ false
 still_left cs i part after g is none = ap (λ (p : Part). p.grew) is ∙ ap (λ (x : Bool). (joined_left_root x cs i part).grew) none
 
-still_right : (cs : List Cell) (i : ℕ) (part after : Part) (g : Bool) → after ≡ joined_right_root g cs i part → g ≡ false → after.grew ≡ false
+pub still_right : (cs : List Cell) (i : ℕ) (part after : Part) (g : Bool) → after ≡ joined_right_root g cs i part → g ≡ false → after.grew ≡ false
 still_right cs i part after g is none = ap (λ (p : Part). p.grew) is ∙ ap (λ (x : Bool). (joined_right_root x cs i part).grew) none
 
 pub cost_left : (mid : List Cell) (i : ℕ) (t l : Tree) (part after : Part) (s0 s1 s2 s3 : Count) → suc (height l) ≤ height t → IsCompared s0 s1 → IsPutCost l (Ok (Added part)) s1 s2 → IsJoinCost part.grew after.grew s2 s3 → after ≡ joined_left_root part.grew mid i part → IsPutCost t (Ok (Added after)) s0 s3

@@ -66,7 +66,7 @@ right_added old mid new levels at i ls key v part after e read tree greater free
 
 -- ---- what is read of the tree at a cell goes on in a part
 
-fork_some : (cs : List Cell) (levels : ℕ) (at : Option ℕ) (i : ℕ) (ls : Links) → at ≡ Some i → ls ≡ links_of cs i → IsTree cs at (tree_at cs levels at)
+pub fork_some : (cs : List Cell) (levels : ℕ) (at : Option ℕ) (i : ℕ) (ls : Links) → at ≡ Some i → ls ≡ links_of cs i → IsTree cs at (tree_at cs levels at)
     → tree_at cs levels at ≡ Fork (tree_at cs (levels - 1) ls.left) i (cell_at cs i).key ls.balance (tree_at cs (levels - 1) ls.right)
 fork_some cs levels at i ls e read tree =
     ap (λ (x : Option ℕ). tree_at cs levels x) e

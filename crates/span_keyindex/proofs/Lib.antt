@@ -6,9 +6,11 @@ pub mod Counts
 pub mod Exits
 pub mod Freeing
 pub mod Fronts
+pub mod Hanging
 pub mod Holders
 pub mod Joined
 pub mod Keeping
+pub mod Lasts
 pub mod Linking
 pub mod Owning
 pub mod Placing
@@ -18,6 +20,7 @@ pub mod Searching
 pub mod Sizes
 pub mod Spent
 pub mod Splitting
+pub mod Stopping
 pub mod Turned
 pub mod Unlinking
 pub mod Walking

@@ -200,7 +200,7 @@ put_left old mid new levels i key part after tree less free added cells result =
 
 -- ---- the right part
 
-put_right_at : (old mid new : List Cell) (l : Tree) (i : ℕ) (k : List ℕ) (b : Balance) (r : Tree) (key : List ℕ) (part after : Part)
+pub put_right_at : (old mid new : List Cell) (l : Tree) (i : ℕ) (k : List ℕ) (b : Balance) (r : Tree) (key : List ℕ) (part after : Part)
     → IsTree old (Some i) (Fork l i k b r) → byte_order key k ≡ Greater → count part.cell (Fork l i k b r) ≡ 0 → IsAdded old mid r key part
     → new ≡ joined_right_cells part.grew mid i part.root → after ≡ joined_right_root part.grew mid i part
     → IsAdded old new (Fork l i k b r) key after

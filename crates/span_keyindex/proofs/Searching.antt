@@ -67,7 +67,7 @@ search_absent key t rising h = All-from_recursion (λ (e : Entry). e.key ≢ key
 
 -- ---- the last cell below a key, and the first from it on
 
-last_middle : (b : Option ℕ) (xs : List Entry) (e : Entry) (ys : List Entry) → last_cell b (xs ++ e ∷ ys) ≡ last_cell (Some e.chain.number) ys
+pub last_middle : (b : Option ℕ) (xs : List Entry) (e : Entry) (ys : List Entry) → last_cell b (xs ++ e ∷ ys) ≡ last_cell (Some e.chain.number) ys
 last_middle b [] e ys = refl
 last_middle b (x ∷ xs) e ys = last_middle (Some x.chain.number) xs e ys
 

@@ -338,8 +338,8 @@ module _ (cs ds : List Cell) (ns ms : Nexts) (index : TreeRoot) (marks : ℕ →
     pub entries_left : items (tree_at new b.levels b.root) ≡ unmarked marks (entries_at cs index)
     entries_left = now ∙ ap (λ (es : List Entry). unmarked marks es) (sequence_of cs ns index own)
 
-    pub index_left : IsIndex new ms (record { root = b.root; levels = b.levels })
-    index_left =
+    pub index_left : (last : Option ℕ) → last ≡ last_cell None (items (tree_at new b.levels b.root)) → IsIndex new ms (record { root = b.root; levels = b.levels; last = last })
+    index_left last last_is =
         let rising : AreRising (all_of cs ns) = subst AreRising {x = entries_at cs index} {y = all_of cs ns} (sym (sequence_of cs ns index own)) own.search.rising in
         let left : AreRising (unmarked marks (all_of cs ns)) = rising_filter (λ (e : Entry). is_kept marks e) (all_of cs ns) rising in
         record {
@@ -351,4 +351,5 @@ module _ (cs ds : List Cell) (ns ms : Nexts) (index : TreeRoot) (marks : ℕ →
           };
           linked = subst (λ (es : List Entry). IsLinked (next_of ms) ms.first es) {x = unmarked marks (all_of cs ns)} {y = items (tree_at new b.levels b.root)} (sym now) linked;
           places = places ∙ own.places ∙ sym keeps.same_length ∙ sym built.same_length;
+          last = last_is;
         }

@@ -75,7 +75,7 @@ walked_is f g (suc n) at stop (e ∷ es) fs h is enough keys once =
 
 -- ---- in an index
 
-keys_stand : (cs : List Cell) (t : Tree) → Stands (cell_at cs) t → AllByRecursion (λ (e : Entry). (cell_at cs e.chain.number).key ≡ e.key) (items t)
+pub keys_stand : (cs : List Cell) (t : Tree) → Stands (cell_at cs) t → AllByRecursion (λ (e : Entry). (cell_at cs e.chain.number).key ≡ e.key) (items t)
 keys_stand cs Leaf stands = tt
 keys_stand cs (Fork l n k b r) stands =
     all_both (λ (e : Entry). (cell_at cs e.chain.number).key ≡ e.key) (items l) (entry k n ∷ items r) (keys_stand cs l stands.1) (ap (λ (c : Cell). c.key) stands.0, keys_stand cs r stands.2)

@@ -17,15 +17,18 @@ use Rattle.span_arena.specs.Content.{Content, IsNewChain}
 use Rattle.span_arena.specs.Cells.{cell_at}
 use Rattle.span_keyindex.specs.Entries.{with_entry, Entry}
 use Rattle.span_keyindex.specs.Items.{entry, items, holders, AreRising, below, above}
-use Rattle.span_keyindex.specs.Nexts.{Nexts, next_of, IsLinked, places_with, with_place, with_cell, before_in}
+use Rattle.span_keyindex.specs.Nexts.{Nexts, next_of, IsLinked, places_with, with_place, with_cell, before_in, last_cell}
 use Rattle.span_keyindex.specs.Puts.{IsTree, IsPut, IsPutIn, IsNext, IsAdded, IsPutCost, IsSearchOf, extra, extra_by}
 use Rattle.span_keyindex.specs.Indexes.{tree_of, entries_at, IsSearchTree, IsIndex, IsSame, IsMore, IsSlotCost, IsSearchCost}
+use Rattle.span_keyindex.specs.Lasts.{is_after, one_if_some, IsAfterCost, IsTreeCost}
 use Rattle.span_keyindex.proofs.Counts.{count_inserted}
 use Rattle.span_keyindex.proofs.Puts.{places_more, places_here, once_more, within_more}
 use Rattle.span_keyindex.proofs.Avl.{few_levels, inserted_grown}
 use Rattle.span_keyindex.proofs.Rising.{rising_around, rising_front, rising_back, below_all, above_all, cut_at}
 use Rattle.span_keyindex.proofs.Searching.{length_items, search_found, search_absent, search_other, before_is}
 use Rattle.span_keyindex.proofs.Placing.{items_inserted}
+use Rattle.span_keyindex.proofs.Lasts.{last_stays, one_more_compared}
+use Rattle.span_keyindex.proofs.Walking.{keys_stand}
 use Rattle.span_keyindex.proofs.Linking.{held_items, linked_same, room_same, linked_more}
 use Rattle.span_keyindex.proofs.Sizes.{size_most}
 use Rattle.span_keyindex.proofs.Exits.{found_is}
@@ -100,7 +103,8 @@ pub record IsAfter (old new : Content) (ms : Nexts) (before after : TreeRoot) (k
   pub more : IsMore old new before after key cell
 
 module _ (a b : Content) (ns ms : Nexts) (before after : TreeRoot) (key : List ℕ) (part : Part) (index : IsIndex a.cells ns before) (added : IsAdded a.cells b.cells (tree_of a.cells before) key part) (fresh : IsNewChain a b part.cell)
-    (nexts : ms ≡ with_cell (with_place ns part.cell) (before_in key None (tree_of a.cells before)) part.cell) (root : after.root ≡ Some part.root) (levels : after.levels ≡ grown_height part.grew before.levels) where
+    (nexts : ms ≡ with_cell (with_place ns part.cell) (before_in key None (tree_of a.cells before)) part.cell) (root : after.root ≡ Some part.root) (levels : after.levels ≡ grown_height part.grew before.levels)
+    (last : after.last ≡ last_cell None (with_entry (entries_at a.cells before) (entry key part.cell))) where
   g : Grown
   g = inserted part.cell key (tree_of a.cells before)
 
@@ -160,7 +164,7 @@ module _ (a b : Content) (ns ms : Nexts) (before after : TreeRoot) (key : List �
 
   pub index_after : IsAfter a b ms before after key part.cell
   index_after = record {
-    own = record { search = search_after; linked = linked_after; places = places_after };
+    own = record { search = search_after; linked = linked_after; places = places_after; last = last ∙ ap (λ (es : List Entry). last_cell None es) (sym now) };
     more = record { absent = search_absent key (tree_of a.cells before) index.search.rising added.absent; fresh = fresh; now = now };
   }
 
@@ -182,12 +186,19 @@ extra_most (Ok (Found at)) = omega arith
 extra_most (Ok (Added part)) = most_by part.grew
 extra_most (Err why) = omega arith
 
-pub slot_cost : (cs : List Cell) (index : TreeRoot) (r : Result Put Refusal) (old new : Count) → IsSearchTree cs index → IsPutCost (tree_of cs index) r old new → (d : ℕ) → length (entries_at cs index) < 2 ^ d → IsSlotCost d old new
-slot_cost cs index r old new own cost d few =
-    let low : height (tree_of cs index) ≤ 2 * d = few_levels (tree_of cs index) d own.avl (omega (arith, length_items (tree_of cs index))) in
-    let compared = cost.compared in
+pub tree_cost : (t : Tree) (r : Result Put Refusal) (old new : Count) → IsPutCost t r old new → IsTreeCost (height t) t old new
+tree_cost t r old new cost =
     let written = cost.written in
-    record { compared = omega arith; all = omega (arith, extra_most r) }
+    record { compared = cost.compared; written = omega (arith, extra_most r) }
+
+pub slot_cost : (cs : List Cell) (ns : Nexts) (index : TreeRoot) (most : ℕ) (s0 s1 s2 : Count) → IsIndex cs ns index → most ≤ height (tree_of cs index) → IsAfterCost index.last s0 s1 → IsTreeCost most (tree_of cs index) s1 s2
+    → (d : ℕ) → length (entries_at cs index) < 2 ^ d → IsSlotCost d s0 s2
+slot_cost cs ns index most s0 s1 s2 own le one cost d few =
+    let size_few : size (tree_of cs index) < 2 ^ d = omega (arith, length_items (tree_of cs index)) in
+    let low : height (tree_of cs index) ≤ 2 * d = few_levels (tree_of cs index) d own.search.avl size_few in
+    let more : one_if_some index.last + height (tree_of cs index) ≤ 2 * d = one_more_compared (tree_of cs index) index.last d own.last own.search.avl size_few in
+    let a = one.compared in let b = one.written in let c = cost.compared in let e = cost.written in
+    record { compared = omega arith; all = omega arith }
 
 -- ---- what `add_key` gave
 
@@ -206,13 +217,16 @@ slot_found old new ns ms index key b v n put arena next is =
     }
 
 pub slot_added : (old new : Content) (ns ms : Nexts) (before after : TreeRoot) (key : List ℕ) (v : Put) (part : Part) → IsIndex old.cells ns before → IsPut old.cells new.cells (tree_of old.cells before) key v → IsPutIn old new v → IsNext ns ms (before_in key None (tree_of old.cells before)) v → v ≡ Added part
-    → after.root ≡ Some part.root → after.levels ≡ grown_height part.grew before.levels → IsAfter old new ms before after key part.cell
-slot_added old new ns ms before after key v part index put arena next is root levels =
+    → after.root ≡ Some part.root → after.levels ≡ grown_height part.grew before.levels → after.last ≡ before.last → is_after old.cells before.last key ≡ false → IsAfter old new ms before after key part.cell
+slot_added old new ns ms before after key v part index put arena next is root levels last among =
+    let added : IsAdded old.cells new.cells (tree_of old.cells before) key part = subst (λ (x : Put). IsPut old.cells new.cells (tree_of old.cells before) key x) {x = v} {y = Added part} is put in
     index_after old new ns ms before after key part index
-    (subst (λ (x : Put). IsPut old.cells new.cells (tree_of old.cells before) key x) {x = v} {y = Added part} is put)
+    added
     (subst (λ (x : Put). IsPutIn old new x) {x = v} {y = Added part} is arena)
     (subst (λ (x : Put). IsNext ns ms (before_in key None (tree_of old.cells before)) x) {x = v} {y = Added part} is next)
     root levels
+    (last ∙ index.last ∙ sym (last_stays old.cells key (entries_at old.cells before) part.cell index.search.rising (keys_stand old.cells (tree_of old.cells before) index.search.tree.stands)
+    (search_other key (tree_of old.cells before) index.search.rising added.absent) (ap (λ (o : Option ℕ). is_after old.cells o key) (sym index.last) ∙ among)))
 
 pub grown_yes : (g : Bool) (h : ℕ) → g ≡ true → h + 1 ≡ grown_height g h
 grown_yes g h is = let e : h + 1 ≡ suc h = omega arith in e ∙ ap (λ (x : Bool). grown_height x h) (sym is)

@@ -1,5 +1,5 @@
 -- An index: a balanced tree of cells, whose keys rise, with links from each cell to the next.
-use Rattle.std.specs.Prelude.{◌≡◌, ◌⊎◌, ℕ, ◌+◌, ◌*◌, ◌≤◌, List, [], length}
+use Rattle.std.specs.Prelude.{◌≡◌, ◌⊎◌, ℕ, ◌+◌, ◌*◌, ◌≤◌, List, [], length, None}
 use Rattle.span_arena.specs.declared.cell.Cell.{Cell}
 use Rattle.span_arena.specs.Content.{Content, IsNewChain}
 use Rattle.span_keyindex.specs.declared.index.KeyIndex.{KeyIndex}
@@ -10,7 +10,7 @@ use Rattle.span_arena.specs.Counts.{Count}
 use Rattle.span_keyindex.specs.Puts.{tree_at, IsTree}
 use Rattle.span_keyindex.specs.Entries.{IsAbsent, with_entry, Entry}
 use Rattle.span_keyindex.specs.Items.{entry, items, AreRising, HasCell}
-use Rattle.span_keyindex.specs.Nexts.{Nexts, next_of, IsLinked}
+use Rattle.span_keyindex.specs.Nexts.{Nexts, next_of, IsLinked, last_cell}
 
 abbrev pub tree_of : List Cell → TreeRoot → Tree
 tree_of cs index = tree_at cs index.levels index.root
@@ -26,11 +26,12 @@ pub record IsSearchTree (cs : List Cell) (index : TreeRoot) : Type 0 where
   pub tall : height (tree_of cs index) ≡ index.levels
   pub rising : AreRising (entries_at cs index)
 
--- and these are the links from each cell to the next
+-- and these are the links from each cell to the next, and this the last one
 pub record IsIndex (cs : List Cell) (ns : Nexts) (index : TreeRoot) : Type 0 where
   pub search : IsSearchTree cs index
   pub linked : IsLinked (next_of ns) ns.first (entries_at cs index)
   pub places : length ns.next ≡ length cs
+  pub last : index.last ≡ last_cell None (entries_at cs index)
 
 -- the key has the chain of this number, and nothing changed
 pub record IsSame (old new : Content) (ns ms : Nexts) (before after : TreeRoot) (key : List ℕ) (cell : ℕ) : Type 0 where

@@ -6,6 +6,7 @@ pub mod Entries
 pub mod Indexes
 pub mod Items
 pub mod Joins
+pub mod Lasts
 pub mod Nexts
 pub mod Puts
 pub mod Removals

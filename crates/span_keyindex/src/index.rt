@@ -39,6 +39,7 @@ impl KeyIndex {
             tree: TreeRoot {
                 root: None,
                 levels: 0,
+                last: None,
             },
             nexts: NextLinks::new(alloc),
         }

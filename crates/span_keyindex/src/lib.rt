@@ -9,6 +9,7 @@ pub mod chains;
 mod find;
 pub mod index;
 mod join;
+mod last;
 mod next;
 mod put;
 mod remove;

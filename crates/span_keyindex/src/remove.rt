@@ -7,6 +7,7 @@ ghost use Rattle.span_keyindex.specs.Nexts.{next_of, IsLinked};
 ghost use Rattle.span_keyindex.specs.Removals.{all_of, passed, passed_arena, passed_links, IsSequence, KeepsCells};
 
 use crate::build::build;
+use crate::last::last_below;
 use crate::next::NextLinks;
 use crate::tree::TreeRoot;
 use span_arena::arena::Arena;
@@ -33,6 +34,7 @@ pub(crate) fn remove_unused(arena: &mut Arena, nexts: &mut NextLinks, index: &mu
     let built = build(arena, nexts, count, nexts.first());
     index.root = built.root;
     index.levels = built.levels;
+    index.last = last_below(arena, built.root, None, built.levels);
 }
 
 // Links the chains that are in use, frees the others, and returns how many are linked.

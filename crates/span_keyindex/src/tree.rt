@@ -1,10 +1,13 @@
 //! The tree of keys, and the links from each to the next.
-ghost use Rattle.std.specs.Prelude.{◌≡◌, ℕ, ◌<◌, ◌^◌, length, IfOk, IfErr, OnErr};
+ghost use Rattle.std.specs.Prelude.{◌≡◌, ℕ, ◌<◌, ◌^◌, false, length, IfOk, IfErr, OnErr};
 ghost use Rattle.span_keyindex.specs.Entries.{IsAbsent};
 ghost use Rattle.span_keyindex.specs.Indexes.{IsIndex, IsSlot, IsSlotCost, entries_at, tree_of};
+ghost use Rattle.span_keyindex.specs.Lasts.{is_after, IsTreeCost};
 ghost use Rattle.span_keyindex.specs.Puts.{AreChains};
+ghost use Rattle.span_keyindex.specs.Trees.{height};
 
 use crate::join::Part;
+use crate::last::{is_after, put_last};
 use crate::next::NextLinks;
 use crate::put::add_key;
 use span_arena::arena::Arena;
@@ -13,11 +16,12 @@ use span_keycode::key::Key;
 use span_value::refusal::Refusal;
 use std::sync::ledger::Ledger;
 
-/// Where the tree of keys begins, and how many levels it has. Its links are in the arena.
+/// Where the tree of keys begins, how many levels it has, and the cell of its last key. Its links are in the arena.
 #[derive(Clone, Copy, Debug)]
 pub struct TreeRoot {
     pub root: Option<usize>,
     pub levels: usize,
+    pub last: Option<usize>,
 }
 
 /// The number of a key's chain: its own, or a new one where the key is not there, which takes the key. `Refusal::OutOfMemory` leaves
@@ -40,6 +44,35 @@ pub(crate) fn slot_for<C: Ledger, W: Ledger>(
     ensures own { IsIndex arena.new.cells nexts.new index.new }
     ensures cost { (d : ℕ) → length (entries_at arena.old.cells index.old) < 2 ^ d
         → IsSlotCost d steps.old steps.new }
+{
+    // A load in the order of its keys puts each after all others.
+    if is_after(arena, index.last, key.as_slice(), steps) {
+        put_last(arena, nexts, index, key, steps)
+    } else {
+        put_among(arena, nexts, index, key, steps)
+    }
+}
+
+// As `slot_for`, of a key that is not after all others.
+fn put_among<C: Ledger, W: Ledger>(
+    arena: &mut Arena,
+    nexts: &mut NextLinks,
+    index: &mut TreeRoot,
+    key: &mut Key,
+    steps: &mut Steps<C, W>,
+) -> Result<usize, Refusal>
+    requires own { IsIndex arena.old.cells nexts.old index.old }
+    requires chains { AreChains arena.old (tree_of arena.old.cells index.old) }
+    requires among { is_after arena.old.cells index.old.last key.old ≡ false }
+    ensures ok { IfOk result (IsSlot arena.old arena.new nexts.old nexts.new index.old index.new key.old) }
+    ensures arena { OnErr result (arena.new ≡ arena.old) }
+    ensures nexts { OnErr result (nexts.new ≡ nexts.old) }
+    ensures index { OnErr result (index.new ≡ index.old) }
+    ensures memory { IfErr result (λ why. why ≡ Refusal.OutOfMemory) }
+    ensures absent { OnErr result (IsAbsent (entries_at arena.old.cells index.old) key.old) }
+    ensures own { IsIndex arena.new.cells nexts.new index.new }
+    ensures cost { IsTreeCost (height (tree_of arena.old.cells index.old)) (tree_of arena.old.cells index.old)
+        steps.old steps.new }
 {
     // The count of numbers fits, and with it that of the levels.
     let _count = arena.numbers();

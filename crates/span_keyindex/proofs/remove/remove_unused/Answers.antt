@@ -22,6 +22,9 @@ pub returns-clause-entries : goal.returns-clause-entries
 returns-clause-entries c =
     entries_left c.args.arena.now.cells c.unlink-count.new.arena.cells c.args.nexts.now c.unlink-count.new.nexts c.args.index.now (is_unused c.args.arena.now) c.unlink-count.result c.first.result c.requires.own c.unlink-count.ensures.cells c.unlink-count.ensures.linked c.unlink-count.ensures.count c.unlink-count.ensures.places c.first.ensures c.build-built.new.arena.cells c.build-built.result c.build-built.ensures.tree
 
+pub last_below-index-requires : goal.last_below-index-requires
+last_below-index-requires c = c.build-built.ensures.tree.tree
+
 pub returns-clause-own : goal.returns-clause-own
 returns-clause-own c =
-    index_left c.args.arena.now.cells c.unlink-count.new.arena.cells c.args.nexts.now c.unlink-count.new.nexts c.args.index.now (is_unused c.args.arena.now) c.unlink-count.result c.first.result c.requires.own c.unlink-count.ensures.cells c.unlink-count.ensures.linked c.unlink-count.ensures.count c.unlink-count.ensures.places c.first.ensures c.build-built.new.arena.cells c.build-built.result c.build-built.ensures.tree
+    index_left c.args.arena.now.cells c.unlink-count.new.arena.cells c.args.nexts.now c.unlink-count.new.nexts c.args.index.now (is_unused c.args.arena.now) c.unlink-count.result c.first.result c.requires.own c.unlink-count.ensures.cells c.unlink-count.ensures.linked c.unlink-count.ensures.count c.unlink-count.ensures.places c.first.ensures c.build-built.new.arena.cells c.build-built.result c.build-built.ensures.tree c.last_below-index.result c.last_below-index.ensures

@@ -1,46 +1,15 @@
-use Rattle.std.specs.Prelude.{Bool}
-use Rattle.std.proofs.Common.{◌+◌, ap, refl, arith, inl, inr, Some, None}
+use Rattle.std.proofs.Common.{arith}
 use Rattle.span_keyindex.specs.Indexes.{tree_of}
-use Rattle.span_keyindex.specs.Nexts.{before_in}
-use Rattle.span_keyindex.specs.Puts.{put_of}
-use Rattle.span_keyindex.proofs.Searching.{search_absent}
-use Rattle.span_keyindex.proofs.Whole.{on_err, slot_cost, slot_found, slot_added, grown_yes, grown_not, levels_fit}
+use Rattle.span_keyindex.specs.Trees.{height}
+use Rattle.span_keyindex.proofs.Hanging.{last_inside}
+use Rattle.span_keyindex.proofs.Whole.{slot_cost}
 use Rattle.span_keyindex.proofs.tree.slot_for.Goals as goal
 
-pub returns-in_err-is_added-clause-absent : goal.returns-in_err-is_added-clause-absent
-returns-in_err-is_added-clause-absent g c = on_err c.from_residual.result _ (search_absent c.args.key.now (tree_of c.args.arena.now.cells c.args.index.now) c.requires.own.search.rising c.in_err-is_added.ensures.absent)
+pub is_after-requires : goal.is_after-requires
+is_after-requires g c = last_inside c.args.arena.now.cells c.args.nexts.now c.args.index.now c.requires.own
 
-pub returns-in_err-is_added-clause-cost : goal.returns-in_err-is_added-clause-cost
-returns-in_err-is_added-clause-cost g c = slot_cost c.args.arena.now.cells c.args.index.now _ c.args.steps.now c.add_key.new.steps c.requires.own.search c.in_err-is_added.ensures.steps
+pub returns-then-is_after-clause-cost : goal.returns-then-is_after-clause-cost
+returns-then-is_after-clause-cost g c = slot_cost c.args.arena.now.cells c.args.nexts.now c.args.index.now 0 c.args.steps.now c.is_after.new.steps c.put_last.new.steps c.requires.own (omega arith) c.is_after.ensures.steps c.put_last.ensures.cost
 
-pub overflow_add-index : goal.overflow_add-index
-overflow_add-index g c = omega (arith, levels_fit c.args.arena.now.cells c.args.index.now c.requires.own.search c.numbers-count.ensures.fits)
-
-pub returns-then-not-is_added-clause-ok : goal.returns-then-not-is_added-clause-ok
-returns-then-not-is_added-clause-ok g c =
-    inl (slot_found c.args.arena.now c.add_key.new.arena c.args.nexts.now c.add_key.new.nexts c.args.index.now c.args.key.now (before_in c.args.key.now None (tree_of c.args.arena.now.cells c.args.index.now)) (put_of c.in_ok-is_added.is_added c.add_key.new.part) c.add_key.new.part.cell c.in_ok-is_added.ensures.ok c.in_ok-is_added.ensures.arena c.in_ok-is_added.ensures.nexts (ap (λ (b : Bool). put_of b c.add_key.new.part) c.if-not-is_added.true))
-
-pub returns-then-not-is_added-clause-cost : goal.returns-then-not-is_added-clause-cost
-returns-then-not-is_added-clause-cost g c = slot_cost c.args.arena.now.cells c.args.index.now _ c.args.steps.now c.add_key.new.steps c.requires.own.search c.in_ok-is_added.ensures.steps
-
-pub returns-then-part-clause-ok : goal.returns-then-part-clause-ok
-returns-then-part-clause-ok g c =
-    inr (slot_added c.args.arena.now c.add_key.new.arena c.args.nexts.now c.add_key.new.nexts c.args.index.now (record { root = Some c.add_key.new.part.root; levels = c.args.index.now.levels + 1 }) c.args.key.now (put_of c.in_ok-is_added.is_added c.add_key.new.part) c.add_key.new.part c.requires.own c.in_ok-is_added.ensures.ok c.in_ok-is_added.ensures.arena c.in_ok-is_added.ensures.nexts (ap (λ (b : Bool). put_of b c.add_key.new.part) c.if-not-is_added.false) refl (grown_yes c.add_key.new.part.grew c.args.index.now.levels c.if-part.true)).more
-
-pub returns-then-part-clause-own : goal.returns-then-part-clause-own
-returns-then-part-clause-own g c =
-    (slot_added c.args.arena.now c.add_key.new.arena c.args.nexts.now c.add_key.new.nexts c.args.index.now (record { root = Some c.add_key.new.part.root; levels = c.args.index.now.levels + 1 }) c.args.key.now (put_of c.in_ok-is_added.is_added c.add_key.new.part) c.add_key.new.part c.requires.own c.in_ok-is_added.ensures.ok c.in_ok-is_added.ensures.arena c.in_ok-is_added.ensures.nexts (ap (λ (b : Bool). put_of b c.add_key.new.part) c.if-not-is_added.false) refl (grown_yes c.add_key.new.part.grew c.args.index.now.levels c.if-part.true)).own
-
-pub returns-then-part-clause-cost : goal.returns-then-part-clause-cost
-returns-then-part-clause-cost g c = slot_cost c.args.arena.now.cells c.args.index.now _ c.args.steps.now c.add_key.new.steps c.requires.own.search c.in_ok-is_added.ensures.steps
-
-pub returns-else-part-clause-ok : goal.returns-else-part-clause-ok
-returns-else-part-clause-ok g c =
-    inr (slot_added c.args.arena.now c.add_key.new.arena c.args.nexts.now c.add_key.new.nexts c.args.index.now (record { root = Some c.add_key.new.part.root; levels = c.args.index.now.levels }) c.args.key.now (put_of c.in_ok-is_added.is_added c.add_key.new.part) c.add_key.new.part c.requires.own c.in_ok-is_added.ensures.ok c.in_ok-is_added.ensures.arena c.in_ok-is_added.ensures.nexts (ap (λ (b : Bool). put_of b c.add_key.new.part) c.if-not-is_added.false) refl (grown_not c.add_key.new.part.grew c.args.index.now.levels c.if-part.false)).more
-
-pub returns-else-part-clause-own : goal.returns-else-part-clause-own
-returns-else-part-clause-own g c =
-    (slot_added c.args.arena.now c.add_key.new.arena c.args.nexts.now c.add_key.new.nexts c.args.index.now (record { root = Some c.add_key.new.part.root; levels = c.args.index.now.levels }) c.args.key.now (put_of c.in_ok-is_added.is_added c.add_key.new.part) c.add_key.new.part c.requires.own c.in_ok-is_added.ensures.ok c.in_ok-is_added.ensures.arena c.in_ok-is_added.ensures.nexts (ap (λ (b : Bool). put_of b c.add_key.new.part) c.if-not-is_added.false) refl (grown_not c.add_key.new.part.grew c.args.index.now.levels c.if-part.false)).own
-
-pub returns-else-part-clause-cost : goal.returns-else-part-clause-cost
-returns-else-part-clause-cost g c = slot_cost c.args.arena.now.cells c.args.index.now _ c.args.steps.now c.add_key.new.steps c.requires.own.search c.in_ok-is_added.ensures.steps
+pub returns-else-is_after-clause-cost : goal.returns-else-is_after-clause-cost
+returns-else-is_after-clause-cost g c = slot_cost c.args.arena.now.cells c.args.nexts.now c.args.index.now (height (tree_of c.args.arena.now.cells c.args.index.now)) c.args.steps.now c.is_after.new.steps c.put_among.new.steps c.requires.own (omega arith) c.is_after.ensures.steps c.put_among.ensures.cost

@@ -1,0 +1,243 @@
+-- A new cell joined to the right end of a tree.
+use Rattle.std.proofs.Common.{◌≡◌, ◌≢◌, ℕ, suc, ◌+◌, ◌-◌, ◌<◌, ◌≤◌, List, refl, sym, ◌∙◌, ap, arith, length, true, false, Option, Some, None, subst}
+use Rattle.std.specs.Prelude.{Bool, nat_lt}
+use Rattle.std.specs.declared.cmp.Ordering.TheVariants.{Greater}
+use Rattle.std.proofs.lemmas.Bool.Decides.{nat_tests}
+use Rattle.span_keycode.specs.Order.{byte_order}
+use Rattle.span_arena.specs.declared.cell.Cell.{Cell}
+use Rattle.span_arena.specs.declared.cell.Links.{Links}
+use Rattle.span_arena.specs.Cells.{cell_at, blank, new_cell}
+use Rattle.span_arena.specs.Content.{Content, IsNewChain, with_at, with_cells}
+use Rattle.span_arena.specs.Counts.{Count}
+use Rattle.span_arena.proofs.Keeping.{with_at-same}
+use Rattle.span_keyindex.specs.declared.join.Part.{Part}
+use Rattle.span_keyindex.specs.declared.tree.TreeRoot.{TreeRoot}
+use Rattle.span_keyindex.specs.Avl.{grown_height}
+use Rattle.span_keyindex.specs.Effects.{links_of, IsInside, IsWithin}
+use Rattle.span_keyindex.specs.Entries.{IsAbsent}
+use Rattle.span_keyindex.specs.Indexes.{tree_of, entries_at, IsSearchTree, IsIndex}
+use Rattle.span_keyindex.specs.Items.{items}
+use Rattle.span_keyindex.specs.Joins.{joined_right_cells, joined_right_root, most_by, IsJoinCost}
+use Rattle.span_keyindex.specs.Lasts.{IsAboveRight, is_after, IsNewPart, turns_by, IsHangCost, IsTreeCost}
+use Rattle.span_keyindex.specs.Nexts.{Nexts, places_with, with_place, with_cell, before_in, last_cell}
+use Rattle.span_keyindex.specs.Puts.{tree_at, AreChains, IsTree, IsAdded, Added}
+use Rattle.span_keyindex.specs.Trees.{Tree, Leaf, Fork, Stands, count, height, shape}
+use Rattle.span_keyindex.proofs.Counting.{stays}
+use Rattle.span_keyindex.proofs.Costs.{IsReady, still_right}
+use Rattle.span_keyindex.proofs.Exits.{fork_some, right_ready, right_added, new_relinked}
+use Rattle.span_keyindex.proofs.Lasts.{all_before, last_new, inside_last, above_right, not_there, before_last, last_fork}
+use Rattle.span_keyindex.proofs.Linking.{held_items}
+use Rattle.span_keyindex.proofs.Puts.{leaf_at, places_more, places_here, length_at, elsewhere, not_in, cell_right}
+use Rattle.span_keyindex.proofs.Rising.{AllBelow}
+use Rattle.span_keyindex.proofs.Searching.{search_absent}
+use Rattle.span_keyindex.proofs.Spent.{right_under}
+use Rattle.span_keyindex.proofs.Walking.{keys_stand}
+use Rattle.span_keyindex.proofs.Whole.{IsAfter, index_after, shape_is}
+
+-- a cell that has a place takes no other
+places_kept : (n c : ℕ) → c < n → places_with n c ≡ n
+places_kept n c lt = let t : nat_lt c n ≡ true = grind (arith, nat_tests) in rw t refl
+
+-- ---- where the link leads nowhere
+
+module _ (cs : List Cell) (levels : ℕ) (at : Option ℕ) (part : Part) (none : at ≡ None) where
+  no_tree : tree_at cs levels at ≡ Leaf
+  no_tree = ap (λ (x : Option ℕ). tree_at cs levels x) none ∙ leaf_at cs levels
+
+  pub hung_alone : IsNewPart cs part → IsAdded cs cs (tree_at cs levels at) (cell_at cs part.cell).key part
+  hung_alone new =
+      let here = new.here in
+      subst (λ (t : Tree). IsAdded cs cs t (cell_at cs part.cell).key part) {x = Leaf} {y = tree_at cs levels at} (sym no_tree) (record {
+        absent = refl;
+        free = refl;
+        number = omega arith;
+        one_more = sym (places_kept (length cs) part.cell here);
+        stands = (new.alone, tt, tt);
+        root = ap (λ (x : ℕ). Some x) new.root;
+        grew = new.grew;
+        others = λ i differs n. refl;
+      })
+
+-- ---- where it leads to a cell
+
+module _ (old : List Cell) (levels : ℕ) (at : Option ℕ) (i : ℕ) (ls : Links) (key : List ℕ) (e : at ≡ Some i) (read : ls ≡ links_of old i) (tree : IsTree old at (tree_at old levels at)) where
+  above_by : IsAboveRight key (tree_at old levels at) → (byte_order key (cell_at old i).key ≡ Greater) × IsAboveRight key (tree_at old (levels - 1) ls.right)
+  above_by above =
+      subst (λ (t : Tree). IsAboveRight key t) {x = tree_at old levels at} {y = Fork (tree_at old (levels - 1) ls.left) i (cell_at old i).key ls.balance (tree_at old (levels - 1) ls.right)} (fork_some old levels at i ls e read tree) above
+
+  pub above_more : IsAboveRight key (tree_at old levels at) → IsAboveRight key (tree_at old (levels - 1) ls.right)
+  above_more above = (above_by above).1
+
+  pub free_more : (c : ℕ) → count c (tree_at old levels at) ≡ 0 → count c (tree_at old (levels - 1) ls.right) ≡ 0
+  free_more c free = omega (arith, ap (λ (t : Tree). count c t) (fork_some old levels at i ls e read tree))
+
+  module _ (mid : List Cell) (part : Part) (added : IsAdded old mid (tree_at old (levels - 1) ls.right) key part) where
+    pub hung_ready : IsReady mid part.root × (i < length mid)
+    hung_ready = right_ready old mid levels at i ls key (Added part) part e read tree added refl
+
+    pub hung_more : (new : List Cell) (after : Part) (c : ℕ) → part.cell ≡ c → count c (tree_at old levels at) ≡ 0 → IsAboveRight key (tree_at old levels at) → new ≡ joined_right_cells part.grew mid i part.root → after ≡ joined_right_root part.grew mid i part
+        → IsAdded old new (tree_at old levels at) key after
+    hung_more new after c same free above cells result =
+        right_added old mid new levels at i ls key (Added part) part after e read tree (sym (above_by above).0) (ap (λ (x : ℕ). count x (tree_at old levels at)) same ∙ free) added refl cells result
+
+pub last_by : (cs : List Cell) (levels : ℕ) (at : Option ℕ) (i : ℕ) (ls : Links) → at ≡ Some i → ls ≡ links_of cs i → IsTree cs at (tree_at cs levels at) → (x : Option ℕ) → last_cell x (items (tree_at cs levels at)) ≡ last_cell (Some i) (items (tree_at cs (levels - 1) ls.right))
+last_by cs levels at i ls e read tree x =
+    ap (λ (t : Tree). last_cell x (items t)) (fork_some cs levels at i ls e read tree)
+    ∙ last_fork x (tree_at cs (levels - 1) ls.left) i (cell_at cs i).key ls.balance (tree_at cs (levels - 1) ls.right)
+
+-- other links twice
+pub linked_twice : (old mid new : Content) (cs : List Cell) → mid ≡ with_cells old mid.cells → new ≡ with_cells mid cs → new ≡ with_cells old new.cells
+linked_twice old mid new cs first then =
+    then ∙ ap (λ (m : Content). with_cells m cs) first ∙ ap (λ (m : Content). with_cells old m.cells) (sym then)
+
+pub same_cell : (mid : List Cell) (i : ℕ) (part after : Part) (c : ℕ) → after ≡ joined_right_root part.grew mid i part → part.cell ≡ c → after.cell ≡ c
+same_cell mid i part after c result same = ap (λ (p : Part). p.cell) result ∙ cell_right part.grew mid i part ∙ same
+
+turns_join : (p a : Bool) → (p ≡ false → a ≡ false) → turns_by p + most_by p a ≤ suc (turns_by a)
+turns_join false false same = omega arith
+turns_join false true same = absurd (let e : true ≡ false = same refl in cc)
+turns_join true false same = omega arith
+turns_join true true same = omega arith
+
+pub hung_cost : (old mid : List Cell) (levels : ℕ) (at : Option ℕ) (i : ℕ) (ls : Links) (part after : Part) (s0 s1 s2 : Count) → at ≡ Some i → ls ≡ links_of old i → IsTree old at (tree_at old levels at)
+    → IsHangCost (tree_at old (levels - 1) ls.right) part s0 s1 → IsJoinCost part.grew after.grew s1 s2 → after ≡ joined_right_root part.grew mid i part → IsHangCost (tree_at old levels at) after s0 s2
+hung_cost old mid levels at i ls part after s0 s1 s2 e read tree cost join result =
+    let low : suc (height (tree_at old (levels - 1) ls.right)) ≤ height (tree_at old levels at) = right_under old levels at i ls e read tree in
+    let m = turns_join part.grew after.grew (still_right mid i part after part.grew result) in
+    let a = cost.compared in let b = cost.written in let c = join.compared in let d = join.written in
+    record { compared = c ∙ a; written = omega arith }
+
+-- ---- the tree beside a new cell
+
+module _ (old mid : List Cell) (index : TreeRoot) (key : List ℕ) (c : ℕ) (own : IsSearchTree old index) (free : count c (tree_of old index) ≡ 0) (number : c ≤ length old) (is : mid ≡ with_at old c (new_cell key)) where
+  long : length mid ≡ places_with (length old) c
+  long = ap length is ∙ length_at old c (new_cell key)
+
+  not_new : (j : ℕ) → 0 < count j (tree_of old index) → j ≢ c
+  not_new j some same = (let none : count j (tree_of old index) ≡ 0 = ap (λ (x : ℕ). count x (tree_of old index)) same ∙ free in absurd (omega arith))
+
+  kept : Stands (cell_at mid) (tree_of old index)
+  kept =
+      stays (cell_at old) (cell_at mid) (tree_of old index)
+      (λ j some. ap (λ (cs : List Cell). cell_at cs j) is ∙ elsewhere old c j (new_cell key) blank (not_new j some) number)
+      own.tree.stands
+
+  pub same_tree : tree_of mid index ≡ tree_of old index
+  same_tree =
+      let low : height (tree_of old index) ≤ index.levels = (let e = own.tall in omega arith) in
+      ap (λ (x : Option ℕ). shape (cell_at mid) index.levels x) own.tree.root ∙ shape_is (cell_at mid) (tree_of old index) index.levels kept low
+
+  pub tree_there : IsTree mid index.root (tree_of mid index)
+  tree_there = subst (λ (t : Tree). IsTree mid index.root t) {x = tree_of old index} {y = tree_of mid index} (sym same_tree) (record {
+    stands = kept;
+    root = own.tree.root;
+    once = own.tree.once;
+    within = λ j some. (let lt = own.tree.within j some in omega (arith, long, places_more (length old) c));
+  })
+
+  here : cell_at mid c ≡ new_cell key
+  here = ap (λ (cs : List Cell). cell_at cs c) is ∙ with_at-same old c (new_cell key) blank number
+
+  own_key : (cell_at mid c).key ≡ key
+  own_key = ap (λ (x : Cell). x.key) here
+
+  pub part_there : IsNewPart mid (record { cell = c; root = c; grew = true })
+  part_there = record {
+    alone = here ∙ ap (λ (k : List ℕ). new_cell k) (sym own_key);
+    here = omega (arith, long, places_here (length old) c number);
+    root = refl;
+    grew = refl;
+  }
+
+  pub free_there : count c (tree_of mid index) ≡ 0
+  free_there = ap (λ (t : Tree). count c t) same_tree ∙ free
+
+  pub above_there : AllBelow key (entries_at old index) → IsAboveRight (cell_at mid c).key (tree_of mid index)
+  above_there all =
+      subst (λ (k : List ℕ). IsAboveRight k (tree_of mid index)) {x = key} {y = (cell_at mid c).key} (sym own_key)
+      (subst (λ (t : Tree). IsAboveRight key t) {x = tree_of old index} {y = tree_of mid index} (sym same_tree) (above_right key (tree_of old index) all))
+
+  pub added_there : (new : List Cell) (part : Part) → part.cell ≡ c → IsAdded mid new (tree_of mid index) (cell_at mid c).key part → IsAdded old new (tree_of old index) key part
+  added_there new part same there =
+      let added : IsAdded mid new (tree_of old index) key part =
+      subst (λ (t : Tree). IsAdded mid new t key part) {x = tree_of mid index} {y = tree_of old index} same_tree
+      (subst (λ (k : List ℕ). IsAdded mid new (tree_of mid index) k part) {x = (cell_at mid c).key} {y = key} own_key there) in
+      let lt : part.cell < length mid = omega (arith, same, long, places_here (length old) c number) in
+      record {
+        absent = added.absent;
+        free = added.free;
+        number = omega (arith, same);
+        one_more = added.one_more ∙ places_kept (length mid) part.cell lt ∙ long ∙ ap (λ (x : ℕ). places_with (length old) x) (sym same);
+        stands = added.stands;
+        root = added.root;
+        grew = added.grew;
+        others = λ j differs none. added.others j differs none ∙ ap (λ (cs : List Cell). cell_at cs j) is ∙ elsewhere old c j (new_cell key) blank (λ q. differs (q ∙ sym same)) number;
+      }
+
+-- ---- the index
+
+pub after_all : (cs : List Cell) (ns : Nexts) (index : TreeRoot) (key : List ℕ) → IsIndex cs ns index → is_after cs index.last key ≡ true → AllBelow key (entries_at cs index)
+after_all cs ns index key own after =
+    all_before cs key (entries_at cs index) own.search.rising (keys_stand cs (tree_of cs index) own.search.tree.stands)
+    (ap (λ (o : Option ℕ). is_after cs o key) (sym own.last) ∙ after)
+
+pub absent_after : (cs : List Cell) (ns : Nexts) (index : TreeRoot) (key : List ℕ) → IsIndex cs ns index → is_after cs index.last key ≡ true → IsAbsent (entries_at cs index) key
+absent_after cs ns index key own after =
+    search_absent key (tree_of cs index) own.search.rising (not_there key (tree_of cs index) (above_right key (tree_of cs index) (after_all cs ns index key own after)))
+
+pub last_inside : (cs : List Cell) (ns : Nexts) (index : TreeRoot) → IsIndex cs ns index → IsInside cs index.last
+last_inside cs ns index own =
+    subst (λ (o : Option ℕ). IsInside cs o) {x = last_cell None (entries_at cs index)} {y = index.last} (sym own.last)
+    (inside_last cs (entries_at cs index) (λ i some. own.search.tree.within i (omega (arith, held_items i (tree_of cs index)))))
+
+-- a new chain and its number
+pub number_in : (a mid : Content) (c : ℕ) → IsNewChain a mid c → length a.cells ≡ length a.chains → c ≤ length a.cells
+number_in a mid c fresh same = let n = fresh.number in omega arith
+
+module _ (a mid : Content) (ns : Nexts) (index : TreeRoot) (key : List ℕ) (c : ℕ) (own : IsIndex a.cells ns index) (chains : AreChains a (tree_of a.cells index)) (fresh : IsNewChain a mid c) (cells : mid.cells ≡ with_at a.cells c (new_cell key)) (same : length a.cells ≡ length a.chains) where
+  unused : count c (tree_of a.cells index) ≡ 0
+  unused = not_in a mid (tree_of a.cells index) c chains fresh
+
+  pub beside_same : tree_of mid.cells index ≡ tree_of a.cells index
+  beside_same = same_tree a.cells mid.cells index key c own.search unused (number_in a mid c fresh same) cells
+
+  pub beside_tree : IsTree mid.cells index.root (tree_of mid.cells index)
+  beside_tree = tree_there a.cells mid.cells index key c own.search unused (number_in a mid c fresh same) cells
+
+  pub beside_part : IsNewPart mid.cells (record { cell = c; root = c; grew = true })
+  beside_part = part_there a.cells mid.cells index key c own.search unused (number_in a mid c fresh same) cells
+
+  pub beside_free : count c (tree_of mid.cells index) ≡ 0
+  beside_free = free_there a.cells mid.cells index key c own.search unused (number_in a mid c fresh same) cells
+
+  pub beside_above : is_after a.cells index.last key ≡ true → IsAboveRight (cell_at mid.cells c).key (tree_of mid.cells index)
+  beside_above after = above_there a.cells mid.cells index key c own.search unused (number_in a mid c fresh same) cells (after_all a.cells ns index key own after)
+
+pub last_added : (a mid b : Content) (ns ms : Nexts) (before after : TreeRoot) (key : List ℕ) (c : ℕ) (part : Part) → IsIndex a.cells ns before → AreChains a (tree_of a.cells before) → is_after a.cells before.last key ≡ true
+    → IsNewChain a mid c → mid.cells ≡ with_at a.cells c (new_cell key) → length a.cells ≡ length a.chains → ms ≡ with_cell (with_place ns c) before.last c
+    → b ≡ with_cells mid b.cells → part.cell ≡ c → IsAdded mid.cells b.cells (tree_of mid.cells before) (cell_at mid.cells c).key part
+    → after.root ≡ Some part.root → after.levels ≡ grown_height part.grew before.levels → after.last ≡ Some part.cell
+    → IsAfter a b ms before after key part.cell
+last_added a mid b ns ms before after key c part index chains is_last fresh cells same_length nexts relinked same added root levels last =
+    let all : AllBelow key (entries_at a.cells before) = after_all a.cells ns before key index is_last in
+    let free : count c (tree_of a.cells before) ≡ 0 = not_in a mid (tree_of a.cells before) c chains fresh in
+    let b_of : before.last ≡ before_in key None (tree_of a.cells before) = index.last ∙ sym (before_last key (tree_of a.cells before) index.search.rising all) in
+    index_after a b ns ms before after key part index
+    (added_there a.cells mid.cells before key c index.search free (number_in a mid c fresh same_length) cells b.cells part same added)
+    (new_relinked a mid b b.cells (Added (record { cell = c; root = part.root; grew = part.grew })) (record { cell = c; root = part.root; grew = part.grew }) part fresh refl relinked same)
+    (nexts
+    ∙ ap (λ (o : Option ℕ). with_cell (with_place ns c) o c) b_of
+    ∙ ap (λ (x : ℕ). with_cell (with_place ns x) (before_in key None (tree_of a.cells before)) x) (sym same))
+    root levels
+    (last ∙ sym (last_new (entries_at a.cells before) key part.cell all))
+
+turns_most : (b : Bool) → turns_by b ≤ 2
+turns_most true = omega arith
+turns_most false = omega arith
+
+-- two entries written for the new cell, and then those of the tree
+pub last_cost : (old mid : List Cell) (index : TreeRoot) (part : Part) (s0 s1 s2 : Count) → tree_of mid index ≡ tree_of old index → IsWithin 2 s0 s1 → IsHangCost (tree_of mid index) part s1 s2 → IsTreeCost 0 (tree_of old index) s0 s2
+last_cost old mid index part s0 s1 s2 same first then =
+    let e : height (tree_of mid index) ≡ height (tree_of old index) = ap height same in
+    let a = first.compared in let b = first.written in let c = then.compared in let d = then.written in
+    record { compared = omega arith; written = omega (arith, turns_most part.grew) }
