@@ -8,7 +8,7 @@ use Rattle.std.specs.declared.cmp.Ordering.TheVariants.{Less, Equal, Greater}
 use Rattle.std.specs.BTreeMap.{insert_entry, is_at}
 use Rattle.std.specs.Map.{keys_of, remove_entry}
 use Rattle.std.proofs.lemmas.Cmp.{eq_by_cmp_equiv}
-use Rattle.std.proofs.lemmas.List.{append-nil, drop_more, length-drop, take-append-drop}
+use Rattle.std.proofs.lemmas.List.{drop_more, length-drop, take-append-drop}
 use Rattle.std.proofs.lemmas.List.Elements.{filter-append, recursion_from_All, All-from_recursion}
 use Rattle.std.proofs.lemmas.List.Folds.{list_any-append}
 use Rattle.std.proofs.lemmas.Map.Entries.{lookup_at_gap, lookup_from_place}
@@ -91,10 +91,6 @@ order_join (e ∷ ps) qs a b apart = (both_all (λ (k : List ℕ). byte_order e.
 order_one : (e : List ℕ × List ℕ) → AreInKeyOrder (e ∷ [])
 unfolding IsStrictlySortedBy
 order_one e = (tt, tt)
-
-order_none : AreInKeyOrder []
-unfolding IsStrictlySortedBy
-order_none = tt
 
 -- ---- what is at a key of two lists
 
@@ -229,6 +225,7 @@ tail_set map tail key row after = subst (IsSetAt key (Some row) (map ++ tail)) (
 
 -- ---- a row in the first list
 
+-- ... is put, where its key is before the second
 pub front_order : (map next tail : Made) (key row : List ℕ) → AreInKeyOrder (map ++ tail) → AreInKeyOrder next → next ≡ insert_entry byte_order map key row → IsBeforeAll key tail → AreInKeyOrder (next ++ tail)
 front_order map next tail key row order sorted is before =
     order_join next tail sorted (order_back map tail order)
@@ -247,6 +244,7 @@ front_set map next tail key row set k =
     cases true = refl
     cases false = refl
 
+-- ... is taken out
 pub front_out_order : (map next tail : Made) (key : List ℕ) → AreInKeyOrder (map ++ tail) → AreInKeyOrder next → next ≡ remove_entry (is_at (byte_order key)) map → AreInKeyOrder (next ++ tail)
 front_out_order map next tail key order sorted is =
     order_join next tail sorted (order_back map tail order)
@@ -295,23 +293,18 @@ moved_next whole map next left rest key row order parts is put =
     all_map (λ (k : List ℕ). IsBeforeAll k ((key, row) ∷ rest)) (λ (k : List ℕ). byte_order k key ≡ Less) (λ k h. h.0) (keys_of map) (order_apart map ((key, row) ∷ rest) ordered) in
     ap (λ (l : Made). l ++ rest) (put ∙ insert_end map key row after) ∙ append_assoc map ((key, row) ∷ []) rest ∙ ap (λ (l : Made). map ++ l) (sym is) ∙ parts
 
--- all are
-pub moved_all : (whole map left : Made) → length left ≡ 0 → map ++ left ≡ whole → map ≡ whole
-moved_all whole map [] none parts = sym (append-nil map) ∙ parts
-moved_all whole map (x ∷ left) none parts = absurd (omega (arith, none))
-
-pub moved_order : (whole map left : Made) → AreInKeyOrder whole → map ++ left ≡ whole → AreInKeyOrder map
-moved_order whole map left order parts = order_front map left (subst AreInKeyOrder (sym parts) order)
-
 -- ---- the last row is taken out
 
+-- the others stay in order
 pub less_order : (map tail rest last : Made) → AreInKeyOrder (map ++ tail) → tail ≡ rest ++ last → AreInKeyOrder (map ++ rest)
 less_order map tail rest last order is = order_front (map ++ rest) last (subst AreInKeyOrder (ap (λ (l : Made). map ++ l) is ∙ sym (append_assoc map rest last)) order)
 
+-- it was at its key
 pub last_at : (rest : Made) (key row : List ℕ) → AreInKeyOrder (rest ++ (key, row) ∷ []) → made_at (rest ++ (key, row) ∷ []) key ≡ Some row
 last_at rest key row order =
     in_second rest ((key, row) ∷ []) key row (order_apart rest ((key, row) ∷ []) order) (ap (λ (b : Bool). cond b (Some row) None) (bytes_same key key refl))
 
+-- what is at the other keys stays
 pub last_out : (rest : Made) (key row : List ℕ) → AreInKeyOrder (rest ++ (key, row) ∷ []) → IsSetAt key None (rest ++ (key, row) ∷ []) rest
 last_out rest key row order k = cases (is_same key k) refl
   where
@@ -339,6 +332,7 @@ key_at P [] j d less h = absurd (let l : j < 0 = less in omega arith)
 key_at P (x ∷ xs) zero d less h = h.0
 key_at P (x ∷ xs) (suc j) d less h = key_at P xs j d (omega arith) h.1
 
+-- the rows at keys before one are the first ones
 pub parted : (key : List ℕ) (made : Made) → AreInKeyOrder made → IsPartitionedBy (λ (e : List ℕ × List ℕ). is_lt (byte_order e.0 key)) made
 unfolding IsStrictlySortedBy
 parted key [] order i j d le less e = absurd (let l : j < 0 = less in omega arith)

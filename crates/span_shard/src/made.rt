@@ -1,7 +1,7 @@
 //! The rows that mutations made, by their keys.
 //!
-//! Mutations mostly come in the order of their keys. A row at a key after all others is put at the end of a list, by one comparison.
-//! The rows that come in another order are in a map.
+//! Mutations mostly come in the order of their keys. A row at a key after all others is put at the end of a list, by one
+//! comparison. Rows that come in another order are in a map.
 ghost use Rattle.std.specs.Prelude.{◌≡◌, ◌≤◌, ◌++◌, ◌∷◌, [], length, is_none, IfOk, IsTrue, OnOk, MatchBool, MatchOption, None, Some};
 ghost use Rattle.std.specs.Option.{option_copied};
 ghost use Rattle.std.specs.Ordering.{is_lt};
@@ -22,8 +22,8 @@ use std::mem;
 pub(crate) struct MadeRows {
     /// The rows at the lower keys.
     map: BTreeMap<Key, Seq<u8>>,
-    /// The others, in the order of their keys: each was made at a key after all those before it. They are moved into the map when a
-    /// key comes among theirs, so that each is moved once at most.
+    /// The others, in the order of their keys: each was made at a key after all that were there. They are moved into the
+    /// map when a key comes among theirs, so that each is moved once at most.
     tail: Vec<(Key, Seq<u8>)>,
 }
 
@@ -169,7 +169,8 @@ fn row_found<'a>(rows: &'a [(Key, Seq<u8>)], key: &Key) -> Option<&'a Seq<u8>>
     }
 }
 
-// The row of a list at a key. The last one is looked at first, since a parent row is mostly made right before the first row below it.
+// The row of a list at a key. The last one is looked at first: mostly a parent row is made right before the first row
+// below it.
 fn row_in<'a>(rows: &'a [(Key, Seq<u8>)], key: &Key) -> Option<&'a Seq<u8>>
     requires { AreInKeyOrder rows.now }
     ensures { option_copied result ≡ made_at rows.now key.now }
