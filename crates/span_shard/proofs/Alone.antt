@@ -1,5 +1,5 @@
 -- A row that is put without a look for what mutations made at its key, and a parent row that is known to be there.
-use Rattle.std.proofs.Common.{◌≡◌, ◌⊎◌, inl, inr, ℕ, ◌≤◌, Bool, true, false, not, ◌&&◌, cond, List, [], ◌∷◌, Option, Some, None, is_some, is_none, Result, Ok, take, length, refl, sym, ap, subst, ◌∙◌}
+use Rattle.std.proofs.Common.{◌≡◌, ◌⊎◌, inl, inr, ℕ, Bool, true, false, not, ◌&&◌, cond, List, [], ◌∷◌, Option, Some, None, is_some, is_none, Ok, take, length, refl, sym, ap, subst, ◌∙◌}
 use Rattle.std.specs.Prelude.{nat_lt, IfSome}
 use Rattle.std.specs.List.{list_any}
 use Rattle.std.specs.Option.{unwrap_or}
@@ -21,7 +21,7 @@ use Rattle.span_mutate.proofs.NamedKinds.{rest_none}
 use Rattle.span_mutate.proofs.Keyed.{first_none}
 use Rattle.span_shard.specs.KeyVersions.{KeyVersions}
 use Rattle.span_shard.specs.Shard.{row_now}
-use Rattle.span_shard.specs.Overlay.{Changes, made_at, change_of, changed_at, row_over, row_under, is_same, own_code, row_before, lacks_parent_over, put_cause, cause_over, AreCellsOf, IsAddedAt, IsPutAt, IsPutRow, IsNoPut, IsRowAlone, HasPutRow, HasParent, HasFront}
+use Rattle.span_shard.specs.Overlay.{Changes, made_at, change_of, changed_at, row_over, is_same, own_code, row_before, lacks_parent_over, AreCellsOf, IsAddedAt, IsPutAt, IsPutRow, IsNoPut, IsRowAlone, HasPutRow, HasParent, HasFront}
 use Rattle.span_shard.proofs.RunPuts.{put_answer}
 
 -- ---- a row that is made as if there were none

@@ -27,3 +27,4 @@ pub mod RunAll
 pub mod Moving
 pub mod Parting
 pub mod NoRows
+pub mod MadeRows

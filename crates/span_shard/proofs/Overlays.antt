@@ -164,7 +164,7 @@ le_not_lt Less = refl
 le_not_lt Equal = refl
 le_not_lt Greater = refl
 
-from_is : (front : List ℕ) (e : List ℕ × List ℕ) → is_from front e ≡ not (is_lt (byte_order e.0 front))
+pub from_is : (front : List ℕ) (e : List ℕ × List ℕ) → is_from front e ≡ not (is_lt (byte_order e.0 front))
 from_is front e = le_not_lt (byte_order front e.0) ∙ ap (λ (o : Ordering). not (is_lt o)) (sym (bytes_total.antisymm e.0 front))
 
 -- a key that begins with the front is from it on
@@ -207,16 +207,6 @@ tail_own key o rest sorted k p e = cases (is_same k key) refl
     cases : (b : Bool) → is_same k key ≡ b → made_at ((key, o) ∷ rest) k ≡ Some p
     cases true f = absurd (let i : None ≡ Some p = sym (absent rest (sorted_head byte_order key (keys_of rest) sorted) (same_bytes k key f)) ∙ e in cc)
     cases false f = ap (λ (b : Bool). cond b (Some o) (made_at rest k)) f ∙ e
-
--- a key after one that no key is after has no row
-pub made_after : (made : Made) (last key : List ℕ) → is_lt (byte_order last key) ≡ true
-    → AllByRecursion (λ (k : List ℕ). is_lt (byte_order last k) ≡ false) (keys_of made) → made_at made key ≡ None
-made_after [] last key after h = refl
-made_after (e ∷ made) last key after h = one (is_same key e.0) refl (made_after made last key after h.1)
-  where
-    one : (b : Bool) → is_same key e.0 ≡ b → made_at made key ≡ None → made_at (e ∷ made) key ≡ None
-    one true f again = absurd (let i : true ≡ false = sym after ∙ ap (λ (k : List ℕ). is_lt (byte_order last k)) (same_bytes key e.0 f) ∙ h.0 in cc)
-    one false f again = ap (λ (b : Bool). cond b (Some e.1) (made_at made key)) f ∙ again
 
 -- the next key is added
 pub pushing_next : (es : Made) (front : List ℕ) (old new next : List (List ℕ)) (key row : List ℕ) (before rest : Made) → before ≡ (key, row) ∷ rest → next ≡ new ++ key ∷ [] → begins_with key front ≡ true → IsPushing es front old before new → IsPushing es front old rest next

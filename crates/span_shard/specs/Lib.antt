@@ -6,5 +6,6 @@ pub mod Rows
 pub mod Shard
 pub mod Reading
 pub mod Overlay
+pub mod Made
 pub mod EmptyRanges
 pub mod Ledgers

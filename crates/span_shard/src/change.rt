@@ -8,6 +8,7 @@ ghost use Rattle.span_shard.specs.Reading.{is_same_row, AreWrites, IsFault, IsPr
 ghost use Rattle.span_shard.specs.Overlay.{made_at, changes_of, AreWrittenFrom, AreWritesAt};
 
 use super::lookups::Lookups;
+use super::made::MadeRows;
 use super::overlay::Changes;
 use super::run::run;
 use super::store::Store;
@@ -18,7 +19,7 @@ use span_schema::schema::Schema;
 use span_value::refusal::Refusal;
 use span_value::seq::Seq;
 use std::alloc::{AllocError, Global};
-use std::collections::{BTreeMap, BTreeSet};
+use std::collections::BTreeSet;
 
 /// Whether both are no row, or equal rows.
 fn is_same_row(left: Option<&Seq<u8>>, right: Option<&Seq<u8>>) -> bool
@@ -40,25 +41,25 @@ fn is_change(store: &Lookups<'_>, write: &Write) -> bool
 }
 
 // Whether a row that was removed, and that the write is to remove, is there now with none made in its place.
-fn is_removal(store: &Lookups<'_>, made: &BTreeMap<Key, Seq<u8>>, write: &Write) -> bool
+fn is_removal(store: &Lookups<'_>, made: &MadeRows, write: &Write) -> bool
     requires { AreInOrder store.now }
     ensures { result
-        ≡ not (is_some (made_at made.now.entries write.now.key))
+        ≡ not (is_some (made_at made.now write.now.key))
         && not (is_same_row (row_now store.now write.now.key) write.now.row) }
 {
-    !made.contains_key(&write.key) && is_change(store, write)
+    made.get(&write.key).is_none() && is_change(store, write)
 }
 
 // The writes of the rows that mutations removed and made no other for, of those that are there now.
 fn removals(
     alloc: Global,
     store: &Lookups<'_>,
-    made: &BTreeMap<Key, Seq<u8>>,
+    made: &MadeRows,
     removed: BTreeSet<Key>,
 ) -> Result<Vec<Write>, AllocError>
     requires { AreInOrder store.now }
     ensures { IfOk result
-        (λ ws. AreWrittenFrom store.now (changes_of made.now.entries removed.keys) (changes_of made.now.entries []) ws.items) }
+        (λ ws. AreWrittenFrom store.now (changes_of made.now removed.keys) (changes_of made.now []) ws.items) }
 {
     let mut left = removed;
     let mut writes = Vec::new(alloc);

@@ -6,6 +6,7 @@
 mod chain;
 mod change;
 mod lookups;
+mod made;
 mod merge;
 mod node;
 mod overlay;

@@ -1,23 +1,23 @@
 //! The rows at keys as mutations leave them, over those that are there now.
-ghost use Rattle.std.specs.Prelude.{◌≡◌, ◌++◌, None, map, filter, is_none, is_some, IfOk, IsTrue, OnOk};
+ghost use Rattle.std.specs.Prelude.{◌≡◌, map, filter, is_none, is_some, IfOk, OnOk};
 ghost use Rattle.std.specs.Option.{option_copied};
-ghost use Rattle.span_shard.specs.Rows.{begins_with};
 ghost use Rattle.span_shard.specs.Shard.{AreInOrder};
-ghost use Rattle.span_shard.specs.Overlay.{no_change, changed_at, made_at, row_over, row_under, is_unchanged, AreCleared, HasSameCleared, AddsCleared, AreUnder, AreUnchangedUnder, AddsMade, IsPutAt, AreRemoved};
+ghost use Rattle.span_shard.specs.Overlay.{no_change, changed_at, made_at, row_over, row_under, is_unchanged, AreCleared, HasSameCleared, AddsCleared, AreUnder, AreUnchangedUnder, IsPutAt, AreRemoved};
 
 use super::lookups::Lookups;
+use super::made::MadeRows;
 use super::place::StoredKey;
 use span_keycode::key::Key;
 use span_value::seq::Seq;
 use std::alloc::{AllocError, Global};
-use std::collections::{BTreeMap, BTreeSet};
+use std::collections::BTreeSet;
 use std::marker::Model;
 
 /// What mutations make of the rows of a store.
 #[derive(Drop)]
 pub(crate) struct Changes {
     /// By coded keys, the packed rows that mutations made.
-    pub(crate) made: BTreeMap<Key, Seq<u8>>,
+    pub(crate) made: MadeRows,
     /// Keys at which mutations removed a row. Where the key is in `made` too, they made one since.
     pub(crate) removed: BTreeSet<Key>,
     /// Keys at which a row was deleted with all below it. No row of the store is left there as it was, so that the next deletion there
@@ -30,7 +30,7 @@ impl Model for Changes {
 
     ghost Value = { specs.Changes };
 
-    ghost view = { λ c. record { made = c.made.entries; removed = c.removed.keys; cleared = c.cleared.keys } };
+    ghost view = { λ c. record { made = c.made; removed = c.removed.keys; cleared = c.cleared.keys } };
 }
 
 impl Changes {
@@ -39,7 +39,7 @@ impl Changes {
         ensures { result ≡ no_change }
     {
         Changes {
-            made: BTreeMap::new(alloc),
+            made: MadeRows::new(alloc),
             removed: BTreeSet::new(alloc),
             cleared: BTreeSet::new(alloc),
         }
@@ -49,7 +49,7 @@ impl Changes {
     fn has(&self, key: &Key) -> bool
         ensures { result ≡ is_some (changed_at self.now key.now) }
     {
-        self.made.contains_key(key) || self.removed.contains(key)
+        self.made.get(key).is_some() || self.removed.contains(key)
     }
 
     /// Leaves a row at a key.
@@ -57,7 +57,7 @@ impl Changes {
         ensures put { OnOk result (IsPutAt key row self.old self.new) }
         ensures cleared { OnOk result (HasSameCleared self.old self.new) }
     {
-        let _before = self.made.insert(key, row)?;
+        let _absent = self.made.insert(key, row)?;
         Ok(())
     }
 
@@ -67,8 +67,7 @@ impl Changes {
         ensures put { OnOk result (IsPutAt key row self.old self.new) }
         ensures cleared { OnOk result (HasSameCleared self.old self.new) }
     {
-        let before = self.made.insert(key, row)?;
-        Ok(before.is_none())
+        self.made.insert(key, row)
     }
 
     // Leaves no row at these keys.
@@ -77,7 +76,7 @@ impl Changes {
         ensures cleared { OnOk result (HasSameCleared self.old self.new) }
     {
         for key in keys {
-            let _row = self.made.remove(&key);
+            self.made.remove(&key)?;
             let _is_first = self.removed.insert(key)?;
         }
         Ok(())
@@ -92,27 +91,6 @@ impl Changes {
         let _is_first = self.cleared.insert(front)?;
         Ok(())
     }
-}
-
-// Whether a key is after all keys of the rows that were made. Mutations often come in the order of their keys: it is then known by one
-// comparison, where a look-up takes one for each key of a node on each level.
-fn is_after_all(made: &BTreeMap<Key, Seq<u8>>, key: &Key) -> bool
-    ensures { IsTrue result → made_at made.now.entries key.now ≡ None }
-{
-    match made.last_key_value() {
-        Some((last, _)) => last.cmp(key).is_lt(),
-        None => false,
-    }
-}
-
-// The row that the mutations made at a key.
-fn made_at<'a>(made: &'a BTreeMap<Key, Seq<u8>>, key: &Key) -> Option<&'a Seq<u8>>
-    ensures { option_copied result ≡ made_at made.now.entries key.now }
-{
-    if is_after_all(made, key) {
-        return None;
-    }
-    made.get(key)
 }
 
 /// The row at a key at which the mutations made none: none where they removed one, and else what is there now.
@@ -139,7 +117,7 @@ pub(crate) fn row_over<'a>(
     requires { AreInOrder store.now }
     ensures { option_copied result ≡ row_over store.now changes.now key.now }
 {
-    match made_at(&changes.made, key) {
+    match changes.made.get(key) {
         Some(row) => Some(row),
         None if changes.removed.contains(key) => None,
         None => store.row_now(key.as_slice()),
@@ -199,31 +177,6 @@ fn unchanged_under(
     unchanged_keys(alloc, changes, found.as_slice())
 }
 
-fn begins_with(key: &Key, front: &Key) -> bool
-    ensures { result ≡ begins_with key.now front.now }
-{
-    key.as_slice().starts_with(front.as_slice())
-}
-
-// Adds the keys that begin with `front`, at which the mutations made a row.
-fn push_made(
-    alloc: Global,
-    keys: &mut Vec<Key>,
-    changes: &Changes,
-    front: &Key,
-) -> Result<(), AllocError>
-    ensures { OnOk result (AddsMade changes.now.made front.now keys.old.items keys.new.items) }
-{
-    let mut rest = changes.made.range(front..);
-    while let Some((key, _row)) = rest.next() {
-        if !begins_with(key, front) {
-            return Ok(());
-        }
-        keys.push(Key::from_slice(alloc, key.as_slice())?)?;
-    }
-    Ok(())
-}
-
 /// The keys with a row that begin with `front`.
 pub(crate) fn keys_under(
     alloc: Global,
@@ -236,6 +189,6 @@ pub(crate) fn keys_under(
     ensures { IfOk result (λ keys. AreUnder store.now changes.now front.now keys.items) }
 {
     let mut keys = unchanged_under(alloc, store, changes, front)?;
-    push_made(alloc, &mut keys, changes, front)?;
+    changes.made.push_keys(alloc, &mut keys, front)?;
     Ok(keys)
 }

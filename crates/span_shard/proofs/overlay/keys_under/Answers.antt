@@ -1,5 +1,11 @@
+use Rattle.std.proofs.Common.{subst}
+use Rattle.span_shard.specs.Overlay.{Changes, AddsMade}
 use Rattle.span_shard.proofs.Overlays.{all_under}
 use Rattle.span_shard.proofs.overlay.keys_under.Goals as goal
 
 pub returns : goal.returns
-returns c = all_under c.args.store.now c.args.changes.now c.args.front.now c.in_ok-keys.keys.items c.push_made.new.keys.items c.in_ok-keys.ensures c.in_ok-push_made.ensures
+returns c =
+    let front = c.args.front.now in
+    let old = c.in_ok-keys.keys.items in
+    let new = c.push_keys.new.keys.items in
+    all_under c.args.store.now c.args.changes.now front old new c.in_ok-keys.ensures (subst (λ (es : Changes). AddsMade es.made front old new) c.changes.view_is c.in_ok-push_keys.ensures)

@@ -1,8 +1,7 @@
-use Rattle.std.proofs.Common.{◌≡◌, ◌∙◌, ℕ, List, cond, Some, inl, inr, sym, ap, subst}
-use Rattle.std.proofs.lemmas.Result.{IfErr-weaker, err_from_is_err_and, on_ok_weaker}
+use Rattle.std.proofs.Common.{◌≡◌, ◌∙◌, List, Some, inl, inr, sym, subst}
+use Rattle.std.proofs.lemmas.Result.{err_from_is_err_and}
 use Rattle.span_value.specs.declared.value.Value.{Value}
-use Rattle.span_keycode.specs.Keys.{key_code, encode_cause}
-use Rattle.span_shard.specs.Overlay.{changed_at, is_same, own_code}
+use Rattle.span_keycode.specs.Keys.{encode_cause}
 use Rattle.span_shard.proofs.Codes.{never_refused}
 use Rattle.span_shard.proofs.Alone.{put_known}
 use Rattle.span_shard.proofs.RunPuts.{put_run}

@@ -1,0 +1,36 @@
+-- The rows that mutations made: in the order of their keys, with a key among them.
+use Rattle.std.specs.Prelude.{◌≡◌, ℕ, true, false, if◌then◌else◌, List, [], ◌∷◌, Option}
+use Rattle.std.specs.List.{AllByRecursion}
+use Rattle.std.specs.List.Sorted.{IsStrictlySortedBy, IsPartitionPoint}
+use Rattle.std.specs.Map.{keys_of}
+use Rattle.std.specs.Ordering.{is_lt}
+use Rattle.std.specs.declared.cmp.Ordering.TheVariants.{Less}
+use Rattle.span_keycode.specs.Order.{byte_order}
+use Rattle.span_shard.specs.Overlay.{is_same, made_at}
+
+-- their keys rise
+abbrev pub AreInKeyOrder : List (List ℕ × List ℕ) → Type 0
+AreInKeyOrder made = IsStrictlySortedBy byte_order (keys_of made)
+
+-- the key is after those of all rows
+abbrev pub IsAfterAll : List ℕ → List (List ℕ × List ℕ) → Type 0
+IsAfterAll key made = AllByRecursion (λ (k : List ℕ). byte_order k key ≡ Less) (keys_of made)
+
+-- ... before those of all rows
+abbrev pub IsBeforeAll : List ℕ → List (List ℕ × List ℕ) → Type 0
+IsBeforeAll key made = AllByRecursion (λ (k : List ℕ). byte_order key k ≡ Less) (keys_of made)
+
+-- ... not before that of the first row
+abbrev pub IsFromFirst : List ℕ → List (List ℕ × List ℕ) → Type 0
+IsFromFirst key [] = ⊥
+IsFromFirst key (e ∷ made) = is_lt (byte_order key e.0) ≡ false
+
+-- how many rows are at keys before this one, where those are the first ones
+abbrev pub IsCountBefore : List ℕ → List (List ℕ × List ℕ) → ℕ → Type 0
+IsCountBefore key made n =
+    IsPartitionPoint (λ (e : List ℕ × List ℕ). is_lt (byte_order e.0 key) ≡ true)
+    (λ (e : List ℕ × List ℕ). is_lt (byte_order e.0 key) ≡ false) made n
+
+-- this row, or none, is at a key, and the others are as before
+abbrev pub IsSetAt : List ℕ → Option (List ℕ) → List (List ℕ × List ℕ) → List (List ℕ × List ℕ) → Type 0
+IsSetAt key row old new = (k : List ℕ) → made_at new k ≡ (if is_same key k then row else made_at old k)
