@@ -1,8 +1,15 @@
 //! What keeps slots small and answers possible: a slot is cut in two, its old versions go, its floor rises.
-ghost use Rattle.std.specs.Prelude.{◌≡◌, ℕ, List, Some};
+ghost use Rattle.std.specs.Prelude.{◌≡◌, ◌≤◌, ◌<◌, [], ◌∷◌, ℕ, List, Some, IfOk, IfErr, IfSome, OnOk, MatchOption};
 ghost use Rattle.span_value.specs.declared.value.Value.{Value};
 ghost use Rattle.span_keycode.specs.Coding.{AreValues};
 ghost use Rattle.span_mutate.specs.RootKeys.{root_key};
+ghost use Rattle.span_truetime.specs.declared.interval.Interval.{Interval};
+ghost use Rattle.span_arena.specs.Limits.{most_nodes};
+ghost use Rattle.span_machine.specs.Limits.{most_slots};
+ghost use Rattle.span_machine.specs.Machine.{split_at, trim, advance};
+ghost use Rattle.span_machine.specs.declared.step.Reply.TheVariants as reply_of;
+ghost use Rattle.span_parts.specs.Replies.{as_reply};
+ghost use Rattle.span_session.specs.Replies.{RepliesOnce, MayReplyOnce, RepliesAt, IsAmong, IsErrAmong, split_refusals, trim_refusals};
 
 use crate::board::Naming;
 use crate::db::Db;
@@ -24,6 +31,11 @@ impl<J: Naming> Db<J> {
         key: &[Value],
     ) -> Result<usize, Refusal>
         requires values { AreValues key.now }
+        ensures number { IfOk result (λ number. (1 ≤ number) × (number < most_slots)) }
+        ensures reply { MatchOption (root_key J.schema table.now key.now)
+            (IsErrAmong (Refusal.BadSplit ∷ Refusal.OutOfMemory ∷ []) result)
+            (λ code. MayReplyOnce J.schema (λ m. split_at m code) (as_reply reply_of.Split result)) }
+        ensures refused { IfErr result (IsAmong split_refusals) }
     {
         let _ = me;
         match root_key(self.board.alloc, &self.board.schema, table, key) {
@@ -33,29 +45,30 @@ impl<J: Naming> Db<J> {
     }
 
     /// Cuts a slot at a coded root key. Where others cut slots meanwhile, it looks once more which slot has the key.
+    #[tactic(auto, using(crate::proofs::Replying::cut_number))]
     fn split_at<R: Wait>(&self, rt: &R, key: &Key) -> Result<usize, Refusal>
         requires coded { (name : List ℕ) × (values : List Value) × AreValues values × (root_key J.schema name values ≡ Some key.now) }
+        ensures reply { MayReplyOnce J.schema (λ m. split_at m key.now) (as_reply reply_of.Split result) }
+        ensures number { IfOk result (λ number. (1 ≤ number) × (number < most_slots)) }
+        ensures refused { IfErr result (IsAmong split_refusals) }
     {
-        let mut answer = Err(Refusal::SplitBusy);
         for _ in rt.forever() {
             match self.try_split(rt, key) {
-                Ok(Some(number)) => {
-                    answer = Ok(number);
-                    break;
-                }
+                Ok(Some(number)) => return Ok(number),
                 Ok(None) => (),
-                Err(why) => {
-                    answer = Err(why);
-                    break;
-                }
+                Err(why) => return Err(why),
             }
         }
-        answer
+        unreachable!()
     }
 
     /// Cuts the slot that has the key, if none was cut since it was found: the lock of a slot is taken before that of the journal.
     fn try_split<R: Wait>(&self, rt: &R, key: &Key) -> Result<Option<usize>, Refusal>
         requires coded { (name : List ℕ) × (values : List Value) × AreValues values × (root_key J.schema name values ≡ Some key.now) }
+        ensures cut { IfOk result
+            (λ cut. IfSome cut (λ number. RepliesOnce J.schema (λ m. split_at m key.now) (reply_of.Split number))) }
+        ensures refused { IfErr result
+            (λ why. MayReplyOnce J.schema (λ m. split_at m key.now) (reply_of.Refused why)) }
     {
         let (from, to) = self.place_of_split(rt, key)?;
         let mut slot = self.slot(from)?.lock(rt);
@@ -64,7 +77,12 @@ impl<J: Naming> Db<J> {
         slot.split(&self.board, &mut next, &mut journal, key)
     }
 
-    fn place_of_split<R: Wait>(&self, rt: &R, key: &Key) -> Result<(usize, usize), Refusal> {
+    #[tactic(auto, using(crate::proofs::Replying::places_within))]
+    fn place_of_split<R: Wait>(&self, rt: &R, key: &Key) -> Result<(usize, usize), Refusal>
+        ensures places { IfOk result (λ r. (r.0 < most_slots) × (r.1 < most_slots)) }
+        ensures refused { IfErr result
+            (λ why. RepliesOnce J.schema (λ m. split_at m key.now) (reply_of.Refused why)) }
+    {
         self.journal.lock(rt).place_of_split(key)
     }
 
@@ -75,10 +93,20 @@ impl<J: Naming> Db<J> {
         me: &Session<J>,
         number: usize,
         h: u64,
-    ) -> Result<usize, Refusal> {
+    ) -> Result<usize, Refusal>
+        ensures within { OnOk result (number < most_slots) }
+        ensures kept { IfOk result (λ kept. kept ≤ most_nodes) }
+        ensures reply { RepliesAt J.schema number
+            (λ m. trim J.schema m number h)
+            (as_reply reply_of.Trimmed result) }
+        ensures refused { IfErr result (IsAmong trim_refusals) }
+    {
         let _ = me;
         let mut slot = self.slot(number)?.lock(rt);
         let mut journal = self.journal.lock(rt);
+        if !slot.has_number(number) {
+            return Err(Refusal::NoSlot);
+        }
         slot.trim(&self.board, &mut journal, h)
     }
 
@@ -89,7 +117,13 @@ impl<J: Naming> Db<J> {
         clock: &C,
         me: &Session<J>,
         number: usize,
-    ) -> Result<u64, Refusal> {
+    ) -> Result<u64, Refusal>
+        ensures floor { IfOk result (λ floor. (read : Interval) × C.may_give clock.now read × (read.latest ≤ floor)) }
+        ensures reply { (read : Interval)
+            × C.may_give clock.now read
+            × RepliesOnce J.schema (λ m. advance m number read) (as_reply reply_of.Floor result) }
+        ensures refused { IfErr result (λ why. why ≡ Refusal.NoSlot) }
+    {
         let _ = me;
         let interval = clock.now();
         self.journal.lock(rt).advance(&self.board, number, interval)

@@ -1,6 +1,6 @@
 //! How a database begins. A result's type can't depend on which table a call has made, so there are two phases: first the table, then
 //! the database and its sessions under a name of that table.
-ghost use Rattle.std.specs.Prelude.{◌≡◌, ◌++◌, ◌∷◌, [], IfOk};
+ghost use Rattle.std.specs.Prelude.{◌≡◌, ◌++◌, ◌∷◌, [], IfOk, length};
 ghost use Rattle.span_machine.specs.Limits.{most_slots};
 ghost use Rattle.span_session.specs.declared.open.TheConstants.{SLOTS};
 ghost use Rattle.span_session.specs.Rule.{newcomers, nothing_known, holders, clients};
@@ -66,7 +66,7 @@ impl Opened {
     }
 
     /// The database under a name of its table, and its sessions, in the order of their owners.
-    pub fn named<J: Naming>(self) -> Result<(Db<J>, Vec<Session<J>>), AllocError>
+    pub fn into_database<J: Naming>(self) -> Result<(Db<J>, Vec<Session<J>>), AllocError>
         requires table { self.table ≡ J.table }
         requires schema { self.schema ≡ J.schema }
         ensures { IfOk result (λ r. r.1.items ≡ newcomers 0 self.sessions) }
@@ -130,6 +130,7 @@ fn slots_of<J: Naming>(
     requires roles { first.me ≡ (holders 0 SLOTS ++ clients 0 sessions, []) }
     ensures at { IfOk result (λ r. r.1.table_id ≡ J.table) }
     ensures roles { IfOk result (λ r. r.1.me ≡ (clients 0 sessions, [])) }
+    ensures count { IfOk result (λ r. length r.0.items ≡ SLOTS) }
 {
     let _ = sessions;
     let mut first = first;

@@ -2,6 +2,8 @@
 ghost use Rattle.std.specs.Prelude.{◌≡◌, ◌≤◌, ◌<◌, length, IfSome};
 ghost use Rattle.std.specs.List.{list_any};
 ghost use Rattle.span_machine.specs.Machine.{holds, root_at};
+ghost use Rattle.span_machine.specs.Pieces.{machine_of};
+ghost use Rattle.span_session.specs.Replies.{IsNext};
 
 use crate::open::SLOTS;
 use span_journal::journal::Journal;
@@ -21,7 +23,8 @@ pub(crate) fn next_with_mutations(
     txn: u64,
     from: usize,
 ) -> Option<usize>
-    ensures { IfSome result (λ slot. (from ≤ slot) × (slot < length journal.now.slots)) }
+    ensures within { IfSome result (λ slot. (from ≤ slot) × (slot < length journal.now.slots)) }
+    ensures next { IsNext schema.now (machine_of journal.now) owner txn from result }
 {
     let Some(mutations) = journal.mutations(owner, txn) else {
         return None;

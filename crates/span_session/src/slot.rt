@@ -1,13 +1,18 @@
 //! What lies under a slot's lock: its shard, and the seat that knows it.
-ghost use Rattle.std.specs.Prelude.{◌≡◌, ◌<◌, ℕ, true, List, IfOk, Some, length};
+ghost use Rattle.std.specs.Prelude.{◌≡◌, ◌==◌, ◌≤◌, ◌<◌, ℕ, true, false, List, IfOk, IfErr, IfSome, Some, length};
 ghost use Rattle.span_value.specs.declared.value.Value.{Value};
 ghost use Rattle.span_keycode.specs.Coding.{AreValues};
 ghost use Rattle.span_mutate.specs.RootKeys.{root_key};
 ghost use Rattle.span_params.specs.declared.params.Parameter.{Parameter};
+ghost use Rattle.span_machine.specs.Machine.{prepare, apply_step, trim, split_at, refused};
 ghost use Rattle.span_machine.specs.Pieces.{machine_of};
+ghost use Rattle.span_machine.specs.declared.step.Reply.TheVariants as reply_of;
 ghost use Rattle.span_journal.specs.Judged.{MaySplit};
+ghost use Rattle.span_arena.specs.Limits.{most_nodes};
+ghost use Rattle.span_parts.specs.Replies.{as_reply};
 ghost use Rattle.span_parts.specs.Whole.{IsRead};
 ghost use Rattle.span_session.specs.Answers.{IsLeafOf};
+ghost use Rattle.span_session.specs.Replies.{Replies, MayReply, at_slot};
 
 use crate::board::{Board, Naming, Place};
 use crate::journal::LockedJournal;
@@ -51,6 +56,13 @@ impl<J: Naming> Model for LockedSlot<J> {
 }
 
 impl<J: Naming> LockedSlot<J> {
+    /// Whether this is the slot of the number. A lock doesn't say which slot it has.
+    pub(crate) fn has_number(&self, number: usize) -> bool
+        ensures { result ≡ (self.now.number == number) }
+    {
+        self.number == number
+    }
+
     /// Prepares a transaction here. `NoSlot` where the slot is not in use.
     pub(crate) fn prepare(
         &mut self,
@@ -60,6 +72,9 @@ impl<J: Naming> LockedSlot<J> {
         txn: u64,
     ) -> Result<u64, Refusal>
         ensures commits { journal.new.commits ≡ journal.old.commits }
+        ensures reply { MayReply J.schema journal.old
+            (at_slot self.old.number (λ m. prepare J.schema m owner txn self.old.number))
+            (as_reply reply_of.Prepared result) }
     {
         if !is_used(&journal.journal, self.number) {
             return Err(Refusal::NoSlot);
@@ -92,6 +107,9 @@ impl<J: Naming> LockedSlot<J> {
         interval: Interval,
     ) -> Result<(), Refusal>
         ensures commits { journal.new.commits ≡ journal.old.commits }
+        ensures reply { Replies J.schema journal.old
+            (at_slot self.old.number (λ m. apply_step m owner txn self.old.number interval))
+            (as_reply (λ _. reply_of.Applied) result) }
     {
         if !is_used(&journal.journal, self.number) {
             return Err(Refusal::NoSlot);
@@ -122,6 +140,10 @@ impl<J: Naming> LockedSlot<J> {
         h: u64,
     ) -> Result<usize, Refusal>
         ensures commits { journal.new.commits ≡ journal.old.commits }
+        ensures reply { Replies J.schema journal.old
+            (at_slot self.old.number (λ m. trim J.schema m self.old.number h))
+            (as_reply reply_of.Trimmed result) }
+        ensures kept { IfOk result (λ kept. kept ≤ most_nodes) }
     {
         if !is_used(&journal.journal, self.number) {
             return Err(Refusal::NoSlot);
@@ -139,6 +161,7 @@ impl<J: Naming> LockedSlot<J> {
         let (keeper, shard) = seats::restate(board, &mut self.seat, keeper, shard);
         self.shard = shard;
         journal.badge = keeper;
+        self.shard.keeps_at_most();
         trimmed
     }
 
@@ -153,6 +176,14 @@ impl<J: Naming> LockedSlot<J> {
     ) -> Result<Option<usize>, Refusal>
         requires coded { (name : List ℕ) × (values : List Value) × AreValues values × (root_key J.schema name values ≡ Some key.now) }
         ensures commits { journal.new.commits ≡ journal.old.commits }
+        ensures cut { IfOk result
+            (λ cut.
+            IfSome cut
+            (λ number.
+            (number ≡ next.old.number)
+            × Replies J.schema journal.old (λ m. split_at m key.now) (reply_of.Split number))) }
+        ensures refused { IfErr result
+            (λ why. MayReply J.schema journal.old (λ m. split_at m key.now) (reply_of.Refused why)) }
     {
         if !may_cut(&journal.journal, key, self.number, next.number)? {
             return Ok(None);
@@ -182,9 +213,10 @@ impl<J: Naming> LockedSlot<J> {
                 journal.badge = keeper;
                 Ok(Some(next.number))
             }
-            Err(why) => {
+            // A slot that may be cut is cut if memory suffices: `cut_in` is refused for that alone.
+            Err(_) => {
                 journal.badge = keeper;
-                Err(why)
+                Err(Refusal::OutOfMemory)
             }
         }
     }
@@ -243,15 +275,18 @@ impl<J: Naming> LockedSlot<J> {
 
 /// Whether the slot of this number is in use.
 fn is_used(journal: &Journal, number: usize) -> bool
-    ensures { result ≡ true → number < length journal.now.slots }
+    ensures used { result ≡ true → number < length journal.now.slots }
+    ensures spare { result ≡ false → length journal.now.slots ≤ number }
 {
     number < journal.slots().len()
 }
 
 /// Whether the slot of this number may be cut at a coded root key, and the next one is the first that is not in use. The refusal of a split.
 fn may_cut(journal: &Journal, key: &Key, number: usize, next: usize) -> Result<bool, Refusal>
-    ensures { IfOk result
+    ensures may { IfOk result
         (λ yes. yes ≡ true → MaySplit (machine_of journal.now) number key.now × (next ≡ length journal.now.slots)) }
+    ensures refused { IfErr result
+        (λ why. split_at (machine_of journal.now) key.now ≡ refused (machine_of journal.now) why) }
 {
     match journal.check_split(key) {
         Ok(slot) => {

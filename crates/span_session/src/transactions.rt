@@ -1,6 +1,12 @@
 //! Transactions one step at a time.
-ghost use Rattle.std.specs.Prelude.{◌≡◌, ◌++◌, ◌∷◌, [], MatchOption, MatchResult};
+ghost use Rattle.std.specs.Prelude.{◌≡◌, ◌<◌, ◌++◌, ◌∷◌, [], ℕ, IfErr, OnOk, MatchOption, MatchResult};
 ghost use Rattle.span_mutate.specs.Typed.{AreTypedMutations};
+ghost use Rattle.span_truetime.specs.declared.interval.Interval.{Interval};
+ghost use Rattle.span_machine.specs.Limits.{most_slots};
+ghost use Rattle.span_machine.specs.Machine.{prepare, apply_step};
+ghost use Rattle.span_machine.specs.declared.step.Reply.TheVariants as reply_of;
+ghost use Rattle.span_parts.specs.Replies.{as_reply};
+ghost use Rattle.span_session.specs.Replies.{RepliesAt, MayReplyAt, IsAmong, IsPrepareRefusal, apply_refusals};
 ghost use Rattle.span_session.specs.Rule.{Decides, Forgets, IsBegunAt};
 
 use crate::board::Naming;
@@ -42,12 +48,39 @@ impl<J: Naming> Db<J> {
         me: &Session<J>,
         number: u64,
         slot: usize,
-    ) -> Result<(), Refusal> {
-        let owner = me.owner();
-        let mut slot = self.slot(slot)?.lock(rt);
+    ) -> Result<(), Refusal>
+        ensures within { OnOk result (slot < most_slots) }
+        ensures reply { (timestamp : ℕ)
+            × MayReplyAt J.schema slot
+            (λ m. prepare J.schema m me.now.owner number slot)
+            (as_reply (λ _. reply_of.Prepared timestamp) result) }
+        ensures refused { IfErr result IsPrepareRefusal }
+    {
+        match self.prepare_in(rt, me.owner(), number, slot) {
+            Ok(_) => Ok(()),
+            Err(why) => Err(why),
+        }
+    }
+
+    /// Prepares a transaction at a slot, and returns its prepare timestamp.
+    fn prepare_in<R: Wait>(
+        &self,
+        rt: &R,
+        owner: u64,
+        number: u64,
+        slot: usize,
+    ) -> Result<u64, Refusal>
+        ensures within { OnOk result (slot < most_slots) }
+        ensures reply { MayReplyAt J.schema slot
+            (λ m. prepare J.schema m owner number slot)
+            (as_reply reply_of.Prepared result) }
+    {
+        let mut locked = self.slot(slot)?.lock(rt);
         let mut journal = self.journal.lock(rt);
-        slot.prepare(&self.board, &mut journal, owner, number)?;
-        Ok(())
+        if !locked.has_number(slot) {
+            return Err(Refusal::NoSlot);
+        }
+        locked.prepare(&self.board, &mut journal, owner, number)
     }
 
     /// Decides a transaction that the session began: returns its commit timestamp, or None for an abort. What is committed is what the
@@ -126,7 +159,15 @@ impl<J: Naming> Db<J> {
         me: &Session<J>,
         number: u64,
         slot: usize,
-    ) -> Result<(), Refusal> {
+    ) -> Result<(), Refusal>
+        ensures within { OnOk result (slot < most_slots) }
+        ensures reply { (read : Interval)
+            × C.may_give clock.now read
+            × RepliesAt J.schema slot
+            (λ m. apply_step m me.now.owner number slot read)
+            (as_reply (λ _. reply_of.Applied) result) }
+        ensures refused { IfErr result (IsAmong apply_refusals) }
+    {
         let interval = clock.now();
         self.end_at(rt, me.owner(), number, slot, interval)
     }

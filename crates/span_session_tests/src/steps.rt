@@ -85,7 +85,7 @@ fn by_one<J: Naming, R: Wait + Abort>(
     requires first { AreTypedMutations J.schema first }
     requires second { AreTypedMutations J.schema second }
 {
-    let (db, mut sessions) = opened.named::<J>()?;
+    let (db, mut sessions) = opened.into_database::<J>()?;
     let Some(me) = sessions.pop() else {
         return Err(Fail::from("a session"));
     };
@@ -165,7 +165,7 @@ fn by_slots<J: Naming, R: Wait + Abort>(
     requires wrong { AreTypedMutations J.schema wrong }
     requires right { AreTypedMutations J.schema right }
 {
-    let (db, mut sessions) = opened.named::<J>()?;
+    let (db, mut sessions) = opened.into_database::<J>()?;
     let Some(me) = sessions.pop() else {
         return Err(Fail::from("a session"));
     };

@@ -82,13 +82,13 @@ fn by_two<J: Naming, R: Wait + Abort>(
     requires first { AreTypedMutations J.schema first }
     requires second { AreTypedMutations J.schema second }
 {
-    let (db, mut sessions) = opened.named::<J>()?;
+    let (db, mut sessions) = opened.into_database::<J>()?;
     let b = sessions.pop();
     let a = sessions.pop();
     let (Some(a), Some(b)) = (a, b) else {
         return Err(Fail::from("two sessions"));
     };
-    let checked = checked(rt, alloc, &db, a, b, first, second);
+    let checked = check_sessions(rt, alloc, &db, a, b, first, second);
     give_after(db, checked)
 }
 
@@ -98,7 +98,7 @@ pub(crate) fn give_after<A: Drop, B>(dropped: A, given: B) -> B {
     given
 }
 
-fn checked<J: Naming, R: Wait + Abort>(
+fn check_sessions<J: Naming, R: Wait + Abort>(
     rt: &R,
     alloc: Global,
     db: &Db<J>,

@@ -1,4 +1,5 @@
-use Rattle.std.proofs.Common.{◌≡◌, ◌<◌, ◌-◌, ◌++◌, ◌∷◌, [], List, suc, add-one, sym, ap, ◌∙◌, subst, arith}
+use Rattle.std.proofs.Common.{◌≡◌, ◌<◌, ◌+◌, ◌-◌, ◌++◌, ◌∷◌, [], List, length, suc, add-one, sym, ap, ◌∙◌, subst, arith}
+use Rattle.std.proofs.lemmas.List.{length-append}
 use Rattle.span_session.specs.Rule.{holders, clients, others_of}
 use Rattle.span_session.proofs.Meets.{splits_at}
 use Rattle.span_session.proofs.Opening.{apart_append, apart_holders, apart_holder_clients, next_holder}
@@ -16,4 +17,4 @@ loop-number-preserved g c =
     let i = c.loop-number.invariant in
     let n = c.loop-number.number in
     let p = c.split_seat-seat.ensures in
-    (p.0 ∙ i.0, rw add-one (p.2 ∙ ap (λ z. (others_of z.0, z.1)) (i.1 ∙ ap (λ l. (l, [])) (next_holder n 16 (clients 0 c.args.sessions) c.loop-number-test.true))))
+    (p.0 ∙ i.0, rw add-one (p.2 ∙ ap (λ z. (others_of z.0, z.1)) (i.1 ∙ ap (λ l. (l, [])) (next_holder n 16 (clients 0 c.args.sessions) c.loop-number-test.true))), ap length c.in_ok-push.ensures.items ∙ length-append c.loop-number.slots.items _ ∙ ap (λ k. k + 1) i.2)

@@ -1,4 +1,7 @@
 use Rattle.std.proofs.Common.{◌≡◌, ◌∷◌, [], sym, ap, ◌∙◌, subst, inl}
+use Rattle.span_machine.specs.Machine.{apply_step}
+use Rattle.span_machine.specs.declared.step.Reply.TheVariants as reply
+use Rattle.span_parts.specs.Replies.{as_reply}
 use Rattle.span_machine.specs.declared.step.Step.TheVariants as step
 use Rattle.span_machine.specs.Pieces.{machine_of}
 use Rattle.span_parts.proofs.Passing.{passed}
@@ -6,9 +9,11 @@ use Rattle.span_parts.proofs.Wholes.{no_text}
 use Rattle.span_session.specs.declared.board.Role.TheVariants.{Holder, Keeper}
 use Rattle.span_session.specs.Held.{IsUnderstoodAs}
 use Rattle.span_session.specs.Known.{kept, restated}
-use Rattle.span_session.specs.Rule.{number_of, versions_of, known_at}
+use Rattle.span_session.specs.Rule.{SlotVersions, number_of, versions_of, known_at}
 use Rattle.span_session.proofs.Held.{slot_belongs, keeper_restated}
 use Rattle.span_session.proofs.Meets.{holder_shape, keeper_shape}
+use Rattle.span_session.specs.Replies.{Replies, at_slot}
+use Rattle.span_session.proofs.Replying.{used_replies}
 use Rattle.span_session.proofs.slot.LockedSlot.apply.Goals as goal
 
 pub agree-keeper-requires-clause-tables : goal.agree-keeper-requires-clause-tables
@@ -30,7 +35,7 @@ apply_in-applied-requires g c =
     let number = ap (λ k. number_of k.0) c.self.invariant.1 in
     let is : me.shard ≡ kept (known_at j.badge.views) me.number =
     sym (ap (λ k. versions_of k.0) c.self.invariant.1) ∙ c.agree-keeper.ensures.known.0 ∙ ap (λ v. kept (known_at v) (number_of me.seat.me.0)) views ∙ ap (kept (known_at j.badge.views)) number in
-    let within = c.is_used.ensures c.if-not-is_used.false in
+    let within = c.is_used.ensures.used c.if-not-is_used.false in
     slot_belongs schema board.schema g.J.Naming.table j.badge.table_id j.badge.views j.journal board.schema_is c.journal.invariant me.number me.shard within is
 
 pub restate-keeper-requires-clause-tables : goal.restate-keeper-requires-clause-tables
@@ -61,7 +66,7 @@ invariant_of-journal g c =
     let number = ap (λ k. number_of k.0) c.self.invariant.1 in
     let is : me.shard ≡ kept (known_at j.badge.views) me.number =
     sym (ap (λ k. versions_of k.0) c.self.invariant.1) ∙ c.agree-keeper.ensures.known.0 ∙ ap (λ v. kept (known_at v) (number_of me.seat.me.0)) views ∙ ap (kept (known_at j.badge.views)) number in
-    let within = c.is_used.ensures c.if-not-is_used.false in
+    let within = c.is_used.ensures.used c.if-not-is_used.false in
     let held = c.agree-keeper.ensures.keeper ∙ ap (λ b. b.views) c.replace-keeper.ensures.value in
     let numbered = ap (λ k. number_of k.0) (c.agree-keeper.ensures.holder ∙ c.self.invariant.1) in
     let after =
@@ -72,3 +77,13 @@ invariant_of-journal g c =
     keeper_restated schema board.schema g.J.Naming.table j.badge.table_id j.badge.views j.journal board.schema_is c.journal.invariant me.number me.shard within is _ _ c.apply_in-applied.new.journal c.apply_in-applied.new.shard c.restate-keeper.ensures.tables.1 after
     (passed (IsUnderstoodAs schema) board.schema (machine_of j.journal) c.journal.invariant.asked no_text (step.Apply c.args.owner c.args.txn me.number c.args.interval) tt _ (machine_of c.apply_in-applied.new.journal) (inl c.apply_in-applied.ensures.step))
     c.apply_in-applied.ensures.whole
+
+pub returns-clause-reply : goal.returns-clause-reply
+returns-clause-reply g c =
+    let me = c.self.inside in
+    let j = c.journal.inside in
+    let schema = g.J.Naming.schema in
+    let within = c.is_used.ensures.used c.if-not-is_used.false in
+    let r = as_reply (λ _. reply.Applied) c.apply_in-applied.result in
+    subst (λ (s : SlotVersions). Replies schema c.args.journal.now (at_slot s.number (λ k. apply_step k c.args.owner c.args.txn s.number c.args.interval)) r) c.self.view_is
+    (used_replies schema g.J.Naming.table j.badge.table_id j.badge.views j.journal c.journal.invariant c.args.journal.now c.journal.view_is me.number within (λ k. apply_step k c.args.owner c.args.txn me.number c.args.interval) r c.apply_in-applied.ensures.step.0)

@@ -34,7 +34,7 @@ register-requires-clause-belongs g c =
     let number = ap (λ k. number_of k.0) c.self.invariant.1 in
     let is : me.shard ≡ kept (known_at j.badge.views) me.number =
     sym (ap (λ k. versions_of k.0) c.self.invariant.1) ∙ c.agree.ensures.known.0 ∙ ap (λ v. kept (known_at v) (number_of me.seat.me.0)) views ∙ ap (kept (known_at j.badge.views)) number in
-    let within = c.is_used.ensures c.if-not-is_used.false in
+    let within = c.is_used.ensures.used c.if-not-is_used.false in
     slot_belongs schema board.schema g.J.Naming.table j.badge.table_id j.badge.views j.journal board.schema_is c.journal.invariant me.number me.shard within is
 
 pub register-requires-clause-read : goal.register-requires-clause-read
@@ -59,7 +59,7 @@ invariant_of-journal g c =
     let number = ap (λ k. number_of k.0) c.self.invariant.1 in
     let is : me.shard ≡ kept (known_at j.badge.views) me.number =
     sym (ap (λ k. versions_of k.0) c.self.invariant.1) ∙ c.agree.ensures.known.0 ∙ ap (λ v. kept (known_at v) (number_of me.seat.me.0)) views ∙ ap (kept (known_at j.badge.views)) number in
-    let within = c.is_used.ensures c.if-not-is_used.false in
+    let within = c.is_used.ensures.used c.if-not-is_used.false in
     keeper_stays schema board.schema g.J.Naming.table j.badge.table_id j.badge.views j.journal board.schema_is c.journal.invariant me.number me.shard within is _ _ c.register.new.journal c.agree.ensures.tables.1 (c.agree.ensures.keeper ∙ views)
     (passed_register (IsUnderstoodAs schema) board.schema (machine_of j.journal) c.journal.invariant.asked c.register.result no_text (step.Scan c.args.query c.args.place me.number c.args.interval) tt reply.Scanned (machine_of c.register.new.journal) c.register.ensures.scanned c.register.ensures.same c.register.ensures.refused)
     c.register.ensures.whole

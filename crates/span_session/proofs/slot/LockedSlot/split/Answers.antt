@@ -27,7 +27,7 @@ cut_in-requires-clause-belongs g c =
     let number = ap (λ k. number_of k.0) c.self.invariant.1 in
     let is : me.shard ≡ kept (known_at j.badge.views) me.number =
     sym (ap (λ k. versions_of k.0) c.self.invariant.1) ∙ c.agree-keeper.ensures.known.0 ∙ ap (λ v. kept (known_at v) (number_of me.seat.me.0)) views ∙ ap (kept (known_at j.badge.views)) number in
-    let d = c.in_ok-may_cut.ensures c.if-not-branch.false in
+    let d = c.in_ok-may_cut.ensures.may c.if-not-branch.false in
     let within = slice_get_within j.journal.slots me.number d.0.slot_state d.0.here in
     slot_belongs schema board.schema g.J.Naming.table j.badge.table_id j.badge.views j.journal board.schema_is c.journal.invariant me.number me.shard within is
 
@@ -37,7 +37,7 @@ cut_in-requires-clause-coded g c =
     (of.0, of.1, of.2, ap (λ s. root_key s of.0 of.1) c.args.board.now.schema_is ∙ of.3)
 
 pub cut_in-requires-clause-may : goal.cut_in-requires-clause-may
-cut_in-requires-clause-may g c = (c.in_ok-may_cut.ensures c.if-not-branch.false).0
+cut_in-requires-clause-may g c = (c.in_ok-may_cut.ensures.may c.if-not-branch.false).0
 
 pub restate_both-keeper-requires-clause-tables : goal.restate_both-keeper-requires-clause-tables
 restate_both-keeper-requires-clause-tables g c = (c.agree-keeper.ensures.tables.0, c.next.invariant.0, c.agree-keeper.ensures.tables.1)
@@ -80,7 +80,7 @@ invariant_of-journal g c =
     let number = ap (λ k. number_of k.0) c.self.invariant.1 in
     let is : me.shard ≡ kept (known_at j.badge.views) me.number =
     sym (ap (λ k. versions_of k.0) c.self.invariant.1) ∙ c.agree-keeper.ensures.known.0 ∙ ap (λ v. kept (known_at v) (number_of me.seat.me.0)) views ∙ ap (kept (known_at j.badge.views)) number in
-    let d = c.in_ok-may_cut.ensures c.if-not-branch.false in
+    let d = c.in_ok-may_cut.ensures.may c.if-not-branch.false in
     let within = slice_get_within j.journal.slots me.number d.0.slot_state d.0.here in
     let held = c.agree-keeper.ensures.keeper ∙ views in
     let numbered = ap (λ k. number_of k.0) (c.agree-keeper.ensures.holder ∙ c.self.invariant.1) in

@@ -2,7 +2,7 @@ use Rattle.std.proofs.Common.{◌<◌, sym, ap, ◌∙◌, subst, arith}
 use Rattle.span_session.specs.Rule.{others_of}
 use Rattle.span_session.proofs.Meets.{splits_at}
 use Rattle.span_session.proofs.Opening.{apart_keeper}
-use Rattle.span_session.proofs.open.Opened.named.Goals as goal
+use Rattle.span_session.proofs.open.Opened.into_database.Goals as goal
 
 pub split_seat-requires : goal.split_seat-requires
 split_seat-requires g c =
