@@ -1,33 +1,33 @@
 -- A new cell joined to the right end of a tree.
-use Rattle.std.proofs.Common.{◌≡◌, ◌≢◌, ℕ, suc, ◌+◌, ◌-◌, ◌<◌, ◌≤◌, List, refl, sym, ◌∙◌, ap, arith, length, true, false, Option, Some, None, subst}
-use Rattle.std.specs.Prelude.{Bool, nat_lt}
+use Rattle.std.proofs.Common.{◌≡◌, ℕ, suc, ◌+◌, ◌-◌, ◌<◌, ◌≤◌, List, refl, sym, ◌∙◌, ap, arith, length, true, false, Option, Some, None, subst}
+use Rattle.std.specs.Prelude.{Bool, nat_lt, Ok, Err}
 use Rattle.std.specs.declared.cmp.Ordering.TheVariants.{Greater}
 use Rattle.std.proofs.lemmas.Bool.Decides.{nat_tests}
 use Rattle.span_keycode.specs.Order.{byte_order}
 use Rattle.span_arena.specs.declared.cell.Cell.{Cell}
 use Rattle.span_arena.specs.declared.cell.Links.{Links}
-use Rattle.span_arena.specs.Cells.{cell_at, blank, new_cell}
-use Rattle.span_arena.specs.Content.{Content, IsNewChain, with_at, with_cells}
+use Rattle.span_arena.specs.Cells.{cell_at, new_cell}
+use Rattle.span_arena.specs.Content.{Content, IsNewChain, with_cells}
 use Rattle.span_arena.specs.Counts.{Count}
-use Rattle.span_arena.proofs.Keeping.{with_at-same}
+use Rattle.span_value.specs.declared.refusal.Refusal.{Refusal}
 use Rattle.span_keyindex.specs.declared.join.Part.{Part}
 use Rattle.span_keyindex.specs.declared.tree.TreeRoot.{TreeRoot}
 use Rattle.span_keyindex.specs.Avl.{grown_height}
-use Rattle.span_keyindex.specs.Effects.{links_of, IsInside, IsWithin}
+use Rattle.span_keyindex.specs.Effects.{links_of, IsInside}
 use Rattle.span_keyindex.specs.Entries.{IsAbsent}
-use Rattle.span_keyindex.specs.Indexes.{tree_of, entries_at, IsSearchTree, IsIndex}
+use Rattle.span_keyindex.specs.Indexes.{tree_of, entries_at, IsIndex}
 use Rattle.span_keyindex.specs.Items.{items}
 use Rattle.span_keyindex.specs.Joins.{joined_right_cells, joined_right_root, most_by, IsJoinCost}
 use Rattle.span_keyindex.specs.Lasts.{IsAboveRight, is_after, IsNewPart, turns_by, IsHangCost, IsTreeCost}
 use Rattle.span_keyindex.specs.Nexts.{Nexts, places_with, with_place, with_cell, before_in, last_cell}
-use Rattle.span_keyindex.specs.Puts.{tree_at, AreChains, IsTree, IsAdded, Added}
+use Rattle.span_keyindex.specs.Puts.{tree_at, AreChains, IsTree, IsPut, IsPutIn, IsNext, IsAdded, IsPutCost, Added, put_of, extra, extra_of, extra_by}
 use Rattle.span_keyindex.specs.Trees.{Tree, Leaf, Fork, Stands, count, height, shape}
 use Rattle.span_keyindex.proofs.Counting.{stays}
 use Rattle.span_keyindex.proofs.Costs.{IsReady, still_right}
 use Rattle.span_keyindex.proofs.Exits.{fork_some, right_ready, right_added, new_relinked}
 use Rattle.span_keyindex.proofs.Lasts.{all_before, last_new, inside_last, above_right, not_there, before_last, last_fork}
 use Rattle.span_keyindex.proofs.Linking.{held_items}
-use Rattle.span_keyindex.proofs.Puts.{leaf_at, places_more, places_here, length_at, elsewhere, not_in, cell_right}
+use Rattle.span_keyindex.proofs.Puts.{leaf_at, places_more, places_here, not_in, cell_right}
 use Rattle.span_keyindex.proofs.Rising.{AllBelow}
 use Rattle.span_keyindex.proofs.Searching.{search_absent}
 use Rattle.span_keyindex.proofs.Spent.{right_under}
@@ -107,73 +107,6 @@ hung_cost old mid levels at i ls part after s0 s1 s2 e read tree cost join resul
     let a = cost.compared in let b = cost.written in let c = join.compared in let d = join.written in
     record { compared = c ∙ a; written = omega arith }
 
--- ---- the tree beside a new cell
-
-module _ (old mid : List Cell) (index : TreeRoot) (key : List ℕ) (c : ℕ) (own : IsSearchTree old index) (free : count c (tree_of old index) ≡ 0) (number : c ≤ length old) (is : mid ≡ with_at old c (new_cell key)) where
-  long : length mid ≡ places_with (length old) c
-  long = ap length is ∙ length_at old c (new_cell key)
-
-  not_new : (j : ℕ) → 0 < count j (tree_of old index) → j ≢ c
-  not_new j some same = (let none : count j (tree_of old index) ≡ 0 = ap (λ (x : ℕ). count x (tree_of old index)) same ∙ free in absurd (omega arith))
-
-  kept : Stands (cell_at mid) (tree_of old index)
-  kept =
-      stays (cell_at old) (cell_at mid) (tree_of old index)
-      (λ j some. ap (λ (cs : List Cell). cell_at cs j) is ∙ elsewhere old c j (new_cell key) blank (not_new j some) number)
-      own.tree.stands
-
-  pub same_tree : tree_of mid index ≡ tree_of old index
-  same_tree =
-      let low : height (tree_of old index) ≤ index.levels = (let e = own.tall in omega arith) in
-      ap (λ (x : Option ℕ). shape (cell_at mid) index.levels x) own.tree.root ∙ shape_is (cell_at mid) (tree_of old index) index.levels kept low
-
-  pub tree_there : IsTree mid index.root (tree_of mid index)
-  tree_there = subst (λ (t : Tree). IsTree mid index.root t) {x = tree_of old index} {y = tree_of mid index} (sym same_tree) (record {
-    stands = kept;
-    root = own.tree.root;
-    once = own.tree.once;
-    within = λ j some. (let lt = own.tree.within j some in omega (arith, long, places_more (length old) c));
-  })
-
-  here : cell_at mid c ≡ new_cell key
-  here = ap (λ (cs : List Cell). cell_at cs c) is ∙ with_at-same old c (new_cell key) blank number
-
-  own_key : (cell_at mid c).key ≡ key
-  own_key = ap (λ (x : Cell). x.key) here
-
-  pub part_there : IsNewPart mid (record { cell = c; root = c; grew = true })
-  part_there = record {
-    alone = here ∙ ap (λ (k : List ℕ). new_cell k) (sym own_key);
-    here = omega (arith, long, places_here (length old) c number);
-    root = refl;
-    grew = refl;
-  }
-
-  pub free_there : count c (tree_of mid index) ≡ 0
-  free_there = ap (λ (t : Tree). count c t) same_tree ∙ free
-
-  pub above_there : AllBelow key (entries_at old index) → IsAboveRight (cell_at mid c).key (tree_of mid index)
-  above_there all =
-      subst (λ (k : List ℕ). IsAboveRight k (tree_of mid index)) {x = key} {y = (cell_at mid c).key} (sym own_key)
-      (subst (λ (t : Tree). IsAboveRight key t) {x = tree_of old index} {y = tree_of mid index} (sym same_tree) (above_right key (tree_of old index) all))
-
-  pub added_there : (new : List Cell) (part : Part) → part.cell ≡ c → IsAdded mid new (tree_of mid index) (cell_at mid c).key part → IsAdded old new (tree_of old index) key part
-  added_there new part same there =
-      let added : IsAdded mid new (tree_of old index) key part =
-      subst (λ (t : Tree). IsAdded mid new t key part) {x = tree_of mid index} {y = tree_of old index} same_tree
-      (subst (λ (k : List ℕ). IsAdded mid new (tree_of mid index) k part) {x = (cell_at mid c).key} {y = key} own_key there) in
-      let lt : part.cell < length mid = omega (arith, same, long, places_here (length old) c number) in
-      record {
-        absent = added.absent;
-        free = added.free;
-        number = omega (arith, same);
-        one_more = added.one_more ∙ places_kept (length mid) part.cell lt ∙ long ∙ ap (λ (x : ℕ). places_with (length old) x) (sym same);
-        stands = added.stands;
-        root = added.root;
-        grew = added.grew;
-        others = λ j differs none. added.others j differs none ∙ ap (λ (cs : List Cell). cell_at cs j) is ∙ elsewhere old c j (new_cell key) blank (λ q. differs (q ∙ sym same)) number;
-      }
-
 -- ---- the index
 
 pub after_all : (cs : List Cell) (ns : Nexts) (index : TreeRoot) (key : List ℕ) → IsIndex cs ns index → is_after cs index.last key ≡ true → AllBelow key (entries_at cs index)
@@ -190,54 +123,109 @@ last_inside cs ns index own =
     subst (λ (o : Option ℕ). IsInside cs o) {x = last_cell None (entries_at cs index)} {y = index.last} (sym own.last)
     (inside_last cs (entries_at cs index) (λ i some. own.search.tree.within i (omega (arith, held_items i (tree_of cs index)))))
 
--- a new chain and its number
-pub number_in : (a mid : Content) (c : ℕ) → IsNewChain a mid c → length a.cells ≡ length a.chains → c ≤ length a.cells
-number_in a mid c fresh same = let n = fresh.number in omega arith
-
-module _ (a mid : Content) (ns : Nexts) (index : TreeRoot) (key : List ℕ) (c : ℕ) (own : IsIndex a.cells ns index) (chains : AreChains a (tree_of a.cells index)) (fresh : IsNewChain a mid c) (cells : mid.cells ≡ with_at a.cells c (new_cell key)) (same : length a.cells ≡ length a.chains) where
-  unused : count c (tree_of a.cells index) ≡ 0
-  unused = not_in a mid (tree_of a.cells index) c chains fresh
-
-  pub beside_same : tree_of mid.cells index ≡ tree_of a.cells index
-  beside_same = same_tree a.cells mid.cells index key c own.search unused (number_in a mid c fresh same) cells
-
-  pub beside_tree : IsTree mid.cells index.root (tree_of mid.cells index)
-  beside_tree = tree_there a.cells mid.cells index key c own.search unused (number_in a mid c fresh same) cells
-
-  pub beside_part : IsNewPart mid.cells (record { cell = c; root = c; grew = true })
-  beside_part = part_there a.cells mid.cells index key c own.search unused (number_in a mid c fresh same) cells
-
-  pub beside_free : count c (tree_of mid.cells index) ≡ 0
-  beside_free = free_there a.cells mid.cells index key c own.search unused (number_in a mid c fresh same) cells
-
-  pub beside_above : is_after a.cells index.last key ≡ true → IsAboveRight (cell_at mid.cells c).key (tree_of mid.cells index)
-  beside_above after = above_there a.cells mid.cells index key c own.search unused (number_in a mid c fresh same) cells (after_all a.cells ns index key own after)
-
-pub last_added : (a mid b : Content) (ns ms : Nexts) (before after : TreeRoot) (key : List ℕ) (c : ℕ) (part : Part) → IsIndex a.cells ns before → AreChains a (tree_of a.cells before) → is_after a.cells before.last key ≡ true
-    → IsNewChain a mid c → mid.cells ≡ with_at a.cells c (new_cell key) → length a.cells ≡ length a.chains → ms ≡ with_cell (with_place ns c) before.last c
-    → b ≡ with_cells mid b.cells → part.cell ≡ c → IsAdded mid.cells b.cells (tree_of mid.cells before) (cell_at mid.cells c).key part
-    → after.root ≡ Some part.root → after.levels ≡ grown_height part.grew before.levels → after.last ≡ Some part.cell
-    → IsAfter a b ms before after key part.cell
-last_added a mid b ns ms before after key c part index chains is_last fresh cells same_length nexts relinked same added root levels last =
-    let all : AllBelow key (entries_at a.cells before) = after_all a.cells ns before key index is_last in
-    let free : count c (tree_of a.cells before) ≡ 0 = not_in a mid (tree_of a.cells before) c chains fresh in
-    let b_of : before.last ≡ before_in key None (tree_of a.cells before) = index.last ∙ sym (before_last key (tree_of a.cells before) index.search.rising all) in
-    index_after a b ns ms before after key part index
-    (added_there a.cells mid.cells before key c index.search free (number_in a mid c fresh same_length) cells b.cells part same added)
-    (new_relinked a mid b b.cells (Added (record { cell = c; root = part.root; grew = part.grew })) (record { cell = c; root = part.root; grew = part.grew }) part fresh refl relinked same)
-    (nexts
-    ∙ ap (λ (o : Option ℕ). with_cell (with_place ns c) o c) b_of
-    ∙ ap (λ (x : ℕ). with_cell (with_place ns x) (before_in key None (tree_of a.cells before)) x) (sym same))
-    root levels
-    (last ∙ sym (last_new (entries_at a.cells before) key part.cell all))
-
 turns_most : (b : Bool) → turns_by b ≤ 2
 turns_most true = omega arith
 turns_most false = omega arith
 
--- two entries written for the new cell, and then those of the tree
-pub last_cost : (old mid : List Cell) (index : TreeRoot) (part : Part) (s0 s1 s2 : Count) → tree_of mid index ≡ tree_of old index → IsWithin 2 s0 s1 → IsHangCost (tree_of mid index) part s1 s2 → IsTreeCost 0 (tree_of old index) s0 s2
-last_cost old mid index part s0 s1 s2 same first then =
-    let e : height (tree_of mid index) ≡ height (tree_of old index) = ap height same in
-    let a = first.compared in let b = first.written in let c = then.compared in let d = then.written in
-    record { compared = omega arith; written = omega (arith, turns_most part.grew) }
+-- ---- the tree beside a new cell
+
+-- the key alone is a tree of one new cell
+pub record IsFirst (a mid : Content) (ns ms : Nexts) (key : List ℕ) (before : Option ℕ) (first : Part) : Type 0 where
+  pub added : IsAdded a.cells mid.cells Leaf key first
+  pub fresh : IsNewChain a mid first.cell
+  pub nexts : ms ≡ with_cell (with_place ns first.cell) before first.cell
+
+pub first_alone : (a mid : Content) (ns ms : Nexts) (key : List ℕ) (before : Option ℕ) (first : Part) (b : Bool) → IsPut a.cells mid.cells Leaf key (put_of b first) → IsPutIn a mid (put_of b first) → IsNext ns ms before (put_of b first) → IsFirst a mid ns ms key before first
+first_alone a mid ns ms key before first false put arena next = absurd (let e : None ≡ Some first.cell = put.here in cc)
+first_alone a mid ns ms key before first true put arena next = record { added = put; fresh = arena; nexts = next }
+
+module _ (a mid : Content) (ns ms : Nexts) (index : TreeRoot) (key : List ℕ) (first : Part) (own : IsIndex a.cells ns index) (chains : AreChains a (tree_of a.cells index)) (alone : IsFirst a mid ns ms key index.last first) where
+  unused : count first.cell (tree_of a.cells index) ≡ 0
+  unused = not_in a mid (tree_of a.cells index) first.cell chains alone.fresh
+
+  kept : Stands (cell_at mid.cells) (tree_of a.cells index)
+  kept =
+      stays (cell_at a.cells) (cell_at mid.cells) (tree_of a.cells index)
+      (λ j some. alone.added.others j (λ same. (let none : count j (tree_of a.cells index) ≡ 0 = ap (λ (x : ℕ). count x (tree_of a.cells index)) same ∙ unused in absurd (omega arith))) refl)
+      own.search.tree.stands
+
+  pub beside_same : tree_of mid.cells index ≡ tree_of a.cells index
+  beside_same =
+      let low : height (tree_of a.cells index) ≤ index.levels = (let e = own.search.tall in omega arith) in
+      ap (λ (x : Option ℕ). shape (cell_at mid.cells) index.levels x) own.search.tree.root ∙ shape_is (cell_at mid.cells) (tree_of a.cells index) index.levels kept low
+
+  pub beside_tree : IsTree mid.cells index.root (tree_of mid.cells index)
+  beside_tree = subst (λ (t : Tree). IsTree mid.cells index.root t) {x = tree_of a.cells index} {y = tree_of mid.cells index} (sym beside_same) (record {
+    stands = kept;
+    root = own.search.tree.root;
+    once = own.search.tree.once;
+    within = λ j some. (let lt = own.search.tree.within j some in omega (arith, alone.added.one_more, places_more (length a.cells) first.cell));
+  })
+
+  own_key : (cell_at mid.cells first.cell).key ≡ key
+  own_key = ap (λ (x : Cell). x.key) alone.added.stands.0
+
+  pub beside_part : IsNewPart mid.cells first
+  beside_part = record {
+    alone = alone.added.stands.0 ∙ ap (λ (k : List ℕ). new_cell k) (sym own_key);
+    here = (let lt = places_here (length a.cells) first.cell alone.added.number in omega (arith, alone.added.one_more));
+    root = (let e : Some first.root ≡ Some first.cell = alone.added.root in cc);
+    grew = alone.added.grew;
+  }
+
+  pub beside_free : count first.cell (tree_of mid.cells index) ≡ 0
+  beside_free = ap (λ (t : Tree). count first.cell t) beside_same ∙ unused
+
+  pub beside_above : is_after a.cells index.last key ≡ true → IsAboveRight (cell_at mid.cells first.cell).key (tree_of mid.cells index)
+  beside_above after =
+      subst (λ (k : List ℕ). IsAboveRight k (tree_of mid.cells index)) {x = key} {y = (cell_at mid.cells first.cell).key} (sym own_key)
+      (subst (λ (t : Tree). IsAboveRight key t) {x = tree_of a.cells index} {y = tree_of mid.cells index} (sym beside_same) (above_right key (tree_of a.cells index) (after_all a.cells ns index key own after)))
+
+  beside_added : (new : List Cell) (part : Part) → part.cell ≡ first.cell → IsAdded mid.cells new (tree_of mid.cells index) (cell_at mid.cells first.cell).key part → IsAdded a.cells new (tree_of a.cells index) key part
+  beside_added new part same there =
+      let added : IsAdded mid.cells new (tree_of a.cells index) key part =
+      subst (λ (t : Tree). IsAdded mid.cells new t key part) {x = tree_of mid.cells index} {y = tree_of a.cells index} beside_same
+      (subst (λ (k : List ℕ). IsAdded mid.cells new (tree_of mid.cells index) k part) {x = (cell_at mid.cells first.cell).key} {y = key} own_key there) in
+      let lt : part.cell < length mid.cells = (let here = beside_part.here in omega (arith, same)) in
+      record {
+        absent = added.absent;
+        free = added.free;
+        number = (let number = alone.added.number in omega (arith, same));
+        one_more = added.one_more ∙ places_kept (length mid.cells) part.cell lt ∙ alone.added.one_more ∙ ap (λ (x : ℕ). places_with (length a.cells) x) (sym same);
+        stands = added.stands;
+        root = added.root;
+        grew = added.grew;
+        others = λ j differs none. added.others j differs none ∙ alone.added.others j (λ q. differs (q ∙ sym same)) refl;
+      }
+
+  pub last_added : (b : Content) (next : TreeRoot) (part : Part) → is_after a.cells index.last key ≡ true
+      → b ≡ with_cells mid b.cells → part.cell ≡ first.cell → IsAdded mid.cells b.cells (tree_of mid.cells index) (cell_at mid.cells first.cell).key part
+      → next.root ≡ Some part.root → next.levels ≡ grown_height part.grew index.levels → next.last ≡ Some part.cell
+      → IsAfter a b ms index next key part.cell
+  last_added b next part is_last relinked same added root levels last =
+      let all : AllBelow key (entries_at a.cells index) = after_all a.cells ns index key own is_last in
+      let b_of : index.last ≡ before_in key None (tree_of a.cells index) = own.last ∙ sym (before_last key (tree_of a.cells index) own.search.rising all) in
+      index_after a b ns ms index next key part own
+      (beside_added b.cells part same added)
+      (new_relinked a mid b b.cells (Added first) first part alone.fresh refl relinked same)
+      (alone.nexts
+      ∙ ap (λ (o : Option ℕ). with_cell (with_place ns first.cell) o first.cell) b_of
+      ∙ ap (λ (x : ℕ). with_cell (with_place ns x) (before_in key None (tree_of a.cells index)) x) (sym same))
+      root levels
+      (last ∙ sym (last_new (entries_at a.cells index) key part.cell all))
+
+  -- two entries written for the new cell, and then those of the tree
+  pub last_cost : (b : Bool) (part : Part) (s0 s1 s2 : Count) → IsPutCost Leaf (Ok (put_of b first)) s0 s1 → put_of b first ≡ Added first → IsHangCost (tree_of mid.cells index) part s1 s2 → IsTreeCost 0 (tree_of a.cells index) s0 s2
+  last_cost b part s0 s1 s2 put is then =
+      let e : height (tree_of mid.cells index) ≡ height (tree_of a.cells index) = ap height beside_same in
+      let two : extra (Ok (put_of b first)) ≡ 2 = ap extra_of is ∙ ap extra_by alone.added.grew in
+      let x = put.compared in let y = put.written in let z = then.compared in let w = then.written in
+      record { compared = omega arith; written = omega (arith, turns_most part.grew) }
+
+pub is_added : (a mid : List Cell) (key : List ℕ) (first : Part) (b : Bool) → IsPut a mid Leaf key (put_of b first) → put_of b first ≡ Added first
+is_added a mid key first false put = absurd (let e : None ≡ Some first.cell = put.here in cc)
+is_added a mid key first true put = refl
+
+-- a key that gets no cell
+pub refused_cost : (t : Tree) (why : Refusal) (s0 s1 : Count) → IsPutCost Leaf (Err why) s0 s1 → IsTreeCost 0 t s0 s1
+refused_cost t why s0 s1 put = (let x = put.compared in let y = put.written in record { compared = omega arith; written = omega arith })

@@ -1,4 +1,7 @@
 //! A part that may have grown, joined to its cell again.
+//!
+//! What joins a right part is inlined, since it has several callers: a load in no order goes through it at half of
+//! all levels.
 ghost use Rattle.std.specs.Prelude.{◌≡◌, ◌<◌, ◌≤◌, ◌+◌, length, false, true, IfSome, IsTrue, Some};
 ghost use Rattle.span_keyindex.specs.Trees as trees;
 ghost use Rattle.span_arena.specs.Content.{with_cells};
@@ -132,6 +135,7 @@ fn lift_inner<C: Ledger, W: Ledger>(
 }
 
 // The right part is two levels higher than the left one.
+#[inline(always)]
 fn turn_left<C: Ledger, W: Ledger>(
     arena: &mut Arena,
     at: usize,
@@ -185,6 +189,7 @@ fn turn_left<C: Ledger, W: Ledger>(
     }
 }
 
+#[inline(always)]
 fn sink_inner<C: Ledger, W: Ledger>(
     arena: &mut Arena,
     at: usize,
@@ -308,6 +313,7 @@ fn keep_left<C: Ledger, W: Ledger>(
 
 // Joins a right part to its cell that has as many levels as before. Most such parts begin with the cell that they began with: nothing
 // is written then.
+#[inline(always)]
 fn keep_right<C: Ledger, W: Ledger>(
     arena: &mut Arena,
     at: usize,
@@ -365,6 +371,7 @@ fn raise_left<C: Ledger, W: Ledger>(
 }
 
 // Joins a right part to its cell that has one level more.
+#[inline(always)]
 fn raise_right<C: Ledger, W: Ledger>(
     arena: &mut Arena,
     at: usize,
@@ -421,6 +428,7 @@ pub(crate) fn join_left<C: Ledger, W: Ledger>(
 }
 
 /// Joins the right part of a cell to it again, after a key more in it: the part is then the cell's.
+#[inline(always)]
 pub(crate) fn join_right<C: Ledger, W: Ledger>(
     arena: &mut Arena,
     at: usize,

@@ -14,7 +14,7 @@ ghost use Rattle.span_keyindex.specs.Trees.{count};
 
 use crate::join::{Part, join_right};
 use crate::next::NextLinks;
-use crate::put::add_cell;
+use crate::put::add_key;
 use crate::tree::TreeRoot;
 use span_arena::arena::Arena;
 use span_arena::cell::Balance;
@@ -79,12 +79,13 @@ pub(crate) fn put_last<C: Ledger, W: Ledger>(
 {
     // The count of numbers fits, and with it that of the levels.
     let _count = arena.numbers();
-    let cell = add_cell(arena, nexts, index.last, key, steps)?;
     let mut part = Part {
-        cell,
-        root: cell,
-        grew: true,
+        cell: 0,
+        root: 0,
+        grew: false,
     };
+    // First a tree of the key alone.
+    let _is_added = add_key(arena, nexts, None, index.last, 0, key, &mut part, steps)?;
     hang_last(arena, index.root, index.levels, &mut part, steps);
     *index = TreeRoot {
         root: Some(part.root),

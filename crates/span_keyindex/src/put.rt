@@ -17,8 +17,8 @@ use std::cmp::Ordering;
 use std::mem;
 use std::sync::ledger::Ledger;
 
-/// A new chain, after another in the order of the keys, or first. It takes the key.
-pub(crate) fn add_cell<C: Ledger, W: Ledger>(
+// A new chain, after another in the order of the keys, or first. It takes the key.
+fn add_cell<C: Ledger, W: Ledger>(
     arena: &mut Arena,
     nexts: &mut NextLinks,
     before: Option<usize>,
