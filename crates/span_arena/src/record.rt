@@ -31,6 +31,8 @@ pub(crate) struct NodeRecord {
     pub image: Seq<u8>,
 }
 
+const _: () = prove!(size_of::<NodeRecord>() == 48);
+
 impl NodeRecord {
     /// Its version, lent.
     pub(crate) fn version(&self) -> LentVersion<'_>
@@ -64,6 +66,8 @@ pub(crate) enum ChainRecord {
     Free(u32, u32),
     Used(VersionLinks),
 }
+
+const _: () = prove!(size_of::<ChainRecord>() == 16);
 
 /// Where the versions of a chain begin.
 #[derive(Clone, Copy, Debug)]
