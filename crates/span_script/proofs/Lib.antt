@@ -1,6 +1,7 @@
 pub mod Begun
 pub mod Doing
 pub mod Ends
+pub mod Loads
 pub mod Runs
 pub mod Scans
 pub mod Shards

@@ -1,15 +1,16 @@
 //! What a script has set and gathered, and its commands done one after another.
-ghost use Rattle.std.specs.Prelude.{◌≡◌, ◌++◌, List, None, Some, is_some, IfErr, IfOk, IfSome, IsOkUnless, MatchResult, ◌⊎◌, [], Err, length, take};
+ghost use Rattle.std.specs.Prelude.{◌≡◌, ◌++◌, ◌∷◌, List, None, Some, is_some, IfErr, IfOk, IfSome, IsOkUnless, MatchResult, OnOk, ◌⊎◌, [], length, codes, vec_len};
 ghost use Rattle.span_schema.specs.declared.table.Table.{Table};
 ghost use Rattle.span_machine.specs.Run.{IsChecked};
 ghost use Rattle.span_machine.specs.declared.step.Step.TheVariants as step_of_kind;
-ghost use Rattle.span_script.specs.Lines.{Begins};
+ghost use Rattle.span_script.specs.Lines.{Begins, number_line};
 ghost use Rattle.span_script.specs.Reports.{AreAnswered};
 ghost use Rattle.span_script.specs.Steps.{Takes, AreTaken, AreRefused, IsRead, IsQueried, IsBegun, scans, scans_of_leaf};
 ghost use Rattle.span_script.specs.Scripts.{BeginsLoad, Deletes, EndsLoad, Gathers, IsAnswered, IsCommandLine, IsDeletion, IsDone, IsDoneIfRead, IsExplained, IsFirst, IsLoadLine, IsReplied, IsSplit, LoadsRecord, RefusesClock, RefusesDelete, RefusesParam, RefusesRecord, RefusesWrite, SetsClock, SetsParam, Writes, end_answer, is_passed_over, numbered_step, refused_load};
-ghost use Rattle.span_command.specs.Layouts.{IsOfRecord};
+ghost use Rattle.span_mutate.specs.Batches.{row_mutations};
+ghost use Rattle.span_command.specs.Layouts.{IsOfRecord, heading_of};
 ghost use Rattle.span_command.specs.Record.{record_fields};
-ghost use Rattle.span_script.specs.Sessions.{Adds, AddsAt, AddsLine, Changes, load_of, state_of, text_of};
+ghost use Rattle.span_script.specs.Sessions.{Adds, AddsAt, AddsLine, AddsRow, Changes, Gathered, count_of, load_of, state_in, state_of, text_of};
 
 use super::answer::Answers;
 use super::report::Refused;
@@ -22,6 +23,7 @@ use span_core::{
     Bound, Interval, Kind, Mutation, MutationKind, Params, Refusal, Reply, Schema, Step, Text,
     Transaction, Verdict,
 };
+use span_mutate::batch::{BatchRow, MutationBatch};
 use span_value::cell::read_cell;
 use std::alloc::Global;
 use std::mem;
@@ -34,8 +36,8 @@ const OWNER: u64 = 0;
 pub struct Session {
     clock: Interval,
     params: Params,
-    /// The mutations of the next transaction.
-    gathered: Vec<Mutation>,
+    /// The mutations of the next transaction, without those of the load whose lines are read.
+    gathered: Vec<MutationBatch>,
     /// The load whose lines are read.
     load: Option<Load>,
     /// The fields of the last record.
@@ -45,10 +47,34 @@ pub struct Session {
 /// A load between its first line and its `end`.
 #[derive(Drop)]
 struct Load {
-    /// How its records are read, or where and why it is refused, which is answered at its end.
-    layout: Result<Layout, Refused>,
-    /// How many mutations were gathered before it.
-    before: usize,
+    /// Its records, or where and why it is refused, which is answered at its end.
+    records: Result<Records, Refused>,
+}
+
+/// How the records of a load are read, and the rows that were read.
+#[derive(Drop)]
+struct Records {
+    layout: Layout,
+    rows: Vec<BatchRow>,
+}
+
+impl Records {
+    /// With the row of one more record. `WrongType`: a wrong number of fields, or a field that is no cell of its column's
+    /// type.
+    fn with_record(
+        mut self,
+        alloc: Global,
+        text: &str,
+        fields: &mut StringRecord,
+    ) -> Result<Records, Refusal>
+        ensures { MatchResult result
+            (AddsRow self text.now)
+            (λ why. (why ≡ Refusal.OutOfMemory) ⊎ RefusesRecord self.layout MutationKind.Insert text.now why) }
+    {
+        let row = self.layout.read_row(alloc, text, fields)?;
+        self.rows.push(row)?;
+        Ok(self)
+    }
 }
 
 impl Session {
@@ -109,8 +135,7 @@ impl Session {
         ensures memory { IsOkUnless result Refusal.OutOfMemory }
     {
         match self.load.take() {
-            Some(load) => {
-                self.gathered.truncate(load.before);
+            Some(_) => {
                 answers.refusal_line(Refusal::BadCommand)?;
                 Ok(Some(Refused {
                     line: number,
@@ -158,6 +183,7 @@ impl Session {
         line: Line<'_>,
         answers: &mut Answers,
     ) -> Result<(), Refusal>
+        requires { self.old.load ≡ None }
         ensures exact { Adds
             (λ answer. IsCommandLine core.old.schema (text_of line.entry)
             (state_of self.old) core.old.machine answer (state_of self.new) core.new.machine)
@@ -181,6 +207,7 @@ impl Session {
         text: &str,
         answers: &mut Answers,
     ) -> Result<(), Refusal>
+        requires { self.old.load ≡ None }
         ensures exact { Adds
             (λ answer. IsCommandLine core.old.schema (Some text.now)
             (state_of self.old) core.old.machine answer (state_of self.new) core.new.machine)
@@ -210,6 +237,7 @@ impl Session {
         command: Command<'_>,
         answers: &mut Answers,
     ) -> Result<(), Refusal>
+        requires { self.old.load ≡ None }
         ensures exact { Adds
             (λ answer. IsDone core.old.schema command.entry
             (state_of self.old) core.old.machine answer (state_of self.new) core.new.machine)
@@ -297,7 +325,7 @@ impl Session {
         self.params.add(Text::from_str(alloc, name)?, kind, value)
     }
 
-    /// Gathers the write of a record. `NoTable`, `NoColumn` and `WrongType` as `Layout::of_columns` and `gather`.
+    /// Gathers the write of a record. `NoTable`, `NoColumn` and `WrongType` as `Layout::of_columns` and `gather_record`.
     fn write(
         &mut self,
         alloc: Global,
@@ -307,15 +335,16 @@ impl Session {
         columns: &str,
         text: &str,
     ) -> Result<(), Refusal>
+        requires { self.old.load ≡ None }
         ensures { Changes
             (Writes schema.now kind table.now columns.now text.now (state_of self.old))
             (RefusesWrite schema.now kind table.now columns.now text.now) self.old self.new result }
     {
         let layout = Layout::of_columns(alloc, schema, table, columns)?;
-        self.gather(alloc, &layout, kind, text)
+        self.gather_record(alloc, layout, kind, text)
     }
 
-    /// Gathers a deletion. `NoTable` and `WrongType` as `Layout::of_key` and `gather`.
+    /// Gathers a deletion. `NoTable` and `WrongType` as `Layout::of_key` and `gather_record`.
     fn delete(
         &mut self,
         alloc: Global,
@@ -323,29 +352,47 @@ impl Session {
         table: &str,
         text: &str,
     ) -> Result<(), Refusal>
+        requires { self.old.load ≡ None }
         ensures { Changes
             (Deletes schema.now table.now text.now (state_of self.old))
             (RefusesDelete schema.now table.now text.now) self.old self.new result }
     {
         let layout = Layout::of_key(alloc, schema, table)?;
-        self.gather(alloc, &layout, MutationKind::Delete, text)
+        self.gather_record(alloc, layout, MutationKind::Delete, text)
     }
 
     /// Gathers the mutation of a record. `WrongType`: a wrong number of fields, or a field that is no cell of its
     /// column's type.
-    fn gather(
+    fn gather_record(
         &mut self,
         alloc: Global,
-        layout: &Layout,
+        layout: Layout,
         kind: MutationKind,
         text: &str,
     ) -> Result<(), Refusal>
+        requires { self.old.load ≡ None }
         ensures { Changes
-            (Gathers layout.now kind text.now (state_of self.old))
-            (RefusesRecord layout.now kind text.now) self.old self.new result }
+            (Gathers layout kind text.now (state_of self.old))
+            (RefusesRecord layout kind text.now) self.old self.new result }
     {
-        let mutation = self.read_record(alloc, layout, kind, text)?;
-        self.gathered.push(mutation)?;
+        let row = layout.read_row(alloc, text, &mut self.fields)?;
+        let rows = one_row(alloc, row)?;
+        self.gather(alloc, layout, kind, rows)
+    }
+
+    /// Gathers the mutations that rows are under a layout's heading. `OutOfMemory` is the only refusal.
+    fn gather(
+        &mut self,
+        alloc: Global,
+        layout: Layout,
+        kind: MutationKind,
+        rows: Vec<BatchRow>,
+    ) -> Result<(), Refusal>
+        requires { self.old.load ≡ None }
+        ensures { Gathered (row_mutations (heading_of layout kind) rows.items) self.old self.new result }
+    {
+        let heading = layout.into_heading(alloc, kind)?;
+        self.gathered.push(MutationBatch::new(heading, rows))?;
         Ok(())
     }
 
@@ -392,16 +439,17 @@ impl Session {
         table: &str,
         columns: &str,
     )
+        requires { self.old.load ≡ None }
         ensures { BeginsLoad schema.now table.now columns.now (state_of self.old) (state_of self.new) }
     {
-        let layout = match Layout::of_columns(alloc, schema, table, columns) {
-            Ok(layout) => Ok(layout),
+        let records = match Layout::of_columns(alloc, schema, table, columns) {
+            Ok(layout) => Ok(Records {
+                layout,
+                rows: Vec::new(alloc),
+            }),
             Err(why) => Err(Refused { line: number, why }),
         };
-        self.load = Some(Load {
-            layout,
-            before: self.gathered.len(),
-        });
+        self.load = Some(Load { records });
     }
 
     /// Takes a line of a load. Its answer comes with its `end`.
@@ -414,13 +462,15 @@ impl Session {
         line: Line<'_>,
         answers: &mut Answers,
     ) -> Result<(), Refused>
-        ensures exact { self.old.load ≡ None → AddsAt
-            (λ answer. IsLoadLine (load_of load) (text_of line.entry) (state_of self.old) answer (state_of self.new))
+        requires { self.old.load ≡ None }
+        ensures exact { AddsAt
+            (λ answer. IsLoadLine (load_of (count_of self.old) load) (text_of line.entry)
+            (state_in load self.old) answer (state_of self.new))
             answers.old answers.new result }
         ensures grows { Begins answers.old answers.new }
     {
         match line {
-            Line::Text("end") => self.end_load(load, number, answers),
+            Line::Text("end") => self.end_load(alloc, load, number, answers),
             Line::Text(text) => {
                 self.load_record(alloc, load, number, text);
                 Ok(())
@@ -432,88 +482,91 @@ impl Session {
         }
     }
 
-    /// Gathers the insert of a record of a load that is not refused yet.
+    /// Reads a record of a load that is not refused yet.
     fn load_record(&mut self, alloc: Global, load: Load, number: u64, text: &str)
-        ensures { LoadsRecord (load_of load) text.now (state_of self.old) (state_of self.new) }
+        ensures { LoadsRecord (load_of (count_of self.old) load) text.now (state_in load self.old) (state_of self.new) }
     {
-        let Load { layout, before } = load;
-        match layout {
-            Ok(layout) => match self.gather(alloc, &layout, MutationKind::Insert, text) {
-                Ok(()) => {
-                    self.load = Some(Load {
-                        layout: Ok(layout),
-                        before,
-                    });
-                }
-                Err(why) => self.refuse_load(before, Refused { line: number, why }),
+        let Load { records } = load;
+        let records = match records {
+            Ok(records) => match records.with_record(alloc, text, &mut self.fields) {
+                Ok(records) => Ok(records),
+                Err(why) => Err(Refused { line: number, why }),
             },
-            Err(refused) => {
-                self.load = Some(Load {
-                    layout: Err(refused),
-                    before,
-                });
-            }
-        }
+            Err(refused) => Err(refused),
+        };
+        self.load = Some(Load { records });
     }
 
-    /// Refuses a load for an unreadable line, which goes before other causes. The first one counts.
+    /// Refuses a load for an unreadable line, which goes before other causes. The first one counts. What the load has
+    /// read is let go.
     fn load_unreadable(&mut self, load: Load, number: u64)
-        ensures { state_of self.new ≡ refused_load (load_of load) Refusal.BadCommand (state_of self.old) }
+        ensures { state_of self.new
+            ≡ refused_load (load_of (count_of self.old) load) Refusal.BadCommand (state_in load self.old) }
     {
         let why = Refusal::BadCommand;
-        match load.layout {
-            Err(refused) if refused.why == why => self.refuse_load(load.before, refused),
-            _ => self.refuse_load(load.before, Refused { line: number, why }),
-        }
-    }
-
-    /// Lets go what a load has gathered. The load will be refused.
-    fn refuse_load(&mut self, before: usize, refused: Refused)
-        ensures { state_of self.new ≡ record (state_of self.old) {
-          gathered = take before (state_of self.old).gathered;
-          load = Some (record { layout = Err refused.why; before = before });
-        } }
-    {
-        self.gathered.truncate(before);
+        let refused = match load.records {
+            Err(refused) if refused.why == why => refused,
+            _ => Refused { line: number, why },
+        };
         self.load = Some(Load {
-            layout: Err(refused),
-            before,
+            records: Err(refused),
         });
     }
 
-    /// Answers a load at its `end`, the line of this number. Where memory runs out for the answer the load has gathered
-    /// nothing.
+    /// Answers a load at its `end`, the line of this number. Where memory runs out the load has gathered nothing.
     #[tactic(auto, using(crate::proofs::Begun::begins_itself, crate::proofs::Begun::begins_on))]
-    fn end_load(&mut self, load: Load, number: u64, answers: &mut Answers) -> Result<(), Refused>
-        ensures exact { self.old.load ≡ None → AddsAt
-            (λ answer. EndsLoad (load_of load) (state_of self.old) answer (state_of self.new))
+    fn end_load(
+        &mut self,
+        alloc: Global,
+        load: Load,
+        number: u64,
+        answers: &mut Answers,
+    ) -> Result<(), Refused>
+        requires { self.old.load ≡ None }
+        ensures exact { AddsAt
+            (λ answer. EndsLoad (load_of (count_of self.old) load) (state_in load self.old) answer (state_of self.new))
             answers.old answers.new result }
         ensures grows { Begins answers.old answers.new }
     {
-        match load.layout {
-            Ok(_) => {
-                let loaded = self.gathered.len().saturating_sub(load.before);
-                match answers.number_line("loaded", loaded as u64) {
-                    Ok(()) => Ok(()),
-                    Err(why) => {
-                        self.gathered.truncate(load.before);
-                        Err(Refused { line: number, why })
-                    }
-                }
-            }
+        match load.records {
+            Ok(records) => match self.gather_load(alloc, records, answers) {
+                Ok(()) => Ok(()),
+                Err(why) => Err(Refused { line: number, why }),
+            },
             Err(refused) => Err(refused),
         }
+    }
+
+    /// Gathers what a load has read, and answers how much that is. The answer goes first: nothing has changed then
+    /// where memory runs out for it. `OutOfMemory` is the only refusal.
+    #[tactic(auto, using(crate::proofs::Begun::begins_itself, crate::proofs::Begun::begins_on))]
+    fn gather_load(
+        &mut self,
+        alloc: Global,
+        records: Records,
+        answers: &mut Answers,
+    ) -> Result<(), Refusal>
+        requires { self.old.load ≡ None }
+        ensures added { OnOk result (answers.new ≡ answers.old ++ number_line (codes "loaded") (vec_len records.rows)) }
+        ensures gathered { Gathered
+            (row_mutations (heading_of records.layout MutationKind.Insert) records.rows.items) self.old self.new result }
+        ensures grows { Begins answers.old answers.new }
+    {
+        let Records { layout, rows } = records;
+        answers.number_line("loaded", rows.len() as u64)?;
+        self.gather(alloc, layout, MutationKind::Insert, rows)
     }
 
     /// Begins a transaction of what was gathered, which is gathered no more whatever the reply is.
     #[tactic(auto, using(crate::proofs::Doing::begun, crate::proofs::Doing::begun_refused))]
     fn begin(&mut self, alloc: Global, core: &mut Core) -> Reply
+        requires { self.old.load ≡ None }
         ensures begun { IsBegun core.old.schema core.old.machine (state_of self.old).gathered result core.new.machine }
         ensures emptied { state_of self.new ≡ record (state_of self.old) { gathered = [] } }
         ensures schema { core.new.schema ≡ core.old.schema }
     {
         let gathered = mem::replace(&mut self.gathered, Vec::new(alloc));
-        match Transaction::new(alloc, core.schema(), gathered) {
+        match Transaction::from_batches(alloc, core.schema(), gathered) {
             Ok(transaction) => take_step(
                 alloc,
                 core,
@@ -605,6 +658,15 @@ impl Session {
             reply => reply,
         }
     }
+}
+
+/// A row alone.
+fn one_row(alloc: Global, row: BatchRow) -> Result<Vec<BatchRow>, Refusal>
+    ensures { MatchResult result (λ rows. rows.items ≡ row ∷ []) (λ why. why ≡ Refusal.OutOfMemory) }
+{
+    let mut rows = Vec::with_capacity(alloc, 1)?;
+    rows.push_reserved(row);
+    Ok(rows)
 }
 
 /// Scans the leaves of an open query in every slot, and finishes it.

@@ -12,7 +12,7 @@ returns c =
     let is = c.in_ok-layout.ensures.read in
     changes_by (Gathers layout mutation.Delete a.text.now (state_of a.self.now)) (Deletes a.schema.now a.table.now a.text.now (state_of a.self.now))
     (RefusesRecord layout mutation.Delete a.text.now) (RefusesDelete a.schema.now a.table.now a.text.now)
-    a.self.now c.gather.new.self c.gather.result
+    a.self.now c.gather_record.new.self c.gather_record.result
     (λ next gathers. (layout, is, gathers))
     (λ why refuses. inr (layout, is, refuses))
-    c.gather.ensures
+    c.gather_record.ensures

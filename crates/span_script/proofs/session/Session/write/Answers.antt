@@ -11,7 +11,7 @@ returns c =
     let is = c.in_ok-layout.ensures.read in
     changes_by (Gathers layout a.kind a.text.now (state_of a.self.now)) (Writes a.schema.now a.kind a.table.now a.columns.now a.text.now (state_of a.self.now))
     (RefusesRecord layout a.kind a.text.now) (RefusesWrite a.schema.now a.kind a.table.now a.columns.now a.text.now)
-    a.self.now c.gather.new.self c.gather.result
+    a.self.now c.gather_record.new.self c.gather_record.result
     (λ next gathers. (layout, is, gathers))
     (λ why refuses. inr (layout, is, refuses))
-    c.gather.ensures
+    c.gather_record.ensures
