@@ -13,7 +13,7 @@ use Rattle.span_arena.specs.declared.record.ChainRecord.TheVariants as chain
 use Rattle.span_arena.specs.declared.record.VersionLinks.{VersionLinks}
 use Rattle.span_arena.specs.declared.record.Place.TheVariants.{Free, Reserved, Linked}
 use Rattle.span_arena.specs.Content.{Content, Prepared, versions, versions_in, IsInOrder, is_unused, live, linked, linked_as, given_back, IsSomePrepared, IsReserved, with_at, one_for, prepared_for}
-use Rattle.span_arena.specs.Runs.{walk, IsFreeList, IsSound, node_at, blank, chain_of, record_at, links_at, links_of, prepared_of, content}
+use Rattle.span_arena.specs.Runs.{walk, IsFreeList, IsSound, node_at, blank, chain_of, record_at, links_at, links_of, prepared_of, content, version_of}
 use Rattle.span_arena.proofs.Frames.{changed-set, changed-push, reserved_apart, free_apart}
 use Rattle.span_arena.proofs.Counts.{length-walk, versions_counted, one_for-at, one_for-same}
 use Rattle.span_arena.proofs.Chains.{with_prepared, versions_are, chain_at, used_prepared, read_used, links_were, chains_step}
@@ -32,7 +32,7 @@ pub record IsHeld (nodes : List NodeRecord) (rs : List ChainRecord) (j : ℕ) (c
   pub in_range : j < length nodes
   pub at : node_at nodes j ≡ cell
   pub was : (node_at nodes j).place ≡ Reserved c
-  pub prepared : get_or (map prepared_of nodes) j None ≡ Some (record { chain = c; image = cell.version.image })
+  pub prepared : get_or (map prepared_of nodes) j None ≡ Some (record { chain = c; image = (version_of cell).image })
   pub links : VersionLinks
   pub used : record_at rs c ≡ chain.Used links
   pub some : 0 < links.prepared
@@ -62,15 +62,15 @@ module _ (nodes : List NodeRecord) (rs : List ChainRecord) (free count most : �
       omega (arith, sound.prepared c)
 
   pub held : (j : ℕ) (cell : NodeRecord) (P : Prepared → Type 0) (c : ℕ) → cell.place ≡ Reserved c → cell ≡ get_or nodes j cell → IsSomePrepared (get_or (map prepared_of nodes) j None) P
-      → IsHeld nodes rs j cell c × P (record { chain = c; image = cell.version.image })
+      → IsHeld nodes rs j cell c × P (record { chain = c; image = (version_of cell).image })
   held j cell P c place read h =
       let lt : j < length nodes = in_range-prepared nodes j P h in
       let at : node_at nodes j ≡ cell = get_or_default nodes j blank cell lt ∙ sym read in
-      let e : get_or (map prepared_of nodes) j None ≡ Some (record { chain = c; image = cell.version.image }) = get_or-map prepared_of nodes j blank None lt ∙ ap prepared_of at ∙ is_for cell c place in
-      let h3 : P (record { chain = c; image = cell.version.image }) = rw e at h in
-      let found = used_prepared rs c (some_prepared c j cell.version.image e) in
+      let e : get_or (map prepared_of nodes) j None ≡ Some (record { chain = c; image = (version_of cell).image }) = get_or-map prepared_of nodes j blank None lt ∙ ap prepared_of at ∙ is_for cell c place in
+      let h3 : P (record { chain = c; image = (version_of cell).image }) = rw e at h in
+      let found = used_prepared rs c (some_prepared c j (version_of cell).image e) in
       let n : (links_at rs c).prepared ≡ found.0.prepared = ap (λ (r : ChainRecord). (links_of r).prepared) found.1 in
-      (record { in_range = lt; at = at; was = ap (λ (n : NodeRecord). n.place) at ∙ place; prepared = e; links = found.0; used = found.1; some = (let s : 0 < (links_at rs c).prepared = some_prepared c j cell.version.image e in omega arith) }, h3)
+      (record { in_range = lt; at = at; was = ap (λ (n : NodeRecord). n.place) at ∙ place; prepared = e; links = found.0; used = found.1; some = (let s : 0 < (links_at rs c).prepared = some_prepared c j (version_of cell).image e in omega arith) }, h3)
 
   -- ---- how many
 
@@ -108,12 +108,12 @@ module _ (nodes : List NodeRecord) (rs : List ChainRecord) (free count most : �
         (chains_step rs c l (with_prepared l (l.prepared - 1)) used g refl refl ∙ maps_stay nodes rs free count most sound g j (changed-set nodes j x) apart)
         (map-set prepared_of nodes j x ∙ ap (set (map prepared_of nodes) j) (is_none-free x (count + 1) is_free))
 
-    pub content-link : (x : NodeRecord) (s : ℕ) → x.place ≡ Linked c → x.version ≡ record { timestamp = s; image = cell.version.image } → x.next ≡ l.newest
+    pub content-link : (x : NodeRecord) (s : ℕ) → x.place ≡ Linked c → (version_of x) ≡ record { timestamp = s; image = (version_of cell).image } → x.next ≡ l.newest
         → content (set nodes j x) (set rs c (chain.Used (record { newest = j; count = l.count + 1; prepared = l.prepared - 1 }))) count most cells ≡ linked (content nodes rs count most cells) j s
     content-link x s is_linked version next =
         let f = node_at nodes in
         let g = node_at (set nodes j x) in
-        let v : Version = record { timestamp = s; image = cell.version.image } in
+        let v : Version = record { timestamp = s; image = (version_of cell).image } in
         let m : VersionLinks = record { newest = j; count = l.count + 1; prepared = l.prepared - 1 } in
         let stay : map (chain_of g) rs ≡ map (chain_of f) rs = maps_stay nodes rs free count most sound g j (changed-set nodes j x) apart in
         let walk_same : walk g l.count l.newest ≡ walk f l.count l.newest =

@@ -1,6 +1,6 @@
 -- A chain that is cut in two.
 use Rattle.std.proofs.Common.{◌≡◌, ℕ, zero, suc, ◌+◌, ◌-◌, ◌<◌, ◌≤◌, List, [], ◌∷◌, ◌++◌, refl, sym, ◌∙◌, ap, arith, length, map, Option, Some, None, set, add-one, sub-one, subst, inl, inr, append_assoc}
-use Rattle.std.specs.Prelude.{nat_le, true, false, is_some}
+use Rattle.std.specs.Prelude.{Bool, nat_le, true, false}
 use Rattle.std.proofs.lemmas.List.{get_or-set_same, length-set, map-set, append-nil}
 use Rattle.std.proofs.lemmas.Bool.{cases_eq}
 use Rattle.std.proofs.lemmas.Bool.Decides.{nat_tests}
@@ -13,7 +13,8 @@ use Rattle.span_arena.specs.declared.cell.Cell.{Cell}
 use Rattle.span_arena.specs.declared.record.VersionLinks.{VersionLinks}
 use Rattle.span_arena.specs.declared.record.Place.TheVariants.{Free, Linked}
 use Rattle.span_arena.specs.Content.{versions, versions_in, kept_upto, kept_by, kept_at, with_kept, sum_for, one_if, one_for, prepared_for}
-use Rattle.span_arena.specs.Runs.{walk, follow, IsRun, IsSomeRun, IsAbove, IsSound, IsCut, IsTrimming, node_at, blank, chain_of, record_at, links_at, links_of, prepared_of, content, total}
+use Rattle.span_arena.specs.Images.{image_of}
+use Rattle.span_arena.specs.Runs.{walk, follow, IsRun, IsSomeRun, IsAbove, IsSound, IsCut, IsTrimming, node_at, blank, chain_of, record_at, links_at, links_of, prepared_of, content, total, version_of}
 use Rattle.span_arena.proofs.Frames.{IsChanged, run_stays, walk_stays, free_stays, changed-set, linked_apart}
 use Rattle.span_arena.proofs.Counts.{length-walk, total-set}
 use Rattle.span_arena.proofs.Chains.{used_in_range, links_were, links_here, links_elsewhere, chain_at, chains_stay}
@@ -36,22 +37,20 @@ split f rank c bound (suc k) r h run =
     let again : IsSplit f rank c (rank h) k r (f h).next = split f rank c (rank h) k r (f h).next run2.2 in
     record { front = (run2.0, run2.1, again.front); low = again.low; lower = omega (arith, again.lower, run2.1); above = (again.lower, again.above); rest = again.rest }
 
-pub walk-snoc : (f : ℕ → NodeRecord) (k h : ℕ) → walk f (suc k) h ≡ walk f k h ++ (f (follow f k h)).version ∷ []
+pub walk-snoc : (f : ℕ → NodeRecord) (k h : ℕ) → walk f (suc k) h ≡ walk f k h ++ (version_of (f (follow f k h))) ∷ []
 walk-snoc f zero h = refl
-walk-snoc f (suc k) h = ap (λ vs. (f h).version ∷ vs) (walk-snoc f k (f h).next)
+walk-snoc f (suc k) h = ap (λ vs. (version_of (f h)) ∷ vs) (walk-snoc f k (f h).next)
 
 pub follow-snoc : (f : ℕ → NodeRecord) (k h : ℕ) → follow f (suc k) h ≡ (f (follow f k h)).next
 follow-snoc f zero h = refl
 follow-snoc f (suc k) h = follow-snoc f k (f h).next
 
 -- a version with an image is kept at the horizon, and a deletion is not
-kept_some : (v : Version) (image : Option (List ℕ)) → is_some image ≡ true → kept_at v image ≡ v ∷ []
-kept_some v None h = absurd (let q : false ≡ true = h in cc)
-kept_some v (Some image) h = refl
+kept_some : (v : Version) (has : Bool) (bytes : List ℕ) → has ≡ true → kept_at v (image_of has bytes) ≡ v ∷ []
+kept_some v has bytes h = rw h refl
 
-kept_none : (v : Version) (image : Option (List ℕ)) → is_some image ≡ false → kept_at v image ≡ []
-kept_none v None h = refl
-kept_none v (Some image) h = absurd (let q : true ≡ false = h in cc)
+kept_none : (v : Version) (has : Bool) (bytes : List ℕ) → has ≡ false → kept_at v (image_of has bytes) ≡ []
+kept_none v has bytes h = rw h refl
 
 module _ (nodes : List NodeRecord) (h count s : ℕ) (on : IsSomeRun (node_at nodes) count h) (kept at : ℕ) (lt : kept < count) (here : at ≡ follow (node_at nodes) kept h) where
   parts : IsSplit (node_at nodes) on.rank on.chain on.bound kept (suc (count - (kept + 1))) h
@@ -66,31 +65,31 @@ module _ (nodes : List NodeRecord) (h count s : ℕ) (on : IsSomeRun (node_at no
   pub cut_here : follow (node_at nodes) (kept + 1) h ≡ (node_at nodes at).next
   cut_here = rw (add-one, follow-snoc (node_at nodes) kept h, ← here) refl
 
-  front_more : walk (node_at nodes) (kept + 1) h ≡ walk (node_at nodes) kept h ++ (node_at nodes at).version ∷ []
+  front_more : walk (node_at nodes) (kept + 1) h ≡ walk (node_at nodes) kept h ++ (version_of (node_at nodes at)) ∷ []
   front_more = rw (add-one, walk-snoc (node_at nodes) kept h, ← here) refl
 
   module _ (same : kept_upto s (walk (node_at nodes) count h) ≡ walk (node_at nodes) kept h ++ kept_upto s (walk (node_at nodes) (count - kept) at)) where
     same_next : kept_upto s (walk (node_at nodes) count h) ≡ walk (node_at nodes) kept h ++ kept_upto s (walk (node_at nodes) (suc (count - (kept + 1))) at)
     same_next = rw left_is at same
 
-    pub cut_more : s < (node_at nodes at).version.timestamp → kept_upto s (walk (node_at nodes) count h) ≡ walk (node_at nodes) (kept + 1) h ++ kept_upto s (walk (node_at nodes) (count - (kept + 1)) (node_at nodes at).next)
+    pub cut_more : s < (version_of (node_at nodes at)).timestamp → kept_upto s (walk (node_at nodes) count h) ≡ walk (node_at nodes) (kept + 1) h ++ kept_upto s (walk (node_at nodes) (count - (kept + 1)) (node_at nodes at).next)
     cut_more above =
-        let t : nat_le (node_at nodes at).version.timestamp s ≡ false = grind (arith, nat_tests) in
-        let e : kept_upto s (walk (node_at nodes) (suc (count - (kept + 1))) at) ≡ (node_at nodes at).version ∷ kept_upto s (walk (node_at nodes) (count - (kept + 1)) (node_at nodes at).next) = rw t refl in
+        let t : nat_le (version_of (node_at nodes at)).timestamp s ≡ false = grind (arith, nat_tests) in
+        let e : kept_upto s (walk (node_at nodes) (suc (count - (kept + 1))) at) ≡ (version_of (node_at nodes at)) ∷ kept_upto s (walk (node_at nodes) (count - (kept + 1)) (node_at nodes at).next) = rw t refl in
         same_next ∙ ap (λ (vs : List Version). walk (node_at nodes) kept h ++ vs) e ∙ rw (front_more, append_assoc) refl
 
     -- an image is kept
-    pub cut_after : (node_at nodes at).version.timestamp ≤ s → is_some (node_at nodes at).version.image ≡ true → walk (node_at nodes) (kept + 1) h ≡ kept_upto s (walk (node_at nodes) count h)
+    pub cut_after : (version_of (node_at nodes at)).timestamp ≤ s → (node_at nodes at).has_image ≡ true → walk (node_at nodes) (kept + 1) h ≡ kept_upto s (walk (node_at nodes) count h)
     cut_after le some =
-        let t : nat_le (node_at nodes at).version.timestamp s ≡ true = grind (arith, nat_tests) in
-        let e : kept_upto s (walk (node_at nodes) (suc (count - (kept + 1))) at) ≡ (node_at nodes at).version ∷ [] = rw t (kept_some (node_at nodes at).version (node_at nodes at).version.image some) in
+        let t : nat_le (version_of (node_at nodes at)).timestamp s ≡ true = grind (arith, nat_tests) in
+        let e : kept_upto s (walk (node_at nodes) (suc (count - (kept + 1))) at) ≡ (version_of (node_at nodes at)) ∷ [] = rw t (kept_some (version_of (node_at nodes at)) (node_at nodes at).has_image (node_at nodes at).image some) in
         front_more ∙ sym (same_next ∙ ap (λ (vs : List Version). walk (node_at nodes) kept h ++ vs) e)
 
     -- a deletion is not
-    pub cut_before : (node_at nodes at).version.timestamp ≤ s → is_some (node_at nodes at).version.image ≡ false → walk (node_at nodes) kept h ≡ kept_upto s (walk (node_at nodes) count h)
+    pub cut_before : (version_of (node_at nodes at)).timestamp ≤ s → (node_at nodes at).has_image ≡ false → walk (node_at nodes) kept h ≡ kept_upto s (walk (node_at nodes) count h)
     cut_before le none =
-        let t : nat_le (node_at nodes at).version.timestamp s ≡ true = grind (arith, nat_tests) in
-        let e : kept_upto s (walk (node_at nodes) (suc (count - (kept + 1))) at) ≡ [] = rw t (kept_none (node_at nodes at).version (node_at nodes at).version.image none) in
+        let t : nat_le (version_of (node_at nodes at)).timestamp s ≡ true = grind (arith, nat_tests) in
+        let e : kept_upto s (walk (node_at nodes) (suc (count - (kept + 1))) at) ≡ [] = rw t (kept_none (version_of (node_at nodes at)) (node_at nodes at).has_image (node_at nodes at).image none) in
         sym (same_next ∙ ap (λ (vs : List Version). walk (node_at nodes) kept h ++ vs) e ∙ append-nil (walk (node_at nodes) kept h))
 
 -- a run whose ranks are below that of j stays
@@ -107,7 +106,7 @@ module _ (f g : ℕ → NodeRecord) (rank : ℕ → ℕ) (j : ℕ) (changed : Is
   above_stays c bound low (suc k) h lt above run =
       let e : g h ≡ f h = changed.others h (λ same. let s : rank h ≡ rank j = ap rank same in let le : low ≤ rank h = above.0 in omega arith) in
       let again = above_stays c (rank h) low k (f h).next lt above.1 run.2 in
-      (rw e (run.0, run.1, again.0), rw e (above.0, again.1), rw e (ap (λ vs. (f h).version ∷ vs) again.2))
+      (rw e (run.0, run.1, again.0), rw e (above.0, again.1), rw e (ap (λ vs. (version_of (f h)) ∷ vs) again.2))
 
 above_kept : (f g : ℕ → NodeRecord) (rank : ℕ → ℕ) (j : ℕ) → IsChanged f g j → (low lower k h : ℕ) → rank j < low → lower ≤ low → IsAbove f rank low k h → IsAbove g rank lower k h
 above_kept f g rank j changed low lower zero h lt le above = tt

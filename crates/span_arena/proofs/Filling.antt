@@ -13,7 +13,7 @@ use Rattle.span_arena.specs.declared.cell.Cell.{Cell}
 use Rattle.span_arena.specs.declared.record.VersionLinks.{VersionLinks}
 use Rattle.span_arena.specs.declared.record.Place.TheVariants.{Free, Linked}
 use Rattle.span_arena.specs.Content.{Content, Prepared, with_versions, with_free_node, sum_for, one_if, one_for, prepared_for}
-use Rattle.span_arena.specs.Runs.{walk, follow, IsRun, IsFreeList, IsSound, IsTrimming, node_at, blank, chain_of, record_at, links_at, links_of, prepared_of, content}
+use Rattle.span_arena.specs.Runs.{walk, follow, IsRun, IsFreeList, IsSound, IsTrimming, node_at, blank, chain_of, record_at, links_at, links_of, prepared_of, content, version_of}
 use Rattle.span_arena.proofs.Frames.{IsChanged, run_stays, walk_stays, free_stays, changed-set, changed-push, free_apart}
 use Rattle.span_arena.proofs.Counts.{length-walk, sum-one_more}
 use Rattle.span_arena.proofs.Chains.{chains_stay}
@@ -116,11 +116,11 @@ module _ (nodes : List NodeRecord) (rs : List ChainRecord) (free count most c n 
       stays : follow (node_at (set nodes free x)) n newest ≡ free
       stays = follow_stays (node_at nodes) (node_at (set nodes free x)) free changed filling.rank c filling.low n newest (apart c) filling.loose ∙ end
 
-      pub fill_walk : walk (node_at (set nodes free x)) (n + 1) newest ≡ walk (node_at nodes) n newest ++ x.version ∷ []
+      pub fill_walk : walk (node_at (set nodes free x)) (n + 1) newest ≡ walk (node_at nodes) n newest ++ (version_of x) ∷ []
       fill_walk =
           let g = node_at (set nodes free x) in
           let w : walk g n newest ≡ walk (node_at nodes) n newest = walk_stays (node_at nodes) g free changed filling.rank c filling.low n newest (apart c) filling.loose in
-          let v : (g (follow g n newest)).version ≡ x.version = ap (λ (i : ℕ). (g i).version) stays ∙ ap (λ (y : NodeRecord). y.version) at_is in
+          let v : (version_of (g (follow g n newest))) ≡ (version_of x) = ap (λ (i : ℕ). (version_of (g i))) stays ∙ ap (λ (y : NodeRecord). (version_of y)) at_is in
           rw (add-one, walk-snoc g n newest, w, v) refl
 
       pub fill_end : x.next ≡ (node_at nodes free).next → follow (node_at (set nodes free x)) (n + 1) newest ≡ (node_at nodes free).next

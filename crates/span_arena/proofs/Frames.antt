@@ -6,7 +6,7 @@ use Rattle.std.proofs.lemmas.Bool.{cases_lt}
 use Rattle.span_arena.specs.declared.record.NodeRecord.{NodeRecord}
 use Rattle.span_arena.specs.declared.record.Place.{Place}
 use Rattle.span_arena.specs.declared.record.Place.TheVariants.{Free, Reserved, Linked}
-use Rattle.span_arena.specs.Runs.{walk, IsRun, IsFreeList, node_at, blank}
+use Rattle.span_arena.specs.Runs.{walk, IsRun, IsFreeList, node_at, blank, version_of}
 
 -- g is f but for node j
 pub record IsChanged (f g : ℕ → NodeRecord) (j : ℕ) : Type 0 where
@@ -24,7 +24,7 @@ module _ (f g : ℕ → NodeRecord) (j : ℕ) (changed : IsChanged f g j) where
   walk_stays rank c bound zero h apart run = refl
   walk_stays rank c bound (suc k) h apart run =
       let e : g h ≡ f h = changed.others h (λ same. apart (rw same at run.0)) in
-      rw e (ap (λ vs. (f h).version ∷ vs) (walk_stays rank c (rank h) k (f h).next apart run.2))
+      rw e (ap (λ vs. (version_of (f h)) ∷ vs) (walk_stays rank c (rank h) k (f h).next apart run.2))
 
   -- a free list in which j does not lie stays
   pub free_stays : (k h : ℕ) → ((m : ℕ) → (f j).place ≡ Free m → k < m) → IsFreeList f k h → IsFreeList g k h

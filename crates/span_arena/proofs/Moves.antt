@@ -11,20 +11,20 @@ use Rattle.span_arena.specs.declared.record.VersionLinks.{VersionLinks}
 use Rattle.span_arena.specs.declared.record.Place.{Place}
 use Rattle.span_arena.specs.declared.record.Place.TheVariants.{Free, Reserved, Linked}
 use Rattle.span_arena.specs.Content.{Prepared, sum_for, one_if, one_for, prepared_for}
-use Rattle.span_arena.specs.Runs.{IsRun, IsFreeList, IsSound, node_at, blank, total, chain_of, record_at, links_at, links_of, prepared_of, prepared_of_place}
+use Rattle.span_arena.specs.Runs.{IsRun, IsFreeList, IsSound, node_at, blank, total, chain_of, record_at, links_at, links_of, prepared_of, prepared_of_place, version_of}
 use Rattle.span_arena.proofs.Frames.{IsChanged, run_stays, walk_stays, ranks_stay, run_wider, free_stays, changed-set, changed-push, reserved_apart, free_apart}
 use Rattle.span_arena.proofs.Counts.{total-set, sum-node, sum-one_more, one_for-same, one_for-other}
 use Rattle.span_arena.proofs.Chains.{with_prepared, used_in_range, links_were, links_here, links_elsewhere, prepared_step, runs_step, chains_stay}
 
 -- what is prepared in a node, by its place
-pub is_for : (n : NodeRecord) (c : ℕ) → n.place ≡ Reserved c → prepared_of n ≡ Some (record { chain = c; image = n.version.image })
-is_for n c place = ap (λ (p : Place). prepared_of_place p n.version.image) place
+pub is_for : (n : NodeRecord) (c : ℕ) → n.place ≡ Reserved c → prepared_of n ≡ Some (record { chain = c; image = (version_of n).image })
+is_for n c place = ap (λ (p : Place). prepared_of_place p (version_of n).image) place
 
 pub is_none-free : (n : NodeRecord) (k : ℕ) → n.place ≡ Free k → prepared_of n ≡ None
-is_none-free n k place = ap (λ (p : Place). prepared_of_place p n.version.image) place
+is_none-free n k place = ap (λ (p : Place). prepared_of_place p (version_of n).image) place
 
 pub is_none-linked : (n : NodeRecord) (c : ℕ) → n.place ≡ Linked c → prepared_of n ≡ None
-is_none-linked n c place = ap (λ (p : Place). prepared_of_place p n.version.image) place
+is_none-linked n c place = ap (λ (p : Place). prepared_of_place p (version_of n).image) place
 
 -- nothing is prepared for another chain
 pub for_others : (p : Option Prepared) (c : ℕ) (image : Option (List ℕ)) → p ≡ Some (record { chain = c; image = image }) → (d : ℕ) → d ≢ c → one_for d p ≡ 0
@@ -52,7 +52,7 @@ module _ (nodes : List NodeRecord) (rs : List ChainRecord) (free count most : �
       apart : (d : ℕ) → (node_at nodes j).place ≢ Linked d
       apart d = reserved_apart (node_at nodes j).place c d was
 
-      was_for : prepared_of (node_at nodes j) ≡ Some (record { chain = c; image = (node_at nodes j).version.image })
+      was_for : prepared_of (node_at nodes j) ≡ Some (record { chain = c; image = (version_of (node_at nodes j)).image })
       was_for = is_for (node_at nodes j) c was
 
       changed : IsChanged (node_at nodes) (node_at (set nodes j x)) j
@@ -64,9 +64,9 @@ module _ (nodes : List NodeRecord) (rs : List ChainRecord) (free count most : �
       prepared_less : (m : VersionLinks) → m.prepared ≡ l.prepared - 1 → prepared_of x ≡ None → (d : ℕ) → prepared_for d (map prepared_of (set nodes j x)) ≡ (links_at (set rs c (chain.Used m)) d).prepared
       prepared_less m is none = prepared_step rs c l m used (map prepared_of nodes) (map prepared_of (set nodes j x)) (prepared_of (node_at nodes j)) (prepared_of x)
           (λ d. sum-node (one_for d) nodes j x in_range) sound.prepared
-          (let a : one_for c (prepared_of (node_at nodes j)) ≡ 1 = for_this (prepared_of (node_at nodes j)) c (node_at nodes j).version.image was_for in
+          (let a : one_for c (prepared_of (node_at nodes j)) ≡ 1 = for_this (prepared_of (node_at nodes j)) c (version_of (node_at nodes j)).image was_for in
           let b : one_for c (prepared_of x) ≡ 0 = rw none refl in omega arith)
-          (λ d differs. for_others (prepared_of (node_at nodes j)) c (node_at nodes j).version.image was_for d differs ∙ (rw none refl))
+          (λ d differs. for_others (prepared_of (node_at nodes j)) c (version_of (node_at nodes j)).image was_for d differs ∙ (rw none refl))
 
       counted_less : prepared_of x ≡ None → sum_for one_if (map prepared_of (set nodes j x)) + 1 ≡ sum_for one_if (map prepared_of nodes)
       counted_less none =
@@ -137,9 +137,9 @@ module _ (nodes : List NodeRecord) (rs : List ChainRecord) (free count most : �
         → ((d : ℕ) → prepared_for d qs + one_for d old ≡ prepared_for d (map prepared_of nodes) + one_for d (prepared_of x))
         → (d : ℕ) → prepared_for d qs ≡ (links_at (set rs c (chain.Used (with_prepared l (l.prepared + 1)))) d).prepared
     prepared_more x old qs none is_reserved sums = prepared_step rs c l (with_prepared l (l.prepared + 1)) used (map prepared_of nodes) qs old (prepared_of x) sums sound.prepared
-        (let a : one_for c (prepared_of x) ≡ 1 = for_this (prepared_of x) c x.version.image (is_for x c is_reserved) in
+        (let a : one_for c (prepared_of x) ≡ 1 = for_this (prepared_of x) c (version_of x).image (is_for x c is_reserved) in
         let b : one_for c old ≡ 0 = rw none refl in omega arith)
-        (λ d differs. (let a : one_for d (prepared_of x) ≡ 0 = for_others (prepared_of x) c x.version.image (is_for x c is_reserved) d differs in
+        (λ d differs. (let a : one_for d (prepared_of x) ≡ 0 = for_others (prepared_of x) c (version_of x).image (is_for x c is_reserved) d differs in
         let b : one_for d old ≡ 0 = rw none refl in omega arith))
 
     -- the first of the free nodes

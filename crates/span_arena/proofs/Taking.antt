@@ -10,7 +10,7 @@ use Rattle.span_arena.specs.declared.cell.Cell.{Cell}
 use Rattle.span_arena.specs.declared.record.VersionLinks.{VersionLinks}
 use Rattle.span_arena.specs.declared.record.Place.TheVariants.{Free}
 use Rattle.span_arena.specs.Content.{Content, versions, versions_in, with_kept, prepared_for}
-use Rattle.span_arena.specs.Runs.{walk, IsRun, IsSound, IsTrimming, node_at, no_record, chain_of, record_at, links_at, links_of, prepared_of, content, total}
+use Rattle.span_arena.specs.Runs.{walk, IsRun, IsSound, IsTrimming, node_at, no_record, chain_of, record_at, links_at, links_of, prepared_of, content, total, version_of}
 use Rattle.span_arena.proofs.Frames.{IsChanged, run_wider, changed-set}
 use Rattle.span_arena.proofs.Counts.{length-walk, total-set}
 use Rattle.span_arena.proofs.Chains.{used_in_range, links_here, links_elsewhere, chain_at}
@@ -47,13 +47,13 @@ below_walks : (f g : ℕ → NodeRecord) (rank : ℕ → ℕ) (j : ℕ) → IsCh
 below_walks f g rank j changed c bound zero h le run = refl
 below_walks f g rank j changed c bound (suc k) h le run =
     let e : g h ≡ f h = changed.others h (λ same. let s : rank h ≡ rank j = ap rank same in let lt : rank h < bound = run.1 in omega arith) in
-    rw e (ap (λ vs. (f h).version ∷ vs) (below_walks f g rank j changed c (rank h) k (f h).next (let lt : rank h < bound = run.1 in omega arith) run.2))
+    rw e (ap (λ vs. (version_of (f h)) ∷ vs) (below_walks f g rank j changed c (rank h) k (f h).next (let lt : rank h < bound = run.1 in omega arith) run.2))
 
 run_rest : (f : ℕ → NodeRecord) (rank : ℕ → ℕ) (c bound k h : ℕ) → 0 < k → IsRun f rank c bound k h → IsRun f rank c (rank h) (k - 1) (f h).next
 run_rest f rank c bound zero h some run = absurd (omega arith)
 run_rest f rank c bound (suc k) h some run = rw sub-one run.2
 
-walk_front : (f : ℕ → NodeRecord) (k h : ℕ) → 0 < k → walk f k h ≡ (f h).version ∷ walk f (k - 1) (f h).next
+walk_front : (f : ℕ → NodeRecord) (k h : ℕ) → 0 < k → walk f k h ≡ (version_of (f h)) ∷ walk f (k - 1) (f h).next
 walk_front f zero h some = absurd (omega arith)
 walk_front f (suc k) h some = rw sub-one refl
 
@@ -69,7 +69,7 @@ module _ (nodes : List NodeRecord) (rs : List ChainRecord) (free count most : �
     pub take_in_range : l.newest < length nodes
     take_in_range = trim_in_range nodes (set rs c (chain.Used (record { newest = l.newest; count = 0; prepared = l.prepared }))) free count most c l.count l.newest loose some
 
-    pub front_is : versions (content nodes rs count most cells) c ≡ (node_at nodes l.newest).version ∷ walk (node_at nodes) (l.count - 1) (node_at nodes l.newest).next
+    pub front_is : versions (content nodes rs count most cells) c ≡ (version_of (node_at nodes l.newest)) ∷ walk (node_at nodes) (l.count - 1) (node_at nodes l.newest).next
     front_is = versions_here ∙ walk_front (node_at nodes) l.count l.newest some
 
     module _ (x : NodeRecord) (is_free : x.place ≡ Free (count + 1)) (next : x.next ≡ free) where

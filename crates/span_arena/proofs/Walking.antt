@@ -12,7 +12,7 @@ use Rattle.span_arena.specs.declared.cell.Cell.{Cell}
 use Rattle.span_arena.specs.declared.record.VersionLinks.{VersionLinks}
 use Rattle.span_arena.specs.declared.record.Place.TheVariants.{Linked}
 use Rattle.span_arena.specs.Content.{versions, versions_in, newest_upto}
-use Rattle.span_arena.specs.Runs.{walk, IsRun, IsSomeRun, IsSound, node_at, blank, record_at, content}
+use Rattle.span_arena.specs.Runs.{walk, IsRun, IsSomeRun, IsSound, node_at, blank, record_at, content, version_of}
 use Rattle.span_arena.proofs.Chains.{chain_at, links_were}
 
 pub in_range-linked : (nodes : List NodeRecord) (i c : ℕ) → (node_at nodes i).place ≡ Linked c → i < length nodes
@@ -47,19 +47,19 @@ module _ (nodes : List NodeRecord) (k h : ℕ) (on : IsSomeRun (node_at nodes) k
       go c bound zero h run some = absurd (omega arith)
       go c bound (suc k) h run some = record { rank = on.rank; chain = c; bound = on.rank h; run = rw sub-one run.2 }
 
-  walk_more : walk (node_at nodes) k h ≡ (node_at nodes h).version ∷ walk (node_at nodes) (k - 1) (node_at nodes h).next
+  walk_more : walk (node_at nodes) k h ≡ (version_of (node_at nodes h)) ∷ walk (node_at nodes) (k - 1) (node_at nodes h).next
   walk_more = go k h some
     where
-      go : (k h : ℕ) → 0 < k → walk (node_at nodes) k h ≡ (node_at nodes h).version ∷ walk (node_at nodes) (k - 1) (node_at nodes h).next
+      go : (k h : ℕ) → 0 < k → walk (node_at nodes) k h ≡ (version_of (node_at nodes h)) ∷ walk (node_at nodes) (k - 1) (node_at nodes h).next
       go zero h some = absurd (omega arith)
       go (suc k) h some = rw sub-one refl
 
-  pub found_here : (n : NodeRecord) → n ≡ get_or nodes h n → (s : ℕ) → n.version.timestamp ≤ s → newest_upto s (walk (node_at nodes) k h) ≡ Some n.version
+  pub found_here : (n : NodeRecord) → n ≡ get_or nodes h n → (s : ℕ) → (version_of n).timestamp ≤ s → newest_upto s (walk (node_at nodes) k h) ≡ Some (version_of n)
   found_here n read s le =
-      let t : nat_le n.version.timestamp s ≡ true = grind (arith, nat_tests) in
+      let t : nat_le (version_of n).timestamp s ≡ true = grind (arith, nat_tests) in
       rw (walk_more, ← (read_is n read), t) refl
 
-  pub next_same : (n : NodeRecord) → n ≡ get_or nodes h n → (s : ℕ) → s < n.version.timestamp → newest_upto s (walk (node_at nodes) (k - 1) n.next) ≡ newest_upto s (walk (node_at nodes) k h)
+  pub next_same : (n : NodeRecord) → n ≡ get_or nodes h n → (s : ℕ) → s < (version_of n).timestamp → newest_upto s (walk (node_at nodes) (k - 1) n.next) ≡ newest_upto s (walk (node_at nodes) k h)
   next_same n read s lt =
-      let t : nat_le n.version.timestamp s ≡ false = grind (arith, nat_tests) in
+      let t : nat_le (version_of n).timestamp s ≡ false = grind (arith, nat_tests) in
       rw (walk_more, ← (read_is n read), t) refl

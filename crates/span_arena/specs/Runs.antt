@@ -1,5 +1,5 @@
 -- How an arena lays out its nodes and chains. No public clause cites this module.
-use Rattle.std.specs.Prelude.{◌≡◌, ℕ, zero, suc, ◌+◌, ◌<◌, ◌≤◌, List, [], ◌∷◌, length, map, Option, Some, None, slice_index_or}
+use Rattle.std.specs.Prelude.{◌≡◌, ℕ, zero, suc, ◌+◌, ◌<◌, ◌≤◌, List, [], ◌∷◌, length, map, Option, Some, None, false, slice_index_or}
 use Rattle.span_arena.specs.declared.cell.Cell.{Cell}
 use Rattle.span_arena.specs.declared.version.Version.{Version}
 use Rattle.span_arena.specs.declared.record.NodeRecord.{NodeRecord}
@@ -8,11 +8,12 @@ use Rattle.span_arena.specs.declared.record.ChainRecord.TheVariants as chain
 use Rattle.span_arena.specs.declared.record.VersionLinks.{VersionLinks}
 use Rattle.span_arena.specs.declared.record.Place.{Place}
 use Rattle.span_arena.specs.declared.record.Place.TheVariants.{Free, Reserved, Linked}
+use Rattle.span_arena.specs.Images.{image_of}
 use Rattle.span_arena.specs.Content.{Content, Prepared, sum_for, one_if, prepared_for, kept_by}
 
 -- what a place after the end is taken to have
 abbrev pub blank : NodeRecord
-blank = record { place = Free 0; next = 0; version = record { timestamp = 0; image = None } }
+blank = record { place = Free 0; next = 0; has_image = false; timestamp = 0; image = [] }
 
 abbrev pub node_at : List NodeRecord → ℕ → NodeRecord
 node_at nodes i = slice_index_or nodes i blank
@@ -22,13 +23,17 @@ prepared_of_place (Free k) image = None
 prepared_of_place (Reserved c) image = Some (record { chain = c; image = image })
 prepared_of_place (Linked c) image = None
 
+-- the version of a node; where it has no image, nothing is kept of one
+abbrev pub version_of : NodeRecord → Version
+version_of n = record { timestamp = n.timestamp; image = image_of n.has_image n.image }
+
 abbrev pub prepared_of : NodeRecord → Option Prepared
-prepared_of n = prepared_of_place n.place n.version.image
+prepared_of n = prepared_of_place n.place (version_of n).image
 
 -- k versions, from node h on
 abbrev pub walk : (ℕ → NodeRecord) → ℕ → ℕ → List Version
 walk f zero h = []
-walk f (suc k) h = (f h).version ∷ walk f k (f h).next
+walk f (suc k) h = version_of (f h) ∷ walk f k (f h).next
 
 -- k nodes from h on are linked into chain c, and their ranks fall: so no node is in it twice
 abbrev pub IsRun : (ℕ → NodeRecord) → (ℕ → ℕ) → ℕ → ℕ → ℕ → ℕ → Type 0

@@ -2,18 +2,17 @@
 ghost use Rattle.std.specs.Prelude.{◌≡◌, ◌<◌, ◌≤◌, ◌^◌, true, [], None, Some, length, IfOk, IfErr, OnErr, OnOk, MatchOption, nat_lt};
 ghost use Rattle.span_keycode.specs.Order.{byte_order};
 ghost use Rattle.span_arena.specs.Cells.{cell_at, is_past, new_cell, with_links, IsCompared, IsWritten};
-ghost use Rattle.span_arena.specs.Limits.{most_nodes};
-ghost use Rattle.span_arena.specs.declared.arena.TheConstants.{MOST_NODES};
-ghost use Rattle.std.specs.Option.{option_copied};
+ghost use Rattle.span_arena.specs.Limits.{most_chains, most_nodes};
+ghost use Rattle.span_arena.specs.declared.arena.TheConstants.{MOST_CHAINS, MOST_NODES};
 ghost use Rattle.span_arena.specs.Order.{IsNewestUpto, IsLaterFor, AreInTimeOrder};
 ghost use Rattle.span_arena.specs.Content.{Content, versions, prepared_at, IsChain, AreAllChains, IsInOrder, is_unused, prepared_for, live, newest_upto, IsPrepared, linked, given_back, trimmed, cleared, kept_by, with_at, with_cells, with_kept, without_chain, IsNewChain, IsReserved, IsRefusedNode, IsRefusedRoom, IsTakenFrom, with_free_node, with_versions};
 
 use crate::cell::{Cell, Links, StoredLinks};
 use crate::cut::cut;
-use crate::record::{ChainRecord, NodeRecord, Place, VersionLinks};
+use crate::record::{ChainRecord, NodeRecord, Place, VersionLinks, join_image, split_image};
 use crate::steps::Steps;
 use crate::token::{Chain, Node};
-use crate::version::Version;
+use crate::version::{LentVersion, Version};
 use span_keycode::compare::order_of_bytes;
 use span_keycode::key::Key;
 use span_value::refusal::Refusal;
@@ -21,17 +20,23 @@ use span_value::seq::Seq;
 use std::alloc::Global;
 use std::cmp::Ordering;
 use std::marker::Model;
+use std::mem;
 use std::sync::ledger::Ledger;
 
 /// The most nodes in use that `Arena::new` allows.
 pub const MOST_NODES: u32 = 16_777_216;
 
-/// The most numbers of chains, with those that are free: they have 32 bits.
-const MOST_CHAINS: usize = 4_294_967_295;
-
 /// The limit is the number that the definitions name.
 pub fn limit_is_stated()
     ensures { MOST_NODES ≡ most_nodes }
+{}
+
+/// The most numbers of chains, with those that are free: a number has 32 bits.
+pub const MOST_CHAINS: usize = 4_294_967_295;
+
+/// That limit is the number that the definitions name.
+pub fn chain_limit_is_stated()
+    ensures { MOST_CHAINS ≡ most_chains }
 {}
 
 /// An arena. Contracts see the versions of each chain, its key with its links, what is prepared in each node, and how many nodes are
@@ -127,10 +132,10 @@ impl Arena {
 
     /// The newest version of a chain at or below `s`, a timestamp: every other version there is older. None where all versions are
     /// later than `s`.
-    pub fn newest_at(&self, chain: Chain, s: u64) -> Option<&Version>
+    pub fn newest_at(&self, chain: Chain, s: u64) -> Option<LentVersion<'_>>
         requires { IsChain self.now chain.number }
-        ensures first { option_copied result ≡ newest_upto s (versions self.now chain.number) }
-        ensures last { IsNewestUpto s (versions self.now chain.number) (option_copied result) }
+        ensures first { result ≡ newest_upto s (versions self.now chain.number) }
+        ensures last { IsNewestUpto s (versions self.now chain.number) result }
     {
         let ChainRecord::Used(links) = self.chains[chain.number as usize] else {
             unreachable!()
@@ -139,8 +144,8 @@ impl Arena {
         let mut left = links.count;
         while left > 0 {
             let node = &self.nodes[at as usize];
-            if node.version.timestamp <= s {
-                return Some(&node.version);
+            if node.timestamp <= s {
+                return Some(node.version());
             }
             at = node.next;
             left -= 1;
@@ -149,7 +154,7 @@ impl Arena {
     }
 
     /// A new chain with no version, with this key and no links, counted as a step. `Refusal::OutOfMemory` leaves all as it was; it
-    /// comes only where no chain was free.
+    /// comes only where no chain was free, and also where there are 2^32 - 1 chains.
     pub fn new_chain<C: Ledger, W: Ledger>(
         &mut self,
         key: Key,
@@ -322,11 +327,13 @@ impl Arena {
         let ChainRecord::Used(links) = self.chains[chain.number as usize] else {
             unreachable!()
         };
+        let (has_image, image) = split_image(*self.nodes.allocator(), image);
         let number = self.free;
         if self.free_count > 0 {
             let node = &mut self.nodes[number as usize];
             node.place = Place::Reserved(chain.number);
-            node.version.image = image;
+            node.has_image = has_image;
+            node.image = image;
             self.free = node.next;
             self.free_count -= 1;
             self.chains[chain.number as usize] = ChainRecord::Used(VersionLinks {
@@ -343,10 +350,9 @@ impl Arena {
         let node = NodeRecord {
             place: Place::Reserved(chain.number),
             next: 0,
-            version: Version {
-                timestamp: 0,
-                image,
-            },
+            has_image,
+            timestamp: 0,
+            image,
         };
         let Ok(()) = self.nodes.push(node) else {
             return Err(Refusal::OutOfMemory);
@@ -375,7 +381,7 @@ impl Arena {
             unreachable!()
         };
         cell.place = Place::Linked(chain);
-        cell.version.timestamp = timestamp;
+        cell.timestamp = timestamp;
         cell.next = links.newest;
         self.chains[chain as usize] = ChainRecord::Used(VersionLinks {
             newest: node.number,
@@ -389,6 +395,7 @@ impl Arena {
         requires { IsPrepared self.old node.number }
         ensures { self.new ≡ given_back self.old node.number }
     {
+        let alloc = *self.nodes.allocator();
         let cell = &mut self.nodes[node.number as usize];
         let Place::Reserved(chain) = cell.place else {
             unreachable!()
@@ -397,7 +404,8 @@ impl Arena {
             unreachable!()
         };
         cell.place = Place::Free(self.free_count + 1);
-        cell.version.image = None;
+        cell.has_image = false;
+        cell.image = Seq::new(alloc);
         cell.next = self.free;
         self.free = node.number;
         self.free_count += 1;
@@ -450,10 +458,9 @@ impl Arena {
         let node = NodeRecord {
             place: Place::Free(self.free_count + 1),
             next: self.free,
-            version: Version {
-                timestamp: 0,
-                image: None,
-            },
+            has_image: false,
+            timestamp: 0,
+            image: Seq::new(*self.nodes.allocator()),
         };
         let Ok(()) = self.nodes.push(node) else {
             return Err(Refusal::OutOfMemory);
@@ -477,14 +484,17 @@ impl Arena {
         if links.count == 0 {
             return None;
         }
+        let alloc = *self.nodes.allocator();
         let cell = &mut self.nodes[links.newest as usize];
+        let image = mem::replace(&mut cell.image, Seq::new(alloc));
         let version = Version {
-            timestamp: cell.version.timestamp,
-            image: cell.version.image.take(),
+            timestamp: cell.timestamp,
+            image: join_image(cell.has_image, image),
         };
         let next = cell.next;
         cell.place = Place::Free(self.free_count + 1);
         cell.next = self.free;
+        cell.has_image = false;
         self.free = links.newest;
         self.free_count += 1;
         self.chains[chain.number as usize] = ChainRecord::Used(VersionLinks {
@@ -508,15 +518,19 @@ impl Arena {
         let ChainRecord::Used(links) = self.chains[chain.number as usize] else {
             unreachable!()
         };
+        let alloc = *self.nodes.allocator();
         // What holds of every arena is known of one whose fields are used.
         let _ = &from.nodes;
         let newest = self.free;
         let mut count = 0;
         // The free nodes are linked already: the first of them become the chain.
         while let Some(version) = from.take_newest(source) {
+            let (has_image, image) = split_image(alloc, version.image);
             let cell = &mut self.nodes[self.free as usize];
             cell.place = Place::Linked(chain.number);
-            cell.version = version;
+            cell.has_image = has_image;
+            cell.timestamp = version.timestamp;
+            cell.image = image;
             self.free = cell.next;
             self.free_count -= 1;
             count += 1;
@@ -542,12 +556,14 @@ impl Arena {
             count: kept,
             prepared: links.prepared,
         });
+        let alloc = *self.nodes.allocator();
         let mut left = links.count - kept;
         while left > 0 {
             let cell = &mut self.nodes[at as usize];
             let next = cell.next;
             cell.place = Place::Free(self.free_count + 1);
-            cell.version.image = None;
+            cell.has_image = false;
+            cell.image = Seq::new(alloc);
             cell.next = self.free;
             self.free = at;
             self.free_count += 1;

@@ -93,6 +93,8 @@ pub(crate) struct Cell {
     pub links: StoredLinks,
 }
 
+const _: () = prove!(size_of::<Cell>() == 64);
+
 impl Cell {
     /// A key with no cells below it.
     pub(crate) fn new(key: Key) -> Cell

@@ -27,9 +27,9 @@ fn cut_at(nodes: &Vec<NodeRecord>, newest: u32, count: u32, horizon: u64) -> (u3
     let mut kept = 0;
     while kept < count {
         let node = &nodes[at as usize];
-        if node.version.timestamp <= horizon {
+        if node.timestamp <= horizon {
             // This is the version that a read at the horizon sees. A deletion reads as no version.
-            if node.version.image.is_none() {
+            if !node.has_image {
                 return (kept, at);
             }
             return (kept + 1, node.next);

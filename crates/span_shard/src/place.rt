@@ -60,7 +60,7 @@ pub(crate) fn row_in<'a>(arena: &'a Arena, chain: Chain, s: u64) -> Option<&'a S
     ensures { option_copied result ≡ row_at (chain_versions arena.now chain.number) s }
 {
     match arena.newest_at(chain, s) {
-        Some(version) => version.image.as_ref(),
+        Some(version) => version.image(),
         None => None,
     }
 }

@@ -9,14 +9,14 @@ index-node-requires c =
     let lt : c.loop-kept.at < length c.args.nodes.now.items = cut_in_range _ _ _ c.args.horizon c.requires _ _ c.loop-kept-test.true c.loop-kept.invariant.here in
     omega (arith, c.args.nodes.now.ok)
 
-pub returns-then-is_none : goal.returns-then-is_none
-returns-then-is_none c =
+pub returns-then-not-node : goal.returns-then-not-node
+returns-then-not-node c =
     let lt : c.loop-kept.at < length c.args.nodes.now.items = cut_in_range _ _ _ c.args.horizon c.requires _ _ c.loop-kept-test.true c.loop-kept.invariant.here in
     let e = c.index-node.ensures ∙ get_or_default c.args.nodes.now.items c.loop-kept.at c.index-node.result.now blank lt in
     record {
       within = omega (arith, c.loop-kept-test.true);
       here = c.loop-kept.invariant.here;
-      same = cut_before _ _ _ c.args.horizon c.requires _ _ c.loop-kept-test.true c.loop-kept.invariant.here c.loop-kept.invariant.same (rw e at c.if-node-horizon.true) (rw (e, c.if-is_none.true) at c.is_none.ensures);
+      same = cut_before _ _ _ c.args.horizon c.requires _ _ c.loop-kept-test.true c.loop-kept.invariant.here c.loop-kept.invariant.same (rw e at c.if-node-horizon.true) (rw e at c.if-not-node.true);
     }
 
 pub returns-then-node-horizon : goal.returns-then-node-horizon
@@ -26,7 +26,7 @@ returns-then-node-horizon c =
     record {
       within = omega (arith, c.loop-kept-test.true);
       here = rw e (sym (cut_here _ _ _ c.args.horizon c.requires _ _ c.loop-kept-test.true c.loop-kept.invariant.here));
-      same = cut_after _ _ _ c.args.horizon c.requires _ _ c.loop-kept-test.true c.loop-kept.invariant.here c.loop-kept.invariant.same (rw e at c.if-node-horizon.true) (rw (e, c.if-is_none.false) at c.is_none.ensures);
+      same = cut_after _ _ _ c.args.horizon c.requires _ _ c.loop-kept-test.true c.loop-kept.invariant.here c.loop-kept.invariant.same (rw e at c.if-node-horizon.true) (rw e at c.if-not-node.false);
     }
 
 pub loop-kept-preserved : goal.loop-kept-preserved

@@ -4,7 +4,7 @@ use Rattle.span_shard.proofs.Seeing.{row_found, row_missing}
 use Rattle.span_shard.proofs.place.row_in.Goals as goal
 
 pub returns-in-Some : goal.returns-in-Some
-returns-in-Some c = c.as_ref.ensures.value ∙ sym (row_found (versions c.args.arena.now c.args.chain.number) c.args.s c.in-Some.version.now (sym c.in-Some.ensures.first))
+returns-in-Some c = c.image.ensures ∙ sym (row_found (versions c.args.arena.now c.args.chain.number) c.args.s c.in-Some.version (sym c.in-Some.ensures.first))
 
 pub returns-in-None : goal.returns-in-None
 returns-in-None c = sym (row_missing (versions c.args.arena.now c.args.chain.number) c.args.s (sym c.in-None.ensures.first))

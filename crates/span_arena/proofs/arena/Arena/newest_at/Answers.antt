@@ -1,4 +1,4 @@
-use Rattle.std.proofs.Common.{◌≡◌, ap, sym, ◌∙◌, arith, ◌<◌, length, subst}
+use Rattle.std.proofs.Common.{◌≡◌, ap, Some, sym, ◌∙◌, arith, ◌<◌, length, subst}
 use Rattle.span_arena.specs.Content.{newest_upto}
 use Rattle.span_arena.specs.Runs.{node_at}
 use Rattle.span_arena.proofs.Chains.{used_of, read_used}
@@ -20,12 +20,12 @@ pub index-node-requires : goal.index-node-requires
 index-node-requires c = let lt : c.loop-left.at < length c.self.inside.nodes.items = here_in_range _ _ _ c.loop-left.invariant.run c.loop-left-test.true in omega (arith, c.self.inside.nodes.ok)
 
 pub returns-then-node-s-clause-first : goal.returns-then-node-s-clause-first
-returns-then-node-s-clause-first c = sym (sym c.loop-left.invariant.same ∙ found_here _ _ _ c.loop-left.invariant.run c.loop-left-test.true _ c.index-node.ensures c.args.s c.if-node-s.true)
+returns-then-node-s-clause-first c = ap Some c.version.ensures ∙ sym (sym c.loop-left.invariant.same ∙ found_here _ _ _ c.loop-left.invariant.run c.loop-left-test.true _ c.index-node.ensures c.args.s c.if-node-s.true)
 
 pub returns-then-node-s-clause-last : goal.returns-then-node-s-clause-last
 returns-then-node-s-clause-last c =
     let falling = subst AreInTimeOrder c.self.view_is c.self.invariant.falling in
-    found_last c.args.s _ _ (sym (sym c.loop-left.invariant.same ∙ found_here _ _ _ c.loop-left.invariant.run c.loop-left-test.true _ c.index-node.ensures c.args.s c.if-node-s.true)) (falling c.args.chain.number)
+    rw c.version.ensures (found_last c.args.s _ _ (sym (sym c.loop-left.invariant.same ∙ found_here _ _ _ c.loop-left.invariant.run c.loop-left-test.true _ c.index-node.ensures c.args.s c.if-node-s.true)) (falling c.args.chain.number))
 
 pub loop-left-preserved : goal.loop-left-preserved
 loop-left-preserved c = record {

@@ -1,6 +1,7 @@
-use Rattle.std.proofs.Common.{◌≡◌, ◌<◌, suc, ◌-◌, ◌∙◌, sym, refl, arith, length, map, inl, inr}
+use Rattle.std.proofs.Common.{◌≡◌, ◌<◌, ℕ, suc, List, Option, Some, ap, ◌-◌, ◌∙◌, sym, refl, arith, length, map, inl, inr}
 use Rattle.std.proofs.Common.{length-set}
-use Rattle.span_arena.specs.Runs.{node_at, prepared_of}
+use Rattle.span_arena.specs.declared.record.Place.TheVariants.{Reserved}
+use Rattle.span_arena.specs.Runs.{node_at, prepared_of, prepared_of_place}
 use Rattle.span_arena.proofs.Counts.{part_prepared}
 use Rattle.span_arena.proofs.Chains.{used_of, read_used, links_were}
 use Rattle.span_arena.proofs.Moves.{sound-reuse, sound-push}
@@ -8,6 +9,9 @@ use Rattle.span_arena.proofs.Contents.{live_is, first_free, content-reuse, conte
 use Rattle.span_arena.proofs.Spares.{are_spare-used}
 use Rattle.span_arena.proofs.Falling.{falling-reserve}
 use Rattle.span_arena.proofs.arena.Arena.reserve_node.Goals as goal
+
+same_image : (chain : ℕ) (u w : Option (List ℕ)) → u ≡ w → prepared_of_place (Reserved chain) u ≡ Some (record { chain = chain; image = w })
+same_image chain u w e = ap (prepared_of_place (Reserved chain)) e
 
 pub overflow_add-links : goal.overflow_add-links
 overflow_add-links c =
@@ -46,7 +50,7 @@ invariant_of-self c =
       spare = are_spare-used i.chains.items i.spare i.spare_count c.args.chain.number c.in-Used.links _ used c.self.invariant.spare;
       cells = c.self.invariant.cells ∙ sym (length-set i.chains.items c.args.chain.number _);
       few = c.self.invariant.few;
-      falling = falling-reserve _ _ c.args.chain.number i.free c.args.image c.self.invariant.falling (content-reuse i.nodes.items i.chains.items i.free i.free_count i.most i.cells.items c.self.invariant.sound c.args.chain.number c.in-Used.links used c.args.image _ c.if-self-gt0.true f.0 f.1 refl);
+      falling = falling-reserve _ _ c.args.chain.number i.free c.args.image c.self.invariant.falling (content-reuse i.nodes.items i.chains.items i.free i.free_count i.most i.cells.items c.self.invariant.sound c.args.chain.number c.in-Used.links used c.args.image _ c.if-self-gt0.true f.0 f.1 (same_image c.args.chain.number _ _ c.split_image-has_image.ensures));
     }
 
 pub returns-then-self-gt0-clause-ok : goal.returns-then-self-gt0-clause-ok
@@ -56,7 +60,7 @@ returns-then-self-gt0-clause-ok c =
     let u = used_of (node_at i.nodes.items) i.chains.items c.args.chain.number h.0 h.1 in
     let used = read_used i.chains.items c.args.chain.number c.index.result.now c.in-Used.links u.0 u.1 c.index.ensures c.in-Used.is in
     let f = first_free i.nodes.items i.chains.items i.free i.free_count i.most i.cells.items c.self.invariant.sound c.if-self-gt0.true in
-    rw (← c.self.view_is) (content-reuse i.nodes.items i.chains.items i.free i.free_count i.most i.cells.items c.self.invariant.sound c.args.chain.number c.in-Used.links used c.args.image _ c.if-self-gt0.true f.0 f.1 refl)
+    rw (← c.self.view_is) (content-reuse i.nodes.items i.chains.items i.free i.free_count i.most i.cells.items c.self.invariant.sound c.args.chain.number c.in-Used.links used c.args.image _ c.if-self-gt0.true f.0 f.1 (same_image c.args.chain.number _ _ c.split_image-has_image.ensures))
 
 pub returns-then-number-self-clause-refused : goal.returns-then-number-self-clause-refused
 returns-then-number-self-clause-refused c =
@@ -81,7 +85,7 @@ invariant_of-self-2 c =
       spare = are_spare-used i.chains.items i.spare i.spare_count c.args.chain.number c.in-Used.links _ used c.self.invariant.spare;
       cells = c.self.invariant.cells ∙ sym (length-set i.chains.items c.args.chain.number _);
       few = c.self.invariant.few;
-      falling = rw c.in-Ok.ensures.items (falling-reserve _ _ c.args.chain.number (length i.nodes.items) c.args.image c.self.invariant.falling (content-push i.nodes.items i.chains.items i.free i.free_count i.most i.cells.items c.self.invariant.sound c.args.chain.number c.in-Used.links used c.args.image _ none room refl));
+      falling = rw c.in-Ok.ensures.items (falling-reserve _ _ c.args.chain.number (length i.nodes.items) c.args.image c.self.invariant.falling (content-push i.nodes.items i.chains.items i.free i.free_count i.most i.cells.items c.self.invariant.sound c.args.chain.number c.in-Used.links used c.args.image _ none room (same_image c.args.chain.number _ _ c.split_image-has_image.ensures)));
     }
 
 pub returns-clause-ok : goal.returns-clause-ok
@@ -93,4 +97,4 @@ returns-clause-ok c =
     let none : i.free_count ≡ 0 = omega (arith, c.if-self-gt0.false) in
     let room : length i.nodes.items < i.most = omega (arith, c.if-number-self.false, c.len-number.ensures, i.nodes.ok) in
     let at : c.len-number.result ≡ length i.nodes.items = omega (arith, c.len-number.ensures, i.nodes.ok) in
-    rw (← c.self.view_is, c.in-Ok.ensures.items, at) (content-push i.nodes.items i.chains.items i.free i.free_count i.most i.cells.items c.self.invariant.sound c.args.chain.number c.in-Used.links used c.args.image _ none room refl)
+    rw (← c.self.view_is, c.in-Ok.ensures.items, at) (content-push i.nodes.items i.chains.items i.free i.free_count i.most i.cells.items c.self.invariant.sound c.args.chain.number c.in-Used.links used c.args.image _ none room (same_image c.args.chain.number _ _ c.split_image-has_image.ensures))

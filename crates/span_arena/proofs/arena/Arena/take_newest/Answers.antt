@@ -1,10 +1,10 @@
 use Rattle.std.proofs.Common.{◌≡◌, ◌<◌, ◌-◌, ◌∷◌, ℕ, List, Option, arith, refl, sym, ◌∙◌, ap, subst, length-set}
 use Rattle.std.proofs.lemmas.List.{get_or_default}
 use Rattle.span_arena.specs.declared.version.Version.{Version}
-use Rattle.span_arena.specs.declared.record.NodeRecord.{NodeRecord}
 use Rattle.span_arena.specs.Content.{Content, versions}
 use Rattle.span_arena.specs.Order.{AreInTimeOrder}
-use Rattle.span_arena.specs.Runs.{node_at, blank, walk, content}
+use Rattle.span_arena.specs.Images.{image_of}
+use Rattle.span_arena.specs.Runs.{node_at, blank, walk, content, version_of}
 use Rattle.span_arena.proofs.Chains.{used_of, read_used, links_were}
 use Rattle.span_arena.proofs.Counts.{count-total}
 use Rattle.span_arena.proofs.Falling.{falling-rest}
@@ -68,7 +68,8 @@ returns c =
     let f = node_at i.nodes.items in
     let newest = c.in-Used.links.newest in
     let e : c.index_mut-cell.result.now ≡ f newest = c.index_mut-cell.ensures.value ∙ get_or_default i.nodes.items newest c.index_mut-cell.result.now blank (take_in_range i.nodes.items i.chains.items i.free i.free_count i.most i.cells.items c.self.invariant.sound c.args.chain.number c.in-Used.links used some) in
-    let version : (f newest).version ≡ made c.index_mut-cell.result.now.version.timestamp c.take.result = ap (λ (n : NodeRecord). n.version) (sym e) ∙ ap (made c.index_mut-cell.result.now.version.timestamp) (sym c.take.ensures.value) in
+    let image = c.join_image.ensures ∙ ap (image_of c.index_mut-cell.result.now.has_image) c.replace-image.ensures.value in
+    let version : version_of (f newest) ≡ made c.index_mut-cell.result.now.timestamp c.join_image.result = ap version_of (sym e) ∙ ap (made c.index_mut-cell.result.now.timestamp) (sym image) in
     record {
       rest = walk f (c.in-Used.links.count - 1) (f newest).next;
       was = ap (λ (a : Content). versions a c.args.chain.number) (sym c.self.view_is) ∙ front_is i.nodes.items i.chains.items i.free i.free_count i.most i.cells.items c.self.invariant.sound c.args.chain.number c.in-Used.links used some ∙ ap (λ (v : Version). v ∷ walk f (c.in-Used.links.count - 1) (f newest).next) version;

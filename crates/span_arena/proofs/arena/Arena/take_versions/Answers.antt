@@ -1,4 +1,4 @@
-use Rattle.std.proofs.Common.{◌≡◌, ◌<◌, ◌+◌, ◌-◌, ℕ, List, arith, length, refl, sym, ◌∙◌, ap, subst, length-set}
+use Rattle.std.proofs.Common.{◌≡◌, ◌<◌, ◌+◌, ◌-◌, ◌++◌, ◌∷◌, [], ℕ, List, Option, arith, length, refl, sym, ◌∙◌, ap, subst, length-set}
 use Rattle.std.proofs.lemmas.List.{get_or_default}
 use Rattle.span_arena.specs.declared.version.Version.{Version}
 use Rattle.span_arena.specs.declared.record.NodeRecord.{NodeRecord}
@@ -6,7 +6,7 @@ use Rattle.span_arena.specs.declared.record.ChainRecord.{ChainRecord}
 use Rattle.span_arena.specs.declared.record.Place.TheVariants.{Linked}
 use Rattle.span_arena.specs.Content.{Content, versions}
 use Rattle.span_arena.specs.Order.{AreInTimeOrder}
-use Rattle.span_arena.specs.Runs.{node_at, blank, content, links_of, links_at}
+use Rattle.span_arena.specs.Runs.{node_at, blank, content, links_of, links_at, version_of, walk}
 use Rattle.span_arena.proofs.Chains.{used_of, read_used}
 use Rattle.span_arena.proofs.Counts.{length-walk}
 use Rattle.span_arena.proofs.Emptying.{IsEmptied, emptying_starts, emptying_less, emptying_more, emptying_ends}
@@ -15,6 +15,9 @@ use Rattle.span_arena.proofs.Filling.{filling_starts, fill_in_range, fill_conten
 use Rattle.span_arena.proofs.Spares.{are_spare-used}
 use Rattle.span_arena.proofs.Taking.{loose_linked, versions_here}
 use Rattle.span_arena.proofs.arena.Arena.take_versions.Goals as goal
+
+abbrev made : ℕ → Option (List ℕ) → Version
+made timestamp image = record { timestamp = timestamp; image = image }
 
 pub loop-version-init : goal.loop-version-init
 loop-version-init c =
@@ -57,9 +60,10 @@ loop-version-preserved c =
     let less = emptying_less c.args.from.now c.loop-version.from c.take_newest.new.self c.args.source.number _ c.in-Some.version inv.emptied c.in-Some.ensures in
     let some : 0 < j.free_count = omega (arith, less, inv.room) in
     let e : c.index_mut-cell.result.now ≡ node_at j.nodes.items j.free = c.index_mut-cell.ensures.value ∙ get_or_default j.nodes.items j.free c.index_mut-cell.result.now blank (fill_in_range j.nodes.items j.chains.items j.free j.free_count j.most c.args.chain.number c.loop-version.count i.free inv.filling some) in
-    let x : NodeRecord = record { place = Linked c.args.chain.number; next = c.index_mut-cell.result.now.next; version = c.in-Some.version } in
+    let x : NodeRecord = record { place = Linked c.args.chain.number; next = c.index_mut-cell.result.now.next; has_image = c.split_image-has_image.result.0; timestamp = c.in-Some.version.timestamp; image = c.split_image-has_image.result.1 } in
     let zero : (links_at j.chains.items c.args.chain.number).count ≡ 0 = ap (λ (r : ChainRecord). (links_of r).count) inv.used ∙ inv.none in
     let k : j.free_count - 1 + (c.loop-version.count + 1) ≡ j.free_count + c.loop-version.count = omega (arith, some) in
+    let version : version_of x ≡ c.in-Some.version = ap (made c.in-Some.version.timestamp) c.split_image-has_image.ensures in
     let next : x.next ≡ (node_at j.nodes.items j.free).next = ap (λ (n : NodeRecord). n.next) e in
     record {
       filling = rw e (fill_sound j.nodes.items j.chains.items j.free j.free_count j.most c.args.chain.number c.loop-version.count i.free inv.filling some _ refl inv.end zero);
@@ -70,7 +74,7 @@ loop-version-preserved c =
       cells = inv.cells;
       few = inv.few;
       same = rw k (fill_content j.nodes.items j.chains.items j.free j.free_count j.most c.args.chain.number c.loop-version.count i.free inv.filling some x refl j.cells.items (j.free_count + c.loop-version.count) ∙ inv.same);
-      emptied = subst (λ (l : List Version). IsEmptied c.args.from.now c.take_newest.new.self c.args.source.number l) (sym (fill_walk j.nodes.items j.chains.items j.free j.free_count j.most c.args.chain.number c.loop-version.count i.free inv.filling some x refl inv.end))
+      emptied = subst (λ (l : List Version). IsEmptied c.args.from.now c.take_newest.new.self c.args.source.number l) (sym (fill_walk j.nodes.items j.chains.items j.free j.free_count j.most c.args.chain.number c.loop-version.count i.free inv.filling some x refl inv.end ∙ ap (λ (v : Version). walk (node_at j.nodes.items) c.loop-version.count i.free ++ v ∷ []) version))
           (emptying_more c.args.from.now c.loop-version.from c.take_newest.new.self c.args.source.number _ c.in-Some.version inv.emptied c.in-Some.ensures);
       room = omega (arith, less, inv.room, some);
     }
