@@ -29,6 +29,7 @@ import concurrent.futures
 import contextlib
 import copy
 import datetime
+import functools
 import importlib.machinery
 import importlib.util
 import os
@@ -112,7 +113,15 @@ def toolchain():
     loader = importlib.machinery.SourceFileLoader("rt_program", file)
     module = importlib.util.module_from_spec(importlib.util.spec_from_loader("rt_program", loader))
     loader.exec_module(module)
+    remember_sums(module)
     return module
+
+
+def remember_sums(rt):
+    """Works the sum of a crate's files and of all below it out once: else that takes minutes for a crate high up, since there is a sum for each
+    way that leads down to a crate."""
+    work_out = rt.rtlib.Crate.stamp
+    rt.rtlib.Crate.stamp = functools.cache(work_out)
 
 
 def end_checks_after(rt, seconds):
