@@ -1,8 +1,10 @@
-//! A clock and a gate for tests.
+//! Clocks and gates for tests.
 use span_session::db::Gate;
 use span_truetime::clock::Clock;
 use span_truetime::interval::Interval;
 use std::cell::Cell;
+use std::sync::atomic::{AtomicU64, Ordering};
+use std::thread;
 
 // The number of readings after which the clock begins again.
 const READINGS: u64 = 1000;
@@ -58,6 +60,81 @@ impl Gate for OpenGate {
 
     fn in_scan(&self, leaf: usize, slot: usize) {
         let _ = (leaf, slot);
+    }
+
+    fn after_scan(&self, leaf: usize, slot: usize) {
+        let _ = (leaf, slot);
+    }
+}
+
+// The number of readings after which the clock that threads share begins again.
+const SHARED_READINGS: u64 = 1 << 40;
+
+/// A clock that threads share, whose n-th reading is [100 n, 100 n + 10].
+#[derive(Drop)]
+pub struct SharedClock {
+    readings: AtomicU64,
+}
+
+impl SharedClock {
+    pub fn new() -> SharedClock {
+        SharedClock {
+            readings: AtomicU64::new(0),
+        }
+    }
+}
+
+impl Clock for SharedClock {
+    ghost may_give = { λ _ _. Unit {0} };
+
+    fn now(&self) -> Interval {
+        let n = self.readings.fetch_add(1, Ordering::SeqCst) % SHARED_READINGS + 1;
+        Interval {
+            earliest: 100 * n,
+            latest: 100 * n + 10,
+        }
+    }
+}
+
+// How often a scan looks for the other one, before it goes on alone.
+const LOOKS: u64 = 1_000_000;
+
+/// A gate where a scan waits for a second one, with the lock of its slot held.
+#[derive(Drop)]
+pub struct Meeting {
+    arrived: AtomicU64,
+    met: AtomicU64,
+}
+
+impl Meeting {
+    pub fn new() -> Meeting {
+        Meeting {
+            arrived: AtomicU64::new(0),
+            met: AtomicU64::new(0),
+        }
+    }
+
+    /// How many scans have met another one.
+    pub fn met(&self) -> u64 {
+        self.met.load(Ordering::SeqCst)
+    }
+}
+
+impl Gate for Meeting {
+    fn before_scan(&self, leaf: usize, slot: usize) {
+        let _ = (leaf, slot);
+    }
+
+    fn in_scan(&self, leaf: usize, slot: usize) {
+        let _ = (leaf, slot);
+        self.arrived.fetch_add(1, Ordering::SeqCst);
+        for _ in 0..LOOKS {
+            if self.arrived.load(Ordering::SeqCst) >= 2 {
+                self.met.fetch_add(1, Ordering::SeqCst);
+                break;
+            }
+            thread::yield_now();
+        }
     }
 
     fn after_scan(&self, leaf: usize, slot: usize) {

@@ -4,8 +4,16 @@
 #![tactic(auto)]
 
 #[cfg(test)]
+mod callers;
+#[cfg(test)]
 mod clock;
+#[cfg(test)]
+mod scans;
 #[cfg(test)]
 mod steps;
 #[cfg(test)]
+mod threads;
+#[cfg(test)]
 mod two_sessions;
+#[cfg(test)]
+mod upkeep;

@@ -218,7 +218,7 @@ fn check_slots<J: Naming, R: Wait + Abort>(
 }
 
 // Cuts at a user.
-fn split<J: Naming, R: Wait>(
+pub(crate) fn split<J: Naming, R: Wait>(
     rt: &R,
     db: &Db<J>,
     me: &Session<J>,

@@ -24,9 +24,10 @@ use std::process::Abort;
 use std::sync::Wait;
 use std::test::Fail;
 
-const USERS: &str = "CREATE TABLE Users (uid INT64 NOT NULL, email STRING(MAX)) PRIMARY KEY (uid)";
+pub(crate) const USERS: &str =
+    "CREATE TABLE Users (uid INT64 NOT NULL, email STRING(MAX)) PRIMARY KEY (uid)";
 
-const UIDS: &str = "SELECT uid FROM Users";
+pub(crate) const UIDS: &str = "SELECT uid FROM Users";
 
 // A transaction that inserts a user.
 pub(crate) fn insert(alloc: Global, schema: &Schema, uid: i64) -> Result<Transaction, Refusal>
