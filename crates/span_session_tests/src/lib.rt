@@ -17,3 +17,5 @@ mod threads;
 mod two_sessions;
 #[cfg(test)]
 mod upkeep;
+#[cfg(test)]
+mod workers;
