@@ -355,7 +355,12 @@ def try_alone(rt, crate, edit, kept):
     kind, said = rt.must_fail(crate, edit, FLAGS, kept)
     if f"ended with status {-signal.SIGXCPU}" in said:
         return no_verdict(crate, edit, "the check of its crate took too long")
-    return REFUSED if kind in (rt.REFUSED, rt.AT_LIMIT) else NOT_REFUSED, said
+    return REFUSED if is_refusal(rt, kind) else NOT_REFUSED, said
+
+
+def is_refusal(rt, kind):
+    """Whether `rt` says that an edit is refused: by a word of its own, or, in a kit that has none, by the truth value."""
+    return kind is True or kind in (getattr(rt, "REFUSED", True), getattr(rt, "AT_LIMIT", True))
 
 
 def refused(crate, edit, goal):

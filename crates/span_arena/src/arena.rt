@@ -8,7 +8,7 @@ ghost use Rattle.std.specs.Option.{option_copied};
 ghost use Rattle.span_arena.specs.Order.{IsNewestUpto, IsLaterFor, AreInTimeOrder};
 ghost use Rattle.span_arena.specs.Content.{Content, versions, prepared_at, IsChain, AreAllChains, IsInOrder, is_unused, prepared_for, live, newest_upto, IsPrepared, linked, given_back, trimmed, cleared, kept_by, with_at, with_cells, with_kept, without_chain, IsNewChain, IsReserved, IsRefusedNode, IsRefusedRoom, IsTakenFrom, with_free_node, with_versions};
 
-use crate::cell::{Cell, Links};
+use crate::cell::{Cell, Links, StoredLinks};
 use crate::cut::cut;
 use crate::record::{ChainRecord, NodeRecord, Place, VersionLinks};
 use crate::steps::Steps;
@@ -24,7 +24,10 @@ use std::marker::Model;
 use std::sync::ledger::Ledger;
 
 /// The most nodes in use that `Arena::new` allows.
-pub const MOST_NODES: usize = 16_777_216;
+pub const MOST_NODES: u32 = 16_777_216;
+
+/// The most numbers of chains, with those that are free: they have 32 bits.
+const MOST_CHAINS: usize = 4_294_967_295;
 
 /// The limit is the number that the definitions name.
 pub fn limit_is_stated()
@@ -40,15 +43,16 @@ pub struct Arena {
     /// Under the number of each chain its key, and its place in the tree of keys.
     cells: Vec<Cell>,
     /// The first node of the free list, and how many there are.
-    free: usize,
-    free_count: usize,
+    free: u32,
+    free_count: u32,
     /// The first of the free chains, and how many there are.
-    spare: usize,
-    spare_count: usize,
-    most: usize,
+    spare: u32,
+    spare_count: u32,
+    most: u32,
 }
 
 impl Model for Arena {
+    ghost use Rattle.std.specs.Prelude.{◌<◌, ◌^◌, length};
     ghost use Rattle.span_arena.specs.Content.{Content};
     ghost use Rattle.span_arena.specs.Order.{AreInTimeOrder};
     ghost use Rattle.span_arena.specs.Runs.{content, AreCellsOf, IsSound, AreSpare};
@@ -61,6 +65,7 @@ impl Model for Arena {
       sound : IsSound a.nodes.items a.chains.items a.free a.free_count a.most;
       spare : AreSpare a.chains.items a.spare a.spare_count;
       cells : AreCellsOf a.chains.items a.cells.items;
+      few : length a.cells.items < 2 ^ 32;
       falling : AreInTimeOrder (content a.nodes.items a.chains.items a.free_count a.most a.cells.items);
     } };
 }
@@ -74,7 +79,7 @@ impl Arena {
     }
 
     /// An empty arena of at most `most` nodes in use. It takes no memory.
-    pub fn with_most(alloc: Global, most: usize) -> Arena
+    pub fn with_most(alloc: Global, most: u32) -> Arena
         ensures { result ≡ record { chains = []; cells = []; prepared = []; free = 0; most = most } }
     {
         Arena {
@@ -95,7 +100,7 @@ impl Arena {
         ensures order { IsInOrder self.now }
         ensures falling { AreInTimeOrder self.now }
     {
-        self.nodes.len() - self.free_count
+        self.nodes.len() - self.free_count as usize
     }
 
     /// Whether a chain has no version, and nothing is prepared for it.
@@ -103,7 +108,7 @@ impl Arena {
         requires { IsChain self.now chain.number }
         ensures { result ≡ is_unused self.now chain.number }
     {
-        let ChainRecord::Used(links) = self.chains[chain.number] else {
+        let ChainRecord::Used(links) = self.chains[chain.number as usize] else {
             unreachable!()
         };
         links.count == 0 && links.prepared == 0
@@ -114,7 +119,7 @@ impl Arena {
         requires { IsChain self.now chain.number }
         ensures { result ≡ nat_lt 0 (prepared_for chain.number self.now.prepared) }
     {
-        let ChainRecord::Used(links) = self.chains[chain.number] else {
+        let ChainRecord::Used(links) = self.chains[chain.number as usize] else {
             unreachable!()
         };
         links.prepared > 0
@@ -127,13 +132,13 @@ impl Arena {
         ensures first { option_copied result ≡ newest_upto s (versions self.now chain.number) }
         ensures last { IsNewestUpto s (versions self.now chain.number) (option_copied result) }
     {
-        let ChainRecord::Used(links) = self.chains[chain.number] else {
+        let ChainRecord::Used(links) = self.chains[chain.number as usize] else {
             unreachable!()
         };
         let mut at = links.newest;
         let mut left = links.count;
         while left > 0 {
-            let node = &self.nodes[at];
+            let node = &self.nodes[at as usize];
             if node.version.timestamp <= s {
                 return Some(&node.version);
             }
@@ -174,16 +179,19 @@ impl Arena {
         });
         let number = self.spare;
         if self.spare_count > 0 {
-            let ChainRecord::Free(next, _) = self.chains[number] else {
+            let ChainRecord::Free(next, _) = self.chains[number as usize] else {
                 unreachable!()
             };
-            self.chains[number] = fresh;
-            self.cells[number] = cell;
+            self.chains[number as usize] = fresh;
+            self.cells[number as usize] = cell;
             self.spare = next;
             self.spare_count -= 1;
             return Ok(Chain { number });
         }
         let number = self.chains.len();
+        if number >= MOST_CHAINS {
+            return Err(Refusal::OutOfMemory);
+        }
         let Ok(()) = self.cells.reserve(1) else {
             return Err(Refusal::OutOfMemory);
         };
@@ -191,11 +199,13 @@ impl Arena {
             return Err(Refusal::OutOfMemory);
         };
         self.cells.push_reserved(cell);
-        Ok(Chain { number })
+        Ok(Chain {
+            number: number as u32,
+        })
     }
 
     /// The most nodes that may be in use.
-    pub fn most(&self) -> usize
+    pub fn most(&self) -> u32
         ensures { result ≡ self.now.most }
     {
         self.most
@@ -206,28 +216,29 @@ impl Arena {
         ensures len { result ≡ length self.now.cells }
         ensures same { length self.now.cells ≡ length self.now.chains }
         ensures fits { length self.now.cells < 2 ^ 64 }
+        ensures few { length self.now.cells < 2 ^ 32 }
     {
         self.cells.len()
     }
 
     /// The key of a chain.
-    pub fn key(&self, number: usize) -> &[u8]
+    pub fn key(&self, number: u32) -> &[u8]
         requires { number < length self.now.cells }
         ensures { result.now ≡ (cell_at self.now.cells number).key }
     {
-        self.cells[number].key.as_slice()
+        self.cells[number as usize].key.as_slice()
     }
 
     /// The links of a chain in the tree of keys.
-    pub fn links(&self, number: usize) -> Links
+    pub fn links(&self, number: u32) -> Links
         requires { number < length self.now.cells }
         ensures { result ≡ (cell_at self.now.cells number).links }
     {
-        self.cells[number].links
+        self.cells[number as usize].links.links()
     }
 
     /// The order of a key to that of a chain.
-    pub fn order(&self, number: usize, key: &[u8]) -> Ordering
+    pub fn order(&self, number: u32, key: &[u8]) -> Ordering
         requires { number < length self.now.cells }
         ensures { result ≡ byte_order key.now (cell_at self.now.cells number).key }
     {
@@ -237,7 +248,7 @@ impl Arena {
     /// The order of a key to that of a chain, counted as a step.
     pub fn compare<C: Ledger, W: Ledger>(
         &self,
-        number: usize,
+        number: u32,
         key: &[u8],
         steps: &mut Steps<C, W>,
     ) -> Ordering
@@ -252,7 +263,7 @@ impl Arena {
     /// Whether the key of a chain is after all keys that begin with these bytes, counted as a step.
     pub fn is_past<C: Ledger, W: Ledger>(
         &self,
-        number: usize,
+        number: u32,
         front: &[u8],
         steps: &mut Steps<C, W>,
     ) -> bool
@@ -266,17 +277,17 @@ impl Arena {
     }
 
     /// Other links for a chain in the tree of keys. It takes no memory.
-    pub fn relink(&mut self, number: usize, links: Links)
+    pub fn relink(&mut self, number: u32, links: Links)
         requires { number < length self.old.cells }
         ensures { self.new ≡ with_cells self.old (with_links self.old.cells number links) }
     {
-        self.cells[number].links = links;
+        self.cells[number as usize].links = StoredLinks::new(links);
     }
 
     /// Other links for a chain in the tree of keys, counted as a step. It takes no memory.
     pub fn set_links<C: Ledger, W: Ledger>(
         &mut self,
-        number: usize,
+        number: u32,
         links: Links,
         steps: &mut Steps<C, W>,
     )
@@ -294,8 +305,8 @@ impl Arena {
         requires unused { is_unused self.old chain.number ≡ true }
         ensures { self.new ≡ without_chain self.old chain.number }
     {
-        self.chains[chain.number] = ChainRecord::Free(self.spare, self.spare_count + 1);
-        self.cells[chain.number] = Cell::blank(*self.cells.allocator());
+        self.chains[chain.number as usize] = ChainRecord::Free(self.spare, self.spare_count + 1);
+        self.cells[chain.number as usize] = Cell::blank(*self.cells.allocator());
         self.spare = chain.number;
         self.spare_count += 1;
     }
@@ -308,26 +319,25 @@ impl Arena {
         ensures err { OnErr result (self.new ≡ self.old) }
         ensures refused { IfErr result (λ why. IsRefusedNode self.old why) }
     {
-        let ChainRecord::Used(links) = self.chains[chain.number] else {
+        let ChainRecord::Used(links) = self.chains[chain.number as usize] else {
             unreachable!()
         };
-        let with_one_more = ChainRecord::Used(VersionLinks {
-            newest: links.newest,
-            count: links.count,
-            prepared: links.prepared + 1,
-        });
         let number = self.free;
         if self.free_count > 0 {
-            let node = &mut self.nodes[number];
+            let node = &mut self.nodes[number as usize];
             node.place = Place::Reserved(chain.number);
             node.version.image = image;
             self.free = node.next;
             self.free_count -= 1;
-            self.chains[chain.number] = with_one_more;
+            self.chains[chain.number as usize] = ChainRecord::Used(VersionLinks {
+                newest: links.newest,
+                count: links.count,
+                prepared: links.prepared + 1,
+            });
             return Ok(Node { number });
         }
         let number = self.nodes.len();
-        if number >= self.most {
+        if number >= self.most as usize {
             return Err(Refusal::ShardFull);
         }
         let node = NodeRecord {
@@ -341,8 +351,14 @@ impl Arena {
         let Ok(()) = self.nodes.push(node) else {
             return Err(Refusal::OutOfMemory);
         };
-        self.chains[chain.number] = with_one_more;
-        Ok(Node { number })
+        self.chains[chain.number as usize] = ChainRecord::Used(VersionLinks {
+            newest: links.newest,
+            count: links.count,
+            prepared: links.prepared + 1,
+        });
+        Ok(Node {
+            number: number as u32,
+        })
     }
 
     /// Makes what is prepared in a node the newest version of its chain, at a timestamp that is later than those of its other
@@ -351,17 +367,17 @@ impl Arena {
         requires { IsLaterFor self.old node.number timestamp }
         ensures { self.new ≡ linked self.old node.number timestamp }
     {
-        let cell = &mut self.nodes[node.number];
+        let cell = &mut self.nodes[node.number as usize];
         let Place::Reserved(chain) = cell.place else {
             unreachable!()
         };
-        let ChainRecord::Used(links) = self.chains[chain] else {
+        let ChainRecord::Used(links) = self.chains[chain as usize] else {
             unreachable!()
         };
         cell.place = Place::Linked(chain);
         cell.version.timestamp = timestamp;
         cell.next = links.newest;
-        self.chains[chain] = ChainRecord::Used(VersionLinks {
+        self.chains[chain as usize] = ChainRecord::Used(VersionLinks {
             newest: node.number,
             count: links.count + 1,
             prepared: links.prepared - 1,
@@ -373,11 +389,11 @@ impl Arena {
         requires { IsPrepared self.old node.number }
         ensures { self.new ≡ given_back self.old node.number }
     {
-        let cell = &mut self.nodes[node.number];
+        let cell = &mut self.nodes[node.number as usize];
         let Place::Reserved(chain) = cell.place else {
             unreachable!()
         };
-        let ChainRecord::Used(links) = self.chains[chain] else {
+        let ChainRecord::Used(links) = self.chains[chain as usize] else {
             unreachable!()
         };
         cell.place = Place::Free(self.free_count + 1);
@@ -385,7 +401,7 @@ impl Arena {
         cell.next = self.free;
         self.free = node.number;
         self.free_count += 1;
-        self.chains[chain] = ChainRecord::Used(VersionLinks {
+        self.chains[chain as usize] = ChainRecord::Used(VersionLinks {
             newest: links.newest,
             count: links.count,
             prepared: links.prepared - 1,
@@ -414,10 +430,10 @@ impl Arena {
         requires { IsChain self.now chain.number }
         ensures { result ≡ length (versions self.now chain.number) }
     {
-        let ChainRecord::Used(links) = self.chains[chain.number] else {
+        let ChainRecord::Used(links) = self.chains[chain.number as usize] else {
             unreachable!()
         };
-        links.count
+        links.count as usize
     }
 
     /// Adds a free node. `Refusal::ShardFull` where there are as many nodes as may be in use, else `Refusal::OutOfMemory`; both leave all
@@ -428,7 +444,7 @@ impl Arena {
         ensures refused { IfErr result (λ why. IsRefusedRoom self.old why) }
     {
         let number = self.nodes.len();
-        if self.most <= number {
+        if self.most as usize <= number {
             return Err(Refusal::ShardFull);
         }
         let node = NodeRecord {
@@ -442,7 +458,7 @@ impl Arena {
         let Ok(()) = self.nodes.push(node) else {
             return Err(Refusal::OutOfMemory);
         };
-        self.free = number;
+        self.free = number as u32;
         self.free_count += 1;
         Ok(())
     }
@@ -455,13 +471,13 @@ impl Arena {
             ((versions self.old chain.number ≡ []) × (self.new ≡ self.old))
             (IsTakenFrom self.old self.new chain.number) }
     {
-        let ChainRecord::Used(links) = self.chains[chain.number] else {
+        let ChainRecord::Used(links) = self.chains[chain.number as usize] else {
             unreachable!()
         };
         if links.count == 0 {
             return None;
         }
-        let cell = &mut self.nodes[links.newest];
+        let cell = &mut self.nodes[links.newest as usize];
         let version = Version {
             timestamp: cell.version.timestamp,
             image: cell.version.image.take(),
@@ -471,7 +487,7 @@ impl Arena {
         cell.next = self.free;
         self.free = links.newest;
         self.free_count += 1;
-        self.chains[chain.number] = ChainRecord::Used(VersionLinks {
+        self.chains[chain.number as usize] = ChainRecord::Used(VersionLinks {
             newest: next,
             count: links.count - 1,
             prepared: links.prepared,
@@ -489,7 +505,7 @@ impl Arena {
         ensures here { self.new ≡ with_versions self.old chain.number (versions from.old source.number) }
         ensures there { from.new ≡ cleared from.old source.number }
     {
-        let ChainRecord::Used(links) = self.chains[chain.number] else {
+        let ChainRecord::Used(links) = self.chains[chain.number as usize] else {
             unreachable!()
         };
         // What holds of every arena is known of one whose fields are used.
@@ -498,14 +514,14 @@ impl Arena {
         let mut count = 0;
         // The free nodes are linked already: the first of them become the chain.
         while let Some(version) = from.take_newest(source) {
-            let cell = &mut self.nodes[self.free];
+            let cell = &mut self.nodes[self.free as usize];
             cell.place = Place::Linked(chain.number);
             cell.version = version;
             self.free = cell.next;
             self.free_count -= 1;
             count += 1;
         }
-        self.chains[chain.number] = ChainRecord::Used(VersionLinks {
+        self.chains[chain.number as usize] = ChainRecord::Used(VersionLinks {
             newest,
             count,
             prepared: links.prepared,
@@ -517,18 +533,18 @@ impl Arena {
         requires { IsChain self.old chain.number }
         ensures { self.new ≡ with_kept self.old chain.number (kept_by horizon (versions self.old chain.number)) }
     {
-        let ChainRecord::Used(links) = self.chains[chain.number] else {
+        let ChainRecord::Used(links) = self.chains[chain.number as usize] else {
             unreachable!()
         };
         let (kept, mut at) = cut(&self.nodes, links.newest, links.count, horizon);
-        self.chains[chain.number] = ChainRecord::Used(VersionLinks {
+        self.chains[chain.number as usize] = ChainRecord::Used(VersionLinks {
             newest: links.newest,
             count: kept,
             prepared: links.prepared,
         });
         let mut left = links.count - kept;
         while left > 0 {
-            let cell = &mut self.nodes[at];
+            let cell = &mut self.nodes[at as usize];
             let next = cell.next;
             cell.place = Place::Free(self.free_count + 1);
             cell.version.image = None;

@@ -1,10 +1,12 @@
 //! The key of a chain with its place in the tree of keys.
 ghost use Rattle.std.specs.Prelude.{◌≡◌};
 ghost use Rattle.span_arena.specs.Cells as specs;
+ghost use Rattle.span_arena.specs.Links.{link_of};
 
 use smallvec::SmallVec;
 use span_keycode::key::Key;
 use std::alloc::Global;
+use std::marker::Model;
 
 /// Which side of a cell is higher, by one level.
 #[derive(Clone, Copy, Debug)]
@@ -17,16 +19,78 @@ pub enum Balance {
 /// The cells below a cell, by the numbers of their chains.
 #[derive(Clone, Copy, Debug)]
 pub struct Links {
-    pub left: Option<usize>,
-    pub right: Option<usize>,
+    pub left: Option<u32>,
+    pub right: Option<u32>,
     pub balance: Balance,
+}
+
+/// Links as a cell keeps them, in 12 bytes where `Links` has 20: an `Option` of a number has 8, so whether there is a link is kept
+/// apart from its number.
+#[derive(Debug, Drop)]
+pub(crate) struct StoredLinks {
+    left: u32,
+    right: u32,
+    has_left: bool,
+    has_right: bool,
+    balance: Balance,
+}
+
+impl Model for StoredLinks {
+    ghost use Rattle.span_arena.specs.Links.{link_of};
+    ghost use Rattle.span_arena.specs.declared.cell.Links.{Links};
+
+    ghost Value = { Links };
+
+    ghost view = { λ s. record { left = link_of s.has_left s.left; right = link_of s.has_right s.right; balance = s.balance } };
+}
+
+impl StoredLinks {
+    pub(crate) fn new(links: Links) -> StoredLinks
+        ensures { result ≡ links }
+    {
+        let (has_left, left) = stored(links.left);
+        let (has_right, right) = stored(links.right);
+        StoredLinks {
+            left,
+            right,
+            has_left,
+            has_right,
+            balance: links.balance,
+        }
+    }
+
+    pub(crate) fn links(&self) -> Links
+        ensures { result ≡ self.now }
+    {
+        Links {
+            left: link(self.has_left, self.left),
+            right: link(self.has_right, self.right),
+            balance: self.balance,
+        }
+    }
+}
+
+// Whether there is a link, and its number.
+fn stored(link: Option<u32>) -> (bool, u32)
+    ensures { link_of result.0 result.1 ≡ link }
+{
+    match link {
+        None => (false, 0),
+        Some(number) => (true, number),
+    }
+}
+
+fn link(is_some: bool, number: u32) -> Option<u32>
+    ensures { result ≡ link_of is_some number }
+{
+    if is_some { Some(number) } else { None }
 }
 
 /// A key, and its place in the tree.
 #[derive(Debug, Drop)]
 pub(crate) struct Cell {
     pub key: Key,
-    pub links: Links,
+    pub links: StoredLinks,
 }
 
 impl Cell {
@@ -39,7 +103,10 @@ impl Cell {
             right: None,
             balance: Balance::Even,
         };
-        Cell { key, links }
+        Cell {
+            key,
+            links: StoredLinks::new(links),
+        }
     }
 
     /// A cell of no chain. It takes no memory.

@@ -6,10 +6,10 @@ use crate::record::NodeRecord;
 /// How many versions of a chain stay, and the node where the others begin. With no horizon none stays.
 pub(crate) fn cut(
     nodes: &Vec<NodeRecord>,
-    newest: usize,
-    count: usize,
+    newest: u32,
+    count: u32,
     horizon: Option<u64>,
-) -> (usize, usize)
+) -> (u32, u32)
     requires { IsSomeRun (node_at nodes.now.items) count newest }
     ensures { IsCut (node_at nodes.now.items) newest count horizon result.0 result.1 }
 {
@@ -19,14 +19,14 @@ pub(crate) fn cut(
     }
 }
 
-fn cut_at(nodes: &Vec<NodeRecord>, newest: usize, count: usize, horizon: u64) -> (usize, usize)
+fn cut_at(nodes: &Vec<NodeRecord>, newest: u32, count: u32, horizon: u64) -> (u32, u32)
     requires { IsSomeRun (node_at nodes.now.items) count newest }
     ensures { IsCut (node_at nodes.now.items) newest count (Some horizon) result.0 result.1 }
 {
     let mut at = newest;
     let mut kept = 0;
     while kept < count {
-        let node = &nodes[at];
+        let node = &nodes[at as usize];
         if node.version.timestamp <= horizon {
             // This is the version that a read at the horizon sees. A deletion reads as no version.
             if node.version.image.is_none() {

@@ -5,11 +5,11 @@ use crate::version::Version;
 #[derive(Clone, Copy, Debug)]
 pub(crate) enum Place {
     /// It is in the free list, with this count of nodes from it on.
-    Free(usize),
+    Free(u32),
     /// Something is prepared in it for this chain.
-    Reserved(usize),
+    Reserved(u32),
     /// It is in this chain.
-    Linked(usize),
+    Linked(u32),
 }
 
 /// A node. Its version has an image where something is prepared, and a timestamp too where it is in a chain.
@@ -17,7 +17,7 @@ pub(crate) enum Place {
 pub(crate) struct NodeRecord {
     pub place: Place,
     /// The next older node of its chain, or the next one of the free list.
-    pub next: usize,
+    pub next: u32,
     pub version: Version,
 }
 
@@ -25,7 +25,7 @@ pub(crate) struct NodeRecord {
 #[derive(Clone, Copy, Debug)]
 pub(crate) enum ChainRecord {
     /// It is in the list of free chains: the next one, and how many there are from it on.
-    Free(usize, usize),
+    Free(u32, u32),
     Used(VersionLinks),
 }
 
@@ -33,9 +33,9 @@ pub(crate) enum ChainRecord {
 #[derive(Clone, Copy, Debug)]
 pub(crate) struct VersionLinks {
     /// The node of the newest version, if there is one.
-    pub newest: usize,
+    pub newest: u32,
     /// How many versions it has.
-    pub count: usize,
+    pub count: u32,
     /// How many nodes something is prepared in for it.
-    pub prepared: usize,
+    pub prepared: u32,
 }

@@ -3,11 +3,11 @@
 /// A chain of an arena, from `Arena::new_chain`, by its number.
 #[derive(Clone, Copy, Debug, PartialEq, Eq)]
 pub struct Chain {
-    pub number: usize,
+    pub number: u32,
 }
 
 /// A node of an arena in which something is prepared, from `Arena::reserve_node`.
 #[derive(Clone, Copy, Debug, PartialEq, Eq)]
 pub struct Node {
-    pub(crate) number: usize,
+    pub(crate) number: u32,
 }

@@ -9,3 +9,4 @@ mod KeptRows
 mod KeyLengths
 mod PlacedRows
 mod Placing
+mod ShortKeys

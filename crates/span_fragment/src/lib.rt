@@ -14,3 +14,4 @@ mod place;
 mod rooted;
 pub mod row;
 pub mod run;
+mod short;

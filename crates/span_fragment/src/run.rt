@@ -1,8 +1,7 @@
 //! A leaf run on the rows of a part of its range.
-ghost use Rattle.std.specs.Prelude.{◌≡◌, ◌⊎◌, MatchResult, map};
+ghost use Rattle.std.specs.Prelude.{◌≡◌, ◌⊎◌, MatchResult};
 ghost use Rattle.std.specs.List.{AllByRecursion};
 ghost use Rattle.span_schema.specs.Numbers.{IsTable};
-ghost use Rattle.span_shard.specs.Reading.{entry_row};
 ghost use Rattle.span_query.specs.Rows.{Rows};
 ghost use Rattle.span_algebra.specs.Answers.{Gives};
 ghost use Rattle.span_planner.specs.Maskable.{IsMaskable};
@@ -11,10 +10,11 @@ ghost use Rattle.span_fragment.specs.Pieces.{IsPieceOf};
 
 use super::directory::rows_of_leaf;
 use super::piece::Piece;
+use super::short::leaf_entries;
 use span_expr::cell::Failure;
 use span_planner::leaf::Leaf;
 use span_schema::schema::Schema;
-use span_shard::shard::Entry;
+use span_shard::snapshot::Snapshot;
 use span_value::refusal::Refusal;
 use span_value::seq::Seq;
 use span_value::value::Row;
@@ -31,20 +31,21 @@ fn piece_of(found: Result<Seq<Row>, Failure>) -> Result<Piece, Refusal>
     }
 }
 
-/// What a leaf gives on the entries of a part of its range. An arithmetic error is a piece without rows, and no refusal.
-/// `OutOfMemory`, where the entries are rows of the schema's tables.
+/// What a leaf gives on the rows of a part of its range, which a snapshot lends. An arithmetic error is a piece without
+/// rows, and no refusal. `OutOfMemory`, where these are rows of the schema's tables.
 pub fn run_leaf(
     alloc: Global,
     schema: &Schema,
     leaf: &Leaf,
-    entries: &[Entry],
+    snapshot: Snapshot<'_>,
 ) -> Result<Piece, Refusal>
     requires tables { AllByRecursion (IsTable schema.now) leaf.now.tables }
     requires maskable { IsMaskable schema.now leaf.now }
     ensures { MatchResult result
-        (IsPieceOf schema.now leaf.now (map entry_row entries.now))
-        (λ why. (why ≡ Refusal.OutOfMemory) ⊎ AreNoRows schema.now (map entry_row entries.now)) }
+        (IsPieceOf schema.now leaf.now snapshot.entry)
+        (λ why. (why ≡ Refusal.OutOfMemory) ⊎ AreNoRows schema.now snapshot.entry) }
 {
-    let found = rows_of_leaf(alloc, schema, leaf, entries)?;
+    let entries = leaf_entries(alloc, schema, leaf.tables.as_slice(), snapshot)?;
+    let found = rows_of_leaf(alloc, schema, leaf, entries.as_slice())?;
     Ok(piece_of(found)?)
 }

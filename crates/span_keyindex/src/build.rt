@@ -10,13 +10,13 @@ use span_arena::cell::{Balance, Links};
 /// A tree that was built: the chain of its first key, the link after that of its last one, and how many levels it has.
 #[derive(Clone, Copy, Debug)]
 pub struct Built {
-    pub root: Option<usize>,
-    pub rest: Option<usize>,
+    pub root: Option<u32>,
+    pub rest: Option<u32>,
     pub levels: usize,
 }
 
 /// Makes `count` keys that follow each other from `at` on into a balanced tree. It takes no memory, and writes the links of each once.
-pub(crate) fn build(arena: &mut Arena, nexts: &NextLinks, count: usize, at: Option<usize>) -> Built
+pub(crate) fn build(arena: &mut Arena, nexts: &NextLinks, count: usize, at: Option<u32>) -> Built
     requires { IsRun arena.old.cells nexts.now count at }
     ensures tree { IsBuilt arena.old.cells arena.new.cells nexts.now count at result }
     ensures others { arena.new ≡ with_cells arena.old arena.new.cells }

@@ -17,7 +17,7 @@ use std::sync::ledger::Ledger;
 #[derive(Drop)]
 pub struct Chains<'a> {
     nexts: &'a NextLinks,
-    at: Option<usize>,
+    at: Option<u32>,
     left: usize,
 }
 

@@ -14,7 +14,7 @@ use std::cmp::Ordering;
 use std::sync::ledger::Ledger;
 
 /// The number of a key's chain, if the key is there. It takes no memory.
-pub(crate) fn find(arena: &Arena, index: &TreeRoot, key: &[u8]) -> Option<usize>
+pub(crate) fn find(arena: &Arena, index: &TreeRoot, key: &[u8]) -> Option<u32>
     requires { IsSearchTree arena.now.cells index.now }
     ensures { MatchOption result
         (IsAbsent (entries_at arena.now.cells index.now) key.now)
@@ -23,7 +23,7 @@ pub(crate) fn find(arena: &Arena, index: &TreeRoot, key: &[u8]) -> Option<usize>
     find_below(arena, index.root, index.levels, key)
 }
 
-fn find_below(arena: &Arena, at: Option<usize>, levels: usize, key: &[u8]) -> Option<usize>
+fn find_below(arena: &Arena, at: Option<u32>, levels: usize, key: &[u8]) -> Option<u32>
     requires { IsTree arena.now.cells at (tree_at arena.now.cells levels at) }
     ensures { result ≡ search_in key.now (tree_at arena.now.cells levels at) }
 {
@@ -49,7 +49,7 @@ pub(crate) fn first_from<C: Ledger, W: Ledger>(
     index: &TreeRoot,
     key: &[u8],
     steps: &mut Steps<C, W>,
-) -> Option<usize>
+) -> Option<u32>
     requires { IsSearchTree arena.now.cells index.now }
     ensures first { result ≡ head_cell None (from key.now (entries_at arena.now.cells index.now)) }
     ensures cost { (d : ℕ) → length (entries_at arena.now.cells index.now) < 2 ^ d
@@ -61,12 +61,12 @@ pub(crate) fn first_from<C: Ledger, W: Ledger>(
 // `after` is the chain of the first key above all those of the tree.
 fn first_below<C: Ledger, W: Ledger>(
     arena: &Arena,
-    at: Option<usize>,
-    after: Option<usize>,
+    at: Option<u32>,
+    after: Option<u32>,
     levels: usize,
     key: &[u8],
     steps: &mut Steps<C, W>,
-) -> Option<usize>
+) -> Option<u32>
     requires { IsTree arena.now.cells at (tree_at arena.now.cells levels at) }
     ensures first { result ≡ first_in key.now after (tree_at arena.now.cells levels at) }
     ensures steps { IsSearchOf (tree_at arena.now.cells levels at) steps.old steps.new }
@@ -93,7 +93,7 @@ pub(crate) fn first_past<C: Ledger, W: Ledger>(
     index: &TreeRoot,
     front: &[u8],
     steps: &mut Steps<C, W>,
-) -> Option<usize>
+) -> Option<u32>
     requires { IsSearchTree arena.now.cells index.now }
     ensures first { result ≡ head_cell None (past front.now (entries_at arena.now.cells index.now)) }
     ensures cost { (d : ℕ) → length (entries_at arena.now.cells index.now) < 2 ^ d
@@ -105,12 +105,12 @@ pub(crate) fn first_past<C: Ledger, W: Ledger>(
 // `after` is the chain of the first key above all those of the tree.
 fn past_below<C: Ledger, W: Ledger>(
     arena: &Arena,
-    at: Option<usize>,
-    after: Option<usize>,
+    at: Option<u32>,
+    after: Option<u32>,
     levels: usize,
     front: &[u8],
     steps: &mut Steps<C, W>,
-) -> Option<usize>
+) -> Option<u32>
     requires { IsTree arena.now.cells at (tree_at arena.now.cells levels at) }
     ensures first { result ≡ first_past front.now after (tree_at arena.now.cells levels at) }
     ensures steps { IsSearchOf (tree_at arena.now.cells levels at) steps.old steps.new }

@@ -17,19 +17,19 @@ use std::sync::ledger::Ledger;
 /// A part after a key more: the new cell, the part's first cell, and whether it has one level more.
 #[derive(Clone, Copy, Debug)]
 pub struct Part {
-    pub cell: usize,
-    pub root: usize,
+    pub cell: u32,
+    pub root: u32,
     pub grew: bool,
 }
 
 // The left part is two levels higher than the right one.
 fn turn_right<C: Ledger, W: Ledger>(
     arena: &mut Arena,
-    at: usize,
-    left: usize,
-    right: Option<usize>,
+    at: u32,
+    left: u32,
+    right: Option<u32>,
     steps: &mut Steps<C, W>,
-) -> usize
+) -> u32
     requires at { at < length arena.old.cells }
     requires left { left < length arena.old.cells }
     requires inner { IsInside arena.old.cells (cell_at arena.old.cells left).links.right }
@@ -78,11 +78,11 @@ fn turn_right<C: Ledger, W: Ledger>(
 
 fn lift_inner<C: Ledger, W: Ledger>(
     arena: &mut Arena,
-    at: usize,
-    left: usize,
-    right: Option<usize>,
+    at: u32,
+    left: u32,
+    right: Option<u32>,
     steps: &mut Steps<C, W>,
-) -> usize
+) -> u32
     requires at { at < length arena.old.cells }
     requires left { left < length arena.old.cells }
     requires inner { IsInside arena.old.cells (cell_at arena.old.cells left).links.right }
@@ -138,11 +138,11 @@ fn lift_inner<C: Ledger, W: Ledger>(
 #[inline(always)]
 fn turn_left<C: Ledger, W: Ledger>(
     arena: &mut Arena,
-    at: usize,
-    left: Option<usize>,
-    right: usize,
+    at: u32,
+    left: Option<u32>,
+    right: u32,
     steps: &mut Steps<C, W>,
-) -> usize
+) -> u32
     requires at { at < length arena.old.cells }
     requires right { right < length arena.old.cells }
     requires inner { IsInside arena.old.cells (cell_at arena.old.cells right).links.left }
@@ -192,11 +192,11 @@ fn turn_left<C: Ledger, W: Ledger>(
 #[inline(always)]
 fn sink_inner<C: Ledger, W: Ledger>(
     arena: &mut Arena,
-    at: usize,
-    left: Option<usize>,
-    right: usize,
+    at: u32,
+    left: Option<u32>,
+    right: u32,
     steps: &mut Steps<C, W>,
-) -> usize
+) -> u32
     requires at { at < length arena.old.cells }
     requires right { right < length arena.old.cells }
     requires inner { IsInside arena.old.cells (cell_at arena.old.cells right).links.left }
@@ -268,7 +268,7 @@ fn after_right(balance: Balance) -> Balance
     }
 }
 
-fn links_to(left: Option<usize>, right: Option<usize>, balance: Balance) -> Links
+fn links_to(left: Option<u32>, right: Option<u32>, balance: Balance) -> Links
     ensures { result ≡ links_with left right balance }
 {
     Links {
@@ -279,7 +279,7 @@ fn links_to(left: Option<usize>, right: Option<usize>, balance: Balance) -> Link
 }
 
 // Whether a link leads to a cell.
-fn leads_to(link: Option<usize>, cell: usize) -> bool
+fn leads_to(link: Option<u32>, cell: u32) -> bool
     ensures { IsTrue result → link ≡ Some cell }
 {
     match link {
@@ -292,7 +292,7 @@ fn leads_to(link: Option<usize>, cell: usize) -> bool
 // is written then.
 fn keep_left<C: Ledger, W: Ledger>(
     arena: &mut Arena,
-    at: usize,
+    at: u32,
     part: &mut Part,
     steps: &mut Steps<C, W>,
 )
@@ -316,7 +316,7 @@ fn keep_left<C: Ledger, W: Ledger>(
 #[inline(always)]
 fn keep_right<C: Ledger, W: Ledger>(
     arena: &mut Arena,
-    at: usize,
+    at: u32,
     part: &mut Part,
     steps: &mut Steps<C, W>,
 )
@@ -338,7 +338,7 @@ fn keep_right<C: Ledger, W: Ledger>(
 // Joins a left part to its cell that has one level more.
 fn raise_left<C: Ledger, W: Ledger>(
     arena: &mut Arena,
-    at: usize,
+    at: u32,
     part: &mut Part,
     steps: &mut Steps<C, W>,
 )
@@ -374,7 +374,7 @@ fn raise_left<C: Ledger, W: Ledger>(
 #[inline(always)]
 fn raise_right<C: Ledger, W: Ledger>(
     arena: &mut Arena,
-    at: usize,
+    at: u32,
     part: &mut Part,
     steps: &mut Steps<C, W>,
 )
@@ -409,7 +409,7 @@ fn raise_right<C: Ledger, W: Ledger>(
 /// Joins the left part of a cell to it again, after a key more in it: the part is then the cell's.
 pub(crate) fn join_left<C: Ledger, W: Ledger>(
     arena: &mut Arena,
-    at: usize,
+    at: u32,
     part: &mut Part,
     steps: &mut Steps<C, W>,
 )
@@ -431,7 +431,7 @@ pub(crate) fn join_left<C: Ledger, W: Ledger>(
 #[inline(always)]
 pub(crate) fn join_right<C: Ledger, W: Ledger>(
     arena: &mut Arena,
-    at: usize,
+    at: u32,
     part: &mut Part,
     steps: &mut Steps<C, W>,
 )

@@ -26,10 +26,10 @@ use std::sync::ledger::Ledger;
 /// The last cell of the tree below a link, or `before` where it has none.
 pub(crate) fn last_below(
     arena: &Arena,
-    at: Option<usize>,
-    before: Option<usize>,
+    at: Option<u32>,
+    before: Option<u32>,
     levels: usize,
-) -> Option<usize>
+) -> Option<u32>
     requires { IsTree arena.now.cells at (tree_at arena.now.cells levels at) }
     ensures { result ≡ last_cell before (items (tree_at arena.now.cells levels at)) }
 {
@@ -43,7 +43,7 @@ pub(crate) fn last_below(
 /// Whether a key is after that of the last cell. Where there is no last cell, each key is.
 pub(crate) fn is_after<C: Ledger, W: Ledger>(
     arena: &Arena,
-    last: Option<usize>,
+    last: Option<u32>,
     key: &[u8],
     steps: &mut Steps<C, W>,
 ) -> bool
@@ -64,7 +64,7 @@ pub(crate) fn put_last<C: Ledger, W: Ledger>(
     index: &mut TreeRoot,
     key: &mut Key,
     steps: &mut Steps<C, W>,
-) -> Result<usize, Refusal>
+) -> Result<u32, Refusal>
     requires own { IsIndex arena.old.cells nexts.old index.old }
     requires chains { AreChains arena.old (tree_of arena.old.cells index.old) }
     requires after { is_after arena.old.cells index.old.last key.old ≡ true }
@@ -106,7 +106,7 @@ fn grown(levels: usize, grew: bool) -> usize
 // since that cell takes up one level more below it: so most of the right side is only gone along.
 fn hang_last<C: Ledger, W: Ledger>(
     arena: &mut Arena,
-    root: Option<usize>,
+    root: Option<u32>,
     levels: usize,
     part: &mut Part,
     steps: &mut Steps<C, W>,
@@ -134,11 +134,11 @@ fn hang_last<C: Ledger, W: Ledger>(
 // Along the right links, the cell above the last one whose parts differ in height.
 fn stop_below(
     arena: &Arena,
-    at: Option<usize>,
-    above: Option<usize>,
+    at: Option<u32>,
+    above: Option<u32>,
     levels: usize,
-    stop: Option<usize>,
-) -> Option<usize>
+    stop: Option<u32>,
+) -> Option<u32>
     requires { IsTree arena.now.cells at (tree_at arena.now.cells levels at) }
     ensures { result ≡ stop_in stop above (tree_at arena.now.cells levels at) }
 {
@@ -150,7 +150,7 @@ fn stop_below(
     stop_below(arena, links.right, Some(at), levels - 1, next)
 }
 
-fn stop_by(balance: Balance, stop: Option<usize>, above: Option<usize>) -> Option<usize>
+fn stop_by(balance: Balance, stop: Option<u32>, above: Option<u32>) -> Option<u32>
     ensures { result ≡ stop_by balance stop above }
 {
     match balance {
@@ -159,7 +159,7 @@ fn stop_by(balance: Balance, stop: Option<usize>, above: Option<usize>) -> Optio
     }
 }
 
-fn begin_with(part: &mut Part, root: Option<usize>)
+fn begin_with(part: &mut Part, root: Option<u32>)
     ensures { part.new ≡ with_root root part.old }
 {
     if let Some(root) = root {
@@ -171,7 +171,7 @@ fn begin_with(part: &mut Part, root: Option<usize>)
 // cell alone, and then what became of the tree.
 fn hang<C: Ledger, W: Ledger>(
     arena: &mut Arena,
-    at: Option<usize>,
+    at: Option<u32>,
     levels: usize,
     part: &mut Part,
     steps: &mut Steps<C, W>,

@@ -9,8 +9,8 @@ use std::marker::Model;
 /// The first chain, and after each chain the next, by their numbers.
 #[derive(Debug, Drop)]
 pub struct NextLinks {
-    first: Option<usize>,
-    next: Vec<Option<usize>>,
+    first: Option<u32>,
+    next: Vec<Option<u32>>,
 }
 
 impl Model for NextLinks {
@@ -38,18 +38,18 @@ impl NextLinks {
     }
 
     /// The first chain.
-    pub fn first(&self) -> Option<usize>
+    pub fn first(&self) -> Option<u32>
         ensures { result ≡ self.now.first }
     {
         self.first
     }
 
     /// The chain after a chain.
-    pub fn after(&self, cell: usize) -> Option<usize>
+    pub fn after(&self, cell: u32) -> Option<u32>
         requires { cell < length self.now.next }
         ensures { result ≡ next_of self.now cell }
     {
-        self.next[cell]
+        self.next[cell as usize]
     }
 
     /// A place for one chain more, to which no link leads. `Refusal::OutOfMemory` leaves all as it was.
@@ -73,19 +73,19 @@ impl NextLinks {
     }
 
     /// Puts a chain after another, or first.
-    pub(crate) fn put_after(&mut self, before: Option<usize>, cell: usize)
+    pub(crate) fn put_after(&mut self, before: Option<u32>, cell: u32)
         requires cell { cell < length self.old.next }
         requires before { IfSome before (λ b. b < length self.old.next) }
         ensures { self.new ≡ with_cell self.old before cell }
     {
         match before {
             None => {
-                self.next[cell] = self.first;
+                self.next[cell as usize] = self.first;
                 self.first = Some(cell);
             }
             Some(before) => {
-                self.next[cell] = self.next[before];
-                self.next[before] = Some(cell);
+                self.next[cell as usize] = self.next[before as usize];
+                self.next[before as usize] = Some(cell);
             }
         }
     }

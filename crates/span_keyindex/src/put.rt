@@ -21,10 +21,10 @@ use std::sync::ledger::Ledger;
 fn add_cell<C: Ledger, W: Ledger>(
     arena: &mut Arena,
     nexts: &mut NextLinks,
-    before: Option<usize>,
+    before: Option<u32>,
     key: &mut Key,
     steps: &mut Steps<C, W>,
-) -> Result<usize, Refusal>
+) -> Result<u32, Refusal>
     requires links { length nexts.old.next ≡ length arena.old.cells }
     requires before { IsInside arena.old.cells before }
     ensures chain { IfOk result (IsNewChain arena.old arena.new) }
@@ -41,7 +41,7 @@ fn add_cell<C: Ledger, W: Ledger>(
     let key = mem::replace(key, Key::from_small_vec(SmallVec::new(nexts.allocator())));
     match arena.new_chain(key, steps) {
         Ok(chain) => {
-            if chain.number < numbers {
+            if (chain.number as usize) < numbers {
                 // The number was that of another chain, and has a place.
                 nexts.drop_room();
             }
@@ -62,8 +62,8 @@ fn add_cell<C: Ledger, W: Ledger>(
 pub(crate) fn add_key<C: Ledger, W: Ledger>(
     arena: &mut Arena,
     nexts: &mut NextLinks,
-    at: Option<usize>,
-    before: Option<usize>,
+    at: Option<u32>,
+    before: Option<u32>,
     levels: usize,
     key: &mut Key,
     part: &mut Part,

@@ -16,7 +16,7 @@ use span_arena::token::Chain;
 /// The last chain that is kept so far, and how many are.
 #[derive(Clone, Copy, Debug)]
 pub struct Kept {
-    pub before: Option<usize>,
+    pub before: Option<u32>,
     pub count: usize,
 }
 
@@ -65,7 +65,7 @@ fn unlink(arena: &mut Arena, nexts: &mut NextLinks) -> usize
 }
 
 // Frees a chain that is not in use, or links it.
-fn pass(arena: &mut Arena, nexts: &mut NextLinks, kept: Kept, number: usize) -> Kept
+fn pass(arena: &mut Arena, nexts: &mut NextLinks, kept: Kept, number: u32) -> Kept
     requires chain { IsChain arena.old number }
     requires place { number < length nexts.old.next }
     requires before { IfSome kept.before (λ b. b < length nexts.old.next) }

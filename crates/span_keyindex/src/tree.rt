@@ -19,9 +19,9 @@ use std::sync::ledger::Ledger;
 /// Where the tree of keys begins, how many levels it has, and the cell of its last key. Its links are in the arena.
 #[derive(Clone, Copy, Debug)]
 pub struct TreeRoot {
-    pub root: Option<usize>,
+    pub root: Option<u32>,
     pub levels: usize,
-    pub last: Option<usize>,
+    pub last: Option<u32>,
 }
 
 /// The number of a key's chain: its own, or a new one where the key is not there, which takes the key. `Refusal::OutOfMemory` leaves
@@ -32,7 +32,7 @@ pub(crate) fn slot_for<C: Ledger, W: Ledger>(
     index: &mut TreeRoot,
     key: &mut Key,
     steps: &mut Steps<C, W>,
-) -> Result<usize, Refusal>
+) -> Result<u32, Refusal>
     requires own { IsIndex arena.old.cells nexts.old index.old }
     requires chains { AreChains arena.old (tree_of arena.old.cells index.old) }
     ensures ok { IfOk result (IsSlot arena.old arena.new nexts.old nexts.new index.old index.new key.old) }
@@ -60,7 +60,7 @@ fn put_among<C: Ledger, W: Ledger>(
     index: &mut TreeRoot,
     key: &mut Key,
     steps: &mut Steps<C, W>,
-) -> Result<usize, Refusal>
+) -> Result<u32, Refusal>
     requires own { IsIndex arena.old.cells nexts.old index.old }
     requires chains { AreChains arena.old (tree_of arena.old.cells index.old) }
     requires among { is_after arena.old.cells index.old.last key.old ≡ false }

@@ -20,8 +20,8 @@ use std::sync::ledger::Ledger;
 pub struct Walk<'a> {
     arena: &'a Arena,
     nexts: &'a NextLinks,
-    at: Option<usize>,
-    stop: Option<usize>,
+    at: Option<u32>,
+    stop: Option<u32>,
     left: usize,
 }
 
@@ -62,7 +62,7 @@ impl<'a> Iterator for Walk<'a> {
     }
 }
 
-fn is_stop(at: usize, stop: Option<usize>) -> bool
+fn is_stop(at: u32, stop: Option<u32>) -> bool
     ensures { result ≡ is_stop at stop }
 {
     match stop {

@@ -57,6 +57,5 @@ pub fn read_leaf(
         (λ piece. IsRead schema.now shard.now gap.now.range gap.now.s piece leaf.now)
         (IsUnread schema.now shard.now gap.now.range gap.now.s) }
 {
-    let entries = shard.snapshot(alloc, &gap.range, gap.s)?;
-    run_leaf(alloc, schema, leaf, entries.as_slice())
+    run_leaf(alloc, schema, leaf, shard.snapshot(&gap.range, gap.s))
 }

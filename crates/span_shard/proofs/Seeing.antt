@@ -1,6 +1,6 @@
 -- What is read of an arena is what is seen of the keys.
 use Rattle.std.proofs.Common.{◌≡◌, ℕ, zero, suc, arith, Bool, true, false, cond, List, [], ◌∷◌, ◌++◌, Option, Some, None, map, refl, sym, ap, subst, ◌∙◌, append_assoc}
-use Rattle.std.specs.Prelude.{filter, nat_le, option_and_then, All}
+use Rattle.std.specs.Prelude.{filter, length, nat_le, option_and_then, option_map, All}
 use Rattle.std.specs.List.{filter_map, cons_option}
 use Rattle.span_keycode.specs.declared.range.KeyRange.{KeyRange}
 use Rattle.span_arena.specs.declared.version.Version as arena
@@ -11,9 +11,9 @@ use Rattle.span_shard.specs.declared.node.PreparedNode.{PreparedNode}
 use Rattle.span_shard.specs.KeyVersions.{KeyVersions}
 use Rattle.span_shard.specs.Versions.{newest_at, row_at}
 use Rattle.span_shard.specs.Rows.{begins_with}
-use Rattle.span_shard.specs.Shard.{is_within, seen_at, snapshot}
-use Rattle.span_shard.specs.Stored.{version_of, kept_entry, all_kept}
-use Rattle.span_shard.specs.Reading.{versions_alone, versions_alone_at, seen_entry}
+use Rattle.span_shard.specs.Shard.{KeyRow, is_within, seen_at, snapshot}
+use Rattle.span_shard.specs.Stored.{version_of, chain_versions, kept_entry, all_kept}
+use Rattle.span_shard.specs.Reading.{versions_alone, versions_alone_at, seen_entry, has_short_key, short_rows}
 use Rattle.span_shard.proofs.Unused.{filter-map}
 
 pub row_found : (vs : List arena.Version) (s : ℕ) (v : arena.Version) → newest_upto s vs ≡ Some v → row_at (map version_of vs) s ≡ v.image
@@ -72,3 +72,30 @@ pub seen_some : {X Y : Type 0} (f : X → Option Y) (found more : List Y) (es fs
 seen_some {X} {Y} f found more es fs e y all is some pushed so_far =
     ap (λ (l : List Y). l ++ filter_map f fs) pushed ∙ append_assoc found (y ∷ []) (filter_map f fs)
     ∙ ap (λ (o : Option Y). found ++ cons_option o (filter_map f fs)) (sym some) ∙ ap (λ (l : List X). found ++ filter_map f l) (sym is) ∙ so_far
+
+-- ---- rows with short keys
+
+abbrev the_row : List ℕ → List ℕ → KeyRow
+the_row key row = record { key = key; row = row }
+
+abbrev first_short : ℕ → List KeyRow → Option KeyRow → List KeyRow
+first_short most rest o = filter (has_short_key most) (cons_option o rest)
+
+long_row : (most : ℕ) (key : List ℕ) (o : Option (List ℕ)) (rest : List KeyRow) → nat_le (length key) most ≡ false → first_short most rest (option_map (the_row key) o) ≡ filter (has_short_key most) rest
+long_row most key None rest long = refl
+long_row most key (Some row) rest long = ap (λ (b : Bool). cond b (the_row key row ∷ filter (has_short_key most) rest) (filter (has_short_key most) rest)) long
+
+-- a key that is too long has no row among them
+pub long_skipped : (a : Content) (s most : ℕ) (es fs : List Entry) (e : Entry) → es ≡ e ∷ fs → nat_le (length e.key) most ≡ false → short_rows a s most es ≡ short_rows a s most fs
+long_skipped a s most es fs e is long = ap (short_rows a s most) is ∙ long_row most e.key (row_at (chain_versions a e.chain.number) s) (filter_map (seen_entry a s) fs) long
+
+-- nor has one that has no row at s
+pub unseen_skipped : (a : Content) (s most : ℕ) (es fs : List Entry) (e : Entry) → es ≡ e ∷ fs → row_at (chain_versions a e.chain.number) s ≡ None → short_rows a s most es ≡ short_rows a s most fs
+unseen_skipped a s most es fs e is none =
+    ap (short_rows a s most) is ∙ ap (λ (o : Option (List ℕ)). first_short most (filter_map (seen_entry a s) fs) (option_map (the_row e.key) o)) none
+
+-- any other has its row first
+pub short_first : (a : Content) (s most : ℕ) (es fs : List Entry) (e : Entry) (row : List ℕ) → es ≡ e ∷ fs → nat_le (length e.key) most ≡ true → row_at (chain_versions a e.chain.number) s ≡ Some row → short_rows a s most es ≡ the_row e.key row ∷ short_rows a s most fs
+short_first a s most es fs e row is short some =
+    ap (short_rows a s most) is ∙ ap (λ (o : Option (List ℕ)). first_short most (filter_map (seen_entry a s) fs) (option_map (the_row e.key) o)) some
+    ∙ ap (λ (b : Bool). cond b (the_row e.key row ∷ short_rows a s most fs) (short_rows a s most fs)) short

@@ -1,6 +1,6 @@
 -- What is read of a shard to prepare mutations, and what is made of it.
-use Rattle.std.specs.Prelude.{◌≡◌, ℕ, Bool, true, false, ◌⊎◌, List, Option, Some, None, Ok, Err, ◌<◌}
-use Rattle.std.specs.List.{AllByRecursion}
+use Rattle.std.specs.Prelude.{◌≡◌, ℕ, Bool, true, false, ◌⊎◌, List, length, filter, Option, Some, None, Ok, Err, ◌<◌, nat_le}
+use Rattle.std.specs.List.{AllByRecursion, filter_map}
 use Rattle.std.specs.Str.{bytes_eq}
 use Rattle.span_value.specs.declared.refusal.Refusal.{Refusal}
 use Rattle.span_value.specs.declared.refusal.Refusal.TheVariants.{OutOfMemory, ShardFull, BadKey, BadRow}
@@ -37,6 +37,14 @@ versions_alone_at a e = record { key = e.key; versions = chain_versions a e.chai
 -- the row that is seen of a key at s, if there is one
 abbrev pub seen_entry : Content → ℕ → IndexEntry → Option KeyRow
 seen_entry a s e = seen_at s (versions_alone_at a e)
+
+-- the row has a key of at most `most` bytes
+abbrev pub has_short_key : ℕ → KeyRow → Bool
+has_short_key most r = nat_le (length r.key) most
+
+-- the rows that are seen at s of keys of at most `most` bytes
+abbrev pub short_rows : Content → ℕ → ℕ → List IndexEntry → List KeyRow
+short_rows a s most es = filter (has_short_key most) (filter_map (seen_entry a s) es)
 
 -- the row at a key by all that was applied
 abbrev pub row_of : KeyVersions → Option (List ℕ)

@@ -14,6 +14,7 @@ mod place;
 mod run;
 mod search;
 pub mod shard;
+pub mod snapshot;
 mod split;
 mod store;
 mod trim;

@@ -1,20 +1,17 @@
 //! The rows at keys.
-ghost use Rattle.std.specs.Prelude.{◌≡◌, ◌++◌, All, IfOk, OnOk, map, filter};
-ghost use Rattle.std.specs.List.{filter_map};
+ghost use Rattle.std.specs.Prelude.{◌≡◌, ◌++◌, All, OnOk, map, filter};
 ghost use Rattle.std.specs.Option.{option_copied};
 ghost use Rattle.span_arena.specs.Content.{IsChain};
 ghost use Rattle.span_shard.specs.Rows.{begins_with};
-ghost use Rattle.span_shard.specs.Shard.{AreInOrder, row_now, snapshot};
+ghost use Rattle.span_shard.specs.Shard.{AreInOrder, row_now};
 ghost use Rattle.span_shard.specs.Versions.{row_at};
 ghost use Rattle.span_shard.specs.Stored.{chain_versions};
-ghost use Rattle.span_shard.specs.Reading.{entry_row, versions_alone, versions_alone_at, seen_entry};
+ghost use Rattle.span_shard.specs.Reading.{versions_alone, versions_alone_at};
 
-use super::search::{walk, walk_under};
-use super::shard::Entry;
+use super::search::walk_under;
 use super::store::Store;
 use span_arena::arena::Arena;
 use span_arena::token::Chain;
-use span_keycode::range::KeyRange;
 use span_keyindex::walk::Walk;
 use span_value::seq::Seq;
 use std::alloc::{AllocError, Global};
@@ -58,7 +55,7 @@ impl<'a> StoredKey<'a> {
 }
 
 /// The row at s of a chain, if there is one.
-fn row_in<'a>(arena: &'a Arena, chain: Chain, s: u64) -> Option<&'a Seq<u8>>
+pub(crate) fn row_in<'a>(arena: &'a Arena, chain: Chain, s: u64) -> Option<&'a Seq<u8>>
     requires { IsChain arena.now chain.number }
     ensures { option_copied result ≡ row_at (chain_versions arena.now chain.number) s }
 {
@@ -107,45 +104,5 @@ pub(crate) fn push_beginning<'a>(
         found,
         &store.arena,
         walk_under(&store.index, &store.arena, front),
-    )
-}
-
-/// The rows at s of these keys.
-fn entries_at<'a>(
-    alloc: Global,
-    arena: &'a Arena,
-    walk: Walk<'a>,
-    s: u64,
-) -> Result<Vec<Entry<'a>>, AllocError>
-    requires { All (λ e. IsChain arena.now e.chain.number) walk }
-    ensures { IfOk result (λ es. map entry_row es.items ≡ filter_map (seen_entry arena.now s) walk.entry) }
-{
-    let mut entries = Vec::new(alloc);
-    let mut walk = walk;
-    while let Some((key, chain)) = walk.next() {
-        if let Some(row) = row_in(arena, chain, s) {
-            entries.push(Entry {
-                key,
-                row: row.as_slice(),
-            })?;
-        }
-    }
-    Ok(entries)
-}
-
-/// The rows at s in a range.
-pub(crate) fn rows_in<'a>(
-    alloc: Global,
-    store: &'a Store,
-    range: &KeyRange,
-    s: u64,
-) -> Result<Vec<Entry<'a>>, AllocError>
-    ensures { IfOk result (λ es. map entry_row es.items ≡ snapshot range.now s store.now) }
-{
-    entries_at(
-        alloc,
-        &store.arena,
-        walk(&store.index, &store.arena, range),
-        s,
     )
 }

@@ -3,13 +3,13 @@ ghost use Rattle.std.specs.Prelude.{◌≡◌, ◌≤◌, ◌⊎◌, ℕ, [], Li
 ghost use Rattle.span_arena.specs.Limits.{most_nodes};
 ghost use Rattle.span_keycode.specs.declared.range.KeyRange.{KeyRange};
 ghost use Rattle.span_mutate.specs.Typed.{AreTypedMutations};
-ghost use Rattle.span_shard.specs.Reading.{entry_row, AreWrites, IsFault, IsFull, IsPrepareRefusal};
+ghost use Rattle.span_shard.specs.Reading.{AreWrites, IsFault, IsFull, IsPrepareRefusal};
 ghost use Rattle.std.specs.List.{AllByRecursion};
 ghost use Rattle.span_shard.specs.Shard.{with_writes, applied, trimmed, trimmed_key, snapshot, live, IsFree, IsIdle, HasNoneOf, HasSomeOf, HaveFallingVersions, ReadLastVersions, ArePutsRefused, AreInOrder, IsInUse, IsLaterCommit, keys_before, keys_from};
 ghost use Rattle.span_shard.specs.declared.write.Write.{Write};
 
 use super::change::writes_of;
-use super::place::rows_in;
+use super::snapshot::{Snapshot, snapshot_of};
 use super::store::Store;
 use super::write::Write;
 use span_keycode::range::KeyRange;
@@ -58,17 +58,11 @@ impl Shard {
         }
     }
 
-    /// The rows in the range at s, in order of their keys. The refusal is `OutOfMemory`.
-    pub fn snapshot<'a>(
-        &'a self,
-        alloc: Global,
-        range: &KeyRange,
-        s: u64,
-    ) -> Result<Vec<Entry<'a>>, Refusal>
-        ensures rows { IfOk result (λ es. map entry_row es.items ≡ snapshot range.now s self.now) }
-        ensures memory { IfErr result (λ why. why ≡ Refusal.OutOfMemory) }
+    /// The rows in the range at s, a timestamp, in order of their keys. It takes no memory: each row is lent when it is asked for.
+    pub fn snapshot<'a>(&'a self, range: &KeyRange, s: u64) -> Snapshot<'a>
+        ensures { result ≡ snapshot range.now s self.now }
     {
-        Ok(rows_in(alloc, &self.store, range, s)?)
+        snapshot_of(&self.store, range, s)
     }
 
     /// A law, which takes no time: the keys are in order, each once.

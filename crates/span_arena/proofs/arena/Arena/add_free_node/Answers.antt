@@ -12,6 +12,7 @@ invariant_of-self-2 c =
       sound = rw (c.in-Ok.ensures.items, at) (room_sound i.nodes.items i.chains.items i.free i.free_count i.most c.self.invariant.sound _ refl refl below);
       spare = c.self.invariant.spare;
       cells = c.self.invariant.cells;
+      few = c.self.invariant.few;
       falling = rw c.in-Ok.ensures.items (subst AreInTimeOrder (sym (room_content i.nodes.items i.chains.items i.free i.free_count i.most c.self.invariant.sound _ refl i.cells.items)) c.self.invariant.falling);
     }
 

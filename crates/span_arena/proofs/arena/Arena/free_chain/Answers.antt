@@ -6,7 +6,7 @@ use Rattle.span_arena.specs.Content.{without_chain}
 use Rattle.span_arena.specs.Order.{AreInTimeOrder}
 use Rattle.span_arena.proofs.Falling.{falling-free_chain}
 use Rattle.span_arena.proofs.Chains.{used_of}
-use Rattle.span_arena.proofs.Spares.{are_spare-free, spare_count_below, sound-free_chain, content-free_chain}
+use Rattle.span_arena.proofs.Spares.{are_spare-free, few-set, spare_count_below, sound-free_chain, content-free_chain}
 use Rattle.span_arena.proofs.arena.Arena.free_chain.Goals as goal
 
 pub overflow_add-self-inside : goal.overflow_add-self-inside
@@ -33,6 +33,7 @@ invariant_of-self c =
       sound = sound-free_chain i.nodes.items i.chains.items i.free i.free_count i.most i.cells.items c.self.invariant.sound c.args.chain.number u.0 _ _ u.1 unused;
       spare = are_spare-free i.chains.items i.spare i.spare_count c.args.chain.number u.0 u.1 c.self.invariant.spare;
       cells = length-set i.cells.items c.args.chain.number _ ∙ c.self.invariant.cells ∙ sym (length-set i.chains.items c.args.chain.number _);
+      few = few-set i.cells.items c.args.chain.number _ c.self.invariant.few;
       falling = subst AreInTimeOrder (sym (content-free_chain i.nodes.items i.chains.items i.free i.free_count i.most i.cells.items c.self.invariant.sound c.args.chain.number _ _)) (falling-free_chain (content i.nodes.items i.chains.items i.free_count i.most i.cells.items) c.args.chain.number c.self.invariant.falling);
     }
 

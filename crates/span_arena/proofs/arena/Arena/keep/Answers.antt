@@ -30,6 +30,7 @@ loop-left-init c =
       trimming = r.sound;
       spare = are_spare-used i.chains.items i.spare i.spare_count c.args.chain.number c.in-Used.links _ used c.self.invariant.spare;
       cells = c.self.invariant.cells ∙ sym (length-set i.chains.items c.args.chain.number _);
+      few = c.self.invariant.few;
       same = r.same ∙ ap (λ (w : Content). with_kept w c.args.chain.number (kept_by c.args.horizon (versions w c.args.chain.number))) c.self.view_is;
     }
 
@@ -49,6 +50,7 @@ loop-left-preserved c =
       trimming = rw e (trim_sound i.nodes.items i.chains.items i.free i.free_count i.most c.args.chain.number c.loop-left.left c.loop-left.at c.loop-left.invariant.trimming c.loop-left-test.true _ refl refl);
       spare = c.loop-left.invariant.spare;
       cells = c.loop-left.invariant.cells;
+      few = c.loop-left.invariant.few;
       same = rw n (trim_content i.nodes.items i.chains.items i.free i.free_count i.most c.args.chain.number c.loop-left.left c.loop-left.at c.loop-left.invariant.trimming c.loop-left-test.true _ i.cells.items (i.free_count + 1) refl (i.free_count + c.loop-left.left) ∙ c.loop-left.invariant.same);
     }
 
@@ -59,5 +61,6 @@ invariant_of-self c =
       sound = trimming_ends i.nodes.items i.chains.items i.free i.free_count i.most c.args.chain.number c.loop-left.left c.loop-left.at c.loop-left.invariant.trimming (omega (arith, c.loop-left-test.false));
       spare = c.loop-left.invariant.spare;
       cells = c.loop-left.invariant.cells;
+      few = c.loop-left.invariant.few;
       falling = subst AreInTimeOrder (sym c.loop-left.invariant.same) (falling-keep c.args.self.now c.args.chain.number c.args.horizon (subst AreInTimeOrder c.self.view_is c.self.invariant.falling));
     }

@@ -1,9 +1,10 @@
-use Rattle.std.proofs.Common.{ap, sym, ◌∙◌, refl, arith, subst}
+use Rattle.std.proofs.Common.{ap, sym, ◌∙◌, refl, arith, subst, map}
 use Rattle.std.proofs.Common.{length-set}
 use Rattle.span_arena.specs.Content.{linked}
+use Rattle.span_arena.specs.Runs.{prepared_of}
 use Rattle.span_arena.specs.Order.{AreInTimeOrder}
 use Rattle.span_arena.proofs.Falling.{falling-link}
-use Rattle.span_arena.proofs.Counts.{count-total}
+use Rattle.span_arena.proofs.Counts.{count-total, part_prepared}
 use Rattle.span_arena.proofs.Chains.{used_in_range, read_not_free, links_were}
 use Rattle.span_arena.proofs.Moves.{sound-link}
 use Rattle.span_arena.proofs.Contents.{held, links_held, content-link}
@@ -28,7 +29,8 @@ overflow_add-links c =
     let r = held i.nodes.items i.chains.items i.free i.free_count i.most i.cells.items c.self.invariant.sound c.args.node.number c.index_mut-cell.result.now _ c.in-Reserved.chain c.in-Reserved.is c.index_mut-cell.ensures.value (rw (← c.self.view_is) at c.requires) in
     let l = links_held i.nodes.items i.chains.items c.args.node.number c.index_mut-cell.result.now c.in-Reserved.chain r.0 c.index.result.now c.in-Used.links c.index.ensures c.in-Used.is in
     let n = rw (links_were i.chains.items c.in-Reserved.chain c.in-Used.links c.in-Used.links l.0) at (count-total i.chains.items c.in-Reserved.chain) in
-    omega (arith, n, c.self.invariant.sound.counted, i.nodes.small, i.nodes.ok)
+    let p = rw (c.self.invariant.sound.prepared c.in-Reserved.chain, links_were i.chains.items c.in-Reserved.chain c.in-Used.links c.in-Used.links l.0) at (part_prepared c.in-Reserved.chain (map prepared_of i.nodes.items)) in
+    omega (arith, n, p, l.1, c.self.invariant.sound.counted, c.self.invariant.sound.bounded)
 
 pub overflow_sub-links : goal.overflow_sub-links
 overflow_sub-links c =
@@ -52,6 +54,7 @@ invariant_of-self c =
       sound = sound-link i.nodes.items i.chains.items i.free i.free_count i.most c.self.invariant.sound c.in-Reserved.chain c.in-Used.links l.0 c.args.node.number _ r.0.in_range r.0.was l.1 refl refl;
       spare = are_spare-used i.chains.items i.spare i.spare_count c.in-Reserved.chain c.in-Used.links _ l.0 c.self.invariant.spare;
       cells = c.self.invariant.cells ∙ sym (length-set i.chains.items c.in-Reserved.chain _);
+      few = c.self.invariant.few;
       falling = subst AreInTimeOrder (sym (content-link i.nodes.items i.chains.items i.free i.free_count i.most i.cells.items c.self.invariant.sound c.args.node.number _ _ r.0 c.in-Used.links l.0 _ c.args.timestamp refl refl refl)) (falling-link _ c.args.node.number c.args.timestamp c.self.invariant.falling (rw (← c.self.view_is) at c.requires));
     }
 

@@ -9,14 +9,23 @@ use Rattle.span_arena.proofs.Spares.{are_spare-used}
 use Rattle.span_arena.proofs.Falling.{falling-reserve}
 use Rattle.span_arena.proofs.arena.Arena.reserve_node.Goals as goal
 
-pub overflow_add-with_one_more : goal.overflow_add-with_one_more
-overflow_add-with_one_more c =
+pub overflow_add-links : goal.overflow_add-links
+overflow_add-links c =
     let i = c.self.inside in
     let h = rw (← c.self.view_is) at c.requires in
     let u = used_of (node_at i.nodes.items) i.chains.items c.args.chain.number h.0 h.1 in
     let used = read_used i.chains.items c.args.chain.number c.index.result.now c.in-Used.links u.0 u.1 c.index.ensures c.in-Used.is in
     let n = rw (c.self.invariant.sound.prepared c.args.chain.number, links_were i.chains.items c.args.chain.number c.in-Used.links c.in-Used.links used) at (part_prepared c.args.chain.number (map prepared_of i.nodes.items)) in
-    omega (arith, n, c.self.invariant.sound.counted, i.nodes.small, i.nodes.ok)
+    omega (arith, n, c.if-self-gt0.true, c.self.invariant.sound.counted, c.self.invariant.sound.bounded)
+
+pub overflow_add-links-2 : goal.overflow_add-links-2
+overflow_add-links-2 c =
+    let i = c.self.inside in
+    let h = rw (← c.self.view_is) at c.requires in
+    let u = used_of (node_at i.nodes.items) i.chains.items c.args.chain.number h.0 h.1 in
+    let used = read_used i.chains.items c.args.chain.number c.index.result.now c.in-Used.links u.0 u.1 c.index.ensures c.in-Used.is in
+    let n = rw (c.self.invariant.sound.prepared c.args.chain.number, links_were i.chains.items c.args.chain.number c.in-Used.links c.in-Used.links used) at (part_prepared c.args.chain.number (map prepared_of i.nodes.items)) in
+    omega (arith, n, c.if-number-self.false, c.len-number.ensures, i.nodes.ok, c.self.invariant.sound.counted)
 
 pub index_mut-node-requires : goal.index_mut-node-requires
 index_mut-node-requires c =
@@ -36,6 +45,7 @@ invariant_of-self c =
       sound = rw (← e) (sound-reuse i.nodes.items i.chains.items i.free i.free_count i.most c.self.invariant.sound c.args.chain.number c.in-Used.links used (i.free_count - 1) _ n f.0 refl);
       spare = are_spare-used i.chains.items i.spare i.spare_count c.args.chain.number c.in-Used.links _ used c.self.invariant.spare;
       cells = c.self.invariant.cells ∙ sym (length-set i.chains.items c.args.chain.number _);
+      few = c.self.invariant.few;
       falling = falling-reserve _ _ c.args.chain.number i.free c.args.image c.self.invariant.falling (content-reuse i.nodes.items i.chains.items i.free i.free_count i.most i.cells.items c.self.invariant.sound c.args.chain.number c.in-Used.links used c.args.image _ c.if-self-gt0.true f.0 f.1 refl);
     }
 
@@ -70,6 +80,7 @@ invariant_of-self-2 c =
       sound = rw c.in-Ok.ensures.items (sound-push i.nodes.items i.chains.items i.free i.free_count i.most c.self.invariant.sound c.args.chain.number c.in-Used.links used _ refl none room);
       spare = are_spare-used i.chains.items i.spare i.spare_count c.args.chain.number c.in-Used.links _ used c.self.invariant.spare;
       cells = c.self.invariant.cells ∙ sym (length-set i.chains.items c.args.chain.number _);
+      few = c.self.invariant.few;
       falling = rw c.in-Ok.ensures.items (falling-reserve _ _ c.args.chain.number (length i.nodes.items) c.args.image c.self.invariant.falling (content-push i.nodes.items i.chains.items i.free i.free_count i.most i.cells.items c.self.invariant.sound c.args.chain.number c.in-Used.links used c.args.image _ none room refl));
     }
 

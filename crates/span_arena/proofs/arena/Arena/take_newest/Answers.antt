@@ -5,7 +5,8 @@ use Rattle.span_arena.specs.declared.record.NodeRecord.{NodeRecord}
 use Rattle.span_arena.specs.Content.{Content, versions}
 use Rattle.span_arena.specs.Order.{AreInTimeOrder}
 use Rattle.span_arena.specs.Runs.{node_at, blank, walk, content}
-use Rattle.span_arena.proofs.Chains.{used_of, read_used}
+use Rattle.span_arena.proofs.Chains.{used_of, read_used, links_were}
+use Rattle.span_arena.proofs.Counts.{count-total}
 use Rattle.span_arena.proofs.Falling.{falling-rest}
 use Rattle.span_arena.proofs.Spares.{are_spare-used}
 use Rattle.span_arena.proofs.Taking.{take_in_range, take_sound, take_content, front_is}
@@ -23,6 +24,24 @@ index_mut-cell-requires c =
     let some : 0 < c.in-Used.links.count = omega (arith, c.if-links-eq0.false) in
     omega (arith, i.nodes.ok, take_in_range i.nodes.items i.chains.items i.free i.free_count i.most i.cells.items c.self.invariant.sound c.args.chain.number c.in-Used.links used some)
 
+pub overflow_add-cell : goal.overflow_add-cell
+overflow_add-cell c =
+    let i = c.self.inside in
+    let h = rw (← c.self.view_is) at c.requires in
+    let u = used_of (node_at i.nodes.items) i.chains.items c.args.chain.number h.0 h.1 in
+    let used = read_used i.chains.items c.args.chain.number c.index.result.now c.in-Used.links u.0 u.1 c.index.ensures c.in-Used.is in
+    let n = rw (links_were i.chains.items c.args.chain.number c.in-Used.links c.in-Used.links used) at (count-total i.chains.items c.args.chain.number) in
+    omega (arith, n, c.if-links-eq0.false, c.self.invariant.sound.counted, c.self.invariant.sound.bounded)
+
+pub overflow_add-self : goal.overflow_add-self
+overflow_add-self c =
+    let i = c.self.inside in
+    let h = rw (← c.self.view_is) at c.requires in
+    let u = used_of (node_at i.nodes.items) i.chains.items c.args.chain.number h.0 h.1 in
+    let used = read_used i.chains.items c.args.chain.number c.index.result.now c.in-Used.links u.0 u.1 c.index.ensures c.in-Used.is in
+    let n = rw (links_were i.chains.items c.args.chain.number c.in-Used.links c.in-Used.links used) at (count-total i.chains.items c.args.chain.number) in
+    omega (arith, n, c.if-links-eq0.false, c.self.invariant.sound.counted, c.self.invariant.sound.bounded)
+
 pub invariant_of-self : goal.invariant_of-self
 invariant_of-self c =
     let i = c.self.inside in
@@ -35,6 +54,7 @@ invariant_of-self c =
       sound = rw e (take_sound i.nodes.items i.chains.items i.free i.free_count i.most i.cells.items c.self.invariant.sound c.args.chain.number c.in-Used.links used some _ refl refl);
       spare = are_spare-used i.chains.items i.spare i.spare_count c.args.chain.number c.in-Used.links _ used c.self.invariant.spare;
       cells = c.self.invariant.cells ∙ sym (length-set i.chains.items c.args.chain.number _);
+      few = c.self.invariant.few;
       falling = rw e (subst AreInTimeOrder (sym (take_content i.nodes.items i.chains.items i.free i.free_count i.most i.cells.items c.self.invariant.sound c.args.chain.number c.in-Used.links used some _ refl refl)) (falling-rest (content i.nodes.items i.chains.items i.free_count i.most i.cells.items) c.args.chain.number _ _ c.self.invariant.falling (front_is i.nodes.items i.chains.items i.free i.free_count i.most i.cells.items c.self.invariant.sound c.args.chain.number c.in-Used.links used some)));
     }
 

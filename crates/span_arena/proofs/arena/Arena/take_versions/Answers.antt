@@ -34,6 +34,7 @@ loop-version-init c =
       none = none;
       spare = c.self.invariant.spare;
       cells = c.self.invariant.cells;
+      few = c.self.invariant.few;
       same = ap (λ (k : ℕ). content i.nodes.items i.chains.items k i.most i.cells.items) all ∙ c.self.view_is;
       emptied = emptying_starts c.args.from.now c.args.source.number c.requires.source;
       room = omega (arith, free, c.requires.free);
@@ -67,6 +68,7 @@ loop-version-preserved c =
       none = inv.none;
       spare = inv.spare;
       cells = inv.cells;
+      few = inv.few;
       same = rw k (fill_content j.nodes.items j.chains.items j.free j.free_count j.most c.args.chain.number c.loop-version.count i.free inv.filling some x refl j.cells.items (j.free_count + c.loop-version.count) ∙ inv.same);
       emptied = subst (λ (l : List Version). IsEmptied c.args.from.now c.take_newest.new.self c.args.source.number l) (sym (fill_walk j.nodes.items j.chains.items j.free j.free_count j.most c.args.chain.number c.loop-version.count i.free inv.filling some x refl inv.end))
           (emptying_more c.args.from.now c.loop-version.from c.take_newest.new.self c.args.source.number _ c.in-Some.version inv.emptied c.in-Some.ensures);
@@ -86,6 +88,7 @@ invariant_of-self c =
       sound = loose_linked j.nodes.items j.chains.items j.free j.free_count j.most c.args.chain.number c.loop-version.count i.free c.in-Used.links inv.filling inv.used inv.none;
       spare = are_spare-used j.chains.items j.spare j.spare_count c.args.chain.number c.in-Used.links _ inv.used inv.spare;
       cells = inv.cells ∙ sym (length-set j.chains.items c.args.chain.number _);
+      few = inv.few;
       falling = subst AreInTimeOrder (sym same) (falling-versions c.args.self.now c.args.chain.number (versions c.args.from.now c.args.source.number) falling (there c.args.source.number));
     }
 

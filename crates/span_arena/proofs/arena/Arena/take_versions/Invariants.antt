@@ -1,4 +1,4 @@
-use Rattle.std.proofs.Common.{◌≡◌, ◌+◌, ◌≤◌, length}
+use Rattle.std.proofs.Common.{◌≡◌, ◌+◌, ◌<◌, ◌≤◌, ◌^◌, length}
 use Rattle.span_arena.specs.Content.{versions}
 use Rattle.span_arena.specs.declared.record.ChainRecord.TheVariants as chain
 use Rattle.span_arena.specs.Runs.{IsTrimming, AreCellsOf, AreSpare, content, follow, walk, node_at, record_at}
@@ -14,6 +14,7 @@ invariant-loop-version l = record {
   none : l.links.count ≡ 0;
   spare : AreSpare l.self-inside.chains.items l.self-inside.spare l.self-inside.spare_count;
   cells : AreCellsOf l.self-inside.chains.items l.self-inside.cells.items;
+  few : length l.self-inside.cells.items < 2 ^ 32;
   same : content l.self-inside.nodes.items l.self-inside.chains.items (l.self-inside.free_count + l.count) l.self-inside.most l.self-inside.cells.items ≡ l.fn.self;
   emptied : IsEmptied l.fn.from l.from l.fn.source.number (walk (node_at l.self-inside.nodes.items) l.count l.newest);
   room : length (versions l.from l.fn.source.number) ≤ l.self-inside.free_count;

@@ -14,5 +14,6 @@ invariant_of-result c = rw (c.new.ensures.items, c.new-2.ensures.items, c.new-3.
   };
   spare = record { list = tt; counted = refl };
   cells = refl;
+  few = omega arith;
   falling = λ _. tt;
 })

@@ -1,0 +1,86 @@
+-- Entries without those whose keys are longer than any of a leaf's tables: the leaf gives the same on them.
+use Rattle.std.proofs.Common.{◌≡◌, ◌∙◌, ◌==◌, ℕ, ◌≤◌, Bool, true, false, cond, List, [], ◌∷◌, length, map, Result, refl, ap, sym, subst, arith}
+use Rattle.std.specs.Prelude.{filter, nat_le}
+use Rattle.std.specs.List.{AllByRecursion}
+use Rattle.std.proofs.lemmas.Bool.{eqb-true}
+use Rattle.span_schema.specs.declared.table.Table.{Table}
+use Rattle.span_mutate.specs.declared.row.TableRow.{TableRow}
+use Rattle.span_mutate.specs.Database.{rows_of}
+use Rattle.span_mutate.specs.Typed.{IsTyped, AreTyped}
+use Rattle.span_shard.specs.Rows.{code_of}
+use Rattle.span_shard.specs.Shard.{KeyRow}
+use Rattle.span_shard.specs.Reading.{has_short_key}
+use Rattle.span_expr.specs.declared.cell.Failure.{Failure}
+use Rattle.span_query.specs.Rows.{Row, Rows}
+use Rattle.span_algebra.specs.Answers.{Gives}
+use Rattle.span_planner.specs.declared.leaf.Leaf.{Leaf}
+use Rattle.span_planner.specs.Reads.{mask_rows}
+use Rattle.span_planner.specs.Results.{leaf_rows}
+use Rattle.span_fragment.specs.Meaning.{declared_row, whole_table}
+use Rattle.span_fragment.specs.Entries.{key_row, AreNoRows}
+use Rattle.span_fragment.specs.Given.{masked_given, IsGivenOn}
+use Rattle.span_fragment.specs.Longest.{IsLongest, AreLongest, HaveShortKeys}
+
+abbrev is_short : List Table → ℕ → TableRow → Bool
+is_short schema most r = nat_le (length (code_of schema r)) most
+
+-- the rows whose keys are short
+abbrev short_of : List Table → ℕ → List TableRow → List TableRow
+short_of schema most rows = filter (is_short schema most) rows
+
+-- the entries with short keys are the rows with short keys
+short_entries : (schema : List Table) (most : ℕ) (rows : List TableRow) → filter (has_short_key most) (map (key_row schema) rows) ≡ map (key_row schema) (short_of schema most rows)
+short_entries schema most [] = refl
+short_entries schema most (r ∷ rows) = by_test (is_short schema most r) (short_entries schema most rows)
+  where
+    by_test : (b : Bool) → filter (has_short_key most) (map (key_row schema) rows) ≡ map (key_row schema) (short_of schema most rows)
+        → cond b (key_row schema r ∷ filter (has_short_key most) (map (key_row schema) rows)) (filter (has_short_key most) (map (key_row schema) rows)) ≡ map (key_row schema) (cond b (r ∷ short_of schema most rows) (short_of schema most rows))
+    by_test true rest = ap (λ (l : List KeyRow). key_row schema r ∷ l) rest
+    by_test false rest = rest
+
+short_typed : (schema : List Table) (most : ℕ) (rows : List TableRow) → AreTyped schema rows → AreTyped schema (short_of schema most rows)
+short_typed schema most [] typed = tt {0}
+short_typed schema most (r ∷ rows) typed = by_test (is_short schema most r) (short_typed schema most rows typed.1)
+  where
+    by_test : (b : Bool) → AreTyped schema (short_of schema most rows) → AreTyped schema (cond b (r ∷ short_of schema most rows) (short_of schema most rows))
+    by_test true rest = (typed.0, rest)
+    by_test false rest = rest
+
+-- a table none of whose keys is longer has the same rows
+short_table : (schema : List Table) (most n : ℕ) (rows : List TableRow) → AreTyped schema rows → IsLongest schema n most → rows_of n (short_of schema most rows) ≡ rows_of n rows
+short_table schema most n [] typed longest = refl
+short_table schema most n (r ∷ rows) typed longest = by_tests (is_short schema most r) (r.table == n) refl refl (short_table schema most n rows typed.1 longest)
+  where
+    by_tests : (b c : Bool) → is_short schema most r ≡ b → (r.table == n) ≡ c → rows_of n (short_of schema most rows) ≡ rows_of n rows
+        → rows_of n (cond b (r ∷ short_of schema most rows) (short_of schema most rows)) ≡ cond c (r ∷ rows_of n rows) (rows_of n rows)
+    by_tests true c is of rest = ap (λ (d : Bool). cond d (r ∷ rows_of n (short_of schema most rows)) (rows_of n (short_of schema most rows))) of ∙ ap (λ (l : List TableRow). cond c (r ∷ l) l) rest
+    by_tests false false is of rest = rest
+    by_tests false true is of rest =
+        let within : length (code_of schema r) ≤ most = longest.of r typed.0 (eqb-true r.table n of) in
+        let long : is_short schema most r ≡ true = grind (arith) in
+        absurd (let e : false ≡ true = sym is ∙ long in cc)
+
+short_tables : (schema : List Table) (most : ℕ) (ts : List ℕ) (rows : List TableRow) → AreTyped schema rows → AreLongest schema ts most → map (whole_table schema (short_of schema most rows)) ts ≡ map (whole_table schema rows) ts
+short_tables schema most [] rows typed longest = refl
+short_tables schema most (t ∷ ts) rows typed longest =
+    ap (λ (l : List TableRow). map (declared_row schema) l ∷ map (whole_table schema (short_of schema most rows)) ts) (short_table schema most t rows typed longest.0)
+    ∙ ap (λ (l : List (List Row)). whole_table schema rows t ∷ l) (short_tables schema most ts rows typed longest.1)
+
+-- what the leaf gives on the entries with short keys it gives on all
+pub given_on_all : (schema : List Table) (leaf : Leaf) (entries short : List KeyRow) (found : Result (List Row) Failure) → HaveShortKeys schema leaf.tables entries short → IsGivenOn schema leaf short found → IsGivenOn schema leaf entries found
+given_on_all schema leaf entries short found have given = record {
+  of = λ rows typed is.
+      let most = have.most in
+      let here : short ≡ map (key_row schema) (short_of schema most rows) = have.are ∙ ap (filter (has_short_key most)) is ∙ short_entries schema most rows in
+      let same : masked_given schema leaf (short_of schema most rows) ≡ masked_given schema leaf rows = ap (λ (l : List (List Row)). mask_rows leaf.reads (leaf_rows leaf l)) (short_tables schema most leaf.tables rows typed have.longest) in
+      subst (λ (o : Rows). Gives found o) same (given.of (short_of schema most rows) (short_typed schema most rows typed) here);
+}
+
+-- where those with short keys are no rows, none are
+pub no_rows_of_all : (schema : List Table) (ts : List ℕ) (entries short : List KeyRow) → HaveShortKeys schema ts entries short → AreNoRows schema short → AreNoRows schema entries
+no_rows_of_all schema ts entries short have none rows typed is =
+    none (short_of schema have.most rows) (short_typed schema have.most rows typed) (have.are ∙ ap (filter (has_short_key have.most)) is ∙ short_entries schema have.most rows)
+
+-- no key of tables is longer than a number that is not below one that none exceeds
+pub longest_raised : (schema : List Table) (n low high : ℕ) → low ≤ high → IsLongest schema n low → IsLongest schema n high
+longest_raised schema n low high le longest = record { of = λ r typed is. let within : length (code_of schema r) ≤ low = longest.of r typed is in omega arith }

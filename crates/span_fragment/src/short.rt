@@ -1,0 +1,42 @@
+//! The entries of a snapshot that may be rows of a leaf's tables: those with longer keys are passed over.
+ghost use Rattle.std.specs.Prelude.{◌≡◌, IfOk, map};
+ghost use Rattle.std.specs.List.{AllByRecursion};
+ghost use Rattle.span_schema.specs.Numbers.{IsTable};
+ghost use Rattle.span_shard.specs.Reading.{entry_row};
+ghost use Rattle.span_fragment.specs.Longest.{AreLongest, HaveShortKeys};
+
+use super::longest::longest_key;
+use span_schema::schema::Schema;
+use span_shard::shard::Entry;
+use span_shard::snapshot::Snapshot;
+use std::alloc::{AllocError, Global};
+
+/// A number of bytes that no coded key of the tables exceeds.
+fn longest_of(schema: &Schema, tables: &[usize]) -> usize
+    requires { AllByRecursion (IsTable schema.now) tables.now }
+    ensures { AreLongest schema.now tables.now result }
+{
+    let mut most = 0;
+    for table in tables {
+        most = most.max(longest_key(schema, *table));
+    }
+    most
+}
+
+/// The entries of a snapshot that may be rows of the tables.
+pub(crate) fn leaf_entries<'a>(
+    alloc: Global,
+    schema: &Schema,
+    tables: &[usize],
+    snapshot: Snapshot<'a>,
+) -> Result<Vec<Entry<'a>>, AllocError>
+    requires { AllByRecursion (IsTable schema.now) tables.now }
+    ensures { IfOk result (λ es. HaveShortKeys schema.now tables.now snapshot.entry (map entry_row es.items)) }
+{
+    let most = longest_of(schema, tables);
+    let mut entries = Vec::new(alloc);
+    for entry in snapshot.with_short_keys(most) {
+        entries.push(entry)?;
+    }
+    Ok(entries)
+}
