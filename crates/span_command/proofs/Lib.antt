@@ -3,6 +3,7 @@ pub mod Named
 pub mod Next
 pub mod Outside
 pub mod Ranges
+pub mod Rows
 pub mod Spaces
 pub mod Steps
 pub mod Within

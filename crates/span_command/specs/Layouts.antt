@@ -1,5 +1,5 @@
 -- Which field of a record is for which column, and the mutation that a record's fields make.
-use Rattle.std.specs.Prelude.{◌≡◌, ◌⊎◌, ℕ, ◌==◌, ◌<◌, List, Some, None, not, filter, position, length, get_or, slice_get}
+use Rattle.std.specs.Prelude.{◌≡◌, ◌⊎◌, ℕ, ◌==◌, ◌<◌, List, Option, Some, None, not, map, filter, position, length, get_or, slice_get}
 use Rattle.std.specs.List.{list_any, AllZip, enumerate_from}
 use Rattle.csv.specs.Records.{field_at}
 use Rattle.span_value.specs.declared.value.Kind.{Kind}
@@ -12,6 +12,9 @@ use Rattle.span_schema.specs.Numbers.{number_named, columns_of, key_places}
 use Rattle.span_mutate.specs.declared.mutation.NamedValue.{NamedValue}
 use Rattle.span_mutate.specs.declared.mutation.Mutation.{Mutation}
 use Rattle.span_mutate.specs.declared.mutation.MutationKind.{MutationKind}
+use Rattle.span_mutate.specs.declared.batch.Heading.{Heading}
+use Rattle.span_mutate.specs.declared.batch.BatchRow.{BatchRow}
+use Rattle.span_mutate.specs.Batches.{row_mutation}
 use Rattle.span_command.specs.declared.layout.Layout.{Layout}
 use Rattle.span_command.specs.declared.layout.KeyField.{KeyField}
 use Rattle.span_command.specs.declared.layout.CellField.{CellField}
@@ -31,10 +34,27 @@ IsKeyCell fields part value = IsFieldCell fields part.at part.kind value
 abbrev pub IsColumnCell : List (List ℕ) → CellField → NamedValue → Type 0
 IsColumnCell fields part cell = (cell.column ≡ part.column) × IsFieldCell fields part.at part.kind cell.value
 
+-- the value of a column's field
+abbrev pub IsColumnValue : List (List ℕ) → CellField → Option Value → Type 0
+IsColumnValue fields part cell = (value : Value) × (cell ≡ Some value) × IsFieldCell fields part.at part.kind value
+
+abbrev pub column_names : List CellField → List (List ℕ)
+column_names parts = map (λ (part : CellField). part.column) parts
+
+-- what the mutations of records have in common
+abbrev pub heading_of : Layout → MutationKind → Heading
+heading_of layout kind =
+    record { kind = kind; table = layout.table; columns = column_names layout.cells.items }
+
 -- the mutation of a record: as many fields as the layout has, and the values are those of their cells
 abbrev pub IsOfRecord : Layout → MutationKind → List (List ℕ) → Mutation → Type 0
 IsOfRecord layout kind fields m = (length fields ≡ layout.fields) × (m.kind ≡ kind) × (m.table ≡ layout.table)
     × AllZip (IsKeyCell fields) layout.key.items m.key × AllZip (IsColumnCell fields) layout.cells.items m.cells
+
+-- the row of a record: under the layout's heading it is the mutation of the record, whatever that does
+abbrev pub IsRowOf : Layout → List (List ℕ) → BatchRow → Type 0
+IsRowOf layout fields row =
+    (kind : MutationKind) → IsOfRecord layout kind fields (row_mutation (heading_of layout kind) row)
 
 -- ---- which layout names of columns have
 

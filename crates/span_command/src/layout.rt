@@ -1,17 +1,19 @@
 //! The layout of a record: which field is for which column, and the mutation that its fields make.
-ghost use Rattle.std.specs.Prelude.{◌≡◌, ◌⊎◌, ◌==◌, ℕ, ◌<◌, List, Some, None, false, length, IfOk, IfErr};
+ghost use Rattle.std.specs.Prelude.{◌≡◌, ◌⊎◌, ◌==◌, ℕ, ◌<◌, List, Some, None, false, length, IfOk, IfErr, MatchResult};
 ghost use Rattle.std.specs.List.{list_any, position, AllZip};
 ghost use Rattle.csv.specs.Records.{fields_of};
 ghost use Rattle.span_value.specs.declared.value.Value.{Value};
 ghost use Rattle.span_mutate.specs.declared.mutation.NamedValue.{NamedValue};
 ghost use Rattle.span_mutate.specs.declared.mutation.Mutation.{Mutation};
+ghost use Rattle.span_mutate.specs.declared.mutation.MutationKind.{MutationKind};
 ghost use Rattle.span_command.specs.Record.{pieces, record_fields, texts};
 ghost use Rattle.span_schema.specs.Numbers.{IsTable, columns_of, column_named, number_named, key_places};
 ghost use Rattle.span_command.specs.Columns.{AreBelow, ArePlaces, AreNamed, IsUnplaced, NamesNone};
-ghost use Rattle.span_command.specs.Layouts.{IsFieldCell, IsKeyCell, IsColumnCell, IsOfRecord, IsKeyField, IsCellField, outside_key, AreWithin, IsLayout, IsLayoutOf, IsKeyLayoutOf, LacksKey, HasNoLayout};
+ghost use Rattle.span_command.specs.Layouts.{IsFieldCell, IsKeyCell, IsColumnCell, IsColumnValue, IsOfRecord, IsRowOf, column_names, heading_of, IsKeyField, IsCellField, outside_key, AreWithin, IsLayout, IsLayoutOf, IsKeyLayoutOf, LacksKey, HasNoLayout};
 
 use crate::record_reader::{at_comma, lent_fields, plain_fields, read_fields};
 use csv::StringRecord;
+use span_mutate::batch::{BatchRow, Heading};
 use span_mutate::mutation::{Mutation, MutationKind, NamedValue};
 use span_schema::schema::Schema;
 use span_schema::table::{Column, kind_of_type};
@@ -131,6 +133,75 @@ impl Layout {
         }
     }
 
+    /// The row of the record that a text is: under the layout's heading it is the mutation that `read_mutation` makes, without the names.
+    /// `fields` is as there.
+    pub fn read_row(
+        &self,
+        alloc: Global,
+        text: &str,
+        fields: &mut StringRecord,
+    ) -> Result<BatchRow, Refusal>
+        ensures read { IfOk result (IsRowOf self.now (record_fields text.now)) }
+        ensures refusals { IfErr result
+            (λ why.
+            (why ≡ Refusal.OutOfMemory)
+            ⊎ ((why ≡ Refusal.WrongType)
+            × ((kind : MutationKind) (m : Mutation) → ¬ IsOfRecord self.now kind (record_fields text.now) m))) }
+    {
+        match plain_fields(alloc, text)? {
+            Some(pieces) => self.row_of(alloc, pieces.as_slice()),
+            None => {
+                read_fields(alloc, text, fields)?;
+                self.row(alloc, fields)
+            }
+        }
+    }
+
+    /// What the mutations have in common that rows of the layout's records are. The names are moved. `OutOfMemory` is the only refusal.
+    pub fn into_heading(self, alloc: Global, kind: MutationKind) -> Result<Heading, Refusal>
+        ensures { MatchResult result
+            (λ heading. heading ≡ heading_of self kind)
+            (λ why. why ≡ Refusal.OutOfMemory) }
+    {
+        let Layout { table, cells, .. } = self;
+        let columns = names_of(alloc, cells)?;
+        Ok(Heading {
+            kind,
+            table,
+            columns,
+        })
+    }
+
+    /// The row of a record. `WrongType`: a wrong number of fields, or a field that is no cell of its column's type.
+    fn row(&self, alloc: Global, fields: &StringRecord) -> Result<BatchRow, Refusal>
+        ensures read { IfOk result (IsRowOf self.now (fields_of fields.now)) }
+        ensures refusals { IfErr result
+            (λ why.
+            (why ≡ Refusal.OutOfMemory)
+            ⊎ ((why ≡ Refusal.WrongType)
+            × ((kind : MutationKind) (m : Mutation) → ¬ IsOfRecord self.now kind (fields_of fields.now) m))) }
+    {
+        let fields = lent_fields(alloc, fields)?;
+        self.row_of(alloc, fields.as_slice())
+    }
+
+    /// The row of these fields of a record. `WrongType`: a wrong number of fields, or a field that is no cell of its column's type.
+    fn row_of(&self, alloc: Global, fields: &[&str]) -> Result<BatchRow, Refusal>
+        ensures read { IfOk result (IsRowOf self.now (texts fields.now)) }
+        ensures refusals { IfErr result
+            (λ why.
+            (why ≡ Refusal.OutOfMemory)
+            ⊎ ((why ≡ Refusal.WrongType)
+            × ((kind : MutationKind) (m : Mutation) → ¬ IsOfRecord self.now kind (texts fields.now) m))) }
+    {
+        if self.fields != fields.len() {
+            return Err(Refusal::WrongType);
+        }
+        let key = key_of(alloc, self.key.as_slice(), fields)?;
+        let cells = values_of(alloc, self.cells.as_slice(), fields)?;
+        Ok(BatchRow { key, cells })
+    }
+
     /// The mutation of these fields of a record. `WrongType`: a wrong number of fields, or a field that is no cell of its column's type.
     fn mutation_of(
         &self,
@@ -174,6 +245,38 @@ fn key_of(alloc: Global, parts: &[KeyField], fields: &[&str]) -> Result<Seq<Valu
         key.push_reserved(value_at(alloc, fields, part.at, part.kind)?);
     }
     Ok(Seq::from_vec(key))
+}
+
+/// The values of the columns outside the key. `WrongType`: a field is no cell of its column's type.
+fn values_of(
+    alloc: Global,
+    parts: &[CellField],
+    fields: &[&str],
+) -> Result<Seq<Option<Value>>, Refusal>
+    ensures read { IfOk result (λ values. AllZip (IsColumnValue (texts fields.now)) parts.now values) }
+    ensures refusals { IfErr result
+        (λ why.
+        (why ≡ Refusal.OutOfMemory)
+        ⊎ ((why ≡ Refusal.WrongType)
+        × ((cells : List NamedValue) → ¬ AllZip (IsColumnCell (texts fields.now)) parts.now cells))) }
+{
+    let mut values = Vec::with_capacity(alloc, parts.len())?;
+    for part in parts {
+        values.push_reserved(Some(value_at(alloc, fields, part.at, part.kind)?));
+    }
+    Ok(Seq::from_vec(values))
+}
+
+/// The names of the columns that have fields. They are moved.
+fn names_of(alloc: Global, parts: Vec<CellField>) -> Result<Seq<Text>, AllocError>
+    ensures { IfOk result (λ names. names ≡ column_names parts.items) }
+{
+    let mut names = Vec::with_capacity(alloc, parts.len())?;
+    for part in parts {
+        let CellField { column, .. } = part;
+        names.push_reserved(column);
+    }
+    Ok(Seq::from_vec(names))
 }
 
 /// The cells of the columns outside the key. `WrongType`: a field is no cell of its column's type.

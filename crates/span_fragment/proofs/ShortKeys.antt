@@ -1,8 +1,9 @@
 -- Entries without those whose keys are longer than any of a leaf's tables: the leaf gives the same on them.
-use Rattle.std.proofs.Common.{◌≡◌, ◌∙◌, ◌==◌, ℕ, ◌≤◌, Bool, true, false, cond, List, [], ◌∷◌, length, map, Result, refl, ap, sym, subst, arith}
+use Rattle.std.proofs.Common.{◌≡◌, ◌⊎◌, inl, inr, ◌∙◌, ◌==◌, ℕ, ◌+◌, ◌<◌, ◌≤◌, Bool, true, false, cond, List, [], ◌∷◌, ◌++◌, length, take, get_or, map, Result, refl, ap, sym, subst, arith, add-one}
 use Rattle.std.specs.Prelude.{filter, nat_le}
 use Rattle.std.specs.List.{AllByRecursion}
 use Rattle.std.proofs.lemmas.Bool.{eqb-true}
+use Rattle.std.proofs.Math.Seq.{take-suc}
 use Rattle.span_schema.specs.declared.table.Table.{Table}
 use Rattle.span_mutate.specs.declared.row.TableRow.{TableRow}
 use Rattle.span_mutate.specs.Database.{rows_of}
@@ -77,10 +78,29 @@ given_on_all schema leaf entries short found have given = record {
 }
 
 -- where those with short keys are no rows, none are
-pub no_rows_of_all : (schema : List Table) (ts : List ℕ) (entries short : List KeyRow) → HaveShortKeys schema ts entries short → AreNoRows schema short → AreNoRows schema entries
+no_rows_of_all : (schema : List Table) (ts : List ℕ) (entries short : List KeyRow) → HaveShortKeys schema ts entries short → AreNoRows schema short → AreNoRows schema entries
 no_rows_of_all schema ts entries short have none rows typed is =
     none (short_of schema have.most rows) (short_typed schema have.most rows typed) (have.are ∙ ap (filter (has_short_key have.most)) is ∙ short_entries schema have.most rows)
 
--- no key of tables is longer than a number that is not below one that none exceeds
+pub refused_of_all : {A : Type 0} (schema : List Table) (ts : List ℕ) (entries short : List KeyRow) → HaveShortKeys schema ts entries short → A ⊎ AreNoRows schema short → A ⊎ AreNoRows schema entries
+refused_of_all schema ts entries short have (inl why) = inl why
+refused_of_all schema ts entries short have (inr none) = inr (no_rows_of_all schema ts entries short have none)
+
+-- ---- the longest key of tables, one after another
+
 pub longest_raised : (schema : List Table) (n low high : ℕ) → low ≤ high → IsLongest schema n low → IsLongest schema n high
 longest_raised schema n low high le longest = record { of = λ r typed is. let within : length (code_of schema r) ≤ low = longest.of r typed is in omega arith }
+
+all_raised : (schema : List Table) (ts : List ℕ) (low high : ℕ) → low ≤ high → AreLongest schema ts low → AreLongest schema ts high
+all_raised schema [] low high le longest = tt {0}
+all_raised schema (t ∷ ts) low high le longest = (longest_raised schema t low high le longest.0, all_raised schema ts low high le longest.1)
+
+with_one : (schema : List Table) (ts : List ℕ) (t most : ℕ) → AreLongest schema ts most → IsLongest schema t most → AreLongest schema (ts ++ t ∷ []) most
+with_one schema [] t most longest one = (one, tt {0})
+with_one schema (x ∷ ts) t most longest one = (longest.0, with_one schema ts t most longest.1 one)
+
+-- a number that is not below what no key of the tables so far exceeds, and that no key of the next one exceeds
+pub longest_next : (schema : List Table) (ts : List ℕ) (i low high : ℕ) → i < length ts → low ≤ high → AreLongest schema (take i ts) low → IsLongest schema (get_or ts i 0) high → AreLongest schema (take (i + 1) ts) high
+longest_next schema ts i low high lt le longest one =
+    let front : take (i + 1) ts ≡ take i ts ++ get_or ts i 0 ∷ [] = ap (λ (n : ℕ). take n ts) (add-one i) ∙ take-suc ts i 0 lt in
+    subst (λ (xs : List ℕ). AreLongest schema xs high) (sym front) (with_one schema (take i ts) (get_or ts i 0) high (all_raised schema (take i ts) low high le longest) one)

@@ -18,7 +18,10 @@ fn longest_of(schema: &Schema, tables: &[usize]) -> usize
 {
     let mut most = 0;
     for table in tables {
-        most = most.max(longest_key(schema, *table));
+        let longest = longest_key(schema, *table);
+        if most < longest {
+            most = longest;
+        }
     }
     most
 }

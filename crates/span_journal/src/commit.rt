@@ -1,24 +1,26 @@
-//! An entry of the log, whose mutations are those of the open transaction, by a share of their list.
+//! An entry of the log, whose mutations contracts alone see.
 ghost use Rattle.std.specs.Prelude.{◌≡◌};
-ghost use Rattle.std.specs.Arc.{arc_value};
 
 use span_mutate::mutation::CheckedMutation;
 use span_value::seq::Seq;
+use std::fmt;
 use std::marker::Model;
-use std::sync::Arc;
+use std::snapshot::Snapshot;
 
 /// An entry of the log. Contracts see it as the machine's commit.
-#[derive(Debug, Drop)]
+#[derive(Drop)]
 pub struct KeptCommit {
     timestamp: u64,
     number: u64,
     owner: u64,
-    /// The transaction has a share of the same list until it is applied.
-    mutations: Arc<Seq<CheckedMutation>>,
+    /// They take no memory: no code reads them, and what they made is in the versions of the shards.
+    mutations: Snapshot<Seq<CheckedMutation>>,
 }
 
+/// An entry has its three numbers and nothing else.
+const _: () = prove!(size_of::<KeptCommit>() == 24);
+
 impl Model for KeptCommit {
-    ghost use Rattle.std.specs.Arc.{arc_value};
     ghost use Rattle.span_machine.specs.declared.transaction.Commit.{Commit};
 
     ghost Value = { Commit };
@@ -27,31 +29,31 @@ impl Model for KeptCommit {
       timestamp = a.timestamp;
       number = a.number;
       owner = a.owner;
-      mutations = arc_value a.mutations;
+      mutations = a.mutations.value;
     } };
 }
 
 impl KeptCommit {
-    /// An entry of these mutations.
+    /// An entry of these mutations. It takes no memory.
     pub(crate) fn new(
         timestamp: u64,
         number: u64,
         owner: u64,
-        mutations: Arc<Seq<CheckedMutation>>,
+        mutations: &Seq<CheckedMutation>,
     ) -> KeptCommit
         ensures { result
             ≡ record {
               timestamp = timestamp;
               number = number;
               owner = owner;
-              mutations = arc_value mutations;
+              mutations = mutations.now;
             } }
     {
         KeptCommit {
             timestamp,
             number,
             owner,
-            mutations,
+            mutations: Snapshot::of(mutations),
         }
     }
 
@@ -75,11 +77,14 @@ impl KeptCommit {
     {
         self.owner
     }
+}
 
-    /// Its mutations.
-    pub fn mutations(&self) -> &[CheckedMutation]
-        ensures { result.now ≡ self.now.mutations }
-    {
-        self.mutations.as_slice()
+impl fmt::Debug for KeptCommit {
+    fn fmt<W: fmt::Write>(&self, f: &mut fmt::Formatter<W>) -> fmt::Result {
+        f.debug_struct("KeptCommit")
+            .field("timestamp", &self.timestamp)
+            .field("number", &self.number)
+            .field("owner", &self.owner)
+            .finish_non_exhaustive()
     }
 }

@@ -178,7 +178,7 @@ impl Journal {
         self.slots.as_slice()
     }
 
-    /// The commits, in the order in which they joined.
+    /// The commits, in the order in which they joined. Contracts alone see their mutations.
     pub fn log(&self) -> &[KeptCommit]
         ensures { result.now ≡ self.now.log }
     {
@@ -208,9 +208,8 @@ impl Journal {
         count_prepared(self.transactions.as_slice(), slot)
     }
 
-    /// Begins a transaction, and returns its number. It reserves the capacity that its prepares and its commit take,
-    /// and makes the log's share of its mutations. `TransactionTableFull`, then `LogFull`, then `OutOfMemory`; a
-    /// refusal leaves all as it was.
+    /// Begins a transaction, and returns its number. It reserves the capacity that its prepares and its commit take.
+    /// `TransactionTableFull`, then `LogFull`, then `OutOfMemory`; a refusal leaves all as it was.
     pub fn begin(
         &mut self,
         alloc: Global,

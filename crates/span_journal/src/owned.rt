@@ -3,21 +3,10 @@
 //! To prove that a tree is dropped safely takes seconds to minutes at each place where one may be dropped. What may
 //! drop one is here, for values of any type, and is proved once.
 ghost use Rattle.std.specs.Prelude.{◌≡◌, ◌<◌, ◌≤◌, ◌++◌, ◌∷◌, [], IfOk, MatchResult, Ok, Err, OnOk, OnErr, length, insert, remove};
-ghost use Rattle.std.specs.Arc.{arc_value};
 
 use span_value::seq::Seq;
 use std::alloc::{AllocError, Global};
 use std::mem;
-use std::sync::Arc;
-
-/// Two owners of one value. Without memory for them the value is dropped.
-pub(crate) fn share<T: Drop>(alloc: Global, value: T) -> Result<(Arc<T>, Arc<T>), AllocError>
-    ensures { IfOk result (λ both. (arc_value both.0 ≡ value) × (arc_value both.1 ≡ value)) }
-{
-    let first = Arc::new(alloc, value)?;
-    let second = Arc::try_clone(&first)?;
-    Ok((first, second))
-}
 
 /// Pairs a value with the next result. An error drops the value.
 pub(crate) fn pair_with<A: Drop, B, E>(first: A, second: Result<B, E>) -> Result<(A, B), E>

@@ -5,33 +5,27 @@ ghost use Rattle.span_machine.specs.Machine.{with_decision, is_undecided, is_pre
 
 use super::commit::KeptCommit;
 use super::journal::MOST_SLOTS;
-use super::owned::share;
 use span_machine::transaction::{Decision, Prepared};
 use span_mutate::mutation::CheckedMutation;
 use span_value::seq::Seq;
 use std::alloc::{AllocError, Global};
 use std::marker::Model;
-use std::sync::Arc;
 
-/// An open transaction, with the share of its mutations that its log entry takes over.
+/// An open transaction.
 #[derive(Debug, Drop)]
 pub struct KeptTransaction {
     owner: u64,
     number: u64,
-    mutations: Arc<Seq<CheckedMutation>>,
+    mutations: Seq<CheckedMutation>,
     decision: Decision,
     /// Where it is prepared. It has reserved capacity for every slot that there may be.
     prepared: Vec<Prepared>,
-    /// The log's share of the same list, until the transaction is committed.
-    entry: Option<Arc<Seq<CheckedMutation>>>,
 }
 
 impl Model for KeptTransaction {
-    ghost use Rattle.std.specs.Prelude.{◌≡◌, ◌≤◌, true, IsSomeAnd, vec_capacity};
-    ghost use Rattle.std.specs.Arc.{arc_value};
+    ghost use Rattle.std.specs.Prelude.{◌≤◌, vec_capacity};
     ghost use Rattle.span_machine.specs.Limits.{most_slots};
     ghost use Rattle.span_machine.specs.declared.transaction.OpenTransaction.{OpenTransaction};
-    ghost use Rattle.span_machine.specs.Machine.{undecided};
     ghost use Rattle.span_journal.specs.Places.{AreOfSlots};
 
     ghost Value = { OpenTransaction };
@@ -39,20 +33,19 @@ impl Model for KeptTransaction {
     ghost view = { λ a. record {
       owner = a.owner;
       number = a.number;
-      mutations = arc_value a.mutations;
+      mutations = a.mutations;
       decision = a.decision;
       prepared = a.prepared.items;
     } };
 
     ghost invariant = { λ a. record {
-      entry : undecided a.decision ≡ true → IsSomeAnd a.entry (λ e. arc_value e ≡ arc_value a.mutations);
       room : most_slots ≤ vec_capacity a.prepared;
       slots : AreOfSlots a.prepared.items;
     } };
 }
 
 impl KeptTransaction {
-    /// A transaction that is begun, with a share of its mutations for the log.
+    /// A transaction that is begun.
     pub(crate) fn new(
         alloc: Global,
         owner: u64,
@@ -71,14 +64,12 @@ impl KeptTransaction {
             }) }
     {
         let prepared = Vec::with_capacity(alloc, MOST_SLOTS)?;
-        let (mutations, entry) = share(alloc, mutations)?;
         Ok(KeptTransaction {
             owner,
             number,
             mutations,
             decision: Decision::Undecided,
             prepared,
-            entry: Some(entry),
         })
     }
 
@@ -88,9 +79,8 @@ impl KeptTransaction {
         ensures commit { result ≡ commit_of timestamp self.old }
         ensures after { self.new ≡ with_decision (Decision.Committed timestamp) self.old }
     {
-        let mutations = self.entry.take().unwrap();
         self.decision = Decision::Committed(timestamp);
-        KeptCommit::new(timestamp, self.number, self.owner, mutations)
+        KeptCommit::new(timestamp, self.number, self.owner, &self.mutations)
     }
 
     /// Aborts. It takes no memory.

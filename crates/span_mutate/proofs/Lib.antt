@@ -1,4 +1,5 @@
 pub mod Apart
+pub mod Batched
 pub mod Begins
 pub mod Breaks
 pub mod ByRoots

@@ -1,6 +1,7 @@
 pub mod Columns
 pub mod Checking
 pub mod InOrder
+pub mod Batches
 pub mod RootKeys
 pub mod Rows
 pub mod Database

@@ -73,8 +73,8 @@ pub(crate) fn check_key(
     Ok(())
 }
 
-// Whether the column, if there is one, takes the value.
-fn check_value(column: Option<&Column>, value: &Value) -> Result<(), Refusal>
+/// Whether the column, if there is one, takes the value.
+pub(crate) fn check_value(column: Option<&Column>, value: &Value) -> Result<(), Refusal>
     ensures { MatchResult result
         (λ _. first_cause (value_causes (option_copied column.entry) value.now) ≡ None)
         (λ why. first_cause (value_causes (option_copied column.entry) value.now) ≡ Some why) }
@@ -271,8 +271,8 @@ fn is_table_named(schema: &Schema, number: usize, name: &str) -> bool
     schema.table(number).name.as_str() == name
 }
 
-// The number of the table with a name: mostly that of the last of these mutations, and then no other is looked at.
-fn table_number(schema: &Schema, before: &[CheckedMutation], name: &str) -> Option<usize>
+/// The number of the table with a name: mostly that of the last of these mutations, and then no other is looked at.
+pub(crate) fn table_number(schema: &Schema, before: &[CheckedMutation], name: &str) -> Option<usize>
     requires { All (λ m. IsTable schema.now m.table) before.now }
     ensures number { result ≡ number_named schema.now name.now }
     ensures table { IfSome result (λ n. IsTable schema.now n) }

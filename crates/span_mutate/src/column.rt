@@ -1,5 +1,6 @@
 //! What a column takes, and which columns cells name.
-ghost use Rattle.std.specs.Prelude.{◌≡◌, ℕ, List, Some, false, map, nat_lt, position, slice_get, IfSome, IsTrue, MatchResult, length};
+ghost use Rattle.std.specs.Prelude.{◌≡◌, ℕ, List, Some, false, map, nat_lt, position, slice_get, IfSome, IsTrue, MatchResult, length, is_some};
+ghost use Rattle.std.specs.List.{list_all};
 ghost use Rattle.std.specs.Option.{option_copied};
 ghost use Rattle.std.specs.Str.{chars};
 ghost use Rattle.span_schema.specs.Fitting.{Fits};
@@ -8,12 +9,14 @@ ghost use Rattle.span_schema.specs.Rules.{has_repeated_column};
 ghost use Rattle.span_mutate.specs.Typed.{AreNamed, is_named_kind, are_named_kinds};
 ghost use Rattle.span_mutate.specs.declared.mutation.NamedValue.{NamedValue};
 ghost use Rattle.span_mutate.specs.Columns.{column_named, cell_column, has_wrong_type, is_null, is_null_refused, exceeds, exceeds_type, is_too_long, is_named, is_lacking, lacks_cell, value_named, values_named};
-ghost use Rattle.span_mutate.specs.InOrder.{is_cell_of, are_cells_at, are_in_order, places_break};
+ghost use Rattle.span_mutate.specs.InOrder.{is_cell_of, are_cells_at, is_name_of, are_names_at, are_in_order, places_break};
+ghost use Rattle.span_mutate.specs.Batches.{is_full};
 
 use super::mutation::NamedValue;
 use span_schema::fitting::is_of_kind;
 use span_schema::table::{Column, KeyColumn, Table, are_same, is_in_key, kind_of_type};
 use span_value::refusal::Refusal;
+use span_value::text::Text;
 use span_value::value::{ColumnType, Kind, Value};
 use std::alloc::Global;
 
@@ -171,6 +174,44 @@ pub(crate) fn are_cells_at(columns: &[Column], places: &[usize], cells: &[NamedV
         }
     }
     true
+}
+
+// Whether the name is the column's, letter by letter.
+fn is_name_of(column: Option<&Column>, name: &Text) -> bool
+    ensures { result ≡ is_name_of (option_copied column.entry) name.now }
+{
+    match column {
+        None => false,
+        Some(c) => name.as_str() == c.name.as_str(),
+    }
+}
+
+/// Whether there is one name for the column at each of these places, in order.
+pub(crate) fn are_names_at(columns: &[Column], places: &[usize], names: &[Text]) -> bool
+    ensures { result ≡ are_names_at columns.now places.now names.now }
+{
+    if places.len() != names.len() {
+        return false;
+    }
+    for i in 0..places.len() {
+        if !is_name_of(column_at(columns, places[i]), &names[i]) {
+            return false;
+        }
+    }
+    true
+}
+
+fn are_there(cells: &[Option<Value>]) -> bool
+    ensures { result ≡ list_all is_some cells.now }
+{
+    cells.iter().all(|cell| cell.is_some())
+}
+
+/// Whether there is a value for each of the names.
+pub(crate) fn is_full(names: &[Text], cells: &[Option<Value>]) -> bool
+    ensures { result ≡ is_full names.now cells.now }
+{
+    names.len() == cells.len() && are_there(cells)
 }
 
 /// Whether a cell is of the column with this name.

@@ -1,6 +1,8 @@
 //! Mutations: what a transaction asks for, and what it makes of the rows of a directory.
 #![tactic(auto)]
 
+pub mod batch;
+mod batch_check;
 mod check;
 mod column;
 mod copy;

@@ -1,10 +1,13 @@
 //! A transaction as it is begun: mutations that were checked against the schema.
 ghost use Rattle.std.specs.Prelude.{◌≡◌, ◌⊎◌, Ok, Err, IfOk, IfErr, MatchResult, All};
 ghost use Rattle.span_schema.specs.Numbers.{IsTable};
+ghost use Rattle.span_mutate.specs.Batches.{batch_mutations};
 ghost use Rattle.span_mutate.specs.Checking.{checked_all, checked_transaction};
 ghost use Rattle.span_mutate.specs.Directories.{AreKeyed};
 ghost use Rattle.span_mutate.specs.Typed.{AreTypedMutations};
 
+use super::batch::MutationBatch;
+use super::batch_check::check_batches;
 use super::check::check;
 use super::copy::copy_of_mutations;
 use super::mutation::{CheckedMutation, Mutation};
@@ -56,6 +59,31 @@ impl Transaction {
         }
         Ok(Transaction {
             mutations: Seq::from_vec(check_all(alloc, schema, mutations)?),
+        })
+    }
+
+    /// A transaction of the mutations of these batches, one after another: what `new` makes of them, and refuses as `new` does. The
+    /// names of a batch are looked up once, and a row's values are moved.
+    pub fn from_batches(
+        alloc: Global,
+        schema: &Schema,
+        batches: Vec<MutationBatch>,
+    ) -> Result<Transaction, Refusal>
+        ensures ok { IfOk result (λ t. checked_transaction schema.now (batch_mutations batches.items) ≡ Ok t) }
+        ensures tables { IfOk result (λ t. All (λ m. IsTable schema.now m.table) t) }
+        ensures keyed { IfOk result (λ t. AreKeyed schema.now t) }
+        ensures typed { IfOk result (λ t. AreTypedMutations schema.now t) }
+        ensures refused { IfErr result
+            (λ why.
+            (why ≡ Refusal.OutOfMemory)
+            ⊎ (checked_transaction schema.now (batch_mutations batches.items) ≡ Err why)) }
+    {
+        let checked = check_batches(alloc, schema, batches)?;
+        if checked.is_empty() {
+            return Err(Refusal::EmptyTransaction);
+        }
+        Ok(Transaction {
+            mutations: Seq::from_vec(checked),
         })
     }
 

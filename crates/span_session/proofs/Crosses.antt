@@ -1,7 +1,7 @@
 -- A database may be shared by threads: what lies under its locks may cross to another thread.
 --
--- Of a type that has no expression or query in it, its own crate proves this (`TheSendSync`). `search` goes down through the fields of the
--- others, and gives up at a limit where they are many, so that each has a line of its own here.
+-- Of a type that has no expression or query in it, and no value that contracts alone see, its own crate proves this (`TheSendSync`).
+-- `search` goes down through the fields of the others, and gives up at a limit where they are many, so that each has a line of its own here.
 use denote.RattleType.{RattleType}
 use denote.Param.Send.{IsSend, IsSync, sendable}
 use Rattle.std.proofs.Crossing.{crosses}
@@ -22,7 +22,7 @@ use Rattle.span_machine.specs.contracts.query.ScanLeaf as ScanLeaf
 use Rattle.span_machine.proofs.slot.SlotState.TheSendSync as of_slot
 use Rattle.span_fragment.proofs.piece.Piece.TheSendSync as of_piece
 use Rattle.span_journal.proofs.transaction.KeptTransaction.TheSendSync as of_transaction
-use Rattle.span_journal.proofs.commit.KeptCommit.TheSendSync as of_commit
+use Rattle.span_journal.specs.contracts.commit.KeptCommit as KeptCommit
 use Rattle.span_journal.specs.contracts.query.KeptQuery as KeptQuery
 use Rattle.span_journal.specs.contracts.journal.Journal as Journal
 use Rattle.atomic_table.proofs.badge.Badge.TheSendSync as of_badge
@@ -104,8 +104,11 @@ open_query_send = search (crosses, statement_send, scan_leaf_send, bound_query_s
 kept_query_send : IsSend KeptQuery.the_row
 kept_query_send = search (crosses, open_query_send, of_piece.the_field_send, sendable) depth 60 fits 20000
 
+kept_commit_send : IsSend KeptCommit.the_row
+kept_commit_send = search (crosses, sendable) depth 60 fits 20000
+
 pub journal_send : IsSend Journal.the_row
-journal_send = search (crosses, kept_query_send, of_transaction.the_send, of_commit.the_send, of_slot.the_field_send, sendable) depth 60 fits 20000
+journal_send = search (crosses, kept_query_send, of_transaction.the_send, kept_commit_send, of_slot.the_field_send, sendable) depth 60 fits 20000
 
 -- ---- a database and its sessions
 

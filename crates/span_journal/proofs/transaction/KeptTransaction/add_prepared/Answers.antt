@@ -21,7 +21,6 @@ invariant_of-self c =
     let items : c.push.new.self.items ≡ ps ++ c.args.prepared ∷ [] =
     c.push.ensures.items ∙ ap (λ r. if is_ok r then ps ++ c.args.prepared ∷ [] else ps) c.unwrap.ensures in
     record {
-      entry = c.self.invariant.entry;
       room = omega (arith, c.self.invariant.room, c.push.ensures.capacity);
       slots = subst AreOfSlots (sym items) (once_more ps c.args.prepared c.self.invariant.slots apart c.requires.slot);
     }

@@ -6,7 +6,6 @@ use Rattle.span_journal.proofs.transaction.KeptTransaction.remove_prepared.Goals
 
 pub invariant_of-self : goal.invariant_of-self
 invariant_of-self c = record {
-  entry = c.self.invariant.entry;
   room = omega (arith, c.self.invariant.room, c.keep_other_slots.ensures.capacity);
   slots = subst AreOfSlots (sym c.keep_other_slots.ensures.items) (once_fewer (λ (p : Prepared). not (p.slot == c.args.slot)) c.self.inside.prepared.items c.self.invariant.slots);
 }
