@@ -5,7 +5,7 @@ use Rattle.std.proofs.lemmas.List.{take_more, map-append}
 use Rattle.span_expr.specs.declared.expr.Arm.{Arm}
 use Rattle.span_expr.specs.declared.expr.Expr.{Expr}
 use Rattle.span_expr.specs.declared.expr.Expr.TheVariants as e
-use Rattle.span_expr.specs.declared.expr.Expr.TheVariants.{rolls-Between, rolls-Match}
+use Rattle.span_expr.specs.declared.expr.Expr.TheVariants.{rolls-Between, rolls-StartsWith, rolls-Match}
 use Rattle.span_expr.specs.declared.expr.Expr.TheOpen.{Expr-F}
 use Rattle.span_expr.specs.declared.expr.Expr.TheFolds.{fold-roll-Expr}
 use Rattle.span_expr.specs.Places.{move_at, moved, moved_arm}
@@ -25,6 +25,12 @@ copied_between f expr a low high x y z p q r is at_a at_low at_high copied_a cop
     ∙ ap (λ (w : Expr). e.Between (moved f a) w r) (copied_low ∙ ap (moved f) at_low)
     ∙ ap (λ (w : Expr). e.Between (moved f a) (moved f low) w) (copied_high ∙ ap (moved f) at_high)
     ∙ sym (ap (moved f) (is ∙ sym (rolls-Between a low high)) ∙ fold-roll-Expr Expr (move_at f) (Expr-F.Between a low high) ∙ rolls-Between (moved f a) (moved f low) (moved f high))
+
+pub copied_starts_with : (f : ℕ → ℕ) (expr a front x y p q : Expr) → expr ≡ e.StartsWith a front → x ≡ a → y ≡ front → p ≡ moved f x → q ≡ moved f y → e.StartsWith p q ≡ moved f expr
+copied_starts_with f expr a front x y p q is at_a at_front copied_a copied_front =
+    ap (λ (w : Expr). e.StartsWith w q) (copied_a ∙ ap (moved f) at_a)
+    ∙ ap (λ (w : Expr). e.StartsWith (moved f a) w) (copied_front ∙ ap (moved f) at_front)
+    ∙ sym (ap (moved f) (is ∙ sym (rolls-StartsWith a front)) ∙ fold-roll-Expr Expr (move_at f) (Expr-F.StartsWith a front) ∙ rolls-StartsWith (moved f a) (moved f front))
 
 moved-Match : (f : ℕ → ℕ) (a : Expr) (arms : List (Arm Expr)) (otherwise : Option Expr) → moved f (e.Match a arms otherwise) ≡ e.Match (moved f a) (map (moved_arm f) arms) (option_map (moved f) otherwise)
 moved-Match f a arms None = ap (moved f) (sym (rolls-Match a arms None)) ∙ fold-roll-Expr Expr (move_at f) (Expr-F.Match a arms None) ∙ rolls-Match (moved f a) (map (moved_arm f) arms) None

@@ -73,6 +73,14 @@ move_at-same : (f : ℕ → ℕ) → ((k : ℕ) → f k ≡ k) → (y : Expr-F E
 move_at-same f same (Expr-F.Column place) = ap (λ (k : ℕ). roll-Expr (Expr-F.Column k)) (same place)
 move_at-same f same y = refl
 
+move_at-agree : (f g : ℕ → ℕ) → ((k : ℕ) → f k ≡ g k) → (y : Expr-F Expr) → move_at f y ≡ move_at g y
+move_at-agree f g same (Expr-F.Column place) = ap (λ (k : ℕ). roll-Expr (Expr-F.Column k)) (same place)
+move_at-agree f g same y = refl
+
+-- the same places, the same expression
+pub moved-agree : (f g : ℕ → ℕ) → ((k : ℕ) → f k ≡ g k) → (e : Expr) → moved f e ≡ moved g e
+moved-agree f g same e = fold-same Expr (move_at f) (move_at g) (move_at-agree f g same) e
+
 -- columns that stay where they are
 pub moved-same : (f : ℕ → ℕ) → ((k : ℕ) → f k ≡ k) → (e : Expr) → moved f e ≡ e
 moved-same f same e = fold-same Expr (move_at f) roll-Expr (move_at-same f same) e ∙ fold-roll e

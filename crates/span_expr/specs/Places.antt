@@ -1,5 +1,5 @@
 -- The columns that an expression reads, by their places.
-use Rattle.std.specs.Prelude.{ℕ, nat_le, nat_lt, Bool, true, ◌&&◌}
+use Rattle.std.specs.Prelude.{ℕ, zero, suc, nat_le, nat_lt, Bool, true, false, ◌&&◌, List, [], ◌∷◌}
 use Rattle.std.specs.List.{list_all}
 use Rattle.span_expr.specs.declared.expr.Expr.{Expr}
 use Rattle.span_expr.specs.declared.expr.Expr.TheOpen.{Expr-F}
@@ -43,6 +43,13 @@ move_at f y = roll-Expr y
 -- the expression with each column at another place
 abbrev pub moved : (ℕ → ℕ) → Expr → Expr
 moved f = fold-Expr Expr (move_at f)
+
+-- how many of the places before a place a mask has; after its end each place counts
+abbrev pub rank : List Bool → ℕ → ℕ
+rank [] place = place
+rank (m ∷ ms) zero = zero
+rank (true ∷ ms) (suc place) = suc (rank ms place)
+rank (false ∷ ms) (suc place) = rank ms place
 
 -- a place from the one on, and before the other
 abbrev pub is_in : ℕ → ℕ → ℕ → Bool

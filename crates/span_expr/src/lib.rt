@@ -10,5 +10,6 @@ pub mod expr;
 pub mod form;
 mod operator;
 pub mod pattern;
+pub mod rank;
 pub mod reads;
 pub mod total;

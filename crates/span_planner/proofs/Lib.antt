@@ -23,6 +23,11 @@ pub mod MaskedQuery
 pub mod Reading
 pub mod ReadAbove
 pub mod MaskedPlan
+pub mod Picked
+pub mod PickedGroups
+pub mod PickedQuery
+pub mod PickedPlan
+pub mod Layered
 pub mod OwnReads
 pub mod OwnChecks
 pub mod MaskableLeaves

@@ -20,7 +20,8 @@ use Rattle.span_planner.specs.declared.leaf.Leaf.{Leaf}
 use Rattle.span_planner.specs.declared.leaf.Plan.{Plan}
 use Rattle.span_planner.specs.Conditions.{equates_all, pushable, conjuncts_on}
 use Rattle.span_planner.specs.Ranges.{leaf_range}
-use Rattle.span_planner.specs.Reads.{is_read}
+use Rattle.span_planner.specs.Narrow.{narrowed}
+use Rattle.span_planner.specs.Reads.{is_read, masks_of}
 
 -- ---- tables
 
@@ -194,5 +195,10 @@ planned schema tables = fold-BoundQuery Planned (planned_query schema tables)
 abbrev pub leaves_of : List Table → List ℕ → BoundQuery → List Leaf
 leaves_of schema tables q = (planned schema tables q).leaves
 
+-- the query above them, where they give all columns of their tables
+abbrev pub top_of : List Table → List ℕ → BoundQuery → BoundQuery
+top_of schema tables q = (planned schema tables q).top 0
+
+-- the leaves give the columns alone that are read
 abbrev pub plan_of : List Table → List ℕ → BoundQuery → Plan
-plan_of schema tables q = record { leaves = (planned schema tables q).leaves; top = (planned schema tables q).top 0 }
+plan_of schema tables q = record { leaves = leaves_of schema tables q; top = narrowed (masks_of (leaves_of schema tables q)) (top_of schema tables q) }

@@ -8,3 +8,5 @@ pub mod Numbered
 pub mod Masks
 pub mod Reads
 pub mod Maskable
+pub mod Picks
+pub mod Narrow

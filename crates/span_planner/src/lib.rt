@@ -5,6 +5,7 @@ mod condition;
 mod copy;
 pub mod first;
 pub mod leaf;
+pub mod narrow;
 pub mod plan;
 mod range;
 mod reads;
