@@ -19,3 +19,4 @@ pub mod Shown
 pub mod Passes
 pub mod Skipping
 pub mod Indexing
+pub mod Cutting
