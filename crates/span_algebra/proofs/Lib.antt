@@ -20,3 +20,4 @@ pub mod Passes
 pub mod Skipping
 pub mod Indexing
 pub mod Cutting
+pub mod LentRows

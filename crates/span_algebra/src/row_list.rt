@@ -2,8 +2,9 @@
 ghost use Rattle.std.specs.Prelude.{◌≡◌, ◌==◌, ◌<◌, ◌≤◌, ◌-◌, ◌++◌, ◌∷◌, [], IfOk, OnOk, OnErr, drop, length, slice_index_or, take};
 ghost use Rattle.span_algebra.specs.Cuts.{AreEnds, cut_at, shifted, start_at};
 
-use super::row::copy_of;
-use span_value::value::Value;
+use super::row::{copy_row, extend_row};
+use span_value::seq::Seq;
+use span_value::value::{Row, Value};
 use std::alloc::{AllocError, Global};
 use std::marker::Model;
 
@@ -74,12 +75,31 @@ impl RowList {
         push_values(&mut self.values, &mut self.ends, row)
     }
 
+    /// Adds a row, whose values are moved. An error leaves the rows as they were.
+    pub(crate) fn push_row(&mut self, row: Row) -> Result<(), AllocError>
+        ensures { OnOk result (self.new ≡ self.old ++ row ∷ []) }
+    {
+        let mut values = row.into_vec();
+        self.push(&mut values)
+    }
+
     /// Adds a copy of a row. An error leaves the rows as they were.
     pub fn push_copy(&mut self, alloc: Global, row: &[Value]) -> Result<(), AllocError>
         ensures ok { OnOk result (self.new ≡ self.old ++ row.now ∷ []) }
         ensures err { OnErr result (self.new ≡ self.old) }
     {
         push_copies(alloc, &mut self.values, &mut self.ends, row)
+    }
+
+    /// The rows, each in a vector of its own.
+    pub(crate) fn to_rows(&self, alloc: Global) -> Result<Vec<Row>, AllocError>
+        ensures { IfOk result (λ rows. rows.items ≡ self.now) }
+    {
+        let mut rows = Vec::with_capacity(alloc, self.len())?;
+        for at in 0..self.len() {
+            rows.push(copy_row(alloc, self.row(at))?)?;
+        }
+        Ok(rows)
     }
 
     /// Adds rows. An error leaves the rows as they were.
@@ -139,24 +159,13 @@ fn push_values(
     Ok(())
 }
 
-/// Adds copies of values. An error leaves some of them added.
-fn add_copies(alloc: Global, values: &mut Vec<Value>, more: &[Value]) -> Result<(), AllocError>
-    ensures ok { OnOk result (values.new.items ≡ values.old.items ++ more.now) }
-    ensures kept { take (length values.old.items) values.new.items ≡ values.old.items }
-{
-    for value in more {
-        values.push(copy_of(alloc, value)?)?;
-    }
-    Ok(())
-}
-
 /// Adds copies of values. An error leaves the values as they were.
 fn add_row(alloc: Global, values: &mut Vec<Value>, row: &[Value]) -> Result<(), AllocError>
     ensures ok { OnOk result (values.new.items ≡ values.old.items ++ row.now) }
     ensures err { OnErr result (values.new.items ≡ values.old.items) }
 {
     let kept = values.len();
-    match add_copies(alloc, values, row) {
+    match extend_row(alloc, values, row) {
         Ok(()) => Ok(()),
         Err(why) => {
             values.truncate(kept);
