@@ -1,5 +1,5 @@
 -- Lists that lie one after another in one list: their number, one of them, and more of them.
-use Rattle.std.proofs.Common.{◌≡◌, ◌∙◌, ◌≤◌, ◌<◌, ◌+◌, ◌-◌, ◌++◌, ◌∷◌, [], ℕ, zero, suc, List, take, drop, map, length, get_or, ap, sym, subst, refl, arith, length-append}
+use Rattle.std.proofs.Common.{◌≡◌, ◌∙◌, ◌≤◌, ◌<◌, ◌+◌, ◌-◌, ◌++◌, ◌∷◌, [], ℕ, zero, suc, List, take, drop, length, get_or, ap, sym, subst, refl, arith, length-append}
 use Rattle.std.proofs.lemmas.Grind.{common_steps}
 use Rattle.std.proofs.Math.Seq.{drop-append-add}
 use Rattle.span_algebra.specs.Cuts.{cut_at, AreEnds, shifted, start_at}

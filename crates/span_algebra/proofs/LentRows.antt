@@ -1,5 +1,5 @@
 -- Rows that are lent, as the list of these rows.
-use Rattle.std.proofs.Common.{◌≡◌, ◌∙◌, ◌<◌, ◌≤◌, ◌+◌, ◌-◌, ◌++◌, ◌∷◌, [], ℕ, Bool, true, false, cond, List, Some, take, drop, map, min, length, get_or, append_assoc, ap, sym, subst, refl, arith}
+use Rattle.std.proofs.Common.{◌≡◌, ◌∙◌, ◌<◌, ◌+◌, ◌++◌, ◌∷◌, [], ℕ, Bool, true, false, cond, List, Some, take, drop, length, get_or, append_assoc, ap, sym}
 use denote.Ref.{Bor}
 use Rattle.std.specs.Prelude.{slice_get, option_map}
 use Rattle.std.proofs.lemmas.List.{length-map, map-append, take-map, drop-map, get_or-map}

@@ -1,5 +1,5 @@
 -- To pass over the front, and then cut off the end.
-use Rattle.std.proofs.Common.{◌≡◌, sym, ap, ◌∙◌, ℕ, ◌+◌, ◌-◌, ◌≤◌, min, List, take, drop, length, take_all, take-take, drop_of_length-le, arith, inl, inr}
+use Rattle.std.proofs.Common.{◌≡◌, sym, ap, ◌∙◌, ℕ, ◌+◌, ◌-◌, min, List, take, drop, length, take_all, take-take, drop_of_length-le, arith, inl, inr}
 use Rattle.std.proofs.Math.Nat.{min-eq_left, min-eq_right}
 use Rattle.std.proofs.lemmas.Bool.{cases_lt}
 use Rattle.std.proofs.lemmas.List.{drop-take, take_rest}

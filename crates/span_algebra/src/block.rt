@@ -16,11 +16,7 @@ use std::alloc::Global;
 
 /// The select list at the rows of the FROM, or at those of the groups.
 #[tactic(auto, using(crate::proofs::Blocks::block_laws))]
-fn outputs_of(
-    alloc: Global,
-    block: &Block<BoundQuery>,
-    rows: &RowList,
-) -> Result<RowList, Failure>
+fn outputs_of(alloc: Global, block: &Block<BoundQuery>, rows: &RowList) -> Result<RowList, Failure>
     ensures { Gives result (outputs_of block.now rows.now) }
 {
     let outputs = block.outputs.as_slice();

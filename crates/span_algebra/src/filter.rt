@@ -38,11 +38,7 @@ fn filter_by(alloc: Global, condition: &Expr, rows: &RowList) -> Result<RowList,
 }
 
 /// The rows at which the condition is TRUE, or all rows where there is none. The error is an arithmetic error, or out of memory.
-pub fn filter_rows(
-    alloc: Global,
-    filter: &Option<Expr>,
-    rows: RowList,
-) -> Result<RowList, Failure>
+pub fn filter_rows(alloc: Global, filter: &Option<Expr>, rows: RowList) -> Result<RowList, Failure>
     ensures { Gives result (filter_where filter.now rows) }
 {
     match filter {

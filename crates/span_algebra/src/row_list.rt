@@ -91,15 +91,15 @@ impl RowList {
         push_copies(alloc, &mut self.values, &mut self.ends, row)
     }
 
-    /// The rows, each in a vector of its own.
-    pub(crate) fn to_rows(&self, alloc: Global) -> Result<Vec<Row>, AllocError>
-        ensures { IfOk result (λ rows. rows.items ≡ self.now) }
+    /// Copies of the rows, each in a vector of its own.
+    pub fn to_rows(&self, alloc: Global) -> Result<Seq<Row>, AllocError>
+        ensures { IfOk result (λ rows. rows ≡ self.now) }
     {
         let mut rows = Vec::with_capacity(alloc, self.len())?;
         for at in 0..self.len() {
             rows.push(copy_row(alloc, self.row(at))?)?;
         }
-        Ok(rows)
+        Ok(Seq::from_vec(rows))
     }
 
     /// Adds rows. An error leaves the rows as they were.
@@ -108,7 +108,12 @@ impl RowList {
         ensures err { OnErr result (self.new ≡ self.old) }
     {
         let RowList { mut values, ends } = more;
-        append_parts(&mut self.values, &mut self.ends, &mut values, ends.as_slice())
+        append_parts(
+            &mut self.values,
+            &mut self.ends,
+            &mut values,
+            ends.as_slice(),
+        )
     }
 }
 

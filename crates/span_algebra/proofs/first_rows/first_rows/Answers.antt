@@ -1,7 +1,6 @@
 use Rattle.std.proofs.Common.{rules, arith, ◌≡◌, ◌∙◌, ◌+◌, ◌-◌, ◌<◌, ◌≤◌, ◌∷◌, ap, sym, subst, List, ℕ, take, drop, length}
 use Rattle.span_query.specs.Rows.{Row}
 use Rattle.span_query.specs.Sorting.{comes_before, insert_sorted, sorted}
-use Rattle.span_algebra.specs.Indexed.{lent}
 use Rattle.span_algebra.specs.Orders.{IsSorted}
 use Rattle.span_algebra.proofs.FirstRows.{first_in_order, first_of_inserted}
 use Rattle.span_algebra.proofs.Gathering.{drop_at}

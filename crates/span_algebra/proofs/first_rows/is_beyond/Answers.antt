@@ -1,4 +1,4 @@
-use Rattle.std.proofs.Common.{◌≡◌, ◌∙◌, ◌-◌, ap, sym, subst, length, rules, true, List, Some, ℕ}
+use Rattle.std.proofs.Common.{◌≡◌, ◌∙◌, ◌-◌, sym, subst, length, rules, true, List, Some, ℕ}
 use denote.Ref.{Bor}
 use Rattle.std.specs.Prelude.{slice_get}
 use Rattle.span_query.specs.Rows.{Row}

@@ -1,4 +1,4 @@
-use Rattle.std.proofs.Common.{rules, ◌≡◌, ◌+◌, ◌<◌, length, ◌∷◌, ◌++◌, [], List, Vec, Global, Some, Err, true, false, ap, sym, subst, ◌∙◌, arith}
+use Rattle.std.proofs.Common.{rules, ◌≡◌, ◌+◌, ◌<◌, length, ◌∷◌, ◌++◌, [], List, Vec, Global, Some, Err, true, false, ap, sym, subst, ◌∙◌}
 use Rattle.span_algebra.specs.declared.group.Group.{Group}
 use Rattle.std.specs.HashSet.{HashSet}
 use Rattle.span_query.specs.Rows.{Row, Rows, ◌>>=◌, filter_where}
