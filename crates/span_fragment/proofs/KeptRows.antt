@@ -1,5 +1,5 @@
 -- A leaf of one table with a condition gives the rows that are kept, one after another.
-use Rattle.std.proofs.Common.{◌≡◌, ◌∙◌, ℕ, zero, suc, ◌+◌, ◌<◌, ◌≤◌, ◌==◌, Bool, true, false, cond, List, [], ◌∷◌, length, drop, get_or, map, Option, Some, None, Result, Ok, Err, refl, sym, ap, subst, arith, if◌then◌else◌}
+use Rattle.std.proofs.Common.{◌≡◌, ◌∙◌, ℕ, zero, suc, ◌+◌, ◌<◌, ◌≤◌, ◌==◌, Bool, true, false, cond, List, [], ◌∷◌, ◌++◌, length, drop, get_or, map, Option, Some, None, Result, Ok, Err, refl, sym, ap, subst, arith, if◌then◌else◌}
 use Rattle.std.specs.List.{range_with_len, list_all}
 use Rattle.std.proofs.lemmas.Bool.{eqb-true, and_parts}
 use Rattle.std.proofs.lemmas.List.FromFn.{length-map-range_with_len}
@@ -17,20 +17,22 @@ use Rattle.span_expr.specs.Places.{is_in, reads_only}
 use Rattle.span_expr.proofs.Places.{reads_only-wider}
 use Rattle.span_query.specs.Rows.{Row, OrFault, Rows, ◌>>=◌, value_of, is_true, append_results, keep_if, holds, filter_rows, filter_where}
 use Rattle.span_query.proofs.Results.{append_results-nil}
-use Rattle.span_algebra.specs.Answers.{Gives}
+use Rattle.span_algebra.specs.Answers.{Gives, Adds}
 use Rattle.span_algebra.proofs.Gathering.{nil-append_results, one_adds, one_fails, adding-fails}
 use Rattle.span_planner.specs.declared.leaf.Leaf.{Leaf}
 use Rattle.span_planner.specs.declared.leaf.LeafJoin.{LeafJoin}
 use Rattle.span_planner.specs.Leaves.{width_of}
 use Rattle.span_planner.specs.Maskable.{IsMaskable}
 use Rattle.span_planner.specs.Masks.{masked}
-use Rattle.span_planner.specs.Reads.{has_place, reads_within, mask_rows, condition_reads, leaf_widths, leaf_on_reads, leaf_reads}
+use Rattle.span_planner.specs.Picks.{picked, pick_rows}
+use Rattle.span_planner.specs.Reads.{has_place, reads_within, condition_reads, leaf_widths, leaf_on_reads, leaf_reads}
 use Rattle.span_planner.specs.Results.{join_tables, leaf_rows}
-use Rattle.span_planner.proofs.Masked.{val-masked, mask_rows-append}
+use Rattle.span_planner.proofs.Masked.{val-masked}
+use Rattle.span_planner.proofs.Picked.{picked-masked, pick_rows-append}
 use Rattle.span_fragment.specs.Meaning.{declared_row, whole_table}
 use Rattle.span_fragment.specs.Placed.{AreValuesOf}
 use Rattle.span_fragment.specs.Entries.{key_row, IsWhetherOf}
-use Rattle.span_fragment.specs.Given.{masked_given, IsGivenOn}
+use Rattle.span_fragment.specs.Given.{picked_given, IsGivenOn}
 use Rattle.span_fragment.specs.Kept.{IsMaskOf, is_kept, kept_row, IsJudged, IsTaken}
 use Rattle.span_fragment.proofs.DeclaredRows.{row_width}
 use Rattle.span_fragment.proofs.Entries.{row_at, rows_left}
@@ -79,17 +81,32 @@ module _ (schema : List Table) (n : ℕ) (e : Expr) where
         subst (λ (o : OrFault Bool). Gives found o) same gives;
   }
 
+-- a row that was read is added where it is kept
+pub taken : (schema : List Table) (n : ℕ) (ms : List Bool) (e : Expr) (key row : List ℕ) (values p : Row) (old new : List Row) → IsWhetherOf schema n key true → IsJudged schema n e key row (Ok true)
+    → AreValuesOf schema n ms key row values → p ≡ picked ms values → new ≡ old ++ p ∷ [] → IsTaken schema n ms e key row (Ok tt) old new
+taken schema n ms e key row values p old new whether judged read picks pushed = record {
+  of = λ r typed is cells.
+      let test : (r.table == n) ≡ true = sym (whether.of r typed is) in
+      let kept : is_kept schema n e r ≡ Some true = judged.of r typed is cells in
+      let here : p ≡ picked ms (declared_row schema r) = picks ∙ ap (picked ms) (read.are r typed (eqb-true r.table n test) is cells) ∙ picked-masked ms (declared_row schema r) in
+      let added : kept_row schema n ms e r ≡ Some (p ∷ []) = ap (λ (o : OrFault Bool). o >>= (λ b. Some (keep_if (picked ms (declared_row schema r)) b))) kept ∙ ap (λ (x : Row). Some (x ∷ [])) (sym here) in
+      subst (λ (o : Rows). Adds (Ok tt) o old new) (sym added) (adds_one p old new pushed);
+}
+  where
+    adds_one : (p : Row) (old new : List Row) → new ≡ old ++ p ∷ [] → Adds (Ok tt) (Some (p ∷ [])) old new
+    adds_one p old new pushed = ap (λ (l : List Row). Some l) (sym pushed)
+
 -- ---- the entries one after another
 
 module _ (schema : List Table) (n : ℕ) (ms : List Bool) (e : Expr) where
   -- what is kept of rows
   abbrev pub kept_rows : List TableRow → Rows
-  kept_rows rows = mask_rows ms (filter_rows e (whole_table schema rows n))
+  kept_rows rows = pick_rows ms (filter_rows e (whole_table schema rows n))
 
-  masked_keep : (x : Row) (o : OrFault Bool) → mask_rows ms (o >>= (λ b. Some (keep_if x b))) ≡ (o >>= (λ b. Some (keep_if (masked ms x) b)))
-  masked_keep x None = refl
-  masked_keep x (Some true) = refl
-  masked_keep x (Some false) = refl
+  picked_keep : (x : Row) (o : OrFault Bool) → pick_rows ms (o >>= (λ b. Some (keep_if x b))) ≡ (o >>= (λ b. Some (keep_if (picked ms x) b)))
+  picked_keep x None = refl
+  picked_keep x (Some true) = refl
+  picked_keep x (Some false) = refl
 
   kept_cons : (r : TableRow) (rows : List TableRow) → kept_rows (r ∷ rows) ≡ append_results (kept_row schema n ms e r) (kept_rows rows)
   kept_cons r rows = by_test (r.table == n)
@@ -97,11 +114,11 @@ module _ (schema : List Table) (n : ℕ) (ms : List Bool) (e : Expr) where
       x : Row
       x = declared_row schema r
 
-      by_test : (b : Bool) → mask_rows ms (filter_rows e (map (declared_row schema) (cond b (r ∷ rows_of n rows) (rows_of n rows))))
-          ≡ append_results ((if b then holds e x else Some false) >>= (λ b. Some (keep_if (masked ms x) b))) (kept_rows rows)
+      by_test : (b : Bool) → pick_rows ms (filter_rows e (map (declared_row schema) (cond b (r ∷ rows_of n rows) (rows_of n rows))))
+          ≡ append_results ((if b then holds e x else Some false) >>= (λ b. Some (keep_if (picked ms x) b))) (kept_rows rows)
       by_test true =
-          mask_rows-append ms (holds e x >>= (λ b. Some (keep_if x b))) (filter_rows e (whole_table schema rows n))
-          ∙ ap (λ (o : Rows). append_results o (kept_rows rows)) (masked_keep x (holds e x))
+          pick_rows-append ms (holds e x >>= (λ b. Some (keep_if x b))) (filter_rows e (whole_table schema rows n))
+          ∙ ap (λ (o : Rows). append_results o (kept_rows rows)) (picked_keep x (holds e x))
       by_test false = sym (nil-append_results (kept_rows rows))
 
   abbrev pub KeptSoFar : List Entry → ℕ → List Row → Type 0
@@ -127,12 +144,12 @@ module _ (schema : List Table) (n : ℕ) (ms : List Bool) (e : Expr) where
         (adding-fails why (kept_row schema n ms e at.is) old new (taken.of at.is at.typed (ap (λ (y : KeyRow). y.key) at.entry) (ap (λ (y : KeyRow). y.row) at.entry)))
 
 -- a leaf of one table with a condition
-leaf_kept : (schema : List Table) (leaf : Leaf) (n : ℕ) (e : Expr) → leaf.tables ≡ n ∷ [] → leaf.joins ≡ [] → leaf.filter ≡ Some e → (rows : List TableRow) → masked_given schema leaf rows ≡ kept_rows schema n leaf.reads e rows
+leaf_kept : (schema : List Table) (leaf : Leaf) (n : ℕ) (e : Expr) → leaf.tables ≡ n ∷ [] → leaf.joins ≡ [] → leaf.filter ≡ Some e → (rows : List TableRow) → picked_given schema leaf rows ≡ kept_rows schema n leaf.reads e rows
 leaf_kept schema leaf n e tables joins filter rows =
     let W : List Row = whole_table schema rows n in
-    ap (λ (ts : List ℕ). mask_rows leaf.reads (leaf_rows leaf (map (whole_table schema rows) ts))) tables
-    ∙ ap (λ (js : List LeafJoin). mask_rows leaf.reads (join_tables js [] W >>= filter_where leaf.filter)) joins
-    ∙ ap (λ (f : Option Expr). mask_rows leaf.reads (filter_where f W)) filter
+    ap (λ (ts : List ℕ). pick_rows leaf.reads (leaf_rows leaf (map (whole_table schema rows) ts))) tables
+    ∙ ap (λ (js : List LeafJoin). pick_rows leaf.reads (join_tables js [] W >>= filter_where leaf.filter)) joins
+    ∙ ap (λ (f : Option Expr). pick_rows leaf.reads (filter_where f W)) filter
 
 module _ (schema : List Table) (leaf : Leaf) (n : ℕ) (e : Expr) (tables : leaf.tables ≡ n ∷ []) (joins : leaf.joins ≡ []) (filter : leaf.filter ≡ Some e) (entries : List Entry) where
   pub kept_given : (i : ℕ) (values : List Row) → length entries ≤ i → KeptSoFar schema n leaf.reads e entries i values → IsGivenOn schema leaf (map entry_row entries) (Ok values)

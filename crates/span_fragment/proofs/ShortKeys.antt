@@ -15,11 +15,11 @@ use Rattle.span_expr.specs.declared.cell.Failure.{Failure}
 use Rattle.span_query.specs.Rows.{Row, Rows}
 use Rattle.span_algebra.specs.Answers.{Gives}
 use Rattle.span_planner.specs.declared.leaf.Leaf.{Leaf}
-use Rattle.span_planner.specs.Reads.{mask_rows}
+use Rattle.span_planner.specs.Picks.{pick_rows}
 use Rattle.span_planner.specs.Results.{leaf_rows}
 use Rattle.span_fragment.specs.Meaning.{declared_row, whole_table}
 use Rattle.span_fragment.specs.Entries.{key_row, AreNoRows}
-use Rattle.span_fragment.specs.Given.{masked_given, IsGivenOn}
+use Rattle.span_fragment.specs.Given.{picked_given, IsGivenOn}
 use Rattle.span_fragment.specs.Longest.{IsLongest, AreLongest, HaveShortKeys}
 
 abbrev is_short : List Table → ℕ → TableRow → Bool
@@ -73,7 +73,7 @@ given_on_all schema leaf entries short found have given = record {
   of = λ rows typed is.
       let most = have.most in
       let here : short ≡ map (key_row schema) (short_of schema most rows) = have.are ∙ ap (filter (has_short_key most)) is ∙ short_entries schema most rows in
-      let same : masked_given schema leaf (short_of schema most rows) ≡ masked_given schema leaf rows = ap (λ (l : List (List Row)). mask_rows leaf.reads (leaf_rows leaf l)) (short_tables schema most leaf.tables rows typed have.longest) in
+      let same : picked_given schema leaf (short_of schema most rows) ≡ picked_given schema leaf rows = ap (λ (l : List (List Row)). pick_rows leaf.reads (leaf_rows leaf l)) (short_tables schema most leaf.tables rows typed have.longest) in
       subst (λ (o : Rows). Gives found o) same (given.of (short_of schema most rows) (short_typed schema most rows typed) here);
 }
 

@@ -8,7 +8,7 @@ use Rattle.span_shard.specs.Rows.{code_of}
 use Rattle.span_shard.specs.Shard.{KeyRow}
 use Rattle.span_query.specs.Rows.{Row}
 use Rattle.span_planner.specs.Leaves.{width_of}
-use Rattle.span_planner.specs.Masks.{masked}
+use Rattle.span_planner.specs.Picks.{picked}
 use Rattle.span_fragment.specs.Meaning.{whole_table}
 
 -- a row as a shard has it
@@ -19,19 +19,19 @@ key_row schema r = record { key = code_of schema r; row = row_code r.cells }
 pub record OfRows (schema : List Table) (entries : List KeyRow) (P : List TableRow → Type 0) : Type 0 where
   pub of : (rows : List TableRow) → AreTyped schema rows → entries ≡ map (key_row schema) rows → P rows
 
--- Of whatever rows the entries are, these are the values of those of table n, in the order in which its columns are declared, with NULL at the
--- places that the mask does not have.
+-- Of whatever rows the entries are, these are the values of those of table n at the places that the mask has, in the order in which its columns are
+-- declared.
 pub record AreReadOf (schema : List Table) (n : ℕ) (ms : List Bool) (entries : List KeyRow) (values : List Row) : Type 0 where
-  pub are : (rows : List TableRow) → AreTyped schema rows → entries ≡ map (key_row schema) rows → values ≡ map (masked ms) (whole_table schema rows n)
+  pub are : (rows : List TableRow) → AreTyped schema rows → entries ≡ map (key_row schema) rows → values ≡ map (picked ms) (whole_table schema rows n)
 
 -- of whatever row this is the coded key, the answer is whether it is one of table n
 pub record IsWhetherOf (schema : List Table) (n : ℕ) (key : List ℕ) (found : Bool) : Type 0 where
   pub of : (r : TableRow) → IsTyped schema r → key ≡ code_of schema r → found ≡ (r.table == n)
 
--- the rows of tables, each with NULL at the places that its part of the mask does not have
-abbrev pub masked_tables : List Table → List TableRow → List Bool → List ℕ → List (List Row)
-masked_tables schema rows ms [] = []
-masked_tables schema rows ms (t ∷ ts) = map (masked ms) (whole_table schema rows t) ∷ masked_tables schema rows (drop (width_of schema t) ms) ts
+-- the rows of tables, each with its values at the places that its part of the mask has
+abbrev pub picked_tables : List Table → List TableRow → List Bool → List ℕ → List (List Row)
+picked_tables schema rows ms [] = []
+picked_tables schema rows ms (t ∷ ts) = map (picked ms) (whole_table schema rows t) ∷ picked_tables schema rows (drop (width_of schema t) ms) ts
 
 -- entries that are no rows
 abbrev pub AreNoRows : List Table → List KeyRow → Type 0

@@ -6,3 +6,4 @@ pub mod Pieces
 pub mod Directories
 pub mod Longest
 pub mod Kept
+pub mod Narrowed

@@ -5,14 +5,14 @@ use Rattle.span_mutate.specs.declared.row.TableRow.{TableRow}
 use Rattle.span_mutate.specs.Typed.{AreTyped}
 use Rattle.span_shard.specs.Shard.{KeyRow}
 use Rattle.span_planner.specs.declared.leaf.Leaf.{Leaf}
-use Rattle.span_planner.specs.Reads.{mask_rows}
+use Rattle.span_planner.specs.Picks.{pick_rows}
 use Rattle.span_planner.specs.Results.{leaf_rows}
 use Rattle.span_fragment.specs.declared.piece.Piece.{Piece}
 use Rattle.span_fragment.specs.Meaning.{whole_table}
 use Rattle.span_fragment.specs.Entries.{key_row}
 
--- The piece has the rows that the leaf gives where its tables have the rows that the entries are, each with NULL at the columns that nothing reads,
+-- The piece has the rows that the leaf gives where its tables have the rows that the entries are, each with the columns alone that something reads,
 -- or the fault.
 abbrev pub IsPieceOf : List Table → Leaf → List KeyRow → Piece → Type 0
 IsPieceOf schema leaf entries piece = (rows : List TableRow) → AreTyped schema rows → entries ≡ map (key_row schema) rows
-    → piece.rows ≡ mask_rows leaf.reads (leaf_rows leaf (map (whole_table schema rows) leaf.tables))
+    → piece.rows ≡ pick_rows leaf.reads (leaf_rows leaf (map (whole_table schema rows) leaf.tables))

@@ -1,17 +1,20 @@
 //! The values of a row of a table, read of its coded key and its packed cells in the order in which the columns are
 //! declared.
-ghost use Rattle.std.specs.Prelude.{◌≡◌, ◌⊎◌, OnOk, MatchResult, replicate};
+ghost use Rattle.std.specs.Prelude.{◌≡◌, ◌<◌, ◌⊎◌, OnOk, MatchResult, get_or, length, replicate, slice_set};
+ghost use Rattle.span_planner.specs.Picks as spec;
 ghost use Rattle.span_value.specs.declared.value.Value.TheVariants.{Null};
 ghost use Rattle.span_schema.specs.Numbers.{IsTable};
 ghost use Rattle.span_fragment.specs.Placed.{AreValuesOf, IsNoRowOf};
 
 use super::cells::put_cells;
 use super::keys::put_key;
+use super::place::is_wanted;
 use span_planner::table::width_of;
 use span_schema::schema::Schema;
 use span_value::refusal::Refusal;
 use span_value::value::Value;
 use std::alloc::{AllocError, Global};
+use std::mem;
 
 /// Makes a row one of NULLs.
 fn put_nulls(row: &mut Vec<Value>, len: usize) -> Result<(), AllocError>
@@ -52,6 +55,32 @@ pub(crate) fn read_row(
     }
     if !put_key(alloc, schema, table, wanted, key, row)? {
         return Err(Refusal::BadKey);
+    }
+    Ok(())
+}
+
+/// The value at a place, with NULL in its stead.
+fn take_value(row: &mut Vec<Value>, place: usize) -> Value
+    requires { place < length row.old.items }
+    ensures value { result ≡ get_or row.old.items place result }
+    ensures row { row.new.items ≡ slice_set row.old.items place Null }
+{
+    mem::replace(&mut row[place], Value::Null)
+}
+
+/// Makes `picked` the values of a row at the places that a mask has. They are moved, and NULL in their stead.
+pub(crate) fn pick_values(
+    row: &mut Vec<Value>,
+    mask: &[bool],
+    picked: &mut Vec<Value>,
+) -> Result<(), AllocError>
+    ensures { OnOk result (picked.new.items ≡ spec.picked mask.now row.old.items) }
+{
+    picked.clear();
+    for place in 0..row.len() {
+        if is_wanted(mask, place) {
+            picked.push(take_value(row, place))?;
+        }
     }
     Ok(())
 }

@@ -12,7 +12,7 @@ use Rattle.span_query.specs.Rows.{Rows}
 use Rattle.span_query.specs.Meaning.{meaning_over, meaning, given}
 use Rattle.span_planner.specs.declared.leaf.Leaf.{Leaf}
 use Rattle.span_planner.specs.declared.leaf.Plan.{Plan}
-use Rattle.span_planner.specs.Reads.{mask_rows}
+use Rattle.span_planner.specs.Picks.{pick_rows}
 use Rattle.span_planner.specs.Results.{leaf_rows}
 pub use Rattle.span_fragment.specs.Meaning.{value_for, value_at, declared_row, whole_table}
 
@@ -34,9 +34,9 @@ rows_within schema db table range = map (declared_row schema) (filter (row_withi
 abbrev pub tables_within : List Table → List TableRow → List ℕ → KeyRange → List (List (List Value))
 tables_within schema db tables range = map (λ table. rows_within schema db table range) tables
 
--- what a leaf gives on the rows in a range: NULL at the columns that nothing reads
+-- what a leaf gives on the rows in a range: rows of the columns alone that something reads
 abbrev pub leaf_within : List Table → List TableRow → Leaf → KeyRange → Rows
-leaf_within schema db leaf range = mask_rows leaf.reads (leaf_rows leaf (tables_within schema db leaf.tables range))
+leaf_within schema db leaf range = pick_rows leaf.reads (leaf_rows leaf (tables_within schema db leaf.tables range))
 
 -- what a plan gives on a database: the leaves on their ranges, and then the query above them
 abbrev pub plan_means : List Table → Plan → List TableRow → Rows

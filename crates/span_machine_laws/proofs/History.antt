@@ -21,7 +21,7 @@ use Rattle.span_query.specs.Meaning.{meaning_over, given}
 use Rattle.span_planner.specs.declared.leaf.Leaf.{Leaf}
 use Rattle.span_planner.specs.declared.leaf.Plan.{Plan}
 use Rattle.span_planner.specs.Plannable.{IsPlannable}
-use Rattle.span_planner.specs.Reads.{mask_rows}
+use Rattle.span_planner.specs.Picks.{pick_rows}
 use Rattle.span_planner.specs.Results.{leaf_rows}
 use Rattle.span_planner.proofs.Ranged.{IsRanged, leaves_ranged}
 use Rattle.span_machine_laws.proofs.Locality.{apply-database, empty_database}
@@ -66,7 +66,7 @@ module _ (understands : Understanding) (schema : List Table) (rules : MeetsRules
       → map (λ (l : Leaf). leaf_within schema a l l.range) leaves ≡ map (λ (l : Leaf). leaf_within schema b l l.range) leaves
   leaves_at_end m steps replies last s run reached reached_last a b e f [] ranged sealed = refl
   leaves_at_end m steps replies last s run reached reached_last a b e f (l ∷ ls) ranged sealed =
-      ap (λ (ts : List (List (List Value))). mask_rows l.reads (leaf_rows l ts) ∷ map (λ (k : Leaf). leaf_within schema a k k.range) ls)
+      ap (λ (ts : List (List (List Value))). pick_rows l.reads (leaf_rows l ts) ∷ map (λ (k : Leaf). leaf_within schema a k k.range) ls)
       (tables_at_end m steps replies last s run reached reached_last l.range sealed.0 (ranged_ends schema l ranged.0) a b e f l.tables)
       ∙ ap (λ (os : List rows.Rows). leaf_within schema b l l.range ∷ os) (leaves_at_end m steps replies last s run reached reached_last a b e f ls ranged.1 sealed.1)
 

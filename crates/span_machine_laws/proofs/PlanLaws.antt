@@ -17,11 +17,11 @@ use Rattle.span_planner.specs.declared.leaf.Leaf.{Leaf}
 use Rattle.span_planner.specs.declared.leaf.Plan.{Plan}
 use Rattle.span_planner.specs.Leaves.{table_of}
 use Rattle.span_planner.specs.Plannable.{IsPlannable}
-use Rattle.span_planner.specs.Reads.{mask_rows}
+use Rattle.span_planner.specs.Picks.{pick_rows}
 use Rattle.span_planner.specs.Results.{leaf_rows}
 use Rattle.span_planner.proofs.Known.{leaves_known}
 use Rattle.span_planner.proofs.Planned.{IsPlanned}
-use Rattle.span_planner.proofs.MaskedPlan.{query_above_masked}
+use Rattle.span_planner.proofs.MaskedPlan.{query_above_picked}
 use Rattle.span_machine.specs.Machine.{statement_plan}
 use Rattle.span_machine.specs.Meaning.{declared_row, whole_table, means, rows_within, tables_within, leaf_within, plan_means}
 use Rattle.span_fragment.proofs.KeyPlaces.{keyed}
@@ -39,7 +39,7 @@ module _ (schema : List Table) (rules : MeetsRules schema) (db : List TableRow) 
   abbrev whole : ℕ → List Row
   whole t = whole_table schema db t
 
-  -- what a leaf gives before its rows are masked
+  -- what a leaf gives in all columns of its tables
   abbrev on_range : Leaf → Rows
   on_range l = leaf_rows l (tables_within schema db l.tables l.range)
 
@@ -65,7 +65,7 @@ module _ (schema : List Table) (rules : MeetsRules schema) (db : List TableRow) 
 
   meaning_of_plan : (q : Statement) → IsPlannable schema q → plan_means schema (statement_plan schema q) db ≡ means schema q.query q.leaves db
   meaning_of_plan q can =
-      query_above_masked schema whole (table_width schema db typed) q.leaves (λ (n : ℕ). Some (table_rows (map whole q.leaves) n)) (table_given q.leaves) (keyed schema) q.query can.sized on_range
+      query_above_picked schema whole (table_width schema db typed) q.leaves (λ (n : ℕ). Some (table_rows (map whole q.leaves) n)) (table_given q.leaves) (keyed schema) q.query can.sized on_range
       (leaves_whole (statement_plan schema q).leaves (plan_leaves schema rules q can))
 
 -- THE LAW OF A PLAN: what the plan of a statement gives on a database is what its query means there
@@ -90,5 +90,5 @@ plan_alike schema plan a b alike = ap (λ (results : List Rows). meaning_over (g
     leaves_alike : (ls : List Leaf) → AllByRecursion (IsAlikeIn schema a b) ls → map (λ (l : Leaf). leaf_within schema a l l.range) ls ≡ map (λ (l : Leaf). leaf_within schema b l l.range) ls
     leaves_alike [] alike = refl
     leaves_alike (l ∷ ls) alike =
-        ap (λ (tables : List (List Row)). mask_rows l.reads (leaf_rows l tables) ∷ map (λ (l : Leaf). leaf_within schema a l l.range) ls) (tables_alike l l.tables alike.0)
+        ap (λ (tables : List (List Row)). pick_rows l.reads (leaf_rows l tables) ∷ map (λ (l : Leaf). leaf_within schema a l l.range) ls) (tables_alike l l.tables alike.0)
         ∙ ap (λ (results : List Rows). leaf_within schema b l l.range ∷ results) (leaves_alike ls alike.1)

@@ -1,7 +1,6 @@
--- Each leaf of a plan is maskable, and a maskable leaf gives on masked tables its rows, masked.
-use Rattle.std.proofs.Common.{◌≡◌, ◌∙◌, ℕ, ◌+◌, ◌<◌, Bool, true, List, [], ◌∷◌, ◌++◌, map, take, drop, length, ap, sym, subst, arith}
+-- Each leaf of a plan is maskable.
+use Rattle.std.proofs.Common.{◌≡◌, ◌∙◌, ℕ, ◌+◌, ◌<◌, Bool, true, List, [], ◌∷◌, map, take, drop, length, sym, subst, arith}
 use Rattle.std.specs.List.{AllByRecursion}
-use Rattle.std.proofs.lemmas.List.{take-append-drop}
 use Rattle.span_schema.specs.declared.table.Table.{Table}
 use Rattle.span_schema.specs.Numbers.{key_places}
 use Rattle.span_query.specs.declared.query.BoundQuery.{BoundQuery}
@@ -10,11 +9,10 @@ use Rattle.span_planner.specs.declared.leaf.Leaf.{Leaf}
 use Rattle.span_planner.specs.declared.leaf.LeafJoin.{LeafJoin}
 use Rattle.span_planner.specs.Leaves.{width_of, planned}
 use Rattle.span_planner.specs.Maskable.{AreStated, IsMaskable}
-use Rattle.span_planner.specs.Reads.{mask_rows, leaf_widths, reads_own, join_masks, leaf_masks, mask_tables}
-use Rattle.span_planner.specs.Results.{leaf_rows}
+use Rattle.span_planner.specs.Reads.{leaf_widths, reads_own, join_masks}
 use Rattle.span_planner.specs.Sizes.{is_sized}
 use Rattle.span_planner.proofs.Known.{leaves_known}
-use Rattle.span_planner.proofs.MaskedPlan.{AreMaskable, joined_masks, masks_joined, rest_len, leaf_masked}
+use Rattle.span_planner.proofs.MaskedPlan.{AreMaskable, rest_len}
 use Rattle.span_planner.proofs.OwnReads.{leaves_own}
 use Rattle.span_planner.proofs.Planned.{AreRooted, IsPlanned, part_len}
 use Rattle.span_planner.proofs.Pushing.{AreOfWidth}
@@ -45,13 +43,13 @@ leaves_maskable schema tables keyed q sized = of_each (planned schema tables q).
   of_each [] known own = tt {0}
   of_each (l ∷ ls) known own = (maskable schema l known.0 own.0, of_each ls known.1 own.1)
 
--- ---- masked tables
+-- ---- the tables of a maskable leaf
 
-front_len : (n m : ℕ) (ms : List Bool) → length ms ≡ n + m → length (take n ms) ≡ n
+pub front_len : (n m : ℕ) (ms : List Bool) → length ms ≡ n + m → length (take n ms) ≡ n
 front_len n m ms len = part_len ms 0 n (omega arith)
 
 module _ (schema : List Table) (w : ℕ → List Row) (wide_tables : (t : ℕ) → AreOfWidth (width_of schema t) (w t)) where
-  tables_maskable : (joins : List LeafJoin) (ts : List ℕ) (ms : List Bool) → AreStated schema joins ts → length ms ≡ leaf_widths joins → AreMaskable joins (join_masks joins ms) (map w ts)
+  pub tables_maskable : (joins : List LeafJoin) (ts : List ℕ) (ms : List Bool) → AreStated schema joins ts → length ms ≡ leaf_widths joins → AreMaskable joins (join_masks joins ms) (map w ts)
   tables_maskable [] ts ms stated len = tt {0}
   tables_maskable (j ∷ joins) [] ms stated len = absurd stated
   tables_maskable (j ∷ joins) (t ∷ ts) ms stated len =
@@ -60,16 +58,3 @@ module _ (schema : List Table) (w : ℕ → List Row) (wide_tables : (t : ℕ) �
         subst (λ (n : ℕ). AreOfWidth n (w t)) (sym stated.0 ∙ sym here) (wide_tables t),
         tables_maskable joins ts (drop j.width ms) stated.1 (rest_len j.width ms (leaf_widths joins) len),
       )
-
-  -- THE LAW OF A MASKABLE LEAF: on its tables, masked by the parts of its mask, it gives its rows, masked.
-  pub maskable_rows : (leaf : Leaf) (is : IsMaskable schema leaf)
-      → leaf_rows leaf (mask_tables (leaf_masks (width_of schema is.first) leaf.joins leaf.reads) (map w (is.first ∷ is.rest))) ≡ mask_rows leaf.reads (leaf_rows leaf (map w leaf.tables))
-  maskable_rows leaf is =
-      let n : ℕ = width_of schema is.first in
-      let later : length (drop n leaf.reads) ≡ leaf_widths leaf.joins = rest_len n leaf.reads (leaf_widths leaf.joins) is.reads_len in
-      let split : leaf.reads ≡ take n leaf.reads ++ joined_masks leaf.joins (join_masks leaf.joins (drop n leaf.reads)) =
-      sym (take-append-drop n leaf.reads) ∙ ap (λ (l : List Bool). take n leaf.reads ++ l) (masks_joined leaf.joins (drop n leaf.reads) later) in
-      let front : length (take n leaf.reads) ≡ n = front_len n (leaf_widths leaf.joins) leaf.reads is.reads_len in
-      leaf_masked leaf (take n leaf.reads) (join_masks leaf.joins (drop n leaf.reads)) (w is.first) (map w is.rest) split is.own
-      (subst (λ (m : ℕ). AreOfWidth m (w is.first)) (sym front) (wide_tables is.first)) (tables_maskable leaf.joins is.rest (drop n leaf.reads) is.stated later)
-      ∙ ap (λ (ts : List ℕ). mask_rows leaf.reads (leaf_rows leaf (map w ts))) (sym is.tables)

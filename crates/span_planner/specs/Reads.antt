@@ -1,7 +1,7 @@
 -- Which columns of a row are read by the expressions of a query, and queries that read only what masks of their tables have.
 use Rattle.std.specs.Prelude.{ℕ, zero, suc, ◌+◌, ◌==◌, Bool, true, not, ◌&&◌, List, [], ◌∷◌, ◌++◌, length, take, drop, map, flat_map, replicate, slice_get, Option, Some, None}
 use Rattle.std.specs.List.{list_all}
-use Rattle.std.specs.Option.{unwrap_or, option_map}
+use Rattle.std.specs.Option.{unwrap_or}
 use Rattle.span_expr.specs.declared.expr.Expr.{Expr}
 use Rattle.span_expr.specs.Places.{reads_only}
 use Rattle.span_query.specs.declared.query.BoundQuery.{BoundQuery}
@@ -14,10 +14,8 @@ use Rattle.span_query.specs.declared.query.Aggregate.TheVariants.{CountRows, Of}
 use Rattle.span_query.specs.declared.query.Item.{Item}
 use Rattle.span_query.specs.declared.query.Item.TheVariants as item
 use Rattle.span_query.specs.declared.query.Join.{Join}
-use Rattle.span_query.specs.Rows.{Row, Rows}
 use Rattle.span_planner.specs.declared.leaf.LeafJoin.{LeafJoin}
 use Rattle.span_planner.specs.declared.leaf.Leaf.{Leaf}
-use Rattle.span_planner.specs.Masks.{masked}
 
 -- ---- masks
 
@@ -30,10 +28,6 @@ has_place (m ∷ ms) (suc place) = has_place ms place
 -- an expression reads only columns that the mask has
 abbrev pub reads_within : List Bool → Expr → Bool
 reads_within ms = reads_only (has_place ms)
-
--- rows, each with NULL at the places that the mask does not have, or the fault
-abbrev pub mask_rows : List Bool → Rows → Rows
-mask_rows ms = option_map (map (masked ms))
 
 -- ---- what a block reads of the rows of its FROM
 
@@ -97,12 +91,6 @@ join_masks (j ∷ joins) ms = take j.width ms ∷ join_masks joins (drop j.width
 -- the masks of a leaf's tables, the first of which has the given number of columns
 abbrev pub leaf_masks : ℕ → List LeafJoin → List Bool → List (List Bool)
 leaf_masks width joins ms = take width ms ∷ join_masks joins (drop width ms)
-
--- tables, each masked by its mask
-abbrev pub mask_tables : List (List Bool) → List (List Row) → List (List Row)
-mask_tables [] tables = tables
-mask_tables (ms ∷ mss) [] = []
-mask_tables (ms ∷ mss) (rows ∷ tables) = map (masked ms) rows ∷ mask_tables mss tables
 
 -- ---- queries whose tables have masks, by their numbers
 

@@ -1,5 +1,5 @@
 //! A query over rows of the columns alone that are read: what its leaves give has no others.
-ghost use Rattle.std.specs.Prelude.{◌≡◌, ◌++◌, ◌≤◌, true, IfOk, OnOk, length, map, flat_map, replicate, slice_get};
+ghost use Rattle.std.specs.Prelude.{◌≡◌, ◌++◌, ◌≤◌, true, IfOk, OnOk, drop, length, map, flat_map, replicate, slice_get, take};
 ghost use Rattle.std.specs.Option.{option_map, option_copied};
 ghost use Rattle.span_expr.specs.Places.{moved, rank};
 ghost use Rattle.span_query.specs.Layers.{map_item, map_join, map_block};
@@ -8,7 +8,7 @@ ghost use Rattle.span_planner.specs.Picks.{picked_width};
 ghost use Rattle.span_planner.specs.Reads.{masks_of};
 
 use super::copy::{copy_condition, copy_outputs};
-use super::leaf::Leaf;
+use super::leaf::{Leaf, LeafJoin};
 use span_expr::copy::copy_among;
 use span_expr::expr::Expr;
 use span_expr::rank::rank;
@@ -324,4 +324,60 @@ pub(crate) fn narrow_query(
         order: Items::from_slice(alloc, query.order.as_slice())?,
         limit: query.limit,
     })
+}
+
+/// The joins and the condition of a leaf, at rows of the columns alone that its mask has.
+#[derive(Debug, Drop)]
+pub struct NarrowLeaf {
+    pub joins: Items<LeafJoin>,
+    pub filter: Option<Expr>,
+}
+
+/// The first places of a mask.
+fn mask_front(mask: &[bool], width: usize) -> &[bool]
+    ensures { result.now ≡ take width mask.now }
+{
+    &mask[..width.min(mask.len())]
+}
+
+/// The mask without its first places.
+pub fn mask_after(mask: &[bool], width: usize) -> &[bool]
+    ensures { result.now ≡ drop width mask.now }
+{
+    &mask[width.min(mask.len())..]
+}
+
+/// The joins of a leaf whose mask is this one; `later` is its part of the further tables.
+fn narrow_leaf_joins(
+    alloc: Global,
+    joins: &[LeafJoin],
+    mask: &[bool],
+    later: &[bool],
+) -> Result<Items<LeafJoin>, AllocError>
+    ensures { IfOk result (λ found. found ≡ spec.narrow_joins (rank mask.now) joins.now later.now) }
+{
+    let mut narrowed = Items::new(alloc);
+    let mut rest = later;
+    for join in joins {
+        let width = picked_width(mask_front(rest, join.width));
+        let on = copy_among(alloc, &join.on, mask)?;
+        narrowed.push(LeafJoin {
+            is_left: join.is_left,
+            width,
+            on,
+        })?;
+        rest = mask_after(rest, join.width);
+    }
+    Ok(narrowed)
+}
+
+/// How a leaf joins and filters rows of the columns alone that its mask has. Its first table has `width` columns.
+pub fn narrow_leaf(alloc: Global, width: usize, leaf: &Leaf) -> Result<NarrowLeaf, AllocError>
+    ensures joins { IfOk result (λ found. found.joins ≡ (spec.narrow_leaf width leaf.now).joins) }
+    ensures filter { IfOk result (λ found. found.filter ≡ (spec.narrow_leaf width leaf.now).filter) }
+{
+    let mask = leaf.reads.as_slice();
+    let joins = narrow_leaf_joins(alloc, leaf.joins.as_slice(), mask, mask_after(mask, width))?;
+    let filter = move_condition(alloc, &leaf.filter, mask)?;
+    Ok(NarrowLeaf { joins, filter })
 }

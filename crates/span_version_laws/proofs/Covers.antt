@@ -23,7 +23,7 @@ use Rattle.span_query.specs.Meaning.{meaning_over, given}
 use Rattle.span_planner.specs.declared.leaf.Leaf.{Leaf}
 use Rattle.span_planner.specs.Maskable.{IsMaskable}
 use Rattle.span_planner.specs.Plannable.{IsPlannable}
-use Rattle.span_planner.specs.Reads.{mask_rows}
+use Rattle.span_planner.specs.Picks.{pick_rows}
 use Rattle.span_planner.specs.Results.{leaf_rows}
 use Rattle.span_planner.proofs.MaskableLeaves.{leaves_maskable}
 use Rattle.span_planner.proofs.Planned.{IsPlanned}
@@ -249,7 +249,7 @@ pieced_scanned schema rules m {slot} cs ps reached kept pieced query p slot_stat
     let has : HasRowsIn schema m.log p.query.s l.leaf part piece = record {
       db = made.0;
       made = made.1;
-      whole = reading seen.rows seen.typed seen.entries_are ∙ ap (λ (ts : List (List Row)). mask_rows l.leaf.reads (leaf_rows l.leaf ts)) (tables_read schema made.0 seen.rows part l.leaf.tables rows);
+      whole = reading seen.rows seen.typed seen.entries_are ∙ ap (λ (ts : List (List Row)). pick_rows l.leaf.reads (leaf_rows l.leaf ts)) (tables_read schema made.0 seen.rows part l.leaf.tables rows);
     } in
     let old = all_found (IsPieced schema m.log) (λ x. is_query query x.query) ps p found pieced in
     all_changed_found (IsPieced schema m.log) (λ x. is_query query x.query) (covered_by leaf part piece) ps p found
@@ -285,7 +285,7 @@ module _ (schema : List Table) (rules : MeetsRules schema) (m : Machine) (reache
       record {
         db = made.0;
         made = made.1;
-        whole = has.whole ∙ ap (λ (ts : List (List Row)). mask_rows leaf.reads (leaf_rows leaf ts)) (tables_sealed s c seal ends has.db made.0 has.made made.1 leaf.tables);
+        whole = has.whole ∙ ap (λ (ts : List (List Row)). pick_rows leaf.reads (leaf_rows leaf ts)) (tables_sealed s c seal ends has.db made.0 has.made made.1 leaf.tables);
       }
 
   pieced_still : (ps : List Pieced) → AllByRecursion (IsCoveredSealed schema m) (queries_of ps) → AllByRecursion (HasLeaves schema) (queries_of ps) → ArePieced schema m ps → ArePieced schema (answer schema m u step).1 ps
