@@ -4,7 +4,6 @@ use Rattle.std.specs.List.{fold}
 use Rattle.span_query.specs.declared.query.BoundQuery.{BoundQuery}
 use Rattle.span_query.specs.declared.query.BoundQuery.TheFolds.{fold_out-BoundQuery}
 use Rattle.span_query.specs.declared.query.BoundQuery.TheViews.{out-BoundQuery}
-use Rattle.span_query.specs.declared.query.Item.TheVariants as item
 use Rattle.span_query.specs.declared.query.Join.{Join}
 use Rattle.span_query.specs.Rows.{Row, Rows, ◌>>=◌}
 use Rattle.span_query.specs.Layers.{map_item, map_join, map_layer}

@@ -61,3 +61,21 @@ then_fails OutOfMemory o next gives = tt {0}
 pub adding-fails : {A : Type 0} (why : Failure) (o : OrFault (List A)) (old new : List A) → Adds (Err why) o old new → Gives (Err why) o
 adding-fails Fault o old new fails = fails
 adding-fails OutOfMemory o old new fails = tt {0}
+
+-- ---- the same for a loop over places, each of which adds what its item gives
+
+pub added_at : {A B : Type 0} (f : A → OrFault (List B)) (xs : List A) (k : ℕ) (x : A) → k < length xs → x ≡ get_or xs k x → (old new : List B)
+    → concat_map f xs ≡ append_results (Some old) (concat_map f (drop k xs)) → append_results (Some old) (f x) ≡ Some new
+    → concat_map f xs ≡ append_results (Some new) (concat_map f (drop (k + 1) xs))
+added_at f xs k x below is old new so_far adds = one_adds _ _ (f x) _ old new so_far (gathered_at f xs k x below is) adds
+
+pub adding_fails_at : {A B : Type 0} (why : Failure) (f : A → OrFault (List B)) (xs : List A) (k : ℕ) (x : A) → k < length xs → x ≡ get_or xs k x → (old new : List B)
+    → concat_map f xs ≡ append_results (Some old) (concat_map f (drop k xs)) → Adds (Err why) (f x) old new → Gives (Err why) (concat_map f xs)
+adding_fails_at why f xs k x below is old new so_far fails =
+    one_fails why _ _ (f x) _ old so_far (gathered_at f xs k x below is) (adding-fails why (f x) old new fails)
+
+-- what adds nothing to a list is the fault itself
+pub adds_fail : {A : Type 0} (why : Failure) (o : OrFault (List A)) (first new : List A) → Gives (Err why) (append_results (Some first) o) → Adds (Err why) o first new
+adds_fail Fault (Some xs) first new e = absurd cc
+adds_fail Fault None first new e = refl
+adds_fail OutOfMemory o first new e = tt {0}

@@ -19,3 +19,5 @@ pub mod Shown
 pub mod Passes
 pub mod Skipping
 pub mod Indexing
+pub mod Cutting
+pub mod LentRows

@@ -1,5 +1,5 @@
 -- Equality of rows, as an index of rows needs it: rows that are equal are the same row, and so have one hash.
-use Rattle.std.proofs.Common.{◌≡◌, true, false, ◌&&◌, true≢false, [], ◌∷◌, refl, sym, ap, ◌∙◌}
+use Rattle.std.proofs.Common.{◌≡◌, true, ◌&&◌, true≢false, [], ◌∷◌, refl, sym, ap, ◌∙◌}
 use Rattle.std.specs.Cmp.{IsEquivalence, Equal-is, both_ways}
 use Rattle.std.proofs.lemmas.Bool.{and_parts}
 use Rattle.span_value.specs.declared.value.Value.{Value}

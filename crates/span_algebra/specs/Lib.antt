@@ -1,4 +1,5 @@
 pub mod Answers
+pub mod Cuts
 pub mod Selecting
 pub mod Joining
 pub mod Orders

@@ -8,16 +8,15 @@ ghost use Rattle.span_algebra.specs.Meant.{outputs_of, project_block};
 
 use super::distinct::distinct;
 use super::group::group_rows;
+use super::row_list::RowList;
 use super::select::select_rows;
 use span_expr::cell::Failure;
 use span_query::query::{Block, BoundQuery};
-use span_value::seq::Seq;
-use span_value::value::Row;
 use std::alloc::Global;
 
 /// The select list at the rows of the FROM, or at those of the groups.
 #[tactic(auto, using(crate::proofs::Blocks::block_laws))]
-fn outputs_of(alloc: Global, block: &Block<BoundQuery>, rows: &[Row]) -> Result<Seq<Row>, Failure>
+fn outputs_of(alloc: Global, block: &Block<BoundQuery>, rows: &RowList) -> Result<RowList, Failure>
     ensures { Gives result (outputs_of block.now rows.now) }
 {
     let outputs = block.outputs.as_slice();
@@ -25,7 +24,7 @@ fn outputs_of(alloc: Global, block: &Block<BoundQuery>, rows: &[Row]) -> Result<
         None => select_rows(alloc, &block.filter, outputs, rows),
         Some(grouping) => {
             let groups = group_rows(alloc, &block.filter, grouping, rows)?;
-            select_rows(alloc, &grouping.having, outputs, groups.as_slice())
+            select_rows(alloc, &grouping.having, outputs, &groups)
         }
     }
 }
@@ -34,13 +33,13 @@ fn outputs_of(alloc: Global, block: &Block<BoundQuery>, rows: &[Row]) -> Result<
 pub(crate) fn project_block(
     alloc: Global,
     block: &Block<BoundQuery>,
-    rows: &[Row],
-) -> Result<Seq<Row>, Failure>
+    rows: &RowList,
+) -> Result<RowList, Failure>
     ensures { Gives result (project_block block.now rows.now) }
 {
     let found = outputs_of(alloc, block, rows)?;
     if block.is_distinct {
-        distinct(alloc, found)
+        distinct(alloc, &found)
     } else {
         Ok(found)
     }

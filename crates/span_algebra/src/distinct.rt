@@ -5,11 +5,11 @@ ghost use Rattle.span_query.specs.Groups.{is_equal, are_equal, distinct, columns
 ghost use Rattle.span_algebra.specs.Answers.{Gives};
 
 use super::key::RowKey;
+use super::row_list::RowList;
 use indexmap::IndexSet;
 use span_expr::cell::Failure;
 use span_value::order::compare;
-use span_value::seq::Seq;
-use span_value::value::{Row, Value};
+use span_value::value::Value;
 use std::alloc::{AllocError, Global};
 
 /// Whether the two are the same value; NULL equals NULL.
@@ -34,31 +34,30 @@ pub(crate) fn are_equal(left: &[Value], right: &[Value]) -> bool
     true
 }
 
-/// The rows of a set, in its order.
-fn rows_of(alloc: Global, seen: IndexSet<RowKey>) -> Result<Vec<Row>, AllocError>
-    ensures { IfOk result (λ rows. rows.items ≡ seen.keys) }
+/// Copies of the rows of a set, in its order.
+fn rows_of(alloc: Global, seen: IndexSet<RowKey<'_>>) -> Result<RowList, AllocError>
+    ensures { IfOk result (λ rows. rows ≡ seen.entry.keys) }
 {
-    let mut rows = Vec::with_capacity(alloc, seen.len())?;
+    let mut rows = RowList::new(alloc);
     for key in seen {
-        rows.push(key.into_row())?;
+        rows.push_copy(alloc, key.row())?;
     }
     Ok(rows)
 }
 
-#[tactic(auto, using(crate::proofs::Firsts::one_more))]
-fn first_occurrences(alloc: Global, rows: Vec<Row>) -> Result<Vec<Row>, AllocError>
-    ensures { IfOk result (λ kept. kept.items ≡ distinct rows.items) }
+fn first_occurrences(alloc: Global, rows: &RowList) -> Result<RowList, AllocError>
+    ensures { IfOk result (λ kept. kept ≡ distinct rows.now) }
 {
     let mut seen = IndexSet::new(alloc);
-    for row in rows {
-        seen.insert(RowKey::new(row))?;
+    for at in 0..rows.len() {
+        seen.insert(RowKey::new(rows.row(at)))?;
     }
     rows_of(alloc, seen)
 }
 
 /// Each row once, at its first place.
-pub(crate) fn distinct(alloc: Global, rows: Seq<Row>) -> Result<Seq<Row>, Failure>
-    ensures { Gives result (Some (distinct rows)) }
+pub(crate) fn distinct(alloc: Global, rows: &RowList) -> Result<RowList, Failure>
+    ensures { Gives result (Some (distinct rows.now)) }
 {
-    Ok(Seq::from_vec(first_occurrences(alloc, rows.into_vec())?))
+    Ok(first_occurrences(alloc, rows)?)
 }

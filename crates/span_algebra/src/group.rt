@@ -12,6 +12,7 @@ ghost use Rattle.span_algebra.specs.Grouped.{keys_of, AreGroupsOf, CanCountRow, 
 use super::aggregate::State;
 use super::key::LentKey;
 use super::row::{add, copy_of};
+use super::row_list::RowList;
 use super::select::is_kept;
 use super::states::{new_states, row_with, take_all};
 use indexmap::IndexSet;
@@ -156,15 +157,15 @@ fn first_index(alloc: Global, grouping: &Grouping) -> Result<IndexSet<LentKey<'_
 }
 
 /// The row of each group.
-fn rows_of(alloc: Global, groups: Vec<Group>) -> Result<Seq<Row>, Failure>
+fn rows_of(alloc: Global, groups: Vec<Group>) -> Result<RowList, Failure>
     ensures { (g : Grouping) (rows : List Row) → AreGroupsOf g rows groups.items → Gives result (spec.groups g rows) }
 {
-    let mut rows = Vec::with_capacity(alloc, groups.len())?;
+    let mut rows = RowList::new(alloc);
     for group in groups {
         let Group { key, states } = group;
-        add(&mut rows, row_with(alloc, key, states.as_slice())?)?;
+        rows.push_row(row_with(alloc, key, states.as_slice())?)?;
     }
-    Ok(Seq::from_vec(rows))
+    Ok(rows)
 }
 
 /// The rows of the groups of the rows where the condition is TRUE: of each group its key, and then its aggregates.
@@ -172,14 +173,14 @@ pub(crate) fn group_rows(
     alloc: Global,
     filter: &Option<Expr>,
     grouping: &Grouping,
-    rows: &[Row],
-) -> Result<Seq<Row>, Failure>
+    rows: &RowList,
+) -> Result<RowList, Failure>
     ensures { Gives result (unless_fault (filter_where filter.now rows.now) (spec.groups grouping.now)) }
 {
     let mut groups = first_groups(alloc, grouping)?;
     let mut index = first_index(alloc, grouping)?;
-    for row in rows {
-        let row = row.as_slice();
+    for at in 0..rows.len() {
+        let row = rows.row(at);
         if is_kept(alloc, filter, row)? {
             take_row(alloc, grouping, &mut index, &mut groups, row)?;
         }

@@ -5,7 +5,7 @@ ghost use Rattle.span_query.specs.Groups.{is_equal, are_equal, columns_at};
 ghost use Rattle.span_algebra.specs.Hashes.{value_writes, row_writes};
 
 use super::distinct::{are_equal, is_equal};
-use span_value::value::{Row, Value};
+use span_value::value::Value;
 use std::hash::{Hash, Hasher};
 use std::marker::Model;
 
@@ -81,37 +81,36 @@ fn have_equal_columns(
     true
 }
 
-/// A row that a set of rows owns. Contracts see the row.
+/// A lent row in a set of rows. Contracts see the row.
 #[derive(Drop)]
-pub(crate) struct RowKey {
-    values: Row,
+pub(crate) struct RowKey<'a> {
+    values: &'a [Value],
 }
 
-impl Model for RowKey {
+impl<'a> Model for RowKey<'a> {
     ghost use Rattle.span_query.specs.Rows.{Row};
 
     ghost Value = { Row };
 
-    ghost view = { λ k. k.values };
+    ghost view = { λ k. k.values.now };
 }
 
-impl RowKey {
-    pub(crate) fn new(values: Row) -> RowKey
-        ensures { result ≡ values }
+impl<'a> RowKey<'a> {
+    pub(crate) fn new(values: &'a [Value]) -> RowKey<'a>
+        ensures { result ≡ values.now }
     {
         RowKey { values }
     }
 
     /// The row.
-    pub(crate) fn into_row(self) -> Row
-        ensures { result ≡ self }
+    pub(crate) fn row(&self) -> &'a [Value]
+        ensures { result.now ≡ self.now }
     {
-        let RowKey { values } = self;
-        values
+        self.values
     }
 }
 
-impl PartialEq for RowKey {
+impl<'a> PartialEq for RowKey<'a> {
     ghost use Rattle.std.specs.Cmp.{partial_equiv_from_equiv};
     ghost use Rattle.span_query.specs.Groups.{are_equal};
     ghost use Rattle.span_algebra.specs.EqualRows.{rows_are_equivalent};
@@ -120,18 +119,18 @@ impl PartialEq for RowKey {
 
     ghost laws = { partial_equiv_from_equiv rows_are_equivalent };
 
-    fn eq(&self, other: &RowKey) -> bool {
-        are_equal(self.values.as_slice(), other.values.as_slice())
+    fn eq(&self, other: &RowKey<'a>) -> bool {
+        are_equal(self.values, other.values)
     }
 }
 
-impl Eq for RowKey {
+impl<'a> Eq for RowKey<'a> {
     ghost use Rattle.span_algebra.specs.EqualRows.{rows_are_equivalent};
 
     ghost laws = { rows_are_equivalent };
 }
 
-impl Hash for RowKey {
+impl<'a> Hash for RowKey<'a> {
     ghost use Rattle.span_algebra.specs.Hashes.{row_writes};
     ghost use Rattle.span_algebra.specs.EqualRows.{equal_rows_hash_alike};
 
@@ -140,7 +139,7 @@ impl Hash for RowKey {
     ghost respects_eq = { equal_rows_hash_alike };
 
     fn hash<H: Hasher>(&self, state: &mut H) {
-        hash_row(self.values.as_slice(), state);
+        hash_row(self.values, state);
     }
 }
 

@@ -12,6 +12,7 @@ pub mod join;
 mod key;
 pub mod plain;
 pub mod row;
+pub mod row_list;
 mod select;
 pub mod sort;
 pub mod source;

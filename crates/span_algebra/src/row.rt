@@ -1,5 +1,5 @@
 //! Rows: conditions at them, and rows made of others.
-ghost use Rattle.std.specs.Prelude.{◌≡◌, ◌++◌, ◌∷◌, [], IfOk, OnOk, replicate};
+ghost use Rattle.std.specs.Prelude.{◌≡◌, ◌++◌, ◌∷◌, [], IfOk, OnOk, length, replicate, take};
 ghost use Rattle.span_query.specs.Rows.{holds, value_of};
 ghost use Rattle.span_expr.specs.Meaning.{val};
 ghost use Rattle.span_expr.specs.Memory.{has_concatenation, RunsOutOnlyIf};
@@ -48,37 +48,37 @@ pub(crate) fn copy_of(alloc: Global, value: &Value) -> Result<Value, AllocError>
     }
 }
 
-/// The values and then more.
+/// Adds copies of values at the end. An error leaves some of them added.
 pub(crate) fn extend_row(
     alloc: Global,
-    mut row: Vec<Value>,
+    row: &mut Vec<Value>,
     more: &[Value],
-) -> Result<Vec<Value>, AllocError>
-    ensures { IfOk result (λ all. all.items ≡ row.items ++ more.now) }
+) -> Result<(), AllocError>
+    ensures ok { OnOk result (row.new.items ≡ row.old.items ++ more.now) }
+    ensures kept { take (length row.old.items) row.new.items ≡ row.old.items }
 {
     for value in more {
         row.push(copy_of(alloc, value)?)?;
     }
-    Ok(row)
+    Ok(())
 }
 
 /// A copy of the row.
-pub fn copy_row(alloc: Global, row: &[Value]) -> Result<Row, AllocError>
+pub(crate) fn copy_row(alloc: Global, row: &[Value]) -> Result<Row, AllocError>
     ensures { IfOk result (λ copy. copy ≡ row.now) }
 {
-    let room = Vec::with_capacity(alloc, row.len())?;
-    Ok(Seq::from_vec(extend_row(alloc, room, row)?))
+    let mut copy = Vec::with_capacity(alloc, row.len())?;
+    extend_row(alloc, &mut copy, row)?;
+    Ok(Seq::from_vec(copy))
 }
 
-/// A row, and `width` NULLs after it.
+/// Adds `width` NULLs at the end.
 #[tactic(auto, using(crate::proofs::Gathering::row_steps))]
-pub(crate) fn pad_row(alloc: Global, left: &[Value], width: usize) -> Result<Row, AllocError>
-    ensures { IfOk result (λ row. row ≡ left.now ++ replicate width Value.Null) }
+pub(crate) fn pad_row(row: &mut Vec<Value>, width: usize) -> Result<(), AllocError>
+    ensures { OnOk result (row.new.items ≡ row.old.items ++ replicate width Value.Null) }
 {
-    let room = Vec::with_capacity(alloc, left.len().saturating_add(width))?;
-    let mut row = extend_row(alloc, room, left)?;
     for _ in 0..width {
         row.push(Value::Null)?;
     }
-    Ok(Seq::from_vec(row))
+    Ok(())
 }

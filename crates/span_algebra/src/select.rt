@@ -1,25 +1,30 @@
 //! The select list at the rows where a condition is TRUE.
 ghost use Rattle.std.specs.Prelude.{◌≡◌};
 ghost use Rattle.span_query.specs.Rows.{unless_fault, filter_where, project_rows, values};
-ghost use Rattle.span_algebra.specs.Answers.{Gives};
+ghost use Rattle.span_algebra.specs.Answers.{Gives, Puts};
 ghost use Rattle.span_algebra.specs.Selecting.{holds_where};
 
 use super::row::{add, is_met, value_at};
+use super::row_list::RowList;
 use span_expr::cell::Failure;
 use span_expr::expr::Expr;
-use span_value::seq::Seq;
-use span_value::value::{Row, Value};
+use span_value::value::Value;
 use std::alloc::Global;
 
-/// The values of the outputs at a row.
-fn values_at(alloc: Global, outputs: &[Expr], row: &[Value]) -> Result<Row, Failure>
-    ensures { Gives result (values outputs.now row.now) }
+/// Makes a buffer the values of the outputs at a row.
+fn put_values(
+    alloc: Global,
+    outputs: &[Expr],
+    row: &[Value],
+    found: &mut Vec<Value>,
+) -> Result<(), Failure>
+    ensures { Puts result (values outputs.now row.now) found.new.items }
 {
-    let mut found = Vec::with_capacity(alloc, outputs.len())?;
+    found.clear();
     for output in outputs {
-        add(&mut found, value_at(alloc, output, row)?)?;
+        add(found, value_at(alloc, output, row)?)?;
     }
-    Ok(Seq::from_vec(found))
+    Ok(())
 }
 
 /// Whether the condition is TRUE at the row, or there is none.
@@ -38,16 +43,18 @@ pub(crate) fn select_rows(
     alloc: Global,
     filter: &Option<Expr>,
     outputs: &[Expr],
-    rows: &[Row],
-) -> Result<Seq<Row>, Failure>
+    rows: &RowList,
+) -> Result<RowList, Failure>
     ensures { Gives result (unless_fault (filter_where filter.now rows.now) (project_rows outputs.now)) }
 {
-    let mut found = Vec::new(alloc);
-    for row in rows {
-        let row = row.as_slice();
+    let mut found = RowList::new(alloc);
+    let mut values = Vec::new(alloc);
+    for at in 0..rows.len() {
+        let row = rows.row(at);
         if is_kept(alloc, filter, row)? {
-            add(&mut found, values_at(alloc, outputs, row)?)?;
+            put_values(alloc, outputs, row, &mut values)?;
+            found.push(&mut values)?;
         }
     }
-    Ok(Seq::from_vec(found))
+    Ok(found)
 }

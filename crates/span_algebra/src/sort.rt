@@ -1,5 +1,5 @@
 //! ORDER BY and LIMIT: rows in the order of some keys, and a part of a list of rows.
-ghost use Rattle.std.specs.Prelude.{◌≡◌, ◌+◌, IfSome, Some, List};
+ghost use Rattle.std.specs.Prelude.{◌≡◌, ◌+◌, IfOk, IfSome, Some, List, true};
 ghost use Rattle.span_query.specs.declared.query.Limit.{Limit};
 ghost use Rattle.std.specs.Cmp.{IsStrictWeakOrder};
 ghost use Rattle.std.specs.List.Sorted.{IsStableBy};
@@ -8,15 +8,17 @@ ghost use Rattle.span_query.specs.Sorting as spec;
 ghost use Rattle.span_query.specs.Meaning as meaning;
 ghost use Rattle.span_query.specs.declared.query.SortKey.{SortKey};
 ghost use Rattle.span_algebra.specs.Answers.{Gives};
+ghost use Rattle.span_algebra.specs.Indexed.{lent};
 ghost use Rattle.span_algebra.specs.Orders.{IsSorted};
 
+use super::candidates::lent_rows;
 use super::first_rows::first_rows;
+use super::row_list::RowList;
 use span_expr::cell::Failure;
 use span_query::query::{Limit, SortKey};
 use span_value::order::compare;
-use span_value::seq::Seq;
-use span_value::value::{Row, Value};
-use std::alloc::Global;
+use span_value::value::Value;
+use std::alloc::{AllocError, Global};
 use std::cmp::Ordering;
 
 /// The most rows that LIMIT needs, those that are skipped included, for which they are kept in order while the others pass by:
@@ -52,16 +54,20 @@ pub fn compare_rows(keys: &[SortKey], left: &[Value], right: &[Value]) -> Orderi
     Ordering::Equal
 }
 
-/// The rows in the order of the keys. Rows with equal keys keep their order. The only error is out of memory.
-fn sort_rows(keys: &[SortKey], rows: Seq<Row>) -> Result<Seq<Row>, Failure>
-    ensures { Gives result (Some (spec.sorted keys.now rows)) }
+/// The rows in the order of the keys, lent. Rows with equal keys keep their order.
+fn sort_rows<'a>(
+    alloc: Global,
+    keys: &[SortKey],
+    rows: &'a RowList,
+) -> Result<Vec<&'a [Value]>, AllocError>
+    ensures { IfOk result (λ all. lent all.items ≡ spec.sorted keys.now rows.now) }
 {
+    let mut all = lent_rows(alloc, rows)?;
     if keys.is_empty() {
-        return Ok(rows);
+        return Ok(all);
     }
-    let mut rows = rows.into_vec();
-    rows.sort_by(|left, right| compare_rows(keys, left.as_slice(), right.as_slice()))?;
-    Ok(Seq::from_vec(rows))
+    all.sort_by(|left, right| compare_rows(keys, *left, *right))?;
+    Ok(all)
 }
 
 /// How many rows LIMIT needs of those in order, where there are keys and they are few; those that are skipped count too.
@@ -87,30 +93,50 @@ pub(crate) fn order_rows(
     alloc: Global,
     keys: &[SortKey],
     limit: Option<Limit>,
-    rows: Seq<Row>,
-) -> Result<Seq<Row>, Failure>
+    rows: RowList,
+) -> Result<RowList, Failure>
     ensures { Gives result (Some (meaning.limit_rows limit (spec.sorted keys.now rows))) }
 {
-    let rows = match first_count(keys, limit) {
-        Some(count) => first_rows(alloc, keys, rows, count)?,
-        None => sort_rows(keys, rows)?,
+    if is_as_it_is(keys, limit) {
+        return Ok(rows);
+    }
+    let ordered = match first_count(keys, limit) {
+        Some(count) => first_rows(alloc, keys, &rows, count)?,
+        None => sort_rows(alloc, keys, &rows)?,
     };
-    Ok(limit_rows(limit, rows))
+    Ok(copy_rows(alloc, limit_rows(limit, ordered.as_slice()))?)
 }
 
-/// A part of the rows: those passed over and those cut off are dropped, the others are moved.
-fn limit_rows(limit: Option<Limit>, rows: Seq<Row>) -> Seq<Row>
-    ensures { result ≡ meaning.limit_rows limit rows }
+/// Whether there is neither an order nor a limit.
+fn is_as_it_is(keys: &[SortKey], limit: Option<Limit>) -> bool
+    ensures { result ≡ true → (rows : List Row) → meaning.limit_rows limit (spec.sorted keys.now rows) ≡ rows }
+{
+    match limit {
+        Some(_) => false,
+        None => keys.is_empty(),
+    }
+}
+
+/// A part of the rows.
+fn limit_rows<'a, 'b>(limit: Option<Limit>, rows: &'a [&'b [Value]]) -> &'a [&'b [Value]]
+    ensures { lent result.now ≡ meaning.limit_rows limit (lent rows.now) }
 {
     let Some(limit) = limit else {
         return rows;
     };
-    let mut rows = rows.into_vec();
-    // What is cut off goes first, so that little is moved to the front.
-    rows.truncate(limit.skip.saturating_add(limit.rows) as usize);
-    let skip = rows.len().min(limit.skip as usize);
-    rows.drain(..skip);
-    Seq::from_vec(rows)
+    let rest = &rows[rows.len().min(limit.skip as usize)..];
+    &rest[..rest.len().min(limit.rows as usize)]
+}
+
+/// Copies of the rows.
+fn copy_rows(alloc: Global, rows: &[&[Value]]) -> Result<RowList, AllocError>
+    ensures { IfOk result (λ copies. copies ≡ lent rows.now) }
+{
+    let mut copies = RowList::new(alloc);
+    for row in rows {
+        copies.push_copy(alloc, *row)?;
+    }
+    Ok(copies)
 }
 
 /// A law, which takes no time: the rows that sorting gives are in the order of the keys, rows with equal keys keep their order,

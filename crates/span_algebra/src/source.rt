@@ -4,27 +4,26 @@ ghost use Rattle.std.specs.Option.{option_copied};
 ghost use Rattle.span_query.specs.Meaning as spec;
 ghost use Rattle.span_algebra.specs.Sources.{GivesSlice, source_rows, source_result};
 
+use super::row_list::RowList;
 use span_expr::cell::Failure;
-use span_value::seq::Seq;
-use span_value::value::Row;
 use std::alloc::{AllocError, Global};
 use std::marker::Model;
 
 /// Rows, lent or made.
 #[derive(Drop)]
 pub(crate) enum Source<'a> {
-    Lent(&'a [Row]),
-    Made(Seq<Row>),
+    Lent(&'a RowList),
+    Made(RowList),
 }
 
 impl Source<'_> {
     /// The rows.
-    pub(crate) fn as_slice(&self) -> &[Row]
+    pub(crate) fn rows(&self) -> &RowList
         ensures { result.now ≡ source_rows self.now }
     {
         match self {
             Source::Lent(rows) => *rows,
-            Source::Made(rows) => rows.as_slice(),
+            Source::Made(rows) => rows,
         }
     }
 }
@@ -39,17 +38,21 @@ enum TableSource<'a> {
 /// The tables that a query reads. Contracts see of each its rows or the fault.
 #[derive(Drop)]
 pub struct Tables<'a> {
+    /// The rows of a table that is not there.
+    none: RowList,
     sources: Vec<TableSource<'a>>,
 }
 
 impl<'a> Model for Tables<'a> {
-    ghost use Rattle.std.specs.Prelude.{List, map};
+    ghost use Rattle.std.specs.Prelude.{◌≡◌, [], List, map};
     ghost use Rattle.span_query.specs.Rows.{Rows};
     ghost use Rattle.span_algebra.specs.Sources.{source_result};
 
     ghost Value = { List Rows };
 
     ghost view = { λ a. map source_result a.sources.items };
+
+    ghost invariant = { λ a. a.none ≡ [] };
 }
 
 impl<'a> Tables<'a> {
@@ -58,12 +61,13 @@ impl<'a> Tables<'a> {
         ensures { result ≡ [] }
     {
         Tables {
+            none: RowList::new(alloc),
             sources: Vec::new(alloc),
         }
     }
 
     /// Adds a table whose rows are lent. An error leaves the tables as they were.
-    pub fn lend(&mut self, rows: &'a [Row]) -> Result<(), AllocError>
+    pub fn lend(&mut self, rows: &'a RowList) -> Result<(), AllocError>
         ensures ok { OnOk result (self.new ≡ self.old ++ Some rows.now ∷ []) }
         ensures err { OnErr result (self.new ≡ self.old) }
     {
@@ -72,7 +76,7 @@ impl<'a> Tables<'a> {
     }
 
     /// Adds a table with these rows. An error leaves the tables as they were.
-    pub fn add(&mut self, rows: Seq<Row>) -> Result<(), AllocError>
+    pub fn add(&mut self, rows: RowList) -> Result<(), AllocError>
         ensures ok { OnOk result (self.new ≡ self.old ++ Some rows ∷ []) }
         ensures err { OnErr result (self.new ≡ self.old) }
     {
@@ -90,32 +94,37 @@ impl<'a> Tables<'a> {
     }
 
     /// The rows of the table with this number; the first has number 1. `Fault` where the table is one.
-    pub(crate) fn rows(&self, number: usize) -> Result<&[Row], Failure>
+    pub(crate) fn rows(&self, number: usize) -> Result<&RowList, Failure>
         ensures { GivesSlice result (spec.given self.now number) }
     {
-        rows_at(self.sources.as_slice(), number)
+        rows_at(&self.none, self.sources.as_slice(), number)
     }
 }
 
 /// The rows of the table with this number; the first has number 1. `Fault` where the table is one.
-fn rows_at<'a>(sources: &'a [TableSource<'_>], number: usize) -> Result<&'a [Row], Failure>
+fn rows_at<'a>(
+    none: &'a RowList,
+    sources: &'a [TableSource<'_>],
+    number: usize,
+) -> Result<&'a RowList, Failure>
+    requires { none.now ≡ [] }
     ensures { GivesSlice result (spec.given (map source_result sources.now) number) }
 {
     if number == 0 {
-        return Ok(&[]);
+        return Ok(none);
     }
     match source_at(sources, number - 1) {
         Some(source) => rows_of(source),
-        None => Ok(&[]),
+        None => Ok(none),
     }
 }
 
 /// The rows that a table gives.
-fn rows_of<'a>(source: &'a TableSource<'_>) -> Result<&'a [Row], Failure>
+fn rows_of<'a>(source: &'a TableSource<'_>) -> Result<&'a RowList, Failure>
     ensures { GivesSlice result (source_result source.now) }
 {
     match source {
-        TableSource::Rows(rows) => Ok(rows.as_slice()),
+        TableSource::Rows(rows) => Ok(rows.rows()),
         TableSource::Fault => Err(Failure::Fault),
     }
 }

@@ -10,8 +10,7 @@ use super::keys::put_key;
 use span_planner::table::width_of;
 use span_schema::schema::Schema;
 use span_value::refusal::Refusal;
-use span_value::seq::Seq;
-use span_value::value::{Row, Value};
+use span_value::value::Value;
 use std::alloc::{AllocError, Global};
 
 /// Makes a row one of NULLs.
@@ -25,7 +24,11 @@ fn put_nulls(row: &mut Vec<Value>, len: usize) -> Result<(), AllocError>
     Ok(())
 }
 
-/// Makes a row the values of a row of a table, as `row_values` gives them. What the row was is dropped; its memory is used again.
+/// Makes a row the values of a row of a table, in the order in which its columns are declared: those that are wanted, and NULL
+/// for the others, which are not read. `wanted` has TRUE at the places of the columns that are wanted. What the row was is dropped;
+/// its memory is used again. Each text and byte string that is long takes an allocation.
+///
+/// `OutOfMemory`, where the bytes are the coded key and the packed cells of a row of the table.
 pub(crate) fn read_row(
     alloc: Global,
     schema: &Schema,
@@ -51,27 +54,4 @@ pub(crate) fn read_row(
         return Err(Refusal::BadKey);
     }
     Ok(())
-}
-
-/// The values of a row of a table, in the order in which its columns are declared: those that are wanted, and NULL for
-/// the others, which are not read. `wanted` has TRUE at the places of the columns that are wanted. The row takes one
-/// allocation, and each text and byte string among its cells one.
-///
-/// `OutOfMemory`, where the bytes are the coded key and the packed cells of a row of the table.
-pub fn row_values(
-    alloc: Global,
-    schema: &Schema,
-    table: usize,
-    wanted: &[bool],
-    key: &[u8],
-    row: &[u8],
-) -> Result<Row, Refusal>
-    requires { IsTable schema.now table }
-    ensures { MatchResult result
-        (AreValuesOf schema.now table wanted.now key.now row.now)
-        (λ why. (why ≡ Refusal.OutOfMemory) ⊎ IsNoRowOf schema.now table key.now row.now) }
-{
-    let mut values = Vec::with_capacity(alloc, width_of(schema, table))?;
-    read_row(alloc, schema, table, wanted, key, row, &mut values)?;
-    Ok(Seq::from_vec(values))
 }

@@ -11,17 +11,16 @@ ghost use Rattle.span_fragment.specs.Pieces.{IsPieceOf};
 use super::directory::rows_of_leaf;
 use super::piece::Piece;
 use super::short::leaf_entries;
+use span_algebra::row_list::RowList;
 use span_expr::cell::Failure;
 use span_planner::leaf::Leaf;
 use span_schema::schema::Schema;
 use span_shard::snapshot::Snapshot;
 use span_value::refusal::Refusal;
-use span_value::seq::Seq;
-use span_value::value::Row;
 use std::alloc::Global;
 
 /// The piece of a leaf that gives these rows, or the fault. The only refusal is out of memory.
-fn piece_of(found: Result<Seq<Row>, Failure>) -> Result<Piece, Refusal>
+fn piece_of(found: Result<RowList, Failure>) -> Result<Piece, Refusal>
     ensures { MatchResult result (λ piece. (o : Rows) → Gives found o → piece.rows ≡ o) (λ why. why ≡ Refusal.OutOfMemory) }
 {
     match found {

@@ -4,35 +4,34 @@ ghost use Rattle.span_gather.specs.Gathered.{joined_pieces, gathered};
 
 use super::rows::Rows;
 use span_algebra::plain::eval_plain;
-use span_algebra::row::copy_row;
+use span_algebra::row_list::RowList;
 use span_algebra::source::Tables;
 use span_fragment::piece::Piece;
 use span_query::query::BoundQuery;
 use span_value::refusal::Refusal;
 use span_value::seq::Seq;
-use span_value::value::Row;
 use std::alloc::{AllocError, Global};
 
 /// The rows of pieces, one after another, copied; none where one of them is a fault.
-fn join_pieces(alloc: Global, pieces: &[Piece]) -> Result<Option<Seq<Row>>, AllocError>
+fn join_pieces(alloc: Global, pieces: &[Piece]) -> Result<Option<RowList>, AllocError>
     ensures { IfOk result (λ rows. rows ≡ joined_pieces pieces.now) }
 {
-    let mut rows = Vec::new(alloc);
+    let mut rows = RowList::new(alloc);
     for piece in pieces {
         let Some(more) = piece.rows() else {
             return Ok(None);
         };
         add_copies(alloc, &mut rows, more)?;
     }
-    Ok(Some(Seq::from_vec(rows)))
+    Ok(Some(rows))
 }
 
 /// Adds copies of the rows.
-fn add_copies(alloc: Global, rows: &mut Vec<Row>, more: &[Row]) -> Result<(), AllocError>
-    ensures { OnOk result (rows.new.items ≡ rows.old.items ++ more.now) }
+fn add_copies(alloc: Global, rows: &mut RowList, more: &RowList) -> Result<(), AllocError>
+    ensures { OnOk result (rows.new ≡ rows.old ++ more.now) }
 {
-    for row in more {
-        rows.push(copy_row(alloc, row.as_slice())?)?;
+    for at in 0..more.len() {
+        rows.push_copy(alloc, more.row(at))?;
     }
     Ok(())
 }
@@ -92,7 +91,7 @@ pub fn finish(alloc: Global, top: &BoundQuery, leaves: &[Seq<Piece>]) -> Result<
 {
     let tables = tables_of(alloc, leaves)?;
     match eval_plain(alloc, top, &tables) {
-        Ok(rows) => Ok(Rows::new(rows)),
+        Ok(rows) => Ok(Rows::new(rows.to_rows(alloc)?)),
         Err(why) => Err(why),
     }
 }

@@ -3,4 +3,4 @@ use Rattle.span_algebra.proofs.distinct.rows_of.Given as goal
 
 -- the rows so far, and those that are left
 abbrev pub invariant-loop-key : goal.invariant-loop-key
-invariant-loop-key l = l.rows.items ++ l.key-iterator ≡ l.fn.seen.keys
+invariant-loop-key l = l.rows ++ l.key-iterator ≡ l.fn.seen.keys

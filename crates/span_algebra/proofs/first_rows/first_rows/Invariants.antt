@@ -1,11 +1,14 @@
-use Rattle.std.proofs.Common.{◌≡◌, ◌++◌, List, length, take}
-use Rattle.span_query.specs.Rows.{Row}
+use Rattle.std.proofs.Common.{◌≡◌, ◌≤◌, drop, length, take}
 use Rattle.span_query.specs.Sorting.{sorted}
+use Rattle.span_algebra.specs.Indexed.{lent}
 use Rattle.span_algebra.proofs.first_rows.first_rows.Given as goal
 
--- the rows that were taken from the end, and the first of them in order
-abbrev pub invariant-loop-row : goal.invariant-loop-row
-invariant-loop-row l = (done : List Row) × (l.fn.rows ≡ l.rest.items ++ done) × (l.first.items ≡ take l.count (sorted l.keys done))
+-- the first, in order, of the rows that were taken from the end
+abbrev pub invariant-loop-at : goal.invariant-loop-at
+invariant-loop-at l = record {
+  within : l.at ≤ length l.rows;
+  first : lent l.first.items ≡ take l.count (sorted l.keys (drop l.at l.rows));
+}
 
-abbrev pub decreases-loop-row : goal.decreases-loop-row
-decreases-loop-row l = length l.rest.items
+abbrev pub decreases-loop-at : goal.decreases-loop-at
+decreases-loop-at l = l.at

@@ -14,7 +14,7 @@ returns-in_err-row_with c g rows are =
     let all = into_iter_items c.into_iter-group-iterator.result in
     let x = c.in-Some.group in
     let left = into_iter_items c.next.new.self in
-    let found = c.loop-group.rows.items in
+    let found = c.loop-group.rows in
     let why = c.in_err-row_with.field-0.0 in
     let first : AreGroupsOf g rows all = subst (AreGroupsOf g rows) (sym {A = List Group} c.into_iter-group-iterator.ensures.into_iter_gives.0) are in
     let shown : AreShown g rows all found (x ∷ left) = subst (AreShown g rows all found) c.in-Some.ensures.steps.0 (c.loop-group.invariant.0 g rows first) in
@@ -27,12 +27,12 @@ loop-group-preserved c =
     let all = into_iter_items c.into_iter-group-iterator.result in
     let x = c.in-Some.group in
     let left = into_iter_items c.next.new.self in
-    let found = c.loop-group.rows.items in
+    let found = c.loop-group.rows in
     let made = c.in_ok-row_with.field-0 in (
       λ g rows first.
           let shown : AreShown g rows all found (x ∷ left) = subst (AreShown g rows all found) c.in-Some.ensures.steps.0 (c.loop-group.invariant.0 g rows first) in
           let row : group_row g rows x.key ≡ Some made = gives_row g rows x (Ok made) x.key c.as_slice.result.now refl c.as_slice.ensures.value c.in_ok-row_with.ensures (next_taken g rows all found x left shown) in
-          subst (λ (out : List Row). AreShown g rows all out left) (sym {A = List Row} c.in_ok-add.ensures) (shown_more g rows all found x left shown made row),
+          subst (λ (out : List Row). AreShown g rows all out left) (sym {A = List Row} c.in_ok-push_row.ensures) (shown_more g rows all found x left shown made row),
       let was = c.loop-group.invariant.1 in
           let gone = c.in-Some.ensures.steps.1 in
           let short = ap length c.in-Some.ensures.steps.0 in
@@ -42,8 +42,8 @@ loop-group-preserved c =
 pub returns : goal.returns
 returns c g rows are =
     let all = into_iter_items c.into_iter-group-iterator.result in
-    let found = c.loop-group.rows.items in
+    let found = c.loop-group.rows in
     let first : AreGroupsOf g rows all = subst (AreGroupsOf g rows) (sym {A = List Group} c.into_iter-group-iterator.ensures.into_iter_gives.0) are in
     let empty : into_iter_items c.loop-group.group-iterator ≡ [] = nil_from_length _ (sym c.loop-group.invariant.1 ∙ c.in-None.ensures.steps.0) in
     let shown : AreShown g rows all found [] = subst (AreShown g rows all found) empty (c.loop-group.invariant.0 g rows first) in
-    groups-shown g rows all first ∙ shown_all g rows all found shown ∙ ap (λ (out : List Row). Some out) (sym {A = List Row} c.from_vec.ensures)
+    groups-shown g rows all first ∙ shown_all g rows all found shown

@@ -8,5 +8,5 @@ use Rattle.span_algebra.proofs.group.rows_of.Given as goal
 
 abbrev pub invariant-loop-group : goal.invariant-loop-group
 invariant-loop-group l =
-    ((g : Grouping) (rows : List Row) → AreGroupsOf g rows (into_iter_items l.initial.group-iterator) → AreShown g rows (into_iter_items l.initial.group-iterator) l.rows.items (into_iter_items l.group-iterator))
+    ((g : Grouping) (rows : List Row) → AreGroupsOf g rows (into_iter_items l.initial.group-iterator) → AreShown g rows (into_iter_items l.initial.group-iterator) l.rows (into_iter_items l.group-iterator))
     × (into_iter_len l.group-iterator ≡ length (into_iter_items l.group-iterator))

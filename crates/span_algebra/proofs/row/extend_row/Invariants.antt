@@ -1,6 +1,6 @@
-use Rattle.std.proofs.Common.{◌≡◌, ◌++◌, drop}
+use Rattle.std.proofs.Common.{◌≡◌, ◌++◌, take}
 use Rattle.span_algebra.proofs.row.extend_row.Given as goal
 
--- what was added and what is left are all
+-- the values so far
 abbrev pub invariant-loop-value : goal.invariant-loop-value
-invariant-loop-value l = l.row.items ++ drop l.value-index l.more ≡ l.fn.row.items ++ l.more
+invariant-loop-value l = l.row.items ≡ l.fn.row.items ++ take l.value-index l.more

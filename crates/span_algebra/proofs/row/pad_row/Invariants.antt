@@ -4,4 +4,4 @@ use Rattle.span_algebra.proofs.row.pad_row.Given as goal
 
 -- the row with the NULLs added so far
 abbrev pub invariant-loop : goal.invariant-loop
-invariant-loop l = l.row.items ≡ l.left ++ replicate l.counter Null
+invariant-loop l = l.row.items ≡ l.fn.row.items ++ replicate l.counter Null

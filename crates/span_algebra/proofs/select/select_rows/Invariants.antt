@@ -4,5 +4,5 @@ use Rattle.span_algebra.specs.Selecting.{project_row}
 use Rattle.span_algebra.proofs.select.select_rows.Given as goal
 
 -- the rows so far, and what the rows that are left give
-abbrev pub invariant-loop-row : goal.invariant-loop-row
-invariant-loop-row l = (filter_where l.filter l.rows >>= project_rows l.outputs) ≡ append_results (Some l.found.items) (concat_map (project_row l.filter l.outputs) (drop l.row-index l.rows))
+abbrev pub invariant-loop-at : goal.invariant-loop-at
+invariant-loop-at l = (filter_where l.filter l.rows >>= project_rows l.outputs) ≡ append_results (Some l.found) (concat_map (project_row l.filter l.outputs) (drop l.at l.rows))

@@ -1,17 +1,23 @@
-use Rattle.std.proofs.Common.{◌≡◌, ◌∙◌, sym, ap, rules, arith, ◌+◌, ◌-◌, ◌^◌, min, length, take, List, ℕ, Option}
-use Rattle.std.specs.List.{remove_range}
+use Rattle.std.proofs.Common.{◌≡◌, ◌∙◌, ◌-◌, sym, ap, rules, min, length, take, drop, List, Option}
+use denote.Ref.{Bor}
 use Rattle.span_query.specs.Rows.{Row}
 use Rattle.span_query.specs.declared.query.Limit.{Limit}
 use Rattle.span_query.specs.Meaning.{limit_rows}
+use Rattle.span_algebra.specs.Indexed.{lent}
 use Rattle.span_algebra.proofs.Limits.{part_is}
+use Rattle.span_algebra.proofs.LentRows.{lent_part}
 use Rattle.span_algebra.proofs.sort.limit_rows.Goals as goal
 
 pub returns : goal.returns
 returns c =
-    let end : ℕ = min (c.in-Some.limit.skip + c.in-Some.limit.rows) (2 ^ 64 - 1) in
-    let all : List Row = c.into_vec-rows.result.items in
-    let left : c.from_vec.result ≡ remove_range (take end all) 0 (min (length (take end all)) c.in-Some.limit.skip) = search rules in
-    left
-    ∙ part_is c.in-Some.limit.rows c.in-Some.limit.skip (2 ^ 64 - 1) all (omega (arith, c.into_vec-rows.result.ok.0, c.into_vec-rows.result.ok.1, c.into_vec-rows.result.small))
-    ∙ ap (λ (l : Option Limit). limit_rows l all) (sym c.in-Some.is)
-    ∙ ap (limit_rows c.args.limit) c.into_vec-rows.ensures
+    let rows : List (Bor Row) = c.args.rows.now in
+    let skip = c.in-Some.limit.skip in
+    let count = c.in-Some.limit.rows in
+    let first : c.min.result ≡ min (length rows) skip = search rules in
+    let rest : List (Bor Row) = take (length rows - c.min.result) (drop c.min.result rows) in
+    let second : c.min-2.result ≡ min (length rest) count = search rules in
+    ap (λ n. lent (take n rest)) second
+    ∙ ap (λ m. lent (take (min (length (take (length rows - m) (drop m rows))) count) (take (length rows - m) (drop m rows)))) first
+    ∙ ap lent (part_is count skip rows)
+    ∙ lent_part rows skip count
+    ∙ ap (λ (l : Option Limit). limit_rows l (lent rows)) (sym c.in-Some.is)

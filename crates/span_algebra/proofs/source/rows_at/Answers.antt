@@ -24,4 +24,4 @@ pub returns-in-None : goal.returns-in-None
 returns-in-None c =
     let here : slice_get c.args.sources.now (c.args.number - 1) ≡ None = sym c.source_at.ensures ∙ ap option_copied c.in-None.is in
     let after : c.args.number ≡ suc (c.args.number - 1) = omega (arith, c.if-number-eq0.false) in
-    at c.args.sources.now c.args.number (c.args.number - 1) None after here
+    at c.args.sources.now c.args.number (c.args.number - 1) None after here ∙ ap Some (sym c.requires)

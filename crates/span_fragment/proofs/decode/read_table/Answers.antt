@@ -5,16 +5,16 @@ use Rattle.span_shard.specs.Reading.{entry_row}
 use Rattle.span_fragment.specs.Entries.{AreReadOf, IsWhetherOf}
 use Rattle.span_fragment.proofs.Entries.{ReadSoFar, read_more, read_past, read_all, not_of_table}
 use Rattle.span_fragment.proofs.decode.read_table.Goals as goal
-use Rattle.span_fragment.proofs.decode.read_table.Goals.{then-is_of_table+in_ok-row_values+in_ok-push, else-is_of_table}
+use Rattle.span_fragment.proofs.decode.read_table.Goals.{then-is_of_table+in_ok-read_row+in_ok-push, else-is_of_table}
 
 abbrev nothing : Entry
 nothing = record { key = record { ref_ptr = (0, 0); now = [] }; row = record { ref_ptr = (0, 0); now = [] } }
 
-pub returns-in_err-row_values-clause-refused : goal.returns-in_err-row_values-clause-refused
-returns-in_err-row_values-clause-refused c =
+pub returns-in_err-read_row-clause-refused : goal.returns-in_err-read_row-clause-refused
+returns-in_err-read_row-clause-refused c =
     let p = err_from_is_err_and c.from_residual.result c.from_residual.ensures.1 in
     let P : Bool → Type 0 = IsWhetherOf c.args.schema.now c.args.table (get_or c.args.entries.now c.loop-entry.entry-index nothing).key.now in
-    rw (p.1, p.2) (elim c.in_err-row_values.ensures [
+    rw (p.1, p.2) (elim c.in_err-read_row.ensures [
       | inl memory ↦ inl memory
       | inr none ↦ inr (not_of_table c.args.schema.now c.args.table c.args.entries.now c.loop-entry.entry-index nothing c.loop-entry-test.true (subst P c.if-is_of_table.true c.is_of_table.ensures) none)
     ])
@@ -26,18 +26,17 @@ loop-entry-preserved c =
     let i = c.loop-entry.entry-index in
     let n = c.args.table in
     let ms = c.args.wanted.now in
-    let rows = c.loop-entry.rows.items in
+    let rows = c.loop-entry.rows in
     let P : Bool → Type 0 = IsWhetherOf schema n (get_or entries i nothing).key.now in
     elim c.if-is_of_table.branch [
-      | then-is_of_table+in_ok-row_values+in_ok-push w ↦
-          read_more schema n ms entries i nothing rows c.if-is_of_table.rows.items w.in_ok-row_values.field-0 c.loop-entry-test.true (subst P w.if-is_of_table.true c.is_of_table.ensures) w.in_ok-row_values.ensures
-          (ap (λ v. v.items) w.rows-is ∙ w.in_ok-push.ensures.items) c.loop-entry.invariant
+      | then-is_of_table+in_ok-read_row+in_ok-push w ↦
+          read_more schema n ms entries i nothing rows c.if-is_of_table.rows w.read_row.new.row.items c.loop-entry-test.true (subst P w.if-is_of_table.true c.is_of_table.ensures) w.in_ok-read_row.ensures
+          (w.rows-is ∙ w.in_ok-push.ensures.ok) c.loop-entry.invariant
       | else-is_of_table w ↦
-          subst (ReadSoFar schema n ms entries (i + 1)) (sym (ap (λ v. v.items) w.rows-is))
+          subst (ReadSoFar schema n ms entries (i + 1)) (sym w.rows-is)
           (read_past schema n ms entries i nothing rows c.loop-entry-test.true (subst P w.if-is_of_table.false c.is_of_table.ensures) c.loop-entry.invariant)
     ]
 
 pub returns-clause-ok : goal.returns-clause-ok
 returns-clause-ok c =
-    subst (AreReadOf c.args.schema.now c.args.table c.args.wanted.now (map entry_row c.args.entries.now)) (sym c.from_vec.ensures)
-    (read_all c.args.schema.now c.args.table c.args.wanted.now c.args.entries.now c.loop-entry.entry-index c.loop-entry.rows.items (let stop = c.loop-entry-test.false in omega arith) c.loop-entry.invariant)
+    read_all c.args.schema.now c.args.table c.args.wanted.now c.args.entries.now c.loop-entry.entry-index c.loop-entry.rows (let stop = c.loop-entry-test.false in omega arith) c.loop-entry.invariant

@@ -27,8 +27,8 @@ returns-in-Err-clause-ok c =
     let e = c.args.condition.now in
     let entries = c.args.entries.now in
     let i = c.loop-entry.entry-index in
-    let old : List Row = c.loop-entry.rows.items in
-    let new : List Row = c.take_entry.new.rows.items in
+    let old : List Row = c.loop-entry.rows in
+    let new : List Row = c.take_entry.new.rows in
     let P : List Bool → Type 0 = λ ms. IsTaken schema n ms e (get_or entries i nothing).key.now (get_or entries i nothing).row.now (Err c.in-Err.failure) old new in
     let Q : Result (Unit {0}) Failure → Type 0 = λ found. IsTaken schema n c.as_slice-wanted.result.now e (get_or entries i nothing).key.now (get_or entries i nothing).row.now found old new in
     fault_given schema leaf n e c.requires.tables c.requires.joins c.requires.filter entries i nothing old new c.in-Err.failure c.loop-entry-test.true c.loop-entry.invariant (subst P c.as_slice-wanted.ensures (subst Q c.in-Err.is c.in_ok-taken.ensures.ok))
@@ -41,8 +41,8 @@ loop-entry-preserved c =
     let e = c.args.condition.now in
     let entries = c.args.entries.now in
     let i = c.loop-entry.entry-index in
-    let old : List Row = c.loop-entry.rows.items in
-    let new : List Row = c.take_entry.new.rows.items in
+    let old : List Row = c.loop-entry.rows in
+    let new : List Row = c.take_entry.new.rows in
     let P : List Bool → Type 0 = λ ms. IsTaken schema n ms e (get_or entries i nothing).key.now (get_or entries i nothing).row.now (Ok tt) old new in
     let Q : Result (Unit {0}) Failure → Type 0 = λ found. IsTaken schema n c.as_slice-wanted.result.now e (get_or entries i nothing).key.now (get_or entries i nothing).row.now found old new in
     kept_more schema n leaf.reads e entries i nothing old new c.loop-entry-test.true c.loop-entry.invariant (subst P c.as_slice-wanted.ensures (subst Q c.in-Ok.is c.in_ok-taken.ensures.ok))

@@ -5,4 +5,4 @@ use Rattle.span_gather.proofs.finish.join_pieces.Given as goal
 
 -- the rows so far, and the pieces that are left
 abbrev pub invariant-loop-piece : goal.invariant-loop-piece
-invariant-loop-piece l = joined_pieces l.pieces ≡ append_results (Some l.rows.items) (joined_pieces (drop l.piece-index l.pieces))
+invariant-loop-piece l = joined_pieces l.pieces ≡ append_results (Some l.rows) (joined_pieces (drop l.piece-index l.pieces))

@@ -1,6 +1,6 @@
 use Rattle.std.proofs.Common.{◌≡◌, drop, Some}
 use Rattle.span_query.specs.Rows.{append_results, values}
-use Rattle.span_algebra.proofs.select.values_at.Given as goal
+use Rattle.span_algebra.proofs.select.put_values.Given as goal
 
 -- the values so far, and those of the outputs that are left
 abbrev pub invariant-loop-output : goal.invariant-loop-output
