@@ -1,5 +1,6 @@
 //! The arena: its nodes, its chains and its free ones.
-ghost use Rattle.std.specs.Prelude.{◌≡◌, ◌<◌, ◌≤◌, ◌^◌, true, [], None, Some, length, IfOk, IfErr, OnErr, OnOk, MatchOption, nat_le, nat_lt};
+ghost use Rattle.std.specs.Prelude.{◌≡◌, ◌<◌, ◌≤◌, ◌^◌, true, [], None, Some, length, IfOk, IfErr, OnErr, OnOk, MatchOption, nat_le, nat_lt, is_some, slice_index_or};
+ghost use Rattle.span_arena.specs.Runs.{is_used};
 ghost use Rattle.span_keycode.specs.Order.{byte_order};
 ghost use Rattle.span_arena.specs.Cells.{cell_at, is_past, new_cell, with_links, IsCompared, IsWritten};
 ghost use Rattle.span_arena.specs.Limits.{most_chains, most_nodes};
@@ -39,6 +40,16 @@ pub const MOST_CHAINS: usize = 4_294_967_295;
 pub fn chain_limit_is_stated()
     ensures { MOST_CHAINS ≡ most_chains }
 {}
+
+// Whether a chain is in use.
+fn is_used(chain: &ChainRecord) -> bool
+    ensures { result ≡ is_used chain.now }
+{
+    match chain {
+        ChainRecord::Free(_, _) => false,
+        ChainRecord::Used(_) => true,
+    }
+}
 
 /// An arena. Contracts see the versions of each chain, its key with its links, what is prepared in each node, and how many nodes are
 /// free.
@@ -225,6 +236,16 @@ impl Arena {
         ensures few { length self.now.cells < 2 ^ 32 }
     {
         self.cells.len()
+    }
+
+    /// Whether a number is that of a chain.
+    pub fn is_chain(&self, number: u32) -> bool
+        ensures { result ≡ is_some (slice_index_or self.now.chains number None) }
+    {
+        match self.chains.get(number as usize) {
+            None => false,
+            Some(chain) => is_used(chain),
+        }
     }
 
     /// The key of a chain.
