@@ -1,5 +1,5 @@
 -- The keys of chains, each with its place in the tree of keys.
-use Rattle.std.specs.Prelude.{◌≡◌, ℕ, ◌+◌, List, [], None, Bool, not, ◌&&◌, nat_eq, slice_index_or, slice_set}
+use Rattle.std.specs.Prelude.{◌≡◌, ℕ, ◌+◌, List, [], None, Bool, not, ◌&&◌, nat_eq, slice_index_or, slice_set, length, min}
 use Rattle.std.specs.List.{starts_with}
 use Rattle.std.specs.Ordering.{is_lt}
 use Rattle.span_keycode.specs.Order.{byte_order}
@@ -20,6 +20,10 @@ cell_at cs i = slice_index_or cs i blank
 
 abbrev pub with_links : List Cell → ℕ → Links → List Cell
 with_links cs i l = slice_set cs i (record { key = (cell_at cs i).key; links = l })
+
+-- the length of a cell's key as it is kept beside it, in two bytes: 65,535 where it is that or more
+abbrev pub kept_length : Cell → ℕ
+kept_length c = min (length c.key) 65535
 
 -- after all keys that begin with these bytes
 abbrev pub is_past : List ℕ → List ℕ → Bool

@@ -1,5 +1,5 @@
 -- How an arena lays out its nodes and chains. No public clause cites this module.
-use Rattle.std.specs.Prelude.{◌≡◌, ℕ, zero, suc, ◌+◌, ◌<◌, ◌≤◌, List, [], ◌∷◌, length, map, Option, Some, None, false, slice_index_or}
+use Rattle.std.specs.Prelude.{◌≡◌, ℕ, zero, suc, ◌+◌, ◌<◌, ◌≤◌, List, [], ◌∷◌, length, map, Option, Some, None, Bool, true, false, slice_index_or}
 use Rattle.span_arena.specs.declared.cell.Cell.{Cell}
 use Rattle.span_arena.specs.declared.version.Version.{Version}
 use Rattle.span_arena.specs.declared.record.NodeRecord.{NodeRecord}
@@ -63,6 +63,10 @@ links_of (chain.Used l) = l
 abbrev pub chain_of : (ℕ → NodeRecord) → ChainRecord → Option (List Version)
 chain_of f (chain.Free next k) = None
 chain_of f (chain.Used l) = Some (walk f l.count l.newest)
+
+abbrev pub is_used : ChainRecord → Bool
+is_used (chain.Free next k) = false
+is_used (chain.Used l) = true
 
 abbrev pub no_record : ChainRecord
 no_record = chain.Free 0 0

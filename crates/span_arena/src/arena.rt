@@ -1,5 +1,6 @@
 //! The arena: its nodes, its chains and its free ones.
-ghost use Rattle.std.specs.Prelude.{◌≡◌, ◌<◌, ◌≤◌, ◌^◌, true, [], None, Some, length, IfOk, IfErr, OnErr, OnOk, MatchOption, nat_lt};
+ghost use Rattle.std.specs.Prelude.{◌≡◌, ◌<◌, ◌≤◌, ◌^◌, true, [], None, Some, length, IfOk, IfErr, OnErr, OnOk, MatchOption, nat_le, nat_lt, is_some, slice_index_or};
+ghost use Rattle.span_arena.specs.Runs.{is_used};
 ghost use Rattle.span_keycode.specs.Order.{byte_order};
 ghost use Rattle.span_arena.specs.Cells.{cell_at, is_past, new_cell, with_links, IsCompared, IsWritten};
 ghost use Rattle.span_arena.specs.Limits.{most_chains, most_nodes};
@@ -7,7 +8,8 @@ ghost use Rattle.span_arena.specs.declared.arena.TheConstants.{MOST_CHAINS, MOST
 ghost use Rattle.span_arena.specs.Order.{IsNewestUpto, IsLaterFor, AreInTimeOrder};
 ghost use Rattle.span_arena.specs.Content.{Content, versions, prepared_at, IsChain, AreAllChains, IsInOrder, is_unused, prepared_for, live, newest_upto, IsPrepared, linked, given_back, trimmed, cleared, kept_by, with_at, with_cells, with_kept, without_chain, IsNewChain, IsReserved, IsRefusedNode, IsRefusedRoom, IsTakenFrom, with_free_node, with_versions};
 
-use crate::cell::{Cell, Links, StoredLinks};
+use crate::cell::{Cell, Links};
+use crate::cells::Cells;
 use crate::cut::cut;
 use crate::record::{ChainRecord, NodeRecord, Place, VersionLinks, join_image, split_image};
 use crate::steps::Steps;
@@ -39,6 +41,16 @@ pub fn chain_limit_is_stated()
     ensures { MOST_CHAINS ≡ most_chains }
 {}
 
+// Whether a chain is in use.
+fn is_used(chain: &ChainRecord) -> bool
+    ensures { result ≡ is_used chain.now }
+{
+    match chain {
+        ChainRecord::Free(_, _) => false,
+        ChainRecord::Used(_) => true,
+    }
+}
+
 /// An arena. Contracts see the versions of each chain, its key with its links, what is prepared in each node, and how many nodes are
 /// free.
 #[derive(Debug, Drop)]
@@ -46,7 +58,7 @@ pub struct Arena {
     nodes: Vec<NodeRecord>,
     chains: Vec<ChainRecord>,
     /// Under the number of each chain its key, and its place in the tree of keys.
-    cells: Vec<Cell>,
+    cells: Cells,
     /// The first node of the free list, and how many there are.
     free: u32,
     free_count: u32,
@@ -64,14 +76,14 @@ impl Model for Arena {
 
     ghost Value = { Content };
 
-    ghost view = { λ a. content a.nodes.items a.chains.items a.free_count a.most a.cells.items };
+    ghost view = { λ a. content a.nodes.items a.chains.items a.free_count a.most a.cells };
 
     ghost invariant = { λ a. record {
       sound : IsSound a.nodes.items a.chains.items a.free a.free_count a.most;
       spare : AreSpare a.chains.items a.spare a.spare_count;
-      cells : AreCellsOf a.chains.items a.cells.items;
-      few : length a.cells.items < 2 ^ 32;
-      falling : AreInTimeOrder (content a.nodes.items a.chains.items a.free_count a.most a.cells.items);
+      cells : AreCellsOf a.chains.items a.cells;
+      few : length a.cells < 2 ^ 32;
+      falling : AreInTimeOrder (content a.nodes.items a.chains.items a.free_count a.most a.cells);
     } };
 }
 
@@ -90,7 +102,7 @@ impl Arena {
         Arena {
             nodes: Vec::new(alloc),
             chains: Vec::new(alloc),
-            cells: Vec::new(alloc),
+            cells: Cells::new(alloc),
             free: 0,
             free_count: 0,
             spare: 0,
@@ -188,7 +200,7 @@ impl Arena {
                 unreachable!()
             };
             self.chains[number as usize] = fresh;
-            self.cells[number as usize] = cell;
+            self.cells.replace(number, cell);
             self.spare = next;
             self.spare_count -= 1;
             return Ok(Chain { number });
@@ -197,13 +209,13 @@ impl Arena {
         if number >= MOST_CHAINS {
             return Err(Refusal::OutOfMemory);
         }
-        let Ok(()) = self.cells.reserve(1) else {
+        let Ok(()) = self.chains.reserve(1) else {
             return Err(Refusal::OutOfMemory);
         };
-        let Ok(()) = self.chains.push(fresh) else {
+        let Ok(()) = self.cells.push(cell) else {
             return Err(Refusal::OutOfMemory);
         };
-        self.cells.push_reserved(cell);
+        self.chains.push_reserved(fresh);
         Ok(Chain {
             number: number as u32,
         })
@@ -226,12 +238,31 @@ impl Arena {
         self.cells.len()
     }
 
+    /// Whether a number is that of a chain.
+    pub fn is_chain(&self, number: u32) -> bool
+        ensures { result ≡ is_some (slice_index_or self.now.chains number None) }
+    {
+        match self.chains.get(number as usize) {
+            None => false,
+            Some(chain) => is_used(chain),
+        }
+    }
+
     /// The key of a chain.
     pub fn key(&self, number: u32) -> &[u8]
         requires { number < length self.now.cells }
         ensures { result.now ≡ (cell_at self.now.cells number).key }
     {
-        self.cells[number as usize].key.as_slice()
+        self.cells.key(number)
+    }
+
+    /// Whether the key of a chain has at most `most` bytes. Lengths lie together, apart from the keys: a key of less than 65,535 bytes is
+    /// not looked at.
+    pub fn has_short_key(&self, number: u32, most: usize) -> bool
+        requires { number < length self.now.cells }
+        ensures { result ≡ nat_le (length (cell_at self.now.cells number).key) most }
+    {
+        self.cells.is_short(number, most)
     }
 
     /// The links of a chain in the tree of keys.
@@ -239,7 +270,7 @@ impl Arena {
         requires { number < length self.now.cells }
         ensures { result ≡ (cell_at self.now.cells number).links }
     {
-        self.cells[number as usize].links.links()
+        self.cells.links(number)
     }
 
     /// The order of a key to that of a chain.
@@ -286,7 +317,7 @@ impl Arena {
         requires { number < length self.old.cells }
         ensures { self.new ≡ with_cells self.old (with_links self.old.cells number links) }
     {
-        self.cells[number as usize].links = StoredLinks::new(links);
+        self.cells.relink(number, links);
     }
 
     /// Other links for a chain in the tree of keys, counted as a step. It takes no memory.
@@ -311,7 +342,8 @@ impl Arena {
         ensures { self.new ≡ without_chain self.old chain.number }
     {
         self.chains[chain.number as usize] = ChainRecord::Free(self.spare, self.spare_count + 1);
-        self.cells[chain.number as usize] = Cell::blank(*self.cells.allocator());
+        let blank = Cell::blank(self.cells.allocator());
+        self.cells.replace(chain.number, blank);
         self.spare = chain.number;
         self.spare_count += 1;
     }

@@ -7,6 +7,7 @@
 
 pub mod arena;
 pub mod cell;
+mod cells;
 mod cut;
 mod record;
 pub mod steps;

@@ -8,6 +8,7 @@ ghost use Rattle.span_keyindex.specs.Splits.{IsPartFrom};
 
 use crate::chains::{Chains, chains_from, chains_of};
 use crate::find::find;
+use crate::near::{LANES, Near, near_key, near_keys};
 use crate::next::NextLinks;
 use crate::remove::remove_unused;
 use crate::split::copy_keys;
@@ -56,6 +57,27 @@ impl KeyIndex {
         match find(arena, &self.tree, key) {
             Some(number) => Some(Chain { number }),
             None => None,
+        }
+    }
+
+    /// For up to 16 keys the numbers of chains near them, for `find_near`: nothing is promised of them. The keys are searched together,
+    /// which takes less time than one after another where the tree is large. It takes no memory.
+    pub fn near(&self, arena: &Arena, keys: &[Key]) -> [u32; LANES] {
+        near_keys(self, arena, keys)
+    }
+
+    /// As `find`. Where `near` is the number of the key's chain, or of that of the last key before it, no other search is made.
+    pub fn find_near(&self, arena: &Arena, key: &[u8], near: u32) -> Option<Chain>
+        requires { IsIndexOf self.now arena.now }
+        ensures cases { MatchOption result
+            (IsAbsent (entries_of self.now arena.now) key.now)
+            (HasChain (entries_of self.now arena.now) key.now) }
+        ensures chain { IfSome result (λ chain. IsChain arena.now chain.number) }
+    {
+        match near_key(self, arena, key, near) {
+            Near::Here => Some(Chain { number: near }),
+            Near::Absent => None,
+            Near::Unknown => self.find(arena, key),
         }
     }
 

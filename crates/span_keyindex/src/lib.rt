@@ -10,6 +10,7 @@ mod find;
 pub mod index;
 mod join;
 mod last;
+pub mod near;
 mod next;
 mod put;
 mod remove;

@@ -4,7 +4,7 @@ ghost use Rattle.std.specs.Prelude.{◌≡◌, ℕ, ◌*◌, ◌<◌, ◌^◌, [
 ghost use Rattle.span_keyindex.specs.Entries.{entries_from, entries_under, entry_of};
 ghost use Rattle.span_keyindex.specs.Items.{entries_between};
 ghost use Rattle.span_keyindex.specs.Indexes.{entries_at, IsIndex, IsSearchCost};
-ghost use Rattle.span_keyindex.specs.Walks.{is_stop};
+ghost use Rattle.span_keyindex.specs.Walks.{begins_long, is_stop, without_long, without_long_first};
 
 use crate::find::{first_from, first_past};
 use crate::next::NextLinks;
@@ -59,6 +59,34 @@ impl<'a> Iterator for Walk<'a> {
         self.left -= 1;
         self.at = self.nexts.after(at);
         Some((self.arena.key(at), Chain { number: at }))
+    }
+}
+
+impl<'a> Walk<'a> {
+    /// Passes over the keys before the first that has at most `most` bytes. Lengths and links alone are read of them.
+    pub fn skip_long(&mut self, most: usize)
+        ensures { self.new ≡ without_long most self.old }
+    {
+        while self.skip_first_long(most) {}
+    }
+
+    // Passes over the first key, if it has more than `most` bytes; whether it has.
+    fn skip_first_long(&mut self, most: usize) -> bool
+        ensures long { result ≡ begins_long most self.old }
+        ensures rest { self.new ≡ without_long_first most self.old }
+    {
+        if self.left == 0 {
+            return false;
+        }
+        let Some(at) = self.at else {
+            return false;
+        };
+        if is_stop(at, self.stop) || self.arena.has_short_key(at, most) {
+            return false;
+        }
+        self.left -= 1;
+        self.at = self.nexts.after(at);
+        true
     }
 }
 

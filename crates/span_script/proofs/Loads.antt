@@ -16,8 +16,8 @@ use Rattle.span_command.specs.declared.layout.Layout.{Layout}
 use Rattle.span_command.specs.Layouts.{HasNoLayout, IsLayoutOf, IsRowOf, heading_of}
 use Rattle.span_command.specs.Record.{record_fields}
 use Rattle.span_script.specs.declared.report.Refused.{Refused}
-use Rattle.span_script.specs.declared.session.Load.{Load}
-use Rattle.span_script.specs.declared.session.Records.{Records}
+use Rattle.span_script.specs.declared.load.Load.{Load}
+use Rattle.span_script.specs.declared.load.Records.{Records}
 use Rattle.span_script.specs.declared.session.Session.{Session}
 use Rattle.span_script.specs.Lines.{number_line, refused_line}
 use Rattle.span_script.specs.Scripts.{BeginsLoad, EndsLoad, Gathers, LoadsRecord, RefusesRecord, ScriptState, refused_load}

@@ -17,8 +17,8 @@ use Rattle.span_command.specs.declared.layout.Layout.{Layout}
 use Rattle.span_command.specs.Layouts.{IsOfRecord, heading_of}
 use Rattle.span_command.specs.Record.{record_fields}
 use Rattle.span_script.specs.declared.report.Refused.{Refused}
-use Rattle.span_script.specs.declared.session.Load.{Load}
-use Rattle.span_script.specs.declared.session.Records.{Records}
+use Rattle.span_script.specs.declared.load.Load.{Load}
+use Rattle.span_script.specs.declared.load.Records.{Records}
 use Rattle.span_script.specs.declared.session.Session.{Session}
 use Rattle.span_script.specs.Lines.{refused_line}
 use Rattle.span_script.specs.Scripts.{OpenLoad, ScriptState, IsAnswered}
@@ -27,7 +27,7 @@ abbrev pub layout_of : Result Records Refused → Result Layout Refusal
 layout_of (Ok records) = Ok records.layout
 layout_of (Err refused) = Err refused.why
 
--- a load, before which so many mutations were gathered
+-- a load, before which this number of mutations were gathered
 abbrev pub load_of : ℕ → Load → OpenLoad
 load_of before load = record { layout = layout_of load.records; before = before }
 

@@ -6,9 +6,11 @@
 #![tactic(auto)]
 
 pub mod answer;
+mod load;
 pub mod report;
 pub mod run;
 mod session;
+mod steps;
 
 pub use report::{QueryText, Refused, Reports};
 pub use span_command::device::{Counted, Input, Output};

@@ -1,19 +1,19 @@
 //! What a script has set and gathered, and its commands done one after another.
-ghost use Rattle.std.specs.Prelude.{◌≡◌, ◌++◌, ◌∷◌, List, None, Some, is_some, IfErr, IfOk, IfSome, IsOkUnless, MatchResult, OnOk, ◌⊎◌, [], length, codes, vec_len};
-ghost use Rattle.span_schema.specs.declared.table.Table.{Table};
-ghost use Rattle.span_machine.specs.Run.{IsChecked};
+ghost use Rattle.std.specs.Prelude.{◌≡◌, ◌++◌, None, Some, is_some, IfErr, IfOk, IfSome, IsOkUnless, OnOk, ◌⊎◌, [], codes, vec_len};
 ghost use Rattle.span_machine.specs.declared.step.Step.TheVariants as step_of_kind;
 ghost use Rattle.span_script.specs.Lines.{Begins, number_line};
 ghost use Rattle.span_script.specs.Reports.{AreAnswered};
-ghost use Rattle.span_script.specs.Steps.{Takes, AreTaken, AreRefused, IsRead, IsQueried, IsBegun, scans, scans_of_leaf};
-ghost use Rattle.span_script.specs.Scripts.{BeginsLoad, Deletes, EndsLoad, Gathers, IsAnswered, IsCommandLine, IsDeletion, IsDone, IsDoneIfRead, IsExplained, IsFirst, IsLoadLine, IsReplied, IsSplit, LoadsRecord, RefusesClock, RefusesDelete, RefusesParam, RefusesRecord, RefusesWrite, SetsClock, SetsParam, Writes, end_answer, is_passed_over, numbered_step, refused_load};
+ghost use Rattle.span_script.specs.Steps.{Takes, IsQueried, IsBegun};
+ghost use Rattle.span_script.specs.Scripts.{BeginsLoad, Deletes, EndsLoad, Gathers, IsAnswered, IsCommandLine, IsDeletion, IsDone, IsDoneIfRead, IsExplained, IsFirst, IsLoadLine, IsReplied, IsSplit, LoadsRecord, RefusesClock, RefusesDelete, RefusesParam, RefusesRecord, RefusesWrite, SetsClock, SetsParam, Writes, end_answer, is_passed_over, refused_load};
 ghost use Rattle.span_mutate.specs.Batches.{row_mutations};
 ghost use Rattle.span_command.specs.Layouts.{IsOfRecord, heading_of};
 ghost use Rattle.span_command.specs.Record.{record_fields};
-ghost use Rattle.span_script.specs.Sessions.{Adds, AddsAt, AddsLine, AddsRow, Changes, Gathered, count_of, load_of, state_in, state_of, text_of};
+ghost use Rattle.span_script.specs.Sessions.{Adds, AddsAt, AddsLine, Changes, Gathered, count_of, load_of, state_in, state_of, text_of};
 
 use super::answer::Answers;
+use super::load::{Load, Records, one_row};
 use super::report::Refused;
+use super::steps::{OWNER, read, split_refusal, step_of, take_step};
 use csv::StringRecord;
 use span_command::command::{Command, read_command};
 use span_command::layout::Layout;
@@ -21,15 +21,12 @@ use span_command::line::Line;
 use span_core::database::Core;
 use span_core::{
     Bound, Interval, Kind, Mutation, MutationKind, Params, Refusal, Reply, Schema, Step, Text,
-    Transaction, Verdict,
+    Transaction,
 };
 use span_mutate::batch::{BatchRow, MutationBatch};
 use span_value::cell::read_cell;
 use std::alloc::Global;
 use std::mem;
-
-/// The owner of every transaction of a script.
-const OWNER: u64 = 0;
 
 /// A script between two lines.
 #[derive(Drop)]
@@ -42,39 +39,6 @@ pub struct Session {
     load: Option<Load>,
     /// The fields of the last record.
     fields: StringRecord,
-}
-
-/// A load between its first line and its `end`.
-#[derive(Drop)]
-struct Load {
-    /// Its records, or where and why it is refused, which is answered at its end.
-    records: Result<Records, Refused>,
-}
-
-/// How the records of a load are read, and the rows that were read.
-#[derive(Drop)]
-struct Records {
-    layout: Layout,
-    rows: Vec<BatchRow>,
-}
-
-impl Records {
-    /// With the row of one more record. `WrongType`: a wrong number of fields, or a field that is no cell of its column's
-    /// type.
-    fn with_record(
-        mut self,
-        alloc: Global,
-        text: &str,
-        fields: &mut StringRecord,
-    ) -> Result<Records, Refusal>
-        ensures { MatchResult result
-            (AddsRow self text.now)
-            (λ why. (why ≡ Refusal.OutOfMemory) ⊎ RefusesRecord self.layout MutationKind.Insert text.now why) }
-    {
-        let row = self.layout.read_row(alloc, text, fields)?;
-        self.rows.push(row)?;
-        Ok(self)
-    }
 }
 
 impl Session {
@@ -660,102 +624,6 @@ impl Session {
     }
 }
 
-/// A row alone.
-fn one_row(alloc: Global, row: BatchRow) -> Result<Vec<BatchRow>, Refusal>
-    ensures { MatchResult result (λ rows. rows.items ≡ row ∷ []) (λ why. why ≡ Refusal.OutOfMemory) }
-{
-    let mut rows = Vec::with_capacity(alloc, 1)?;
-    rows.push_reserved(row);
-    Ok(rows)
-}
-
-/// Scans the leaves of an open query in every slot, and finishes it.
-fn read(alloc: Global, core: &mut Core, clock: Interval, query: u64, leaves: usize) -> Reply
-    ensures read { IsRead core.old.schema core.old.machine clock query leaves result core.new.machine }
-    ensures schema { core.new.schema ≡ core.old.schema }
-{
-    match scan(alloc, core, clock, query, leaves) {
-        Ok(()) => take_step(alloc, core, Step::Finish { query }),
-        Err(why) => Reply::Refused(why),
-    }
-}
-
-/// Scans the leaves of an open query in every slot. The refusal is that of the first step that is refused.
-fn scan(
-    alloc: Global,
-    core: &mut Core,
-    clock: Interval,
-    query: u64,
-    leaves: usize,
-) -> Result<(), Refusal>
-    ensures scanned { MatchResult result
-        (λ _. AreTaken core.old.schema core.old.machine
-        (scans clock query (length core.old.machine.slots) leaves) core.new.machine)
-        (λ why. AreRefused core.old.schema core.old.machine
-        (scans clock query (length core.old.machine.slots) leaves) why core.new.machine) }
-    ensures schema { core.new.schema ≡ core.old.schema }
-{
-    let slots = core.slots();
-    for leaf in 0..leaves {
-        match scan_leaf(alloc, core, clock, query, leaf, slots) {
-            Ok(()) => {}
-            Err(why) => return Err(why),
-        }
-    }
-    Ok(())
-}
-
-/// Scans a leaf of an open query in each of the slots.
-fn scan_leaf(
-    alloc: Global,
-    core: &mut Core,
-    clock: Interval,
-    query: u64,
-    leaf: usize,
-    slots: usize,
-) -> Result<(), Refusal>
-    ensures scanned { MatchResult result
-        (λ _. AreTaken core.old.schema core.old.machine (scans_of_leaf clock query slots leaf) core.new.machine)
-        (λ why. AreRefused core.old.schema core.old.machine
-        (scans_of_leaf clock query slots leaf) why core.new.machine) }
-    ensures schema { core.new.schema ≡ core.old.schema }
-{
-    for slot in 0..slots {
-        let step = Step::Scan {
-            query,
-            leaf,
-            slot,
-            interval: clock,
-        };
-        match take_step(alloc, core, step) {
-            Reply::Refused(why) => return Err(why),
-            _ => {}
-        }
-    }
-    Ok(())
-}
-
-/// Why a record has no key to split at, or that memory ran out.
-fn split_refusal(why: Refusal) -> Refusal
-    ensures which { (result ≡ Refusal.BadSplit) ⊎ ((result ≡ Refusal.OutOfMemory) × (why ≡ Refusal.OutOfMemory)) }
-    ensures memory { why ≡ Refusal.OutOfMemory → result ≡ Refusal.OutOfMemory }
-{
-    match why {
-        Refusal::OutOfMemory => Refusal::OutOfMemory,
-        _ => Refusal::BadSplit,
-    }
-}
-
-/// Takes a step. A transaction that is begun was checked against the database's schema.
-fn take_step(alloc: Global, core: &mut Core, step: Step) -> Reply
-    requires { IsChecked core.old.schema step }
-    ensures taken { Takes core.old.schema core.old.machine step result core.new.machine }
-    ensures schema { core.new.schema ≡ core.old.schema }
-{
-    core.is_reached();
-    core.step(alloc, step)
-}
-
 /// Whether a line has no answer: it is empty, or a remark.
 fn is_passed_over(text: &str) -> bool
     ensures { result ≡ is_passed_over text.now }
@@ -775,57 +643,5 @@ fn add_reply(alloc: Global, reply: &Reply, answers: &mut Answers) -> Result<(), 
     match reply {
         Reply::Refused(why) => Err(*why),
         reply => answers.reply(alloc, reply),
-    }
-}
-
-/// The step of a command that is one step of numbers alone.
-fn step_of(command: Command<'_>, clock: Interval) -> Option<Step>
-    ensures step { result ≡ numbered_step command.entry clock }
-    ensures of_schema { IfSome result (λ step. (schema : List Table) → IsChecked schema step) }
-{
-    match command {
-        Command::Prepare { txn, slot } => Some(Step::Prepare {
-            owner: OWNER,
-            txn,
-            slot: slot as usize,
-        }),
-        Command::Decide { txn } => Some(decision(txn, Verdict::Commit, clock)),
-        Command::Abort { txn } => Some(decision(txn, Verdict::Abort, clock)),
-        Command::Apply { txn, slot } => Some(Step::Apply {
-            owner: OWNER,
-            txn,
-            slot: slot as usize,
-            interval: clock,
-        }),
-        Command::Advance { slot } => Some(Step::Advance {
-            slot: slot as usize,
-            interval: clock,
-        }),
-        Command::Scan { query, leaf, slot } => Some(Step::Scan {
-            query,
-            leaf: leaf as usize,
-            slot: slot as usize,
-            interval: clock,
-        }),
-        Command::Finish { query } => Some(Step::Finish { query }),
-        Command::Close { query } => Some(Step::Close { query }),
-        Command::Trim { slot, horizon } => Some(Step::Trim {
-            slot: slot as usize,
-            h: horizon,
-        }),
-        _ => None,
-    }
-}
-
-/// The step that decides a transaction.
-fn decision(txn: u64, verdict: Verdict, clock: Interval) -> Step
-    ensures step { result ≡ step_of_kind.Decide 0 txn verdict clock }
-    ensures of_schema { (schema : List Table) → IsChecked schema result }
-{
-    Step::Decide {
-        owner: OWNER,
-        txn,
-        verdict,
-        interval: clock,
     }
 }

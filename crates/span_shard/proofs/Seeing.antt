@@ -1,11 +1,12 @@
 -- What is read of an arena is what is seen of the keys.
-use Rattle.std.proofs.Common.{◌≡◌, ℕ, zero, suc, arith, Bool, true, false, cond, List, [], ◌∷◌, ◌++◌, Option, Some, None, map, refl, sym, ap, subst, ◌∙◌, append_assoc}
+use Rattle.std.proofs.Common.{◌≡◌, ◌<◌, ℕ, zero, suc, arith, Bool, true, false, cond, List, [], ◌∷◌, ◌++◌, Option, Some, None, map, refl, sym, ap, subst, ◌∙◌, append_assoc}
 use Rattle.std.specs.Prelude.{filter, length, nat_le, option_and_then, option_map, All}
 use Rattle.std.specs.List.{filter_map, cons_option}
 use Rattle.span_keycode.specs.declared.range.KeyRange.{KeyRange}
 use Rattle.span_arena.specs.declared.version.Version as arena
 use Rattle.span_arena.specs.Content.{Content, newest_upto, IsChain}
 use Rattle.span_keyindex.specs.Entries.{entries_in, entries_under, Entry}
+use Rattle.span_keyindex.specs.Walks.{without_long}
 use Rattle.span_shard.specs.declared.chain.Version.{Version}
 use Rattle.span_shard.specs.declared.node.PreparedNode.{PreparedNode}
 use Rattle.span_shard.specs.KeyVersions.{KeyVersions}
@@ -99,3 +100,39 @@ pub short_first : (a : Content) (s most : ℕ) (es fs : List Entry) (e : Entry) 
 short_first a s most es fs e row is short some =
     ap (short_rows a s most) is ∙ ap (λ (o : Option (List ℕ)). first_short most (filter_map (seen_entry a s) fs) (option_map (the_row e.key) o)) some
     ∙ ap (λ (b : Bool). cond b (the_row e.key row ∷ short_rows a s most fs) (short_rows a s most fs)) short
+
+-- ---- long keys passed over
+
+pub short_left : (a : Content) (s most : ℕ) (es : List Entry) → short_rows a s most (without_long most es) ≡ short_rows a s most es
+short_left a s most [] = refl
+short_left a s most (e ∷ es) = cases (nat_le (length e.key) most) (short_left a s most es) refl
+  where
+    cases : (b : Bool) → short_rows a s most (without_long most es) ≡ short_rows a s most es → nat_le (length e.key) most ≡ b → short_rows a s most (cond b (e ∷ es) (without_long most es)) ≡ short_rows a s most (e ∷ es)
+    cases true rest is = refl
+    cases false rest is = rest ∙ sym (long_skipped a s most (e ∷ es) es e refl is)
+
+pub chains_short : (a : Content) (most : ℕ) (es : List Entry) → All (λ (x : Entry). IsChain a x.chain.number) es → All (λ (x : Entry). IsChain a x.chain.number) (without_long most es)
+chains_short a most [] all = all
+chains_short a most (e ∷ es) all = cases (nat_le (length e.key) most) (chains_short a most es (chains_left a (e ∷ es) es e refl all))
+  where
+    cases : (b : Bool) → All (λ (x : Entry). IsChain a x.chain.number) (without_long most es) → All (λ (x : Entry). IsChain a x.chain.number) (cond b (e ∷ es) (without_long most es))
+    cases true rest = all
+    cases false rest = rest
+
+-- the first key that is left is not too long
+pub first_is_short : (most : ℕ) (es fs : List Entry) (e : Entry) → without_long most es ≡ e ∷ fs → nat_le (length e.key) most ≡ true
+first_is_short most [] fs e is = absurd (let f : [] ≡ e ∷ fs = is in cc)
+first_is_short most (x ∷ xs) fs e is = cases (nat_le (length x.key) most) (first_is_short most xs fs e) refl is
+  where
+    cases : (b : Bool) → (without_long most xs ≡ e ∷ fs → nat_le (length e.key) most ≡ true) → nat_le (length x.key) most ≡ b → cond b (x ∷ xs) (without_long most xs) ≡ e ∷ fs → nat_le (length e.key) most ≡ true
+    cases true rest short f = let same : x ≡ e = cc in ap (λ (y : Entry). nat_le (length y.key) most) (sym same) ∙ short
+    cases false rest long f = rest f
+
+-- no more keys are left than there were
+pub short_shrinks : (most : ℕ) (es fs : List Entry) (e : Entry) → without_long most es ≡ e ∷ fs → length fs < length es
+short_shrinks most [] fs e is = absurd (let f : [] ≡ e ∷ fs = is in cc)
+short_shrinks most (x ∷ xs) fs e is = cases (nat_le (length x.key) most) (short_shrinks most xs fs e) is
+  where
+    cases : (b : Bool) → (without_long most xs ≡ e ∷ fs → length fs < length xs) → cond b (x ∷ xs) (without_long most xs) ≡ e ∷ fs → length fs < suc (length xs)
+    cases true rest f = let same : xs ≡ fs = cc in subst (λ (l : List Entry). length l < suc (length xs)) same (omega arith)
+    cases false rest f = omega (arith, rest f)

@@ -3,6 +3,7 @@
 //! Keys are coded and rows are packed, so a shard is a list of keys in byte order.
 #![tactic(auto)]
 
+mod ahead;
 mod chain;
 mod change;
 mod lookups;

@@ -7,12 +7,13 @@ ghost use Rattle.span_shard.specs.Reading.{versions_alone};
 ghost use Rattle.span_shard.specs.Rows.{begins_with};
 ghost use Rattle.span_shard.specs.Shard.{AreInOrder, row_now};
 
-use super::place::{StoredKey, push_beginning, row_now};
+use super::place::{StoredKey, near_keys, push_beginning, row_near, row_now};
 use super::search::walk_from;
 use super::store::Store;
 use span_keycode::compare::order_of_bytes;
 use span_keycode::encode::encode_key;
 use span_keycode::key::Key;
+use span_keyindex::near::LANES;
 use span_mutate::mutation::CheckedMutation;
 use span_schema::schema::Schema;
 use span_value::seq::Seq;
@@ -104,10 +105,31 @@ impl<'a> Lookups<'a> {
         }
         row_now(self.store, key)
     }
+
+    /// As `row_now`, where a chain is handed from `near`.
+    pub(crate) fn row_near(&self, key: &[u8], near: u32) -> Option<&'a Seq<u8>>
+        requires { AreInOrder self.now }
+        ensures { option_copied result ≡ row_now self.now key.now }
+    {
+        if is_in_empty(&self.empty, key) {
+            return None;
+        }
+        row_near(self.store, key, near)
+    }
+
+    /// Chains near keys, for `row_near`.
+    pub(crate) fn near(&self, keys: &[Key]) -> [u32; LANES] {
+        near_keys(self.store, keys)
+    }
+
+    /// Whether a key is known to have no row without a search.
+    pub(crate) fn is_known_absent(&self, key: &[u8]) -> bool {
+        is_in_empty(&self.empty, key)
+    }
 }
 
 // The coded key of a mutation; None where it is long and memory ran out.
-fn key_of(alloc: Global, schema: &Schema, mutation: &CheckedMutation) -> Option<Key>
+pub(crate) fn key_of(alloc: Global, schema: &Schema, mutation: &CheckedMutation) -> Option<Key>
     requires { IsTypedMutation schema.now mutation.now }
 {
     encode_key(alloc, schema, mutation.table, mutation.key.as_slice()).ok()

@@ -93,11 +93,13 @@ impl Changes {
     }
 }
 
-/// The row at a key at which the mutations made none: none where they removed one, and else what is there now.
+/// The row at a key at which the mutations made none: none where they removed one, and else what is there now. `near` is a chain from
+/// `Lookups::near`.
 pub(crate) fn row_under<'a>(
     store: &'a Lookups<'a>,
     changes: &'a Changes,
     key: &Key,
+    near: u32,
 ) -> Option<&'a Seq<u8>>
     requires { AreInOrder store.now }
     ensures { option_copied result ≡ row_under store.now changes.now key.now }
@@ -105,7 +107,7 @@ pub(crate) fn row_under<'a>(
     if changes.removed.contains(key) {
         return None;
     }
-    store.row_now(key.as_slice())
+    store.row_near(key.as_slice(), near)
 }
 
 /// The row at a key: what the mutations left there, and else what is there now.

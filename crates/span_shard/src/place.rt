@@ -12,6 +12,8 @@ use super::search::walk_under;
 use super::store::Store;
 use span_arena::arena::Arena;
 use span_arena::token::Chain;
+use span_keycode::key::Key;
+use span_keyindex::near::LANES;
 use span_keyindex::walk::Walk;
 use span_value::seq::Seq;
 use std::alloc::{AllocError, Global};
@@ -74,6 +76,22 @@ pub(crate) fn row_now<'a>(store: &'a Store, key: &[u8]) -> Option<&'a Seq<u8>>
         Some(chain) => row_in(&store.arena, chain, u64::MAX),
         None => None,
     }
+}
+
+/// As `row_now`, where a chain is handed from `KeyIndex::near`.
+pub(crate) fn row_near<'a>(store: &'a Store, key: &[u8], near: u32) -> Option<&'a Seq<u8>>
+    requires { AreInOrder store.now }
+    ensures { option_copied result ≡ row_now store.now key.now }
+{
+    match store.index.find_near(&store.arena, key, near) {
+        Some(chain) => row_in(&store.arena, chain, u64::MAX),
+        None => None,
+    }
+}
+
+/// Chains near keys, for `row_near`.
+pub(crate) fn near_keys(store: &Store, keys: &[Key]) -> [u32; LANES] {
+    store.index.near(&store.arena, keys)
 }
 
 fn push_keys<'a>(

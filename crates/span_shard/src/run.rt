@@ -11,6 +11,7 @@ ghost use Rattle.span_shard.specs.Shard.{AreInOrder};
 ghost use Rattle.span_shard.specs.Overlay.{lacks_parent_over, made_at, own_code, HasFront, HasParent, HasPutRow, HasSameCleared, IsAddedAt, IsRowAlone, AreCellsOf, IsUnpacked, IsBlocked, HasNoKey, IsPutRow, IsNoPut, row_over, AreCleared, AreUnder, HasDeleted, IsNoDelete, AreTableRows, IsRunOf, IsRunFault, AreRunsOf};
 ghost use Rattle.span_shard.specs.Reading.{IsFault, IsPrepareRefusal};
 
+use super::ahead::Ahead;
 use super::lookups::Lookups;
 use super::merge::pack_merged;
 use super::overlay::{Changes, has_row, keys_under, row_over, row_under};
@@ -189,6 +190,7 @@ fn row_alone(
     known: Option<&CheckedMutation>,
     mutation: &CheckedMutation,
     key: &Key,
+    near: u32,
 ) -> Result<Option<Seq<u8>>, Refusal>
     requires order { AreInOrder store.now }
     requires typed { IsTypedMutation schema.now mutation.now }
@@ -201,7 +203,7 @@ fn row_alone(
     if !is_insert(mutation.kind) {
         return Ok(None);
     }
-    if row_under(store, changes, key).is_some() {
+    if row_under(store, changes, key, near).is_some() {
         return Ok(None);
     }
     if lacks_parent(alloc, schema, store, changes, known, mutation)? {
@@ -238,6 +240,7 @@ fn run_put(
     known: Option<&CheckedMutation>,
     mutation: &CheckedMutation,
     key: Key,
+    near: u32,
 ) -> Result<(), Refusal>
     requires order { AreInOrder store.now }
     requires typed { IsTypedMutation schema.now mutation.now }
@@ -247,7 +250,7 @@ fn run_put(
     ensures cleared { OnOk result (HasSameCleared changes.old changes.new) }
     ensures refused { IfErr result (IsNoPut schema.now store.now changes.old mutation.now) }
 {
-    match row_alone(alloc, schema, store, changes, known, mutation, &key)? {
+    match row_alone(alloc, schema, store, changes, known, mutation, &key, near)? {
         Some(row) => add_row(changes, key, row),
         None => {
             let row = row_put(alloc, schema, store, changes, known, mutation, &key)?;
@@ -327,6 +330,7 @@ fn run_one<'a>(
     changes: &mut Changes,
     known: Option<&'a CheckedMutation>,
     mutation: &'a CheckedMutation,
+    near: u32,
 ) -> Result<Option<&'a CheckedMutation>, Refusal>
     requires order { AreInOrder store.now }
     requires typed { IsTypedMutation schema.now mutation.now }
@@ -347,7 +351,7 @@ fn run_one<'a>(
         // The parent row may have been deleted.
         return Ok(None);
     }
-    run_put(alloc, schema, store, changes, known, mutation, key)?;
+    run_put(alloc, schema, store, changes, known, mutation, key, near)?;
     Ok(Some(mutation))
 }
 
@@ -369,8 +373,10 @@ pub(crate) fn run(
     schema.meets_rules();
     let mut changes = Changes::new(alloc);
     let mut known = None;
+    let mut ahead = Ahead::new();
     for mutation in mutations {
-        known = run_one(alloc, schema, store, &mut changes, known, mutation)?;
+        let near = ahead.next(alloc, schema, store, mutations);
+        known = run_one(alloc, schema, store, &mut changes, known, mutation, near)?;
     }
     Ok(changes)
 }

@@ -2,6 +2,8 @@
 ghost use Rattle.std.specs.Prelude.{◌≡◌, [], ◌∷◌, All, MatchOption, filter};
 ghost use Rattle.std.specs.Iterator.{YieldsFirstBy, item_count};
 ghost use Rattle.span_arena.specs.Content.{IsChain};
+ghost use Rattle.span_keyindex.specs.Entries.{entry_of};
+ghost use Rattle.span_keyindex.specs.Walks.{without_long};
 ghost use Rattle.span_shard.specs.Reading.{entry_row, has_short_key, short_rows};
 ghost use Rattle.span_shard.specs.Shard.{snapshot};
 
@@ -10,6 +12,7 @@ use super::search::walk;
 use super::shard::Entry;
 use super::store::Store;
 use span_arena::arena::Arena;
+use span_arena::token::Chain;
 use span_keycode::range::KeyRange;
 use span_keyindex::walk::Walk;
 use std::marker::Model;
@@ -93,17 +96,25 @@ fn next_row<'a>(walk: &mut Walk<'a>, arena: &'a Arena, s: u64, most: usize) -> O
         ((short_rows arena.now s most walk.old ≡ []) × (short_rows arena.now s most walk.new ≡ []))
         (λ e. short_rows arena.now s most walk.old ≡ entry_row e ∷ short_rows arena.now s most walk.new) }
 {
-    while let Some((key, chain)) = walk.next() {
-        if key.len() <= most {
-            if let Some(row) = row_in(arena, chain, s) {
-                return Some(Entry {
-                    key,
-                    row: row.as_slice(),
-                });
-            }
+    while let Some((key, chain)) = next_short(walk, most) {
+        if let Some(row) = row_in(arena, chain, s) {
+            return Some(Entry {
+                key,
+                row: row.as_slice(),
+            });
         }
     }
     None
+}
+
+/// The first key that is left and has at most `most` bytes. The longer ones before it are passed over.
+fn next_short<'a>(walk: &mut Walk<'a>, most: usize) -> Option<(&'a [u8], Chain)>
+    ensures { MatchOption result
+        ((without_long most walk.old ≡ []) × (walk.new ≡ []))
+        (λ e. without_long most walk.old ≡ entry_of e ∷ walk.new) }
+{
+    walk.skip_long(most);
+    walk.next()
 }
 
 /// The rows of a store in a range at s.

@@ -1,4 +1,4 @@
-use Rattle.std.proofs.Common.{◌≡◌}
+use Rattle.std.proofs.Common.{◌≡◌, length}
 use Rattle.std.specs.Prelude.{All}
 use Rattle.span_arena.specs.Content.{IsChain}
 use Rattle.span_keyindex.specs.Entries.{Entry}
@@ -8,8 +8,9 @@ use Rattle.span_shard.proofs.snapshot.next_row.Given as goal
 -- the rows with short keys are all left
 abbrev pub invariant-loop-key : goal.invariant-loop-key
 invariant-loop-key l = record {
-  can_next : (goal.iterator-loop-key).can_next l.walk;
-  is_finite : (goal.iterator-loop-key).is_finite l.walk;
   chains : All (λ (e : Entry). IsChain l.arena e.chain.number) l.walk;
   left : short_rows l.arena l.s l.most l.initial.walk ≡ short_rows l.arena l.s l.most l.walk;
 }
+
+abbrev pub decreases-loop-key : goal.decreases-loop-key
+decreases-loop-key l = length l.walk

@@ -13,10 +13,10 @@ invariant_of-self-2 c =
       spare = c.self.invariant.spare;
       cells = c.self.invariant.cells;
       few = c.self.invariant.few;
-      falling = rw c.in-Ok.ensures.items (subst AreInTimeOrder (sym (room_content i.nodes.items i.chains.items i.free i.free_count i.most c.self.invariant.sound _ refl i.cells.items)) c.self.invariant.falling);
+      falling = rw c.in-Ok.ensures.items (subst AreInTimeOrder (sym (room_content i.nodes.items i.chains.items i.free i.free_count i.most c.self.invariant.sound _ refl i.cells)) c.self.invariant.falling);
     }
 
 pub returns-clause-ok : goal.returns-clause-ok
 returns-clause-ok c =
     let i = c.self.inside in
-    rw (← c.self.view_is, c.in-Ok.ensures.items) (room_content i.nodes.items i.chains.items i.free i.free_count i.most c.self.invariant.sound _ refl i.cells.items)
+    rw (← c.self.view_is, c.in-Ok.ensures.items) (room_content i.nodes.items i.chains.items i.free i.free_count i.most c.self.invariant.sound _ refl i.cells)

@@ -29,17 +29,17 @@ invariant_of-self c =
     let h = rw (← c.self.view_is) at c.requires.is_chain in
     let unused = rw (← c.self.view_is) at c.requires.unused in
     let u = used_of (node_at i.nodes.items) i.chains.items c.args.chain.number h.0 h.1 in
-    record {
-      sound = sound-free_chain i.nodes.items i.chains.items i.free i.free_count i.most i.cells.items c.self.invariant.sound c.args.chain.number u.0 _ _ u.1 unused;
+    rw c.replace.ensures (record {
+      sound = sound-free_chain i.nodes.items i.chains.items i.free i.free_count i.most i.cells c.self.invariant.sound c.args.chain.number u.0 _ _ u.1 unused;
       spare = are_spare-free i.chains.items i.spare i.spare_count c.args.chain.number u.0 u.1 c.self.invariant.spare;
-      cells = length-set i.cells.items c.args.chain.number _ ∙ c.self.invariant.cells ∙ sym (length-set i.chains.items c.args.chain.number _);
-      few = few-set i.cells.items c.args.chain.number _ c.self.invariant.few;
-      falling = subst AreInTimeOrder (sym (content-free_chain i.nodes.items i.chains.items i.free i.free_count i.most i.cells.items c.self.invariant.sound c.args.chain.number _ _)) (falling-free_chain (content i.nodes.items i.chains.items i.free_count i.most i.cells.items) c.args.chain.number c.self.invariant.falling);
-    }
+      cells = length-set i.cells c.args.chain.number _ ∙ c.self.invariant.cells ∙ sym (length-set i.chains.items c.args.chain.number _);
+      few = few-set i.cells c.args.chain.number _ c.self.invariant.few;
+      falling = subst AreInTimeOrder (sym (content-free_chain i.nodes.items i.chains.items i.free i.free_count i.most i.cells c.self.invariant.sound c.args.chain.number _ _)) (falling-free_chain (content i.nodes.items i.chains.items i.free_count i.most i.cells) c.args.chain.number c.self.invariant.falling);
+    })
 
 pub returns : goal.returns
 returns c =
     let i = c.self.inside in
-    ap (content i.nodes.items (set i.chains.items c.args.chain.number (chain.Free i.spare (i.spare_count + 1))) i.free_count i.most) (ap (set i.cells.items c.args.chain.number) c.blank.ensures)
-    ∙ content-free_chain i.nodes.items i.chains.items i.free i.free_count i.most i.cells.items c.self.invariant.sound c.args.chain.number _ _
+    ap (content i.nodes.items (set i.chains.items c.args.chain.number (chain.Free i.spare (i.spare_count + 1))) i.free_count i.most) (c.replace.ensures ∙ ap (set i.cells c.args.chain.number) c.blank-blank.ensures)
+    ∙ content-free_chain i.nodes.items i.chains.items i.free i.free_count i.most i.cells c.self.invariant.sound c.args.chain.number _ _
     ∙ ap (λ w. without_chain w c.args.chain.number) c.self.view_is

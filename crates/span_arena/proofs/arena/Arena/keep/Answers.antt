@@ -16,7 +16,7 @@ cut-kept-requires c =
     let h = rw (← c.self.view_is) at c.requires in
     let u = used_of (node_at i.nodes.items) i.chains.items c.args.chain.number h.0 h.1 in
     let used = read_used i.chains.items c.args.chain.number c.index.result.now c.in-Used.links u.0 u.1 c.index.ensures c.in-Used.is in
-    let r = init_run i.nodes.items i.chains.items i.free i.free_count i.most i.cells.items c.self.invariant.sound c.args.chain.number c.in-Used.links used in
+    let r = init_run i.nodes.items i.chains.items i.free i.free_count i.most i.cells c.self.invariant.sound c.args.chain.number c.in-Used.links used in
     r.0
 
 pub loop-left-init : goal.loop-left-init
@@ -25,7 +25,7 @@ loop-left-init c =
     let h = rw (← c.self.view_is) at c.requires in
     let u = used_of (node_at i.nodes.items) i.chains.items c.args.chain.number h.0 h.1 in
     let used = read_used i.chains.items c.args.chain.number c.index.result.now c.in-Used.links u.0 u.1 c.index.ensures c.in-Used.is in
-    let r = trimming_starts i.nodes.items i.chains.items i.free i.free_count i.most i.cells.items c.args.chain.number c.in-Used.links c.args.horizon c.cut-kept.result.0 c.cut-kept.result.1 c.self.invariant.sound used c.cut-kept.ensures in
+    let r = trimming_starts i.nodes.items i.chains.items i.free i.free_count i.most i.cells c.args.chain.number c.in-Used.links c.args.horizon c.cut-kept.result.0 c.cut-kept.result.1 c.self.invariant.sound used c.cut-kept.ensures in
     record {
       trimming = r.sound;
       spare = are_spare-used i.chains.items i.spare i.spare_count c.args.chain.number c.in-Used.links _ used c.self.invariant.spare;
@@ -51,7 +51,7 @@ loop-left-preserved c =
       spare = c.loop-left.invariant.spare;
       cells = c.loop-left.invariant.cells;
       few = c.loop-left.invariant.few;
-      same = rw n (trim_content i.nodes.items i.chains.items i.free i.free_count i.most c.args.chain.number c.loop-left.left c.loop-left.at c.loop-left.invariant.trimming c.loop-left-test.true _ i.cells.items (i.free_count + 1) refl (i.free_count + c.loop-left.left) ∙ c.loop-left.invariant.same);
+      same = rw n (trim_content i.nodes.items i.chains.items i.free i.free_count i.most c.args.chain.number c.loop-left.left c.loop-left.at c.loop-left.invariant.trimming c.loop-left-test.true _ i.cells (i.free_count + 1) refl (i.free_count + c.loop-left.left) ∙ c.loop-left.invariant.same);
     }
 
 pub invariant_of-self : goal.invariant_of-self

@@ -13,7 +13,7 @@ loop-left-init c =
     let h = rw (← c.self.view_is) at c.requires in
     let u = used_of (node_at i.nodes.items) i.chains.items c.args.chain.number h.0 h.1 in
     let used = read_used i.chains.items c.args.chain.number c.index.result.now c.in-Used.links u.0 u.1 c.index.ensures c.in-Used.is in
-    let r = init_run i.nodes.items i.chains.items i.free i.free_count i.most i.cells.items c.self.invariant.sound c.args.chain.number c.in-Used.links used in
+    let r = init_run i.nodes.items i.chains.items i.free i.free_count i.most i.cells c.self.invariant.sound c.args.chain.number c.in-Used.links used in
     record { run = r.0; same = rw (← c.self.view_is) (ap (newest_upto c.args.s) r.1) }
 
 pub index-node-requires : goal.index-node-requires

@@ -34,7 +34,7 @@ overflow_add-links-2 c =
 pub index_mut-node-requires : goal.index_mut-node-requires
 index_mut-node-requires c =
     let i = c.self.inside in
-    omega (arith, i.nodes.ok, (first_free i.nodes.items i.chains.items i.free i.free_count i.most i.cells.items c.self.invariant.sound c.if-self-gt0.true).0)
+    omega (arith, i.nodes.ok, (first_free i.nodes.items i.chains.items i.free i.free_count i.most i.cells c.self.invariant.sound c.if-self-gt0.true).0)
 
 pub invariant_of-self : goal.invariant_of-self
 invariant_of-self c =
@@ -42,7 +42,7 @@ invariant_of-self c =
     let h = rw (← c.self.view_is) at c.requires in
     let u = used_of (node_at i.nodes.items) i.chains.items c.args.chain.number h.0 h.1 in
     let used = read_used i.chains.items c.args.chain.number c.index.result.now c.in-Used.links u.0 u.1 c.index.ensures c.in-Used.is in
-    let f = first_free i.nodes.items i.chains.items i.free i.free_count i.most i.cells.items c.self.invariant.sound c.if-self-gt0.true in
+    let f = first_free i.nodes.items i.chains.items i.free i.free_count i.most i.cells c.self.invariant.sound c.if-self-gt0.true in
     let e = f.2 _ c.index_mut-node.ensures.value in
     let n : i.free_count ≡ suc (i.free_count - 1) = omega (arith, c.if-self-gt0.true) in
     record {
@@ -50,7 +50,7 @@ invariant_of-self c =
       spare = are_spare-used i.chains.items i.spare i.spare_count c.args.chain.number c.in-Used.links _ used c.self.invariant.spare;
       cells = c.self.invariant.cells ∙ sym (length-set i.chains.items c.args.chain.number _);
       few = c.self.invariant.few;
-      falling = falling-reserve _ _ c.args.chain.number i.free c.args.image c.self.invariant.falling (content-reuse i.nodes.items i.chains.items i.free i.free_count i.most i.cells.items c.self.invariant.sound c.args.chain.number c.in-Used.links used c.args.image _ c.if-self-gt0.true f.0 f.1 (same_image c.args.chain.number _ _ c.split_image-has_image.ensures));
+      falling = falling-reserve _ _ c.args.chain.number i.free c.args.image c.self.invariant.falling (content-reuse i.nodes.items i.chains.items i.free i.free_count i.most i.cells c.self.invariant.sound c.args.chain.number c.in-Used.links used c.args.image _ c.if-self-gt0.true f.0 f.1 (same_image c.args.chain.number _ _ c.split_image-has_image.ensures));
     }
 
 pub returns-then-self-gt0-clause-ok : goal.returns-then-self-gt0-clause-ok
@@ -59,18 +59,18 @@ returns-then-self-gt0-clause-ok c =
     let h = rw (← c.self.view_is) at c.requires in
     let u = used_of (node_at i.nodes.items) i.chains.items c.args.chain.number h.0 h.1 in
     let used = read_used i.chains.items c.args.chain.number c.index.result.now c.in-Used.links u.0 u.1 c.index.ensures c.in-Used.is in
-    let f = first_free i.nodes.items i.chains.items i.free i.free_count i.most i.cells.items c.self.invariant.sound c.if-self-gt0.true in
-    rw (← c.self.view_is) (content-reuse i.nodes.items i.chains.items i.free i.free_count i.most i.cells.items c.self.invariant.sound c.args.chain.number c.in-Used.links used c.args.image _ c.if-self-gt0.true f.0 f.1 (same_image c.args.chain.number _ _ c.split_image-has_image.ensures))
+    let f = first_free i.nodes.items i.chains.items i.free i.free_count i.most i.cells c.self.invariant.sound c.if-self-gt0.true in
+    rw (← c.self.view_is) (content-reuse i.nodes.items i.chains.items i.free i.free_count i.most i.cells c.self.invariant.sound c.args.chain.number c.in-Used.links used c.args.image _ c.if-self-gt0.true f.0 f.1 (same_image c.args.chain.number _ _ c.split_image-has_image.ensures))
 
 pub returns-then-number-self-clause-refused : goal.returns-then-number-self-clause-refused
 returns-then-number-self-clause-refused c =
     let i = c.self.inside in
-    rw (← c.self.view_is) (inl (refl, omega (arith, c.self.invariant.sound.bounded, c.len-number.ensures, c.if-self-gt0.false, i.nodes.ok, live_is i.nodes.items i.chains.items i.free i.free_count i.most i.cells.items c.self.invariant.sound)))
+    rw (← c.self.view_is) (inl (refl, omega (arith, c.self.invariant.sound.bounded, c.len-number.ensures, c.if-self-gt0.false, i.nodes.ok, live_is i.nodes.items i.chains.items i.free i.free_count i.most i.cells c.self.invariant.sound)))
 
 pub returns-in_default-push-clause-refused : goal.returns-in_default-push-clause-refused
 returns-in_default-push-clause-refused c =
     let i = c.self.inside in
-    rw (← c.self.view_is) (inr (refl, omega (arith, c.if-number-self.false, c.len-number.ensures, c.if-self-gt0.false, i.nodes.ok, live_is i.nodes.items i.chains.items i.free i.free_count i.most i.cells.items c.self.invariant.sound), omega (arith, c.if-self-gt0.false)))
+    rw (← c.self.view_is) (inr (refl, omega (arith, c.if-number-self.false, c.len-number.ensures, c.if-self-gt0.false, i.nodes.ok, live_is i.nodes.items i.chains.items i.free i.free_count i.most i.cells c.self.invariant.sound), omega (arith, c.if-self-gt0.false)))
 
 pub invariant_of-self-2 : goal.invariant_of-self-2
 invariant_of-self-2 c =
@@ -85,7 +85,7 @@ invariant_of-self-2 c =
       spare = are_spare-used i.chains.items i.spare i.spare_count c.args.chain.number c.in-Used.links _ used c.self.invariant.spare;
       cells = c.self.invariant.cells ∙ sym (length-set i.chains.items c.args.chain.number _);
       few = c.self.invariant.few;
-      falling = rw c.in-Ok.ensures.items (falling-reserve _ _ c.args.chain.number (length i.nodes.items) c.args.image c.self.invariant.falling (content-push i.nodes.items i.chains.items i.free i.free_count i.most i.cells.items c.self.invariant.sound c.args.chain.number c.in-Used.links used c.args.image _ none room (same_image c.args.chain.number _ _ c.split_image-has_image.ensures)));
+      falling = rw c.in-Ok.ensures.items (falling-reserve _ _ c.args.chain.number (length i.nodes.items) c.args.image c.self.invariant.falling (content-push i.nodes.items i.chains.items i.free i.free_count i.most i.cells c.self.invariant.sound c.args.chain.number c.in-Used.links used c.args.image _ none room (same_image c.args.chain.number _ _ c.split_image-has_image.ensures)));
     }
 
 pub returns-clause-ok : goal.returns-clause-ok
@@ -97,4 +97,4 @@ returns-clause-ok c =
     let none : i.free_count ≡ 0 = omega (arith, c.if-self-gt0.false) in
     let room : length i.nodes.items < i.most = omega (arith, c.if-number-self.false, c.len-number.ensures, i.nodes.ok) in
     let at : c.len-number.result ≡ length i.nodes.items = omega (arith, c.len-number.ensures, i.nodes.ok) in
-    rw (← c.self.view_is, c.in-Ok.ensures.items, at) (content-push i.nodes.items i.chains.items i.free i.free_count i.most i.cells.items c.self.invariant.sound c.args.chain.number c.in-Used.links used c.args.image _ none room (same_image c.args.chain.number _ _ c.split_image-has_image.ensures))
+    rw (← c.self.view_is, c.in-Ok.ensures.items, at) (content-push i.nodes.items i.chains.items i.free i.free_count i.most i.cells c.self.invariant.sound c.args.chain.number c.in-Used.links used c.args.image _ none room (same_image c.args.chain.number _ _ c.split_image-has_image.ensures))

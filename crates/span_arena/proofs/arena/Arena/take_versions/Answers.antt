@@ -27,7 +27,7 @@ loop-version-init c =
     let used = read_used i.chains.items c.args.chain.number c.index.result.now c.in-Used.links u.0 u.1 c.index.ensures c.in-Used.is in
     let none : c.in-Used.links.count ≡ 0 =
     sym (length-walk (node_at i.nodes.items) c.in-Used.links.count c.in-Used.links.newest)
-    ∙ ap length (sym (versions_here i.nodes.items i.chains.items i.free i.free_count i.most i.cells.items c.self.invariant.sound c.args.chain.number c.in-Used.links used) ∙ ap (λ (a : Content). versions a c.args.chain.number) c.self.view_is ∙ c.requires.none) in
+    ∙ ap length (sym (versions_here i.nodes.items i.chains.items i.free i.free_count i.most i.cells c.self.invariant.sound c.args.chain.number c.in-Used.links used) ∙ ap (λ (a : Content). versions a c.args.chain.number) c.self.view_is ∙ c.requires.none) in
     let free : i.free_count ≡ c.args.self.now.free = ap (λ (a : Content). a.free) c.self.view_is in
     let all : i.free_count + 0 ≡ i.free_count = omega arith in
     record {
@@ -38,7 +38,7 @@ loop-version-init c =
       spare = c.self.invariant.spare;
       cells = c.self.invariant.cells;
       few = c.self.invariant.few;
-      same = ap (λ (k : ℕ). content i.nodes.items i.chains.items k i.most i.cells.items) all ∙ c.self.view_is;
+      same = ap (λ (k : ℕ). content i.nodes.items i.chains.items k i.most i.cells) all ∙ c.self.view_is;
       emptied = emptying_starts c.args.from.now c.args.source.number c.requires.source;
       room = omega (arith, free, c.requires.free);
     }
@@ -73,7 +73,7 @@ loop-version-preserved c =
       spare = inv.spare;
       cells = inv.cells;
       few = inv.few;
-      same = rw k (fill_content j.nodes.items j.chains.items j.free j.free_count j.most c.args.chain.number c.loop-version.count i.free inv.filling some x refl j.cells.items (j.free_count + c.loop-version.count) ∙ inv.same);
+      same = rw k (fill_content j.nodes.items j.chains.items j.free j.free_count j.most c.args.chain.number c.loop-version.count i.free inv.filling some x refl j.cells (j.free_count + c.loop-version.count) ∙ inv.same);
       emptied = subst (λ (l : List Version). IsEmptied c.args.from.now c.take_newest.new.self c.args.source.number l) (sym (fill_walk j.nodes.items j.chains.items j.free j.free_count j.most c.args.chain.number c.loop-version.count i.free inv.filling some x refl inv.end ∙ ap (λ (v : Version). walk (node_at j.nodes.items) c.loop-version.count i.free ++ v ∷ []) version))
           (emptying_more c.args.from.now c.loop-version.from c.take_newest.new.self c.args.source.number _ c.in-Some.version inv.emptied c.in-Some.ensures);
       room = omega (arith, less, inv.room, some);
@@ -85,7 +85,7 @@ invariant_of-self c =
     let j = c.loop-version.self-inside in
     let inv = c.loop-version.invariant in
     let done = emptying_ends c.args.from.now c.loop-version.from c.args.source.number _ inv.emptied c.in_default-take_newest.ensures.0 in
-    let same = filling_ends j.nodes.items j.chains.items j.free j.free_count j.most c.args.chain.number c.loop-version.count i.free j.cells.items c.in-Used.links c.args.self.now (versions c.args.from.now c.args.source.number) inv.used inv.same done.0 in
+    let same = filling_ends j.nodes.items j.chains.items j.free j.free_count j.most c.args.chain.number c.loop-version.count i.free j.cells c.in-Used.links c.args.self.now (versions c.args.from.now c.args.source.number) inv.used inv.same done.0 in
     let falling = subst AreInTimeOrder c.self.view_is c.self.invariant.falling in
     let there = subst AreInTimeOrder c.from.view_is c.from.invariant.falling in
     record {
@@ -102,5 +102,5 @@ returns-clause-here c =
     let j = c.loop-version.self-inside in
     let inv = c.loop-version.invariant in
     let done = emptying_ends c.args.from.now c.loop-version.from c.args.source.number _ inv.emptied c.in_default-take_newest.ensures.0 in
-    let same = filling_ends j.nodes.items j.chains.items j.free j.free_count j.most c.args.chain.number c.loop-version.count i.free j.cells.items c.in-Used.links c.args.self.now (versions c.args.from.now c.args.source.number) inv.used inv.same done.0 in
+    let same = filling_ends j.nodes.items j.chains.items j.free j.free_count j.most c.args.chain.number c.loop-version.count i.free j.cells c.in-Used.links c.args.self.now (versions c.args.from.now c.args.source.number) inv.used inv.same done.0 in
     same

@@ -13,9 +13,9 @@ invariant-loop-version l = record {
   used : record_at l.self-inside.chains.items l.fn.chain.number ≡ chain.Used l.links;
   none : l.links.count ≡ 0;
   spare : AreSpare l.self-inside.chains.items l.self-inside.spare l.self-inside.spare_count;
-  cells : AreCellsOf l.self-inside.chains.items l.self-inside.cells.items;
-  few : length l.self-inside.cells.items < 2 ^ 32;
-  same : content l.self-inside.nodes.items l.self-inside.chains.items (l.self-inside.free_count + l.count) l.self-inside.most l.self-inside.cells.items ≡ l.fn.self;
+  cells : AreCellsOf l.self-inside.chains.items l.self-inside.cells;
+  few : length l.self-inside.cells < 2 ^ 32;
+  same : content l.self-inside.nodes.items l.self-inside.chains.items (l.self-inside.free_count + l.count) l.self-inside.most l.self-inside.cells ≡ l.fn.self;
   emptied : IsEmptied l.fn.from l.from l.fn.source.number (walk (node_at l.self-inside.nodes.items) l.count l.newest);
   room : length (versions l.from l.fn.source.number) ≤ l.self-inside.free_count;
 }

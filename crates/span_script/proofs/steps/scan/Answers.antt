@@ -2,7 +2,7 @@ use Rattle.std.proofs.Common.{◌∙◌, ℕ, List, length, subst, arith}
 use Rattle.span_schema.specs.declared.table.Table.{Table}
 use Rattle.span_script.specs.Steps.{AreTaken, AreRefused, scans_of_leaf}
 use Rattle.span_script.proofs.Scans.{leaves_more, leaves_refused}
-use Rattle.span_script.proofs.session.scan.Goals as goal
+use Rattle.span_script.proofs.steps.scan.Goals as goal
 
 pub loop-leaf-preserved : goal.loop-leaf-preserved
 loop-leaf-preserved c =

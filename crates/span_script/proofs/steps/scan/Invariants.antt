@@ -1,6 +1,6 @@
 use Rattle.std.proofs.Common.{◌≡◌, length}
 use Rattle.span_script.specs.Steps.{AreTaken, scans}
-use Rattle.span_script.proofs.session.scan.Given as goal
+use Rattle.span_script.proofs.steps.scan.Given as goal
 
 -- the leaves before this one are scanned
 abbrev pub invariant-loop-leaf : goal.invariant-loop-leaf

@@ -5,7 +5,7 @@ use Rattle.span_machine.specs.declared.step.Reply.TheVariants.{Refused}
 use Rattle.span_script.specs.Steps.{Takes}
 use Rattle.span_script.proofs.Doing.{not_refused}
 use Rattle.span_script.proofs.Scans.{leaf_more, leaf_refused}
-use Rattle.span_script.proofs.session.scan_leaf.Goals as goal
+use Rattle.span_script.proofs.steps.scan_leaf.Goals as goal
 
 pub loop-slot-init : goal.loop-slot-init
 loop-slot-init c = (refl, refl)

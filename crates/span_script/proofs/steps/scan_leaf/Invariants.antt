@@ -1,6 +1,6 @@
 use Rattle.std.proofs.Common.{◌≡◌}
 use Rattle.span_script.specs.Steps.{AreTaken, scans_of_leaf}
-use Rattle.span_script.proofs.session.scan_leaf.Given as goal
+use Rattle.span_script.proofs.steps.scan_leaf.Given as goal
 
 -- the slots before this one are scanned
 abbrev pub invariant-loop-slot : goal.invariant-loop-slot

@@ -1,5 +1,5 @@
 use Rattle.span_script.proofs.Taking.{step_taken}
-use Rattle.span_script.proofs.session.take_step.Goals as goal
+use Rattle.span_script.proofs.steps.take_step.Goals as goal
 
 pub returns : goal.returns
 returns c = record {

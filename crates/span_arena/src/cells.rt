@@ -1,0 +1,123 @@
+//! The keys of all chains, each with its links in the tree of keys and, apart from it, its length.
+ghost use Rattle.std.specs.Prelude.{◌≡◌, ◌<◌, ◌++◌, [], ◌∷◌, length, nat_le, slice_set, OnErr, OnOk};
+ghost use Rattle.span_arena.specs.Cells.{cell_at, kept_length, with_links};
+
+use crate::cell::{Cell, Links, StoredLinks};
+use std::alloc::{AllocError, Global};
+use std::marker::Model;
+
+/// Cells by their numbers. Contracts see them as a list.
+///
+/// A cell fills a line of a cache. The lengths of the keys, in two bytes each, lie together: whether a key is long is known without a
+/// look at its cell.
+#[derive(Debug, Drop)]
+pub(crate) struct Cells {
+    cells: Vec<Cell>,
+    /// The length of each key; `u16::MAX` where it is that or more.
+    lengths: Vec<u16>,
+}
+
+impl Model for Cells {
+    ghost use Rattle.std.specs.Prelude.{◌≡◌, List, map};
+    ghost use Rattle.span_arena.specs.declared.cell.Cell.{Cell};
+    ghost use Rattle.span_arena.specs.Cells.{kept_length};
+
+    ghost Value = { List Cell };
+
+    ghost view = { λ c. c.cells.items };
+
+    ghost invariant = { λ c. c.lengths.items ≡ map kept_length c.cells.items };
+}
+
+// The length of a key as it is kept.
+fn length_of(cell: &Cell) -> u16
+    ensures { result ≡ kept_length cell.now }
+{
+    let len = cell.key.as_slice().len();
+    if len < u16::MAX as usize {
+        len as u16
+    } else {
+        u16::MAX
+    }
+}
+
+impl Cells {
+    /// No cells. They take no memory.
+    pub(crate) fn new(alloc: Global) -> Cells
+        ensures { result ≡ [] }
+    {
+        Cells {
+            cells: Vec::new(alloc),
+            lengths: Vec::new(alloc),
+        }
+    }
+
+    /// What the cells take memory from.
+    pub(crate) fn allocator(&self) -> Global {
+        *self.cells.allocator()
+    }
+
+    /// How many cells there are.
+    pub(crate) fn len(&self) -> usize
+        ensures { result ≡ length self.now }
+    {
+        self.cells.len()
+    }
+
+    /// The key of a cell.
+    pub(crate) fn key(&self, number: u32) -> &[u8]
+        requires { number < length self.now }
+        ensures { result.now ≡ (cell_at self.now number).key }
+    {
+        self.cells[number as usize].key.as_slice()
+    }
+
+    /// Whether a cell's key has at most `most` bytes. The cell is looked at only where the key has 65,535 bytes or more.
+    pub(crate) fn is_short(&self, number: u32, most: usize) -> bool
+        requires { number < length self.now }
+        ensures { result ≡ nat_le (length (cell_at self.now number).key) most }
+    {
+        let len = self.lengths[number as usize];
+        if len < u16::MAX {
+            len as usize <= most
+        } else {
+            self.key(number).len() <= most
+        }
+    }
+
+    /// The links of a cell.
+    pub(crate) fn links(&self, number: u32) -> Links
+        requires { number < length self.now }
+        ensures { result ≡ (cell_at self.now number).links }
+    {
+        self.cells[number as usize].links.links()
+    }
+
+    /// Other links for a cell.
+    pub(crate) fn relink(&mut self, number: u32, links: Links)
+        requires { number < length self.old }
+        ensures { self.new ≡ with_links self.old number links }
+    {
+        self.cells[number as usize].links = StoredLinks::new(links);
+    }
+
+    /// Another cell in the place of one. It takes no memory.
+    pub(crate) fn replace(&mut self, number: u32, cell: Cell)
+        requires { number < length self.old }
+        ensures { self.new ≡ slice_set self.old number cell }
+    {
+        self.lengths[number as usize] = length_of(&cell);
+        self.cells[number as usize] = cell;
+    }
+
+    /// One cell more, at the end. An `AllocError` leaves all as it was.
+    pub(crate) fn push(&mut self, cell: Cell) -> Result<(), AllocError>
+        ensures ok { OnOk result (self.new ≡ self.old ++ cell ∷ []) }
+        ensures err { OnErr result (self.new ≡ self.old) }
+    {
+        self.cells.reserve(1)?;
+        self.lengths.push(length_of(&cell))?;
+        self.cells.push_reserved(cell);
+        Ok(())
+    }
+}

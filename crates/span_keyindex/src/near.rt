@@ -1,0 +1,126 @@
+//! Look-ups that begin at a chain near the key.
+//!
+//! A search waits for memory at each level of a large tree. Searches of several keys that go down the tree together wait for
+//! each other's cells at once: so a transaction's keys are searched ahead, a few at a time, and a look-up then begins at what was found.
+ghost use Rattle.std.specs.Prelude.{◌≡◌, IsTrue};
+ghost use Rattle.span_keyindex.specs.Indexes.{IsIndexOf, entries_of};
+ghost use Rattle.span_keyindex.specs.Nears.{IsBefore, IsNear};
+
+use crate::index::KeyIndex;
+use span_arena::arena::Arena;
+use span_keycode::key::Key;
+use std::cmp::Ordering;
+
+/// How many keys are searched together.
+pub const LANES: usize = 16;
+
+/// No number of a chain.
+pub const NO_CHAIN: u32 = u32::MAX;
+
+/// A search on its way down: the next cell, and that of the last key so far that is not after the one searched for.
+#[derive(Clone, Copy, Debug)]
+struct Lane {
+    at: u32,
+    before: u32,
+}
+
+fn number_of(link: Option<u32>) -> u32 {
+    match link {
+        None => NO_CHAIN,
+        Some(number) => number,
+    }
+}
+
+// One level down.
+fn step(arena: &Arena, key: &[u8], lane: Lane) -> Lane {
+    if lane.at as usize >= arena.numbers() {
+        return lane;
+    }
+    let links = arena.links(lane.at);
+    if arena.order(lane.at, key).is_lt() {
+        Lane {
+            at: number_of(links.left),
+            before: lane.before,
+        }
+    } else {
+        Lane {
+            at: number_of(links.right),
+            before: lane.at,
+        }
+    }
+}
+
+fn step_all(arena: &Arena, keys: &[Key], lanes: &mut [Lane; LANES]) {
+    for i in 0..LANES {
+        if let Some(key) = keys.get(i) {
+            lanes[i] = step(arena, key.as_slice(), lanes[i]);
+        }
+    }
+}
+
+// The chain that a search has found, if it is one.
+fn found(arena: &Arena, lane: Lane) -> u32 {
+    if arena.is_chain(lane.before) {
+        lane.before
+    } else {
+        NO_CHAIN
+    }
+}
+
+/// The chains near some keys, up to 16: where all is well, those of the last keys that are not after them.
+pub(crate) fn near_keys(index: &KeyIndex, arena: &Arena, keys: &[Key]) -> [u32; LANES] {
+    let first = Lane {
+        at: number_of(index.tree.root),
+        before: NO_CHAIN,
+    };
+    let mut lanes = [first; LANES];
+    for _ in 0..index.tree.levels {
+        step_all(arena, keys, &mut lanes);
+    }
+    let mut near = [NO_CHAIN; LANES];
+    for i in 0..LANES {
+        near[i] = found(arena, lanes[i]);
+    }
+    near
+}
+
+/// What a chain tells of a key.
+#[derive(Clone, Copy, Debug)]
+pub(crate) enum Near {
+    /// It is the key's.
+    Here,
+    /// The key is between its key and the next one.
+    Absent,
+    Unknown,
+}
+
+// Whether a key is before that of a chain; each is where there is none.
+fn is_before(arena: &Arena, key: &[u8], at: Option<u32>) -> bool
+    ensures { IsTrue result → IsBefore arena.now.cells key.now at }
+{
+    match at {
+        None => true,
+        Some(at) => (at as usize) < arena.numbers() && arena.order(at, key).is_lt(),
+    }
+}
+
+/// What the chain of a number tells of a key.
+pub(crate) fn near_key(index: &KeyIndex, arena: &Arena, key: &[u8], near: u32) -> Near
+    requires { IsIndexOf index.now arena.now }
+    ensures { IsNear (entries_of index.now arena.now) key.now near result }
+{
+    if near as usize >= arena.numbers() || !arena.is_chain(near) {
+        return Near::Unknown;
+    }
+    match arena.order(near, key) {
+        Ordering::Less => Near::Unknown,
+        Ordering::Equal => Near::Here,
+        Ordering::Greater => {
+            if is_before(arena, key, index.nexts.after(near)) {
+                Near::Absent
+            } else {
+                Near::Unknown
+            }
+        }
+    }
+}

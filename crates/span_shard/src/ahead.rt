@@ -1,0 +1,78 @@
+//! The keys of mutations that are to come, searched together.
+ghost use Rattle.span_mutate.specs.Typed.{AreTypedMutations};
+
+use super::lookups::{Lookups, key_of};
+use span_keycode::key::Key;
+use span_keyindex::near::{LANES, NO_CHAIN};
+use span_mutate::mutation::CheckedMutation;
+use span_schema::schema::Schema;
+use std::alloc::{AllocError, Global};
+
+/// Chains of a store near the keys of the next mutations. Nothing rests on them: a look-up that begins at one finds what any other does.
+#[derive(Drop)]
+pub(crate) struct Ahead {
+    near: [u32; LANES],
+    place: usize,
+}
+
+impl Ahead {
+    /// Nothing is searched yet.
+    pub(crate) fn new() -> Ahead {
+        Ahead {
+            near: [NO_CHAIN; LANES],
+            place: 0,
+        }
+    }
+
+    /// The chain near the key of the next of these mutations; each call goes on by one. It takes memory for 16 keys at a time, and
+    /// where there is none, nothing is searched ahead.
+    pub(crate) fn next(
+        &mut self,
+        alloc: Global,
+        schema: &Schema,
+        store: &Lookups<'_>,
+        mutations: &[CheckedMutation],
+    ) -> u32
+        requires { AreTypedMutations schema.now mutations.now }
+    {
+        let lane = self.place % LANES;
+        if lane == 0 {
+            self.near = match keys_from(alloc, schema, store, mutations, self.place) {
+                Ok(keys) => near(store, keys.as_slice()),
+                Err(_) => [NO_CHAIN; LANES],
+            };
+        }
+        self.place = self.place.wrapping_add(1);
+        self.near[lane]
+    }
+}
+
+fn near(store: &Lookups<'_>, keys: &[Key]) -> [u32; LANES] {
+    if keys.is_empty() {
+        return [NO_CHAIN; LANES];
+    }
+    store.near(keys)
+}
+
+// The keys of up to 16 mutations from a place on, before the first that is known to have no row.
+fn keys_from(
+    alloc: Global,
+    schema: &Schema,
+    store: &Lookups<'_>,
+    mutations: &[CheckedMutation],
+    place: usize,
+) -> Result<Vec<Key>, AllocError>
+    requires { AreTypedMutations schema.now mutations.now }
+{
+    let mut keys = Vec::new(alloc);
+    for at in place..mutations.len().min(place.saturating_add(LANES)) {
+        let Some(key) = key_of(alloc, schema, &mutations[at]) else {
+            return Ok(keys);
+        };
+        if store.is_known_absent(key.as_slice()) {
+            return Ok(keys);
+        }
+        keys.push(key)?;
+    }
+    Ok(keys)
+}
