@@ -81,13 +81,18 @@ module _ (schema : List Table) (n : ℕ) (e : Expr) where
         subst (λ (o : OrFault Bool). Gives found o) same gives;
   }
 
+-- a row that is kept is one of the table
+own_table : (b : Bool) (o : OrFault Bool) → (if b then o else Some false) ≡ Some true → b ≡ true
+own_table true o is = refl
+own_table false o is = cc
+
 -- a row that was read is added where it is kept
-pub taken : (schema : List Table) (n : ℕ) (ms : List Bool) (e : Expr) (key row : List ℕ) (values p : Row) (old new : List Row) → IsWhetherOf schema n key true → IsJudged schema n e key row (Ok true)
+pub taken : (schema : List Table) (n : ℕ) (ms : List Bool) (e : Expr) (key row : List ℕ) (values p : Row) (old new : List Row) → IsJudged schema n e key row (Ok true)
     → AreValuesOf schema n ms key row values → p ≡ picked ms values → new ≡ old ++ p ∷ [] → IsTaken schema n ms e key row (Ok tt) old new
-taken schema n ms e key row values p old new whether judged read picks pushed = record {
+taken schema n ms e key row values p old new judged read picks pushed = record {
   of = λ r typed is cells.
-      let test : (r.table == n) ≡ true = sym (whether.of r typed is) in
       let kept : is_kept schema n e r ≡ Some true = judged.of r typed is cells in
+      let test : (r.table == n) ≡ true = own_table (r.table == n) (holds e (declared_row schema r)) kept in
       let here : p ≡ picked ms (declared_row schema r) = picks ∙ ap (picked ms) (read.are r typed (eqb-true r.table n test) is cells) ∙ picked-masked ms (declared_row schema r) in
       let added : kept_row schema n ms e r ≡ Some (p ∷ []) = ap (λ (o : OrFault Bool). o >>= (λ b. Some (keep_if (picked ms (declared_row schema r)) b))) kept ∙ ap (λ (x : Row). Some (x ∷ [])) (sym here) in
       subst (λ (o : Rows). Adds (Ok tt) o old new) (sym added) (adds_one p old new pushed);

@@ -10,3 +10,4 @@ mod KeyLengths
 mod PlacedRows
 mod Placing
 mod ShortKeys
+mod Picking

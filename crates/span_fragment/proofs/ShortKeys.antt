@@ -1,13 +1,12 @@
 -- Entries without those whose keys are longer than any of a leaf's tables: the leaf gives the same on them.
 use Rattle.std.proofs.Common.{◌≡◌, ◌⊎◌, inl, inr, ◌∙◌, ◌==◌, ℕ, ◌+◌, ◌<◌, ◌≤◌, Bool, true, false, cond, List, [], ◌∷◌, ◌++◌, length, take, get_or, map, Result, refl, ap, sym, subst, arith, add-one}
 use Rattle.std.specs.Prelude.{filter, nat_le}
-use Rattle.std.specs.List.{AllByRecursion}
 use Rattle.std.proofs.lemmas.Bool.{eqb-true}
 use Rattle.std.proofs.Math.Seq.{take-suc}
 use Rattle.span_schema.specs.declared.table.Table.{Table}
 use Rattle.span_mutate.specs.declared.row.TableRow.{TableRow}
 use Rattle.span_mutate.specs.Database.{rows_of}
-use Rattle.span_mutate.specs.Typed.{IsTyped, AreTyped}
+use Rattle.span_mutate.specs.Typed.{AreTyped}
 use Rattle.span_shard.specs.Rows.{code_of}
 use Rattle.span_shard.specs.Shard.{KeyRow}
 use Rattle.span_shard.specs.Reading.{has_short_key}

@@ -1,11 +1,10 @@
-use Rattle.std.proofs.Common.{◌∙◌, ◌+◌, Bool, get_or, [], inl, inr, ap, sym, subst, arith, map}
+use Rattle.std.proofs.Common.{◌∙◌, ◌+◌, Bool, get_or, [], inl, inr, sym, subst, arith}
 use Rattle.std.proofs.lemmas.Result.{err_from_is_err_and}
 use Rattle.span_shard.specs.declared.shard.Entry.{Entry}
-use Rattle.span_shard.specs.Reading.{entry_row}
-use Rattle.span_fragment.specs.Entries.{AreReadOf, IsWhetherOf}
+use Rattle.span_fragment.specs.Entries.{IsWhetherOf}
 use Rattle.span_fragment.proofs.Entries.{ReadSoFar, read_more, read_past, read_all, not_of_table}
 use Rattle.span_fragment.proofs.decode.read_table.Goals as goal
-use Rattle.span_fragment.proofs.decode.read_table.Goals.{then-is_of_table+in_ok-read_row+in_ok-push, else-is_of_table}
+use Rattle.span_fragment.proofs.decode.read_table.Goals.{then-is_of_table+in_ok-read_row+in_ok-pick_values+in_ok-push, else-is_of_table}
 
 abbrev nothing : Entry
 nothing = record { key = record { ref_ptr = (0, 0); now = [] }; row = record { ref_ptr = (0, 0); now = [] } }
@@ -29,9 +28,9 @@ loop-entry-preserved c =
     let rows = c.loop-entry.rows in
     let P : Bool → Type 0 = IsWhetherOf schema n (get_or entries i nothing).key.now in
     elim c.if-is_of_table.branch [
-      | then-is_of_table+in_ok-read_row+in_ok-push w ↦
-          read_more schema n ms entries i nothing rows c.if-is_of_table.rows w.read_row.new.row.items c.loop-entry-test.true (subst P w.if-is_of_table.true c.is_of_table.ensures) w.in_ok-read_row.ensures
-          (w.rows-is ∙ w.in_ok-push.ensures.ok) c.loop-entry.invariant
+      | then-is_of_table+in_ok-read_row+in_ok-pick_values+in_ok-push w ↦
+          read_more schema n ms entries i nothing rows c.if-is_of_table.rows w.read_row.new.row.items w.pick_values.new.picked.items c.loop-entry-test.true (subst P w.if-is_of_table.true c.is_of_table.ensures) w.in_ok-read_row.ensures
+          w.in_ok-pick_values.ensures (w.rows-is ∙ w.in_ok-push.ensures.ok) c.loop-entry.invariant
       | else-is_of_table w ↦
           subst (ReadSoFar schema n ms entries (i + 1)) (sym w.rows-is)
           (read_past schema n ms entries i nothing rows c.loop-entry-test.true (subst P w.if-is_of_table.false c.is_of_table.ensures) c.loop-entry.invariant)

@@ -1,4 +1,4 @@
-use Rattle.std.proofs.Common.{◌≡◌, drop, take}
+use Rattle.std.proofs.Common.{drop, take}
 use Rattle.std.specs.List.{AllByRecursion}
 use Rattle.span_schema.specs.Numbers.{IsTable}
 use Rattle.span_fragment.specs.Longest.{AreLongest}
