@@ -4,7 +4,7 @@ use Rattle.span_value.specs.declared.refusal.Refusal.{Refusal}
 use Rattle.span_gather.specs.declared.rows.Rows.{Rows}
 use Rattle.span_session.specs.Answers.{IsAnswered}
 use Rattle.span_session.proofs.Held.{rows_answer}
-use Rattle.span_session.proofs.queries.Db.finish.Goals as goal
+use Rattle.span_session.proofs.db.Db.finish.Goals as goal
 
 pub returns-in-Ok-clause-rows : goal.returns-in-Ok-clause-rows
 returns-in-Ok-clause-rows g c =
