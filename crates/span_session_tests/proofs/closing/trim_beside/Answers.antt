@@ -15,7 +15,7 @@ use Rattle.span_session_tests.proofs.closing.trim_beside.Goals as goal
 use Rattle.span_session_tests.proofs.closing.trim_beside.Lts as lts
 
 -- what the first thread takes may cross to it. A lemma over plain variables: among the hypotheses of the goal the search gives up
-takes : (j r : RattleType) (lj : Laws j) (lr : Laws r) (n : Ghosts j.Denot) (d : Dict) (t : Threads.Ghosts r.Denot) (e : Dict) (w : Wait.Ghosts r.Denot) (f : Dict) (κs : Lfts 13) → IsSync (param 1 r) → IsSend (lts.arg-0-1 j r lj lr n d t e w f κs)
+takes : (j r : RattleType) (lj : Laws j) (lr : Laws r) (n : Ghosts j.Denot) (d : Dict) (t : Threads.Ghosts r.Denot) (e : Dict) (w : Wait.Ghosts r.Denot) (f : Dict) (κs : Lfts 15) → IsSync (param 1 r) → IsSend (lts.arg-0-1 j r lj lr n d t e w f κs)
 takes j r lj lr n d t e w f κs runtime =
     let shared = db_sync (param 0 j) n in
     let mine = session_send (param 0 j) n in
