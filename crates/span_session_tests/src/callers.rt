@@ -22,7 +22,8 @@ const CALLERS: u64 = 16;
 
 const COUNT: &str = "SELECT COUNT(*) FROM Users";
 
-/// Sixteen threads commit ten users each; then each session sees all 160, by `look` and by a strong query.
+/// Sixteen threads commit ten users each; then each session sees all 160, by `look` and by strong queries of one worker and
+/// of eight.
 #[test]
 fn sixteen_callers(rt: HostRuntime) -> Result<(), Fail> {
     let alloc = rt.alloc();
@@ -103,7 +104,7 @@ fn call<J: Naming, R: Wait>(
     Ok(me)
 }
 
-fn check_end<J: Naming, R: Wait + Abort>(
+fn check_end<J: Naming + Send + Sync, R: Threads + Wait + Abort + Sync>(
     rt: &R,
     alloc: Global,
     db: &Db<J>,
@@ -112,7 +113,9 @@ fn check_end<J: Naming, R: Wait + Abort>(
 ) -> Result<(), Fail> {
     let mut me = me;
     assert_eq!(rt; db.look(&mut me), 160);
-    let rows = ask(rt, alloc, db, clock, &OpenGate, &mut me, COUNT)?;
-    assert!(rt; are_uids(&rows, &[160]));
+    let one = ask(rt, alloc, db, clock, &OpenGate, &mut me, COUNT, 1)?;
+    assert!(rt; are_uids(&one, &[160]));
+    let eight = ask(rt, alloc, db, clock, &OpenGate, &mut me, COUNT, 8)?;
+    assert!(rt; are_uids(&eight, &[160]));
     Ok(())
 }

@@ -1,40 +1,9 @@
 //! Clocks and gates for tests.
-use span_session::db::Gate;
+use span_session::queries::Gate;
 use span_truetime::clock::Clock;
 use span_truetime::interval::Interval;
-use std::cell::Cell;
 use std::sync::atomic::{AtomicU64, Ordering};
 use std::thread;
-
-// The number of readings after which the clock begins again.
-const READINGS: u64 = 1000;
-
-/// A clock whose n-th reading is [100 n, 100 n + 10].
-#[derive(Drop)]
-pub struct Ticking {
-    readings: Cell<u64>,
-}
-
-impl Ticking {
-    pub fn new() -> Ticking {
-        Ticking {
-            readings: Cell::new(0),
-        }
-    }
-}
-
-impl Clock for Ticking {
-    ghost may_give = { λ _ _. Unit {0} };
-
-    fn now(&self) -> Interval {
-        let n = self.readings.get() % READINGS + 1;
-        self.readings.set(n);
-        Interval {
-            earliest: 100 * n,
-            latest: 100 * n + 10,
-        }
-    }
-}
 
 /// A clock that always reads the same.
 #[derive(Drop)]
@@ -67,7 +36,7 @@ impl Gate for OpenGate {
     }
 }
 
-// The number of readings after which the clock that threads share begins again.
+// The number of readings after which the clock begins again.
 const SHARED_READINGS: u64 = 1 << 40;
 
 /// A clock that threads share, whose n-th reading is [100 n, 100 n + 10].
@@ -81,6 +50,11 @@ impl SharedClock {
         SharedClock {
             readings: AtomicU64::new(0),
         }
+    }
+
+    /// How often it was read.
+    pub fn readings(&self) -> u64 {
+        self.readings.load(Ordering::SeqCst)
     }
 }
 
@@ -135,6 +109,58 @@ impl Gate for Meeting {
             }
             thread::yield_now();
         }
+    }
+
+    fn after_scan(&self, leaf: usize, slot: usize) {
+        let _ = (leaf, slot);
+    }
+}
+
+/// A gate where scans wait before they read, until another thread opens it.
+#[derive(Drop)]
+pub struct Turnstile {
+    arrived: AtomicU64,
+    opened: AtomicU64,
+}
+
+impl Turnstile {
+    pub fn new() -> Turnstile {
+        Turnstile {
+            arrived: AtomicU64::new(0),
+            opened: AtomicU64::new(0),
+        }
+    }
+
+    /// Waits until a scan has come.
+    pub fn wait(&self) {
+        await_one(&self.arrived);
+    }
+
+    /// Lets all scans through.
+    pub fn open(&self) {
+        self.opened.store(1, Ordering::SeqCst);
+    }
+}
+
+// Waits until the number is not 0, or for long enough.
+fn await_one(number: &AtomicU64) {
+    for _ in 0..LOOKS {
+        if number.load(Ordering::SeqCst) > 0 {
+            break;
+        }
+        thread::yield_now();
+    }
+}
+
+impl Gate for Turnstile {
+    fn before_scan(&self, leaf: usize, slot: usize) {
+        let _ = (leaf, slot);
+        self.arrived.store(1, Ordering::SeqCst);
+        await_one(&self.opened);
+    }
+
+    fn in_scan(&self, leaf: usize, slot: usize) {
+        let _ = (leaf, slot);
     }
 
     fn after_scan(&self, leaf: usize, slot: usize) {

@@ -8,6 +8,8 @@ mod callers;
 #[cfg(test)]
 mod clock;
 #[cfg(test)]
+mod closing;
+#[cfg(test)]
 mod scans;
 #[cfg(test)]
 mod steps;
@@ -17,3 +19,5 @@ mod threads;
 mod two_sessions;
 #[cfg(test)]
 mod upkeep;
+#[cfg(test)]
+mod workers;

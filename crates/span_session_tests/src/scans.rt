@@ -89,7 +89,7 @@ fn scan_both<J: Naming + Send + Sync, R: Threads + Wait + Sync>(
 }
 
 // Asks as a session, which is dropped.
-fn scan_as<J: Naming, R: Wait>(
+fn scan_as<J: Naming + Send + Sync, R: Threads + Wait + Sync>(
     rt: &R,
     alloc: Global,
     db: &Db<J>,
@@ -99,5 +99,5 @@ fn scan_as<J: Naming, R: Wait>(
     text: &str,
 ) -> Result<Rows, Refusal> {
     let mut me = me;
-    ask(rt, alloc, db, clock, gate, &mut me, text)
+    ask(rt, alloc, db, clock, gate, &mut me, text, 1)
 }

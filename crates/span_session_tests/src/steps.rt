@@ -2,7 +2,7 @@
 ghost use Rattle.std.specs.Prelude.{◌≡◌, IfOk};
 ghost use Rattle.span_mutate.specs.Typed.{AreTypedMutations};
 
-use crate::clock::{OpenGate, Still, Ticking};
+use crate::clock::{OpenGate, SharedClock, Still};
 use crate::two_sessions::{are_uids, give_after, insert};
 use span_keycode::laws::are_values;
 use span_machine::step::Verdict;
@@ -26,6 +26,7 @@ use std::marker::Brand;
 use std::process::Abort;
 use std::sync::Wait;
 use std::test::Fail;
+use std::thread::Threads;
 
 const TABLES: &str =
     "CREATE TABLE Users (uid INT64 NOT NULL, email STRING(MAX)) PRIMARY KEY (uid); \
@@ -73,7 +74,7 @@ fn step_by_step(rt: HostRuntime) -> Result<(), Fail> {
     by_one::<Brand, _>(&rt, alloc, opened, first, second)
 }
 
-fn by_one<J: Naming, R: Wait + Abort>(
+fn by_one<J: Naming + Send + Sync, R: Threads + Wait + Abort + Sync>(
     rt: &R,
     alloc: Global,
     opened: Opened,
@@ -93,7 +94,7 @@ fn by_one<J: Naming, R: Wait + Abort>(
     give_after(db, checked)
 }
 
-fn check_steps<J: Naming, R: Wait + Abort>(
+fn check_steps<J: Naming + Send + Sync, R: Threads + Wait + Abort + Sync>(
     rt: &R,
     alloc: Global,
     db: &Db<J>,
@@ -133,7 +134,16 @@ fn check_steps<J: Naming, R: Wait + Abort>(
     assert_eq!(rt; db.decide(rt, &late, &mut me, 2, Verdict::Abort), Ok(None));
     assert_eq!(rt; db.look(&mut me), 1);
     let params = Params::new(alloc);
-    let answer = db.query(rt, &late, &OpenGate, &mut me, UIDS, &params, Bound::Strong)?;
+    let answer = db.query(
+        rt,
+        &late,
+        &OpenGate,
+        &mut me,
+        UIDS,
+        &params,
+        Bound::Strong,
+        1,
+    )?;
     assert!(rt; are_uids(&answer.rows, &[1]));
     Ok(())
 }
@@ -153,7 +163,7 @@ fn two_slots(rt: HostRuntime) -> Result<(), Fail> {
     by_slots::<Brand, _>(&rt, alloc, opened, wrong, right)
 }
 
-fn by_slots<J: Naming, R: Wait + Abort>(
+fn by_slots<J: Naming + Send + Sync, R: Threads + Wait + Abort + Sync>(
     rt: &R,
     alloc: Global,
     opened: Opened,
@@ -173,7 +183,7 @@ fn by_slots<J: Naming, R: Wait + Abort>(
     give_after(db, checked)
 }
 
-fn check_slots<J: Naming, R: Wait + Abort>(
+fn check_slots<J: Naming + Send + Sync, R: Threads + Wait + Abort + Sync>(
     rt: &R,
     alloc: Global,
     db: &Db<J>,
@@ -185,7 +195,7 @@ fn check_slots<J: Naming, R: Wait + Abort>(
     requires right { AreTypedMutations J.schema right }
 {
     let mut me = me;
-    let clock = Ticking::new();
+    let clock = SharedClock::new();
     let params = Params::new(alloc);
     assert_eq!(rt; split(rt, db, &me, 100), Ok(1));
     assert_eq!(rt;
@@ -199,7 +209,16 @@ fn check_slots<J: Naming, R: Wait + Abort>(
             latest: 110,
         },
     };
-    let none = db.query(rt, &early, &OpenGate, &mut me, UIDS, &params, Bound::Strong)?;
+    let none = db.query(
+        rt,
+        &early,
+        &OpenGate,
+        &mut me,
+        UIDS,
+        &params,
+        Bound::Strong,
+        1,
+    )?;
     assert!(rt; are_uids(&none.rows, &[]));
     assert_eq!(rt; db.commit(rt, &clock, &mut me, right), Ok(211));
     let late = Still {
@@ -208,11 +227,29 @@ fn check_slots<J: Naming, R: Wait + Abort>(
             latest: 910,
         },
     };
-    let answer = db.query(rt, &late, &OpenGate, &mut me, UIDS, &params, Bound::Strong)?;
+    let answer = db.query(
+        rt,
+        &late,
+        &OpenGate,
+        &mut me,
+        UIDS,
+        &params,
+        Bound::Strong,
+        1,
+    )?;
     assert!(rt; are_uids(&answer.rows, &[1, 200]));
     assert_eq!(rt; db.advance(rt, &late, &me, 0), Ok(910));
     assert_eq!(rt; db.trim(rt, &me, 0, 900), Ok(1));
-    let old = db.query(rt, &late, &OpenGate, &mut me, UIDS, &params, Bound::At(400));
+    let old = db.query(
+        rt,
+        &late,
+        &OpenGate,
+        &mut me,
+        UIDS,
+        &params,
+        Bound::At(400),
+        1,
+    );
     assert_eq!(rt; old.err(), Some(Refusal::Trimmed));
     Ok(())
 }

@@ -1,5 +1,5 @@
 //! What the tests on threads share: a schema that is kept, users that are committed, and a strong query.
-ghost use Rattle.std.specs.Prelude.{◌≡◌, IfOk};
+ghost use Rattle.std.specs.Prelude.{◌≡◌, ◌≤◌, IfOk};
 
 use crate::clock::SharedClock;
 use crate::two_sessions::insert;
@@ -8,7 +8,8 @@ use span_params::params::Params;
 use span_schema::schema::Schema;
 use span_schematext::text::parse_schema;
 use span_session::board::Naming;
-use span_session::db::{Db, Gate};
+use span_session::db::Db;
+use span_session::queries::{Gate, MOST_WORKERS};
 use span_session::session::Session;
 use span_truetime::bound::Bound;
 use span_value::refusal::Refusal;
@@ -17,6 +18,7 @@ use std::ops::Range;
 use std::sync::Wait;
 use std::test::Fail;
 use std::thread;
+use std::thread::Threads;
 
 // The schema of a text twice: a database takes one, and transactions are made by the other.
 pub(crate) fn two_schemas(alloc: Global, text: &str) -> Result<(Schema, Schema), Refusal>
@@ -59,8 +61,8 @@ pub(crate) fn commit_users<J: Naming, R: Wait>(
     Ok(())
 }
 
-// The rows of a strong query, which is asked again as long as something is prepared below its timestamp.
-pub(crate) fn ask<J: Naming, R: Wait, G: Gate>(
+// The rows of a strong query by this many workers, which is asked again as long as something is prepared below its timestamp.
+pub(crate) fn ask<J: Naming + Send + Sync, R: Threads + Wait + Sync, G: Gate + Sync>(
     rt: &R,
     alloc: Global,
     db: &Db<J>,
@@ -68,11 +70,14 @@ pub(crate) fn ask<J: Naming, R: Wait, G: Gate>(
     gate: &G,
     me: &mut Session<J>,
     text: &str,
-) -> Result<Rows, Refusal> {
+    workers: usize,
+) -> Result<Rows, Refusal>
+    requires { (1 ≤ workers) × (workers ≤ MOST_WORKERS) }
+{
     let params = Params::new(alloc);
     let mut found = Err(Refusal::NotYet);
     for _ in rt.forever() {
-        match db.query(rt, clock, gate, me, text, &params, Bound::Strong) {
+        match db.query(rt, clock, gate, me, text, &params, Bound::Strong, workers) {
             Ok(answer) => {
                 found = Ok(answer.rows);
                 break;

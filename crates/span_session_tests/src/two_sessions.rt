@@ -2,7 +2,7 @@
 ghost use Rattle.std.specs.Prelude.{◌≡◌, IfOk};
 ghost use Rattle.span_mutate.specs.Typed.{AreTypedMutations};
 
-use crate::clock::{OpenGate, Ticking};
+use crate::clock::{OpenGate, SharedClock};
 use span_gather::rows::Rows;
 use span_mutate::mutation::{Mutation, MutationKind};
 use span_mutate::transaction::Transaction;
@@ -23,6 +23,7 @@ use std::marker::Brand;
 use std::process::Abort;
 use std::sync::Wait;
 use std::test::Fail;
+use std::thread::Threads;
 
 pub(crate) const USERS: &str =
     "CREATE TABLE Users (uid INT64 NOT NULL, email STRING(MAX)) PRIMARY KEY (uid)";
@@ -71,7 +72,7 @@ fn commit_and_query(rt: HostRuntime) -> Result<(), Fail> {
     by_two::<Brand, _>(&rt, alloc, opened, first, second)
 }
 
-fn by_two<J: Naming, R: Wait + Abort>(
+fn by_two<J: Naming + Send + Sync, R: Threads + Wait + Abort + Sync>(
     rt: &R,
     alloc: Global,
     opened: Opened,
@@ -99,7 +100,7 @@ pub(crate) fn give_after<A: Drop, B>(dropped: A, given: B) -> B {
     given
 }
 
-fn check_sessions<J: Naming, R: Wait + Abort>(
+fn check_sessions<J: Naming + Send + Sync, R: Threads + Wait + Abort + Sync>(
     rt: &R,
     alloc: Global,
     db: &Db<J>,
@@ -112,14 +113,35 @@ fn check_sessions<J: Naming, R: Wait + Abort>(
     requires second { AreTypedMutations J.schema second }
 {
     let (mut a, mut b) = (a, b);
-    let clock = Ticking::new();
+    let clock = SharedClock::new();
     assert_eq!(rt; db.commit(rt, &clock, &mut a, first), Ok(111));
     assert_eq!(rt; db.commit(rt, &clock, &mut b, second), Ok(311));
     let params = Params::new(alloc);
-    let answer = db.query(rt, &clock, &OpenGate, &mut a, UIDS, &params, Bound::Strong)?;
+    let answer = db.query(
+        rt,
+        &clock,
+        &OpenGate,
+        &mut a,
+        UIDS,
+        &params,
+        Bound::Strong,
+        1,
+    )?;
     assert_eq!(rt; answer.s, 510);
     assert!(rt; are_uids(&answer.rows, &[1, 2]));
-    let before = db.query(rt, &clock, &OpenGate, &mut b, UIDS, &params, Bound::At(200))?;
+    let eight = db.query(
+        rt,
+        &clock,
+        &OpenGate,
+        &mut a,
+        UIDS,
+        &params,
+        Bound::Strong,
+        8,
+    )?;
+    assert!(rt; are_uids(&eight.rows, &[1, 2]));
+    let at = Bound::At(200);
+    let before = db.query(rt, &clock, &OpenGate, &mut b, UIDS, &params, at, 8)?;
     assert!(rt; are_uids(&before.rows, &[1]));
     assert_eq!(rt; db.look(&mut a), 2);
     assert_eq!(rt; db.look(&mut b), 2);

@@ -20,8 +20,10 @@ use std::thread::{Threads, join};
 
 const ALL: [i64; 8] = [1, 2, 3, 4, 5, 6, 7, 8];
 
-// How often the one session asks.
+// How often the one session asks, and by how many workers.
 const QUERIES: u64 = 40;
+
+const WORKERS: usize = 4;
 
 // Later than each commit, and before each answer: the clock was read twice for each of eight commits.
 const HORIZON: u64 = 1_650;
@@ -87,7 +89,7 @@ fn beside<J: Naming + Send + Sync, R: Threads + Wait + Sync>(
 }
 
 // Asks again and again: whether each answer was all users.
-fn asks<J: Naming, R: Wait>(
+fn asks<J: Naming + Send + Sync, R: Threads + Wait + Sync>(
     rt: &R,
     alloc: Global,
     db: &Db<J>,
@@ -96,7 +98,7 @@ fn asks<J: Naming, R: Wait>(
 ) -> Result<bool, Refusal> {
     let mut me = me;
     for _ in 0..QUERIES {
-        let rows = ask(rt, alloc, db, clock, &OpenGate, &mut me, UIDS)?;
+        let rows = ask(rt, alloc, db, clock, &OpenGate, &mut me, UIDS, WORKERS)?;
         if !are_uids(&rows, &ALL) {
             return Ok(false);
         }

@@ -2,5 +2,5 @@ use Rattle.std.proofs.Common.{sym}
 use Rattle.span_session.proofs.Held.{plan_leaf}
 use Rattle.span_session.proofs.db.Db.scan_place.Goals as goal
 
-pub scan_leaf-requires : goal.scan_leaf-requires
-scan_leaf-requires g c = plan_leaf g.J.Naming.schema c.args.text.now c.args.params.now c.args.plan.now c.args.place c.in-Some.leaf.now c.requires (sym c.in-Some.ensures)
+pub scan_slot-requires : goal.scan_slot-requires
+scan_slot-requires g c = plan_leaf g.J.Naming.schema c.args.text.now c.args.params.now c.args.plan.now c.args.place c.in-Some.leaf.now c.requires (sym c.in-Some.ensures)

@@ -1,0 +1,221 @@
+//! Queries of a session: opened, scanned by one worker or several, and ended.
+ghost use Rattle.std.specs.Prelude.{◌≡◌, ◌≤◌, List, Ok, Some, IfOk};
+ghost use Rattle.span_gather.specs.Gathered.{gathered};
+ghost use Rattle.span_query.specs.Rows.{Row};
+ghost use Rattle.span_truetime.specs.Time.{timestamp_of};
+ghost use Rattle.span_planner.specs.Plannable.{IsPlannable};
+ghost use Rattle.span_binder.specs.Understands.{Understands};
+ghost use Rattle.span_session.specs.Answers.{IsAnswered, IsPlanOf};
+ghost use Rattle.span_session.specs.Rule.{Sees};
+
+use crate::board::Naming;
+use crate::db::Db;
+use crate::question::{copy_question, give_after, pair_with, rows_of, understand_and_plan};
+use crate::session::Session;
+use span_gather::rows::Rows;
+use span_journal::journal::Opened;
+use span_journal::taken::Taken;
+use span_params::params::Params;
+use span_planner::leaf::Plan;
+use span_query::query::Statement;
+use span_truetime::bound::Bound;
+use span_truetime::clock::Clock;
+use span_truetime::interval::Interval;
+use span_value::refusal::Refusal;
+use std::sync::Wait;
+use std::thread::Threads;
+
+/// The greatest number of workers of one query.
+pub const MOST_WORKERS: usize = 64;
+
+/// What is called around a scan. The workers of a query share it.
+pub trait Gate {
+    /// With no lock held, before the scan.
+    fn before_scan(&self, leaf: usize, slot: usize);
+
+    /// Between the read and the registering, with the slot's lock alone held.
+    fn in_scan(&self, leaf: usize, slot: usize);
+
+    /// With no lock held, after the scan.
+    fn after_scan(&self, leaf: usize, slot: usize);
+}
+
+/// What a query is answered.
+#[derive(Debug, Drop)]
+pub struct Answer {
+    /// The clock's reading that the timestamp was chosen by.
+    pub read: Interval,
+    /// The timestamp that was read at.
+    pub s: u64,
+    /// The rows, in order.
+    pub rows: Rows,
+}
+
+impl<J: Naming + Send + Sync> Db<J> {
+    /// Answers a query: the rows, in order, that its text means on the tables of the log at s, as far as the session has seen the log
+    /// then. Its parts are scanned by this many workers, from 1 to 64; one is the thread that asks. The clock is read once to choose s, and
+    /// once for each scan. The refusal is the one that ended it: that of its opening, the first of its scans, or that of its end. The query
+    /// is closed then.
+    pub fn query<R: Threads + Wait + Sync, C: Clock + Sync, G: Gate + Sync>(
+        &self,
+        rt: &R,
+        clock: &C,
+        gate: &G,
+        me: &mut Session<J>,
+        text: &str,
+        params: &Params,
+        bound: Bound,
+        workers: usize,
+    ) -> Result<Answer, Refusal>
+        requires { (1 ≤ workers) × (workers ≤ MOST_WORKERS) }
+        ensures seen { Sees me.old me.new }
+        ensures begun { me.new.begun ≡ me.old.begun }
+        ensures read { IfOk result (λ a. C.may_give clock.now a.read × (a.s ≡ timestamp_of bound a.read)) }
+        ensures rows { IfOk result (λ a. IsAnswered J.schema text.now params.now me.new.seen a.s a.rows.rows) }
+    {
+        let read = clock.now();
+        match self.open(rt, text, params, bound, read) {
+            Ok((plan, opened)) => {
+                let query = opened.query;
+                let scanned = self.scan_leaves(
+                    rt, clock, gate, text, params, &plan, query, workers,
+                );
+                let scanned = give_after(plan, scanned);
+                self.end_query(rt, me, text, params, read, opened, scanned)
+            }
+            Err(why) => Err(why),
+        }
+    }
+}
+
+impl<J: Naming> Db<J> {
+    /// Ends a query: takes the pieces that its scans gave and makes the rows from them. Where it is refused, it is closed.
+    fn end_query<R: Wait>(
+        &self,
+        rt: &R,
+        me: &mut Session<J>,
+        text: &str,
+        params: &Params,
+        read: Interval,
+        opened: Opened,
+        scanned: Result<(), Refusal>,
+    ) -> Result<Answer, Refusal>
+        ensures seen { Sees me.old me.new }
+        ensures begun { me.new.begun ≡ me.old.begun }
+        ensures read { IfOk result (λ a. (a.read ≡ read) × (a.s ≡ opened.s)) }
+        ensures rows { IfOk result (λ a. IsAnswered J.schema text.now params.now me.new.seen opened.s a.rows.rows) }
+    {
+        match self.finish_scanned(rt, me, text, params, opened, scanned) {
+            Ok(rows) => Ok(Answer {
+                read,
+                s: opened.s,
+                rows,
+            }),
+            Err(why) => {
+                self.close(rt, opened.query);
+                Err(why)
+            }
+        }
+    }
+
+    /// Understands a query text, plans it and opens it.
+    fn open<R: Wait>(
+        &self,
+        rt: &R,
+        text: &str,
+        params: &Params,
+        bound: Bound,
+        interval: Interval,
+    ) -> Result<(Plan, Opened), Refusal>
+        ensures plan { IfOk result (λ r. IsPlanOf J.schema text.now params.now r.0) }
+        ensures s { IfOk result (λ r. r.1.s ≡ timestamp_of bound interval) }
+    {
+        match understand_and_plan(self.board.alloc, &self.board.schema, text, params) {
+            Ok((statement, plan)) => {
+                let opened = self.open_statement(rt, text, params, statement, bound, interval);
+                pair_with(plan, opened)
+            }
+            Err(why) => Err(why),
+        }
+    }
+
+    /// Opens a query whose text is understood as this statement.
+    fn open_statement<R: Wait>(
+        &self,
+        rt: &R,
+        text: &str,
+        params: &Params,
+        statement: Statement,
+        bound: Bound,
+        interval: Interval,
+    ) -> Result<Opened, Refusal>
+        requires understood { Understands J.schema text.now params.now (Ok statement) }
+        requires plannable { IsPlannable J.schema statement }
+        ensures { IfOk result (λ opened. opened.s ≡ timestamp_of bound interval) }
+    {
+        let copies = copy_question(self.board.alloc, text, params);
+        let (statement, (text, params)) = pair_with(statement, copies)?;
+        self.journal
+            .lock(rt)
+            .open(&self.board, text, params, statement, bound, interval)
+    }
+
+    /// Closes a query, in case it is open.
+    fn close<R: Wait>(&self, rt: &R, query: u64) {
+        let _ = self.journal.lock(rt).close(&self.board, query);
+    }
+
+    /// The rows of a query, if its leaves were scanned.
+    fn finish_scanned<R: Wait>(
+        &self,
+        rt: &R,
+        me: &mut Session<J>,
+        text: &str,
+        params: &Params,
+        opened: Opened,
+        scanned: Result<(), Refusal>,
+    ) -> Result<Rows, Refusal>
+        ensures seen { Sees me.old me.new }
+        ensures begun { me.new.begun ≡ me.old.begun }
+        ensures rows { IfOk result (λ rows. IsAnswered J.schema text.now params.now me.new.seen opened.s rows.rows) }
+    {
+        match scanned {
+            Ok(()) => self.finish(rt, me, text, params, opened),
+            Err(why) => Err(why),
+        }
+    }
+
+    /// Takes the pieces that cover a query, and makes its rows from them. No lock is held while they are made.
+    fn finish<R: Wait>(
+        &self,
+        rt: &R,
+        me: &mut Session<J>,
+        text: &str,
+        params: &Params,
+        opened: Opened,
+    ) -> Result<Rows, Refusal>
+        ensures seen { Sees me.old me.new }
+        ensures begun { me.new.begun ≡ me.old.begun }
+        ensures rows { IfOk result (λ rows. IsAnswered J.schema text.now params.now me.new.seen opened.s rows.rows) }
+    {
+        match self.take(rt, me, opened.query) {
+            Ok(taken) => {
+                let rows = rows_of(self.board.alloc, &taken, text, params, opened.s);
+                give_after(taken, rows)
+            }
+            Err(why) => Err(why),
+        }
+    }
+
+    /// Takes the pieces that cover a query.
+    fn take<R: Wait>(&self, rt: &R, me: &mut Session<J>, query: u64) -> Result<Taken, Refusal>
+        ensures seen { Sees me.old me.new }
+        ensures begun { me.new.begun ≡ me.old.begun }
+        ensures meant { IfOk result
+            (λ taken. (rows : List Row)
+            → gathered taken.pieces taken.top ≡ Some rows
+            → IsAnswered J.schema taken.text taken.params me.new.seen taken.s rows) }
+    {
+        self.journal.lock(rt).take(&self.board, me, query)
+    }
+}

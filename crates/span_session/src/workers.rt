@@ -1,0 +1,290 @@
+//! Workers: they scan the leaves of one query, each part under the lock of its own slot. One worker is the thread that asks.
+ghost use Rattle.std.specs.Prelude.{◌≡◌, ◌<◌};
+ghost use Rattle.span_session.specs.Answers.{IsPlanOf, IsLeafOf};
+
+use crate::board::Naming;
+use crate::db::Db;
+use crate::open::SLOTS;
+use crate::queries::Gate;
+use crate::question::leaf_at;
+use crate::scan_queue::{ScanQueue, refuse, take};
+use span_journal::journal::Gap;
+use span_params::params::Params;
+use span_planner::leaf::{Leaf, Plan};
+use span_truetime::clock::Clock;
+use span_truetime::interval::Interval;
+use span_value::refusal::Refusal;
+use std::alloc::AllocError;
+use std::sync::{Mutex, Wait};
+use std::thread;
+use std::thread::Threads;
+
+impl<J: Naming + Send + Sync> Db<J> {
+    /// Scans all leaves of a query in the slots in use, and then in those that cuts have added meanwhile: a cut moves keys to a slot that
+    /// was not in use. The first refusal of a scan.
+    pub(crate) fn scan_leaves<R: Threads + Wait + Sync, C: Clock + Sync, G: Gate + Sync>(
+        &self,
+        rt: &R,
+        clock: &C,
+        gate: &G,
+        text: &str,
+        params: &Params,
+        plan: &Plan,
+        query: u64,
+        workers: usize,
+    ) -> Result<(), Refusal>
+        requires { IsPlanOf J.schema text.now params.now plan.now }
+    {
+        let mut scanned = 0;
+        for _ in 0..SLOTS {
+            let used = self.count_slots(rt);
+            if used <= scanned {
+                break;
+            }
+            self.scan_slots(
+                rt, clock, gate, text, params, plan, query, workers, scanned, used,
+            )?;
+            scanned = used;
+        }
+        Ok(())
+    }
+
+    /// Scans all leaves of a query in the slots from one number on to another.
+    fn scan_slots<R: Threads + Wait + Sync, C: Clock + Sync, G: Gate + Sync>(
+        &self,
+        rt: &R,
+        clock: &C,
+        gate: &G,
+        text: &str,
+        params: &Params,
+        plan: &Plan,
+        query: u64,
+        workers: usize,
+        from: usize,
+        to: usize,
+    ) -> Result<(), Refusal>
+        requires { IsPlanOf J.schema text.now params.now plan.now }
+    {
+        let queue = Mutex::new(ScanQueue::new(plan.leaves.len(), from, to));
+        // More threads than slots would wait for one another: a slot is read under its lock.
+        let threads = workers.min(to.saturating_sub(from));
+        if threads > 1 {
+            // Where memory doesn't suffice for a thread, what it would have scanned is left.
+            let _ = self.scan_side_by_side(
+                rt, clock, gate, text, params, plan, query, &queue, threads,
+            );
+        }
+        self.work(rt, clock, gate, text, params, plan, query, &queue);
+        queue.into_inner().end()
+    }
+
+    /// Works by this many threads, and waits for them. The error is out of memory.
+    fn scan_side_by_side<R: Threads + Wait + Sync, C: Clock + Sync, G: Gate + Sync>(
+        &self,
+        rt: &R,
+        clock: &C,
+        gate: &G,
+        text: &str,
+        params: &Params,
+        plan: &Plan,
+        query: u64,
+        queue: &Mutex<ScanQueue>,
+        threads: usize,
+    ) -> Result<(), AllocError>
+        requires { IsPlanOf J.schema text.now params.now plan.now }
+    {
+        thread::map_indices(
+            rt,
+            self.board.alloc,
+            threads,
+            &|_|
+                requires { IsPlanOf J.schema text.now params.now plan.now }
+            { self.work(rt, clock, gate, text, params, plan, query, queue) },
+        )?;
+        Ok(())
+    }
+}
+
+impl<J: Naming> Db<J> {
+    /// How many slots are in use: the first ones.
+    fn count_slots<R: Wait>(&self, rt: &R) -> usize {
+        self.journal.lock(rt).count_slots()
+    }
+
+    /// Takes one leaf in one slot after another and scans it, until there is none or a scan is refused.
+    fn work<R: Wait, C: Clock, G: Gate>(
+        &self,
+        rt: &R,
+        clock: &C,
+        gate: &G,
+        text: &str,
+        params: &Params,
+        plan: &Plan,
+        query: u64,
+        queue: &Mutex<ScanQueue>,
+    )
+        requires { IsPlanOf J.schema text.now params.now plan.now }
+    {
+        for _ in rt.forever() {
+            let Some((place, number)) = take(rt, queue) else {
+                break;
+            };
+            self.scan_place(
+                rt, clock, gate, text, params, plan, query, queue, place, number,
+            );
+        }
+    }
+
+    /// Scans the leaf at a place of the plan in a slot.
+    fn scan_place<R: Wait, C: Clock, G: Gate>(
+        &self,
+        rt: &R,
+        clock: &C,
+        gate: &G,
+        text: &str,
+        params: &Params,
+        plan: &Plan,
+        query: u64,
+        queue: &Mutex<ScanQueue>,
+        place: usize,
+        number: usize,
+    )
+        requires { IsPlanOf J.schema text.now params.now plan.now }
+    {
+        match leaf_at(plan, place) {
+            Some(leaf) => self.scan_slot(
+                rt, clock, gate, text, params, query, queue, place, leaf, number,
+            ),
+            None => (),
+        }
+    }
+
+    /// Scans what is uncovered of a leaf in a slot, part by part, until nothing is or a scan is refused.
+    fn scan_slot<R: Wait, C: Clock, G: Gate>(
+        &self,
+        rt: &R,
+        clock: &C,
+        gate: &G,
+        text: &str,
+        params: &Params,
+        query: u64,
+        queue: &Mutex<ScanQueue>,
+        place: usize,
+        leaf: &Leaf,
+        number: usize,
+    )
+        requires { IsLeafOf J.schema text.now params.now place leaf.now }
+    {
+        for _ in rt.forever() {
+            if !self.scan(
+                rt, clock, gate, text, params, query, queue, place, leaf, number,
+            ) {
+                break;
+            }
+        }
+    }
+
+    /// Scans the lowest uncovered part of a leaf in a slot: whether there was one. The refusal goes to the queue.
+    fn scan<R: Wait, C: Clock, G: Gate>(
+        &self,
+        rt: &R,
+        clock: &C,
+        gate: &G,
+        text: &str,
+        params: &Params,
+        query: u64,
+        queue: &Mutex<ScanQueue>,
+        place: usize,
+        leaf: &Leaf,
+        number: usize,
+    ) -> bool
+        requires { IsLeafOf J.schema text.now params.now place leaf.now }
+    {
+        let interval = clock.now();
+        let Some(gap) = self.claim(rt, query, queue, place, number, interval) else {
+            return false;
+        };
+        gate.before_scan(place, number);
+        let scanned = self.read(
+            rt, gate, text, params, query, queue, place, leaf, number, interval, &gap,
+        );
+        if let Err(why) = scanned {
+            refuse(rt, queue, why);
+        }
+        gate.after_scan(place, number);
+        true
+    }
+
+    /// Claims the lowest uncovered part of a leaf in a slot, under the journal's lock. None where there is none, or a scan was refused.
+    /// The queue is locked too, so that none is claimed after the first refusal.
+    fn claim<R: Wait>(
+        &self,
+        rt: &R,
+        query: u64,
+        queue: &Mutex<ScanQueue>,
+        place: usize,
+        number: usize,
+        interval: Interval,
+    ) -> Option<Gap> {
+        let mut queue = queue.lock(rt);
+        if queue.is_refused() {
+            return None;
+        }
+        let claimed = self
+            .journal
+            .lock(rt)
+            .claim(&self.board, query, place, number, interval);
+        match claimed {
+            Ok(gap) => gap,
+            Err(why) => {
+                queue.refuse(why);
+                None
+            }
+        }
+    }
+
+    /// Reads under the slot's lock, and registers what was read while both are held. The queue is locked then too, so that none is claimed
+    /// after a refusal.
+    fn read<R: Wait, G: Gate>(
+        &self,
+        rt: &R,
+        gate: &G,
+        text: &str,
+        params: &Params,
+        query: u64,
+        queue: &Mutex<ScanQueue>,
+        place: usize,
+        leaf: &Leaf,
+        number: usize,
+        interval: Interval,
+        gap: &Gap,
+    ) -> Result<(), Refusal>
+        requires { IsLeafOf J.schema text.now params.now place leaf.now }
+    {
+        let mut slot = self.slot(number)?.lock(rt);
+        let piece = slot.read(&self.board, leaf, gap)?;
+        gate.in_scan(place, number);
+        let mut queue = queue.lock(rt);
+        let mut journal = self.journal.lock(rt);
+        let registered = slot.register(
+            &self.board,
+            &mut journal,
+            text,
+            params,
+            query,
+            place,
+            leaf,
+            interval,
+            gap,
+            piece,
+        );
+        match registered {
+            // Where a cut has come in between, nothing is registered, and the rest of the part is claimed again.
+            Ok(_) => Ok(()),
+            Err(why) => {
+                queue.refuse(why);
+                Err(why)
+            }
+        }
+    }
+}
