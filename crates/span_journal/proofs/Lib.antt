@@ -6,3 +6,4 @@ pub mod Gaps
 pub mod Stepping
 pub mod Claimed
 pub mod Committing
+pub mod Opening
