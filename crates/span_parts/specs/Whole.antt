@@ -1,5 +1,5 @@
 -- A journal and shards that belong together.
-use Rattle.std.specs.Prelude.{◌≡◌, ℕ, List, [], ◌∷◌, ◌++◌, Some, Ok, find, map, slice_get, slice_set, ◌≤◌, ◌⊎◌}
+use Rattle.std.specs.Prelude.{◌≡◌, ℕ, List, [], ◌∷◌, ◌++◌, Some, None, Ok, find, map, slice_get, slice_set, ◌≤◌, ◌⊎◌}
 use Rattle.span_value.specs.declared.refusal.Refusal.{Refusal}
 use Rattle.span_value.specs.declared.refusal.Refusal.TheVariants.{OutOfMemory}
 use Rattle.span_schema.specs.declared.table.Table.{Table}
@@ -108,3 +108,9 @@ pub record AreMeant (schema : List Table) (log : List Commit) (taken : Taken) (r
   pub db : List TableRow
   pub made : tables schema log taken.s ≡ Ok db
   pub are : means schema taken.statement.query taken.statement.leaves db ≡ Some rows
+
+-- what the statement means on the tables of the log at the query's timestamp is a fault
+pub record IsFaulty (schema : List Table) (log : List Commit) (taken : Taken) : Type 0 where
+  pub db : List TableRow
+  pub made : tables schema log taken.s ≡ Ok db
+  pub is : means schema taken.statement.query taken.statement.leaves db ≡ None

@@ -1,5 +1,5 @@
 //! Splits: a slot is cut in two at a root key.
-ghost use Rattle.std.specs.Prelude.{◌≡◌, ℕ, List, Some, IfOk, OnErr, OnOk, length};
+ghost use Rattle.std.specs.Prelude.{◌≡◌, ℕ, List, Some, IfOk, IfErr, OnErr, OnOk, length};
 ghost use Rattle.span_keycode.specs.Coding.{AreValues};
 ghost use Rattle.span_journal.specs.Judged.{MaySplit};
 ghost use Rattle.span_machine.specs.Machine.{Answers, IsAnswer, split, split_at};
@@ -91,6 +91,7 @@ pub fn cut_in(
         (machine_of journal.new)) }
     ensures cut { IfOk result (IsCutAt schema.now slot journal.old journal.new shard.old shard.new) }
     ensures err { OnErr result ((journal.new ≡ journal.old) × (shard.new ≡ shard.old)) }
+    ensures memory { IfErr result (λ why. why ≡ Refusal.OutOfMemory) }
 {
     schema.meets_rules();
     match journal.reserve_split(alloc, slot, key) {

@@ -1,13 +1,13 @@
 //! How transactions and queries end, for a caller that has the journal alone, as it has it who holds its lock: what a commit adds to the
 //! log, and what a query is answered by once it is closed.
-ghost use Rattle.std.specs.Prelude.{◌≡◌, List, IfOk, OnErr, MatchResult, Some};
+ghost use Rattle.std.specs.Prelude.{◌≡◌, List, IfOk, IfErr, OnErr, MatchResult, Some, None};
 ghost use Rattle.span_query.specs.Rows.{Row};
 ghost use Rattle.span_gather.specs.Gathered.{gathered};
-ghost use Rattle.span_machine.specs.Machine.{IsAnswer, close};
+ghost use Rattle.span_machine.specs.Machine.{IsAnswer, close, finish, refused};
 ghost use Rattle.span_machine.specs.Pieces.{machine_of};
 ghost use Rattle.span_machine.specs.declared.step.Reply.TheVariants as reply_of;
 ghost use Rattle.span_parts.specs.Asked.{IsQuestionOf};
-ghost use Rattle.span_parts.specs.Whole.{Shards, IsWhole, GoesWith, IsCommitted, AreMeant};
+ghost use Rattle.span_parts.specs.Whole.{Shards, IsWhole, GoesWith, IsCommitted, AreMeant, IsFaulty};
 
 use super::steps::decide;
 use span_journal::journal::Journal;
@@ -48,7 +48,8 @@ pub fn commit(
 }
 
 /// Closes a query whose leaves pieces cover, and returns what it is answered by: where the query above the leaves gives rows on the
-/// pieces, they are what its statement means on the tables of the log at its timestamp. A refusal leaves all as it was.
+/// pieces, they are what its statement means on the tables of the log at its timestamp; where it gives a fault there, that means one.
+/// The refusal is that of the query's end, and leaves all as it was.
 pub fn take(schema: &Schema, journal: &mut Journal, query: u64) -> Result<Taken, Refusal>
     ensures meant { IfOk result
         (λ taken. (shards : Shards)
@@ -56,8 +57,15 @@ pub fn take(schema: &Schema, journal: &mut Journal, query: u64) -> Result<Taken,
         → (rows : List Row)
         → gathered taken.pieces taken.top ≡ Some rows
         → AreMeant schema.now journal.old.log taken rows) }
+    ensures fault { IfOk result
+        (λ taken. (shards : Shards)
+        → IsWhole schema.now journal.old shards
+        → gathered taken.pieces taken.top ≡ None
+        → IsFaulty schema.now journal.old.log taken) }
     ensures asked { IfOk result (IsQuestionOf (machine_of journal.old) query) }
     ensures closed { IfOk result (λ _. IsAnswer (close (machine_of journal.old) query) reply_of.Closed (machine_of journal.new)) }
+    ensures refused { IfErr result
+        (λ why. finish schema.now (machine_of journal.old) query ≡ refused (machine_of journal.old) why) }
     ensures err { OnErr result (machine_of journal.new ≡ machine_of journal.old) }
     ensures whole { GoesWith schema.now journal.old journal.new }
 {

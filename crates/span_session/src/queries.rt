@@ -1,11 +1,13 @@
 //! Queries of a session: opened, scanned by one worker or several, and ended.
-ghost use Rattle.std.specs.Prelude.{◌≡◌, ◌≤◌, List, Ok, Some, IfOk};
+ghost use Rattle.std.specs.Prelude.{◌≡◌, ◌⊎◌, ◌≤◌, List, Ok, Some, None, IfOk, IfErr};
 ghost use Rattle.span_gather.specs.Gathered.{gathered};
 ghost use Rattle.span_query.specs.Rows.{Row};
 ghost use Rattle.span_truetime.specs.Time.{timestamp_of};
+ghost use Rattle.span_truetime.specs.declared.interval.Interval.{Interval};
 ghost use Rattle.span_planner.specs.Plannable.{IsPlannable};
 ghost use Rattle.span_binder.specs.Understands.{Understands};
 ghost use Rattle.span_session.specs.Answers.{IsAnswered, IsPlanOf};
+ghost use Rattle.span_session.specs.Refusing.{IsQueryRefusal, IsRefusedAtFirst, IsUnopened, IsUnscanned, IsUnfinished, IsFault, IsEndRefused};
 ghost use Rattle.span_session.specs.Rule.{Sees};
 
 use crate::board::Naming;
@@ -72,6 +74,10 @@ impl<J: Naming + Send + Sync> Db<J> {
         ensures begun { me.new.begun ≡ me.old.begun }
         ensures read { IfOk result (λ a. C.may_give clock.now a.read × (a.s ≡ timestamp_of bound a.read)) }
         ensures rows { IfOk result (λ a. IsAnswered J.schema text.now params.now me.new.seen a.s a.rows.rows) }
+        ensures refused { IfErr result
+            (λ why. (read : Interval)
+            × C.may_give clock.now read
+            × IsQueryRefusal J.schema text.now params.now bound read me.new.seen why) }
     {
         let read = clock.now();
         match self.open(rt, text, params, bound, read) {
@@ -100,10 +106,13 @@ impl<J: Naming> Db<J> {
         opened: Opened,
         scanned: Result<(), Refusal>,
     ) -> Result<Answer, Refusal>
+        requires { IfErr scanned (IsUnscanned J.schema) }
         ensures seen { Sees me.old me.new }
         ensures begun { me.new.begun ≡ me.old.begun }
         ensures read { IfOk result (λ a. (a.read ≡ read) × (a.s ≡ opened.s)) }
         ensures rows { IfOk result (λ a. IsAnswered J.schema text.now params.now me.new.seen opened.s a.rows.rows) }
+        ensures refused { IfErr result
+            (λ why. IsUnscanned J.schema why ⊎ IsUnfinished J.schema text.now params.now me.new.seen opened.s why) }
     {
         match self.finish_scanned(rt, me, text, params, opened, scanned) {
             Ok(rows) => Ok(Answer {
@@ -129,6 +138,7 @@ impl<J: Naming> Db<J> {
     ) -> Result<(Plan, Opened), Refusal>
         ensures plan { IfOk result (λ r. IsPlanOf J.schema text.now params.now r.0) }
         ensures s { IfOk result (λ r. r.1.s ≡ timestamp_of bound interval) }
+        ensures refused { IfErr result (IsRefusedAtFirst J.schema text.now params.now bound interval) }
     {
         match understand_and_plan(self.board.alloc, &self.board.schema, text, params) {
             Ok((statement, plan)) => {
@@ -151,7 +161,9 @@ impl<J: Naming> Db<J> {
     ) -> Result<Opened, Refusal>
         requires understood { Understands J.schema text.now params.now (Ok statement) }
         requires plannable { IsPlannable J.schema statement }
-        ensures { IfOk result (λ opened. opened.s ≡ timestamp_of bound interval) }
+        ensures s { IfOk result (λ opened. opened.s ≡ timestamp_of bound interval) }
+        ensures refused { IfErr result
+            (λ why. (why ≡ Refusal.OutOfMemory) ⊎ IsUnopened J.schema text.now params.now bound interval why) }
     {
         let copies = copy_question(self.board.alloc, text, params);
         let (statement, (text, params)) = pair_with(statement, copies)?;
@@ -175,9 +187,12 @@ impl<J: Naming> Db<J> {
         opened: Opened,
         scanned: Result<(), Refusal>,
     ) -> Result<Rows, Refusal>
+        requires { IfErr scanned (IsUnscanned J.schema) }
         ensures seen { Sees me.old me.new }
         ensures begun { me.new.begun ≡ me.old.begun }
         ensures rows { IfOk result (λ rows. IsAnswered J.schema text.now params.now me.new.seen opened.s rows.rows) }
+        ensures refused { IfErr result
+            (λ why. IsUnscanned J.schema why ⊎ IsUnfinished J.schema text.now params.now me.new.seen opened.s why) }
     {
         match scanned {
             Ok(()) => self.finish(rt, me, text, params, opened),
@@ -197,6 +212,7 @@ impl<J: Naming> Db<J> {
         ensures seen { Sees me.old me.new }
         ensures begun { me.new.begun ≡ me.old.begun }
         ensures rows { IfOk result (λ rows. IsAnswered J.schema text.now params.now me.new.seen opened.s rows.rows) }
+        ensures refused { IfErr result (IsUnfinished J.schema text.now params.now me.new.seen opened.s) }
     {
         match self.take(rt, me, opened.query) {
             Ok(taken) => {
@@ -215,6 +231,10 @@ impl<J: Naming> Db<J> {
             (λ taken. (rows : List Row)
             → gathered taken.pieces taken.top ≡ Some rows
             → IsAnswered J.schema taken.text taken.params me.new.seen taken.s rows) }
+        ensures fault { IfOk result
+            (λ taken. gathered taken.pieces taken.top ≡ None
+            → IsFault J.schema taken.text taken.params me.new.seen taken.s) }
+        ensures refused { IfErr result (IsEndRefused J.schema) }
     {
         self.journal.lock(rt).take(&self.board, me, query)
     }

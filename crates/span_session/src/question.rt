@@ -1,5 +1,5 @@
 //! A query as a session asks it: its text is understood, planned and compared while no lock is held.
-ghost use Rattle.std.specs.Prelude.{◌≡◌, true, IfOk, MatchResult, Ok, Err, Some, find, slice_get};
+ghost use Rattle.std.specs.Prelude.{◌≡◌, ◌⊎◌, ◌∷◌, [], true, IfOk, IfErr, MatchResult, Ok, Err, Some, find, slice_get};
 ghost use Rattle.std.specs.Option.{option_copied};
 ghost use Rattle.span_gather.specs.Gathered.{gathered};
 ghost use Rattle.span_machine.specs.Machine.{is_query, statement_plan};
@@ -8,6 +8,8 @@ ghost use Rattle.span_machine.specs.declared.query.OpenQuery.{OpenQuery};
 ghost use Rattle.span_planner.specs.Plannable.{IsPlannable};
 ghost use Rattle.span_binder.specs.Understands.{Understands};
 ghost use Rattle.span_session.specs.Answers.{IsPlanOf};
+ghost use Rattle.span_session.specs.Refusing.{IsFaultOf};
+ghost use Rattle.span_session.specs.Replies.{IsAmong};
 
 use crate::same::are_same;
 use span_binder::understand::understand;
@@ -63,6 +65,7 @@ pub(crate) fn understand_and_plan(
     ensures understood { IfOk result (λ r. Understands schema.now text.now params.now (Ok r.0)) }
     ensures plannable { IfOk result (λ r. IsPlannable schema.now r.0) }
     ensures plan { IfOk result (λ r. IsPlanOf schema.now text.now params.now r.1) }
+    ensures refused { IfErr result (λ why. (why ≡ Refusal.OutOfMemory) ⊎ Understands schema.now text.now params.now (Err why)) }
 {
     match understand(alloc, schema, text, params) {
         Ok(statement) => {
@@ -89,7 +92,8 @@ pub(crate) fn copy_question(
     text: &str,
     params: &Params,
 ) -> Result<(Text, Params), Refusal>
-    ensures { IfOk result (λ r. (r.0 ≡ text.now) × (r.1 ≡ params.now)) }
+    ensures copies { IfOk result (λ r. (r.0 ≡ text.now) × (r.1 ≡ params.now)) }
+    ensures memory { IfErr result (λ why. why ≡ Refusal.OutOfMemory) }
 {
     let text = Text::from_str(alloc, text)?;
     let params = params.copy(alloc)?;
@@ -136,6 +140,9 @@ pub(crate) fn rows_of(
 ) -> Result<Rows, Refusal>
     ensures same { IfOk result (λ _. (taken.now.text ≡ text.now) × (taken.now.params ≡ params.now) × (taken.now.s ≡ s)) }
     ensures rows { IfOk result (λ rows. gathered taken.now.pieces taken.now.top ≡ Some rows.rows) }
+    ensures refused { IfErr result
+        (λ why. ((why ≡ Refusal.ArithmeticFault) × IsFaultOf taken.now text.now params.now s)
+        ⊎ IsAmong (Refusal.OutOfMemory ∷ Refusal.UnknownQuery ∷ []) why) }
 {
     if !is_of(taken, text, params, s) {
         return Err(Refusal::UnknownQuery);

@@ -1,13 +1,16 @@
 //! The queue of one query's scans, which its workers share under a lock. It is taken after a slot's lock and before the journal's.
-ghost use Rattle.std.specs.Prelude.{◌≡◌};
+ghost use Rattle.std.specs.Prelude.{◌≡◌, ◌≢◌, ◌⊎◌, ◌+◌, ◌≤◌, ◌<◌, true, false, Some, None, IfSome, IfErr, MatchOption, MatchResult};
+ghost use Rattle.span_session.specs.Refusing.{IsUnscanned};
 
+use crate::board::Naming;
 use span_value::refusal::Refusal;
+use std::marker::PhantomData;
 use std::sync::{Mutex, Wait};
 
 /// What no worker has taken yet: each leaf of a plan in each of some slots, leaf by leaf, so that workers beside each other mostly have
 /// different slots. After a refusal nothing is taken.
 #[derive(Drop)]
-pub(crate) struct ScanQueue {
+pub(crate) struct ScanQueue<J: Naming> {
     // The next place of a leaf, and the number of leaves.
     place: usize,
     leaves: usize,
@@ -17,11 +20,17 @@ pub(crate) struct ScanQueue {
     to: usize,
     // The first refusal of a scan.
     refused: Option<Refusal>,
+    of: PhantomData<J>,
+    pub ghost unscanned: { IfSome refused (IsUnscanned J.schema) },
 }
 
-impl ScanQueue {
+impl<J: Naming> ScanQueue<J> {
     /// This many leaves, in the slots from one number on to another.
-    pub(crate) fn new(leaves: usize, from: usize, to: usize) -> ScanQueue {
+    pub(crate) fn new(leaves: usize, from: usize, to: usize) -> ScanQueue<J>
+        ensures leaves { (result.place ≡ 0) × (result.leaves ≡ leaves) }
+        ensures slots { (result.number ≡ from) × (result.from ≡ from) × (result.to ≡ to) }
+        ensures refused { result.refused ≡ None }
+    {
         ScanQueue {
             place: 0,
             leaves,
@@ -29,11 +38,25 @@ impl ScanQueue {
             from,
             to,
             refused: None,
+            of: PhantomData,
         }
     }
 
     /// The place of the next leaf and the number of the slot where it is to be scanned. None where nothing is left, or a scan was refused.
-    fn take(&mut self) -> Option<(usize, usize)> {
+    fn take(&mut self) -> Option<(usize, usize)>
+        ensures here { self.old.number < self.old.to → IfSome result (λ t. t ≡ (self.old.place, self.old.number)) }
+        ensures next { self.old.to ≤ self.old.number → IfSome result (λ t. t ≡ (self.old.place + 1, self.old.from)) }
+        ensures within { IfSome result
+            (λ t. (t.0 < self.old.leaves) × (t.1 < self.old.to) × (self.old.refused ≡ None)) }
+        ensures taken { IfSome result (λ t. (self.new.place ≡ t.0) × (self.new.number ≡ t.1 + 1)) }
+        ensures none { result ≡ None
+            → (self.old.refused ≢ None)
+            ⊎ (self.old.leaves ≤ self.old.place)
+            ⊎ ((self.old.to ≤ self.old.number) × (self.old.leaves ≤ self.old.place + 1))
+            ⊎ (self.old.to ≤ self.old.from) }
+        ensures kept { (self.new.leaves ≡ self.old.leaves) × (self.new.from ≡ self.old.from) × (self.new.to ≡ self.old.to) }
+        ensures refused { self.new.refused ≡ self.old.refused }
+    {
         if self.is_refused() {
             return None;
         }
@@ -53,19 +76,29 @@ impl ScanQueue {
     }
 
     /// Whether a scan was refused.
-    pub(crate) fn is_refused(&self) -> bool {
+    pub(crate) fn is_refused(&self) -> bool
+        ensures { MatchOption self.now.refused (result ≡ false) (λ _. result ≡ true) }
+    {
         self.refused.is_some()
     }
 
     /// Notes the refusal of a scan, if it is the first one.
-    pub(crate) fn refuse(&mut self, why: Refusal) {
+    pub(crate) fn refuse(&mut self, why: Refusal)
+        requires { IsUnscanned J.schema why }
+        ensures refused { MatchOption self.old.refused (self.new.refused ≡ Some why) (λ first. self.new.refused ≡ Some first) }
+        ensures next { (self.new.place ≡ self.old.place) × (self.new.number ≡ self.old.number) }
+        ensures kept { (self.new.leaves ≡ self.old.leaves) × (self.new.from ≡ self.old.from) × (self.new.to ≡ self.old.to) }
+    {
         if self.refused.is_none() {
             self.refused = Some(why);
         }
     }
 
     /// The first refusal.
-    pub(crate) fn end(self) -> Result<(), Refusal> {
+    pub(crate) fn end(self) -> Result<(), Refusal>
+        ensures first { MatchResult result (λ _. self.refused ≡ None) (λ why. self.refused ≡ Some why) }
+        ensures refused { IfErr result (IsUnscanned J.schema) }
+    {
         match self.refused {
             Some(why) => Err(why),
             None => Ok(()),
@@ -74,11 +107,16 @@ impl ScanQueue {
 }
 
 /// Takes the next leaf and slot.
-pub(crate) fn take<R: Wait>(rt: &R, queue: &Mutex<ScanQueue>) -> Option<(usize, usize)> {
+pub(crate) fn take<J: Naming, R: Wait>(
+    rt: &R,
+    queue: &Mutex<ScanQueue<J>>,
+) -> Option<(usize, usize)> {
     queue.lock(rt).take()
 }
 
 /// Notes the refusal of a scan.
-pub(crate) fn refuse<R: Wait>(rt: &R, queue: &Mutex<ScanQueue>, why: Refusal) {
+pub(crate) fn refuse<J: Naming, R: Wait>(rt: &R, queue: &Mutex<ScanQueue<J>>, why: Refusal)
+    requires { IsUnscanned J.schema why }
+{
     queue.lock(rt).refuse(why);
 }

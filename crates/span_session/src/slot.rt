@@ -12,6 +12,7 @@ ghost use Rattle.span_arena.specs.Limits.{most_nodes};
 ghost use Rattle.span_parts.specs.Replies.{as_reply};
 ghost use Rattle.span_parts.specs.Whole.{IsRead};
 ghost use Rattle.span_session.specs.Answers.{IsLeafOf};
+ghost use Rattle.span_session.specs.Refusing.{IsUnscanned};
 ghost use Rattle.span_session.specs.Replies.{Replies, MayReply, at_slot};
 
 use crate::board::{Board, Naming, Place};
@@ -213,20 +214,24 @@ impl<J: Naming> LockedSlot<J> {
                 journal.badge = keeper;
                 Ok(Some(next.number))
             }
-            // A slot that may be cut is cut if memory suffices: `cut_in` is refused for that alone.
-            Err(_) => {
+            Err(why) => {
                 journal.badge = keeper;
-                Err(Refusal::OutOfMemory)
+                Err(why)
             }
         }
     }
 
-    /// What a leaf of a query gives on a part of its range, as far as this slot has it.
+    /// What a leaf of a query gives on a part of its range, as far as this slot has it. `OutOfMemory`: a slot has rows of the schema's
+    /// tables, and so nothing else is wanting where a part can't be read.
     pub(crate) fn read(&self, board: &Board<J>, leaf: &Leaf, gap: &Gap) -> Result<Piece, Refusal>
         requires { (text : List ℕ) × (params : List Parameter) × (place : ℕ) × IsLeafOf J.schema text params place leaf.now }
-        ensures { IfOk result (λ piece. IsRead J.schema self.now.versions gap.now.range gap.now.s piece leaf.now) }
+        ensures read { IfOk result (λ piece. IsRead J.schema self.now.versions gap.now.range gap.now.s piece leaf.now) }
+        ensures memory { IfErr result (λ why. why ≡ Refusal.OutOfMemory) }
     {
-        read_leaf(board.alloc, &board.schema, &self.shard, leaf, gap)
+        match read_leaf(board.alloc, &board.schema, &self.shard, leaf, gap) {
+            Ok(piece) => Ok(piece),
+            Err(_) => Err(Refusal::OutOfMemory),
+        }
     }
 
     /// Covers what was read here of a leaf by a piece, if it is still uncovered: whether it is. `UnknownQuery` where the query of this
@@ -247,6 +252,7 @@ impl<J: Naming> LockedSlot<J> {
         requires leaf { IsLeafOf J.schema text.now params.now place leaf.now }
         requires read { IsRead J.schema self.old.versions gap.now.range gap.now.s piece leaf.now }
         ensures same { (self.new ≡ self.old) × (journal.new ≡ journal.old) }
+        ensures refused { IfErr result (IsUnscanned J.schema) }
     {
         if !is_used(&journal.journal, self.number) {
             return Err(Refusal::NoSlot);

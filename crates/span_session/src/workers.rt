@@ -1,6 +1,7 @@
 //! Workers: they scan the leaves of one query, each part under the lock of its own slot. One worker is the thread that asks.
-ghost use Rattle.std.specs.Prelude.{◌≡◌, ◌<◌};
+ghost use Rattle.std.specs.Prelude.{◌≡◌, ◌<◌, IfErr};
 ghost use Rattle.span_session.specs.Answers.{IsPlanOf, IsLeafOf};
+ghost use Rattle.span_session.specs.Refusing.{IsUnscanned};
 
 use crate::board::Naming;
 use crate::db::Db;
@@ -34,6 +35,7 @@ impl<J: Naming + Send + Sync> Db<J> {
         workers: usize,
     ) -> Result<(), Refusal>
         requires { IsPlanOf J.schema text.now params.now plan.now }
+        ensures { IfErr result (IsUnscanned J.schema) }
     {
         let mut scanned = 0;
         for _ in 0..SLOTS {
@@ -64,6 +66,7 @@ impl<J: Naming + Send + Sync> Db<J> {
         to: usize,
     ) -> Result<(), Refusal>
         requires { IsPlanOf J.schema text.now params.now plan.now }
+        ensures { IfErr result (IsUnscanned J.schema) }
     {
         let queue = Mutex::new(ScanQueue::new(plan.leaves.len(), from, to));
         // More threads than slots would wait for one another: a slot is read under its lock.
@@ -88,7 +91,7 @@ impl<J: Naming + Send + Sync> Db<J> {
         params: &Params,
         plan: &Plan,
         query: u64,
-        queue: &Mutex<ScanQueue>,
+        queue: &Mutex<ScanQueue<J>>,
         threads: usize,
     ) -> Result<(), AllocError>
         requires { IsPlanOf J.schema text.now params.now plan.now }
@@ -121,7 +124,7 @@ impl<J: Naming> Db<J> {
         params: &Params,
         plan: &Plan,
         query: u64,
-        queue: &Mutex<ScanQueue>,
+        queue: &Mutex<ScanQueue<J>>,
     )
         requires { IsPlanOf J.schema text.now params.now plan.now }
     {
@@ -145,7 +148,7 @@ impl<J: Naming> Db<J> {
         params: &Params,
         plan: &Plan,
         query: u64,
-        queue: &Mutex<ScanQueue>,
+        queue: &Mutex<ScanQueue<J>>,
         place: usize,
         number: usize,
     )
@@ -168,7 +171,7 @@ impl<J: Naming> Db<J> {
         text: &str,
         params: &Params,
         query: u64,
-        queue: &Mutex<ScanQueue>,
+        queue: &Mutex<ScanQueue<J>>,
         place: usize,
         leaf: &Leaf,
         number: usize,
@@ -193,7 +196,7 @@ impl<J: Naming> Db<J> {
         text: &str,
         params: &Params,
         query: u64,
-        queue: &Mutex<ScanQueue>,
+        queue: &Mutex<ScanQueue<J>>,
         place: usize,
         leaf: &Leaf,
         number: usize,
@@ -221,7 +224,7 @@ impl<J: Naming> Db<J> {
         &self,
         rt: &R,
         query: u64,
-        queue: &Mutex<ScanQueue>,
+        queue: &Mutex<ScanQueue<J>>,
         place: usize,
         number: usize,
         interval: Interval,
@@ -252,7 +255,7 @@ impl<J: Naming> Db<J> {
         text: &str,
         params: &Params,
         query: u64,
-        queue: &Mutex<ScanQueue>,
+        queue: &Mutex<ScanQueue<J>>,
         place: usize,
         leaf: &Leaf,
         number: usize,
@@ -260,6 +263,7 @@ impl<J: Naming> Db<J> {
         gap: &Gap,
     ) -> Result<(), Refusal>
         requires { IsLeafOf J.schema text.now params.now place leaf.now }
+        ensures { IfErr result (IsUnscanned J.schema) }
     {
         let mut slot = self.slot(number)?.lock(rt);
         let piece = slot.read(&self.board, leaf, gap)?;

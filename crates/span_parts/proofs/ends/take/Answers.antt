@@ -1,4 +1,4 @@
-use Rattle.span_parts.proofs.Taking.{taken_meant, taken_asked, taken_closed, if_ok, taken_goes}
+use Rattle.span_parts.proofs.Taking.{taken_meant, taken_faulty, taken_asked, taken_closed, if_ok, if_err, taken_goes}
 use Rattle.span_parts.proofs.ends.take.Goals as goal
 
 pub returns-clause-meant : goal.returns-clause-meant
@@ -6,6 +6,15 @@ returns-clause-meant c =
     let j = c.args.journal.now in
     let k = c.take_pieces.new.self in
     if_ok c.take_pieces.result _ _ c.take_pieces.ensures.ok (λ taken t shards w. taken_meant c.args.schema.now j k c.args.query taken t shards w)
+
+pub returns-clause-fault : goal.returns-clause-fault
+returns-clause-fault c =
+    let j = c.args.journal.now in
+    let k = c.take_pieces.new.self in
+    if_ok c.take_pieces.result _ _ c.take_pieces.ensures.ok (λ taken t shards w. taken_faulty c.args.schema.now j k c.args.query taken t shards w)
+
+pub returns-clause-refused : goal.returns-clause-refused
+returns-clause-refused c = if_err c.take_pieces.result _ _ c.take_pieces.ensures.refused (λ why is. is c.args.schema.now)
 
 pub returns-clause-asked : goal.returns-clause-asked
 returns-clause-asked c =

@@ -6,8 +6,9 @@ use Rattle.span_parts.proofs.Passing.{passed_take}
 use Rattle.span_parts.proofs.Wholes.{no_text}
 use Rattle.span_session.specs.Held.{IsUnderstoodAs}
 use Rattle.span_session.specs.Rule.{seen_of, known_at}
-use Rattle.span_session.proofs.Held.{keeper_goes, keeper_still, result_answers}
+use Rattle.span_session.proofs.Held.{keeper_goes, keeper_still, result_answers, result_faults}
 use Rattle.span_session.proofs.Meets.{keeper_shape}
+use Rattle.span_session.proofs.Refusing.{end_refused}
 use Rattle.span_session.proofs.journal.LockedJournal.take.Goals as goal
 
 pub show-requires-clause-tables : goal.show-requires-clause-tables
@@ -38,3 +39,18 @@ returns-clause-meant g c =
     let board = c.args.board.now in
     let seen = ap (λ z. seen_of z.0) c.show.ensures.client ∙ ap (λ b. (known_at b.views).commits) c.replace-keeper.ensures.value in
     result_answers schema board.schema g.J.Naming.table here.badge.table_id here.badge.views here.journal board.schema_is c.self.invariant c.args.query _ seen c.take.result c.take.ensures.asked c.take.ensures.meant
+
+pub returns-clause-fault : goal.returns-clause-fault
+returns-clause-fault g c =
+    let schema = g.J.Naming.schema in
+    let here = c.self.inside in
+    let board = c.args.board.now in
+    let seen = ap (λ z. seen_of z.0) c.show.ensures.client ∙ ap (λ b. (known_at b.views).commits) c.replace-keeper.ensures.value in
+    result_faults schema board.schema g.J.Naming.table here.badge.table_id here.badge.views here.journal board.schema_is c.self.invariant c.args.query _ seen c.take.result c.take.ensures.asked c.take.ensures.fault
+
+pub returns-clause-refused : goal.returns-clause-refused
+returns-clause-refused g c =
+    let schema = g.J.Naming.schema in
+    let here = c.self.inside in
+    let board = c.args.board.now in
+    end_refused schema board.schema g.J.Naming.table here.badge.table_id here.badge.views here.journal board.schema_is c.self.invariant c.args.query c.take.result c.take.ensures.refused

@@ -13,6 +13,7 @@ use Rattle.span_session.specs.Known.{kept}
 use Rattle.span_session.specs.Rule.{SlotVersions, number_of, versions_of, known_at}
 use Rattle.span_session.proofs.Held.{slot_belongs, own_leaf, keeper_stays}
 use Rattle.span_session.proofs.Meets.{holder_shape, keeper_shape}
+use Rattle.span_session.proofs.Refusing.{scan_unscanned}
 use Rattle.span_session.proofs.slot.LockedSlot.register.Goals as goal
 
 pub agree-requires-clause-tables : goal.agree-requires-clause-tables
@@ -63,3 +64,11 @@ invariant_of-journal g c =
     keeper_stays schema board.schema g.J.Naming.table j.badge.table_id j.badge.views j.journal board.schema_is c.journal.invariant me.number me.shard within is _ _ c.register.new.journal c.agree.ensures.tables.1 (c.agree.ensures.keeper ∙ views)
     (passed_register (IsUnderstoodAs schema) board.schema (machine_of j.journal) c.journal.invariant.asked c.register.result no_text (step.Scan c.args.query c.args.place me.number c.args.interval) tt reply.Scanned (machine_of c.register.new.journal) c.register.ensures.scanned c.register.ensures.same c.register.ensures.refused)
     c.register.ensures.whole
+
+pub returns-clause-refused : goal.returns-clause-refused
+returns-clause-refused g c =
+    let schema = g.J.Naming.schema in
+    let me = c.self.inside in
+    let j = c.journal.inside in
+    let board = c.args.board.now in
+    scan_unscanned schema board.schema g.J.Naming.table j.badge.table_id j.badge.views j.journal board.schema_is c.journal.invariant c.args.query c.args.place me.number c.args.interval c.register.result (machine_of c.register.new.journal) c.register.ensures.refused
