@@ -11,6 +11,8 @@ use Rattle.span_truetime.specs.declared.bound.Bound.{Bound}
 use Rattle.span_truetime.specs.declared.interval.Interval.{Interval}
 use Rattle.span_binder.specs.Understands.{Understands}
 use Rattle.span_gather.specs.Gathered.{gathered}
+use Rattle.span_gather.specs.declared.rows.Rows.{Rows as Found}
+use Rattle.span_truetime.specs.Time.{timestamp_of}
 use Rattle.span_machine.specs.declared.transaction.Commit.{Commit}
 use Rattle.span_machine.specs.declared.step.Reply.TheVariants as reply
 use Rattle.span_machine.specs.Machine.{Machine, Answer, Answers, refused, open_query, scan, finish}
@@ -23,7 +25,7 @@ use Rattle.span_session.specs.Held.{IsKeeper}
 use Rattle.span_session.specs.Known.{Known}
 use Rattle.span_session.specs.Rule.{known_at}
 use Rattle.span_session.specs.Replies.{MayReply, IsAmong}
-use Rattle.span_session.specs.Refusing.{IsUnopened, IsUnscanned, IsEndRefused, IsFault, IsFaultOf, IsUnfinished, IsRefusedAtFirst}
+use Rattle.span_session.specs.Refusing.{IsUnopened, IsUnscanned, IsEndRefused, IsFault, IsFaultOf, IsUnfinished, IsRefusedAtFirst, IsQueryRefusal}
 use Rattle.span_session.proofs.Refusals.{refused_same}
 use Rattle.span_session.proofs.Replying.{answers_may, replies, may_reply}
 
@@ -65,13 +67,23 @@ module _ (schema other : List Table) (table here : TableId) (views : List (List 
   )
 
 -- the text is understood, and the query is not opened, or memory ran out
-pub unopened : (schema : List Table) (known : Known) (q : Statement) (text : List ℕ) (params : List Parameter) (bound : Bound) (interval : Interval) → Understands schema text params (Ok q) → (why : Refusal)
+unopened : (schema : List Table) (known : Known) (q : Statement) (text : List ℕ) (params : List Parameter) (bound : Bound) (interval : Interval) → Understands schema text params (Ok q) → (why : Refusal)
     → MayReply schema known (λ m. open_query schema m (Ok q) text params bound interval) (reply.Refused why) → (why ≡ refusal.OutOfMemory) ⊎ IsUnopened schema text params bound interval why
 unopened schema known q text params bound interval understood why (inl e) = inl (refused_same why refusal.OutOfMemory e)
 unopened schema known q text params bound interval understood why (inr r) = inr (record { statement = q; understood = understood; refused = (known, r) })
 
+-- the same of a result, where copies of the text and of the parameters were handed in
+pub result_unopened : (schema : List Table) (known : Known) (q : Statement) (text copy : List ℕ) (params copies : List Parameter) (bound : Bound) (interval : Interval) → copy ≡ text → copies ≡ params
+    → Understands schema text params (Ok q) → (r : Result Opened Refusal) → IfErr r (λ why. MayReply schema known (λ m. open_query schema m (Ok q) copy copies bound interval) (reply.Refused why))
+    → IfErr r (λ why. (why ≡ refusal.OutOfMemory) ⊎ IsUnopened schema text params bound interval why)
+result_unopened schema known q text copy params copies bound interval same_text same_params understood (Ok o) e = tt
+result_unopened schema known q text copy params copies bound interval same_text same_params understood (Err why) e =
+    unopened schema known q text params bound interval understood why
+    (subst (λ (t : List ℕ). MayReply schema known (λ m. open_query schema m (Ok q) t params bound interval) (reply.Refused why)) same_text
+    (subst (λ (ps : List Parameter). MayReply schema known (λ m. open_query schema m (Ok q) copy ps bound interval) (reply.Refused why)) same_params e))
+
 -- what was taken is a fault, or there are no rows of it for another reason
-pub rows_unfinished : (schema : List Table) (text : List ℕ) (params : List Parameter) (s : ℕ) (seen : List Commit) (taken : Taken) (why : Refusal)
+rows_unfinished : (schema : List Table) (text : List ℕ) (params : List Parameter) (s : ℕ) (seen : List Commit) (taken : Taken) (why : Refusal)
     → ((why ≡ refusal.ArithmeticFault) × IsFaultOf taken text params s) ⊎ IsAmong (refusal.OutOfMemory ∷ refusal.UnknownQuery ∷ []) why
     → (gathered taken.pieces taken.top ≡ None → IsFault schema taken.text taken.params seen taken.s)
     → IsUnfinished schema text params seen s why
@@ -80,8 +92,8 @@ rows_unfinished schema text params s seen taken why (inl e) faulty =
     inl (
       e.0,
       subst (λ (t : List ℕ). IsFault schema t params seen s) f.text_is
-      (subst (λ (ps : List Parameter). IsFault schema taken.text ps seen s) f.params_are
-      (subst (λ (i : ℕ). IsFault schema taken.text taken.params seen i) f.s_is (faulty f.gives))),
+          (subst (λ (ps : List Parameter). IsFault schema taken.text ps seen s) f.params_are
+          (subst (λ (i : ℕ). IsFault schema taken.text taken.params seen i) f.s_is (faulty f.gives))),
     )
 rows_unfinished schema text params s seen taken why (inr e) faulty = inr (inl e)
 
@@ -90,3 +102,19 @@ pub text_refused : (schema : List Table) (text : List ℕ) (params : List Parame
     → IsRefusedAtFirst schema text params bound interval why
 text_refused schema text params bound interval why (inl e) = inr (inl e)
 text_refused schema text params bound interval why (inr e) = inl e
+
+-- the same of a result
+pub result_unfinished : (schema : List Table) (text : List ℕ) (params : List Parameter) (s : ℕ) (seen : List Commit) (taken : Taken) (r : Result Found Refusal)
+    → IfErr r (λ why. ((why ≡ refusal.ArithmeticFault) × IsFaultOf taken text params s) ⊎ IsAmong (refusal.OutOfMemory ∷ refusal.UnknownQuery ∷ []) why)
+    → (gathered taken.pieces taken.top ≡ None → IsFault schema taken.text taken.params seen taken.s)
+    → IfErr r (IsUnfinished schema text params seen s)
+result_unfinished schema text params s seen taken (Ok x) e faulty = tt
+result_unfinished schema text params s seen taken (Err why) e faulty = rows_unfinished schema text params s seen taken why e faulty
+
+-- a query that was opened is refused in its scans or at its end
+pub ended_refused : {A : Type 0} (schema : List Table) (text : List ℕ) (params : List Parameter) (bound : Bound) (read : Interval) (seen : List Commit) (s : ℕ) → s ≡ timestamp_of bound read
+    → (gives : Interval → Type 0) → gives read → (r : Result A Refusal) → IfErr r (λ why. IsUnscanned schema why ⊎ IsUnfinished schema text params seen s why)
+    → IfErr r (λ why. (i : Interval) × gives i × IsQueryRefusal schema text params bound i seen why)
+ended_refused schema text params bound read seen s at gives given (Ok x) e = tt
+ended_refused schema text params bound read seen s at gives given (Err why) (inl u) = (read, given, inr (inl u))
+ended_refused schema text params bound read seen s at gives given (Err why) (inr u) = (read, given, inr (inr (subst (λ (i : ℕ). IsUnfinished schema text params seen i why) at u)))
