@@ -1,6 +1,6 @@
 -- Why a session's query is refused, by what the machine answers.
 use Rattle.std.proofs.Common.{◌≡◌, ◌⊎◌, ℕ, List, [], ◌∷◌, None, Result, Ok, Err, refl, sym, ap, subst, inl, inr}
-use Rattle.std.specs.Prelude.{IfErr}
+use Rattle.std.specs.Prelude.{IfErr, IfOk}
 use Rattle.atomic_table.specs.Seated.{TableId}
 use Rattle.span_value.specs.declared.refusal.Refusal.{Refusal}
 use Rattle.span_value.specs.declared.refusal.Refusal.TheVariants as refusal
@@ -10,6 +10,7 @@ use Rattle.span_query.specs.declared.query.Statement.{Statement}
 use Rattle.span_truetime.specs.declared.bound.Bound.{Bound}
 use Rattle.span_truetime.specs.declared.interval.Interval.{Interval}
 use Rattle.span_binder.specs.Understands.{Understands}
+use Rattle.span_fragment.specs.declared.piece.Piece.{Piece}
 use Rattle.span_gather.specs.Gathered.{gathered}
 use Rattle.span_gather.specs.declared.rows.Rows.{Rows as Found}
 use Rattle.span_truetime.specs.Time.{timestamp_of}
@@ -61,9 +62,11 @@ module _ (schema other : List Table) (table here : TableId) (views : List (List 
   end_refused query (Ok x) e = tt
   end_refused query (Err why) e = (
     query,
-    known_at views,
-    replies schema table here views j keeper (known_at views) refl (λ m. finish schema m query) (reply.Refused why)
-        (subst (λ (s : List Table). reply.Refused why ≡ (finish s (machine_of j) query).0) same (sym (ap (λ (a : Answer). a.0) e))),
+    (
+      known_at views,
+      replies schema table here views j keeper (known_at views) refl (λ m. finish schema m query) (reply.Refused why)
+          (subst (λ (s : List Table). reply.Refused why ≡ (finish s (machine_of j) query).0) same (sym (ap (λ (a : Answer). a.0) e))),
+    ),
   )
 
 -- the text is understood, and the query is not opened, or memory ran out
@@ -118,3 +121,22 @@ pub ended_refused : {A : Type 0} (schema : List Table) (text : List ℕ) (params
 ended_refused schema text params bound read seen s at gives given (Ok x) e = tt
 ended_refused schema text params bound read seen s at gives given (Err why) (inl u) = (read, given, inr (inl u))
 ended_refused schema text params bound read seen s at gives given (Err why) (inr u) = (read, given, inr (inr (subst (λ (i : ℕ). IsUnfinished schema text params seen i why) at u)))
+
+-- what was taken was asked so, and gives a fault, or memory ran out
+pub taken_fault : (taken : Taken) (text : List ℕ) (params : List Parameter) (s : ℕ) (why : Refusal) (pieces : List (List Piece)) → pieces ≡ taken.pieces
+    → (taken.text ≡ text) × (taken.params ≡ params) × (taken.s ≡ s) → ((why ≡ refusal.ArithmeticFault) × (gathered pieces taken.top ≡ None)) ⊎ (why ≡ refusal.OutOfMemory)
+    → ((why ≡ refusal.ArithmeticFault) × IsFaultOf taken text params s) ⊎ IsAmong (refusal.OutOfMemory ∷ refusal.UnknownQuery ∷ []) why
+taken_fault taken text params s why pieces are same (inl e) = inl (
+  e.0,
+  record {
+    text_is = same.0;
+    params_are = same.1;
+    s_is = same.2;
+    gives = subst (λ (ps : List (List Piece)). gathered ps taken.top ≡ None) are e.1;
+  },
+)
+taken_fault taken text params s why pieces are same (inr e) = inr (inl e)
+
+-- copies that were made are the same
+pub copies_same : (r : Result (List ℕ × List Parameter) Refusal) (text copy : List ℕ) (params copies : List Parameter) → IfOk r (λ x. (x.0 ≡ text) × (x.1 ≡ params)) → r ≡ Ok (copy, copies) → (copy ≡ text) × (copies ≡ params)
+copies_same r text copy params copies made is = subst (λ (q : Result (List ℕ × List Parameter) Refusal). IfOk q (λ x. (x.0 ≡ text) × (x.1 ≡ params))) is made

@@ -1,5 +1,5 @@
 -- Why a session's query is refused.
-use Rattle.std.specs.Prelude.{◌≡◌, ◌⊎◌, ℕ, List, [], ◌∷◌, None, Ok, Err}
+use Rattle.std.specs.Prelude.{◌≡◌, ◌⊎◌, ℕ, List, [], ◌∷◌, Option, None, Ok, Err}
 use Rattle.span_value.specs.declared.refusal.Refusal.{Refusal}
 use Rattle.span_value.specs.declared.refusal.Refusal.TheVariants.{OutOfMemory, ArithmeticFault, NoSlot, UnknownQuery}
 use Rattle.span_schema.specs.declared.table.Table.{Table}
@@ -74,3 +74,14 @@ IsQueryRefusal schema text params bound read seen why =
     IsRefusedAtFirst schema text params bound read why
     ⊎ IsUnscanned schema why
     ⊎ IsUnfinished schema text params seen (timestamp_of bound read) why
+
+-- ---- the queue of a query's scans
+
+-- the next place of a leaf, and how many leaves there are; the next slot, the first one and the end of them; the first refusal
+pub record Scans : Type 0 where
+  pub place : ℕ
+  pub leaves : ℕ
+  pub number : ℕ
+  pub first : ℕ
+  pub end : ℕ
+  pub refused : Option Refusal

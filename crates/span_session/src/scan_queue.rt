@@ -4,7 +4,7 @@ ghost use Rattle.span_session.specs.Refusing.{IsUnscanned};
 
 use crate::board::Naming;
 use span_value::refusal::Refusal;
-use std::marker::PhantomData;
+use std::marker::{Model, PhantomData};
 use std::sync::{Mutex, Wait};
 
 /// What no worker has taken yet: each leaf of a plan in each of some slots, leaf by leaf, so that workers beside each other mostly have
@@ -21,14 +21,24 @@ pub(crate) struct ScanQueue<J: Naming> {
     // The first refusal of a scan.
     refused: Option<Refusal>,
     of: PhantomData<J>,
-    pub ghost unscanned: { IfSome refused (IsUnscanned J.schema) },
+}
+
+impl<J: Naming> Model for ScanQueue<J> {
+    ghost use Rattle.std.specs.Prelude.{IfSome};
+    ghost use Rattle.span_session.specs.Refusing.{IsUnscanned, Scans};
+
+    ghost Value = { Scans };
+
+    ghost view = { λ q. record { place = q.place; leaves = q.leaves; number = q.number; first = q.from; end = q.to; refused = q.refused } };
+
+    ghost invariant = { λ q. IfSome q.refused (IsUnscanned J.schema) };
 }
 
 impl<J: Naming> ScanQueue<J> {
     /// This many leaves, in the slots from one number on to another.
     pub(crate) fn new(leaves: usize, from: usize, to: usize) -> ScanQueue<J>
         ensures leaves { (result.place ≡ 0) × (result.leaves ≡ leaves) }
-        ensures slots { (result.number ≡ from) × (result.from ≡ from) × (result.to ≡ to) }
+        ensures slots { (result.number ≡ from) × (result.first ≡ from) × (result.end ≡ to) }
         ensures refused { result.refused ≡ None }
     {
         ScanQueue {
@@ -44,17 +54,17 @@ impl<J: Naming> ScanQueue<J> {
 
     /// The place of the next leaf and the number of the slot where it is to be scanned. None where nothing is left, or a scan was refused.
     fn take(&mut self) -> Option<(usize, usize)>
-        ensures here { self.old.number < self.old.to → IfSome result (λ t. t ≡ (self.old.place, self.old.number)) }
-        ensures next { self.old.to ≤ self.old.number → IfSome result (λ t. t ≡ (self.old.place + 1, self.old.from)) }
+        ensures here { self.old.number < self.old.end → IfSome result (λ t. t ≡ (self.old.place, self.old.number)) }
+        ensures next { self.old.end ≤ self.old.number → IfSome result (λ t. t ≡ (self.old.place + 1, self.old.first)) }
         ensures within { IfSome result
-            (λ t. (t.0 < self.old.leaves) × (t.1 < self.old.to) × (self.old.refused ≡ None)) }
+            (λ t. (t.0 < self.old.leaves) × (t.1 < self.old.end) × (self.old.refused ≡ None)) }
         ensures taken { IfSome result (λ t. (self.new.place ≡ t.0) × (self.new.number ≡ t.1 + 1)) }
         ensures none { result ≡ None
             → (self.old.refused ≢ None)
             ⊎ (self.old.leaves ≤ self.old.place)
-            ⊎ ((self.old.to ≤ self.old.number) × (self.old.leaves ≤ self.old.place + 1))
-            ⊎ (self.old.to ≤ self.old.from) }
-        ensures kept { (self.new.leaves ≡ self.old.leaves) × (self.new.from ≡ self.old.from) × (self.new.to ≡ self.old.to) }
+            ⊎ ((self.old.end ≤ self.old.number) × (self.old.leaves ≤ self.old.place + 1))
+            ⊎ (self.old.end ≤ self.old.first) }
+        ensures kept { (self.new.leaves ≡ self.old.leaves) × (self.new.first ≡ self.old.first) × (self.new.end ≡ self.old.end) }
         ensures refused { self.new.refused ≡ self.old.refused }
     {
         if self.is_refused() {
@@ -87,7 +97,7 @@ impl<J: Naming> ScanQueue<J> {
         requires { IsUnscanned J.schema why }
         ensures refused { MatchOption self.old.refused (self.new.refused ≡ Some why) (λ first. self.new.refused ≡ Some first) }
         ensures next { (self.new.place ≡ self.old.place) × (self.new.number ≡ self.old.number) }
-        ensures kept { (self.new.leaves ≡ self.old.leaves) × (self.new.from ≡ self.old.from) × (self.new.to ≡ self.old.to) }
+        ensures kept { (self.new.leaves ≡ self.old.leaves) × (self.new.first ≡ self.old.first) × (self.new.end ≡ self.old.end) }
     {
         if self.refused.is_none() {
             self.refused = Some(why);
