@@ -12,14 +12,17 @@ use span_keycode::key::MOST_BYTES;
 
 const LANES: usize = 16;
 
-/// How many of the tree's lowest levels no lane begins in: lanes begin about 64 keys from each other.
-const LOW_LEVELS: usize = 6;
+/// About how many keys lie from the begin of a lane to that of the next.
+const LANE_KEYS: usize = 32;
 
 /// How many keys a lane looks at.
-const MOST_STEPS: usize = 96;
+const MOST_STEPS: usize = 64;
 
-/// How many keys a walk hands out before it first looks ahead.
+/// How many keys a walk hands out before it first looks ahead, and before it tries again.
 const FIRST_KEYS: usize = 64;
+
+/// The next key's number differs by no more where keys were put in order: memory is waited for at few of them.
+const NEAR: u32 = 8;
 
 /// More levels than a tree of 2^32 keys has above the lowest.
 const MOST_TURNS: usize = 64;
@@ -27,7 +30,8 @@ const MOST_TURNS: usize = 64;
 /// How a walk looks ahead.
 #[derive(Clone, Copy, Debug)]
 pub(crate) struct Ahead {
-    tree: TreeRoot,
+    /// The number of the tree's root.
+    root: u32,
     /// Keys with more bytes are not looked at.
     pub most: usize,
     /// How many keys are looked at already.
@@ -37,7 +41,7 @@ pub(crate) struct Ahead {
 impl Ahead {
     pub(crate) fn new(tree: &TreeRoot) -> Ahead {
         Ahead {
-            tree: *tree,
+            root: number_of(tree.root),
             most: usize::MAX,
             seen: FIRST_KEYS,
         }
@@ -55,7 +59,24 @@ impl Ahead {
             self.seen -= 1;
             return;
         }
-        self.seen = look(arena, nexts, self, number, number_of(stop));
+        self.seen = if is_near(nexts, number) {
+            FIRST_KEYS
+        } else {
+            look(arena, nexts, self, number, number_of(stop))
+        };
+    }
+}
+
+// Whether the next key was put soon before or after this one.
+fn is_near(nexts: &NextLinks, number: u32) -> bool {
+    number_of(nexts.get(number)).abs_diff(number) <= NEAR
+}
+
+// How many levels of a tree with this many keys have lanes that begin there.
+fn upper_levels(keys: usize) -> usize {
+    match (keys / LANE_KEYS).checked_ilog2() {
+        None => 0,
+        Some(level) => level as usize + 1,
     }
 }
 
@@ -155,7 +176,7 @@ struct Lane {
     end: u32,
 }
 
-fn lanes_from(arena: &Arena, tree: &TreeRoot, number: u32, key: &[u8], stop: u32) -> [Lane; LANES] {
+fn lanes_from(arena: &Arena, root: u32, number: u32, key: &[u8], stop: u32) -> [Lane; LANES] {
     let mut path = Path {
         turns: [Turn {
             number: NO_CHAIN,
@@ -163,8 +184,8 @@ fn lanes_from(arena: &Arena, tree: &TreeRoot, number: u32, key: &[u8], stop: u32
         }; MOST_TURNS],
         len: 0,
     };
-    let levels = tree.levels.saturating_sub(LOW_LEVELS);
-    path.go_to(arena, number_of(tree.root), levels, key);
+    let levels = upper_levels(arena.numbers());
+    path.go_to(arena, root, levels, key);
     let mut lanes = [Lane {
         at: stop,
         end: stop,
@@ -183,7 +204,8 @@ fn step(arena: &Arena, nexts: &NextLinks, lane: Lane, most: usize) -> u32 {
     if lane.at == lane.end || lane.at as usize >= arena.numbers() {
         return lane.at;
     }
-    if arena.has_short_key(lane.at, most) && arena.key(lane.at).len() > MOST_BYTES {
+    let is_looked_at = most == usize::MAX || arena.has_short_key(lane.at, most);
+    if is_looked_at && arena.key(lane.at).len() > MOST_BYTES {
         return lane.at;
     }
     number_of(nexts.get(lane.at))
@@ -207,7 +229,7 @@ fn look(arena: &Arena, nexts: &NextLinks, ahead: &Ahead, number: u32, stop: u32)
     if number as usize >= arena.numbers() {
         return FIRST_KEYS;
     }
-    let mut lanes = lanes_from(arena, &ahead.tree, number, arena.key(number), stop);
+    let mut lanes = lanes_from(arena, ahead.root, number, arena.key(number), stop);
     let mut seen: usize = 0;
     for _ in 0..MOST_STEPS {
         let moved = step_all(arena, nexts, &mut lanes, ahead.most);
