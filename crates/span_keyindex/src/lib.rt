@@ -4,6 +4,7 @@
 //! (`slot_for`), a read goes over the keys of a range (`walk`), and after a trim the keys with nothing left go (`remove_empty`).
 #![tactic(auto)]
 
+mod ahead;
 mod build;
 pub mod chains;
 mod find;

@@ -24,7 +24,8 @@ struct Lane {
     before: u32,
 }
 
-fn number_of(link: Option<u32>) -> u32 {
+/// The number of a link; `NO_CHAIN` where there is none.
+pub(crate) fn number_of(link: Option<u32>) -> u32 {
     match link {
         None => NO_CHAIN,
         Some(number) => number,

@@ -52,6 +52,14 @@ impl NextLinks {
         self.next[cell as usize]
     }
 
+    /// As `after`, and None where there is no chain of this number.
+    pub(crate) fn get(&self, cell: u32) -> Option<u32> {
+        match self.next.get(cell as usize) {
+            None => None,
+            Some(next) => *next,
+        }
+    }
+
     /// A place for one chain more, to which no link leads. `Refusal::OutOfMemory` leaves all as it was.
     pub(crate) fn add_room(&mut self) -> Result<(), Refusal>
         ensures ok { OnOk result (self.new ≡ with_room self.old) }

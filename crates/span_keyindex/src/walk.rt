@@ -6,6 +6,7 @@ ghost use Rattle.span_keyindex.specs.Items.{entries_between};
 ghost use Rattle.span_keyindex.specs.Indexes.{entries_at, IsIndex, IsSearchCost};
 ghost use Rattle.span_keyindex.specs.Walks.{begins_long, is_stop, without_long, without_long_first};
 
+use crate::ahead::Ahead;
 use crate::find::{first_from, first_past};
 use crate::next::NextLinks;
 use crate::tree::TreeRoot;
@@ -23,6 +24,7 @@ pub struct Walk<'a> {
     at: Option<u32>,
     stop: Option<u32>,
     left: usize,
+    ahead: Ahead,
 }
 
 impl<'a> Model for Walk<'a> {
@@ -56,6 +58,7 @@ impl<'a> Iterator for Walk<'a> {
         if is_stop(at, self.stop) {
             return None;
         }
+        self.ahead.pass(self.arena, self.nexts, at, self.stop);
         self.left -= 1;
         self.at = self.nexts.after(at);
         Some((self.arena.key(at), Chain { number: at }))
@@ -67,6 +70,7 @@ impl<'a> Walk<'a> {
     pub fn skip_long(&mut self, most: usize)
         ensures { self.new ≡ without_long most self.old }
     {
+        self.ahead.most = most;
         while self.skip_first_long(most) {}
     }
 
@@ -84,6 +88,7 @@ impl<'a> Walk<'a> {
         if is_stop(at, self.stop) || self.arena.has_short_key(at, most) {
             return false;
         }
+        self.ahead.pass(self.arena, self.nexts, at, self.stop);
         self.left -= 1;
         self.at = self.nexts.after(at);
         true
@@ -110,6 +115,7 @@ pub(crate) fn all<'a>(arena: &'a Arena, nexts: &'a NextLinks, index: &TreeRoot) 
         at: nexts.first(),
         stop: None,
         left: arena.numbers(),
+        ahead: Ahead::new(index),
     }
 }
 
@@ -129,7 +135,7 @@ pub(crate) fn walk_range<'a, C: Ledger, W: Ledger>(
         → IsSearchCost (2 * d) steps.old steps.new }
 {
     if low.cmp(&high).is_ge() {
-        return none(arena, nexts);
+        return none(arena, nexts, index);
     }
     let at = first_from(arena, index, low, steps);
     let stop = first_from(arena, index, high, steps);
@@ -139,6 +145,7 @@ pub(crate) fn walk_range<'a, C: Ledger, W: Ledger>(
         at,
         stop,
         left: arena.numbers(),
+        ahead: Ahead::new(index),
     }
 }
 
@@ -164,6 +171,7 @@ pub(crate) fn walk_under<'a, C: Ledger, W: Ledger>(
         at,
         stop,
         left: arena.numbers(),
+        ahead: Ahead::new(index),
     }
 }
 
@@ -187,10 +195,11 @@ pub(crate) fn walk_from<'a, C: Ledger, W: Ledger>(
         at,
         stop: None,
         left: arena.numbers(),
+        ahead: Ahead::new(index),
     }
 }
 
-fn none<'a>(arena: &'a Arena, nexts: &'a NextLinks) -> Walk<'a>
+fn none<'a>(arena: &'a Arena, nexts: &'a NextLinks, index: &TreeRoot) -> Walk<'a>
     requires { length nexts.now.next ≡ length arena.now.cells }
     ensures { result ≡ [] }
 {
@@ -200,5 +209,6 @@ fn none<'a>(arena: &'a Arena, nexts: &'a NextLinks) -> Walk<'a>
         at: None,
         stop: None,
         left: 0,
+        ahead: Ahead::new(index),
     }
 }

@@ -1,0 +1,242 @@
+//! Keys that a walk comes to, looked at before.
+//!
+//! Where keys were put in no order a walk waits for memory at each: it learns the next key's number only when the last link has come.
+//! So it looks ahead, in several lanes at once: from keys of the tree's upper levels, which lie about evenly among all, the links are
+//! followed together, and each key is looked at. Nothing that a walk hands out rests on it.
+
+use crate::near::{NO_CHAIN, number_of};
+use crate::next::NextLinks;
+use crate::tree::TreeRoot;
+use span_arena::arena::Arena;
+use span_keycode::key::MOST_BYTES;
+
+const LANES: usize = 16;
+
+/// About how many keys lie from the begin of a lane to that of the next.
+const LANE_KEYS: usize = 32;
+
+/// How many keys a lane looks at.
+const MOST_STEPS: usize = 64;
+
+/// How many keys a walk hands out before it first looks ahead, and before it tries again.
+const FIRST_KEYS: usize = 64;
+
+/// The next key's number differs by no more where keys were put in order: memory is waited for at few of them.
+const NEAR: u32 = 8;
+
+/// More levels than a tree of 2^32 keys has above the lowest.
+const MOST_TURNS: usize = 64;
+
+/// How a walk looks ahead.
+#[derive(Clone, Copy, Debug)]
+pub(crate) struct Ahead {
+    /// The number of the tree's root.
+    root: u32,
+    /// Keys with more bytes are not looked at.
+    pub most: usize,
+    /// How many keys are looked at already.
+    seen: usize,
+}
+
+impl Ahead {
+    pub(crate) fn new(tree: &TreeRoot) -> Ahead {
+        Ahead {
+            root: number_of(tree.root),
+            most: usize::MAX,
+            seen: FIRST_KEYS,
+        }
+    }
+
+    /// The walk is at a chain; it looks ahead where it has come to the end of what was looked at.
+    pub(crate) fn pass(
+        &mut self,
+        arena: &Arena,
+        nexts: &NextLinks,
+        number: u32,
+        stop: Option<u32>,
+    ) {
+        if self.seen > 0 {
+            self.seen -= 1;
+            return;
+        }
+        self.seen = if is_near(nexts, number) {
+            FIRST_KEYS
+        } else {
+            look(arena, nexts, self, number, number_of(stop))
+        };
+    }
+}
+
+// Whether the next key was put soon before or after this one.
+fn is_near(nexts: &NextLinks, number: u32) -> bool {
+    number_of(nexts.get(number)).abs_diff(number) <= NEAR
+}
+
+// How many levels of a tree with this many keys have lanes that begin there.
+fn upper_levels(keys: usize) -> usize {
+    match (keys / LANE_KEYS).checked_ilog2() {
+        None => 0,
+        Some(level) => level as usize + 1,
+    }
+}
+
+/// A cell on the way down whose key is yet to come, and how many levels there are from it on.
+#[derive(Clone, Copy, Debug)]
+struct Turn {
+    number: u32,
+    levels: usize,
+}
+
+/// A way down the upper levels of the tree, to the right of which are the keys that come next.
+#[derive(Clone, Copy, Debug)]
+struct Path {
+    turns: [Turn; MOST_TURNS],
+    len: usize,
+}
+
+impl Path {
+    fn push(&mut self, turn: Turn) {
+        if self.len < MOST_TURNS {
+            self.turns[self.len] = turn;
+            self.len += 1;
+        }
+    }
+
+    fn pop(&mut self) -> Option<Turn> {
+        if self.len == 0 {
+            return None;
+        }
+        self.len -= 1;
+        self.turns.get(self.len).copied()
+    }
+
+    // From a cell down to the left.
+    fn go_left(&mut self, arena: &Arena, number: u32, levels: usize) {
+        let mut at = number;
+        for done in 0..levels {
+            if at as usize >= arena.numbers() {
+                return;
+            }
+            self.push(Turn {
+                number: at,
+                levels: levels - done,
+            });
+            at = number_of(arena.links(at).left);
+        }
+    }
+
+    // From a cell down towards a key.
+    fn go_to(&mut self, arena: &Arena, number: u32, levels: usize, key: &[u8]) {
+        let mut at = number;
+        for done in 0..levels {
+            if at as usize >= arena.numbers() {
+                return;
+            }
+            let links = arena.links(at);
+            if arena.order(at, key).is_lt() {
+                self.push(Turn {
+                    number: at,
+                    levels: levels - done,
+                });
+                at = number_of(links.left);
+            } else {
+                at = number_of(links.right);
+            }
+        }
+    }
+
+    // The next key of the upper levels.
+    fn next(&mut self, arena: &Arena) -> u32 {
+        let Some(turn) = self.pop() else {
+            return NO_CHAIN;
+        };
+        if (turn.number as usize) < arena.numbers() {
+            let right = number_of(arena.links(turn.number).right);
+            self.go_left(arena, right, turn.levels.saturating_sub(1));
+        }
+        turn.number
+    }
+}
+
+// A chain, or the walk's end where that is not after it.
+fn until_stop(arena: &Arena, number: u32, stop: u32) -> u32 {
+    if number as usize >= arena.numbers() {
+        return stop;
+    }
+    if (stop as usize) < arena.numbers() && !arena.order(stop, arena.key(number)).is_lt() {
+        return stop;
+    }
+    number
+}
+
+/// A part of the walk: where it is, and where the next one begins.
+#[derive(Clone, Copy, Debug)]
+struct Lane {
+    at: u32,
+    end: u32,
+}
+
+fn lanes_from(arena: &Arena, root: u32, number: u32, key: &[u8], stop: u32) -> [Lane; LANES] {
+    let mut path = Path {
+        turns: [Turn {
+            number: NO_CHAIN,
+            levels: 0,
+        }; MOST_TURNS],
+        len: 0,
+    };
+    let levels = upper_levels(arena.numbers());
+    path.go_to(arena, root, levels, key);
+    let mut lanes = [Lane {
+        at: stop,
+        end: stop,
+    }; LANES];
+    let mut from = number;
+    for i in 0..LANES {
+        let end = until_stop(arena, path.next(arena), stop);
+        lanes[i] = Lane { at: from, end };
+        from = end;
+    }
+    lanes
+}
+
+// A key on. A lane stays at its end, and at a key that is too long to be one.
+fn step(arena: &Arena, nexts: &NextLinks, lane: Lane, most: usize) -> u32 {
+    if lane.at == lane.end || lane.at as usize >= arena.numbers() {
+        return lane.at;
+    }
+    let is_looked_at = most == usize::MAX || arena.has_short_key(lane.at, most);
+    if is_looked_at && arena.key(lane.at).len() > MOST_BYTES {
+        return lane.at;
+    }
+    number_of(nexts.get(lane.at))
+}
+
+// How many lanes have gone on.
+fn step_all(arena: &Arena, nexts: &NextLinks, lanes: &mut [Lane; LANES], most: usize) -> usize {
+    let mut moved: usize = 0;
+    for i in 0..LANES {
+        let at = step(arena, nexts, lanes[i], most);
+        if at != lanes[i].at {
+            lanes[i].at = at;
+            moved = moved.wrapping_add(1);
+        }
+    }
+    moved
+}
+
+// Looks at the keys from a chain on; how many.
+fn look(arena: &Arena, nexts: &NextLinks, ahead: &Ahead, number: u32, stop: u32) -> usize {
+    if number as usize >= arena.numbers() {
+        return FIRST_KEYS;
+    }
+    let mut lanes = lanes_from(arena, ahead.root, number, arena.key(number), stop);
+    let mut seen: usize = 0;
+    for _ in 0..MOST_STEPS {
+        let moved = step_all(arena, nexts, &mut lanes, ahead.most);
+        if moved == 0 {
+            return seen;
+        }
+        seen = seen.saturating_add(moved);
+    }
+    seen
+}
