@@ -1,6 +1,5 @@
 -- Values put at their places among the columns that a mask has are those of the whole row, picked.
-use Rattle.std.proofs.Common.{◌≡◌, ℕ, zero, suc, ◌+◌, ◌<◌, ◌≤◌, List, [], ◌∷◌, Bool, true, false, refl, sym, ◌∙◌, ap, subst, arith, length, set, replicate, map, if◌then◌else◌, inl, inr}
-use Rattle.std.specs.Prelude.{slice_index_or}
+use Rattle.std.proofs.Common.{◌≡◌, ℕ, zero, suc, ◌<◌, ◌≤◌, List, [], ◌∷◌, Bool, true, false, refl, sym, ◌∙◌, ap, arith, length, set, replicate, map, if◌then◌else◌}
 use Rattle.std.proofs.lemmas.List.{length-replicate}
 use Rattle.span_value.specs.declared.value.Value.{Value}
 use Rattle.span_value.specs.declared.value.Value.TheVariants.{Null}
@@ -11,7 +10,6 @@ use Rattle.span_mutate.specs.declared.row.TableRow.{TableRow}
 use Rattle.span_mutate.specs.Typed.{IsTyped}
 use Rattle.span_expr.specs.Places.{rank}
 use Rattle.span_planner.specs.Leaves.{width_of}
-use Rattle.span_planner.specs.Masks.{masked}
 use Rattle.span_planner.specs.Picks.{picked, picked_width}
 use Rattle.span_planner.proofs.Picked.{picked-masked}
 use Rattle.span_fragment.specs.Meaning.{declared_row}

@@ -1,6 +1,5 @@
 -- The rows of a leaf of one table, entry by entry.
 use Rattle.std.specs.Prelude.{◌≡◌, ℕ, ◌==◌, ◌++◌, [], ◌∷◌, Bool, true, false, List, Option, Some, None, Result, length, if◌then◌else◌}
-use Rattle.span_value.specs.declared.value.Value.{Value}
 use Rattle.span_schema.specs.declared.table.Table.{Table}
 use Rattle.span_rowcode.specs.Rows.{row_code}
 use Rattle.span_mutate.specs.declared.row.TableRow.{TableRow}
@@ -14,7 +13,6 @@ use Rattle.span_algebra.specs.Answers.{Adds}
 use Rattle.span_planner.specs.Leaves.{width_of}
 use Rattle.span_planner.specs.Picks.{picked}
 use Rattle.span_planner.specs.Reads.{reads_within}
-use Rattle.span_fragment.specs.declared.reader.TableReader.{TableReader}
 use Rattle.span_fragment.specs.declared.scan.Test.{Test}
 use Rattle.span_fragment.specs.declared.scan.Test.TheVariants.{Always, OnRow, OnColumns}
 use Rattle.span_fragment.specs.declared.scan.TableScan.{TableScan}

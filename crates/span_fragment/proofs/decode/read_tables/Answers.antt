@@ -1,4 +1,4 @@
-use Rattle.std.proofs.Common.{◌+◌, [], List, drop, map, sym, subst, arith}
+use Rattle.std.proofs.Common.{◌+◌, List, drop, map, sym, subst, arith}
 use Rattle.span_shard.specs.Shard.{KeyRow}
 use Rattle.span_shard.specs.Reading.{entry_row}
 use Rattle.span_fragment.specs.declared.reader.TableReader.{TableReader}

@@ -1,5 +1,4 @@
-use Rattle.std.proofs.Common.{◌≡◌, ◌∙◌, ◌∷◌, ◌++◌, [], ℕ, Bool, true, false, List, Option, Result, Ok, Err, ap, subst}
-use Rattle.span_mutate.specs.declared.row.TableRow.{TableRow}
+use Rattle.std.proofs.Common.{◌∙◌, ◌∷◌, ◌++◌, [], Bool, true, false, Result, Ok, Err, ap, subst}
 use Rattle.span_expr.specs.declared.cell.Failure.{Failure}
 use Rattle.span_query.specs.Rows.{Row, holds}
 use Rattle.span_algebra.specs.Answers.{Gives}

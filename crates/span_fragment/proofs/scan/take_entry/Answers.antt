@@ -1,12 +1,9 @@
-use Rattle.std.proofs.Common.{◌≡◌, ◌∙◌, ℕ, Bool, false, true, List, Option, Result, Ok, Err, sym, subst}
+use Rattle.std.proofs.Common.{ℕ, Bool, true, List, Option, Result, Ok, Err, subst}
 use Rattle.std.specs.Prelude.{IfOk}
-use Rattle.span_value.specs.declared.refusal.Refusal.{Refusal}
-use Rattle.span_expr.specs.declared.cell.Failure.{Failure}
 use Rattle.span_expr.specs.declared.expr.Expr.{Expr}
 use Rattle.span_query.specs.Rows.{Row}
-use Rattle.span_fragment.specs.declared.scan.Test.{Test}
 use Rattle.span_fragment.specs.Entries.{IsWhetherOf}
-use Rattle.span_fragment.specs.Scans.{IsConditionAt, IsTestOf, IsAddedWhere, IsTaken}
+use Rattle.span_fragment.specs.Scans.{IsTestOf, IsAddedWhere}
 use Rattle.span_fragment.proofs.ScannedRows.{own_taken}
 use Rattle.span_fragment.proofs.scan.take_entry.Goals as goal
 
