@@ -21,3 +21,4 @@ pub mod Skipping
 pub mod Indexing
 pub mod Cutting
 pub mod LentRows
+mod Compared

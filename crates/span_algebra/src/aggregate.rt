@@ -1,5 +1,5 @@
 //! Aggregates as states that take one row after another.
-ghost use Rattle.std.specs.Prelude.{◌≡◌, ◌+◌, ◌^◌, ◌<◌, ℕ, pos, [], ◌∷◌, ◌++◌, List, Err, None, IfOk, OnOk};
+ghost use Rattle.std.specs.Prelude.{◌≡◌, ◌+◌, ◌^◌, ◌<◌, ℕ, pos, [], ◌∷◌, ◌++◌, List, Err, None, Some, IfOk, IsTrue, OnOk};
 ghost use Rattle.span_value.specs.declared.value.Value.{Value};
 ghost use Rattle.span_value.specs.declared.value.Value.TheVariants as value;
 ghost use Rattle.span_expr.specs.declared.cell.Failure.TheVariants.{Fault};
@@ -12,10 +12,9 @@ ghost use Rattle.span_query.specs.Groups as spec;
 ghost use Rattle.span_algebra.specs.Answers.{Gives};
 ghost use Rattle.span_algebra.specs.States.{counted, HasCounted, HasTaken, IsStateOf, operand_at, or_better, or_null};
 
-use super::row::copy_of;
+use super::row::{copy_of, operand_value};
 use super::sum::{Sum, number};
 use span_expr::cell::{Failure, LentValue};
-use span_expr::eval::evaluate;
 use span_query::query::{Aggregate, Function};
 use span_value::order::compare;
 use span_value::value::Value;
@@ -28,6 +27,26 @@ fn int_of(value: &LentValue<'_>) -> i64
     match value {
         LentValue::Int(n) => *n,
         _ => 0,
+    }
+}
+
+/// Whether a number is not less than the best so far.
+fn is_no_less(value: &LentValue<'_>, best: &Option<Value>) -> bool
+    ensures { IsTrue result → best.now ≡ Some (or_better spec.lesser best.now (owned_value value.now)) }
+{
+    match (value, best) {
+        (LentValue::Int(n), Some(Value::Int(so_far))) => n >= so_far,
+        _ => false,
+    }
+}
+
+/// Whether a number is not greater than the best so far.
+fn is_no_greater(value: &LentValue<'_>, best: &Option<Value>) -> bool
+    ensures { IsTrue result → best.now ≡ Some (or_better spec.greater best.now (owned_value value.now)) }
+{
+    match (value, best) {
+        (LentValue::Int(n), Some(Value::Int(so_far))) => n <= so_far,
+        _ => false,
     }
 }
 
@@ -108,12 +127,16 @@ impl State {
             State::Count(count) => *count += 1,
             State::Sum(sum) => sum.add(int_of(&value)),
             State::Least(best) => {
-                let value = value.into_value(alloc)?;
-                *best = Some(lesser(best.take(), value));
+                if !is_no_less(&value, best) {
+                    let value = value.into_value(alloc)?;
+                    *best = Some(lesser(best.take(), value));
+                }
             }
             State::Greatest(best) => {
-                let value = value.into_value(alloc)?;
-                *best = Some(greater(best.take(), value));
+                if !is_no_greater(&value, best) {
+                    let value = value.into_value(alloc)?;
+                    *best = Some(greater(best.take(), value));
+                }
             }
         }
         Ok(())
@@ -136,7 +159,7 @@ impl State {
         match aggregate {
             Aggregate::CountRows => self.count_row(),
             Aggregate::Of(_, operand) => {
-                let value = evaluate(alloc, operand, row)?;
+                let value = operand_value(alloc, operand, row)?;
                 if !value.is_null() {
                     self.take_value(alloc, value)?;
                 }

@@ -1,23 +1,97 @@
 //! Rows: conditions at them, and rows made of others.
-ghost use Rattle.std.specs.Prelude.{◌≡◌, ◌++◌, ◌∷◌, [], IfOk, OnOk, length, replicate, take};
+ghost use Rattle.std.specs.Prelude.{◌≡◌, ◌++◌, ◌∷◌, [], false, Some, IfOk, IfSome, OnOk, length, replicate, take};
 ghost use Rattle.span_query.specs.Rows.{holds, value_of};
+ghost use Rattle.span_expr.specs.declared.expr.Expr.TheVariants.{Literal};
+ghost use Rattle.span_expr.specs.Cells as cells;
 ghost use Rattle.span_expr.specs.Meaning.{val};
 ghost use Rattle.span_expr.specs.Memory.{has_concatenation, RunsOutOnlyIf};
+ghost use Rattle.span_expr.specs.Operators as operators;
+ghost use Rattle.span_expr.specs.Outcomes.{is_null};
 ghost use Rattle.span_algebra.specs.Answers.{Gives};
 
-use span_expr::cell::Failure;
+use span_expr::cell::{Failure, LentValue, column_of};
 use span_expr::eval::evaluate;
-use span_expr::expr::Expr;
+use span_expr::expr::{Comparison, Expr};
+use span_value::order::compare;
 use span_value::seq::Seq;
 use span_value::truth::Truth;
 use span_value::value::{Row, Value};
 use std::alloc::{AllocError, Global};
+use std::cmp::Ordering;
 
-/// Whether the condition is TRUE at the row.
+/// What an expression comes to at a row. A column is read with no walk over an expression's tree.
+pub(crate) fn operand_value<'a>(
+    alloc: Global,
+    expr: &'a Expr,
+    row: &'a [Value],
+) -> Result<LentValue<'a>, Failure>
+    ensures value { cells.Gives result (val row.now expr.now) }
+    ensures memory { RunsOutOnlyIf result (has_concatenation expr.now) }
+{
+    match expr {
+        Expr::Column(place) => Ok(column_of(row, *place)),
+        _ => evaluate(alloc, expr, row),
+    }
+}
+
+fn is_order_met(comparison: Comparison, order: Ordering) -> bool
+    ensures { result ≡ operators.holds comparison order }
+{
+    match comparison {
+        Comparison::Equal => order.is_eq(),
+        Comparison::NotEqual => !order.is_eq(),
+        Comparison::Less => order.is_lt(),
+        Comparison::AtMost => !order.is_gt(),
+        Comparison::Greater => order.is_gt(),
+        Comparison::AtLeast => !order.is_lt(),
+    }
+}
+
+/// The value of a column of a row, where it is not NULL.
+fn known_at(row: &[Value], place: usize) -> Option<&Value>
+    ensures { IfSome result (λ known. (operators.column_of row.now place ≡ known.now) × (is_null known.now ≡ false)) }
+{
+    match row.get(place) {
+        None | Some(Value::Null) => None,
+        Some(value) => Some(value),
+    }
+}
+
+/// The value that an expression is, where it is not NULL.
+fn known_literal(expr: &Expr) -> Option<&Value>
+    ensures { IfSome result (λ known. (expr.now ≡ Literal known.now) × (is_null known.now ≡ false)) }
+{
+    match expr {
+        Expr::Literal(Value::Null) => None,
+        Expr::Literal(value) => Some(value),
+        _ => None,
+    }
+}
+
+/// Whether a comparison of a column with a literal is TRUE at the row. None where the condition has another form, or either is
+/// NULL.
+fn is_comparison_met(condition: &Expr, row: &[Value]) -> Option<bool>
+    ensures { IfSome result (λ met. holds condition.now row.now ≡ Some met) }
+{
+    let Expr::Compare(left, comparison, right) = condition else {
+        return None;
+    };
+    let Expr::Column(place) = left.get() else {
+        return None;
+    };
+    let value = known_at(row, *place)?;
+    let literal = known_literal(right.get())?;
+    Some(is_order_met(*comparison, compare(value, literal)))
+}
+
+/// Whether the condition is TRUE at the row. A comparison of a column with a literal takes no walk over the tree.
 pub fn is_met(alloc: Global, condition: &Expr, row: &[Value]) -> Result<bool, Failure>
     ensures holds { Gives result (holds condition.now row.now) }
     ensures memory { RunsOutOnlyIf result (has_concatenation condition.now) }
 {
+    if let Some(met) = is_comparison_met(condition, row) {
+        return Ok(met);
+    }
     Ok(evaluate(alloc, condition, row)?.truth() == Truth::True)
 }
 

@@ -12,14 +12,11 @@ use Rattle.span_mutate.specs.Typed.{IsTyped, AreTyped}
 use Rattle.span_shard.specs.Shard.{KeyRow}
 use Rattle.span_shard.specs.declared.shard.Entry.{Entry}
 use Rattle.span_shard.specs.Reading.{entry_row, IsNoTableRow}
-use Rattle.span_query.specs.Rows.{Row}
-use Rattle.span_planner.specs.Leaves.{width_of}
-use Rattle.span_planner.specs.Masks.{masked}
 use Rattle.span_planner.specs.Picks.{picked}
-use Rattle.span_planner.proofs.Picked.{picked-masked}
 use Rattle.span_fragment.specs.Meaning.{declared_row, whole_table}
-use Rattle.span_fragment.specs.Placed.{AreValuesOf, IsNoRowOf}
-use Rattle.span_fragment.specs.Entries.{key_row, AreReadOf, AreNoRows, IsWhetherOf, OfRows, picked_tables}
+use Rattle.span_fragment.specs.Placed.{IsNoRowOf}
+use Rattle.span_fragment.specs.Readers.{ArePickedOf}
+use Rattle.span_fragment.specs.Entries.{key_row, AreReadOf, AreNoRows, IsWhetherOf}
 
 -- an entry that is no row
 pub not_rows : (schema : List Table) (entries : List Entry) (i : ℕ) (d : Entry) → i < length entries → IsNoTableRow schema (get_or entries i d).key.now (get_or entries i d).row.now → AreNoRows schema (map entry_row entries)
@@ -71,14 +68,13 @@ ReadSoFar schema n ms entries i values = (rows : List TableRow) → AreTyped sch
     → values ++ map (picked ms) (whole_table schema (drop i rows) n) ≡ map (picked ms) (whole_table schema rows n)
 
 -- one row more of the table
-pub read_more : (schema : List Table) (n : ℕ) (ms : List Bool) (entries : List Entry) (i : ℕ) (d : Entry) (values after : List (List Value)) (v p : List Value) → i < length entries
-    → IsWhetherOf schema n (get_or entries i d).key.now true → AreValuesOf schema n ms (get_or entries i d).key.now (get_or entries i d).row.now v → p ≡ picked ms v → after ≡ values ++ p ∷ [] → ReadSoFar schema n ms entries i values → ReadSoFar schema n ms entries (i + 1) after
-read_more schema n ms entries i d values after v p less whether read picks pushed so rows typed is =
+pub read_more : (schema : List Table) (n : ℕ) (ms : List Bool) (entries : List Entry) (i : ℕ) (d : Entry) (values after : List (List Value)) (p : List Value) → i < length entries
+    → IsWhetherOf schema n (get_or entries i d).key.now true → ArePickedOf schema n ms (get_or entries i d).key.now (get_or entries i d).row.now p → after ≡ values ++ p ∷ [] → ReadSoFar schema n ms entries i values → ReadSoFar schema n ms entries (i + 1) after
+read_more schema n ms entries i d values after p less whether read pushed so rows typed is =
     let at = row_at schema entries rows i d less typed is in
     let rest = values_in schema n ms (drop (i + 1) rows) in
     let test : (at.is.table == n) ≡ true = sym (whether.of at.is at.typed (ap (λ (y : KeyRow). y.key) at.entry)) in
-    let read_so : v ≡ masked ms (declared_row schema at.is) = read.are at.is at.typed (eqb-true at.is.table n test) (ap (λ (y : KeyRow). y.key) at.entry) (ap (λ (y : KeyRow). y.row) at.entry) in
-    let here : p ≡ picked ms (declared_row schema at.is) = picks ∙ ap (picked ms) read_so ∙ picked-masked ms (declared_row schema at.is) in
+    let here : p ≡ picked ms (declared_row schema at.is) = read.are at.is at.typed (eqb-true at.is.table n test) (ap (λ (y : KeyRow). y.key) at.entry) (ap (λ (y : KeyRow). y.row) at.entry) in
     let first : values_in schema n ms (drop i rows) ≡ p ∷ rest =
     ap (values_in schema n ms) at.rest
     ∙ ap (λ (b : Bool). map (picked ms) (map (declared_row schema) (cond b (at.is ∷ rows_of n (drop (i + 1) rows)) (rows_of n (drop (i + 1) rows))))) test
@@ -108,36 +104,6 @@ pub not_of_table : (schema : List Table) (n : ℕ) (entries : List Entry) (i : �
 not_of_table schema n entries i d less whether none =
     not_rows schema entries i d less (record { none = λ r typed key row. none.none r typed (eqb-true r.table n (sym (whether.of r typed key))) key row })
 
--- ---- the rows of several tables
-
 -- the tables that are left after one
 pub all_next : (schema : List Table) (ts : List ℕ) (i : ℕ) → i < length ts → AllByRecursion (IsTable schema) (drop i ts) → AllByRecursion (IsTable schema) (drop (i + 1) ts)
 all_next schema ts i less all = (subst (AllByRecursion (IsTable schema)) (drop_more ts i 0 less) all).1
-
-abbrev pub TablesLeft : List Table → List KeyRow → List Bool → List ℕ → List Bool → List ℕ → List (List Row) → Type 0
-TablesLeft schema entries ms ts rest left found = OfRows schema entries (λ rows. found ++ picked_tables schema rows rest left ≡ picked_tables schema rows ms ts)
-
-pub all_tables_left : (schema : List Table) (entries : List KeyRow) (ms : List Bool) (ts : List ℕ) → TablesLeft schema entries ms ts ms ts []
-all_tables_left schema entries ms ts = record { of = λ rows typed is. refl }
-
-pub table_read : (schema : List Table) (entries : List KeyRow) (ms : List Bool) (ts : List ℕ) (rest after : List Bool) (i : ℕ) (found more : List (List Row)) (values : List Row) → i < length ts
-    → AreReadOf schema (get_or ts i 0) rest entries values → more ≡ found ++ values ∷ [] → after ≡ drop (width_of schema (get_or ts i 0)) rest → TablesLeft schema entries ms ts rest (drop i ts) found
-    → TablesLeft schema entries ms ts after (drop (i + 1) ts) more
-table_read schema entries ms ts rest after i found more values less read pushed after_is left = record {
-  of = λ rows typed is.
-      let t = get_or ts i 0 in
-      let later = picked_tables schema rows (drop (width_of schema t) rest) (drop (i + 1) ts) in
-      let here : picked_tables schema rows rest (drop i ts) ≡ values ∷ later =
-      ap (picked_tables schema rows rest) (drop_more ts i 0 less) ∙ ap (λ (l : List Row). l ∷ later) (sym (read.are rows typed is)) in
-      ap (λ (l : List (List Row)). l ++ picked_tables schema rows after (drop (i + 1) ts)) pushed
-      ∙ ap (λ (m : List Bool). (found ++ values ∷ []) ++ picked_tables schema rows m (drop (i + 1) ts)) after_is
-      ∙ append_assoc found (values ∷ []) later
-      ∙ ap (λ (l : List (List Row)). found ++ l) (sym here)
-      ∙ left.of rows typed is;
-}
-
-pub tables_read : (schema : List Table) (entries : List KeyRow) (ms : List Bool) (ts : List ℕ) (rest : List Bool) (i : ℕ) (found : List (List Row)) → length ts ≤ i → TablesLeft schema entries ms ts rest (drop i ts) found
-    → OfRows schema entries (λ rows. found ≡ picked_tables schema rows ms ts)
-tables_read schema entries ms ts rest i found over left = record {
-  of = λ rows typed is. sym (append-nil found) ∙ ap (λ (l : List ℕ). found ++ picked_tables schema rows rest l) (sym (drop_all i ts over)) ∙ left.of rows typed is;
-}

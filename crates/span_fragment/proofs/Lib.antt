@@ -4,10 +4,11 @@ mod Ending
 mod Entries
 pub mod KeyPlaces
 mod Running
+mod ReadTables
 mod Fronts
-mod KeptRows
+mod ScannedRows
 mod KeyLengths
 mod PlacedRows
 mod Placing
 mod ShortKeys
-mod Picking
+mod TargetRows

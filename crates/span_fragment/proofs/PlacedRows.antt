@@ -68,7 +68,7 @@ put_length ms p v row = by_test (is_wanted ms p)
     by_test true = length-set row p v
     by_test false = refl
 
-placed_length : (ms : List Bool) (ps : List ℕ) (vs row : List Value) → length (placed ms ps vs row) ≡ length row
+pub placed_length : (ms : List Bool) (ps : List ℕ) (vs row : List Value) → length (placed ms ps vs row) ≡ length row
 placed_length ms [] vs row = refl
 placed_length ms (p ∷ ps) [] row = refl
 placed_length ms (p ∷ ps) (v ∷ vs) row = placed_length ms ps vs (put ms p v row) ∙ put_length ms p v row

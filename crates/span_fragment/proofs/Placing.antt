@@ -214,12 +214,13 @@ levels_done schema ms ps rest row all left = by_levels left.levels left.path lef
     by_levels (l ∷ ls) p so = absurd (let g : l.table ∷ tables_of ls ≡ [] = p in cc)
 
 -- of whatever key of table n the bytes code, what is left at a level
-abbrev pub LevelsLeftAt : List Table → ℕ → List Bool → List ℕ → List Value → ℕ → List ℕ → ℕ → List Value → Type 0
-LevelsLeftAt schema n ms bs old i ps at row = (vs : List Value) → IsKey schema n vs → bs ≡ key_code schema n vs
-    → LevelsLeft schema ms (drop i (path_of schema n)) ps (drop at bs) row (placed ms (key_places schema n) vs old)
+abbrev pub LevelsLeftAt : List Table → ℕ → List ℕ → List Bool → List ℕ → List Value → ℕ → List ℕ → ℕ → List Value → Type 0
+LevelsLeftAt schema n qs ms bs old i ps at row = (vs : List Value) → IsKey schema n vs → bs ≡ key_code schema n vs
+    → LevelsLeft schema ms (drop i (path_of schema n)) ps (drop at bs) row (placed ms qs vs old)
 
-pub all_levels_left : (schema : List Table) → MeetsRules schema → (n : ℕ) (ms : List Bool) (bs : List ℕ) (old : List Value) → LevelsLeftAt schema n ms bs old 0 (key_places schema n) 0 old
-all_levels_left schema rules n ms bs old vs k e =
+pub all_levels_left : (schema : List Table) → MeetsRules schema → (n : ℕ) (qs : List ℕ) (ms : List Bool) (bs : List ℕ) (old : List Value) → length qs ≡ length (key_places schema n)
+    → LevelsLeftAt schema n qs ms bs old 0 qs 0 old
+all_levels_left schema rules n qs ms bs old many vs k e =
     let within = place_within schema n k.0 in
     let back = values_back schema rules (n - 1) within vs k.1 in
     let known = levels_on schema rules n vs k (path_at schema (n - 1)) refl in
@@ -230,33 +231,33 @@ all_levels_left schema rules n ms bs old vs k e =
       fit = known.0;
       path = tables_back schema vs (path_at schema (n - 1));
       code = e;
-      long = ap (λ (us : List Value). length us) back ∙ sym len ∙ sym has.placed;
-      put = ap (λ (us : List Value). placed ms (key_places schema n) us old) (sym back);
+      long = ap (λ (us : List Value). length us) back ∙ sym len ∙ sym has.placed ∙ sym many;
+      put = ap (λ (us : List Value). placed ms qs us old) (sym back);
     }
 
-pub level_at : (schema : List Table) (n : ℕ) (ms : List Bool) (bs : List ℕ) (old row new : List Value) (i : ℕ) (ps : List ℕ) (at w : ℕ) → i < length (path_of schema n)
-    → IsLevelPut ms (own_key_columns schema (get_or (path_of schema n) i 0)) ps (drop at bs) row new w → LevelsLeftAt schema n ms bs old i ps at row
-    → LevelsLeftAt schema n ms bs old (i + 1) (drop (length (own_key_columns schema (get_or (path_of schema n) i 0))) ps) (at + w) new
-level_at schema n ms bs old row new i ps at w h one left vs k e =
+pub level_at : (schema : List Table) (n : ℕ) (qs : List ℕ) (ms : List Bool) (bs : List ℕ) (old row new : List Value) (i : ℕ) (ps : List ℕ) (at w : ℕ) → i < length (path_of schema n)
+    → IsLevelPut ms (own_key_columns schema (get_or (path_of schema n) i 0)) ps (drop at bs) row new w → LevelsLeftAt schema n qs ms bs old i ps at row
+    → LevelsLeftAt schema n qs ms bs old (i + 1) (drop (length (own_key_columns schema (get_or (path_of schema n) i 0))) ps) (at + w) new
+level_at schema n qs ms bs old row new i ps at w h one left vs k e =
     let m = get_or (path_of schema n) i 0 in
-    let all = placed ms (key_places schema n) vs old in
+    let all = placed ms qs vs old in
     let P : List ℕ → Type 0 = λ ns. LevelsLeft schema ms ns ps (drop at bs) row all in
     let R : List ℕ → Type 0 = λ xs. LevelsLeft schema ms (drop (i + 1) (path_of schema n)) (drop (length (own_key_columns schema m)) ps) xs new all in
     subst R (drop-drop w at bs) (level_done schema ms m (drop (i + 1) (path_of schema n)) ps (drop at bs) row new all w one (subst P (drop_more (path_of schema n) i 0 h) (left vs k e)))
 
-pub no_level_at : (schema : List Table) (n : ℕ) (ms : List Bool) (bs : List ℕ) (old row new : List Value) (i : ℕ) (ps : List ℕ) (at : ℕ) → i < length (path_of schema n)
-    → IsNoLevel (own_key_columns schema (get_or (path_of schema n) i 0)) ps (drop at bs) → LevelsLeftAt schema n ms bs old i ps at row → IsKeyPut schema n ms bs old new false
-no_level_at schema n ms bs old row new i ps at h none left = record {
+pub no_level_at : (schema : List Table) (n : ℕ) (qs : List ℕ) (ms : List Bool) (bs : List ℕ) (old row new : List Value) (i : ℕ) (ps : List ℕ) (at : ℕ) → i < length (path_of schema n)
+    → IsNoLevel (own_key_columns schema (get_or (path_of schema n) i 0)) ps (drop at bs) → LevelsLeftAt schema n qs ms bs old i ps at row → IsKeyPut schema n qs ms bs old new false
+no_level_at schema n qs ms bs old row new i ps at h none left = record {
   put = λ vs k e.
-      let all = placed ms (key_places schema n) vs old in
+      let all = placed ms qs vs old in
       let P : List ℕ → Type 0 = λ ns. LevelsLeft schema ms ns ps (drop at bs) row all in
       absurd (no_level schema ms (get_or (path_of schema n) i 0) (drop (i + 1) (path_of schema n)) ps (drop at bs) row all none (subst P (drop_more (path_of schema n) i 0 h) (left vs k e)));
 }
 
-pub levels_end : (schema : List Table) (n : ℕ) (ms : List Bool) (bs : List ℕ) (old row : List Value) (i : ℕ) (ps : List ℕ) (at : ℕ) → length (path_of schema n) ≤ i → LevelsLeftAt schema n ms bs old i ps at row → IsKeyPut schema n ms bs old row true
-levels_end schema n ms bs old row i ps at h left = record {
+pub levels_end : (schema : List Table) (n : ℕ) (qs : List ℕ) (ms : List Bool) (bs : List ℕ) (old row : List Value) (i : ℕ) (ps : List ℕ) (at : ℕ) → length (path_of schema n) ≤ i → LevelsLeftAt schema n qs ms bs old i ps at row → IsKeyPut schema n qs ms bs old row true
+levels_end schema n qs ms bs old row i ps at h left = record {
   put = λ vs k e.
-      let all = placed ms (key_places schema n) vs old in
+      let all = placed ms qs vs old in
       let P : List ℕ → Type 0 = λ ns. LevelsLeft schema ms ns ps (drop at bs) row all in
       (refl, levels_done schema ms ps (drop at bs) row all (subst P (drop_all i (path_of schema n) h) (left vs k e)));
 }

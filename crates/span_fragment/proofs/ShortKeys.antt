@@ -1,8 +1,10 @@
 -- Entries without those whose keys are longer than any of a leaf's tables: the leaf gives the same on them.
-use Rattle.std.proofs.Common.{◌≡◌, ◌⊎◌, inl, inr, ◌∙◌, ◌==◌, ℕ, ◌+◌, ◌<◌, ◌≤◌, Bool, true, false, cond, List, [], ◌∷◌, ◌++◌, length, take, get_or, map, Result, refl, ap, sym, subst, arith, add-one}
-use Rattle.std.specs.Prelude.{filter, nat_le}
+use Rattle.std.proofs.Common.{◌≡◌, ◌⊎◌, inl, inr, ◌∙◌, ◌==◌, ℕ, ◌+◌, ◌<◌, ◌≤◌, Bool, true, false, cond, List, [], ◌∷◌, ◌++◌, length, take, get_or, map, Result, Ok, Err, refl, ap, sym, subst, arith, add-one}
+use Rattle.std.specs.Prelude.{filter, nat_le, IfOk, IfErr}
 use Rattle.std.proofs.lemmas.Bool.{eqb-true}
 use Rattle.std.proofs.Math.Seq.{take-suc}
+use Rattle.span_value.specs.declared.refusal.Refusal.{Refusal}
+use Rattle.span_value.specs.declared.refusal.Refusal.TheVariants.{OutOfMemory}
 use Rattle.span_schema.specs.declared.table.Table.{Table}
 use Rattle.span_mutate.specs.declared.row.TableRow.{TableRow}
 use Rattle.span_mutate.specs.Database.{rows_of}
@@ -84,6 +86,17 @@ no_rows_of_all schema ts entries short have none rows typed is =
 pub refused_of_all : {A : Type 0} (schema : List Table) (ts : List ℕ) (entries short : List KeyRow) → HaveShortKeys schema ts entries short → A ⊎ AreNoRows schema short → A ⊎ AreNoRows schema entries
 refused_of_all schema ts entries short have (inl why) = inl why
 refused_of_all schema ts entries short have (inr none) = inr (no_rows_of_all schema ts entries short have none)
+
+-- the same of what was found, whatever it is
+pub found_on_all : (schema : List Table) (leaf : Leaf) (entries short : List KeyRow) (r : Result (Result (List Row) Failure) Refusal) → HaveShortKeys schema leaf.tables entries short
+    → IfOk r (λ found. IsGivenOn schema leaf short found) → IfOk r (λ found. IsGivenOn schema leaf entries found)
+found_on_all schema leaf entries short (Ok found) have given = given_on_all schema leaf entries short found have given
+found_on_all schema leaf entries short (Err why) have given = tt {0}
+
+pub refused_on_all : (schema : List Table) (ts : List ℕ) (entries short : List KeyRow) (r : Result (Result (List Row) Failure) Refusal) → HaveShortKeys schema ts entries short
+    → IfErr r (λ why. (why ≡ OutOfMemory) ⊎ AreNoRows schema short) → IfErr r (λ why. (why ≡ OutOfMemory) ⊎ AreNoRows schema entries)
+refused_on_all schema ts entries short (Ok found) have refused = tt {0}
+refused_on_all schema ts entries short (Err why) have refused = refused_of_all schema ts entries short have refused
 
 -- ---- the longest key of tables, one after another
 

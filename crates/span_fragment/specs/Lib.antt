@@ -5,5 +5,7 @@ pub mod Given
 pub mod Pieces
 pub mod Directories
 pub mod Longest
-pub mod Kept
 pub mod Narrowed
+pub mod Readers
+pub mod LeafReaders
+pub mod Scans

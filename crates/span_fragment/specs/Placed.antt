@@ -5,7 +5,6 @@ use Rattle.span_value.specs.declared.value.Value.{Value}
 use Rattle.span_value.specs.declared.value.Kind.{Kind}
 use Rattle.span_schema.specs.declared.table.Table.{Table}
 use Rattle.span_schema.specs.declared.layout.KeyPart.{KeyPart}
-use Rattle.span_schema.specs.Numbers.{key_places}
 use Rattle.span_keycode.specs.Coding.{Fits, AreFit, column_code, tuple_code}
 use Rattle.span_keycode.specs.Keys.{IsKey, key_code}
 use Rattle.span_rowcode.specs.Rows.{IsRow, cell_code, row_code}
@@ -55,9 +54,9 @@ pub record IsLevelPut (ms : List Bool) (cs : List KeyPart) (places : List ℕ) (
 pub record IsNoLevel (cs : List KeyPart) (places : List ℕ) (bytes : List ℕ) : Type 0 where
   pub none : (table : ℕ) (vs : List Value) (more : List ℕ) → AreFit cs vs → bytes ≡ table ∷ (tuple_code cs vs ++ more) → length cs ≤ length places → ⊥
 
--- whatever key of table n the bytes code, its values were put at their places; found is not true where they code none
-pub record IsKeyPut (schema : List Table) (n : ℕ) (ms : List Bool) (bytes : List ℕ) (old new : List Value) (found : Bool) : Type 0 where
-  pub put : (vs : List Value) → IsKey schema n vs → bytes ≡ key_code schema n vs → (found ≡ true) × (new ≡ placed ms (key_places schema n) vs old)
+-- whatever key of table n the bytes code, its values were put at these places; found is not true where they code none
+pub record IsKeyPut (schema : List Table) (n : ℕ) (places : List ℕ) (ms : List Bool) (bytes : List ℕ) (old new : List Value) (found : Bool) : Type 0 where
+  pub put : (vs : List Value) → IsKey schema n vs → bytes ≡ key_code schema n vs → (found ≡ true) × (new ≡ placed ms places vs old)
 
 -- whatever cell of the kind is coded at the front, in n bytes, it was put at its place
 pub record IsCellPut (ms : List Bool) (k : Kind) (place : ℕ) (bytes : List ℕ) (old new : List Value) (n : ℕ) : Type 0 where

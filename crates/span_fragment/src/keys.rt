@@ -1,6 +1,6 @@
 //! The values of a coded key, read straight into their places in a row.
 ghost use Rattle.std.specs.Prelude.{◌≡◌, ◌≤◌, IfOk, MatchOption, drop, length};
-ghost use Rattle.span_schema.specs.Numbers.{IsTable};
+ghost use Rattle.span_schema.specs.Numbers.{IsTable, key_places};
 ghost use Rattle.span_keycode.specs.Reads.{IsNoColumn, IsNoTuple};
 ghost use Rattle.span_fragment.specs.Placed.{IsColumnPut, AreColumnsPut, IsLevelPut, IsNoLevel, IsKeyPut};
 
@@ -97,22 +97,25 @@ fn places_from(places: &[usize], first: usize) -> &[usize]
     &places[first..]
 }
 
-/// Puts the wanted values of a coded key of a table at their places. False if the bytes code no key of the table; where
+/// Puts the wanted values of a coded key of a table at these places, one for each. False if the bytes code no key of the table; where
 /// it is true they may code none either.
 pub(crate) fn put_key(
     alloc: Global,
     schema: &Schema,
     table: usize,
+    places: &[usize],
     wanted: &[bool],
     key: &[u8],
     row: &mut Vec<Value>,
 ) -> Result<bool, AllocError>
-    requires { IsTable schema.now table }
-    ensures { IfOk result (λ found. IsKeyPut schema.now table wanted.now key.now row.old.items row.new.items found) }
+    requires table { IsTable schema.now table }
+    requires places { length places.now ≡ length (key_places schema.now table) }
+    ensures { IfOk result
+        (λ found. IsKeyPut schema.now table places.now wanted.now key.now row.old.items row.new.items found) }
 {
     schema.meets_rules();
     let path = schema.path_of(table);
-    let mut places = schema.key_places(table);
+    let mut places = places;
     if wants_none(wanted, places) {
         return Ok(true);
     }

@@ -2,7 +2,7 @@
 ghost use Rattle.std.specs.Prelude.{◌≡◌, IfOk, MatchOption, map};
 ghost use Rattle.std.specs.List.{range_with_len};
 ghost use Rattle.span_expr.specs.Places as places;
-ghost use Rattle.span_fragment.specs.Kept.{IsMaskOf};
+ghost use Rattle.span_fragment.specs.Scans.{IsMaskOf};
 
 use super::place::is_wanted;
 use span_expr::expr::Expr;

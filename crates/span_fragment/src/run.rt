@@ -1,15 +1,17 @@
 //! A leaf run on the rows of a part of its range.
-ghost use Rattle.std.specs.Prelude.{◌≡◌, ◌⊎◌, MatchResult};
+ghost use Rattle.std.specs.Prelude.{◌≡◌, ◌⊎◌, ◌∷◌, [], IfOk, IfErr, MatchOption, MatchResult};
 ghost use Rattle.std.specs.List.{AllByRecursion};
 ghost use Rattle.span_schema.specs.Numbers.{IsTable};
 ghost use Rattle.span_query.specs.Rows.{Rows};
 ghost use Rattle.span_algebra.specs.Answers.{Gives};
 ghost use Rattle.span_planner.specs.Maskable.{IsMaskable};
 ghost use Rattle.span_fragment.specs.Entries.{AreNoRows};
+ghost use Rattle.span_fragment.specs.Given.{IsGivenOn};
 ghost use Rattle.span_fragment.specs.Pieces.{IsPieceOf};
 
 use super::directory::rows_of_leaf;
 use super::piece::Piece;
+use super::scan::rows_of_table;
 use super::short::leaf_entries;
 use span_algebra::row_list::RowList;
 use span_expr::cell::Failure;
@@ -30,6 +32,36 @@ fn piece_of(found: Result<RowList, Failure>) -> Result<Piece, Refusal>
     }
 }
 
+/// The number of a leaf's table, where it is of one table.
+fn only_table(leaf: &Leaf) -> Option<usize>
+    ensures { MatchOption result (Unit {0}) (λ table. (leaf.now.tables ≡ table ∷ []) × (leaf.now.joins ≡ [])) }
+{
+    match leaf.tables.as_slice() {
+        [table] if leaf.joins.as_slice().is_empty() => Some(*table),
+        _ => None,
+    }
+}
+
+/// The rows of a leaf on the rows that a snapshot lends, of the columns alone that its mask has, or the fault. `OutOfMemory`, where
+/// these are rows of the schema's tables.
+fn rows_given(
+    alloc: Global,
+    schema: &Schema,
+    leaf: &Leaf,
+    snapshot: Snapshot<'_>,
+) -> Result<Result<RowList, Failure>, Refusal>
+    requires tables { AllByRecursion (IsTable schema.now) leaf.now.tables }
+    requires maskable { IsMaskable schema.now leaf.now }
+    ensures ok { IfOk result (λ found. IsGivenOn schema.now leaf.now snapshot.entry found) }
+    ensures refused { IfErr result (λ why. (why ≡ Refusal.OutOfMemory) ⊎ AreNoRows schema.now snapshot.entry) }
+{
+    if let Some(table) = only_table(leaf) {
+        return rows_of_table(alloc, schema, leaf, table, snapshot);
+    }
+    let entries = leaf_entries(alloc, schema, leaf.tables.as_slice(), snapshot)?;
+    rows_of_leaf(alloc, schema, leaf, entries.as_slice())
+}
+
 /// What a leaf gives on the rows of a part of its range, which a snapshot lends. An arithmetic error is a piece without
 /// rows, and no refusal. `OutOfMemory`, where these are rows of the schema's tables.
 pub fn run_leaf(
@@ -44,7 +76,5 @@ pub fn run_leaf(
         (IsPieceOf schema.now leaf.now snapshot.entry)
         (λ why. (why ≡ Refusal.OutOfMemory) ⊎ AreNoRows schema.now snapshot.entry) }
 {
-    let entries = leaf_entries(alloc, schema, leaf.tables.as_slice(), snapshot)?;
-    let found = rows_of_leaf(alloc, schema, leaf, entries.as_slice())?;
-    Ok(piece_of(found)?)
+    Ok(piece_of(rows_given(alloc, schema, leaf, snapshot)?)?)
 }

@@ -1,22 +1,19 @@
-use Rattle.std.proofs.Common.{◌≡◌, ◌<◌, ◌≤◌, ◌+◌, ℕ, List, arith, true, refl, sym, ap, ◌∙◌, subst, length, length-drop, drop, get_or}
+use Rattle.std.proofs.Common.{◌≡◌, ◌<◌, ◌≤◌, ◌+◌, ℕ, List, arith, refl, sym, ap, ◌∙◌, subst, length, length-drop, drop, get_or}
 use Rattle.std.proofs.lemmas.Option.{MatchOption-at_some, MatchOption-at_none}
 use Rattle.span_schema.specs.declared.layout.KeyPart.{KeyPart}
-use Rattle.span_schema.specs.Numbers.{path_of, own_key_columns, key_places}
-use Rattle.span_fragment.specs.Placed.{wants_none, IsLevelPut, IsNoLevel}
+use Rattle.span_schema.specs.Numbers.{path_of, own_key_columns}
+use Rattle.span_fragment.specs.Placed.{IsLevelPut, IsNoLevel}
 use Rattle.span_fragment.proofs.Placing.{none_put, LevelsLeftAt, all_levels_left, level_at, no_level_at, levels_end}
 use Rattle.span_fragment.proofs.keys.put_key.Goals as goal
 
 pub returns-then-wants_none : goal.returns-then-wants_none
 returns-then-wants_none c =
-    let P : List ℕ → Type 0 = λ ps. wants_none c.args.wanted.now ps ≡ true in
-    let none : wants_none c.args.wanted.now (key_places c.args.schema.now c.args.table) ≡ true = subst P c.key_places-places.ensures (sym c.wants_none.ensures ∙ c.if-wants_none.true) in
-    record { put = λ vs is code. (refl, none_put c.args.wanted.now (key_places c.args.schema.now c.args.table) vs c.args.row.now.items none) }
+    record { put = λ vs is code. (refl, none_put c.args.wanted.now c.args.places.now vs c.args.row.now.items (sym c.wants_none.ensures ∙ c.if-wants_none.true)) }
 
 pub loop-i-init : goal.loop-i-init
 loop-i-init c =
     let schema = c.args.schema.now in
-    let P : List ℕ → Type 0 = λ ps. LevelsLeftAt schema c.args.table c.args.wanted.now c.args.key.now c.args.row.now.items 0 ps 0 c.args.row.now.items in
-    record { within = omega arith; left = subst P (sym c.key_places-places.ensures) (all_levels_left schema c.meets_rules.ensures c.args.table c.args.wanted.now c.args.key.now c.args.row.now.items) }
+    record { within = omega arith; left = all_levels_left schema c.meets_rules.ensures c.args.table c.args.places.now c.args.wanted.now c.args.key.now c.args.row.now.items c.requires.places }
 
 pub returns-in-None : goal.returns-in-None
 returns-in-None c =
@@ -31,7 +28,7 @@ returns-in-None c =
     c.own_key_columns-columns.ensures ∙ ap (λ (ns : List ℕ). own_key_columns schema (get_or ns i 0)) c.path_of-path.ensures.path in
     let P : List ℕ → Type 0 = IsNoLevel (own_key_columns schema (get_or path i 0)) ps in
     let Q : List KeyPart → Type 0 = λ cs. IsNoLevel cs ps c.after.result.now in
-    no_level_at schema n c.args.wanted.now bs c.args.row.now.items c.loop-i.row.items c.put_level.new.row.items i ps c.loop-i.at less (subst P c.after.ensures (subst Q columns (MatchOption-at_none _ _ c.in-None.is c.in_ok-put_level.ensures))) c.loop-i.invariant.left
+    no_level_at schema n c.args.places.now c.args.wanted.now bs c.args.row.now.items c.loop-i.row.items c.put_level.new.row.items i ps c.loop-i.at less (subst P c.after.ensures (subst Q columns (MatchOption-at_none _ _ c.in-None.is c.in_ok-put_level.ensures))) c.loop-i.invariant.left
 
 pub places_from-places-requires : goal.places_from-places-requires
 places_from-places-requires c = (MatchOption-at_some _ _ _ c.in-Some.is c.in_ok-put_level.ensures).long
@@ -56,9 +53,9 @@ loop-i-preserved c =
     let P : List ℕ → Type 0 = λ xs. IsLevelPut ms (own_key_columns schema (get_or path i 0)) ps xs row new w in
     let Q : List KeyPart → Type 0 = λ cs. IsLevelPut ms cs ps c.after.result.now row new w in
     let one = subst P c.after.ensures (subst Q columns (MatchOption-at_some _ _ _ c.in-Some.is c.in_ok-put_level.ensures)) in
-    let left = level_at schema n ms bs old row new i ps at w less one c.loop-i.invariant.left in
+    let left = level_at schema n c.args.places.now ms bs old row new i ps at w less one c.loop-i.invariant.left in
     let places : c.places_from-places.result.now ≡ drop (length (own_key_columns schema (get_or path i 0))) ps = c.places_from-places.ensures ∙ ap (λ (cs : List KeyPart). drop (length cs) ps) columns in
-    let R : List ℕ → Type 0 = λ qs. LevelsLeftAt schema n ms bs old (i + 1) qs (at + w) new in
+    let R : List ℕ → Type 0 = λ qs. LevelsLeftAt schema n c.args.places.now ms bs old (i + 1) qs (at + w) new in
     record { within = omega (arith, one.within, c.loop-i.invariant.within, length-drop at bs); left = subst R (sym places) left }
 
 pub returns : goal.returns
@@ -66,4 +63,4 @@ returns c =
     let schema = c.args.schema.now in
     let stop = c.loop-i-test.false in
     let over : length (path_of schema c.args.table) ≤ c.loop-i.i = omega (arith, ap (length {A = ℕ}) c.path_of-path.ensures.path) in
-    levels_end schema c.args.table c.args.wanted.now c.args.key.now c.args.row.now.items c.loop-i.row.items c.loop-i.i c.loop-i.places.now c.loop-i.at over c.loop-i.invariant.left
+    levels_end schema c.args.table c.args.places.now c.args.wanted.now c.args.key.now c.args.row.now.items c.loop-i.row.items c.loop-i.i c.loop-i.places.now c.loop-i.at over c.loop-i.invariant.left

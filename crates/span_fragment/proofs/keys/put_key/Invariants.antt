@@ -6,5 +6,5 @@ use Rattle.span_fragment.proofs.keys.put_key.Given as goal
 abbrev pub invariant-loop-i : goal.invariant-loop-i
 invariant-loop-i l = record {
   within : l.at ≤ length l.key;
-  left : LevelsLeftAt l.schema l.table l.wanted l.key l.fn.row.items l.i l.places l.at l.row.items;
+  left : LevelsLeftAt l.schema l.table l.fn.places l.wanted l.key l.fn.row.items l.i l.places l.at l.row.items;
 }

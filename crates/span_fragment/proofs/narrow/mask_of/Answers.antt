@@ -1,5 +1,5 @@
 use Rattle.std.proofs.Common.{◌∙◌, sym}
-use Rattle.span_fragment.proofs.KeptRows.{mask_between}
+use Rattle.span_fragment.proofs.ScannedRows.{mask_between}
 use Rattle.span_fragment.proofs.narrow.mask_of.Goals as goal
 
 pub returns : goal.returns

@@ -1,0 +1,157 @@
+//! Reading of a table's rows, of the columns alone that a mask has: a value is put at its place among these, and no other is made.
+ghost use Rattle.std.specs.Prelude.{◌≡◌, ◌⊎◌, IfOk, OnOk, MatchResult, map, replicate, take, true};
+ghost use Rattle.span_value.specs.declared.value.Value.TheVariants.{Null};
+ghost use Rattle.span_schema.specs.Numbers.{IsTable};
+ghost use Rattle.span_planner.specs.Leaves.{width_of};
+ghost use Rattle.span_planner.specs.Picks.{picked_width};
+ghost use Rattle.span_fragment.specs.Placed.{IsNoRowOf};
+ghost use Rattle.span_fragment.specs.Readers as spec;
+ghost use Rattle.span_fragment.specs.Readers.{IsReader, ArePickedOf};
+
+use super::cells::put_cells;
+use super::keys::put_key;
+use super::longest::longest_key;
+use super::place::is_wanted;
+use span_expr::rank::rank;
+use span_planner::narrow::picked_width;
+use span_planner::table::width_of;
+use span_schema::schema::Schema;
+use span_value::refusal::Refusal;
+use span_value::seq::Seq;
+use span_value::value::Value;
+use std::alloc::{AllocError, Global};
+
+/// How the rows of a table are read.
+#[derive(Debug, Drop)]
+pub(crate) struct TableReader {
+    pub table: usize,
+    /// A number of bytes that no coded key of the table exceeds.
+    pub most: usize,
+    /// The columns that are read.
+    pub mask: Seq<bool>,
+    /// TRUE for each of these.
+    all: Seq<bool>,
+    /// The place of each column of the key among those that are read, or a place after all of them.
+    key: Seq<usize>,
+    /// The same of the other columns.
+    others: Seq<usize>,
+}
+
+fn target(mask: &[bool], place: usize) -> usize
+    ensures { result ≡ spec.target mask.now place }
+{
+    if is_wanted(mask, place) {
+        rank(mask, place)
+    } else {
+        mask.len()
+    }
+}
+
+fn targets(alloc: Global, mask: &[bool], places: &[usize]) -> Result<Seq<usize>, AllocError>
+    ensures { IfOk result (λ found. found ≡ map (spec.target mask.now) places.now) }
+{
+    let mut found = Vec::with_capacity(alloc, places.len())?;
+    for place in places {
+        found.push(target(mask, *place))?;
+    }
+    Ok(Seq::from_vec(found))
+}
+
+/// TRUE for each place that a mask has.
+fn all_of(alloc: Global, mask: &[bool]) -> Result<Seq<bool>, AllocError>
+    ensures { IfOk result (λ all. all ≡ replicate (picked_width mask.now) true) }
+{
+    Ok(Seq::from_vec(vec![in alloc; true; picked_width(mask)]?))
+}
+
+fn copy_mask(alloc: Global, mask: &[bool]) -> Result<Seq<bool>, AllocError>
+    ensures { IfOk result (λ copy. copy ≡ mask.now) }
+{
+    let mut copy = Vec::with_capacity(alloc, mask.len())?;
+    for has in mask {
+        copy.push(*has)?;
+    }
+    Ok(Seq::from_vec(copy))
+}
+
+/// The first places of a mask, as many as there are of a number.
+fn mask_before(mask: &[bool], width: usize) -> &[bool]
+    ensures { result.now ≡ take width mask.now }
+{
+    &mask[..width.min(mask.len())]
+}
+
+/// What reads the columns of a table that the front of a mask has.
+pub(crate) fn table_reader(
+    alloc: Global,
+    schema: &Schema,
+    table: usize,
+    mask: &[bool],
+) -> Result<TableReader, AllocError>
+    requires { IsTable schema.now table }
+    ensures reader { IfOk result (λ reader. IsReader schema.now reader) }
+    ensures table { IfOk result (λ reader. reader.table ≡ table) }
+    ensures mask { IfOk result (λ reader. reader.mask ≡ take (width_of schema.now table) mask.now) }
+{
+    let front = mask_before(mask, width_of(schema, table));
+    Ok(TableReader {
+        table,
+        most: longest_key(schema, table),
+        mask: copy_mask(alloc, front)?,
+        all: all_of(alloc, front)?,
+        key: targets(alloc, front, schema.key_places(table))?,
+        others: targets(alloc, front, schema.other_places(table))?,
+    })
+}
+
+/// Makes a row one of NULLs.
+fn put_nulls(row: &mut Vec<Value>, len: usize) -> Result<(), AllocError>
+    ensures { OnOk result (row.new.items ≡ replicate len Null) }
+{
+    row.clear();
+    for _ in 0..len {
+        row.push(Value::Null)?;
+    }
+    Ok(())
+}
+
+impl TableReader {
+    /// Makes a row the values of a row of the table in the columns that are read, in the order in which they are declared. What the row
+    /// was is dropped; its memory is used again. Each text and byte string that is long takes an allocation.
+    ///
+    /// `OutOfMemory`, where the bytes are the coded key and the packed cells of a row of the table.
+    pub(crate) fn read(
+        &self,
+        alloc: Global,
+        schema: &Schema,
+        key: &[u8],
+        cells: &[u8],
+        row: &mut Vec<Value>,
+    ) -> Result<(), Refusal>
+        requires table { IsTable schema.now self.now.table }
+        requires reader { IsReader schema.now self.now }
+        ensures { MatchResult result
+            (λ done. ArePickedOf schema.now self.now.table self.now.mask key.now cells.now row.new.items)
+            (λ why. (why ≡ Refusal.OutOfMemory) ⊎ IsNoRowOf schema.now self.now.table key.now cells.now) }
+    {
+        schema.meets_rules();
+        let all = self.all.as_slice();
+        put_nulls(row, all.len())?;
+        let kinds = schema.other_kinds(self.table);
+        if !put_cells(alloc, kinds, self.others.as_slice(), all, cells, row)? {
+            return Err(Refusal::BadRow);
+        }
+        if !put_key(
+            alloc,
+            schema,
+            self.table,
+            self.key.as_slice(),
+            all,
+            key,
+            row,
+        )? {
+            return Err(Refusal::BadKey);
+        }
+        Ok(())
+    }
+}
