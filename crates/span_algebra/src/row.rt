@@ -1,9 +1,10 @@
 //! Rows: conditions at them, and rows made of others.
-ghost use Rattle.std.specs.Prelude.{◌≡◌, ◌++◌, ◌∷◌, [], false, Some, IfOk, IfSome, OnOk, length, replicate, take};
+ghost use Rattle.std.specs.Prelude.{◌≡◌, ◌++◌, ◌∷◌, [], false, Some, IfOk, IfSome, OnOk, length, map, replicate, take};
 ghost use Rattle.span_query.specs.Rows.{holds, value_of};
-ghost use Rattle.span_expr.specs.declared.expr.Expr.TheVariants.{Literal};
+ghost use Rattle.span_value.specs.declared.truth.Outcome.TheVariants.{Val};
+ghost use Rattle.span_value.specs.declared.value.Value.TheVariants as value;
 ghost use Rattle.span_expr.specs.Cells as cells;
-ghost use Rattle.span_expr.specs.Meaning.{val};
+ghost use Rattle.span_expr.specs.Meaning.{all_of, val};
 ghost use Rattle.span_expr.specs.Memory.{has_concatenation, RunsOutOnlyIf};
 ghost use Rattle.span_expr.specs.Operators as operators;
 ghost use Rattle.span_expr.specs.Outcomes.{is_null};
@@ -47,6 +48,16 @@ fn is_order_met(comparison: Comparison, order: Ordering) -> bool
     }
 }
 
+/// A value, where it is not NULL.
+fn known(value: &Value) -> Option<&Value>
+    ensures { IfSome result (λ known. (known.now ≡ value.now) × (is_null known.now ≡ false)) }
+{
+    match value {
+        Value::Null => None,
+        _ => Some(value),
+    }
+}
+
 /// The value of a column of a row, where it is not NULL.
 fn known_at(row: &[Value], place: usize) -> Option<&Value>
     ensures { IfSome result (λ known. (operators.column_of row.now place ≡ known.now) × (is_null known.now ≡ false)) }
@@ -57,39 +68,57 @@ fn known_at(row: &[Value], place: usize) -> Option<&Value>
     }
 }
 
-/// The value that an expression is, where it is not NULL.
-fn known_literal(expr: &Expr) -> Option<&Value>
-    ensures { IfSome result (λ known. (expr.now ≡ Literal known.now) × (is_null known.now ≡ false)) }
+/// The value of a column of a row or of a literal, where it is not NULL. None for another expression.
+fn known_operand<'a>(expr: &'a Expr, row: &'a [Value]) -> Option<&'a Value>
+    ensures { IfSome result (λ known. (val row.now expr.now ≡ Val known.now) × (is_null known.now ≡ false)) }
 {
     match expr {
-        Expr::Literal(Value::Null) => None,
-        Expr::Literal(value) => Some(value),
+        Expr::Column(place) => known_at(row, *place),
+        Expr::Literal(value) => known(value),
         _ => None,
     }
 }
 
-/// Whether a comparison of a column with a literal is TRUE at the row. None where the condition has another form, or either is
-/// NULL.
+/// Whether a comparison of columns and literals is TRUE at the row. None where the condition has another form, or an operand is NULL.
 fn is_comparison_met(condition: &Expr, row: &[Value]) -> Option<bool>
-    ensures { IfSome result (λ met. holds condition.now row.now ≡ Some met) }
+    ensures { IfSome result (λ met. val row.now condition.now ≡ Val (value.Bool met)) }
 {
     let Expr::Compare(left, comparison, right) = condition else {
         return None;
     };
-    let Expr::Column(place) = left.get() else {
-        return None;
-    };
-    let value = known_at(row, *place)?;
-    let literal = known_literal(right.get())?;
-    Some(is_order_met(*comparison, compare(value, literal)))
+    let left = known_operand(left.get(), row)?;
+    let right = known_operand(right.get(), row)?;
+    Some(is_order_met(*comparison, compare(left, right)))
 }
 
-/// Whether the condition is TRUE at the row. A comparison of a column with a literal takes no walk over the tree.
+/// Whether such comparisons are all TRUE at the row.
+fn are_all_met(first: &Expr, more: &[Expr], row: &[Value]) -> Option<bool>
+    ensures { IfSome result (λ met. all_of (val row.now first.now) (map (val row.now) more.now) ≡ Val (value.Bool met)) }
+{
+    let mut all = is_comparison_met(first, row)?;
+    for condition in more {
+        let met = is_comparison_met(condition, row)?;
+        all = all && met;
+    }
+    Some(all)
+}
+
+/// Whether a comparison, or an AND of some, is TRUE at the row.
+fn are_comparisons_met(condition: &Expr, row: &[Value]) -> Option<bool>
+    ensures { IfSome result (λ met. val row.now condition.now ≡ Val (value.Bool met)) }
+{
+    match condition {
+        Expr::And(first, more) => are_all_met(first.get(), more.as_slice(), row),
+        _ => is_comparison_met(condition, row),
+    }
+}
+
+/// Whether the condition is TRUE at the row. Comparisons of columns and literals take no walk over the tree.
 pub fn is_met(alloc: Global, condition: &Expr, row: &[Value]) -> Result<bool, Failure>
     ensures holds { Gives result (holds condition.now row.now) }
     ensures memory { RunsOutOnlyIf result (has_concatenation condition.now) }
 {
-    if let Some(met) = is_comparison_met(condition, row) {
+    if let Some(met) = are_comparisons_met(condition, row) {
         return Ok(met);
     }
     Ok(evaluate(alloc, condition, row)?.truth() == Truth::True)
