@@ -173,6 +173,13 @@ class Function:
         # Others may have given their cycle this function's name.
         self.lends_name = not self.cycle and f"#[cycle({self.short})]" in text
 
+    def path(self, crate, file):
+        """What the prover calls it: a free function by its whole path, since a method may have its name."""
+        if "::" in self.name:
+            return self.name
+        modules = [it for it in module_of(file).split("/") if it]
+        return "::".join([crate.name, *modules, self.name])
+
     def proof(self, proofs):
         """The name of its proof in the folder of its module's proofs: its own, or that of the cycle of calls that it is in."""
         *types, short = self.name.split("::")
@@ -311,7 +318,7 @@ class Batch:
 
     def goals(self, rt, kept):
         """Of each edit the goal that its function has open, where it is refused for one; else None. No list where the check was ended."""
-        flags = [*FLAGS, *(word for _, it in self.changed for word in ("--only", it.name))]
+        flags = [*FLAGS, *(word for path, it in self.changed for word in ("--only", it.path(self.crate, path)))]
         with contextlib.ExitStack() as stack:
             crate = self.crate if kept else stack.enter_context(self.crate_with_holes(rt))
             ran = rt.checked(crate, self.texts, flags if kept else [*flags, "--allow-holes"], kept)
