@@ -340,7 +340,7 @@ class Batch:
 
 
 def batches_of(crate, edits, most):
-    """The edits in batches of at most so many, and those that change anything but a function's body."""
+    """The edits in batches of at most a number of edits, and those that change anything but a function's body."""
     batches, others = [], []
     for edit in edits:
         if any(batch.add(edit) for batch in batches):

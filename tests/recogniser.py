@@ -134,7 +134,7 @@ def leading(ways):
 
 
 def later(depth, row, rest):
-    """The way of a row, with so many openings around it, and then the rest."""
+    """The way of a row, with a number of openings around it, and then the rest."""
     for part in reversed(row):
         rest = (depth, part, rest)
     return rest

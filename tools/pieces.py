@@ -130,7 +130,7 @@ class Writer:
         return operands
 
     def definition(self, piece, part, depth):
-        """A piece that reads a part, with so many openings left."""
+        """A piece that reads a part, with a number of openings left."""
         kind, arguments = piece
         if kind in ("token", "nothing"):
             return f"({kind} {arguments[0]})"
@@ -150,7 +150,7 @@ class Writer:
         return f"({kind} {self.grammar.part_term(operands[0])} {' '.join(texts)})"
 
     def proof(self, piece, part, depth):
-        """That a piece reads a part as the grammar's rule of it, with so many openings left."""
+        """That a piece reads a part as the grammar's rule of it, with a number of openings left."""
         kind, arguments = piece
         if kind == "proved":
             self.require_known(part, arguments[2])

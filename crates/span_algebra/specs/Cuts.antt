@@ -11,7 +11,7 @@ abbrev pub AreEnds : ℕ → List ℕ → ℕ → Type 0
 AreEnds at [] len = at ≡ len
 AreEnds at (e ∷ ends) len = (at ≤ e) × AreEnds e ends len
 
--- the ends behind a number of items more
+-- the ends after a number of items more
 abbrev pub shifted : ℕ → List ℕ → List ℕ
 shifted offset ends = map (λ e. offset + e) ends
 

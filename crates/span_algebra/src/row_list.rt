@@ -199,7 +199,7 @@ fn push_copies(
     Ok(())
 }
 
-/// Adds ends behind a number of values more. An error leaves some of them added.
+/// Adds ends after a number of values more. An error leaves some of them added.
 fn add_ends(ends: &mut Vec<usize>, offset: usize, more: &[usize]) -> Result<(), AllocError>
     ensures ok { OnOk result (ends.new.items ≡ ends.old.items ++ shifted offset more.now) }
     ensures kept { take (length ends.old.items) ends.new.items ≡ ends.old.items }
@@ -210,7 +210,7 @@ fn add_ends(ends: &mut Vec<usize>, offset: usize, more: &[usize]) -> Result<(), 
     Ok(())
 }
 
-/// Adds ends behind a number of values more. An error leaves the ends as they were.
+/// Adds ends after a number of values more. An error leaves the ends as they were.
 fn append_ends(ends: &mut Vec<usize>, offset: usize, more: &[usize]) -> Result<(), AllocError>
     ensures ok { OnOk result (ends.new.items ≡ ends.old.items ++ shifted offset more.now) }
     ensures err { OnErr result (ends.new.items ≡ ends.old.items) }
