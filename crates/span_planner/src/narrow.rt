@@ -9,6 +9,7 @@ ghost use Rattle.span_planner.specs.Reads.{masks_of};
 
 use super::copy::{copy_condition, copy_outputs};
 use super::leaf::{Leaf, LeafJoin};
+use super::step::keep_with;
 use span_expr::copy::copy_among;
 use span_expr::expr::Expr;
 use span_expr::rank::rank;
@@ -316,12 +317,14 @@ pub(crate) fn narrow_query(
 ) -> Result<BoundQuery, AllocError>
     ensures { IfOk result (λ found. found ≡ spec.narrowed (masks_of leaves.now) query.now) }
 {
+    let order = Items::from_slice(alloc, query.order.as_slice())?;
     let first = narrow_block(alloc, leaves, &query.first)?;
-    let others = narrow_blocks(alloc, leaves, query.others.as_slice())?;
+    let others = narrow_blocks(alloc, leaves, query.others.as_slice());
+    let (first, others) = keep_with(first, others)?;
     Ok(BoundQuery {
         first,
         others,
-        order: Items::from_slice(alloc, query.order.as_slice())?,
+        order,
         limit: query.limit,
     })
 }
