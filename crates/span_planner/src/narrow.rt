@@ -219,12 +219,17 @@ fn move_block(
 ) -> Result<Block<BoundQuery>, AllocError>
     ensures { IfOk result (λ found. found ≡ spec.moved_block (rank mask.now) block.now from joins) }
 {
+    let above = keep_with((from, joins), move_condition(alloc, &block.filter, mask))?;
+    let above = keep_with(above, move_grouping(alloc, &block.grouping, mask))?;
+    let outputs = move_outputs(alloc, &block.grouping, block.outputs.as_slice(), mask);
+    let (above, outputs) = keep_with(above, outputs)?;
+    let (((from, joins), filter), grouping) = above;
     Ok(Block {
         from,
         joins,
-        filter: move_condition(alloc, &block.filter, mask)?,
-        grouping: move_grouping(alloc, &block.grouping, mask)?,
-        outputs: move_outputs(alloc, &block.grouping, block.outputs.as_slice(), mask)?,
+        filter,
+        grouping,
+        outputs,
         is_distinct: block.is_distinct,
     })
 }
