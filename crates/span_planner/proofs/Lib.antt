@@ -31,3 +31,4 @@ pub mod OwnReads
 pub mod OwnChecks
 pub mod MaskableLeaves
 pub mod PickedLeaves
+pub mod Kept

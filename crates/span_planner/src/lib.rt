@@ -9,4 +9,5 @@ pub mod narrow;
 pub mod plan;
 mod range;
 mod reads;
+mod step;
 pub mod table;

@@ -9,6 +9,7 @@ ghost use Rattle.span_planner.specs.Reads.{masks_of};
 
 use super::copy::{copy_condition, copy_outputs};
 use super::leaf::{Leaf, LeafJoin};
+use super::step::keep_with;
 use span_expr::copy::copy_among;
 use span_expr::expr::Expr;
 use span_expr::rank::rank;
@@ -218,12 +219,17 @@ fn move_block(
 ) -> Result<Block<BoundQuery>, AllocError>
     ensures { IfOk result (λ found. found ≡ spec.moved_block (rank mask.now) block.now from joins) }
 {
+    let above = keep_with((from, joins), move_condition(alloc, &block.filter, mask))?;
+    let above = keep_with(above, move_grouping(alloc, &block.grouping, mask))?;
+    let outputs = move_outputs(alloc, &block.grouping, block.outputs.as_slice(), mask);
+    let (above, outputs) = keep_with(above, outputs)?;
+    let (((from, joins), filter), grouping) = above;
     Ok(Block {
         from,
         joins,
-        filter: move_condition(alloc, &block.filter, mask)?,
-        grouping: move_grouping(alloc, &block.grouping, mask)?,
-        outputs: move_outputs(alloc, &block.grouping, block.outputs.as_slice(), mask)?,
+        filter,
+        grouping,
+        outputs,
         is_distinct: block.is_distinct,
     })
 }
@@ -316,12 +322,14 @@ pub(crate) fn narrow_query(
 ) -> Result<BoundQuery, AllocError>
     ensures { IfOk result (λ found. found ≡ spec.narrowed (masks_of leaves.now) query.now) }
 {
+    let order = Items::from_slice(alloc, query.order.as_slice())?;
     let first = narrow_block(alloc, leaves, &query.first)?;
-    let others = narrow_blocks(alloc, leaves, query.others.as_slice())?;
+    let others = narrow_blocks(alloc, leaves, query.others.as_slice());
+    let (first, others) = keep_with(first, others)?;
     Ok(BoundQuery {
         first,
         others,
-        order: Items::from_slice(alloc, query.order.as_slice())?,
+        order,
         limit: query.limit,
     })
 }

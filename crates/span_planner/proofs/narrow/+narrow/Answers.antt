@@ -1,4 +1,4 @@
-use Rattle.std.proofs.Common.{rules, ◌≡◌, ◌∙◌, ap, subst, map, IfOk}
+use Rattle.std.proofs.Common.{rules, ◌≡◌, ◌∙◌, ap, subst, map, IfOk, List}
 use Rattle.span_query.specs.declared.query.Block.{Block}
 use Rattle.span_query.specs.declared.query.Join.{Join}
 use Rattle.span_query.specs.declared.query.BoundQuery.{BoundQuery}
@@ -7,6 +7,7 @@ use Rattle.span_query.proofs.Sizes.{query_size, block_size, join_size, smaller_a
 use Rattle.span_expr.specs.Places.{rank}
 use Rattle.span_planner.specs.Narrow.{narrow, narrow_join, narrow_block}
 use Rattle.span_planner.specs.Reads.{masks_of}
+use Rattle.span_planner.proofs.Kept.{in_kept}
 use Rattle.span_planner.proofs.Layered.{one_more, join_is, block_is, query_is}
 use Rattle.span_planner.proofs.narrow.+narrow.Goals as goal
 
@@ -47,6 +48,7 @@ narrow_joins-loop-join-preserved t c =
 pub narrow_query-returns : goal.narrow_query-returns
 narrow_query-returns t c =
     let masks = masks_of c.args.leaves.now in
-    query_is masks c.args.query.now c.in_ok-first.first c.in_ok-others.others c.in_ok-from_slice.field-0 c.in_ok-first.ensures
-    (c.in_ok-others.ensures ∙ ap (λ bs. map (narrow_block masks) (map (map_block (narrow masks)) bs)) c.as_slice.ensures)
-    (c.in_ok-from_slice.ensures ∙ c.as_slice-2.ensures)
+    let blocks : List (Block BoundQuery) → List (Block BoundQuery) = λ bs. map (narrow_block masks) (map (map_block (narrow masks)) bs) in
+    let others = in_kept (λ found. found ≡ blocks c.as_slice-2.result.now) c.narrow_blocks-others.result c.in_ok-first-2.others c.in_ok-first-2.ensures.1 c.narrow_blocks-others.ensures in
+    query_is masks c.args.query.now c.in_ok-first-2.first c.in_ok-first-2.others c.in_ok-order.order
+    (c.in_ok-first-2.ensures.0 ∙ c.in_ok-first.ensures) (others ∙ ap blocks c.as_slice-2.ensures) (c.in_ok-order.ensures ∙ c.as_slice.ensures)
