@@ -22,3 +22,4 @@ pub mod Indexing
 pub mod Cutting
 pub mod LentRows
 mod Compared
+pub mod Merging

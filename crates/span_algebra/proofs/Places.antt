@@ -11,6 +11,7 @@ use Rattle.indexmap.specs.IndexSet.{insert_key}
 use Rattle.span_query.specs.Rows.{Row}
 use Rattle.span_query.specs.Groups.{are_equal, distinct, columns_at, group_keys, rows_with}
 use Rattle.span_algebra.specs.Keys.{contains_row, with_new, place_of}
+pub use Rattle.span_algebra.specs.Merged.{AreApart}
 use Rattle.span_algebra.proofs.Alike.{are_equal-same, are_equal-itself, are_equal-reversed}
 use Rattle.span_algebra.proofs.Firsts.{unlike, contains_row-unlike, distinct-more, insert_key-new}
 
@@ -39,10 +40,6 @@ place_tells (x ∷ ks) k = elim (are_equal x k) as (λ b. (cond b zero (suc (pla
 ]
 
 -- ---- keys that are apart
-
-abbrev pub AreApart : List Row → Type 0
-AreApart [] = Unit {0}
-AreApart (x ∷ ks) = (contains_row ks x ≡ false) × AreApart ks
 
 none_alike : (ks : List Row) (x : Row) → contains_row ks x ≡ false → (j : ℕ) (d : Row) → j < length ks → are_equal (get_or ks j d) x ≡ false
 none_alike [] x e j d h = absurd (omega arith)

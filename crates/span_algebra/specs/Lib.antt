@@ -12,3 +12,4 @@ pub mod Hashes
 pub mod EqualRows
 pub mod Candidates
 pub mod Indexed
+pub mod Merged

@@ -29,6 +29,11 @@ abbrev pub or_better : (Value → Value → Value) → Option Value → Value �
 or_better better None v = v
 or_better better (Some w) v = better w v
 
+-- the better of two, where there are two
+abbrev pub better_of : (Value → Value → Value) → Option Value → Option Value → Option Value
+better_of better o None = o
+better_of better o (Some v) = Some (or_better better o v)
+
 abbrev pub or_null : Option Value → Value
 or_null None = Null
 or_null (Some v) = v

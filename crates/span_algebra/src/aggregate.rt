@@ -10,7 +10,7 @@ ghost use Rattle.span_query.specs.declared.query.Function.{Function};
 ghost use Rattle.span_query.specs.Rows.{Row, value_of};
 ghost use Rattle.span_query.specs.Groups as spec;
 ghost use Rattle.span_algebra.specs.Answers.{Gives};
-ghost use Rattle.span_algebra.specs.States.{counted, HasCounted, HasTaken, IsStateOf, operand_at, or_better, or_null};
+ghost use Rattle.span_algebra.specs.States.{better_of, counted, HasCounted, HasTaken, IsStateOf, operand_at, or_better, or_null};
 
 use super::row::{copy_of, operand_value};
 use super::sum::{Sum, number};
@@ -70,6 +70,36 @@ fn greater(best: Option<Value>, value: Value) -> Value
     }
 }
 
+/// Keeps the lesser of the best so far and another, if there is one; the best so far where neither is less.
+fn keep_lesser(
+    alloc: Global,
+    best: &mut Option<Value>,
+    next: &Option<Value>,
+) -> Result<(), AllocError>
+    ensures { OnOk result (best.new ≡ better_of spec.lesser best.old next.now) }
+{
+    if let Some(value) = next {
+        let value = copy_of(alloc, value)?;
+        *best = Some(lesser(best.take(), value));
+    }
+    Ok(())
+}
+
+/// Keeps the greater of the best so far and another, if there is one; the best so far where neither is greater.
+fn keep_greater(
+    alloc: Global,
+    best: &mut Option<Value>,
+    next: &Option<Value>,
+) -> Result<(), AllocError>
+    ensures { OnOk result (best.new ≡ better_of spec.greater best.old next.now) }
+{
+    if let Some(value) = next {
+        let value = copy_of(alloc, value)?;
+        *best = Some(greater(best.take(), value));
+    }
+    Ok(())
+}
+
 fn copy_or_null(alloc: Global, best: &Option<Value>) -> Result<Value, AllocError>
     ensures { IfOk result (λ copy. copy ≡ or_null best.now) }
 {
@@ -79,8 +109,21 @@ fn copy_or_null(alloc: Global, best: &Option<Value>) -> Result<Value, AllocError
     }
 }
 
+/// Adds to a count. False, and nothing changes, where the sum does not fit in 64 bits.
+fn add_count(count: &mut u64, more: u64) -> bool
+    ensures { IsTrue result → count.new ≡ count.old + more }
+{
+    match count.checked_add(more) {
+        Some(sum) => {
+            *count = sum;
+            true
+        }
+        None => false,
+    }
+}
+
 /// What is known of an aggregate after some rows.
-#[derive(Drop)]
+#[derive(Debug, Drop)]
 pub(crate) enum State {
     /// How many rows, or how many values.
     Count(u64),
@@ -166,6 +209,32 @@ impl State {
             }
         }
         Ok(())
+    }
+
+    /// Takes what another state of the same aggregate has taken, after its own. False where a count does not fit in 64 bits, or the other
+    /// state is of another kind: what it has taken then is not known.
+    pub(crate) fn merge(&mut self, alloc: Global, more: &State) -> Result<bool, AllocError>
+        ensures { IfOk result
+            (λ done.
+            IsTrue done
+            → (a : Aggregate) (rows next : List Row)
+            → IsStateOf a rows self.old
+            → IsStateOf a next more.now
+            → IsStateOf a (rows ++ next) self.new) }
+    {
+        match (self, more) {
+            (State::Count(count), State::Count(n)) => Ok(add_count(count, *n)),
+            (State::Sum(sum), State::Sum(next)) => Ok(sum.merge(next)),
+            (State::Least(best), State::Least(next)) => {
+                keep_lesser(alloc, best, next)?;
+                Ok(true)
+            }
+            (State::Greatest(best), State::Greatest(next)) => {
+                keep_greater(alloc, best, next)?;
+                Ok(true)
+            }
+            _ => Ok(false),
+        }
     }
 
     /// The result for the values that were taken.

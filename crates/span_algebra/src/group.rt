@@ -24,10 +24,10 @@ use span_value::value::{Row, Value};
 use std::alloc::{AllocError, Global};
 
 /// The rows of one key, as the states of the aggregates.
-#[derive(Drop)]
-struct Group {
-    key: Row,
-    states: Vec<State>,
+#[derive(Debug, Drop)]
+pub(crate) struct Group {
+    pub(crate) key: Row,
+    pub(crate) states: Vec<State>,
 }
 
 fn copy_at(alloc: Global, row: &[Value], place: usize) -> Result<Value, AllocError>
@@ -51,7 +51,11 @@ fn key_of(alloc: Global, places: &[usize], row: &[Value]) -> Result<Row, AllocEr
 }
 
 /// A group of no rows.
-fn new_group(alloc: Global, aggregates: &[Aggregate], key: Row) -> Result<Group, AllocError>
+pub(crate) fn new_group(
+    alloc: Global,
+    aggregates: &[Aggregate],
+    key: Row,
+) -> Result<Group, AllocError>
     ensures key { IfOk result (λ group. group.key ≡ key) }
     ensures states { IfOk result (λ group. AreStatesOf aggregates.now [] group.states.items) }
 {
@@ -134,7 +138,7 @@ fn take_row<'a>(
 }
 
 /// The groups of no rows: none, or the one group where there are no key columns.
-fn first_groups(alloc: Global, grouping: &Grouping) -> Result<Vec<Group>, AllocError>
+pub(crate) fn first_groups(alloc: Global, grouping: &Grouping) -> Result<Vec<Group>, AllocError>
     ensures { IfOk result (λ groups. AreGroupsOf grouping.now [] groups.items) }
 {
     let mut groups = Vec::new(alloc);
@@ -157,7 +161,7 @@ fn first_index(alloc: Global, grouping: &Grouping) -> Result<IndexSet<LentKey<'_
 }
 
 /// The row of each group.
-fn rows_of(alloc: Global, groups: Vec<Group>) -> Result<RowList, Failure>
+pub(crate) fn rows_of(alloc: Global, groups: Vec<Group>) -> Result<RowList, Failure>
     ensures { (g : Grouping) (rows : List Row) → AreGroupsOf g rows groups.items → Gives result (spec.groups g rows) }
 {
     let mut rows = RowList::new(alloc);

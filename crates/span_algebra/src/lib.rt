@@ -10,6 +10,7 @@ mod first_rows;
 mod group;
 pub mod join;
 mod key;
+mod merge;
 pub mod plain;
 pub mod row;
 pub mod row_list;

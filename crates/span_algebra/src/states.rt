@@ -1,5 +1,5 @@
 //! The states of all the aggregates of a group.
-ghost use Rattle.std.specs.Prelude.{◌≡◌, [], ◌∷◌, ◌++◌, List, Err, None, Any, Some, IfOk, OnOk};
+ghost use Rattle.std.specs.Prelude.{◌≡◌, [], ◌∷◌, ◌++◌, List, Err, None, Any, Some, IfOk, IsTrue, OnOk};
 ghost use Rattle.span_expr.specs.declared.cell.Failure.TheVariants.{Fault};
 ghost use Rattle.span_query.specs.declared.query.Aggregate.{Aggregate};
 ghost use Rattle.span_query.specs.Rows.{Row, unless_fault, each};
@@ -44,6 +44,32 @@ pub(crate) fn take_all(
         states[at].take(alloc, &aggregates[at], row)?;
     }
     Ok(())
+}
+
+/// Takes what other states of the same aggregates have taken, after their own. False where they could not be put together: what they have
+/// taken then is not known.
+pub(crate) fn merge_all(
+    alloc: Global,
+    states: &mut Vec<State>,
+    more: &[State],
+) -> Result<bool, AllocError>
+    ensures { IfOk result
+        (λ done.
+        IsTrue done
+        → (aggregates : List Aggregate) (rows next : List Row)
+        → AreStatesOf aggregates rows states.old.items
+        → AreStatesOf aggregates next more.now
+        → AreStatesOf aggregates (rows ++ next) states.new.items) }
+{
+    if states.len() != more.len() {
+        return Ok(false);
+    }
+    for at in 0..states.len() {
+        if !states[at].merge(alloc, &more[at])? {
+            return Ok(false);
+        }
+    }
+    Ok(true)
 }
 
 /// The key of the group, and then the aggregates of its rows.

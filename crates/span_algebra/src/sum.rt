@@ -1,5 +1,5 @@
 //! Exact sums of INT64 values.
-ghost use Rattle.std.specs.Prelude.{◌≡◌, ◌+◌, ◌*◌, ◌^◌, ◌<◌, ◌≤◌, ◌+ℤ◌, pos, length, List};
+ghost use Rattle.std.specs.Prelude.{◌≡◌, ◌+◌, ◌*◌, ◌^◌, ◌<◌, ◌≤◌, ◌+ℤ◌, pos, length, IsTrue, List};
 ghost use Rattle.std.specs.Int.RustNames.{unsigned_abs};
 ghost use Rattle.span_value.specs.declared.value.Value.{Value};
 ghost use Rattle.span_expr.specs.Operators as operators;
@@ -12,7 +12,7 @@ use span_expr::cell::Failure;
 use span_value::value::Value;
 
 /// An exact sum, and the number of its values: so it stays far inside its 128 bits.
-#[derive(Clone, Copy)]
+#[derive(Clone, Copy, Debug)]
 pub(crate) struct Sum {
     values: u64,
     total: i128,
@@ -40,6 +40,20 @@ impl Sum {
         let total = self.total + value as i128;
         self.values += 1;
         self.total = total;
+    }
+
+    /// The values of another sum after its own. False, and nothing changes, where their number does not fit in 64 bits.
+    pub(crate) fn merge(&mut self, more: &Sum) -> bool
+        ensures values { IsTrue result → self.new.values ≡ self.old.values + more.now.values }
+        ensures total { IsTrue result → self.new.total ≡ self.old.total +ℤ more.now.total }
+    {
+        let Some(values) = self.values.checked_add(more.values) else {
+            return false;
+        };
+        let total = self.total + more.total;
+        self.values = values;
+        self.total = total;
+        true
     }
 
     /// NULL of no values, else the exact total, or the fault where it is outside INT64.
