@@ -17,7 +17,7 @@ use Rattle.span_algebra.proofs.Alike.{are_equal-itself}
 use Rattle.span_algebra.proofs.Together.{filter-shorter}
 use Rattle.span_algebra.proofs.Places.{AreApart, place_found, place_tells, place_most, apart_at, group_keys-apart, group_keys-more, no_rows, rows_with-push}
 
-key_at : (groups : List Group) (i : ℕ) (d : Group) (e : Row) → i < length groups → get_or (keys_of groups) i e ≡ (get_or groups i d).key
+pub key_at : (groups : List Group) (i : ℕ) (d : Group) (e : Row) → i < length groups → get_or (keys_of groups) i e ≡ (get_or groups i d).key
 key_at groups i d e inside = get_or-map (λ (x : Group). x.key) groups i d e inside
 
 pub key_count : (groups : List Group) → length (keys_of groups) ≡ length groups

@@ -23,3 +23,4 @@ pub mod Cutting
 pub mod LentRows
 mod Compared
 pub mod Merging
+pub mod MergedGroups

@@ -76,7 +76,7 @@ others x (y ∷ ks) = elim (are_equal x y) as (λ b. are_equal x y ≡ b → con
   | false ↦ λ e. ap (λ b. b || contains_row (filter (unlike x) ks) x) (are_equal-reversed y x ∙ e) ∙ others x ks
 ] refl
 
-distinct-apart : (ks : List Row) → AreApart (distinct ks)
+pub distinct-apart : (ks : List Row) → AreApart (distinct ks)
 distinct-apart [] = tt
 distinct-apart (x ∷ ks) = (others x (distinct ks), apart-filter (unlike x) (distinct ks) (distinct-apart ks))
 
@@ -91,14 +91,14 @@ group_keys-more [] rows row = refl
 group_keys-more (p ∷ ps) rows row =
     ap distinct (map-append (columns_at (p ∷ ps)) rows (row ∷ [])) ∙ distinct-more (map (columns_at (p ∷ ps)) rows) (columns_at (p ∷ ps) row)
 
-contains_row-distinct : (ks : List Row) (k : Row) → contains_row (distinct ks) k ≡ contains_row ks k
+pub contains_row-distinct : (ks : List Row) (k : Row) → contains_row (distinct ks) k ≡ contains_row ks k
 contains_row-distinct [] k = refl
 contains_row-distinct (x ∷ ks) k = elim (are_equal x k) as (λ b. are_equal x k ≡ b → (b || contains_row (filter (unlike x) (distinct ks)) k) ≡ (b || contains_row ks k)) [
   | true ↦ λ e. refl
   | false ↦ λ e. contains_row-unlike x k e (distinct ks) ∙ contains_row-distinct ks k
 ] refl
 
-none_with : (places : List ℕ) (k : Row) (rows : List Row) → contains_row (map (columns_at places) rows) k ≡ false → rows_with places k rows ≡ []
+pub none_with : (places : List ℕ) (k : Row) (rows : List Row) → contains_row (map (columns_at places) rows) k ≡ false → rows_with places k rows ≡ []
 none_with places k [] e = refl
 none_with places k (row ∷ rows) e =
     let both : (are_equal (columns_at places row) k ≡ false) × (contains_row (map (columns_at places) rows) k ≡ false) = or_parts (are_equal (columns_at places row) k) (contains_row (map (columns_at places) rows) k) e in

@@ -1,5 +1,5 @@
 //! The groups of parts of some rows put together: those of all the rows, by first appearance.
-ghost use Rattle.std.specs.Prelude.{◌≡◌, [], ◌∷◌, ◌++◌, List, IfOk, IsTrue, OnOk};
+ghost use Rattle.std.specs.Prelude.{◌≡◌, ◌<◌, [], ◌∷◌, ◌++◌, length, List, IfOk, IsTrue, OnOk};
 ghost use Rattle.span_query.specs.declared.query.Aggregate.{Aggregate};
 ghost use Rattle.span_query.specs.declared.query.Grouping.{Grouping};
 ghost use Rattle.span_query.specs.Rows.{Row};
@@ -33,6 +33,7 @@ fn group_with_key<'a>(
         → g.aggregates ≡ aggregates.now
         → AreWholeGroups g keys rows groups.old.items
         → HasGroupAt g key.now keys rows groups.new.items at) }
+    ensures within { IfOk result (λ at. at < length groups.new.items) }
     ensures indexed { OnOk result (index.new.keys ≡ keys_of groups.new.items) }
 {
     let values = key.as_slice();
