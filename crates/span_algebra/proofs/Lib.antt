@@ -24,3 +24,5 @@ pub mod LentRows
 mod Compared
 pub mod Merging
 pub mod MergedGroups
+pub mod Measuring
+pub mod Parting

@@ -11,7 +11,7 @@ use Rattle.span_algebra.specs.declared.group.Group.{Group}
 use Rattle.span_algebra.specs.Answers.{Gives}
 use Rattle.span_algebra.specs.Selecting.{holds_where}
 use Rattle.span_algebra.specs.States.{operand_at}
-use Rattle.span_algebra.specs.Grouped.{AreGroupsOf, CanCountRow}
+use Rattle.span_algebra.specs.Grouped.{AreGroupsOf, AreGroupsWhere, CanCountRow}
 use Rattle.span_algebra.proofs.Gathering.{drop_at, gathered_at, one_more, one_less, one_fails, then_fails}
 use Rattle.span_algebra.proofs.Shown.{groups-fault}
 
@@ -75,10 +75,13 @@ module _ (filter : Option Expr) (g : Grouping) (rows : List Row) (i : ℕ) (so_f
         then_fails why (filter_where filter rows) (groups g)
         (one_fails why _ _ _ _ passed.kept passed.all next (then_fails why (holds_where filter row) (λ b. Some (keep_if row b)) gives))
 
-  pub pass_ends : length rows ≤ i → (filter_where filter rows >>= groups g) ≡ groups g passed.kept
-  pass_ends past =
-      ap (λ (o : Rows). o >>= groups g) (
-      passed.all
-      ∙ ap (λ (l : List Row). append_results (Some passed.kept) (filter_where filter l)) (drop_all i rows past)
-      ∙ ap (append_results (Some passed.kept)) (kept_nil filter)
-      ∙ ap (λ (l : List Row). Some l) (append-nil passed.kept))
+  pub groups_passed : length rows ≤ i → AreGroupsWhere filter g rows so_far
+  groups_passed past = record {
+    kept = passed.kept;
+    those =
+        passed.all
+        ∙ ap (λ (l : List Row). append_results (Some passed.kept) (filter_where filter l)) (drop_all i rows past)
+        ∙ ap (append_results (Some passed.kept)) (kept_nil filter)
+        ∙ ap (λ (l : List Row). Some l) (append-nil passed.kept);
+    are = passed.are;
+  }

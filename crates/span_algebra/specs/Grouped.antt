@@ -1,8 +1,9 @@
 -- The groups after some rows were taken.
-use Rattle.std.specs.Prelude.{◌≡◌, ℕ, ◌+◌, ◌<◌, ◌^◌, List, [], ◌∷◌, ◌++◌, length, map, slice_index_or}
+use Rattle.std.specs.Prelude.{◌≡◌, ℕ, ◌+◌, ◌<◌, ◌^◌, List, [], ◌∷◌, ◌++◌, Option, Some, length, map, slice_index_or}
 use Rattle.std.specs.List.{All}
+use Rattle.span_expr.specs.declared.expr.Expr.{Expr}
 use Rattle.span_query.specs.declared.query.Grouping.{Grouping}
-use Rattle.span_query.specs.Rows.{Row}
+use Rattle.span_query.specs.Rows.{Row, filter_where}
 use Rattle.span_query.specs.Groups.{group_keys, rows_with, columns_at}
 use Rattle.span_algebra.specs.declared.group.Group.{Group}
 use Rattle.span_algebra.specs.States.{AreStatesOf}
@@ -22,6 +23,12 @@ pub record AreGroups (g : Grouping) (keys : List Row) (rows : List Row) (groups 
 -- the groups of these rows
 abbrev pub AreGroupsOf : Grouping → List Row → List Group → Type 0
 AreGroupsOf g rows groups = AreGroups g (group_keys g.keys rows) rows groups
+
+-- the groups of those of the rows at which the condition is TRUE
+pub record AreGroupsWhere (filter : Option Expr) (g : Grouping) (rows : List Row) (groups : List Group) : Type 0 where
+  pub kept : List Row
+  pub those : filter_where filter rows ≡ Some kept
+  pub are : AreGroupsOf g kept groups
 
 -- the number of rows taken is so small that one more can be counted
 pub record CanCountRow (g : Grouping) (groups : List Group) : Type 0 where

@@ -13,3 +13,4 @@ pub mod EqualRows
 pub mod Candidates
 pub mod Indexed
 pub mod Merged
+pub mod Parts

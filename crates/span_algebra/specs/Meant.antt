@@ -1,6 +1,8 @@
 -- What a block makes of the rows of its FROM.
-use Rattle.std.specs.Prelude.{List, Some}
+use Rattle.std.specs.Prelude.{◌≡◌, ℕ, List, [], None, Some}
 use Rattle.span_query.specs.declared.query.Block.{Block}
+use Rattle.span_query.specs.declared.query.Grouping.{Grouping}
+use Rattle.span_query.specs.declared.query.Item.TheVariants as item
 use Rattle.span_query.specs.Rows.{Row, Rows, ◌>>=◌, filter_where, project_rows}
 use Rattle.span_query.specs.Groups.{group_rows}
 use Rattle.span_query.specs.Meaning.{distinct_if}
@@ -11,3 +13,14 @@ outputs_of b rows = filter_where b.filter rows >>= group_rows b.grouping >>= pro
 
 abbrev pub project_block : {Q : Type 0} → Block Q → List Row → Rows
 project_block b rows = outputs_of b rows >>= (λ found. Some (distinct_if b.is_distinct found))
+
+-- what the block makes of the rows of its groups
+abbrev pub project_groups : {Q : Type 0} → Block Q → Grouping → List Row → Rows
+project_groups b g groups = filter_where g.having groups >>= project_rows b.outputs >>= (λ found. Some (distinct_if b.is_distinct found))
+
+-- the block is one that groups all rows of one table
+pub record GroupsTable {Q : Type 0} (b : Block Q) (number : ℕ) (g : Grouping) : Type 0 where
+  pub from : b.from ≡ item.Table number
+  pub joins : b.joins ≡ []
+  pub filter : b.filter ≡ None
+  pub grouping : b.grouping ≡ Some g

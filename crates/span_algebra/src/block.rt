@@ -4,14 +4,14 @@ ghost use Rattle.span_query.specs.Rows.{filter_where, project_rows};
 ghost use Rattle.span_query.specs.Groups.{group_rows};
 ghost use Rattle.span_query.specs.Meaning.{distinct_if};
 ghost use Rattle.span_algebra.specs.Answers.{Gives};
-ghost use Rattle.span_algebra.specs.Meant.{outputs_of, project_block};
+ghost use Rattle.span_algebra.specs.Meant.{outputs_of, project_block, project_groups};
 
 use super::distinct::distinct;
 use super::group::group_rows;
 use super::row_list::RowList;
 use super::select::select_rows;
 use span_expr::cell::Failure;
-use span_query::query::{Block, BoundQuery};
+use span_query::query::{Block, BoundQuery, Grouping};
 use std::alloc::Global;
 
 /// The select list at the rows of the FROM, or at those of the groups.
@@ -29,6 +29,16 @@ fn outputs_of(alloc: Global, block: &Block<BoundQuery>, rows: &RowList) -> Resul
     }
 }
 
+fn distinct_if(alloc: Global, is_distinct: bool, rows: RowList) -> Result<RowList, Failure>
+    ensures { Gives result (Some (distinct_if is_distinct rows)) }
+{
+    if is_distinct {
+        distinct(alloc, &rows)
+    } else {
+        Ok(rows)
+    }
+}
+
 /// The output rows of a block, from the rows of its FROM.
 pub(crate) fn project_block(
     alloc: Global,
@@ -38,9 +48,19 @@ pub(crate) fn project_block(
     ensures { Gives result (project_block block.now rows.now) }
 {
     let found = outputs_of(alloc, block, rows)?;
-    if block.is_distinct {
-        distinct(alloc, &found)
-    } else {
-        Ok(found)
-    }
+    distinct_if(alloc, block.is_distinct, found)
+}
+
+/// The output rows of a block, from the rows of the groups that it makes of the rows of its FROM.
+pub(crate) fn project_groups(
+    alloc: Global,
+    block: &Block<BoundQuery>,
+    grouping: &Grouping,
+    groups: &RowList,
+) -> Result<RowList, Failure>
+    ensures { Gives result (project_groups block.now grouping.now groups.now) }
+{
+    let outputs = block.outputs.as_slice();
+    let found = select_rows(alloc, &grouping.having, outputs, groups)?;
+    distinct_if(alloc, block.is_distinct, found)
 }

@@ -1,5 +1,5 @@
 //! GROUP BY: one pass over the rows, each of which is taken by the group of its key, which an index by hash finds.
-ghost use Rattle.std.specs.Prelude.{◌≡◌, [], ◌∷◌, ◌++◌, List, Err, None, Any, IfOk, OnOk};
+ghost use Rattle.std.specs.Prelude.{◌≡◌, [], ◌∷◌, ◌++◌, List, Err, None, Any, IfOk, MatchResult, OnOk};
 ghost use Rattle.span_expr.specs.declared.cell.Failure.TheVariants.{Fault};
 ghost use Rattle.span_expr.specs.Operators.{column_of};
 ghost use Rattle.span_query.specs.declared.query.Grouping.{Grouping};
@@ -7,11 +7,11 @@ ghost use Rattle.span_query.specs.Rows.{Row, unless_fault, filter_where};
 ghost use Rattle.span_query.specs.Groups as spec;
 ghost use Rattle.span_algebra.specs.Answers.{Gives};
 ghost use Rattle.span_algebra.specs.States.{AreStatesOf, CanCountOne, operand_at};
-ghost use Rattle.span_algebra.specs.Grouped.{keys_of, AreGroupsOf, CanCountRow, HasPlace};
+ghost use Rattle.span_algebra.specs.Grouped.{keys_of, AreGroupsOf, AreGroupsWhere, CanCountRow, HasPlace};
 
 use super::aggregate::State;
 use super::key::LentKey;
-use super::row::{add, copy_of};
+use super::row::{add, copy_of, copy_row};
 use super::row_list::RowList;
 use super::select::is_kept;
 use super::states::{new_states, row_with, take_all};
@@ -161,15 +161,37 @@ fn first_index(alloc: Global, grouping: &Grouping) -> Result<IndexSet<LentKey<'_
 }
 
 /// The row of each group.
-pub(crate) fn rows_of(alloc: Global, groups: Vec<Group>) -> Result<RowList, Failure>
-    ensures { (g : Grouping) (rows : List Row) → AreGroupsOf g rows groups.items → Gives result (spec.groups g rows) }
+pub(crate) fn rows_of(alloc: Global, groups: &[Group]) -> Result<RowList, Failure>
+    ensures { (g : Grouping) (rows : List Row) → AreGroupsOf g rows groups.now → Gives result (spec.groups g rows) }
 {
     let mut rows = RowList::new(alloc);
     for group in groups {
-        let Group { key, states } = group;
-        rows.push_row(row_with(alloc, key, states.as_slice())?)?;
+        let key = copy_row(alloc, group.key.as_slice())?;
+        rows.push_row(row_with(alloc, key, group.states.as_slice())?)?;
     }
     Ok(rows)
+}
+
+/// The groups of the rows where the condition is TRUE.
+pub(crate) fn groups_where(
+    alloc: Global,
+    filter: &Option<Expr>,
+    grouping: &Grouping,
+    rows: &RowList,
+) -> Result<Vec<Group>, Failure>
+    ensures { MatchResult result
+        (λ groups. AreGroupsWhere filter.now grouping.now rows.now groups.items)
+        (λ why. Gives {A = List Row} (Err why) (unless_fault (filter_where filter.now rows.now) (spec.groups grouping.now))) }
+{
+    let mut groups = first_groups(alloc, grouping)?;
+    let mut index = first_index(alloc, grouping)?;
+    for at in 0..rows.len() {
+        let row = rows.row(at);
+        if is_kept(alloc, filter, row)? {
+            take_row(alloc, grouping, &mut index, &mut groups, row)?;
+        }
+    }
+    Ok(groups)
 }
 
 /// The rows of the groups of the rows where the condition is TRUE: of each group its key, and then its aggregates.
@@ -181,13 +203,6 @@ pub(crate) fn group_rows(
 ) -> Result<RowList, Failure>
     ensures { Gives result (unless_fault (filter_where filter.now rows.now) (spec.groups grouping.now)) }
 {
-    let mut groups = first_groups(alloc, grouping)?;
-    let mut index = first_index(alloc, grouping)?;
-    for at in 0..rows.len() {
-        let row = rows.row(at);
-        if is_kept(alloc, filter, row)? {
-            take_row(alloc, grouping, &mut index, &mut groups, row)?;
-        }
-    }
-    rows_of(alloc, groups)
+    let groups = groups_where(alloc, filter, grouping, rows)?;
+    rows_of(alloc, groups.as_slice())
 }

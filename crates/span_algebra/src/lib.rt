@@ -8,6 +8,7 @@ mod distinct;
 pub mod filter;
 mod first_rows;
 mod group;
+pub mod grouped;
 pub mod join;
 mod key;
 mod merge;

@@ -1,19 +1,21 @@
 //! The groups of parts of some rows put together: those of all the rows, by first appearance.
-ghost use Rattle.std.specs.Prelude.{◌≡◌, ◌<◌, [], ◌∷◌, ◌++◌, length, List, IfOk, IsTrue, OnOk};
+ghost use Rattle.std.specs.Prelude.{◌≡◌, ◌<◌, [], ◌∷◌, ◌++◌, length, List, IfOk, IfSome, IsTrue, OnOk};
 ghost use Rattle.span_query.specs.declared.query.Aggregate.{Aggregate};
 ghost use Rattle.span_query.specs.declared.query.Grouping.{Grouping};
 ghost use Rattle.span_query.specs.Rows.{Row};
-ghost use Rattle.span_query.specs.Groups.{rows_with};
+ghost use Rattle.span_query.specs.Groups.{group_keys, rows_with};
 ghost use Rattle.span_algebra.specs.Grouped.{keys_of, HasTakenRows, AreGroupsOf};
 ghost use Rattle.span_algebra.specs.Keys.{with_new};
 ghost use Rattle.span_algebra.specs.Merged.{AreWholeGroups, HasGroupAt};
+ghost use Rattle.span_algebra.specs.Parts.{all_rows};
 
-use super::group::{Group, new_group};
+use super::group::{Group, first_groups, new_group};
+use super::grouped::GroupedRows;
 use super::key::RowKey;
 use super::row::{add, copy_row};
 use super::states::merge_all;
 use indexmap::IndexSet;
-use span_query::query::Aggregate;
+use span_query::query::{Aggregate, Grouping};
 use span_value::value::Row;
 use std::alloc::{AllocError, Global};
 
@@ -95,4 +97,37 @@ pub(crate) fn merge_groups<'a>(
         }
     }
     Ok(true)
+}
+
+/// The index of the groups of no rows.
+fn first_index<'a>(alloc: Global, grouping: &Grouping) -> Result<IndexSet<RowKey<'a>>, AllocError>
+    ensures { IfOk result (λ index. index.keys ≡ group_keys grouping.now.keys []) }
+{
+    let mut index = IndexSet::new(alloc);
+    if grouping.keys.is_empty() {
+        index.insert(RowKey::new(&[]))?;
+    }
+    Ok(index)
+}
+
+/// The groups that a block makes of the rows of all parts. None where those of a part were not made, or they could not be put together.
+pub(crate) fn merge_parts(
+    alloc: Global,
+    grouping: &Grouping,
+    parts: &[&GroupedRows],
+) -> Result<Option<Vec<Group>>, AllocError>
+    ensures { IfOk result (λ found. IfSome found (λ groups. AreGroupsOf grouping.now (all_rows parts.now) groups.items)) }
+{
+    let aggregates = grouping.aggregates.as_slice();
+    let mut groups = first_groups(alloc, grouping)?;
+    let mut index = first_index(alloc, grouping)?;
+    for part in parts {
+        let Some(more) = part.groups_by(grouping) else {
+            return Ok(None);
+        };
+        if !merge_groups(alloc, aggregates, &mut index, &mut groups, more)? {
+            return Ok(None);
+        }
+    }
+    Ok(Some(groups))
 }

@@ -1,11 +1,19 @@
 //! The rows of an item of a FROM, and the tables that a query reads. Rows that are there already are lent and not copied.
-ghost use Rattle.std.specs.Prelude.{◌≡◌, [], ◌∷◌, ◌++◌, map, Some, None, slice_get, OnOk, OnErr};
+ghost use Rattle.std.specs.Prelude.{◌≡◌, [], ◌∷◌, ◌++◌, Err, IfOk, IfSome, List, MatchResult, map, Some, None, slice_get, OnOk, OnErr};
 ghost use Rattle.std.specs.Option.{option_copied};
 ghost use Rattle.span_query.specs.Meaning as spec;
-ghost use Rattle.span_algebra.specs.Sources.{GivesSlice, source_rows, source_result};
+ghost use Rattle.span_query.specs.Groups.{groups};
+ghost use Rattle.span_query.specs.Rows.{Row, unless_fault};
+ghost use Rattle.span_algebra.specs.Answers.{Gives};
+ghost use Rattle.span_algebra.specs.Parts.{all_rows};
+ghost use Rattle.span_algebra.specs.Sources.{GivesRows, IsGivenBy, source_rows, source_result};
 
+use super::group::rows_of;
+use super::grouped::GroupedRows;
+use super::merge::merge_parts;
 use super::row_list::RowList;
 use span_expr::cell::Failure;
+use span_query::query::Grouping;
 use std::alloc::{AllocError, Global};
 use std::marker::Model;
 
@@ -28,31 +36,27 @@ impl Source<'_> {
     }
 }
 
-/// What a table of a query gives: its rows, or none where reading it was an arithmetic error.
+/// What a table of a query gives: its rows in parts, one after another, or none where reading it was an arithmetic error.
 #[derive(Drop)]
 enum TableSource<'a> {
-    Rows(Source<'a>),
+    Parts(Vec<&'a GroupedRows>),
     Fault,
 }
 
 /// The tables that a query reads. Contracts see of each its rows or the fault.
 #[derive(Drop)]
 pub struct Tables<'a> {
-    /// The rows of a table that is not there.
-    none: RowList,
     sources: Vec<TableSource<'a>>,
 }
 
 impl<'a> Model for Tables<'a> {
-    ghost use Rattle.std.specs.Prelude.{◌≡◌, [], List, map};
+    ghost use Rattle.std.specs.Prelude.{List, map};
     ghost use Rattle.span_query.specs.Rows.{Rows};
     ghost use Rattle.span_algebra.specs.Sources.{source_result};
 
     ghost Value = { List Rows };
 
     ghost view = { λ a. map source_result a.sources.items };
-
-    ghost invariant = { λ a. a.none ≡ [] };
 }
 
 impl<'a> Tables<'a> {
@@ -61,26 +65,16 @@ impl<'a> Tables<'a> {
         ensures { result ≡ [] }
     {
         Tables {
-            none: RowList::new(alloc),
             sources: Vec::new(alloc),
         }
     }
 
-    /// Adds a table whose rows are lent. An error leaves the tables as they were.
-    pub fn lend(&mut self, rows: &'a RowList) -> Result<(), AllocError>
-        ensures ok { OnOk result (self.new ≡ self.old ++ Some rows.now ∷ []) }
+    /// Adds a table whose rows are lent in parts. An error leaves the tables as they were.
+    pub fn lend(&mut self, parts: Vec<&'a GroupedRows>) -> Result<(), AllocError>
+        ensures ok { OnOk result (self.new ≡ self.old ++ Some (all_rows parts.entry.items) ∷ []) }
         ensures err { OnErr result (self.new ≡ self.old) }
     {
-        self.sources.push(TableSource::Rows(Source::Lent(rows)))?;
-        Ok(())
-    }
-
-    /// Adds a table with these rows. An error leaves the tables as they were.
-    pub fn add(&mut self, rows: RowList) -> Result<(), AllocError>
-        ensures ok { OnOk result (self.new ≡ self.old ++ Some rows ∷ []) }
-        ensures err { OnErr result (self.new ≡ self.old) }
-    {
-        self.sources.push(TableSource::Rows(Source::Made(rows)))?;
+        self.sources.push(TableSource::Parts(parts))?;
         Ok(())
     }
 
@@ -93,39 +87,33 @@ impl<'a> Tables<'a> {
         Ok(())
     }
 
-    /// The rows of the table with this number; the first has number 1. `Fault` where the table is one.
-    pub(crate) fn rows(&self, number: usize) -> Result<&RowList, Failure>
-        ensures { GivesSlice result (spec.given self.now number) }
+    /// The rows of the table with this number; the first has number 1. `Fault` where the table is one, or out of memory.
+    pub(crate) fn rows(&self, alloc: Global, number: usize) -> Result<Source<'_>, Failure>
+        ensures { GivesRows result (spec.given self.now number) }
     {
-        rows_at(&self.none, self.sources.as_slice(), number)
+        match numbered_source(self.sources.as_slice(), number) {
+            None => Ok(Source::Made(RowList::new(alloc))),
+            Some(TableSource::Fault) => Err(Failure::Fault),
+            Some(TableSource::Parts(parts)) => Ok(source_of(alloc, parts.as_slice())?),
+        }
     }
-}
 
-/// The rows of the table with this number; the first has number 1. `Fault` where the table is one.
-fn rows_at<'a>(
-    none: &'a RowList,
-    sources: &'a [TableSource<'_>],
-    number: usize,
-) -> Result<&'a RowList, Failure>
-    requires { none.now ≡ [] }
-    ensures { GivesSlice result (spec.given (map source_result sources.now) number) }
-{
-    if number == 0 {
-        return Ok(none);
-    }
-    match source_at(sources, number - 1) {
-        Some(source) => rows_of(source),
-        None => Ok(none),
-    }
-}
-
-/// The rows that a table gives.
-fn rows_of<'a>(source: &'a TableSource<'_>) -> Result<&'a RowList, Failure>
-    ensures { GivesSlice result (source_result source.now) }
-{
-    match source {
-        TableSource::Rows(rows) => Ok(rows.rows()),
-        TableSource::Fault => Err(Failure::Fault),
+    /// The rows of the groups of the table with this number, where these were made with its rows. `Fault` where the table is one or an
+    /// aggregate is an arithmetic error, or out of memory.
+    pub(crate) fn groups(
+        &self,
+        alloc: Global,
+        number: usize,
+        grouping: &Grouping,
+    ) -> Result<Option<RowList>, Failure>
+        ensures { MatchResult result
+            (λ found. IfSome found (λ rows. unless_fault (spec.given self.now number) (groups grouping.now) ≡ Some rows))
+            (λ why. Gives {A = List Row} (Err why) (unless_fault (spec.given self.now number) (groups grouping.now))) }
+    {
+        match numbered_source(self.sources.as_slice(), number) {
+            Some(TableSource::Parts(parts)) => groups_of(alloc, grouping, parts.as_slice()),
+            _ => Ok(None),
+        }
     }
 }
 
@@ -133,4 +121,69 @@ fn source_at<'a, 'b>(sources: &'a [TableSource<'b>], place: usize) -> Option<&'a
     ensures { option_copied result ≡ slice_get sources.now place }
 {
     sources.get(place)
+}
+
+/// The table with this number, if there is one; the first has number 1.
+fn numbered_source<'a, 'b>(
+    sources: &'a [TableSource<'b>],
+    number: usize,
+) -> Option<&'a TableSource<'b>>
+    ensures { IsGivenBy (option_copied result) (spec.given (map source_result sources.now) number) }
+{
+    if number == 0 {
+        return None;
+    }
+    source_at(sources, number - 1)
+}
+
+/// Copies of the rows of parts, one after another.
+fn join_parts(alloc: Global, parts: &[&GroupedRows]) -> Result<RowList, AllocError>
+    ensures { IfOk result (λ rows. rows ≡ all_rows parts.now) }
+{
+    let mut rows = RowList::new(alloc);
+    for part in parts {
+        add_copies(alloc, &mut rows, part.rows())?;
+    }
+    Ok(rows)
+}
+
+fn add_copies(alloc: Global, rows: &mut RowList, more: &RowList) -> Result<(), AllocError>
+    ensures { OnOk result (rows.new ≡ rows.old ++ more.now) }
+{
+    for at in 0..more.len() {
+        rows.push_copy(alloc, more.row(at))?;
+    }
+    Ok(())
+}
+
+/// The rows of parts, one after another. Those of the only part are lent.
+fn source_of<'a>(alloc: Global, parts: &[&'a GroupedRows]) -> Result<Source<'a>, AllocError>
+    ensures { IfOk result (λ source. source_rows source ≡ all_rows parts.now) }
+{
+    match parts {
+        [part] => Ok(Source::Lent(part.rows())),
+        _ => Ok(Source::Made(join_parts(alloc, parts)?)),
+    }
+}
+
+/// The rows of the groups of parts, where these were made with the rows of each.
+fn groups_of(
+    alloc: Global,
+    grouping: &Grouping,
+    parts: &[&GroupedRows],
+) -> Result<Option<RowList>, Failure>
+    ensures { MatchResult result
+        (λ found. IfSome found (λ rows. groups grouping.now (all_rows parts.now) ≡ Some rows))
+        (λ why. Gives {A = List Row} (Err why) (groups grouping.now (all_rows parts.now))) }
+{
+    if let [part] = parts {
+        return match part.groups_by(grouping) {
+            Some(groups) => Ok(Some(rows_of(alloc, groups)?)),
+            None => Ok(None),
+        };
+    }
+    match merge_parts(alloc, grouping, parts)? {
+        Some(groups) => Ok(Some(rows_of(alloc, groups.as_slice())?)),
+        None => Ok(None),
+    }
 }

@@ -6,9 +6,9 @@ use Rattle.span_query.specs.Groups.{groups}
 use Rattle.span_algebra.specs.Answers.{Gives}
 use Rattle.span_algebra.specs.Grouped.{keys_of, AreGroupsOf}
 use Rattle.span_algebra.specs.Selecting.{holds_where}
-use Rattle.span_algebra.proofs.Passes.{HavePassed, pass_fails, take_fails, pass_keeps, pass_drops, pass_ends}
-use Rattle.span_algebra.proofs.group.group_rows.Goals.{then-branch+in_ok-take_row, else-branch}
-use Rattle.span_algebra.proofs.group.group_rows.Goals as goal
+use Rattle.span_algebra.proofs.Passes.{HavePassed, pass_fails, take_fails, pass_keeps, pass_drops, groups_passed}
+use Rattle.span_algebra.proofs.group.groups_where.Goals.{then-branch+in_ok-take_row, else-branch}
+use Rattle.span_algebra.proofs.group.groups_where.Goals as goal
 
 pub returns-in_err-is_kept : goal.returns-in_err-is_kept
 returns-in_err-is_kept c =
@@ -61,10 +61,4 @@ loop-at-preserved c =
     ]
 
 pub returns : goal.returns
-returns c =
-    let filter = c.args.filter.now in
-    let g = c.args.grouping.now in
-    let rows = c.args.rows.now in
-    let passed = c.loop-at.invariant.passed in
-    let given : Gives c.rows_of.result (groups g passed.kept) = c.rows_of.ensures g passed.kept passed.are in
-    subst (λ (o : Rows). Gives c.rows_of.result o) (sym (pass_ends filter g rows c.loop-at.at c.loop-at.groups.items passed (search rules))) given
+returns c = groups_passed c.args.filter.now c.args.grouping.now c.args.rows.now c.loop-at.at c.loop-at.groups.items c.loop-at.invariant.passed (search rules)

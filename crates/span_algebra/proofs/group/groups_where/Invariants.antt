@@ -1,7 +1,7 @@
 use Rattle.std.proofs.Common.{◌≡◌}
 use Rattle.span_algebra.specs.Grouped.{keys_of}
 use Rattle.span_algebra.proofs.Passes.{HavePassed}
-use Rattle.span_algebra.proofs.group.group_rows.Given as goal
+use Rattle.span_algebra.proofs.group.groups_where.Given as goal
 
 abbrev pub invariant-loop-at : goal.invariant-loop-at
 invariant-loop-at l = record {

@@ -1,0 +1,167 @@
+//! Rows with the groups that they fall into, made where the rows are read, so that several threads can make the groups of their parts.
+ghost use Rattle.std.specs.Prelude.{◌≡◌, IfOk, IfSome, IsTrue, MatchOption, MatchResult, map};
+ghost use Rattle.span_query.specs.Groups as spec;
+ghost use Rattle.span_algebra.specs.Grouped.{AreGroupsOf};
+ghost use Rattle.span_algebra.specs.Parts.{aggregate_of, AreMeasuresOf, HaveGroups};
+
+use super::group::{Group, groups_where};
+use super::row_list::RowList;
+use span_expr::cell::Failure;
+use span_expr::expr::Expr;
+use span_query::query::{Aggregate, Function, Grouping};
+use std::alloc::{AllocError, Global};
+use std::marker::Model;
+
+/// An aggregate of a column, or the number of rows.
+#[derive(Debug, Drop)]
+pub(crate) enum Measure {
+    CountRows,
+    OfColumn(Function, usize),
+}
+
+/// The aggregate as a measure. None where its operand is no column.
+fn measure_of(aggregate: &Aggregate) -> Option<Measure>
+    ensures { IfSome result (λ measure. aggregate.now ≡ aggregate_of measure) }
+{
+    match aggregate {
+        Aggregate::CountRows => Some(Measure::CountRows),
+        Aggregate::Of(function, Expr::Column(place)) => {
+            Some(Measure::OfColumn(*function, *place))
+        }
+        _ => None,
+    }
+}
+
+/// All the aggregates as measures. None where the operand of one is no column.
+fn measures_of(alloc: Global, aggregates: &[Aggregate]) -> Result<Option<Vec<Measure>>, AllocError>
+    ensures { IfOk result (λ found. IfSome found (λ measures. AreMeasuresOf aggregates.now measures.items)) }
+{
+    let mut measures = Vec::with_capacity(alloc, aggregates.len())?;
+    for aggregate in aggregates {
+        let Some(measure) = measure_of(aggregate) else {
+            return Ok(None);
+        };
+        measures.push(measure)?;
+    }
+    Ok(Some(measures))
+}
+
+fn is_measure(aggregate: &Aggregate, measure: &Measure) -> bool
+    ensures { IsTrue result → aggregate.now ≡ aggregate_of measure.now }
+{
+    match (aggregate, measure) {
+        (Aggregate::CountRows, Measure::CountRows) => true,
+        (Aggregate::Of(function, Expr::Column(place)), Measure::OfColumn(other, column)) => {
+            function == other && place == column
+        }
+        _ => false,
+    }
+}
+
+/// Whether the aggregates are these measures.
+fn are_measures(aggregates: &[Aggregate], measures: &[Measure]) -> bool
+    ensures { IsTrue result → AreMeasuresOf aggregates.now measures.now }
+{
+    if aggregates.len() != measures.len() {
+        return false;
+    }
+    for at in 0..measures.len() {
+        if !is_measure(&aggregates[at], &measures[at]) {
+            return false;
+        }
+    }
+    true
+}
+
+/// The groups of some rows.
+#[derive(Debug, Drop)]
+struct Groups {
+    keys: Vec<usize>,
+    measures: Vec<Measure>,
+    groups: Vec<Group>,
+}
+
+/// Rows, and the groups that they fall into where these were made. Contracts see the rows.
+#[derive(Debug, Drop)]
+pub struct GroupedRows {
+    rows: RowList,
+    groups: Option<Groups>,
+}
+
+impl Model for GroupedRows {
+    ghost use Rattle.std.specs.Prelude.{IfSome, List};
+    ghost use Rattle.span_query.specs.Rows.{Row};
+    ghost use Rattle.span_algebra.specs.Parts.{HaveGroups};
+
+    ghost Value = { List Row };
+
+    ghost view = { λ a. a.rows };
+
+    ghost invariant = { λ a. IfSome a.groups (HaveGroups a.rows) };
+}
+
+/// The groups of rows. None where an operand is no column, or at one an aggregate is an arithmetic error.
+fn groups_of(
+    alloc: Global,
+    grouping: &Grouping,
+    rows: &RowList,
+) -> Result<Option<Groups>, AllocError>
+    ensures { IfOk result (λ found. IfSome found (HaveGroups rows.now)) }
+{
+    let Some(measures) = measures_of(alloc, grouping.aggregates.as_slice())? else {
+        return Ok(None);
+    };
+    match groups_where(alloc, &None, grouping, rows) {
+        Ok(groups) => Ok(Some(Groups {
+            keys: grouping.keys.as_slice().to_vec(alloc)?,
+            measures,
+            groups,
+        })),
+        Err(Failure::Fault) => Ok(None),
+        Err(Failure::OutOfMemory) => Err(AllocError),
+    }
+}
+
+impl GroupedRows {
+    /// Rows without groups.
+    pub fn new(rows: RowList) -> GroupedRows
+        ensures { result ≡ rows }
+    {
+        GroupedRows { rows, groups: None }
+    }
+
+    /// Rows with the groups that a block makes of them, as far as these are made where rows are read: where each aggregate is of a column, and
+    /// none is an arithmetic error.
+    pub fn grouped(
+        alloc: Global,
+        grouping: &Grouping,
+        rows: RowList,
+    ) -> Result<GroupedRows, AllocError>
+        ensures { IfOk result (λ grouped. grouped ≡ rows) }
+    {
+        let groups = groups_of(alloc, grouping, &rows)?;
+        Ok(GroupedRows { rows, groups })
+    }
+
+    /// The rows.
+    pub fn rows(&self) -> &RowList
+        ensures { result.now ≡ self.now }
+    {
+        &self.rows
+    }
+
+    /// The groups that a block makes of the rows, where they were made.
+    pub(crate) fn groups_by(&self, grouping: &Grouping) -> Option<&[Group]>
+        ensures { IfSome result (λ groups. AreGroupsOf grouping.now self.now groups.now) }
+    {
+        let Some(groups) = &self.groups else {
+            return None;
+        };
+        let (keys, aggregates) = (grouping.keys.as_slice(), grouping.aggregates.as_slice());
+        if keys == groups.keys.as_slice() && are_measures(aggregates, groups.measures.as_slice()) {
+            Some(groups.groups.as_slice())
+        } else {
+            None
+        }
+    }
+}
