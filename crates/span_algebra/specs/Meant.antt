@@ -1,11 +1,13 @@
 -- What a block makes of the rows of its FROM.
 use Rattle.std.specs.Prelude.{◌≡◌, ℕ, List, [], None, Some}
 use Rattle.span_query.specs.declared.query.Block.{Block}
+use Rattle.span_query.specs.declared.query.BoundQuery.{BoundQuery}
 use Rattle.span_query.specs.declared.query.Grouping.{Grouping}
 use Rattle.span_query.specs.declared.query.Item.TheVariants as item
 use Rattle.span_query.specs.Rows.{Row, Rows, ◌>>=◌, filter_where, project_rows}
 use Rattle.span_query.specs.Groups.{group_rows}
-use Rattle.span_query.specs.Meaning.{distinct_if}
+use Rattle.span_query.specs.Layers.{map_block}
+use Rattle.span_query.specs.Meaning.{block_rows, distinct_if, given, meaning_over}
 
 -- the select list at the rows, or at those of the groups
 abbrev pub outputs_of : {Q : Type 0} → Block Q → List Row → Rows
@@ -24,3 +26,7 @@ pub record GroupsTable {Q : Type 0} (b : Block Q) (number : ℕ) (g : Grouping) 
   pub joins : b.joins ≡ []
   pub filter : b.filter ≡ None
   pub grouping : b.grouping ≡ Some g
+
+-- what a block means on tables, each of which may be a fault
+abbrev pub block_meaning : List Rows → Block BoundQuery → Rows
+block_meaning tables b = block_rows (given tables) (map_block (meaning_over (given tables)) b)
