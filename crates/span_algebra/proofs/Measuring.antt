@@ -1,5 +1,5 @@
 -- Aggregates as measures, one after another.
-use Rattle.std.proofs.Common.{◌≡◌, ℕ, ◌+◌, ◌<◌, ◌≤◌, List, [], ◌∷◌, ◌++◌, length, map, take, get_or, sym, ap, ◌∙◌, arith}
+use Rattle.std.proofs.Common.{◌≡◌, ℕ, ◌+◌, ◌<◌, ◌≤◌, List, [], ◌∷◌, ◌++◌, length, take, get_or, sym, ap, ◌∙◌}
 use Rattle.std.proofs.lemmas.List.{take_more, take_all, map-append}
 use Rattle.span_query.specs.declared.query.Aggregate.{Aggregate}
 use Rattle.span_algebra.specs.declared.grouped.Measure.{Measure}

@@ -1,13 +1,12 @@
 -- Groups of rows put together with those of further rows, one of these after another.
-use Rattle.std.proofs.Common.{◌≡◌, ◌≢◌, ℕ, zero, suc, ◌+◌, ◌<◌, ◌≤◌, Bool, true, false, cond, not, ◌||◌, List, [], ◌∷◌, ◌++◌, length, set, get_or, map, take, refl, sym, ap, ◌∙◌, subst, append_assoc, Result, Ok, Err, OnOk, inl, inr, arith}
-use Rattle.std.specs.List.{filter, flat_map}
+use Rattle.std.proofs.Common.{◌≡◌, ◌≢◌, ℕ, ◌+◌, ◌<◌, ◌≤◌, Bool, true, false, cond, not, ◌||◌, List, [], ◌∷◌, ◌++◌, length, set, get_or, map, take, refl, sym, ap, ◌∙◌, subst, append_assoc, Result, Ok, Err, OnOk, inl, inr, arith}
+use Rattle.std.specs.List.{filter}
 use Rattle.std.proofs.lemmas.Bool.{cases_eq, or_parts}
-use Rattle.std.proofs.lemmas.List.{length-map, length-set, length-append, get_or-set_same, get_or-set_other, map-append, append-nil, take_all}
+use Rattle.std.proofs.lemmas.List.{length-set, length-append, get_or-set_same, get_or-set_other, map-append, append-nil, take_all}
 use Rattle.std.proofs.lemmas.List.Elements.{All-push, filter-append}
 use Rattle.std.proofs.lemmas.List.Folds.{list_any-append}
 use Rattle.std.proofs.lemmas.Grind.{flat_map-append}
 use Rattle.std.proofs.Math.Seq.{get_or-append_seam}
-use Rattle.span_query.specs.declared.query.Aggregate.{Aggregate}
 use Rattle.span_query.specs.declared.query.Grouping.{Grouping}
 use Rattle.span_query.specs.Rows.{Row}
 use Rattle.span_query.specs.Groups.{are_equal, columns_at, distinct, group_keys, rows_with}
@@ -17,7 +16,7 @@ use Rattle.span_algebra.specs.Keys.{contains_row, with_new, place_of}
 use Rattle.span_algebra.specs.States.{AreStatesOf}
 use Rattle.span_algebra.specs.Grouped.{keys_of, HasTakenRows, AreGroupsOf}
 use Rattle.span_algebra.specs.Merged.{AreApart, AreWholeGroups, HasGroupAt, with_keys, rows_by_key}
-use Rattle.span_algebra.proofs.Alike.{are_equal-same, are_equal-itself, are_equal-reversed}
+use Rattle.span_algebra.proofs.Alike.{are_equal-same, are_equal-reversed}
 use Rattle.span_algebra.proofs.Firsts.{unlike, distinct-more}
 use Rattle.span_algebra.proofs.Absorbed.{key_at, key_count, keys-same}
 use Rattle.span_algebra.proofs.Places.{place_found, place_tells, place_most, apart_at, group_keys-apart, distinct-apart, contains_row-distinct, none_with}

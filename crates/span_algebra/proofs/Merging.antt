@@ -1,6 +1,6 @@
 -- States that take what others have taken.
-use Rattle.std.proofs.Common.{◌≡◌, ℕ, ℤ, ◌+◌, ◌+ℤ◌, ◌<◌, ◌≤◌, Bool, true, false, cond, not, List, [], ◌∷◌, ◌++◌, length, set, get_or, slice_get, Option, Some, None, Result, Ok, IfOk, IsTrue, refl, sym, ap, ◌∙◌, subst, inl, inr, arith}
-use Rattle.std.specs.List.{filter, fold}
+use Rattle.std.proofs.Common.{◌≡◌, ℕ, ℤ, ◌+◌, ◌+ℤ◌, ◌<◌, ◌≤◌, Bool, true, false, cond, not, List, [], ◌∷◌, ◌++◌, length, set, get_or, slice_get, Option, Some, Result, Ok, IfOk, IsTrue, refl, sym, ap, ◌∙◌, subst, inl, inr, arith}
+use Rattle.std.specs.List.{fold}
 use Rattle.std.specs.Option.{option_map}
 use Rattle.std.specs.declared.alloc.AllocError.{AllocError}
 use Rattle.std.specs.declared.cmp.Ordering.{Ordering}
@@ -12,23 +12,22 @@ use Rattle.std.proofs.lemmas.Int.{ints}
 use Rattle.std.proofs.lemmas.List.{length-append, length-set, get_or-set_same, get_or-set_other, append-nil}
 use Rattle.std.proofs.lemmas.List.Elements.{filter-append}
 use Rattle.std.proofs.lemmas.List.Sums.{fold-append}
-use Rattle.std.proofs.lemmas.Option.{slice_get_within, slice_get-get_or, get_or_from_slice_get, same_Some}
+use Rattle.std.proofs.lemmas.Option.{slice_get_within, slice_get-get_or, get_or_from_slice_get}
 use Rattle.span_value.specs.declared.value.Value.{Value}
 use Rattle.span_value.specs.Orders.{value_order}
 use Rattle.span_value.proofs.Total.{value_order_total}
-use Rattle.span_expr.specs.declared.expr.Expr.{Expr}
 use Rattle.span_expr.specs.Meaning.{val}
 use Rattle.span_expr.specs.Outcomes.{is_null}
 use Rattle.span_query.specs.declared.query.Aggregate.{Aggregate}
 use Rattle.span_query.specs.declared.query.Aggregate.TheVariants.{CountRows, Of}
 use Rattle.span_query.specs.declared.query.Function.{Function}
 use Rattle.span_query.specs.declared.query.Function.TheVariants as function
-use Rattle.span_query.specs.Rows.{Row, OrFault, value_of, append_results, concat_map, singleton, each}
-use Rattle.span_query.specs.Groups.{int_of, total, without_nulls, operands, lesser, greater}
+use Rattle.span_query.specs.Rows.{Row, OrFault, value_of, append_results, singleton, each}
+use Rattle.span_query.specs.Groups.{int_of, total, without_nulls, lesser, greater}
 use Rattle.span_algebra.specs.declared.sum.Sum.{Sum}
 use Rattle.span_algebra.specs.declared.aggregate.State.{State}
 use Rattle.span_algebra.specs.declared.aggregate.State.TheVariants as state
-use Rattle.span_algebra.specs.States.{best, or_better, better_of, HasCounted, HasTaken, IsStateOf, AreStatesOf}
+use Rattle.span_algebra.specs.States.{best, better_of, HasCounted, HasTaken, IsStateOf, AreStatesOf}
 use Rattle.span_algebra.proofs.Gathering.{concat_map-append}
 
 -- ---- sums

@@ -1,5 +1,5 @@
 -- Groups, and the groups of further rows put together with them.
-use Rattle.std.specs.Prelude.{◌≡◌, ℕ, ◌<◌, Bool, false, List, [], ◌∷◌, ◌++◌, length, flat_map, slice_index_or}
+use Rattle.std.specs.Prelude.{◌≡◌, ℕ, ◌<◌, false, List, [], ◌∷◌, length, flat_map, slice_index_or}
 use Rattle.span_query.specs.declared.query.Grouping.{Grouping}
 use Rattle.span_query.specs.Rows.{Row}
 use Rattle.span_query.specs.Groups.{rows_with}

@@ -1,10 +1,12 @@
 //! The rows of a query from the pieces of its leaves.
 ghost use Rattle.std.specs.Prelude.{◌≡◌, ◌⊎◌, ◌++◌, ◌∷◌, [], map, MatchResult, IfOk, OnOk, Some, None};
+ghost use Rattle.std.specs.Option.{option_map};
+ghost use Rattle.span_algebra.specs.Parts.{all_rows};
 ghost use Rattle.span_gather.specs.Gathered.{joined_pieces, gathered};
 
 use super::rows::Rows;
+use span_algebra::grouped::GroupedRows;
 use span_algebra::plain::eval_plain;
-use span_algebra::row_list::RowList;
 use span_algebra::source::Tables;
 use span_fragment::piece::Piece;
 use span_query::query::BoundQuery;
@@ -12,52 +14,24 @@ use span_value::refusal::Refusal;
 use span_value::seq::Seq;
 use std::alloc::{AllocError, Global};
 
-/// The rows of pieces, one after another, copied; none where one of them is a fault.
-fn join_pieces(alloc: Global, pieces: &[Piece]) -> Result<Option<RowList>, AllocError>
-    ensures { IfOk result (λ rows. rows ≡ joined_pieces pieces.now) }
+/// The rows of pieces, lent; none where one of the pieces is a fault.
+fn lent_parts<'a>(
+    alloc: Global,
+    pieces: &'a [Piece],
+) -> Result<Option<Vec<&'a GroupedRows>>, AllocError>
+    ensures { IfOk result (λ parts. joined_pieces pieces.now ≡ option_map (λ lent. all_rows lent.items) parts) }
 {
-    let mut rows = RowList::new(alloc);
+    let mut parts = Vec::with_capacity(alloc, pieces.len())?;
     for piece in pieces {
-        let Some(more) = piece.rows() else {
+        let Some(rows) = piece.rows() else {
             return Ok(None);
         };
-        add_copies(alloc, &mut rows, more)?;
+        parts.push(rows)?;
     }
-    Ok(Some(rows))
+    Ok(Some(parts))
 }
 
-/// Adds copies of the rows.
-fn add_copies(alloc: Global, rows: &mut RowList, more: &RowList) -> Result<(), AllocError>
-    ensures { OnOk result (rows.new ≡ rows.old ++ more.now) }
-{
-    for at in 0..more.len() {
-        rows.push_copy(alloc, more.row(at))?;
-    }
-    Ok(())
-}
-
-/// Adds the table of a piece. Its rows are lent.
-fn lend_piece<'a>(tables: &mut Tables<'a>, piece: &'a Piece) -> Result<(), AllocError>
-    ensures { OnOk result (tables.new ≡ tables.old ++ piece.now.rows ∷ []) }
-{
-    match piece.rows() {
-        Some(rows) => tables.lend(rows),
-        None => tables.add_fault(),
-    }
-}
-
-/// Adds the table of pieces. Their rows are copied.
-fn add_pieces(alloc: Global, tables: &mut Tables<'_>, pieces: &[Piece]) -> Result<(), AllocError>
-    ensures { OnOk result (tables.new ≡ tables.old ++ joined_pieces pieces.now ∷ []) }
-{
-    match join_pieces(alloc, pieces)? {
-        Some(rows) => tables.add(rows),
-        None => tables.add_fault(),
-    }
-}
-
-/// Adds the table of a leaf. The rows of its only piece are lent.
-#[tactic(auto, using(crate::proofs::Gathering::joined_one))]
+/// Adds the table of a leaf, whose rows are lent.
 fn add_table<'a>(
     alloc: Global,
     tables: &mut Tables<'a>,
@@ -65,9 +39,9 @@ fn add_table<'a>(
 ) -> Result<(), AllocError>
     ensures { OnOk result (tables.new ≡ tables.old ++ joined_pieces pieces.now ∷ []) }
 {
-    match pieces {
-        [piece] => lend_piece(tables, piece),
-        _ => add_pieces(alloc, tables, pieces),
+    match lent_parts(alloc, pieces)? {
+        Some(parts) => tables.lend(parts),
+        None => tables.add_fault(),
     }
 }
 

@@ -1,7 +1,7 @@
 use Rattle.std.proofs.Common.{rules, ◌≡◌, ◌+◌, ◌<◌, length, ◌∷◌, ◌++◌, [], List, Vec, Global, Some, Err, true, false, ap, sym, subst, ◌∙◌}
 use Rattle.span_algebra.specs.declared.group.Group.{Group}
 use Rattle.std.specs.HashSet.{HashSet}
-use Rattle.span_query.specs.Rows.{Row, Rows, ◌>>=◌, filter_where}
+use Rattle.span_query.specs.Rows.{Row, ◌>>=◌, filter_where}
 use Rattle.span_query.specs.Groups.{groups}
 use Rattle.span_algebra.specs.Answers.{Gives}
 use Rattle.span_algebra.specs.Grouped.{keys_of, AreGroupsOf}

@@ -1,4 +1,4 @@
-use Rattle.std.proofs.Common.{rules, ◌≡◌, ◌∷◌, ◌++◌, ◌+◌, ◌<◌, ◌≤◌, ◌∙◌, [], List, length, take, get_or, ap, sym, subst}
+use Rattle.std.proofs.Common.{rules, ◌≡◌, ◌∷◌, ◌++◌, ◌+◌, ◌<◌, ◌≤◌, [], List, length, take, get_or, sym, subst}
 use Rattle.std.proofs.lemmas.List.{take_more, take_all}
 use Rattle.span_algebra.specs.declared.grouped.Measure.{Measure}
 use Rattle.span_algebra.specs.declared.grouped.Measure.TheVariants.{CountRows}

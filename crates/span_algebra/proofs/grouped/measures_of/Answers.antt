@@ -1,6 +1,6 @@
 use Rattle.std.proofs.Common.{rules, ◌≡◌, ◌∷◌, ◌++◌, ◌+◌, ◌<◌, [], List, length, take, get_or, sym, subst}
 use Rattle.span_algebra.specs.declared.grouped.Measure.{Measure}
-use Rattle.span_algebra.specs.Parts.{aggregate_of, AreMeasuresOf}
+use Rattle.span_algebra.specs.Parts.{AreMeasuresOf}
 use Rattle.span_algebra.proofs.Measuring.{measured_more, measured_all}
 use Rattle.span_algebra.proofs.grouped.measures_of.Goals as goal
 

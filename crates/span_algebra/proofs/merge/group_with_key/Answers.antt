@@ -1,6 +1,5 @@
-use Rattle.std.proofs.Common.{rules, arith, ◌≡◌, ◌≢◌, ◌∷◌, ◌++◌, ◌<◌, ◌∙◌, [], ap, sym, subst, List, length}
+use Rattle.std.proofs.Common.{rules, arith, ◌≡◌, ◌≢◌, ◌∷◌, ◌++◌, ◌<◌, [], sym, subst, List, length}
 use Rattle.span_query.specs.declared.query.Aggregate.{Aggregate}
-use Rattle.span_query.specs.Rows.{Row}
 use Rattle.span_algebra.specs.declared.group.Group.{Group}
 use Rattle.span_algebra.specs.Keys.{place_of}
 use Rattle.span_algebra.specs.States.{AreStatesOf}

@@ -1,12 +1,9 @@
-use Rattle.std.proofs.Common.{rules, ◌≡◌, ◌++◌, ◌<◌, ◌∙◌, IfOk, IsTrue, Result, Ok, Bool, ap, refl, sym, subst, List, length, get_or, set}
+use Rattle.std.proofs.Common.{rules, ◌≡◌, ◌++◌, ◌<◌, ◌∙◌, refl, sym, subst, List, length, get_or}
 use Rattle.std.proofs.lemmas.Result.{IfOk-weaker}
-use Rattle.span_query.specs.declared.query.Aggregate.{Aggregate}
 use Rattle.span_query.specs.Rows.{Row}
-use Rattle.span_query.specs.Groups.{rows_with}
 use Rattle.span_algebra.specs.declared.group.Group.{Group}
 use Rattle.span_algebra.specs.declared.aggregate.State.{State}
 use Rattle.span_algebra.specs.States.{AreStatesOf}
-use Rattle.span_algebra.specs.Grouped.{keys_of}
 use Rattle.span_algebra.specs.Merged.{HasGroupAt}
 use Rattle.span_algebra.proofs.MergedGroups.{group_merged, keys_kept, on_ok_always}
 use Rattle.span_algebra.proofs.merge.merge_group.Goals as goal

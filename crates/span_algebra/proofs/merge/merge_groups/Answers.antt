@@ -1,4 +1,4 @@
-use Rattle.std.proofs.Common.{rules, ◌≡◌, ◌∷◌, ◌++◌, ◌+◌, ◌<◌, ◌≤◌, [], IsTrue, true, List, length, take, map, ap, sym, subst, ◌∙◌, arith, get_or}
+use Rattle.std.proofs.Common.{rules, ◌≡◌, ◌∷◌, ◌++◌, ◌+◌, ◌<◌, [], IsTrue, length, take, ap, sym, subst, ◌∙◌, arith, get_or}
 use Rattle.std.proofs.lemmas.List.{take_more}
 use Rattle.span_query.specs.Rows.{Row}
 use Rattle.span_algebra.specs.declared.group.Group.{Group}

@@ -1,9 +1,6 @@
-use Rattle.std.proofs.Common.{rules, ◌≡◌, ◌++◌, ◌+◌, ◌<◌, ◌≤◌, ◌∙◌, [], IsTrue, List, length, get_or, take, refl, ap, sym, subst}
-use denote.Ref.{Bor}
-use Rattle.span_query.specs.declared.query.Aggregate.{Aggregate}
+use Rattle.std.proofs.Common.{rules, ◌≡◌, ◌++◌, ◌<◌, ◌≤◌, IsTrue, List, length, get_or, take, sym, subst}
 use Rattle.span_query.specs.Rows.{Row}
-use Rattle.span_algebra.specs.declared.group.Group.{Group}
-use Rattle.span_algebra.specs.Grouped.{keys_of, AreGroupsOf}
+use Rattle.span_algebra.specs.Grouped.{AreGroupsOf}
 use Rattle.span_algebra.specs.Parts.{all_rows}
 use Rattle.span_algebra.proofs.Parting.{rows_more, rows_all}
 use Rattle.span_algebra.proofs.merge.merge_parts.Goals as goal

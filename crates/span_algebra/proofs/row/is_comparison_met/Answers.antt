@@ -1,4 +1,4 @@
-use Rattle.std.proofs.Common.{◌≡◌, ◌∙◌, Bool, Ordering, sym, ap}
+use Rattle.std.proofs.Common.{◌∙◌, Bool, Ordering, sym, ap}
 use Rattle.span_value.specs.declared.truth.Outcome.TheVariants.{Val}
 use Rattle.span_value.specs.declared.value.Value.TheVariants as value
 use Rattle.span_expr.specs.declared.expr.Expr.{Expr}

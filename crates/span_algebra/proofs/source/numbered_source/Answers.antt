@@ -1,4 +1,4 @@
-use Rattle.std.proofs.Common.{rules, ◌≡◌, ◌∙◌, ℕ, ◌-◌, suc, List, [], Option, Some, None, ap, sym, subst, arith, map}
+use Rattle.std.proofs.Common.{◌≡◌, ◌∙◌, ℕ, ◌-◌, suc, List, [], Option, Some, None, ap, sym, arith, map}
 use Rattle.std.specs.Prelude.{slice_get, option_map}
 use Rattle.std.specs.Option.{unwrap_or, option_copied}
 use Rattle.std.proofs.lemmas.Option.{slice_get-map}

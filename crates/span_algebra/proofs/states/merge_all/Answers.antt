@@ -1,4 +1,4 @@
-use Rattle.std.proofs.Common.{rules, ◌≡◌, ◌∙◌, slice_get, Some, true, IsTrue, arith}
+use Rattle.std.proofs.Common.{rules, ◌≡◌, ◌∙◌, slice_get, Some, IsTrue, arith}
 use Rattle.std.proofs.lemmas.List.{length-set}
 use Rattle.std.proofs.lemmas.Option.{slice_get_read}
 use Rattle.span_algebra.proofs.Merging.{TakesAll, one_before, all_before}

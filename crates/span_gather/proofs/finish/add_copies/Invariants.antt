@@ -1,6 +1,0 @@
-use Rattle.std.proofs.Common.{◌≡◌, ◌++◌, drop}
-use Rattle.span_gather.proofs.finish.add_copies.Given as goal
-
--- the rows so far, and those that are left
-abbrev pub invariant-loop-at : goal.invariant-loop-at
-invariant-loop-at l = l.rows ++ drop l.at l.more ≡ l.fn.rows ++ l.more
