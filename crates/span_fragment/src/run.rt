@@ -101,7 +101,7 @@ pub fn run_leaf(
         (λ why. (why ≡ Refusal.OutOfMemory) ⊎ AreNoRows schema.now snapshot.entry) }
 {
     let found = rows_given(alloc, schema, leaf, snapshot)?;
-    piece_of(alloc, grouping, found)
+    Ok(piece_of(alloc, grouping, found)?)
 }
 
 /// How a block groups all rows of the table with this number, if it does; the first table has number 1.

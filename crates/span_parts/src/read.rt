@@ -8,9 +8,10 @@ ghost use Rattle.span_journal.specs.Judged.{leaf_of};
 ghost use Rattle.span_parts.specs.Whole.{IsRead, IsUnread};
 
 use span_fragment::piece::Piece;
-use span_fragment::run::run_leaf;
+use span_fragment::run::{leaf_grouping, run_leaf};
 use span_journal::journal::{Gap, Journal};
 use span_planner::leaf::Leaf;
+use span_query::query::Grouping;
 use span_schema::schema::Schema;
 use span_shard::shard::Shard;
 use span_value::refusal::Refusal;
@@ -36,19 +37,29 @@ pub(crate) fn read_gap(
         (λ piece. IsRead schema.now shard.now gap.now.range gap.now.s piece l)
         (IsUnread schema.now shard.now gap.now.range gap.now.s)) }
 {
+    let grouping = grouping_above(journal, query, leaf);
     let Some(leaf) = journal.leaf(query, leaf) else {
         return Err(Refusal::UnknownQuery);
     };
-    read_leaf(alloc, schema, shard, leaf, gap)
+    read_leaf(alloc, schema, shard, leaf, grouping, gap)
 }
 
-/// What a leaf gives on a part of its range, from the shard that has it. `OutOfMemory`, where the shard has rows of the
-/// schema's tables.
+/// How the query above the leaves groups all rows of a leaf of an open query, if it does.
+fn grouping_above(journal: &Journal, query: u64, leaf: usize) -> Option<&Grouping> {
+    match journal.query(query) {
+        Some(question) => leaf_grouping(&question.top, leaf),
+        None => None,
+    }
+}
+
+/// What a leaf gives on a part of its range, from the shard that has it, with the groups that the query above makes of all its rows, if it
+/// does. `OutOfMemory`, where the shard has rows of the schema's tables.
 pub fn read_leaf(
     alloc: Global,
     schema: &Schema,
     shard: &Shard,
     leaf: &Leaf,
+    grouping: Option<&Grouping>,
     gap: &Gap,
 ) -> Result<Piece, Refusal>
     requires tables { AllByRecursion (IsTable schema.now) leaf.now.tables }
@@ -57,5 +68,6 @@ pub fn read_leaf(
         (λ piece. IsRead schema.now shard.now gap.now.range gap.now.s piece leaf.now)
         (IsUnread schema.now shard.now gap.now.range gap.now.s) }
 {
-    run_leaf(alloc, schema, leaf, shard.snapshot(&gap.range, gap.s))
+    let snapshot = shard.snapshot(&gap.range, gap.s);
+    run_leaf(alloc, schema, leaf, grouping, snapshot)
 }

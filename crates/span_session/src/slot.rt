@@ -29,6 +29,7 @@ use span_parts::cut::cut_in;
 use span_parts::read::read_leaf;
 use span_parts::slot;
 use span_planner::leaf::Leaf;
+use span_query::query::Grouping;
 use span_shard::shard::Shard;
 use span_truetime::interval::Interval;
 use span_value::refusal::Refusal;
@@ -221,14 +222,21 @@ impl<J: Naming> LockedSlot<J> {
         }
     }
 
-    /// What a leaf of a query gives on a part of its range, as far as this slot has it. `OutOfMemory`: a slot has rows of the schema's
+    /// What a leaf of a query gives on a part of its range, as far as this slot has it, with the groups that the query above makes of all its rows,
+    /// if it does. `OutOfMemory`: a slot has rows of the schema's
     /// tables, and so nothing else is wanting where a part can't be read.
-    pub(crate) fn read(&self, board: &Board<J>, leaf: &Leaf, gap: &Gap) -> Result<Piece, Refusal>
+    pub(crate) fn read(
+        &self,
+        board: &Board<J>,
+        leaf: &Leaf,
+        grouping: Option<&Grouping>,
+        gap: &Gap,
+    ) -> Result<Piece, Refusal>
         requires { (text : List ℕ) × (params : List Parameter) × (place : ℕ) × IsLeafOf J.schema text params place leaf.now }
         ensures read { IfOk result (λ piece. IsRead J.schema self.now.versions gap.now.range gap.now.s piece leaf.now) }
         ensures memory { IfErr result (λ why. why ≡ Refusal.OutOfMemory) }
     {
-        match read_leaf(board.alloc, &board.schema, &self.shard, leaf, gap) {
+        match read_leaf(board.alloc, &board.schema, &self.shard, leaf, grouping, gap) {
             Ok(piece) => Ok(piece),
             Err(_) => Err(Refusal::OutOfMemory),
         }

@@ -9,9 +9,11 @@ use crate::open::SLOTS;
 use crate::queries::Gate;
 use crate::question::leaf_at;
 use crate::scan_queue::{ScanQueue, refuse, take};
+use span_fragment::run::leaf_grouping;
 use span_journal::journal::Gap;
 use span_params::params::Params;
 use span_planner::leaf::{Leaf, Plan};
+use span_query::query::Grouping;
 use span_truetime::clock::Clock;
 use span_truetime::interval::Interval;
 use span_value::refusal::Refusal;
@@ -155,9 +157,12 @@ impl<J: Naming> Db<J> {
         requires { IsPlanOf J.schema text.now params.now plan.now }
     {
         match leaf_at(plan, place) {
-            Some(leaf) => self.scan_slot(
-                rt, clock, gate, text, params, query, queue, place, leaf, number,
-            ),
+            Some(leaf) => {
+                let grouping = leaf_grouping(&plan.top, place);
+                self.scan_slot(
+                    rt, clock, gate, text, params, query, queue, place, leaf, grouping, number,
+                );
+            }
             None => (),
         }
     }
@@ -174,13 +179,14 @@ impl<J: Naming> Db<J> {
         queue: &Mutex<ScanQueue<J>>,
         place: usize,
         leaf: &Leaf,
+        grouping: Option<&Grouping>,
         number: usize,
     )
         requires { IsLeafOf J.schema text.now params.now place leaf.now }
     {
         for _ in rt.forever() {
             if !self.scan(
-                rt, clock, gate, text, params, query, queue, place, leaf, number,
+                rt, clock, gate, text, params, query, queue, place, leaf, grouping, number,
             ) {
                 break;
             }
@@ -199,6 +205,7 @@ impl<J: Naming> Db<J> {
         queue: &Mutex<ScanQueue<J>>,
         place: usize,
         leaf: &Leaf,
+        grouping: Option<&Grouping>,
         number: usize,
     ) -> bool
         requires { IsLeafOf J.schema text.now params.now place leaf.now }
@@ -209,7 +216,7 @@ impl<J: Naming> Db<J> {
         };
         gate.before_scan(place, number);
         let scanned = self.read(
-            rt, gate, text, params, query, queue, place, leaf, number, interval, &gap,
+            rt, gate, text, params, query, queue, place, leaf, grouping, number, interval, &gap,
         );
         if let Err(why) = scanned {
             refuse(rt, queue, why);
@@ -258,6 +265,7 @@ impl<J: Naming> Db<J> {
         queue: &Mutex<ScanQueue<J>>,
         place: usize,
         leaf: &Leaf,
+        grouping: Option<&Grouping>,
         number: usize,
         interval: Interval,
         gap: &Gap,
@@ -266,7 +274,7 @@ impl<J: Naming> Db<J> {
         ensures { IfErr result (IsUnscanned J.schema) }
     {
         let mut slot = self.slot(number)?.lock(rt);
-        let piece = slot.read(&self.board, leaf, gap)?;
+        let piece = slot.read(&self.board, leaf, grouping, gap)?;
         gate.in_scan(place, number);
         let mut queue = queue.lock(rt);
         let mut journal = self.journal.lock(rt);
