@@ -22,6 +22,7 @@ pub mod Sizes
 pub mod Spent
 pub mod Splitting
 pub mod Stopping
+pub mod Stored
 pub mod Turned
 pub mod Unlinking
 pub mod Walking

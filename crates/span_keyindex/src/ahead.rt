@@ -69,7 +69,7 @@ impl Ahead {
 
 // Whether the next key was put soon before or after this one.
 fn is_near(nexts: &NextLinks, number: u32) -> bool {
-    number_of(nexts.get(number)).abs_diff(number) <= NEAR
+    nexts.number_after(number).abs_diff(number) <= NEAR
 }
 
 // How many levels of a tree with this many keys have lanes that begin there.
@@ -208,7 +208,7 @@ fn step(arena: &Arena, nexts: &NextLinks, lane: Lane, most: usize) -> u32 {
     if is_looked_at && arena.key(lane.at).len() > MOST_BYTES {
         return lane.at;
     }
-    number_of(nexts.get(lane.at))
+    nexts.number_after(lane.at)
 }
 
 // How many lanes have gone on.
