@@ -17,7 +17,7 @@ pub const LANES: usize = 16;
 /// No number of a chain.
 pub const NO_CHAIN: u32 = u32::MAX;
 
-/// A search on its way down: the next cell, and that of the last key so far that is not after the one searched for.
+/// A search that goes on: the next cell, and that of the last key so far that is not after the one searched for.
 #[derive(Clone, Copy, Debug)]
 struct Lane {
     at: u32,
