@@ -12,6 +12,7 @@ pub mod Joined
 pub mod Keeping
 pub mod Lasts
 pub mod Linking
+pub mod Looking
 pub mod Nearby
 pub mod Owning
 pub mod Placing
