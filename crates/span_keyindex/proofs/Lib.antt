@@ -12,6 +12,7 @@ pub mod Joined
 pub mod Keeping
 pub mod Lasts
 pub mod Linking
+pub mod Looking
 pub mod Nearby
 pub mod Owning
 pub mod Placing
@@ -22,6 +23,7 @@ pub mod Sizes
 pub mod Spent
 pub mod Splitting
 pub mod Stopping
+pub mod Stored
 pub mod Turned
 pub mod Unlinking
 pub mod Walking

@@ -1,8 +1,9 @@
--- What a chain tells of a key.
-use Rattle.std.specs.Prelude.{◌≡◌, ℕ, List, Option, Some, None}
+-- What a chain tells of a key, and what searches of several keys cost.
+use Rattle.std.specs.Prelude.{◌≡◌, ◌≤◌, ◌+◌, ℕ, List, Option, Some, None}
 use Rattle.std.specs.declared.cmp.Ordering.TheVariants.{Less}
 use Rattle.span_keycode.specs.Order.{byte_order}
 use Rattle.span_arena.specs.Cells.{cell_at}
+use Rattle.span_arena.specs.Counts.{Count}
 use Rattle.span_arena.specs.declared.cell.Cell.{Cell}
 use Rattle.span_keyindex.specs.declared.near.Near.{Near}
 use Rattle.span_keyindex.specs.declared.near.Near.TheVariants.{Here, Absent, Unknown}
@@ -17,3 +18,8 @@ abbrev pub IsNear : List Entry → List ℕ → ℕ → Near → Type 0
 IsNear es key near Here = HasChain es key (record { number = near })
 IsNear es key near Absent = IsAbsent es key
 IsNear es key near Unknown = Unit {0}
+
+-- at most this many keys were compared, and nothing was written
+pub record IsLookCost (most : ℕ) (old new : Count) : Type 0 where
+  pub compared : new.compared ≤ old.compared + most
+  pub written : new.written ≡ old.written

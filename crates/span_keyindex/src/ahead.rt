@@ -10,13 +10,14 @@ use crate::tree::TreeRoot;
 use span_arena::arena::Arena;
 use span_keycode::key::MOST_BYTES;
 
-const LANES: usize = 16;
+/// More lanes do not go faster: what is waited for is then the walks over page tables, and few of them run at a time.
+const LANES: usize = 8;
 
 /// About how many keys lie from the begin of a lane to that of the next.
-const LANE_KEYS: usize = 32;
+const LANE_KEYS: usize = 64;
 
 /// How many keys a lane looks at.
-const MOST_STEPS: usize = 64;
+const MOST_STEPS: usize = 128;
 
 /// How many keys a walk hands out before it first looks ahead, and before it tries again.
 const FIRST_KEYS: usize = 64;
@@ -69,7 +70,7 @@ impl Ahead {
 
 // Whether the next key was put soon before or after this one.
 fn is_near(nexts: &NextLinks, number: u32) -> bool {
-    number_of(nexts.get(number)).abs_diff(number) <= NEAR
+    nexts.number_after(number).abs_diff(number) <= NEAR
 }
 
 // How many levels of a tree with this many keys have lanes that begin there.
@@ -80,14 +81,14 @@ fn upper_levels(keys: usize) -> usize {
     }
 }
 
-/// A cell on the way down whose key is yet to come, and how many levels there are from it on.
+/// A cell passed on the path whose key is yet to come, and how many levels there are from it on.
 #[derive(Clone, Copy, Debug)]
 struct Turn {
     number: u32,
     levels: usize,
 }
 
-/// A way down the upper levels of the tree, to the right of which are the keys that come next.
+/// A path from the root through the upper levels of the tree, to the right of which are the keys that come next.
 #[derive(Clone, Copy, Debug)]
 struct Path {
     turns: [Turn; MOST_TURNS],
@@ -208,7 +209,7 @@ fn step(arena: &Arena, nexts: &NextLinks, lane: Lane, most: usize) -> u32 {
     if is_looked_at && arena.key(lane.at).len() > MOST_BYTES {
         return lane.at;
     }
-    number_of(nexts.get(lane.at))
+    nexts.number_after(lane.at)
 }
 
 // How many lanes have gone on.

@@ -61,9 +61,19 @@ impl KeyIndex {
     }
 
     /// For up to 16 keys the numbers of chains near them, for `find_near`: nothing is promised of them. The keys are searched together,
-    /// which takes less time than one after another where the tree is large. It takes no memory.
-    pub fn near(&self, arena: &Arena, keys: &[Key]) -> [u32; LANES] {
-        near_keys(self, arena, keys)
+    /// which takes less time than one after another where the tree is large. Among fewer than 2 ^ d keys at most 2 d are compared for
+    /// each of the 16. It takes no memory.
+    pub fn near<C: Ledger, W: Ledger>(
+        &self,
+        arena: &Arena,
+        keys: &[Key],
+        steps: &mut Steps<C, W>,
+    ) -> [u32; LANES]
+        requires { IsIndexOf self.now arena.now }
+        ensures cost { (d : ℕ) → length (entries_of self.now arena.now) < 2 ^ d
+            → IsSearchCost (16 * d) steps.old steps.new }
+    {
+        near_keys(self, arena, keys, steps)
     }
 
     /// As `find`. Where `near` is the number of the key's chain, or of that of the last key before it, no other search is made.

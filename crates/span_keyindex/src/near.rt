@@ -2,14 +2,16 @@
 //!
 //! A search waits for memory at each level of a large tree. Searches of several keys that go down the tree together wait for
 //! each other's cells at once: so a transaction's keys are searched ahead, a few at a time, and a look-up then begins at what was found.
-ghost use Rattle.std.specs.Prelude.{◌≡◌, IsTrue};
-ghost use Rattle.span_keyindex.specs.Indexes.{IsIndexOf, entries_of};
-ghost use Rattle.span_keyindex.specs.Nears.{IsBefore, IsNear};
+ghost use Rattle.std.specs.Prelude.{◌≡◌, ℕ, ◌*◌, ◌<◌, ◌^◌, IsTrue, length};
+ghost use Rattle.span_keyindex.specs.Indexes.{IsIndexOf, IsSearchCost, entries_of};
+ghost use Rattle.span_keyindex.specs.Nears.{IsBefore, IsLookCost, IsNear};
 
 use crate::index::KeyIndex;
 use span_arena::arena::Arena;
+use span_arena::steps::Steps;
 use span_keycode::key::Key;
 use std::cmp::Ordering;
+use std::sync::ledger::Ledger;
 
 /// How many keys are searched together.
 pub const LANES: usize = 16;
@@ -17,7 +19,7 @@ pub const LANES: usize = 16;
 /// No number of a chain.
 pub const NO_CHAIN: u32 = u32::MAX;
 
-/// A search on its way down: the next cell, and that of the last key so far that is not after the one searched for.
+/// A search that goes on: the next cell, and that of the last key so far that is not after the one searched for.
 #[derive(Clone, Copy, Debug)]
 struct Lane {
     at: u32,
@@ -33,12 +35,19 @@ pub(crate) fn number_of(link: Option<u32>) -> u32 {
 }
 
 // One level down.
-fn step(arena: &Arena, key: &[u8], lane: Lane) -> Lane {
+fn step<C: Ledger, W: Ledger>(
+    arena: &Arena,
+    key: &[u8],
+    lane: Lane,
+    steps: &mut Steps<C, W>,
+) -> Lane
+    ensures { IsLookCost 1 steps.old steps.new }
+{
     if lane.at as usize >= arena.numbers() {
         return lane;
     }
     let links = arena.links(lane.at);
-    if arena.order(lane.at, key).is_lt() {
+    if arena.compare(lane.at, key, steps).is_lt() {
         Lane {
             at: number_of(links.left),
             before: lane.before,
@@ -51,11 +60,45 @@ fn step(arena: &Arena, key: &[u8], lane: Lane) -> Lane {
     }
 }
 
-fn step_all(arena: &Arena, keys: &[Key], lanes: &mut [Lane; LANES]) {
+// As `step`, where there is a key.
+fn step_lane<C: Ledger, W: Ledger>(
+    arena: &Arena,
+    key: Option<&Key>,
+    lane: Lane,
+    steps: &mut Steps<C, W>,
+) -> Lane
+    ensures { IsLookCost 1 steps.old steps.new }
+{
+    match key {
+        None => lane,
+        Some(key) => step(arena, key.as_slice(), lane, steps),
+    }
+}
+
+fn step_all<C: Ledger, W: Ledger>(
+    arena: &Arena,
+    keys: &[Key],
+    lanes: &mut [Lane; LANES],
+    steps: &mut Steps<C, W>,
+)
+    ensures { IsLookCost 16 steps.old steps.new }
+{
     for i in 0..LANES {
-        if let Some(key) = keys.get(i) {
-            lanes[i] = step(arena, key.as_slice(), lanes[i]);
-        }
+        lanes[i] = step_lane(arena, keys.get(i), lanes[i], steps);
+    }
+}
+
+fn search_all<C: Ledger, W: Ledger>(
+    arena: &Arena,
+    keys: &[Key],
+    lanes: &mut [Lane; LANES],
+    levels: usize,
+    steps: &mut Steps<C, W>,
+)
+    ensures { IsLookCost (16 * levels) steps.old steps.new }
+{
+    for _level in 0..levels {
+        step_all(arena, keys, lanes, steps);
     }
 }
 
@@ -68,21 +111,33 @@ fn found(arena: &Arena, lane: Lane) -> u32 {
     }
 }
 
-/// The chains near some keys, up to 16: where all is well, those of the last keys that are not after them.
-pub(crate) fn near_keys(index: &KeyIndex, arena: &Arena, keys: &[Key]) -> [u32; LANES] {
-    let first = Lane {
-        at: number_of(index.tree.root),
-        before: NO_CHAIN,
-    };
-    let mut lanes = [first; LANES];
-    for _ in 0..index.tree.levels {
-        step_all(arena, keys, &mut lanes);
-    }
+// The chains that the searches have found.
+fn found_all(arena: &Arena, lanes: &[Lane; LANES]) -> [u32; LANES] {
     let mut near = [NO_CHAIN; LANES];
     for i in 0..LANES {
         near[i] = found(arena, lanes[i]);
     }
     near
+}
+
+/// The chains near some keys, up to 16: where all is well, those of the last keys that are not after them.
+pub(crate) fn near_keys<C: Ledger, W: Ledger>(
+    index: &KeyIndex,
+    arena: &Arena,
+    keys: &[Key],
+    steps: &mut Steps<C, W>,
+) -> [u32; LANES]
+    requires { IsIndexOf index.now arena.now }
+    ensures { (d : ℕ) → length (entries_of index.now arena.now) < 2 ^ d
+        → IsSearchCost (16 * d) steps.old steps.new }
+{
+    let first = Lane {
+        at: number_of(index.tree.root),
+        before: NO_CHAIN,
+    };
+    let mut lanes = [first; LANES];
+    search_all(arena, keys, &mut lanes, index.tree.levels, steps);
+    found_all(arena, &lanes)
 }
 
 /// What a chain tells of a key.

@@ -1,24 +1,40 @@
 //! The chains in the order of their keys, as links from each to the next.
 ghost use Rattle.std.specs.Prelude.{◌≡◌, ◌<◌, [], length, None, IfErr, IfSome, OnErr, OnOk};
-ghost use Rattle.span_keyindex.specs.Nexts.{next_of, with_cell, with_room, without_first, without_last};
+ghost use Rattle.span_keyindex.specs.Nexts.{link_to, next_of, with_cell, with_room, without_first, without_last};
 
+use crate::near::NO_CHAIN;
 use span_value::refusal::Refusal;
 use std::alloc::Global;
 use std::marker::Model;
 
-/// The first chain, and after each chain the next, by their numbers.
+/// The first chain, and after each chain the next, by their numbers: `NO_CHAIN` where there is none. So a link takes 4 bytes, where an
+/// `Option` of a number has 8.
 #[derive(Debug, Drop)]
 pub struct NextLinks {
-    first: Option<u32>,
-    next: Vec<Option<u32>>,
+    first: u32,
+    next: Vec<u32>,
 }
 
 impl Model for NextLinks {
-    ghost use Rattle.span_keyindex.specs.Nexts.{Nexts};
+    ghost use Rattle.std.specs.Prelude.{◌<◌, ◌^◌, length, map};
+    ghost use Rattle.span_keyindex.specs.Nexts.{Nexts, link_to};
 
     ghost Value = { Nexts };
 
-    ghost view = { λ n. record { first = n.first; next = n.next.items } };
+    ghost view = { λ n. record { first = link_to n.first; next = map link_to n.next.items } };
+
+    ghost invariant = { λ n. length n.next.items < 2 ^ 32 };
+}
+
+// The link to a chain, as it is kept.
+fn link_to(number: u32) -> Option<u32>
+    ensures { result ≡ link_to number }
+{
+    if number == NO_CHAIN {
+        None
+    } else {
+        Some(number)
+    }
 }
 
 impl NextLinks {
@@ -27,7 +43,7 @@ impl NextLinks {
         ensures { result ≡ record { first = None; next = [] } }
     {
         NextLinks {
-            first: None,
+            first: NO_CHAIN,
             next: Vec::new(alloc),
         }
     }
@@ -41,7 +57,7 @@ impl NextLinks {
     pub fn first(&self) -> Option<u32>
         ensures { result ≡ self.now.first }
     {
-        self.first
+        link_to(self.first)
     }
 
     /// The chain after a chain.
@@ -49,24 +65,28 @@ impl NextLinks {
         requires { cell < length self.now.next }
         ensures { result ≡ next_of self.now cell }
     {
-        self.next[cell as usize]
+        link_to(self.next[cell as usize])
     }
 
-    /// As `after`, and None where there is no chain of this number.
-    pub(crate) fn get(&self, cell: u32) -> Option<u32> {
+    /// As `after`, by number: `NO_CHAIN` where no chain is after it, and where there is none of this number.
+    pub(crate) fn number_after(&self, cell: u32) -> u32 {
         match self.next.get(cell as usize) {
-            None => None,
+            None => NO_CHAIN,
             Some(next) => *next,
         }
     }
 
-    /// A place for one chain more, to which no link leads. `Refusal::OutOfMemory` leaves all as it was.
+    /// A place for one chain more, to which no link leads. `Refusal::OutOfMemory` leaves all as it was. There are no more places than
+    /// numbers of chains: the last number is `NO_CHAIN`.
     pub(crate) fn add_room(&mut self) -> Result<(), Refusal>
         ensures ok { OnOk result (self.new ≡ with_room self.old) }
         ensures err { OnErr result (self.new ≡ self.old) }
         ensures memory { IfErr result (λ why. why ≡ Refusal.OutOfMemory) }
     {
-        let Ok(()) = self.next.push(None) else {
+        if self.next.len() >= NO_CHAIN as usize {
+            return Err(Refusal::OutOfMemory);
+        }
+        let Ok(()) = self.next.push(NO_CHAIN) else {
             return Err(Refusal::OutOfMemory);
         };
         Ok(())
@@ -89,11 +109,11 @@ impl NextLinks {
         match before {
             None => {
                 self.next[cell as usize] = self.first;
-                self.first = Some(cell);
+                self.first = cell;
             }
             Some(before) => {
                 self.next[cell as usize] = self.next[before as usize];
-                self.next[before as usize] = Some(cell);
+                self.next[before as usize] = cell;
             }
         }
     }
@@ -102,6 +122,6 @@ impl NextLinks {
     pub(crate) fn forget_first(&mut self)
         ensures { self.new ≡ without_first self.old }
     {
-        self.first = None;
+        self.first = NO_CHAIN;
     }
 }

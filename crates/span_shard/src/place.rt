@@ -8,7 +8,7 @@ ghost use Rattle.span_shard.specs.Versions.{row_at};
 ghost use Rattle.span_shard.specs.Stored.{chain_versions};
 ghost use Rattle.span_shard.specs.Reading.{versions_alone, versions_alone_at};
 
-use super::search::walk_under;
+use super::search::{near_chains, walk_under};
 use super::store::Store;
 use span_arena::arena::Arena;
 use span_arena::token::Chain;
@@ -91,7 +91,7 @@ pub(crate) fn row_near<'a>(store: &'a Store, key: &[u8], near: u32) -> Option<&'
 
 /// Chains near keys, for `row_near`.
 pub(crate) fn near_keys(store: &Store, keys: &[Key]) -> [u32; LANES] {
-    store.index.near(&store.arena, keys)
+    near_chains(&store.index, &store.arena, keys)
 }
 
 fn push_keys<'a>(

@@ -13,6 +13,7 @@ use span_keycode::key::Key;
 use span_keycode::range::KeyRange;
 use span_keyindex::chains::Chains;
 use span_keyindex::index::KeyIndex;
+use span_keyindex::near::LANES;
 use span_keyindex::walk::Walk;
 use span_value::refusal::Refusal;
 use std::alloc::Global;
@@ -51,6 +52,28 @@ fn counted_slot_for<C: Ledger, W: Ledger>(
 {
     let mut steps: Steps<C, W> = Steps::new(compared, written);
     index.slot_for(arena, key, &mut steps)
+}
+
+/// Chains near up to 16 keys.
+pub(crate) fn near_chains(index: &KeyIndex, arena: &Arena, keys: &[Key]) -> [u32; LANES]
+    requires { IsIndexOf index.now arena.now }
+{
+    counted_near_chains::<Brand, Brand>(index, arena, keys, Blank::new(1), Blank::new(1))
+}
+
+fn counted_near_chains<C: Ledger, W: Ledger>(
+    index: &KeyIndex,
+    arena: &Arena,
+    keys: &[Key],
+    compared: Blank,
+    written: Blank,
+) -> [u32; LANES]
+    requires own { IsIndexOf index.now arena.now }
+    requires opens_compared { Opens C.name C.parts compared.name compared.parts }
+    requires opens_written { Opens W.name W.parts written.name written.parts }
+{
+    let mut steps: Steps<C, W> = Steps::new(compared, written);
+    index.near(arena, keys, &mut steps)
 }
 
 /// The keys of a range with their chains, in order of the keys.

@@ -1,5 +1,4 @@
-use Rattle.std.proofs.Common.{◌≡◌, ◌∙◌, List, ◌∷◌, ℕ, sym, ap, refl}
-use Rattle.std.specs.Prelude.{option_map}
+use Rattle.std.proofs.Common.{◌∙◌, List, ◌∷◌, ℕ, sym, ap, refl}
 use Rattle.span_keyindex.specs.Walks.{without_long}
 use Rattle.span_shard.specs.Shard.{KeyRow}
 use Rattle.span_shard.specs.Reading.{short_rows}
