@@ -20,7 +20,7 @@ use Rattle.span_expr.specs.declared.condition.Condition.TheVariants as condition
 use Rattle.span_expr.specs.Meaning.{all_of, and_also, at_operands, val}
 use Rattle.span_expr.specs.Operators as operators
 use Rattle.span_expr.specs.Outcomes.{both, condition_of, is_null, outcome_of, strict, truth_of}
-use Rattle.span_query.specs.Rows.{Row, OrFault, holds, value_of, is_true, ◌>>=◌}
+use Rattle.span_query.specs.Rows.{Row}
 
 val_compare : (row : Row) (left right : Expr) (c : Comparison) → val row (Compare left c right) ≡ strict (operators.compare_values c) (val row left) (val row right)
 val_compare row left right c = ap (val row) (sym (rolls-Compare left c right)) ∙ fold-roll-Expr Outcome (at_operands row) (Expr-F.Compare left c right)
