@@ -4,7 +4,7 @@ use Rattle.span_shard.specs.declared.shard.Entry.{Entry}
 use Rattle.span_fragment.specs.Entries.{IsWhetherOf}
 use Rattle.span_fragment.proofs.Entries.{ReadSoFar, read_more, read_past, read_all, not_of_table}
 use Rattle.span_fragment.proofs.decode.read_table.Goals as goal
-use Rattle.span_fragment.proofs.decode.read_table.Goals.{then-is_of_table+in_ok-read+in_ok-push, else-is_of_table}
+use Rattle.span_fragment.proofs.decode.read_table.Goals.{then-is_own_key+in_ok-read+in_ok-push, else-is_own_key}
 
 abbrev nothing : Entry
 nothing = record { key = record { ref_ptr = (0, 0); now = [] }; row = record { ref_ptr = (0, 0); now = [] } }
@@ -15,7 +15,7 @@ returns-in_err-read-clause-refused c =
     let P : Bool → Type 0 = IsWhetherOf c.args.schema.now c.args.reader.now.table (get_or c.args.entries.now c.loop-entry.entry-index nothing).key.now in
     rw (p.1, p.2) (elim c.in_err-read.ensures [
       | inl memory ↦ inl memory
-      | inr none ↦ inr (not_of_table c.args.schema.now c.args.reader.now.table c.args.entries.now c.loop-entry.entry-index nothing c.loop-entry-test.true (subst P c.if-is_of_table.true c.is_of_table.ensures) none)
+      | inr none ↦ inr (not_of_table c.args.schema.now c.args.reader.now.table c.args.entries.now c.loop-entry.entry-index nothing c.loop-entry-test.true (subst P c.if-is_own_key.true c.is_own_key.ensures) none)
     ])
 
 pub loop-entry-preserved : goal.loop-entry-preserved
@@ -27,13 +27,13 @@ loop-entry-preserved c =
     let ms = c.args.reader.now.mask in
     let rows = c.loop-entry.rows in
     let P : Bool → Type 0 = IsWhetherOf schema n (get_or entries i nothing).key.now in
-    elim c.if-is_of_table.branch [
-      | then-is_of_table+in_ok-read+in_ok-push w ↦
-          read_more schema n ms entries i nothing rows c.if-is_of_table.rows w.read.new.row.items c.loop-entry-test.true (subst P w.if-is_of_table.true c.is_of_table.ensures) w.in_ok-read.ensures
+    elim c.if-is_own_key.branch [
+      | then-is_own_key+in_ok-read+in_ok-push w ↦
+          read_more schema n ms entries i nothing rows c.if-is_own_key.rows w.read.new.row.items c.loop-entry-test.true (subst P w.if-is_own_key.true c.is_own_key.ensures) w.in_ok-read.ensures
           (w.rows-is ∙ w.in_ok-push.ensures.ok) c.loop-entry.invariant
-      | else-is_of_table w ↦
+      | else-is_own_key w ↦
           subst (ReadSoFar schema n ms entries (i + 1)) (sym w.rows-is)
-          (read_past schema n ms entries i nothing rows c.loop-entry-test.true (subst P w.if-is_of_table.false c.is_of_table.ensures) c.loop-entry.invariant)
+          (read_past schema n ms entries i nothing rows c.loop-entry-test.true (subst P w.if-is_own_key.false c.is_own_key.ensures) c.loop-entry.invariant)
     ]
 
 pub returns-clause-ok : goal.returns-clause-ok
