@@ -1,5 +1,5 @@
 -- Lists that lie one after another in one list: their number, one of them, and more of them.
-use Rattle.std.proofs.Common.{◌≡◌, ◌∙◌, ◌≤◌, ◌<◌, ◌+◌, ◌-◌, ◌++◌, ◌∷◌, [], ℕ, zero, suc, List, take, drop, length, get_or, ap, sym, subst, refl, arith, length-append}
+use Rattle.std.proofs.Common.{◌≡◌, ◌∙◌, ◌≤◌, ◌<◌, ◌+◌, ◌-◌, ◌++◌, ◌∷◌, [], ℕ, zero, suc, List, take, drop, length, get_or, ap, sym, subst, refl, arith, length-append, append_assoc}
 use Rattle.std.proofs.lemmas.Grind.{common_steps}
 use Rattle.std.proofs.Math.Seq.{drop-append-add}
 use Rattle.span_algebra.specs.Cuts.{cut_at, AreEnds, shifted, start_at}
@@ -125,3 +125,21 @@ module _ {A : Type 0} where
       subst (λ (es : List ℕ). AreEnds 0 es (length new)) (sym ended)
       (subst (λ (n : ℕ). AreEnds 0 (ends ++ shifted (length all) others) n) (sym count)
       (ends_joined 0 ends (length all) 0 others (length more) (subst (AreEnds 0 ends) none are) follow))
+
+-- ---- two added one after the other
+
+module _ {A : Type 0} where
+  begins_with_front : (all left new : List A) → take (length (all ++ left)) new ≡ all ++ left → take (length all) new ≡ all
+  begins_with_front [] left new is = refl
+  begins_with_front (x ∷ all) left [] is = absurd cc
+  begins_with_front (x ∷ all) left (y ∷ new) is =
+      let first : y ≡ x = cc in
+      let rest : take (length (all ++ left)) new ≡ all ++ left = cc in
+      ap (λ (z : A). z ∷ take (length all) new) first ∙ ap (λ (l : List A). x ∷ l) (begins_with_front all left new rest)
+
+  pub kept_before : (all left mid new : List A) → mid ≡ all ++ left → take (length mid) new ≡ mid → take (length all) new ≡ all
+  kept_before all left mid new is kept =
+      begins_with_front all left new (ap (λ (l : List A). take (length l) new) (sym is) ∙ kept ∙ is)
+
+  pub both_added : (all left right mid new : List A) → mid ≡ all ++ left → new ≡ mid ++ right → new ≡ all ++ (left ++ right)
+  both_added all left right mid new is also = also ∙ ap (λ (l : List A). l ++ right) is ∙ append_assoc all left right

@@ -1,5 +1,5 @@
 //! Rows: conditions at them, and rows made of others.
-ghost use Rattle.std.specs.Prelude.{◌≡◌, ◌++◌, ◌∷◌, [], false, Some, IfOk, IfSome, OnOk, length, map, replicate, take};
+ghost use Rattle.std.specs.Prelude.{◌≡◌, ◌<◌, ◌+◌, ◌++◌, ◌∷◌, [], false, Some, IfOk, IfSome, OnOk, OnErr, length, map, replicate, take, vec_len, vec_capacity};
 ghost use Rattle.span_query.specs.Rows.{holds, value_of};
 ghost use Rattle.span_value.specs.declared.truth.Outcome.TheVariants.{Val};
 ghost use Rattle.span_value.specs.declared.value.Value.TheVariants as value;
@@ -68,49 +68,73 @@ fn known_at(row: &[Value], place: usize) -> Option<&Value>
     }
 }
 
-/// The value of a column of a row or of a literal, where it is not NULL. None for another expression.
-fn known_operand<'a>(expr: &'a Expr, row: &'a [Value]) -> Option<&'a Value>
-    ensures { IfSome result (λ known. (val row.now expr.now ≡ Val known.now) × (is_null known.now ≡ false)) }
+/// The same of a row that lies in two parts.
+#[tactic(auto, using(crate::proofs::Skipping::left_column, crate::proofs::Skipping::from_front))]
+fn known_in<'a>(left: &'a [Value], right: &'a [Value], place: usize) -> Option<&'a Value>
+    ensures { IfSome result
+        (λ known. (operators.column_of (left.now ++ right.now) place ≡ known.now) × (is_null known.now ≡ false)) }
+{
+    if place < left.len() {
+        known_at(left, place)
+    } else {
+        known_at(right, place - left.len())
+    }
+}
+
+/// The value of a column of a row in two parts or of a literal, where it is not NULL. None for another expression.
+fn known_operand<'a>(expr: &'a Expr, left: &'a [Value], right: &'a [Value]) -> Option<&'a Value>
+    ensures { IfSome result
+        (λ known. (val (left.now ++ right.now) expr.now ≡ Val known.now) × (is_null known.now ≡ false)) }
 {
     match expr {
-        Expr::Column(place) => known_at(row, *place),
+        Expr::Column(place) => known_in(left, right, *place),
         Expr::Literal(value) => known(value),
         _ => None,
     }
 }
 
-/// Whether a comparison of columns and literals is TRUE at the row. None where the condition has another form, or an operand is NULL.
-fn is_comparison_met(condition: &Expr, row: &[Value]) -> Option<bool>
-    ensures { IfSome result (λ met. val row.now condition.now ≡ Val (value.Bool met)) }
+/// Whether a comparison of columns and literals is TRUE at a row in two parts. None where the condition has another form, or an operand is
+/// NULL.
+fn is_comparison_met(condition: &Expr, left: &[Value], right: &[Value]) -> Option<bool>
+    ensures { IfSome result (λ met. val (left.now ++ right.now) condition.now ≡ Val (value.Bool met)) }
 {
-    let Expr::Compare(left, comparison, right) = condition else {
+    let Expr::Compare(first, comparison, second) = condition else {
         return None;
     };
-    let left = known_operand(left.get(), row)?;
-    let right = known_operand(right.get(), row)?;
-    Some(is_order_met(*comparison, compare(left, right)))
+    let first = known_operand(first.get(), left, right)?;
+    let second = known_operand(second.get(), left, right)?;
+    Some(is_order_met(*comparison, compare(first, second)))
 }
 
 /// Whether such comparisons are all TRUE at the row.
-fn are_all_met(first: &Expr, more: &[Expr], row: &[Value]) -> Option<bool>
-    ensures { IfSome result (λ met. all_of (val row.now first.now) (map (val row.now) more.now) ≡ Val (value.Bool met)) }
+fn are_all_met(first: &Expr, more: &[Expr], left: &[Value], right: &[Value]) -> Option<bool>
+    ensures { IfSome result
+        (λ met. all_of (val (left.now ++ right.now) first.now) (map (val (left.now ++ right.now)) more.now) ≡ Val (value.Bool met)) }
 {
-    let mut all = is_comparison_met(first, row)?;
+    let mut all = is_comparison_met(first, left, right)?;
     for condition in more {
-        let met = is_comparison_met(condition, row)?;
+        let met = is_comparison_met(condition, left, right)?;
         all = all && met;
     }
     Some(all)
 }
 
-/// Whether a comparison, or an AND of some, is TRUE at the row.
-fn are_comparisons_met(condition: &Expr, row: &[Value]) -> Option<bool>
-    ensures { IfSome result (λ met. val row.now condition.now ≡ Val (value.Bool met)) }
+/// Whether a comparison, or an AND of some, is TRUE at a row in two parts, which is not put together.
+pub(crate) fn are_comparisons_met(condition: &Expr, left: &[Value], right: &[Value]) -> Option<bool>
+    ensures { IfSome result (λ met. val (left.now ++ right.now) condition.now ≡ Val (value.Bool met)) }
 {
     match condition {
-        Expr::And(first, more) => are_all_met(first.get(), more.as_slice(), row),
-        _ => is_comparison_met(condition, row),
+        Expr::And(first, more) => are_all_met(first.get(), more.as_slice(), left, right),
+        _ => is_comparison_met(condition, left, right),
     }
+}
+
+/// Whether the condition is TRUE at the row, by a walk over its tree.
+pub(crate) fn is_true(alloc: Global, condition: &Expr, row: &[Value]) -> Result<bool, Failure>
+    ensures holds { Gives result (holds condition.now row.now) }
+    ensures memory { RunsOutOnlyIf result (has_concatenation condition.now) }
+{
+    Ok(evaluate(alloc, condition, row)?.truth() == Truth::True)
 }
 
 /// Whether the condition is TRUE at the row. Comparisons of columns and literals take no walk over the tree.
@@ -118,10 +142,10 @@ pub fn is_met(alloc: Global, condition: &Expr, row: &[Value]) -> Result<bool, Fa
     ensures holds { Gives result (holds condition.now row.now) }
     ensures memory { RunsOutOnlyIf result (has_concatenation condition.now) }
 {
-    if let Some(met) = are_comparisons_met(condition, row) {
+    if let Some(met) = are_comparisons_met(condition, row, &[]) {
         return Ok(met);
     }
-    Ok(evaluate(alloc, condition, row)?.truth() == Truth::True)
+    is_true(alloc, condition, row)
 }
 
 /// The value of an expression at the row.
@@ -151,6 +175,24 @@ pub(crate) fn copy_of(alloc: Global, value: &Value) -> Result<Value, AllocError>
     }
 }
 
+/// Adds a copy of a value at the end, where there is room for it. What owns no memory is copied without a call. An error leaves the
+/// values as they were.
+fn add_copy(alloc: Global, row: &mut Vec<Value>, value: &Value) -> Result<(), AllocError>
+    requires { vec_len row.old < vec_capacity row.old }
+    ensures ok { OnOk result (row.new.items ≡ row.old.items ++ value.now ∷ []) }
+    ensures err { OnErr result (row.new.items ≡ row.old.items) }
+    ensures len { OnOk result (vec_len row.new ≡ vec_len row.old + 1) }
+    ensures capacity { vec_capacity row.new ≡ vec_capacity row.old }
+{
+    match value {
+        Value::Null => row.push_reserved(Value::Null),
+        Value::Int(n) => row.push_reserved(Value::Int(*n)),
+        Value::Bool(b) => row.push_reserved(Value::Bool(*b)),
+        _ => row.push_reserved(copy_of(alloc, value)?),
+    }
+    Ok(())
+}
+
 /// Adds copies of values at the end. An error leaves some of them added.
 pub(crate) fn extend_row(
     alloc: Global,
@@ -160,8 +202,9 @@ pub(crate) fn extend_row(
     ensures ok { OnOk result (row.new.items ≡ row.old.items ++ more.now) }
     ensures kept { take (length row.old.items) row.new.items ≡ row.old.items }
 {
+    row.reserve(more.len())?;
     for value in more {
-        row.push(copy_of(alloc, value)?)?;
+        add_copy(alloc, row, value)?;
     }
     Ok(())
 }

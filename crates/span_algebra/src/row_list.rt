@@ -88,7 +88,20 @@ impl RowList {
         ensures ok { OnOk result (self.new ≡ self.old ++ row.now ∷ []) }
         ensures err { OnErr result (self.new ≡ self.old) }
     {
-        push_copies(alloc, &mut self.values, &mut self.ends, row)
+        self.push_pair(alloc, row, &[])
+    }
+
+    /// Adds a row whose values are copies of those of two rows. An error leaves the rows as they were.
+    pub fn push_pair(
+        &mut self,
+        alloc: Global,
+        left: &[Value],
+        right: &[Value],
+    ) -> Result<(), AllocError>
+        ensures ok { OnOk result (self.new ≡ self.old ++ (left.now ++ right.now) ∷ []) }
+        ensures err { OnErr result (self.new ≡ self.old) }
+    {
+        push_copies(alloc, &mut self.values, &mut self.ends, left, right)
     }
 
     /// Copies of the rows, each in a vector of its own.
@@ -164,13 +177,34 @@ fn push_values(
     Ok(())
 }
 
-/// Adds copies of values. An error leaves the values as they were.
-fn add_row(alloc: Global, values: &mut Vec<Value>, row: &[Value]) -> Result<(), AllocError>
-    ensures ok { OnOk result (values.new.items ≡ values.old.items ++ row.now) }
+/// Adds copies of the values of two rows. An error leaves some of them added.
+#[tactic(auto, using(crate::proofs::Cutting::kept_before, crate::proofs::Cutting::both_added))]
+fn extend_pair(
+    alloc: Global,
+    values: &mut Vec<Value>,
+    left: &[Value],
+    right: &[Value],
+) -> Result<(), AllocError>
+    ensures ok { OnOk result (values.new.items ≡ values.old.items ++ (left.now ++ right.now)) }
+    ensures kept { take (length values.old.items) values.new.items ≡ values.old.items }
+{
+    extend_row(alloc, values, left)?;
+    extend_row(alloc, values, right)?;
+    Ok(())
+}
+
+/// Adds copies of the values of two rows. An error leaves the values as they were.
+fn add_pair(
+    alloc: Global,
+    values: &mut Vec<Value>,
+    left: &[Value],
+    right: &[Value],
+) -> Result<(), AllocError>
+    ensures ok { OnOk result (values.new.items ≡ values.old.items ++ (left.now ++ right.now)) }
     ensures err { OnErr result (values.new.items ≡ values.old.items) }
 {
     let kept = values.len();
-    match extend_row(alloc, values, row) {
+    match extend_pair(alloc, values, left, right) {
         Ok(()) => Ok(()),
         Err(why) => {
             values.truncate(kept);
@@ -179,22 +213,23 @@ fn add_row(alloc: Global, values: &mut Vec<Value>, row: &[Value]) -> Result<(), 
     }
 }
 
-/// Adds a copy of a row. An error leaves the rows as they were.
+/// Adds a row that is a copy of two. An error leaves the rows as they were.
 #[tactic(auto, using(crate::proofs::Cutting::whole_more, crate::proofs::Cutting::rows_more))]
 fn push_copies(
     alloc: Global,
     values: &mut Vec<Value>,
     ends: &mut Vec<usize>,
-    row: &[Value],
+    left: &[Value],
+    right: &[Value],
 ) -> Result<(), AllocError>
     requires { AreEnds 0 ends.old.items (length values.old.items) }
     ensures whole { AreEnds 0 ends.new.items (length values.new.items) }
     ensures ok { OnOk result
-        (cut_at 0 ends.new.items values.new.items ≡ cut_at 0 ends.old.items values.old.items ++ row.now ∷ []) }
+        (cut_at 0 ends.new.items values.new.items ≡ cut_at 0 ends.old.items values.old.items ++ (left.now ++ right.now) ∷ []) }
     ensures err { OnErr result (cut_at 0 ends.new.items values.new.items ≡ cut_at 0 ends.old.items values.old.items) }
 {
     ends.reserve(1)?;
-    add_row(alloc, values, row)?;
+    add_pair(alloc, values, left, right)?;
     ends.push(values.len()).unwrap();
     Ok(())
 }

@@ -12,3 +12,4 @@ mod PlacedRows
 mod Placing
 mod ShortKeys
 mod TargetRows
+mod Along

@@ -134,7 +134,7 @@ columns_end ms cs ps bs old row i at whole within left = record {
 
 -- ---- levels
 
-heads : (a b : ℕ) (xs ys : List ℕ) → a ∷ xs ≡ b ∷ ys → (a ≡ b) × (xs ≡ ys)
+pub heads : (a b : ℕ) (xs ys : List ℕ) → a ∷ xs ≡ b ∷ ys → (a ≡ b) × (xs ≡ ys)
 heads a b xs ys e = (cc, cc)
 
 pub level_put : (ms : List Bool) (cs : List KeyPart) (ps bs : List ℕ) (old new : List Value) (n : ℕ) → 0 < length bs → length cs ≤ length ps → AreColumnsPut ms cs ps (drop 1 bs) old new n → IsLevelPut ms cs ps bs old new (n + 1)

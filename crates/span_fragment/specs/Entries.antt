@@ -19,11 +19,6 @@ key_row schema r = record { key = code_of schema r; row = row_code r.cells }
 pub record OfRows (schema : List Table) (entries : List KeyRow) (P : List TableRow → Type 0) : Type 0 where
   pub of : (rows : List TableRow) → AreTyped schema rows → entries ≡ map (key_row schema) rows → P rows
 
--- Of whatever rows the entries are, these are the values of those of table n at the places that the mask has, in the order in which its columns are
--- declared.
-pub record AreReadOf (schema : List Table) (n : ℕ) (ms : List Bool) (entries : List KeyRow) (values : List Row) : Type 0 where
-  pub are : (rows : List TableRow) → AreTyped schema rows → entries ≡ map (key_row schema) rows → values ≡ map (picked ms) (whole_table schema rows n)
-
 -- of whatever row this is the coded key, the answer is whether it is one of table n
 pub record IsWhetherOf (schema : List Table) (n : ℕ) (key : List ℕ) (found : Bool) : Type 0 where
   pub of : (r : TableRow) → IsTyped schema r → key ≡ code_of schema r → found ≡ (r.table == n)

@@ -9,3 +9,4 @@ pub mod Narrowed
 pub mod Readers
 pub mod LeafReaders
 pub mod Scans
+pub mod Steps

@@ -14,6 +14,7 @@ use Rattle.span_fragment.specs.declared.reader.TableReader.{TableReader}
 use Rattle.span_fragment.specs.Meaning.{declared_row}
 use Rattle.span_fragment.specs.Longest.{IsLongest}
 use Rattle.span_fragment.specs.Placed.{is_wanted}
+use Rattle.span_fragment.specs.Steps.{key_steps}
 
 -- the place of a column among those that the mask has, or a place after all of them
 abbrev pub target : List Bool → ℕ → ℕ
@@ -23,6 +24,7 @@ target ms place = if is_wanted ms place then rank ms place else length ms
 pub record IsReader (schema : List Table) (r : TableReader) : Type 0 where
   pub narrow : length r.mask ≤ width_of schema r.table
   pub longest : IsLongest schema r.table r.most
+  pub steps : r.steps ≡ key_steps schema r.table
   pub all : r.all ≡ replicate (picked_width r.mask) true
   pub key : r.key ≡ map (target r.mask) (key_places schema r.table)
   pub others : r.others ≡ map (target r.mask) (other_places schema r.table)

@@ -16,3 +16,4 @@ mod rooted;
 pub mod run;
 mod scan;
 mod short;
+mod steps;

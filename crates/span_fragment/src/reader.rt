@@ -4,6 +4,7 @@ ghost use Rattle.span_value.specs.declared.value.Value.TheVariants.{Null};
 ghost use Rattle.span_schema.specs.Numbers.{IsTable};
 ghost use Rattle.span_planner.specs.Leaves.{width_of};
 ghost use Rattle.span_planner.specs.Picks.{picked_width};
+ghost use Rattle.span_fragment.specs.Entries.{IsWhetherOf};
 ghost use Rattle.span_fragment.specs.Placed.{IsNoRowOf};
 ghost use Rattle.span_fragment.specs.Readers as spec;
 ghost use Rattle.span_fragment.specs.Readers.{IsReader, ArePickedOf};
@@ -12,6 +13,7 @@ use super::cells::put_cells;
 use super::keys::put_key;
 use super::longest::longest_key;
 use super::place::is_wanted;
+use super::steps::{KeyStep, goes_along, key_steps};
 use span_expr::rank::rank;
 use span_planner::narrow::picked_width;
 use span_planner::table::width_of;
@@ -27,6 +29,8 @@ pub(crate) struct TableReader {
     pub table: usize,
     /// A number of bytes that no coded key of the table exceeds.
     pub most: usize,
+    /// The steps of its coded keys.
+    steps: Seq<KeyStep>,
     /// The columns that are read.
     pub mask: Seq<bool>,
     /// TRUE for each of these.
@@ -97,6 +101,7 @@ pub(crate) fn table_reader(
     Ok(TableReader {
         table,
         most: longest_key(schema, table),
+        steps: key_steps(alloc, schema, table)?,
         mask: copy_mask(alloc, front)?,
         all: all_of(alloc, front)?,
         key: targets(alloc, front, schema.key_places(table))?,
@@ -116,6 +121,18 @@ fn put_nulls(row: &mut Vec<Value>, len: usize) -> Result<(), AllocError>
 }
 
 impl TableReader {
+    /// Whether a coded key is one of the table. It takes no allocation.
+    pub(crate) fn is_own_key(&self, schema: &Schema, key: &[u8]) -> bool
+        requires table { IsTable schema.now self.now.table }
+        requires reader { IsReader schema.now self.now }
+        ensures { IsWhetherOf schema.now self.now.table key.now result }
+    {
+        if key.len() > self.most {
+            return false;
+        }
+        goes_along(schema, self.table, self.steps.as_slice(), key)
+    }
+
     /// Makes a row the values of a row of the table in the columns that are read, in the order in which they are declared. What the row
     /// was is dropped; its memory is used again. Each text and byte string that is long takes an allocation.
     ///

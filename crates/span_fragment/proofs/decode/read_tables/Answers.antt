@@ -1,66 +1,49 @@
-use Rattle.std.proofs.Common.{◌+◌, List, drop, map, sym, subst, arith}
-use Rattle.span_shard.specs.Shard.{KeyRow}
-use Rattle.span_shard.specs.Reading.{entry_row}
+use Rattle.std.proofs.Common.{◌∙◌, List, [], arith, ap, sym, subst, length, inl, inr}
+use Rattle.std.proofs.lemmas.List.{length-replicate}
+use Rattle.std.specs.List.{AllByRecursion}
+use Rattle.std.proofs.lemmas.Result.{err_from_is_err_and}
+use Rattle.span_query.specs.Rows.{Row}
+use Rattle.span_shard.specs.declared.shard.Entry.{Entry}
 use Rattle.span_fragment.specs.declared.reader.TableReader.{TableReader}
-use Rattle.span_fragment.proofs.ReadTables.{TablesLeft, all_left, in_schema, is_reader, table_read, tables_read}
+use Rattle.span_fragment.specs.LeafReaders.{AreReadersOf, IsTableReader}
+use Rattle.span_fragment.proofs.Entries.{not_rows}
+use Rattle.span_fragment.proofs.ReadTables.{table_readers, pass_first, pass_next, pass_done}
 use Rattle.span_fragment.proofs.decode.read_tables.Goals as goal
 
-pub loop-table-init : goal.loop-table-init
-loop-table-init c =
-    let reader = c.args.reader.now in
-    let entries : List KeyRow = map entry_row c.args.entries.now in
-    subst (TablesLeft c.args.schema.now entries reader.leaf.now.reads reader.leaf.now.tables reader.readers.items) (sym c.in_ok-found.ensures.items)
-    (all_left c.args.schema.now entries reader.leaf.now.reads reader.leaf.now.tables reader.readers.items c.requires.tables c.requires.reader.readers)
+abbrev nothing : Entry
+nothing = record { key = record { ref_ptr = (0, 0); now = [] }; row = record { ref_ptr = (0, 0); now = [] } }
 
-pub read_table-requires-clause-table : goal.read_table-requires-clause-table
-read_table-requires-clause-table c =
-    let reader = c.args.reader.now in
-    let entries : List KeyRow = map entry_row c.args.entries.now in
-    let reads = reader.leaf.now.reads in
-    let tables = reader.leaf.now.tables in
-    let readers : List TableReader = c.as_slice-table-items.result.now in
-    let i = c.loop-table.table-index in
-    let found = c.loop-table.found.items in
-    let so : TablesLeft c.args.schema.now entries reads tables (drop i readers) found =
-    subst (λ (rs : List TableReader). TablesLeft c.args.schema.now entries reads tables (drop i rs) found) (sym c.as_slice-table-items.ensures.value) c.loop-table.invariant in
-    in_schema c.args.schema.now entries reads tables readers i c.table-item.result c.table-item.result found c.loop-table-test.true c.table-item.is so
+pub loop-entry-init : goal.loop-entry-init
+loop-entry-init c =
+    let readers : List TableReader = c.as_slice-readers.result.now in
+    record {
+      lists = ap (length {A = List Row}) c.in_ok-found.ensures ∙ length-replicate (length readers) [];
+      so_far = pass_first c.args.schema.now c.args.entries.now readers c.in_ok-found.found.items c.in_ok-found.ensures;
+    }
 
-pub read_table-requires-clause-reader : goal.read_table-requires-clause-reader
-read_table-requires-clause-reader c =
-    let reader = c.args.reader.now in
-    let entries : List KeyRow = map entry_row c.args.entries.now in
-    let reads = reader.leaf.now.reads in
-    let tables = reader.leaf.now.tables in
-    let readers : List TableReader = c.as_slice-table-items.result.now in
-    let i = c.loop-table.table-index in
-    let found = c.loop-table.found.items in
-    let so : TablesLeft c.args.schema.now entries reads tables (drop i readers) found =
-    subst (λ (rs : List TableReader). TablesLeft c.args.schema.now entries reads tables (drop i rs) found) (sym c.as_slice-table-items.ensures.value) c.loop-table.invariant in
-    is_reader c.args.schema.now entries reads tables readers i c.table-item.result c.table-item.result found c.loop-table-test.true c.table-item.is so
+pub add_to_each-requires-clause-readers : goal.add_to_each-requires-clause-readers
+add_to_each-requires-clause-readers c =
+    let leaf = c.args.reader.now.leaf.now in
+    subst (AllByRecursion (IsTableReader c.args.schema.now)) (sym c.as_slice-readers.ensures.value)
+    (table_readers c.args.schema.now leaf.reads leaf.tables c.args.reader.now.readers.items c.requires.tables c.requires.reader.readers)
 
-pub loop-table-preserved : goal.loop-table-preserved
-loop-table-preserved c =
-    let reader = c.args.reader.now in
-    let entries : List KeyRow = map entry_row c.args.entries.now in
-    let reads = reader.leaf.now.reads in
-    let tables = reader.leaf.now.tables in
-    let readers : List TableReader = c.as_slice-table-items.result.now in
-    let i = c.loop-table.table-index in
-    let found = c.loop-table.found.items in
-    let so : TablesLeft c.args.schema.now entries reads tables (drop i readers) found =
-    subst (λ (rs : List TableReader). TablesLeft c.args.schema.now entries reads tables (drop i rs) found) (sym c.as_slice-table-items.ensures.value) c.loop-table.invariant in
-    subst (λ (rs : List TableReader). TablesLeft c.args.schema.now entries reads tables (drop (i + 1) rs) c.push.new.self.items) c.as_slice-table-items.ensures.value
-    (table_read c.args.schema.now entries reads tables readers i c.table-item.result c.table-item.result found c.loop-table-test.true c.table-item.is so c.push.new.self.items c.in_ok-read_table.field-0 c.in_ok-read_table.ensures.ok c.in_ok-push.ensures.items)
+pub loop-entry-preserved : goal.loop-entry-preserved
+loop-entry-preserved c = record {
+  lists = c.in_ok-add_to_each.ensures.lists;
+  so_far = pass_next c.args.schema.now c.args.entries.now c.as_slice-readers.result.now c.loop-entry.entry-index nothing c.loop-entry.found.items c.add_to_each.new.found.items c.loop-entry-test.true
+      c.in_ok-add_to_each.ensures.added c.loop-entry.invariant.so_far;
+}
 
 pub returns-clause-ok : goal.returns-clause-ok
 returns-clause-ok c =
-    let reader = c.args.reader.now in
-    let entries : List KeyRow = map entry_row c.args.entries.now in
-    let reads = reader.leaf.now.reads in
-    let tables = reader.leaf.now.tables in
-    let readers : List TableReader = c.as_slice-table-items.result.now in
-    let i = c.loop-table.table-index in
-    let found = c.loop-table.found.items in
-    let so : TablesLeft c.args.schema.now entries reads tables (drop i readers) found =
-    subst (λ (rs : List TableReader). TablesLeft c.args.schema.now entries reads tables (drop i rs) found) (sym c.as_slice-table-items.ensures.value) c.loop-table.invariant in
-    tables_read c.args.schema.now entries reads tables readers i found (let stop = c.loop-table-test.false in omega arith) so
+    let leaf = c.args.reader.now.leaf.now in
+    pass_done c.args.schema.now c.args.entries.now leaf.reads leaf.tables c.as_slice-readers.result.now c.loop-entry.entry-index c.loop-entry.found.items (let stop = c.loop-entry-test.false in omega arith)
+    (subst (AreReadersOf c.args.schema.now leaf.reads leaf.tables) (sym c.as_slice-readers.ensures.value) c.requires.reader.readers) c.loop-entry.invariant.so_far
+
+pub returns-in_err-add_to_each-clause-refused : goal.returns-in_err-add_to_each-clause-refused
+returns-in_err-add_to_each-clause-refused c =
+    let p = err_from_is_err_and c.from_residual-in_err-add_to_each.result c.from_residual-in_err-add_to_each.ensures.1 in
+    rw (p.1, p.2) (elim c.in_err-add_to_each.ensures.added [
+      | inl memory ↦ inl memory
+      | inr none ↦ inr (not_rows c.args.schema.now c.args.entries.now c.loop-entry.entry-index nothing c.loop-entry-test.true none)
+    ])

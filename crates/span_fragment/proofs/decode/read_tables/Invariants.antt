@@ -1,8 +1,10 @@
-use Rattle.std.proofs.Common.{drop, map}
-use Rattle.span_shard.specs.Reading.{entry_row}
-use Rattle.span_fragment.proofs.ReadTables.{TablesLeft}
+use Rattle.std.proofs.Common.{◌≡◌, length}
+use Rattle.span_fragment.proofs.ReadTables.{PassSoFar}
 use Rattle.span_fragment.proofs.decode.read_tables.Given as goal
 
--- the rows of the tables so far, and the tables that are left
-abbrev pub invariant-loop-table : goal.invariant-loop-table
-invariant-loop-table l = TablesLeft l.schema (map entry_row l.entries) l.reader.leaf.now.reads l.reader.leaf.now.tables (drop l.table-index l.reader.readers.items) l.found.items
+-- the rows of each reader so far, and the entries that are left
+abbrev pub invariant-loop-entry : goal.invariant-loop-entry
+invariant-loop-entry l = record {
+  lists : length l.found.items ≡ length l.readers;
+  so_far : PassSoFar l.schema l.entries l.readers l.entry-index l.found.items;
+}
