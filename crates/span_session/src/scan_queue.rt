@@ -5,7 +5,6 @@ ghost use Rattle.span_session.specs.Refusing.{IsUnscanned};
 use crate::board::Naming;
 use span_value::refusal::Refusal;
 use std::marker::{Model, PhantomData};
-use std::sync::{Mutex, Wait};
 
 /// What no worker has taken yet: each leaf of a plan in each of some slots, leaf by leaf, so that workers beside each other mostly have
 /// different slots. After a refusal nothing is taken.
@@ -53,7 +52,7 @@ impl<J: Naming> ScanQueue<J> {
     }
 
     /// The place of the next leaf and the number of the slot where it is to be scanned. None where nothing is left, or a scan was refused.
-    fn take(&mut self) -> Option<(usize, usize)>
+    pub(crate) fn take(&mut self) -> Option<(usize, usize)>
         ensures here { self.old.number < self.old.end → IfSome result (λ t. t ≡ (self.old.place, self.old.number)) }
         ensures next { self.old.end ≤ self.old.number → IfSome result (λ t. t ≡ (self.old.place + 1, self.old.first)) }
         ensures within { IfSome result
@@ -114,19 +113,4 @@ impl<J: Naming> ScanQueue<J> {
             None => Ok(()),
         }
     }
-}
-
-/// Takes the next leaf and slot.
-pub(crate) fn take<J: Naming, R: Wait>(
-    rt: &R,
-    queue: &Mutex<ScanQueue<J>>,
-) -> Option<(usize, usize)> {
-    queue.lock(rt).take()
-}
-
-/// Notes the refusal of a scan.
-pub(crate) fn refuse<J: Naming, R: Wait>(rt: &R, queue: &Mutex<ScanQueue<J>>, why: Refusal)
-    requires { IsUnscanned J.schema why }
-{
-    queue.lock(rt).refuse(why);
 }

@@ -1,7 +1,7 @@
 //! The steps of the rule, on bare seats: the keeper's joins another, the two step as one, and they part.
 ghost use Rattle.std.specs.Prelude.{◌≡◌, ◌<◌, ◌^◌, [], ◌∷◌, ◌++◌, length};
 ghost use mathlib.Core.List.{IsPrefix};
-ghost use Rattle.span_session.specs.Known.{kept, grown, restated, owned};
+ghost use Rattle.span_session.specs.Known.{kept, grown, restated, restated_twice, owned};
 ghost use Rattle.span_session.specs.Rule.{number_of, versions_of, known_at, seen_of, mine_of, shard_of_change};
 ghost use Rattle.span_session.specs.declared.board.Role.TheVariants.{Holder, Keeper, Client};
 
@@ -123,7 +123,8 @@ pub(crate) fn restate_both<J: Naming>(
     ensures room { number_of next.old.me.0 < length (restated (known_at keeper.views) (number_of seat.old.me.0) shard).slots }
     ensures holder { seat.new.me ≡ (Holder (number_of seat.old.me.0) shard ∷ [], []) }
     ensures next { next.new.me ≡ (Holder (number_of next.old.me.0) part ∷ [], []) }
-    ensures keeper { result.0.views ≡ (Keeper (restated (restated (known_at keeper.views) (number_of seat.old.me.0) shard) (number_of next.old.me.0) part) ∷ []) ∷ [] }
+    ensures keeper { result.0.views
+        ≡ (Keeper (restated_twice (known_at keeper.views) (number_of seat.old.me.0) shard (number_of next.old.me.0) part) ∷ []) ∷ [] }
     ensures shard { result.1 ≡ shard }
     ensures part { result.2 ≡ part }
 {

@@ -8,7 +8,7 @@ use crate::db::Db;
 use crate::open::SLOTS;
 use crate::queries::Gate;
 use crate::question::leaf_at;
-use crate::scan_queue::{ScanQueue, refuse, take};
+use crate::scan_queue::ScanQueue;
 use span_fragment::run::leaf_grouping;
 use span_journal::journal::Gap;
 use span_params::params::Params;
@@ -131,7 +131,7 @@ impl<J: Naming> Db<J> {
         requires { IsPlanOf J.schema text.now params.now plan.now }
     {
         for _ in rt.forever() {
-            let Some((place, number)) = take(rt, queue) else {
+            let Some((place, number)) = queue.lock(rt).take() else {
                 break;
             };
             self.scan_place(
@@ -219,7 +219,7 @@ impl<J: Naming> Db<J> {
             rt, gate, text, params, query, queue, place, leaf, grouping, number, interval, &gap,
         );
         if let Err(why) = scanned {
-            refuse(rt, queue, why);
+            queue.lock(rt).refuse(why);
         }
         gate.after_scan(place, number);
         true
