@@ -203,9 +203,15 @@ fn check_slots<J: Naming + Send + Sync, R: Threads + Wait + Abort + Sync>(
         Err(Refusal::ParentMissing)
     );
     assert_eq!(rt; split(rt, db, &me, 50), Ok(2));
+    let early = Still {
+        reading: Interval {
+            earliest: 100,
+            latest: 110,
+        },
+    };
     let none = db.query(
         rt,
-        &still_at(100),
+        &early,
         &OpenGate,
         &mut me,
         UIDS,
@@ -215,7 +221,12 @@ fn check_slots<J: Naming + Send + Sync, R: Threads + Wait + Abort + Sync>(
     )?;
     assert!(rt; are_uids(&none.rows, &[]));
     assert_eq!(rt; db.commit(rt, &clock, &mut me, right), Ok(211));
-    let late = still_at(900);
+    let late = Still {
+        reading: Interval {
+            earliest: 900,
+            latest: 910,
+        },
+    };
     let answer = db.query(
         rt,
         &late,
@@ -227,34 +238,11 @@ fn check_slots<J: Naming + Send + Sync, R: Threads + Wait + Abort + Sync>(
         1,
     )?;
     assert!(rt; are_uids(&answer.rows, &[1, 200]));
-    check_trimmed(rt, alloc, db, me, &late)
-}
-
-// A clock that answers one interval, which has this timestamp and the ten after it.
-fn still_at(earliest: u64) -> Still {
-    Still {
-        reading: Interval {
-            earliest,
-            latest: earliest.saturating_add(10),
-        },
-    }
-}
-
-// A slot is trimmed, and a query below its horizon is refused.
-fn check_trimmed<J: Naming + Send + Sync, R: Threads + Wait + Abort + Sync>(
-    rt: &R,
-    alloc: Global,
-    db: &Db<J>,
-    me: Session<J>,
-    clock: &Still,
-) -> Result<(), Fail> {
-    let mut me = me;
-    let params = Params::new(alloc);
-    assert_eq!(rt; db.advance(rt, clock, &me, 0), Ok(910));
+    assert_eq!(rt; db.advance(rt, &late, &me, 0), Ok(910));
     assert_eq!(rt; db.trim(rt, &me, 0, 900), Ok(1));
     let old = db.query(
         rt,
-        clock,
+        &late,
         &OpenGate,
         &mut me,
         UIDS,
