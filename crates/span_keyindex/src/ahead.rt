@@ -49,6 +49,7 @@ impl Ahead {
     }
 
     /// The walk is at a chain; it looks ahead where it has come to the end of what was looked at.
+    #[inline]
     pub(crate) fn pass(
         &mut self,
         arena: &Arena,
@@ -58,13 +59,26 @@ impl Ahead {
     ) {
         if self.seen > 0 {
             self.seen -= 1;
-            return;
-        }
-        self.seen = if is_near(nexts, number) {
-            FIRST_KEYS
         } else {
-            look(arena, nexts, self, number, number_of(stop))
-        };
+            self.seen = look_from(arena, nexts, self, number, stop);
+        }
+    }
+}
+
+// How many keys are looked at from a chain on, or are passed before the next try. It is no part of a walk's loop: what most keys take is
+// short without it, and inlined there.
+#[inline(never)]
+fn look_from(
+    arena: &Arena,
+    nexts: &NextLinks,
+    ahead: &Ahead,
+    number: u32,
+    stop: Option<u32>,
+) -> usize {
+    if is_near(nexts, number) {
+        FIRST_KEYS
+    } else {
+        look(arena, nexts, ahead, number, number_of(stop))
     }
 }
 

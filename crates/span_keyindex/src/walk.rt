@@ -48,6 +48,7 @@ impl<'a> Iterator for Walk<'a> {
 
     ghost remaining = { item_count (λ w. w) };
 
+    #[inline]
     fn next(&mut self) -> Option<(&'a [u8], Chain)> {
         if self.left == 0 {
             return None;
