@@ -9,7 +9,7 @@ use Rattle.span_keycode.specs.Order.{byte_order}
 use Rattle.span_arena.specs.declared.cell.Cell.{Cell}
 use Rattle.span_arena.specs.declared.version.Version.{Version}
 use Rattle.span_arena.specs.Cells.{cell_at}
-use Rattle.span_arena.specs.Content.{Content}
+use Rattle.span_arena.specs.Content.{Content, IsChain}
 use Rattle.span_keyindex.specs.declared.index.KeyIndex.{KeyIndex}
 use Rattle.span_keyindex.specs.Arenas.{one_if_chain}
 use Rattle.span_keyindex.specs.Entries.{Entry, HasChain, IsAbsent}
@@ -38,6 +38,13 @@ holder b (e ∷ es) some = elim (cases_eq e.chain.number b) [
   | inr differs ↦ (let rest = holder b es (omega (arith, one_other b e.chain.number (λ q. differs (sym q)))) in
       record { front = e ∷ rest.front; here = rest.here; back = rest.back; is = ap (λ (l : List Entry). e ∷ l) rest.is; number = rest.number })
 ]
+
+has_versions : (o : Option (List Version)) → is_some o ≡ true → (vs : List Version) × (o ≡ Some vs)
+has_versions None is = absurd (let e : false ≡ true = is in cc)
+has_versions (Some vs) is = (vs, refl)
+
+pub is_some_chain : (a : Content) (c : ℕ) → is_some (get_or a.chains c None) ≡ true → IsChain a c
+is_some_chain a c is = has_versions (get_or a.chains c None) is
 
 some_chain : (o : Option (List Version)) → is_some o ≡ true → one_if_chain o ≡ 1
 some_chain None is = absurd (let e : false ≡ true = is in cc)

@@ -2,12 +2,14 @@
 //!
 //! Where keys were put in no order a walk waits for memory at each: it learns the next key's number only when the last link has come.
 //! So it looks ahead, in several lanes at once: from keys of the tree's upper levels, which lie about evenly among all, the links are
-//! followed together, and each key is looked at. Nothing that a walk hands out rests on it.
+//! followed together, and each key is looked at, with its newest row where the caller is to read it. Nothing that a walk hands out
+//! rests on it.
 
 use crate::near::{NO_CHAIN, number_of};
 use crate::next::NextLinks;
 use crate::tree::TreeRoot;
 use span_arena::arena::Arena;
+use span_arena::token::Chain;
 use span_keycode::key::MOST_BYTES;
 
 /// More lanes do not go faster: what is waited for is then the walks over page tables, and few of them run at a time.
@@ -15,6 +17,9 @@ const LANES: usize = 8;
 
 /// About how many keys lie from the begin of a lane to that of the next.
 const LANE_KEYS: usize = 64;
+
+/// The same where the rows are looked at too: each takes three lines of memory more, so fewer are looked at before they are read.
+const LANE_ROWS: usize = 16;
 
 /// How many keys a lane looks at.
 const MOST_STEPS: usize = 128;
@@ -35,6 +40,8 @@ pub(crate) struct Ahead {
     root: u32,
     /// Keys with more bytes are not looked at.
     pub most: usize,
+    /// The newest rows are looked at too.
+    pub has_rows: bool,
     /// How many keys are looked at already.
     seen: usize,
 }
@@ -44,11 +51,13 @@ impl Ahead {
         Ahead {
             root: number_of(tree.root),
             most: usize::MAX,
+            has_rows: false,
             seen: FIRST_KEYS,
         }
     }
 
     /// The walk is at a chain; it looks ahead where it has come to the end of what was looked at.
+    #[inline]
     pub(crate) fn pass(
         &mut self,
         arena: &Arena,
@@ -58,13 +67,26 @@ impl Ahead {
     ) {
         if self.seen > 0 {
             self.seen -= 1;
-            return;
-        }
-        self.seen = if is_near(nexts, number) {
-            FIRST_KEYS
         } else {
-            look(arena, nexts, self, number, number_of(stop))
-        };
+            self.seen = look_from(arena, nexts, self, number, stop);
+        }
+    }
+}
+
+// How many keys are looked at from a chain on, or are passed before the next try. It is no part of a walk's loop: what most keys take is
+// short without it, and inlined there.
+#[inline(never)]
+fn look_from(
+    arena: &Arena,
+    nexts: &NextLinks,
+    ahead: &Ahead,
+    number: u32,
+    stop: Option<u32>,
+) -> usize {
+    if is_near(nexts, number) {
+        FIRST_KEYS
+    } else {
+        look(arena, nexts, ahead, number, number_of(stop))
     }
 }
 
@@ -74,8 +96,13 @@ fn is_near(nexts: &NextLinks, number: u32) -> bool {
 }
 
 // How many levels of a tree with this many keys have lanes that begin there.
-fn upper_levels(keys: usize) -> usize {
-    match (keys / LANE_KEYS).checked_ilog2() {
+fn upper_levels(keys: usize, has_rows: bool) -> usize {
+    let lanes = if has_rows {
+        keys / LANE_ROWS
+    } else {
+        keys / LANE_KEYS
+    };
+    match lanes.checked_ilog2() {
         None => 0,
         Some(level) => level as usize + 1,
     }
@@ -177,7 +204,7 @@ struct Lane {
     end: u32,
 }
 
-fn lanes_from(arena: &Arena, root: u32, number: u32, key: &[u8], stop: u32) -> [Lane; LANES] {
+fn lanes_from(arena: &Arena, ahead: &Ahead, number: u32, key: &[u8], stop: u32) -> [Lane; LANES] {
     let mut path = Path {
         turns: [Turn {
             number: NO_CHAIN,
@@ -185,8 +212,8 @@ fn lanes_from(arena: &Arena, root: u32, number: u32, key: &[u8], stop: u32) -> [
         }; MOST_TURNS],
         len: 0,
     };
-    let levels = upper_levels(arena.numbers());
-    path.go_to(arena, root, levels, key);
+    let levels = upper_levels(arena.numbers(), ahead.has_rows);
+    path.go_to(arena, ahead.root, levels, key);
     let mut lanes = [Lane {
         at: stop,
         end: stop,
@@ -200,23 +227,44 @@ fn lanes_from(arena: &Arena, root: u32, number: u32, key: &[u8], stop: u32) -> [
     lanes
 }
 
-// A key on. A lane stays at its end, and at a key that is too long to be one.
-fn step(arena: &Arena, nexts: &NextLinks, lane: Lane, most: usize) -> u32 {
+// Looks at the newest row of a chain; whether it begins as no row does, with neither of the bytes that a cell begins with.
+fn is_no_row(arena: &Arena, number: u32) -> bool {
+    if !arena.is_chain(number) {
+        return false;
+    }
+    let Some(version) = arena.newest_at(Chain { number }, u64::MAX) else {
+        return false;
+    };
+    let Some(row) = version.image() else {
+        return false;
+    };
+    match row.as_slice().first() {
+        None => false,
+        Some(begin) => *begin > 1,
+    }
+}
+
+// A key on. A lane stays at its end, and at a key that is too long to be one or a row that is none.
+fn step(arena: &Arena, nexts: &NextLinks, lane: Lane, ahead: &Ahead) -> u32 {
     if lane.at == lane.end || lane.at as usize >= arena.numbers() {
         return lane.at;
     }
-    let is_looked_at = most == usize::MAX || arena.has_short_key(lane.at, most);
-    if is_looked_at && arena.key(lane.at).len() > MOST_BYTES {
-        return lane.at;
+    if ahead.most == usize::MAX || arena.has_short_key(lane.at, ahead.most) {
+        if arena.key(lane.at).len() > MOST_BYTES {
+            return lane.at;
+        }
+        if ahead.has_rows && is_no_row(arena, lane.at) {
+            return lane.at;
+        }
     }
     nexts.number_after(lane.at)
 }
 
 // How many lanes have gone on.
-fn step_all(arena: &Arena, nexts: &NextLinks, lanes: &mut [Lane; LANES], most: usize) -> usize {
+fn step_all(arena: &Arena, nexts: &NextLinks, lanes: &mut [Lane; LANES], ahead: &Ahead) -> usize {
     let mut moved: usize = 0;
     for i in 0..LANES {
-        let at = step(arena, nexts, lanes[i], most);
+        let at = step(arena, nexts, lanes[i], ahead);
         if at != lanes[i].at {
             lanes[i].at = at;
             moved = moved.wrapping_add(1);
@@ -230,10 +278,10 @@ fn look(arena: &Arena, nexts: &NextLinks, ahead: &Ahead, number: u32, stop: u32)
     if number as usize >= arena.numbers() {
         return FIRST_KEYS;
     }
-    let mut lanes = lanes_from(arena, ahead.root, number, arena.key(number), stop);
+    let mut lanes = lanes_from(arena, ahead, number, arena.key(number), stop);
     let mut seen: usize = 0;
     for _ in 0..MOST_STEPS {
-        let moved = step_all(arena, nexts, &mut lanes, ahead.most);
+        let moved = step_all(arena, nexts, &mut lanes, ahead);
         if moved == 0 {
             return seen;
         }

@@ -48,6 +48,7 @@ impl<'a> Iterator for Walk<'a> {
 
     ghost remaining = { item_count (λ w. w) };
 
+    #[inline]
     fn next(&mut self) -> Option<(&'a [u8], Chain)> {
         if self.left == 0 {
             return None;
@@ -66,6 +67,14 @@ impl<'a> Iterator for Walk<'a> {
 }
 
 impl<'a> Walk<'a> {
+    /// Where the walk looks at keys ahead, it looks at their newest rows too from now on: they are read of most keys. Nothing else is
+    /// changed.
+    pub fn look_at_rows(&mut self)
+        ensures { self.new ≡ self.old }
+    {
+        self.ahead.has_rows = true;
+    }
+
     /// Passes over the keys before the first that has at most `most` bytes. Lengths and links alone are read of them.
     pub fn skip_long(&mut self, most: usize)
         ensures { self.new ≡ without_long most self.old }

@@ -121,8 +121,10 @@ fn next_short<'a>(walk: &mut Walk<'a>, most: usize) -> Option<(&'a [u8], Chain)>
 pub(crate) fn snapshot_of<'a>(store: &'a Store, range: &KeyRange, s: u64) -> Snapshot<'a>
     ensures { result ≡ snapshot range.now s store.now }
 {
+    let mut walk = walk(&store.index, &store.arena, range);
+    walk.look_at_rows();
     Snapshot {
-        walk: walk(&store.index, &store.arena, range),
+        walk,
         arena: &store.arena,
         s,
     }
