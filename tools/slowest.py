@@ -9,7 +9,7 @@ times mean something after a check from nothing with one job, on a machine with 
     rm -r crates/CRATE/out/incremental; cd crates/CRATE; rt check --jobs 1
 
 `NAME.Lts` is the borrow checker's part in the proof of the function NAME. Where that is long, the function most likely drops a tree (a query
-or an expression) at several places: give the drop to a function for values of any type, as in span_binder/src/step.rt.
+or an expression) at several places: give the drop to a function for values of any type, as in span_value/src/owned.rt.
 """
 import argparse
 import os

@@ -132,7 +132,7 @@ impl GroupedRows {
 
     /// Rows with the groups that a block makes of them, as far as these are made where rows are read: where each aggregate is of a column, and
     /// none is an arithmetic error.
-    pub fn grouped(
+    pub fn with_groups(
         alloc: Global,
         grouping: &Grouping,
         rows: RowList,

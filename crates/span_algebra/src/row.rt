@@ -49,7 +49,7 @@ fn is_order_met(comparison: Comparison, order: Ordering) -> bool
 }
 
 /// A value, where it is not NULL.
-fn known(value: &Value) -> Option<&Value>
+fn non_null(value: &Value) -> Option<&Value>
     ensures { IfSome result (λ known. (known.now ≡ value.now) × (is_null known.now ≡ false)) }
 {
     match value {
@@ -59,7 +59,7 @@ fn known(value: &Value) -> Option<&Value>
 }
 
 /// The value of a column of a row, where it is not NULL.
-fn known_at(row: &[Value], place: usize) -> Option<&Value>
+fn non_null_at(row: &[Value], place: usize) -> Option<&Value>
     ensures { IfSome result (λ known. (operators.column_of row.now place ≡ known.now) × (is_null known.now ≡ false)) }
 {
     match row.get(place) {
@@ -75,9 +75,9 @@ fn known_in<'a>(left: &'a [Value], right: &'a [Value], place: usize) -> Option<&
         (λ known. (operators.column_of (left.now ++ right.now) place ≡ known.now) × (is_null known.now ≡ false)) }
 {
     if place < left.len() {
-        known_at(left, place)
+        non_null_at(left, place)
     } else {
-        known_at(right, place - left.len())
+        non_null_at(right, place - left.len())
     }
 }
 
@@ -88,7 +88,7 @@ fn known_operand<'a>(expr: &'a Expr, left: &'a [Value], right: &'a [Value]) -> O
 {
     match expr {
         Expr::Column(place) => known_in(left, right, *place),
-        Expr::Literal(value) => known(value),
+        Expr::Literal(value) => non_null(value),
         _ => None,
     }
 }
@@ -175,7 +175,7 @@ pub(crate) fn copy_of(alloc: Global, value: &Value) -> Result<Value, AllocError>
     }
 }
 
-/// Adds a copy of a value at the end, where there is room for it. What owns no memory is copied without a call. An error leaves the
+/// Adds a copy of a value at the end, where it has capacity for it. What owns no memory is copied without a call. An error leaves the
 /// values as they were.
 fn add_copy(alloc: Global, row: &mut Vec<Value>, value: &Value) -> Result<(), AllocError>
     requires { vec_len row.old < vec_capacity row.old }

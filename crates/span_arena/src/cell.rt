@@ -48,8 +48,8 @@ impl StoredLinks {
     pub(crate) fn new(links: Links) -> StoredLinks
         ensures { result ≡ links }
     {
-        let (has_left, left) = stored(links.left);
-        let (has_right, right) = stored(links.right);
+        let (has_left, left) = link_parts(links.left);
+        let (has_right, right) = link_parts(links.right);
         StoredLinks {
             left,
             right,
@@ -71,7 +71,7 @@ impl StoredLinks {
 }
 
 // Whether there is a link, and its number.
-fn stored(link: Option<u32>) -> (bool, u32)
+fn link_parts(link: Option<u32>) -> (bool, u32)
     ensures { link_of result.0 result.1 ≡ link }
 {
     match link {

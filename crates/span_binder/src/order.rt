@@ -7,12 +7,13 @@ ghost use Rattle.span_typing.specs.Steps.{Gives};
 ghost use Rattle.span_binder.specs.Queries as spec;
 
 use super::bound::{BoundBlock, BoundBlocks, TypedQuery};
-use super::step::{keep_with, with_item};
+use super::step::with_item;
 use span_parser::tree;
 use span_parser::tree::SortColumn;
 use span_query::query::{Block, BoundQuery, Limit, OutputColumn, SortKey};
 use span_schema::table::are_same;
 use span_typing::step::pair_with;
+use span_value::owned::keep_with;
 use span_value::refusal::Refusal;
 use span_value::seq::Seq;
 use span_value::text::Text;

@@ -12,7 +12,7 @@ ghost use Rattle.span_keycode.specs.Coding.{AreValues};
 ghost use Rattle.span_mutate.specs.Typed.{AreTypedMutations};
 ghost use Rattle.span_machine.specs.declared.step.Step.TheVariants as step_of;
 
-use super::explain::{explain_statement, give_after};
+use super::explain::explain_statement;
 use super::replies::{
     advance_reply, apply_reply, begin_reply, close_reply, decide_reply, finish_reply, open_reply,
     prepare_reply, scan_reply, split_reply, trim_reply,
@@ -31,6 +31,7 @@ use span_shard::shard::Shard;
 use span_soundness::laws::can_be_planned;
 use span_truetime::bound::Bound;
 use span_truetime::interval::Interval;
+use span_value::owned::give_after;
 use span_value::refusal::Refusal;
 use span_value::seq::Seq;
 use span_value::text::Text;

@@ -9,17 +9,10 @@ use span_planner::leaf::Plan;
 use span_planner::plan::plan;
 use span_query::query::Statement;
 use span_schema::schema::Schema;
+use span_value::owned::give_after;
 use span_value::refusal::Refusal;
 use span_value::text::Text;
 use std::alloc::{AllocError, Global};
-
-/// Drops a value, and gives another. A tree is dropped here since a proof of its drop where its type is known takes minutes.
-pub(crate) fn give_after<A: Drop, B>(dropped: A, given: B) -> B
-    ensures { result ≡ given }
-{
-    let _ = dropped;
-    given
-}
 
 /// The plan of a statement that can be planned. The error is out of memory.
 #[tactic(auto, using(span_planner::proofs::SizedNumbers::sized_numbered))]

@@ -1,5 +1,5 @@
 -- Copies of expressions, with their columns at other places.
-use Rattle.std.proofs.Common.{◌≡◌, ◌∙◌, sym, ap, ℕ, ◌<◌, ◌+◌, List, [], ◌∷◌, ◌++◌, map, take, length, get_or, Option, Some, None}
+use Rattle.std.proofs.Common.{◌≡◌, ◌∙◌, sym, ap, subst, ℕ, Result, Ok, IfOk, ◌<◌, ◌+◌, List, [], ◌∷◌, ◌++◌, map, take, length, get_or, Option, Some, None}
 use Rattle.std.specs.Option.{option_map}
 use Rattle.std.proofs.lemmas.List.{take_more, map-append}
 use Rattle.span_expr.specs.declared.expr.Arm.{Arm}
@@ -18,6 +18,10 @@ copied_more {A} {B} f all i item copies new copy below is so_far pushed same =
     ∙ ap (λ (x : B). map f (take i all) ++ x ∷ []) (same ∙ ap f is)
     ∙ sym (map-append f (take i all) (get_or all i item ∷ []))
     ∙ ap (map f) (sym (take_more all i item below))
+
+-- what was made next and kept is what was asked for
+pub kept_next : {A E : Type 0} (made : Result A E) (kept wanted : A) → made ≡ Ok kept → IfOk made (λ x. x ≡ wanted) → kept ≡ wanted
+kept_next {A} {E} made kept wanted is right = subst (λ (r : Result A E). IfOk r (λ x. x ≡ wanted)) is right
 
 pub copied_between : (f : ℕ → ℕ) (expr a low high x y z p q r : Expr) → expr ≡ e.Between a low high → x ≡ a → y ≡ low → z ≡ high → p ≡ moved f x → q ≡ moved f y → r ≡ moved f z → e.Between p q r ≡ moved f expr
 copied_between f expr a low high x y z p q r is at_a at_low at_high copied_a copied_low copied_high =

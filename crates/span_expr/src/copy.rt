@@ -6,6 +6,7 @@ ghost use Rattle.span_expr.specs.Places as spec;
 use super::cell::lend;
 use super::expr::{Arm, Expr, Link};
 use super::rank::rank;
+use span_value::owned::keep_with;
 use span_value::value::Value;
 use sqlite_items::{Boxed, Items};
 use std::alloc::{AllocError, Global};
@@ -31,52 +32,65 @@ pub fn copy_moved(
         Expr::Literal(value) => Ok(Expr::Literal(copy_value(alloc, value)?)),
         Expr::Column(place) => Ok(Expr::Column(rank(mask, place.saturating_sub(front)))),
         Expr::Negative(a) => Ok(Expr::Negative(copy_boxed(alloc, a.get(), front, mask)?)),
-        Expr::Chain(first, links) => Ok(Expr::Chain(
-            copy_boxed(alloc, first.get(), front, mask)?,
-            copy_links(alloc, links.as_slice(), front, mask)?,
-        )),
-        Expr::Compare(a, comparison, b) => Ok(Expr::Compare(
-            copy_boxed(alloc, a.get(), front, mask)?,
-            *comparison,
-            copy_boxed(alloc, b.get(), front, mask)?,
-        )),
-        Expr::Between(a, low, high) => Ok(Expr::Between(
-            copy_boxed(alloc, a.get(), front, mask)?,
-            copy_boxed(alloc, low.get(), front, mask)?,
-            copy_boxed(alloc, high.get(), front, mask)?,
-        )),
-        Expr::In(a, members) => Ok(Expr::In(
-            copy_boxed(alloc, a.get(), front, mask)?,
-            copy_all(alloc, members.as_slice(), front, mask)?,
-        )),
-        Expr::Like(a, pattern) => Ok(Expr::Like(
-            copy_boxed(alloc, a.get(), front, mask)?,
-            Items::from_slice(alloc, pattern.as_slice())?,
-        )),
-        Expr::StartsWith(a, prefix) => Ok(Expr::StartsWith(
-            copy_boxed(alloc, a.get(), front, mask)?,
-            copy_boxed(alloc, prefix.get(), front, mask)?,
-        )),
+        Expr::Chain(first, links) => {
+            let first = copy_boxed(alloc, first.get(), front, mask)?;
+            let links = copy_links(alloc, links.as_slice(), front, mask);
+            let (first, links) = keep_with(first, links)?;
+            Ok(Expr::Chain(first, links))
+        }
+        Expr::Compare(a, comparison, b) => {
+            let a = copy_boxed(alloc, a.get(), front, mask)?;
+            let (a, b) = keep_with(a, copy_boxed(alloc, b.get(), front, mask))?;
+            Ok(Expr::Compare(a, *comparison, b))
+        }
+        Expr::Between(a, low, high) => {
+            let a = copy_boxed(alloc, a.get(), front, mask)?;
+            let (a, low) = keep_with(a, copy_boxed(alloc, low.get(), front, mask))?;
+            let ((a, low), high) = keep_with((a, low), copy_boxed(alloc, high.get(), front, mask))?;
+            Ok(Expr::Between(a, low, high))
+        }
+        Expr::In(a, members) => {
+            let a = copy_boxed(alloc, a.get(), front, mask)?;
+            let (a, members) = keep_with(a, copy_all(alloc, members.as_slice(), front, mask))?;
+            Ok(Expr::In(a, members))
+        }
+        Expr::Like(a, pattern) => {
+            let pattern = Items::from_slice(alloc, pattern.as_slice())?;
+            let (pattern, a) = keep_with(pattern, copy_boxed(alloc, a.get(), front, mask))?;
+            Ok(Expr::Like(a, pattern))
+        }
+        Expr::StartsWith(a, prefix) => {
+            let a = copy_boxed(alloc, a.get(), front, mask)?;
+            let (a, prefix) = keep_with(a, copy_boxed(alloc, prefix.get(), front, mask))?;
+            Ok(Expr::StartsWith(a, prefix))
+        }
         Expr::Length(a) => Ok(Expr::Length(copy_boxed(alloc, a.get(), front, mask)?)),
         Expr::IsNull(a) => Ok(Expr::IsNull(copy_boxed(alloc, a.get(), front, mask)?)),
         Expr::Not(a) => Ok(Expr::Not(copy_boxed(alloc, a.get(), front, mask)?)),
-        Expr::And(first, more) => Ok(Expr::And(
-            copy_boxed(alloc, first.get(), front, mask)?,
-            copy_all(alloc, more.as_slice(), front, mask)?,
-        )),
-        Expr::Or(first, more) => Ok(Expr::Or(
-            copy_boxed(alloc, first.get(), front, mask)?,
-            copy_all(alloc, more.as_slice(), front, mask)?,
-        )),
-        Expr::Case(arms, otherwise) => Ok(Expr::Case(
-            copy_arms(alloc, arms.as_slice(), front, mask)?,
-            copy_otherwise(alloc, otherwise, front, mask)?,
-        )),
-        Expr::Match(a, arms, otherwise) => Ok(Expr::Match(
-            copy_boxed(alloc, a.get(), front, mask)?,
-            copy_arms(alloc, arms.as_slice(), front, mask)?,
-            copy_otherwise(alloc, otherwise, front, mask)?,
-        )),
+        Expr::And(first, more) => {
+            let first = copy_boxed(alloc, first.get(), front, mask)?;
+            let (first, more) = keep_with(first, copy_all(alloc, more.as_slice(), front, mask))?;
+            Ok(Expr::And(first, more))
+        }
+        Expr::Or(first, more) => {
+            let first = copy_boxed(alloc, first.get(), front, mask)?;
+            let (first, more) = keep_with(first, copy_all(alloc, more.as_slice(), front, mask))?;
+            Ok(Expr::Or(first, more))
+        }
+        Expr::Case(arms, otherwise) => {
+            let arms = copy_arms(alloc, arms.as_slice(), front, mask)?;
+            let (arms, otherwise) = keep_with(arms, copy_otherwise(alloc, otherwise, front, mask))?;
+            Ok(Expr::Case(arms, otherwise))
+        }
+        Expr::Match(a, arms, otherwise) => {
+            let a = copy_boxed(alloc, a.get(), front, mask)?;
+            let (a, arms) = keep_with(a, copy_arms(alloc, arms.as_slice(), front, mask))?;
+            let ((a, arms), otherwise) = keep_with(
+                (a, arms),
+                copy_otherwise(alloc, otherwise, front, mask),
+            )?;
+            Ok(Expr::Match(a, arms, otherwise))
+        }
         Expr::Coalesce(operands) => Ok(Expr::Coalesce(copy_all(
             alloc,
             operands.as_slice(),
@@ -147,7 +161,8 @@ fn copy_arms(
     let mut copies = Items::new(alloc);
     for arm in arms {
         let condition = copy_moved(alloc, &arm.condition, front, mask)?;
-        let value = copy_moved(alloc, &arm.value, front, mask)?;
+        let value = copy_moved(alloc, &arm.value, front, mask);
+        let (condition, value) = keep_with(condition, value)?;
         copies.push(Arm { condition, value })?;
     }
     Ok(copies)

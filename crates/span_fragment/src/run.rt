@@ -34,7 +34,7 @@ fn with_groups(
     ensures { IfOk result (λ grouped. grouped ≡ rows) }
 {
     match grouping {
-        Some(grouping) => GroupedRows::grouped(alloc, grouping, rows),
+        Some(grouping) => GroupedRows::with_groups(alloc, grouping, rows),
         None => Ok(GroupedRows::new(rows)),
     }
 }

@@ -15,7 +15,7 @@ ghost use Rattle.span_journal.specs.Judged.{as_reply, decision_reply, MayPrepare
 
 use super::choice::{Chosen, has_any, mutations_in};
 use super::commit::KeptCommit;
-use super::owned::{append, drop_at, pair_with};
+use super::owned::{append, drop_at};
 use super::queries::{cover_at, find_query, find_target, take_at};
 use super::query::KeptQuery;
 use super::ranges::is_free;
@@ -45,6 +45,7 @@ use span_query::query::{BoundQuery, Statement};
 use span_schema::schema::Schema;
 use span_truetime::bound::{Bound, choose};
 use span_truetime::interval::Interval;
+use span_value::owned::keep_with;
 use span_value::refusal::Refusal;
 use span_value::seq::Seq;
 use span_value::text::Text;
@@ -305,7 +306,7 @@ impl Journal {
         }
         match commit_timestamp(
             self.slots.as_slice(),
-            transaction.prepared(),
+            transaction.preparations(),
             interval.latest,
         ) {
             Some(timestamp) => Ok(timestamp),
@@ -332,7 +333,7 @@ impl Journal {
         };
         match self.check_commit(schema, transaction, interval) {
             Ok(timestamp) => {
-                let coordinator = coordinator_slot(transaction.prepared());
+                let coordinator = coordinator_slot(transaction.preparations());
                 raise_last(&mut self.slots, coordinator, timestamp);
                 let commit = commit_at(&mut self.transactions, at, timestamp);
                 self.log.push(commit).unwrap();
@@ -362,7 +363,7 @@ impl Journal {
         if !transaction.is_undecided() {
             return Err(Refusal::WrongState);
         }
-        if transaction.prepared().is_empty() {
+        if transaction.preparations().is_empty() {
             remove_at(&mut self.transactions, at);
         } else {
             abort_at(&mut self.transactions, at);
@@ -554,7 +555,7 @@ impl Journal {
             self.new.queries ≡ self.old.queries ++ unread schema.now opened.query opened.s text params statement ∷ []) }
         ensures err { OnErr result (self.new.queries ≡ self.old.queries) }
     {
-        let (statement, s) = pair_with(statement, self.check_open(bound, interval))?;
+        let (statement, s) = keep_with(statement, self.check_open(bound, interval))?;
         let number = self.next_query;
         let query = KeptQuery::new(alloc, schema, number, s, text, params, statement)?;
         let leaves = query.count_leaves();

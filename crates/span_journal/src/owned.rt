@@ -8,16 +8,6 @@ use span_value::seq::Seq;
 use std::alloc::{AllocError, Global};
 use std::mem;
 
-/// Pairs a value with the next result. An error drops the value.
-pub(crate) fn pair_with<A: Drop, B, E>(first: A, second: Result<B, E>) -> Result<(A, B), E>
-    ensures { MatchResult result (λ both. (both.0 ≡ first) × (second ≡ Ok both.1)) (λ why. second ≡ Err why) }
-{
-    match second {
-        Ok(second) => Ok((first, second)),
-        Err(why) => Err(why),
-    }
-}
-
 /// Appends an item. Without memory for it the item is dropped.
 pub(crate) fn append<T: Drop>(items: &mut Vec<T>, item: T) -> Result<(), AllocError>
     ensures ok { IfOk result (λ _. items.new.items ≡ items.old.items ++ item ∷ []) }

@@ -9,7 +9,7 @@ ghost use Rattle.span_machine.specs.Pieces.{covered_by, no_pieces, unread, inser
 ghost use Rattle.span_journal.specs.Counts.{AreCounted, is_uncovered};
 ghost use Rattle.span_journal.specs.Scans.{taken_of};
 
-use super::owned::{insert_in_both, pair_with};
+use super::owned::insert_in_both;
 use super::taken::Taken;
 use span_fragment::piece::Piece;
 use span_keycode::parts::{place_among, tiles};
@@ -20,6 +20,7 @@ use span_planner::leaf::{Leaf, Plan};
 use span_planner::plan::plan;
 use span_query::query::{BoundQuery, Statement};
 use span_schema::schema::Schema;
+use span_value::owned::keep_with;
 use span_value::seq::Seq;
 use span_value::text::Text;
 use sqlite_items::Items;
@@ -96,8 +97,8 @@ fn unread_plan(alloc: Global, plan: Plan) -> Result<Unread, AllocError>
 {
     let Plan { leaves, top } = plan;
     let pieces = empty_pieces(alloc, leaves.as_slice());
-    let (top, pieces) = pair_with(top, pieces)?;
-    let ((top, pieces), leaves) = pair_with((top, pieces), uncovered_leaves(alloc, leaves))?;
+    let (top, pieces) = keep_with(top, pieces)?;
+    let ((top, pieces), leaves) = keep_with((top, pieces), uncovered_leaves(alloc, leaves))?;
     Ok(Unread {
         leaves,
         pieces,
@@ -194,7 +195,7 @@ impl KeptQuery {
                 pieces,
                 top,
             },
-        ) = pair_with(statement, unread)?;
+        ) = keep_with(statement, unread)?;
         let open = OpenQuery {
             number,
             text,

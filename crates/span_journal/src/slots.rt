@@ -85,13 +85,13 @@ pub(crate) fn is_ready(slots: &[SlotState], schema: &Schema, transaction: &KeptT
         (λ m. list_any (λ p. slot_has schema.now slots.now m p.slot) transaction.now.prepared)
         transaction.now.mutations) }
 {
-    if transaction.prepared().len() == 0 {
+    if transaction.preparations().len() == 0 {
         return false;
     }
     are_prepared_for(
         schema,
         slots,
-        transaction.prepared(),
+        transaction.preparations(),
         transaction.mutations(),
     )
 }
@@ -186,7 +186,7 @@ fn are_all_above(transactions: &[KeptTransaction], slot: usize, s: u64) -> bool
 {
     transactions
         .iter()
-        .all(|t| are_above(t.prepared(), slot, s))
+        .all(|t| are_above(t.preparations(), slot, s))
 }
 
 fn are_above(prepared: &[Prepared], slot: usize, s: u64) -> bool

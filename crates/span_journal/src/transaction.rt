@@ -119,7 +119,7 @@ impl KeptTransaction {
     }
 
     /// Where it is prepared.
-    pub(crate) fn prepared(&self) -> &[Prepared]
+    pub(crate) fn preparations(&self) -> &[Prepared]
         ensures { result.now ≡ self.now.prepared }
     {
         self.prepared.as_slice()

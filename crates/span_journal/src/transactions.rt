@@ -59,7 +59,7 @@ pub(crate) fn find_transaction(
 pub(crate) fn is_prepared(transaction: &KeptTransaction, slot: usize) -> bool
     ensures { result ≡ is_prepared_at slot transaction.now }
 {
-    transaction.prepared().iter().any(|p| p.slot == slot)
+    transaction.preparations().iter().any(|p| p.slot == slot)
 }
 
 /// How many transactions are prepared at the slot.
@@ -257,7 +257,7 @@ pub(crate) fn may_prepare(transaction: &KeptTransaction, slot: usize) -> bool
 fn is_prepared_elsewhere(transaction: &KeptTransaction, slot: usize) -> bool
     ensures { result ≡ not (length (without_prepared slot transaction.now).prepared == 0) }
 {
-    has_other_slot(transaction.prepared(), slot)
+    has_other_slot(transaction.preparations(), slot)
 }
 
 /// The commit timestamp of a transaction that may be applied at the slot, or None for an aborted one, or why it may

@@ -60,6 +60,12 @@ pub record IsSearchCost (d : ℕ) (old new : Count) : Type 0 where
   pub compared : new.compared ≤ old.compared + 2 * d
   pub written : new.written ≡ old.written
 
+-- of two searches, as for the first key of a walk and then for its end
+pub record AreTwoSearches (d : ℕ) (old new : Count) : Type 0 where
+  pub between : Count
+  pub first : IsSearchCost d old between
+  pub second : IsSearchCost d between new
+
 -- ---- an index with its arena
 
 -- the keys in order, each with its chain

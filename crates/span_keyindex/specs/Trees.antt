@@ -33,7 +33,7 @@ abbrev pub count : ℕ → Tree → ℕ
 count i Leaf = 0
 count i (Fork l n k b r) = one_at i n + (count i l + count i r)
 
--- the most cells on a way down
+-- the most cells on a path from the root
 abbrev pub height : Tree → ℕ
 height Leaf = 0
 height (Fork l n k b r) = suc (max (height l) (height r))

@@ -3,7 +3,7 @@ ghost use Rattle.std.specs.Prelude.{◌≡◌, ℕ, ◌*◌, ◌<◌, ◌^◌, A
 ghost use Rattle.span_arena.specs.Content.{IsChain};
 ghost use Rattle.span_keyindex.specs.Arenas.{in_use, IsWithoutUnused};
 ghost use Rattle.span_keyindex.specs.Entries.{HasChain, IsAbsent, IsRising, IsSlotFor, entries_from, entries_in, entries_under};
-ghost use Rattle.span_keyindex.specs.Indexes.{IsEmptyIndex, IsIndexOf, IsSearchCost, IsSlotCost, entries_of};
+ghost use Rattle.span_keyindex.specs.Indexes.{AreTwoSearches, IsEmptyIndex, IsIndexOf, IsSearchCost, IsSlotCost, entries_of};
 ghost use Rattle.span_keyindex.specs.Splits.{IsPartFrom};
 
 use crate::chains::{Chains, chains_from, chains_of};
@@ -123,7 +123,7 @@ impl KeyIndex {
         ensures chains { All (λ e. IsChain arena.now e.chain.number) result }
         ensures rising { IsRising (entries_of self.now arena.now) }
         ensures cost { (d : ℕ) → length (entries_of self.now arena.now) < 2 ^ d
-            → IsSearchCost (2 * d) steps.old steps.new }
+            → AreTwoSearches d steps.old steps.new }
     {
         walk_range(
             arena,
@@ -148,7 +148,7 @@ impl KeyIndex {
         ensures chains { All (λ e. IsChain arena.now e.chain.number) result }
         ensures rising { IsRising (entries_of self.now arena.now) }
         ensures cost { (d : ℕ) → length (entries_of self.now arena.now) < 2 ^ d
-            → IsSearchCost (2 * d) steps.old steps.new }
+            → AreTwoSearches d steps.old steps.new }
     {
         walk_under(arena, &self.nexts, &self.tree, front, steps)
     }

@@ -89,13 +89,13 @@ pub(crate) fn put_last<C: Ledger, W: Ledger>(
     hang_last(arena, index.root, index.levels, &mut part, steps);
     *index = TreeRoot {
         root: Some(part.root),
-        levels: grown(index.levels, part.grew),
+        levels: height_after(index.levels, part.grew),
         last: Some(part.cell),
     };
     Ok(part.cell)
 }
 
-fn grown(levels: usize, grew: bool) -> usize
+fn height_after(levels: usize, grew: bool) -> usize
     requires { levels + 1 < 2 ^ 64 }
     ensures { result ≡ grown_height grew levels }
 {

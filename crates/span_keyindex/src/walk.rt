@@ -3,7 +3,7 @@ ghost use Rattle.std.specs.Iterator.{YieldsFirstBy, item_count};
 ghost use Rattle.std.specs.Prelude.{◌≡◌, ℕ, ◌*◌, ◌<◌, ◌^◌, [], length};
 ghost use Rattle.span_keyindex.specs.Entries.{entries_from, entries_under, entry_of};
 ghost use Rattle.span_keyindex.specs.Items.{entries_between};
-ghost use Rattle.span_keyindex.specs.Indexes.{entries_at, IsIndex, IsSearchCost};
+ghost use Rattle.span_keyindex.specs.Indexes.{entries_at, AreTwoSearches, IsIndex, IsSearchCost};
 ghost use Rattle.span_keyindex.specs.Walks.{begins_long, is_stop, without_long, without_long_first};
 
 use crate::ahead::Ahead;
@@ -141,7 +141,7 @@ pub(crate) fn walk_range<'a, C: Ledger, W: Ledger>(
     requires { IsIndex arena.now.cells nexts.now index.now }
     ensures entries { result ≡ entries_between low.now high.now (entries_at arena.now.cells index.now) }
     ensures cost { (d : ℕ) → length (entries_at arena.now.cells index.now) < 2 ^ d
-        → IsSearchCost (2 * d) steps.old steps.new }
+        → AreTwoSearches d steps.old steps.new }
 {
     if low.cmp(&high).is_ge() {
         return none(arena, nexts, index);
@@ -170,7 +170,7 @@ pub(crate) fn walk_under<'a, C: Ledger, W: Ledger>(
     requires { IsIndex arena.now.cells nexts.now index.now }
     ensures entries { result ≡ entries_under front.now (entries_at arena.now.cells index.now) }
     ensures cost { (d : ℕ) → length (entries_at arena.now.cells index.now) < 2 ^ d
-        → IsSearchCost (2 * d) steps.old steps.new }
+        → AreTwoSearches d steps.old steps.new }
 {
     let at = first_from(arena, index, front, steps);
     let stop = first_past(arena, index, front, steps);

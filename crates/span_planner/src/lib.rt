@@ -9,5 +9,4 @@ pub mod narrow;
 pub mod plan;
 mod range;
 mod reads;
-mod step;
 pub mod table;

@@ -9,11 +9,11 @@ ghost use Rattle.span_planner.specs.Reads.{masks_of};
 
 use super::copy::{copy_condition, copy_outputs};
 use super::leaf::{Leaf, LeafJoin};
-use super::step::keep_with;
 use span_expr::copy::copy_among;
 use span_expr::expr::Expr;
 use span_expr::rank::rank;
 use span_query::query::{Aggregate, Block, BoundQuery, Grouping, Item, Join};
+use span_value::owned::keep_with;
 use sqlite_items::{Boxed, Items};
 use std::alloc::{AllocError, Global};
 

@@ -12,7 +12,7 @@ ghost use Rattle.span_session.specs.Rule.{Sees};
 
 use crate::board::Naming;
 use crate::db::Db;
-use crate::question::{copy_question, give_after, pair_with, rows_of, understand_and_plan};
+use crate::question::{copy_question, rows_of, understand_and_plan};
 use crate::session::Session;
 use span_gather::rows::Rows;
 use span_journal::journal::Opened;
@@ -23,6 +23,7 @@ use span_query::query::Statement;
 use span_truetime::bound::Bound;
 use span_truetime::clock::Clock;
 use span_truetime::interval::Interval;
+use span_value::owned::{give_after, keep_with};
 use span_value::refusal::Refusal;
 use std::sync::Wait;
 use std::thread::Threads;
@@ -143,7 +144,7 @@ impl<J: Naming> Db<J> {
         match understand_and_plan(self.board.alloc, &self.board.schema, text, params) {
             Ok((statement, plan)) => {
                 let opened = self.open_statement(rt, text, params, statement, bound, interval);
-                pair_with(plan, opened)
+                keep_with(plan, opened)
             }
             Err(why) => Err(why),
         }
@@ -166,7 +167,7 @@ impl<J: Naming> Db<J> {
             (λ why. (why ≡ Refusal.OutOfMemory) ⊎ IsUnopened J.schema text.now params.now bound interval why) }
     {
         let copies = copy_question(self.board.alloc, text, params);
-        let (statement, (text, params)) = pair_with(statement, copies)?;
+        let (statement, (text, params)) = keep_with(statement, copies)?;
         self.journal
             .lock(rt)
             .open(&self.board, text, params, statement, bound, interval)

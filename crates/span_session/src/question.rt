@@ -24,27 +24,10 @@ use span_planner::plan::plan;
 use span_query::query::Statement;
 use span_schema::schema::Schema;
 use span_soundness::laws::can_be_planned;
+use span_value::owned::give_after;
 use span_value::refusal::Refusal;
 use span_value::text::Text;
 use std::alloc::{AllocError, Global};
-
-/// Drops a value, and gives another. A tree is dropped here since a proof of its drop where its type is known takes minutes.
-pub(crate) fn give_after<A: Drop, B>(dropped: A, given: B) -> B
-    ensures { result ≡ given }
-{
-    let _ = dropped;
-    given
-}
-
-/// Pairs a value with the next result. An error drops the value.
-pub(crate) fn pair_with<A: Drop, B, E>(first: A, second: Result<B, E>) -> Result<(A, B), E>
-    ensures { MatchResult result (λ both. (both.0 ≡ first) × (second ≡ Ok both.1)) (λ why. second ≡ Err why) }
-{
-    match second {
-        Ok(second) => Ok((first, second)),
-        Err(why) => Err(why),
-    }
-}
 
 /// The plan of a statement that can be planned. The error is out of memory.
 #[tactic(auto, using(span_planner::proofs::SizedNumbers::sized_numbered))]

@@ -3,12 +3,13 @@ ghost use Rattle.std.specs.Prelude.{◌≡◌};
 
 use crate::clock::{OpenGate, SharedClock};
 use crate::threads::{ask, commit_users, two_schemas};
-use crate::two_sessions::{USERS, are_uids, give_after};
+use crate::two_sessions::{USERS, are_uids};
 use span_schema::schema::Schema;
 use span_session::board::Naming;
 use span_session::db::Db;
 use span_session::open::Opened;
 use span_session::session::Session;
+use span_value::owned::give_after;
 use span_value::refusal::Refusal;
 use std::alloc::{AllocError, Global};
 use std::marker::Brand;

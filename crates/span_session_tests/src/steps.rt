@@ -3,7 +3,8 @@ ghost use Rattle.std.specs.Prelude.{◌≡◌, IfOk};
 ghost use Rattle.span_mutate.specs.Typed.{AreTypedMutations};
 
 use crate::clock::{OpenGate, SharedClock, Still};
-use crate::two_sessions::{are_uids, give_after, insert};
+use crate::two_sessions::{are_uids, insert};
+use span_gather::rows::Rows;
 use span_keycode::laws::are_values;
 use span_machine::step::Verdict;
 use span_mutate::mutation::{Mutation, MutationKind};
@@ -17,6 +18,7 @@ use span_session::open::Opened;
 use span_session::session::Session;
 use span_truetime::bound::Bound;
 use span_truetime::interval::Interval;
+use span_value::owned::give_after;
 use span_value::refusal::Refusal;
 use span_value::seq::Seq;
 use span_value::text::Text;
@@ -133,18 +135,8 @@ fn check_steps<J: Naming + Send + Sync, R: Threads + Wait + Abort + Sync>(
     assert_eq!(rt; db.begin(rt, &mut me, second), Ok(2));
     assert_eq!(rt; db.decide(rt, &late, &mut me, 2, Verdict::Abort), Ok(None));
     assert_eq!(rt; db.look(&mut me), 1);
-    let params = Params::new(alloc);
-    let answer = db.query(
-        rt,
-        &late,
-        &OpenGate,
-        &mut me,
-        UIDS,
-        &params,
-        Bound::Strong,
-        1,
-    )?;
-    assert!(rt; are_uids(&answer.rows, &[1]));
+    let all = users(rt, alloc, db, &late, &mut me, Bound::Strong)?;
+    assert!(rt; are_uids(&all, &[1]));
     Ok(())
 }
 
@@ -195,63 +187,75 @@ fn check_slots<J: Naming + Send + Sync, R: Threads + Wait + Abort + Sync>(
     requires right { AreTypedMutations J.schema right }
 {
     let mut me = me;
+    check_commits(rt, alloc, db, &mut me, wrong, right)?;
+    check_trim(rt, alloc, db, &mut me)
+}
+
+// The transaction that is refused at its second slot leaves nothing prepared at the first, which is then cut; the other commits at 211.
+fn check_commits<J: Naming + Send + Sync, R: Threads + Wait + Abort + Sync>(
+    rt: &R,
+    alloc: Global,
+    db: &Db<J>,
+    me: &mut Session<J>,
+    wrong: Transaction,
+    right: Transaction,
+) -> Result<(), Fail>
+    requires wrong { AreTypedMutations J.schema wrong }
+    requires right { AreTypedMutations J.schema right }
+{
     let clock = SharedClock::new();
-    let params = Params::new(alloc);
-    assert_eq!(rt; split(rt, db, &me, 100), Ok(1));
+    assert_eq!(rt; split(rt, db, me, 100), Ok(1));
     assert_eq!(rt;
-        db.commit(rt, &clock, &mut me, wrong),
+        db.commit(rt, &clock, me, wrong),
         Err(Refusal::ParentMissing)
     );
-    assert_eq!(rt; split(rt, db, &me, 50), Ok(2));
+    assert_eq!(rt; split(rt, db, me, 50), Ok(2));
     let early = Still {
         reading: Interval {
             earliest: 100,
             latest: 110,
         },
     };
-    let none = db.query(
-        rt,
-        &early,
-        &OpenGate,
-        &mut me,
-        UIDS,
-        &params,
-        Bound::Strong,
-        1,
-    )?;
-    assert!(rt; are_uids(&none.rows, &[]));
-    assert_eq!(rt; db.commit(rt, &clock, &mut me, right), Ok(211));
+    let none = users(rt, alloc, db, &early, me, Bound::Strong)?;
+    assert!(rt; are_uids(&none, &[]));
+    assert_eq!(rt; db.commit(rt, &clock, me, right), Ok(211));
+    Ok(())
+}
+
+// Both users are there; where slot 0 is trimmed, what was before is refused.
+fn check_trim<J: Naming + Send + Sync, R: Threads + Wait + Abort + Sync>(
+    rt: &R,
+    alloc: Global,
+    db: &Db<J>,
+    me: &mut Session<J>,
+) -> Result<(), Fail> {
     let late = Still {
         reading: Interval {
             earliest: 900,
             latest: 910,
         },
     };
-    let answer = db.query(
-        rt,
-        &late,
-        &OpenGate,
-        &mut me,
-        UIDS,
-        &params,
-        Bound::Strong,
-        1,
-    )?;
-    assert!(rt; are_uids(&answer.rows, &[1, 200]));
-    assert_eq!(rt; db.advance(rt, &late, &me, 0), Ok(910));
-    assert_eq!(rt; db.trim(rt, &me, 0, 900), Ok(1));
-    let old = db.query(
-        rt,
-        &late,
-        &OpenGate,
-        &mut me,
-        UIDS,
-        &params,
-        Bound::At(400),
-        1,
-    );
+    let all = users(rt, alloc, db, &late, me, Bound::Strong)?;
+    assert!(rt; are_uids(&all, &[1, 200]));
+    assert_eq!(rt; db.advance(rt, &late, me, 0), Ok(910));
+    assert_eq!(rt; db.trim(rt, me, 0, 900), Ok(1));
+    let old = users(rt, alloc, db, &late, me, Bound::At(400));
     assert_eq!(rt; old.err(), Some(Refusal::Trimmed));
     Ok(())
+}
+
+// The users, by one worker.
+fn users<J: Naming + Send + Sync, R: Threads + Wait + Sync>(
+    rt: &R,
+    alloc: Global,
+    db: &Db<J>,
+    clock: &Still,
+    me: &mut Session<J>,
+    bound: Bound,
+) -> Result<Rows, Refusal> {
+    let params = Params::new(alloc);
+    let answer = db.query(rt, clock, &OpenGate, me, UIDS, &params, bound, 1)?;
+    Ok(answer.rows)
 }
 
 // Cuts at a user.

@@ -14,6 +14,7 @@ use span_session::db::Db;
 use span_session::open::Opened;
 use span_session::session::Session;
 use span_truetime::bound::Bound;
+use span_value::owned::give_after;
 use span_value::refusal::Refusal;
 use span_value::seq::Seq;
 use span_value::text::Text;
@@ -92,12 +93,6 @@ fn by_two<J: Naming + Send + Sync, R: Threads + Wait + Abort + Sync>(
     };
     let checked = check_sessions(rt, alloc, &db, a, b, first, second);
     give_after(db, checked)
-}
-
-// Drops a value, and gives another: a proof of a drop where the type is known takes minutes.
-pub(crate) fn give_after<A: Drop, B>(dropped: A, given: B) -> B {
-    let _ = dropped;
-    given
 }
 
 fn check_sessions<J: Naming + Send + Sync, R: Threads + Wait + Abort + Sync>(

@@ -14,6 +14,7 @@ use super::run::run;
 use super::store::Store;
 use super::write::Write;
 use span_keycode::key::Key;
+use span_keyindex::near::NO_CHAIN;
 use span_mutate::mutation::CheckedMutation;
 use span_schema::schema::Schema;
 use span_value::refusal::Refusal;
@@ -32,12 +33,15 @@ fn is_same_row(left: Option<&Seq<u8>>, right: Option<&Seq<u8>>) -> bool
     }
 }
 
-/// Whether what is to be written is another row than the one that is there now.
-fn is_change(store: &Lookups<'_>, write: &Write) -> bool
+/// Whether what is to be written is another row than the one that is there now. `near` is a chain from `Lookups::near`.
+fn is_change(store: &Lookups<'_>, write: &Write, near: u32) -> bool
     requires { AreInOrder store.now }
     ensures { result ≡ not (is_same_row (row_now store.now write.now.key) write.now.row) }
 {
-    !is_same_row(store.row_now(write.key.as_slice()), write.row.as_ref())
+    !is_same_row(
+        store.row_near(write.key.as_slice(), near),
+        write.row.as_ref(),
+    )
 }
 
 // Whether a row that was removed, and that the write is to remove, is there now with none made in its place.
@@ -47,7 +51,7 @@ fn is_removal(store: &Lookups<'_>, made: &MadeRows, write: &Write) -> bool
         ≡ not (is_some (made_at made.now write.now.key))
         && not (is_same_row (row_now store.now write.now.key) write.now.row) }
 {
-    made.get(&write.key).is_none() && is_change(store, write)
+    made.get(&write.key).is_none() && is_change(store, write, NO_CHAIN)
 }
 
 // The writes of the rows that mutations removed and made no other for, of those that are there now.
@@ -88,12 +92,12 @@ fn writes_of_changes(
         ..
     } = changes;
     let mut writes = removals(alloc, store, &left, removed)?;
-    while let Some((key, row)) = left.pop_last() {
+    while let Some((key, row, near)) = left.pop_last() {
         let write = Write {
             key,
             row: Some(row),
         };
-        if is_change(store, &write) {
+        if is_change(store, &write, near) {
             writes.push(write)?;
         }
     }

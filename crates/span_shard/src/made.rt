@@ -17,14 +17,39 @@ use std::collections::BTreeMap;
 use std::marker::Model;
 use std::mem;
 
+/// A packed row that mutations made, and a chain from `Lookups::near` near its key, by which the row that is there now is found
+/// without a search of the whole tree. Contracts see the row.
+#[derive(Drop)]
+pub(crate) struct MadeRow {
+    row: Seq<u8>,
+    near: u32,
+}
+
+impl Model for MadeRow {
+    ghost use Rattle.std.specs.Prelude.{List, ℕ};
+
+    ghost Value = { List ℕ };
+
+    ghost view = { λ m. m.row };
+}
+
+impl MadeRow {
+    /// The row.
+    pub(crate) fn row(&self) -> &Seq<u8>
+        ensures { result.now ≡ self.now }
+    {
+        &self.row
+    }
+}
+
 /// By coded keys, the packed rows that mutations made.
 #[derive(Drop)]
 pub(crate) struct MadeRows {
     /// The rows at the lower keys.
-    map: BTreeMap<Key, Seq<u8>>,
+    map: BTreeMap<Key, MadeRow>,
     /// The others, in the order of their keys: each was made at a key after all that were there. They are moved into the
     /// map when a key comes among theirs, so that each is moved once at most.
-    tail: Vec<(Key, Seq<u8>)>,
+    tail: Vec<(Key, MadeRow)>,
 }
 
 impl Model for MadeRows {
@@ -60,7 +85,7 @@ impl MadeRows {
     }
 
     /// The row at a key.
-    pub(crate) fn get(&self, key: &Key) -> Option<&Seq<u8>>
+    pub(crate) fn get(&self, key: &Key) -> Option<&MadeRow>
         ensures { option_copied result ≡ made_at self.now key.now }
     {
         if self.is_after_all(key) {
@@ -72,17 +97,17 @@ impl MadeRows {
         row_in(self.tail.as_slice(), key)
     }
 
-    /// Leaves a row at a key, and tells whether there was none.
-    pub(crate) fn insert(&mut self, key: Key, row: Seq<u8>) -> Result<bool, AllocError>
+    /// Leaves a row at a key, and tells whether there was none. `near` is a chain from `Lookups::near`.
+    pub(crate) fn insert(&mut self, key: Key, row: Seq<u8>, near: u32) -> Result<bool, AllocError>
         ensures absent { IfOk result (λ absent. absent ≡ is_none (made_at self.old key)) }
         ensures set { OnOk result (IsSetAt key (Some row) self.old self.new) }
     {
         if self.is_after_all(&key) {
-            self.tail.push((key, row))?;
+            self.tail.push((key, MadeRow { row, near }))?;
             return Ok(true);
         }
         make_way(&mut self.map, &mut self.tail, &key)?;
-        let before = self.map.insert(key, row)?;
+        let before = self.map.insert(key, MadeRow { row, near })?;
         Ok(before.is_none())
     }
 
@@ -95,15 +120,18 @@ impl MadeRows {
         Ok(())
     }
 
-    /// Takes out the row at the last key.
-    pub(crate) fn pop_last(&mut self) -> Option<(Key, Seq<u8>)>
-        ensures last { MatchOption result (self.old ≡ []) (λ p. self.old ≡ self.new ++ p ∷ []) }
+    /// Takes out the row at the last key, with the chain near it.
+    pub(crate) fn pop_last(&mut self) -> Option<(Key, Seq<u8>, u32)>
+        ensures last { MatchOption result (self.old ≡ []) (λ p. self.old ≡ self.new ++ (p.0, p.1) ∷ []) }
         ensures order { AreInKeyOrder self.old }
     {
-        if let Some(last) = self.tail.pop() {
-            return Some(last);
+        if let Some((key, MadeRow { row, near })) = self.tail.pop() {
+            return Some((key, row, near));
         }
-        self.map.pop_last()
+        match self.map.pop_last() {
+            Some((key, MadeRow { row, near })) => Some((key, row, near)),
+            None => None,
+        }
     }
 
     /// Adds the keys that begin with `front`.
@@ -121,7 +149,7 @@ impl MadeRows {
     }
 }
 
-fn is_after_map(map: &BTreeMap<Key, Seq<u8>>, key: &Key) -> bool
+fn is_after_map(map: &BTreeMap<Key, MadeRow>, key: &Key) -> bool
     ensures { IsTrue result → IsAfterAll key.now map.now.entries }
 {
     match map.last_key_value() {
@@ -131,7 +159,7 @@ fn is_after_map(map: &BTreeMap<Key, Seq<u8>>, key: &Key) -> bool
 }
 
 // Whether a key is before those of all rows of a list.
-fn is_before_all(rows: &[(Key, Seq<u8>)], key: &Key) -> bool
+fn is_before_all(rows: &[(Key, MadeRow)], key: &Key) -> bool
     requires { AreInKeyOrder rows.now }
     ensures { MatchBool result (IsBeforeAll key.now rows.now) (IsFromFirst key.now rows.now) }
 {
@@ -142,20 +170,20 @@ fn is_before_all(rows: &[(Key, Seq<u8>)], key: &Key) -> bool
 }
 
 // How many rows of a list are at keys before this one.
-fn count_before(rows: &[(Key, Seq<u8>)], key: &Key) -> usize
+fn count_before(rows: &[(Key, MadeRow)], key: &Key) -> usize
     requires { AreInKeyOrder rows.now }
     ensures bound { result ≤ length rows.now }
     ensures count { IsCountBefore key.now rows.now result }
 {
     rows.partition_point(
-        |row: &(Key, Seq<u8>)| -> bool
+        |row: &(Key, MadeRow)| -> bool
             ensures { result ≡ is_lt (byte_order row.now.0 key.entry.now) }
         { row.0.cmp(key).is_lt() },
     )
 }
 
 // The row of a list at a key, by a search.
-fn row_found<'a>(rows: &'a [(Key, Seq<u8>)], key: &Key) -> Option<&'a Seq<u8>>
+fn row_found<'a>(rows: &'a [(Key, MadeRow)], key: &Key) -> Option<&'a MadeRow>
     requires { AreInKeyOrder rows.now }
     ensures { option_copied result ≡ made_at rows.now key.now }
 {
@@ -171,7 +199,7 @@ fn row_found<'a>(rows: &'a [(Key, Seq<u8>)], key: &Key) -> Option<&'a Seq<u8>>
 
 // The row of a list at a key. The last one is looked at first: mostly a parent row is made right before the first row
 // below it.
-fn row_in<'a>(rows: &'a [(Key, Seq<u8>)], key: &Key) -> Option<&'a Seq<u8>>
+fn row_in<'a>(rows: &'a [(Key, MadeRow)], key: &Key) -> Option<&'a MadeRow>
     requires { AreInKeyOrder rows.now }
     ensures { option_copied result ≡ made_at rows.now key.now }
 {
@@ -182,7 +210,7 @@ fn row_in<'a>(rows: &'a [(Key, Seq<u8>)], key: &Key) -> Option<&'a Seq<u8>>
 }
 
 // Moves rows from a list to a map, whose keys are all before theirs.
-fn insert_all(map: &mut BTreeMap<Key, Seq<u8>>, rows: Vec<(Key, Seq<u8>)>) -> Result<(), AllocError>
+fn insert_all(map: &mut BTreeMap<Key, MadeRow>, rows: Vec<(Key, MadeRow)>) -> Result<(), AllocError>
     requires { AreInKeyOrder (map.old.entries ++ rows.items) }
     ensures moved { OnOk result (map.new.entries ≡ map.old.entries ++ rows.items) }
     ensures order { AreInKeyOrder map.new.entries }
@@ -195,8 +223,8 @@ fn insert_all(map: &mut BTreeMap<Key, Seq<u8>>, rows: Vec<(Key, Seq<u8>)>) -> Re
 
 // Moves the tail into the map, unless the key is before all those of the tail.
 fn make_way(
-    map: &mut BTreeMap<Key, Seq<u8>>,
-    tail: &mut Vec<(Key, Seq<u8>)>,
+    map: &mut BTreeMap<Key, MadeRow>,
+    tail: &mut Vec<(Key, MadeRow)>,
     key: &Key,
 ) -> Result<(), AllocError>
     requires { AreInKeyOrder (map.old.entries ++ tail.old.items) }
@@ -221,7 +249,7 @@ fn begins_with(key: &Key, front: &Key) -> bool
 fn push_keys_of_map(
     alloc: Global,
     keys: &mut Vec<Key>,
-    map: &BTreeMap<Key, Seq<u8>>,
+    map: &BTreeMap<Key, MadeRow>,
     front: &Key,
 ) -> Result<(), AllocError>
     ensures { OnOk result (AddsMade map.now.entries front.now keys.old.items keys.new.items) }
@@ -240,7 +268,7 @@ fn push_keys_of_map(
 fn push_keys_of_list(
     alloc: Global,
     keys: &mut Vec<Key>,
-    rows: &[(Key, Seq<u8>)],
+    rows: &[(Key, MadeRow)],
     front: &Key,
 ) -> Result<(), AllocError>
     requires { AreInKeyOrder rows.now }

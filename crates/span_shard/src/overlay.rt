@@ -52,22 +52,22 @@ impl Changes {
         self.made.get(key).is_some() || self.removed.contains(key)
     }
 
-    /// Leaves a row at a key.
-    pub(crate) fn put(&mut self, key: Key, row: Seq<u8>) -> Result<(), AllocError>
+    /// Leaves a row at a key. `near` is a chain from `Lookups::near`.
+    pub(crate) fn put(&mut self, key: Key, row: Seq<u8>, near: u32) -> Result<(), AllocError>
         ensures put { OnOk result (IsPutAt key row self.old self.new) }
         ensures cleared { OnOk result (HasSameCleared self.old self.new) }
     {
-        let _absent = self.made.insert(key, row)?;
+        let _absent = self.made.insert(key, row, near)?;
         Ok(())
     }
 
     /// Leaves a row at a key, and tells whether mutations had made none there. It takes one search.
-    pub(crate) fn add(&mut self, key: Key, row: Seq<u8>) -> Result<bool, AllocError>
+    pub(crate) fn add(&mut self, key: Key, row: Seq<u8>, near: u32) -> Result<bool, AllocError>
         ensures absent { IfOk result (λ absent. absent ≡ is_none (made_at self.old.made key)) }
         ensures put { OnOk result (IsPutAt key row self.old self.new) }
         ensures cleared { OnOk result (HasSameCleared self.old self.new) }
     {
-        self.made.insert(key, row)
+        self.made.insert(key, row, near)
     }
 
     // Leaves no row at these keys.
@@ -120,7 +120,7 @@ pub(crate) fn row_over<'a>(
     ensures { option_copied result ≡ row_over store.now changes.now key.now }
 {
     match changes.made.get(key) {
-        Some(row) => Some(row),
+        Some(made) => Some(made.row()),
         None if changes.removed.contains(key) => None,
         None => store.row_now(key.as_slice()),
     }

@@ -216,14 +216,14 @@ fn row_alone(
 }
 
 // Leaves a row at a key, at which mutations are to have made none: `Exists` where they did.
-fn add_row(changes: &mut Changes, key: Key, row: Seq<u8>) -> Result<(), Refusal>
+fn add_row(changes: &mut Changes, key: Key, row: Seq<u8>, near: u32) -> Result<(), Refusal>
     ensures added { OnOk result (IsAddedAt key row changes.old changes.new) }
     ensures cleared { OnOk result (HasSameCleared changes.old changes.new) }
     ensures refused { IfErr result (λ why.
         (why ≡ Refusal.OutOfMemory)
         ⊎ ((why ≡ Refusal.Exists) × (is_some (made_at changes.old.made key) ≡ true))) }
 {
-    if changes.add(key, row)? {
+    if changes.add(key, row, near)? {
         Ok(())
     } else {
         Err(Refusal::Exists)
@@ -251,10 +251,10 @@ fn run_put(
     ensures refused { IfErr result (IsNoPut schema.now store.now changes.old mutation.now) }
 {
     match row_alone(alloc, schema, store, changes, known, mutation, &key, near)? {
-        Some(row) => add_row(changes, key, row),
+        Some(row) => add_row(changes, key, row, near),
         None => {
             let row = row_put(alloc, schema, store, changes, known, mutation, &key)?;
-            Ok(changes.put(key, row)?)
+            Ok(changes.put(key, row, near)?)
         }
     }
 }

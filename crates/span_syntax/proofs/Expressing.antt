@@ -17,7 +17,7 @@ use Rattle.span_syntax.specs.declared.tree.Link.{roll-Link}
 use Rattle.span_grammar.specs.Shapes.{shape_of, part_inside}
 use Rattle.span_grammar.specs.Grammar.{rule_of}
 use Rattle.span_syntax.specs.Pieces.{Piece, token, nothing, ◌<$>◌, ◌>>=◌, either, each, pair_with, opening}
-use Rattle.span_syntax.specs.Expressions.{span_of, spelling_of, spelling, close_parenthesis, arm_of, then_value, integer_of, qualifier, column_of, qualified_column, column, direction, chain_of, conjunction_of, disjunction_of, apply_test, term_sign, sum_sign, comparison, maybe_not, null_words, list_more, list, when, case_operand, case_else, case_end, case_arms, case_of, in_case, argument_list, Inner, parenthesis, arguments, members, case, negation, opposite, after_name, call_or_column, if_call, compound, word_literal, other_primary, primary, unary, other_unary, signed, term_more, term, sum_more, sum, comparison_test, is_null, like, high_end, between, within, negatable_test, maybe_not_test, predicate_rest, predicate, negated, conjunction_more, conjunction, expression_more, expression, after}
+use Rattle.span_syntax.specs.Expressions.{span_of, spelling_of, spelling, close_parenthesis, arm_of, then_value, integer_of, qualifier, column_of, qualified_column, column, direction, chain_of, conjunction_of, disjunction_of, apply_test, term_sign, sum_sign, comparison, maybe_not, null_words, list_more, list, when, case_operand, case_else, case_end, case_arms, case_of, in_case, argument_list, Inner, parenthesis, arguments, members, case, negation, opposite, after_name, call_or_column, if_call, compound, word_literal, other_primary, primary, unary, other_unary, signed_primary, term_more, term, sum_more, sum, comparison_test, is_null, like, high_end, between, within, negatable_test, maybe_not_test, predicate_rest, predicate, negated_predicate, conjunction_more, conjunction, expression_more, expression, after}
 use Rattle.span_syntax.proofs.Good.{Good, token_good, nothing_good, map_good, then_good, or_good, many_good, beside_good, open_good}
 
 -- ---- columns and signs
@@ -120,8 +120,8 @@ module _ (n : ℕ) (p : Piece Expr) (gp : Good n (rule_of part.Expression) p) wh
 -- what is one opening deeper is read so, where there is one left
 pub record Deep (n : ℕ) (inner : Inner) : Type 0 where
   pub expression : (m : ℕ) → n ≡ suc m → Good m (rule_of part.Expression) inner.expression
-  pub negated : (m : ℕ) → n ≡ suc m → Good m (rule_of part.Negated) inner.negated
-  pub signed : (m : ℕ) → n ≡ suc m → Good m (rule_of part.Signed) inner.signed
+  pub negated_predicate : (m : ℕ) → n ≡ suc m → Good m (rule_of part.Negated) inner.negated_predicate
+  pub signed_primary : (m : ℕ) → n ≡ suc m → Good m (rule_of part.Signed) inner.signed_primary
 
 module _ (text : List ℕ) (n : ℕ) (inner : Inner) (deep : Deep n inner) where
   pub parenthesis_good : Good n (rule_of part.Parenthesis) (parenthesis text n inner)
@@ -142,11 +142,11 @@ module _ (text : List ℕ) (n : ℕ) (inner : Inner) (deep : Deep n inner) where
 
   pub negation_good : Good n (rule_of part.Negation) (negation text n inner)
   unfolding negation shape_of part_inside
-  negation_good = map_good e.Not (opening n (sort.Word word.Not) (inner.negated)) (open_good n part.Negation (sort.Word word.Not) place.InNegation refl (inner.negated) (λ m e. (deep.negated m e)))
+  negation_good = map_good e.Not (opening n (sort.Word word.Not) (inner.negated_predicate)) (open_good n part.Negation (sort.Word word.Not) place.InNegation refl (inner.negated_predicate) (λ m e. (deep.negated_predicate m e)))
 
   pub opposite_good : Good n (rule_of part.Opposite) (opposite text n inner)
   unfolding opposite shape_of part_inside
-  opposite_good = open_good n part.Opposite (sort.Sign sign.Minus) place.InOpposite refl (inner.signed) (λ m e. (deep.signed m e))
+  opposite_good = open_good n part.Opposite (sort.Sign sign.Minus) place.InOpposite refl (inner.signed_primary) (λ m e. (deep.signed_primary m e))
 
   pub after_name_good : (name : Spelling) → Good n (rule_of part.AfterName) (after_name text n inner name)
   unfolding after_name shape_of part_inside
@@ -184,8 +184,8 @@ module _ (text : List ℕ) (n : ℕ) (inner : Inner) (deep : Deep n inner) where
   unfolding other_unary shape_of part_inside
   other_unary_good = or_good n part.OtherUnary part.Opposite part.PrimaryFromAString refl (opposite text n inner) (other_primary text n inner) (opposite_good) (other_primary_good)
 
-  pub signed_good : Good n (rule_of part.Signed) (signed text n inner)
-  unfolding signed shape_of part_inside
+  pub signed_good : Good n (rule_of part.Signed) (signed_primary text n inner)
+  unfolding signed_primary shape_of part_inside
   signed_good = or_good n part.Signed (part.Token sort.Int) part.OtherUnary refl ((λ t. e.Integer (integer_of true t)) <$> (token sort.Int)) (e.Negative <$> (other_unary text n inner)) (map_good (λ t. e.Integer (integer_of true t)) (token sort.Int) (token_good n sort.Int)) (map_good e.Negative (other_unary text n inner) (other_unary_good))
 
   pub term_more_good : Good n (rule_of part.TermMore) (term_more text n inner)
@@ -244,17 +244,17 @@ module _ (text : List ℕ) (n : ℕ) (inner : Inner) (deep : Deep n inner) where
   unfolding predicate shape_of part_inside
   predicate_good = then_good n part.Predicate part.Sum part.PredicateRest refl (sum text n inner) (λ x. ((λ both. apply_test both.0 both.1) <$> (pair_with x (predicate_rest text n inner)))) (sum_good) (λ x. (map_good (λ both. apply_test both.0 both.1) (pair_with x (predicate_rest text n inner)) (beside_good x (predicate_rest text n inner) (predicate_rest_good))))
 
-  pub negated_good : Good n (rule_of part.Negated) (negated text n inner)
-  unfolding negated shape_of part_inside
+  pub negated_good : Good n (rule_of part.Negated) (negated_predicate text n inner)
+  unfolding negated_predicate shape_of part_inside
   negated_good = or_good n part.Negated part.Negation part.Predicate refl (negation text n inner) (predicate text n inner) (negation_good) (predicate_good)
 
   pub conjunction_more_good : Good n (rule_of part.ConjunctionMore) (conjunction_more text n inner)
   unfolding conjunction_more shape_of part_inside
-  conjunction_more_good = then_good n part.ConjunctionMore (part.Token (sort.Word word.And)) part.Negated refl (token (sort.Word word.And)) (λ _. (negated text n inner)) (token_good n (sort.Word word.And)) (λ _. (negated_good))
+  conjunction_more_good = then_good n part.ConjunctionMore (part.Token (sort.Word word.And)) part.Negated refl (token (sort.Word word.And)) (λ _. (negated_predicate text n inner)) (token_good n (sort.Word word.And)) (λ _. (negated_good))
 
   pub conjunction_good : Good n (rule_of part.Conjunction) (conjunction text n inner)
   unfolding conjunction shape_of part_inside
-  conjunction_good = then_good n part.Conjunction part.Negated part.ConjunctionRest refl (negated text n inner) (λ first. ((λ all. conjunction_of all.0 all.1) <$> (pair_with first (each part.ConjunctionMore (conjunction_more text n inner))))) (negated_good) (λ first. (map_good (λ all. conjunction_of all.0 all.1) (pair_with first (each part.ConjunctionMore (conjunction_more text n inner))) (beside_good first (each part.ConjunctionMore (conjunction_more text n inner)) (many_good n part.ConjunctionRest part.ConjunctionMore refl (conjunction_more text n inner) (conjunction_more_good)))))
+  conjunction_good = then_good n part.Conjunction part.Negated part.ConjunctionRest refl (negated_predicate text n inner) (λ first. ((λ all. conjunction_of all.0 all.1) <$> (pair_with first (each part.ConjunctionMore (conjunction_more text n inner))))) (negated_good) (λ first. (map_good (λ all. conjunction_of all.0 all.1) (pair_with first (each part.ConjunctionMore (conjunction_more text n inner))) (beside_good first (each part.ConjunctionMore (conjunction_more text n inner)) (many_good n part.ConjunctionRest part.ConjunctionMore refl (conjunction_more text n inner) (conjunction_more_good)))))
 
   pub expression_more_good : Good n (rule_of part.ExpressionMore) (expression_more text n inner)
   unfolding expression_more shape_of part_inside
@@ -271,12 +271,12 @@ before n m h = omega (arith, h)
 
 pub deep : (text : List ℕ) (n : ℕ) → Deep n (after text n)
 unfolding after
-deep text zero = record { expression = λ m h. absurd cc; negated = λ m h. absurd cc; signed = λ m h. absurd cc }
+deep text zero = record { expression = λ m h. absurd cc; negated_predicate = λ m h. absurd cc; signed_primary = λ m h. absurd cc }
 deep text (suc n) =
     let inner = after text n in
     let all = deep text n in
     record {
       expression = λ m h. subst (λ (k : ℕ). Good k (rule_of part.Expression) (expression text n inner)) (before n m h) (expression_good text n inner all);
-      negated = λ m h. subst (λ (k : ℕ). Good k (rule_of part.Negated) (negated text n inner)) (before n m h) (negated_good text n inner all);
-      signed = λ m h. subst (λ (k : ℕ). Good k (rule_of part.Signed) (signed text n inner)) (before n m h) (signed_good text n inner all);
+      negated_predicate = λ m h. subst (λ (k : ℕ). Good k (rule_of part.Negated) (negated_predicate text n inner)) (before n m h) (negated_good text n inner all);
+      signed_primary = λ m h. subst (λ (k : ℕ). Good k (rule_of part.Signed) (signed_primary text n inner)) (before n m h) (signed_good text n inner all);
     }

@@ -191,8 +191,8 @@ argument_list p name =
 -- what is one opening deeper
 pub record Inner : Type 0 where
   pub expression : Piece Expr
-  pub negated : Piece Expr
-  pub signed : Piece Expr
+  pub negated_predicate : Piece Expr
+  pub signed_primary : Piece Expr
 
 -- the text, and the number of openings left
 module _ (text : List ℕ) (left : ℕ) (inner : Inner) where
@@ -209,10 +209,10 @@ module _ (text : List ℕ) (left : ℕ) (inner : Inner) where
   case = opening left (sort.Word word.Case) (in_case inner.expression)
 
   unfoldable pub negation : Piece Expr
-  negation = e.Not <$> opening left (sort.Word word.Not) inner.negated
+  negation = e.Not <$> opening left (sort.Word word.Not) inner.negated_predicate
 
   unfoldable pub opposite : Piece Expr
-  opposite = opening left (sort.Sign sign.Minus) inner.signed
+  opposite = opening left (sort.Sign sign.Minus) inner.signed_primary
 
   unfoldable pub after_name : Spelling → Piece Expr
   after_name name = either part.Arguments (arguments name) (e.Column <$> qualified_column text name)
@@ -251,8 +251,8 @@ module _ (text : List ℕ) (left : ℕ) (inner : Inner) where
   other_unary = either part.Opposite opposite other_primary
 
   -- after a minus: the minus directly before an integer belongs to it
-  unfoldable pub signed : Piece Expr
-  signed =
+  unfoldable pub signed_primary : Piece Expr
+  signed_primary =
       either (part.Token sort.Int) ((λ t. e.Integer (integer_of true t)) <$> token sort.Int)
       (e.Negative <$> other_unary)
 
@@ -305,15 +305,15 @@ module _ (text : List ℕ) (left : ℕ) (inner : Inner) where
   unfoldable pub predicate : Piece Expr
   predicate = sum >>= (λ x. (λ both. apply_test both.0 both.1) <$> pair_with x predicate_rest)
 
-  unfoldable pub negated : Piece Expr
-  negated = either part.Negation negation predicate
+  unfoldable pub negated_predicate : Piece Expr
+  negated_predicate = either part.Negation negation predicate
 
   unfoldable pub conjunction_more : Piece Expr
-  conjunction_more = token (sort.Word word.And) >> negated
+  conjunction_more = token (sort.Word word.And) >> negated_predicate
 
   unfoldable pub conjunction : Piece Expr
   conjunction =
-      negated >>= (λ first. (λ all. conjunction_of all.0 all.1) <$> pair_with first
+      negated_predicate >>= (λ first. (λ all. conjunction_of all.0 all.1) <$> pair_with first
       (each part.ConjunctionMore conjunction_more))
 
   unfoldable pub expression_more : Piece Expr
@@ -330,9 +330,9 @@ too_deep = record { of = λ x. e.Null (record { start = 0; end = 0 }); read = λ
 
 -- after an opening, with a number of openings left
 unfoldable pub after : List ℕ → ℕ → Inner
-after text zero = record { expression = too_deep; negated = too_deep; signed = too_deep }
+after text zero = record { expression = too_deep; negated_predicate = too_deep; signed_primary = too_deep }
 after text (suc n) = record {
   expression = expression text n (after text n);
-  negated = negated text n (after text n);
-  signed = signed text n (after text n);
+  negated_predicate = negated_predicate text n (after text n);
+  signed_primary = signed_primary text n (after text n);
 }

@@ -9,20 +9,20 @@ use Rattle.span_syntax.specs.declared.reader.Level.{Level}
 use Rattle.span_syntax.specs.declared.reader.Level.TheVariants as level
 use Rattle.span_grammar.specs.Rules.{limit}
 use Rattle.span_syntax.specs.Pieces.{Piece, Gives}
-use Rattle.span_syntax.specs.Expressions.{Inner, after, expression, negated, signed}
+use Rattle.span_syntax.specs.Expressions.{Inner, after, expression, negated_predicate, signed_primary}
 use Rattle.span_syntax.specs.Reading.{Reading, Returned}
 
 -- what is after an opening, by its level
 abbrev pub inner_at : Level → Inner → Piece Expr
 inner_at level.Expression inner = inner.expression
-inner_at level.Negated inner = inner.negated
-inner_at level.Signed inner = inner.signed
+inner_at level.Negated inner = inner.negated_predicate
+inner_at level.Signed inner = inner.signed_primary
 
 -- the same with n openings left
 abbrev pub at : Level → List ℕ → ℕ → Piece Expr
 at level.Expression text n = expression text n (after text n)
-at level.Negated text n = negated text n (after text n)
-at level.Signed text n = signed text n (after text n)
+at level.Negated text n = negated_predicate text n (after text n)
+at level.Signed text n = signed_primary text n (after text n)
 
 -- it is read by what one of its three expressions is
 abbrev pub ReadsAfter : {F : Type 0} → Reading F → Level → List Lexeme → Returned Expr → Type 0

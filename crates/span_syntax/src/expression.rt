@@ -239,10 +239,10 @@ impl<
     }
 
     /// What is after a minus. One directly before an integer belongs to it.
-    #[tactic(auto, unfolding(crate::specs::Expressions::signed))]
-    fn signed<'a>(&self, tokens: &'a [Lexeme]) -> Result<(Expr, &'a [Lexeme]), SyntaxError>
+    #[tactic(auto, unfolding(crate::specs::Expressions::signed_primary))]
+    fn signed_primary<'a>(&self, tokens: &'a [Lexeme]) -> Result<(Expr, &'a [Lexeme]), SyntaxError>
         requires nests { Nests F.Fn self.now }
-        ensures { Reads self.now spec.signed tokens.now result }
+        ensures { Reads self.now spec.signed_primary tokens.now result }
     {
         if next_is(Sort::Int, tokens) {
             let (found, rest) = take(Sort::Int, tokens)?;
@@ -470,10 +470,10 @@ impl<
     }
 
     /// `neg`
-    #[tactic(auto, unfolding(crate::specs::Expressions::negated))]
-    fn negated<'a>(&self, tokens: &'a [Lexeme]) -> Result<(Expr, &'a [Lexeme]), SyntaxError>
+    #[tactic(auto, unfolding(crate::specs::Expressions::negated_predicate))]
+    fn negated_predicate<'a>(&self, tokens: &'a [Lexeme]) -> Result<(Expr, &'a [Lexeme]), SyntaxError>
         requires nests { Nests F.Fn self.now }
-        ensures { Reads self.now spec.negated tokens.now result }
+        ensures { Reads self.now spec.negated_predicate tokens.now result }
     {
         if goes_on(Part::Negation, tokens) {
             return self.negation(tokens);
@@ -491,7 +491,7 @@ impl<
         ensures { Reads self.now spec.conjunction_more tokens.now result }
     {
         let (_, rest) = take(Sort::Word(Word::And), tokens)?;
-        self.negated(rest)
+        self.negated_predicate(rest)
     }
 
     /// The other operands of AND.
@@ -519,7 +519,7 @@ impl<
         requires nests { Nests F.Fn self.now }
         ensures { Reads self.now spec.conjunction tokens.now result }
     {
-        let (first, rest) = self.negated(tokens)?;
+        let (first, rest) = self.negated_predicate(tokens)?;
         let ((first, more), rest) = pair_with(first, self.conjunction_rest(rest))?;
         Ok((conjunction_of(self.alloc, first, more)?, rest))
     }
@@ -585,8 +585,8 @@ fn read<'a>(
     };
     match level {
         Level::Expression => reader.expression(tokens),
-        Level::Negated => reader.negated(tokens),
-        Level::Signed => reader.signed(tokens),
+        Level::Negated => reader.negated_predicate(tokens),
+        Level::Signed => reader.signed_primary(tokens),
     }
 }
 

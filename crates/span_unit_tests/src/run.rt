@@ -9,6 +9,7 @@ use span_core::{
     Interval, Mutation, MutationKind, Refusal, Reply, Seq, Step, Text, Transaction, Value, Verdict,
 };
 use span_schematext::text::parse_schema;
+use span_value::owned::give_after;
 use std::alloc::{AllocError, Global};
 
 const NUMBERS: &str = "CREATE TABLE N (n INT64) PRIMARY KEY (n)";
@@ -50,12 +51,6 @@ fn replies_of_run(alloc: Global) -> Result<Vec<Reply>, Refusal> {
     let schema = parse_schema(alloc, NUMBERS)?;
     let transaction = Transaction::new(alloc, &schema, mutations(alloc)?)?;
     run(alloc, schema, committing(alloc, transaction)?)
-}
-
-// Drops a value, and gives another: of a type that is not known the drop is cheaper to prove.
-fn give_after<A: Drop, B>(dropped: A, given: B) -> B {
-    let _ = dropped;
-    given
 }
 
 // Whether these are the replies: the commit timestamp is above the interval's end.

@@ -3,6 +3,7 @@
 
 pub mod cell;
 pub mod order;
+pub mod owned;
 pub mod refusal;
 pub mod seq;
 pub mod text;

@@ -6,4 +6,4 @@ use Rattle.span_journal.proofs.transactions.is_prepared_elsewhere.Goals as goal
 
 pub returns : goal.returns
 returns c =
-    c.has_other_slot.ensures ∙ ap (λ (l : List Prepared). list_any (λ p. not (p.slot == c.args.slot)) l) c.prepared.ensures ∙ any_left c.args.slot c.args.transaction.now.prepared
+    c.has_other_slot.ensures ∙ ap (λ (l : List Prepared). list_any (λ p. not (p.slot == c.args.slot)) l) c.preparations.ensures ∙ any_left c.args.slot c.args.transaction.now.prepared

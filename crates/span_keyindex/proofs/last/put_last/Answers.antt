@@ -29,18 +29,18 @@ hang_last-requires-clause-above g c =
     let alone = first_alone c.args.arena.now c.add_key.new.arena c.args.nexts.now c.add_key.new.nexts c.args.key.now c.args.index.now.last c.add_key.new.part c.in_ok-_is_added._is_added c.in_ok-_is_added.ensures.ok c.in_ok-_is_added.ensures.arena c.in_ok-_is_added.ensures.nexts in
     beside_above c.args.arena.now c.add_key.new.arena c.args.nexts.now c.add_key.new.nexts c.args.index.now c.args.key.now c.add_key.new.part c.requires.own c.requires.chains alone c.requires.after
 
-pub grown-requires : goal.grown-requires
-grown-requires g c = omega (arith, levels_fit c.args.arena.now.cells c.args.index.now c.requires.own.search c.numbers-count.ensures.fits)
+pub height_after-requires : goal.height_after-requires
+height_after-requires g c = omega (arith, levels_fit c.args.arena.now.cells c.args.index.now c.requires.own.search c.numbers-count.ensures.fits)
 
 pub returns-clause-ok : goal.returns-clause-ok
 returns-clause-ok g c =
     let alone = first_alone c.args.arena.now c.add_key.new.arena c.args.nexts.now c.add_key.new.nexts c.args.key.now c.args.index.now.last c.add_key.new.part c.in_ok-_is_added._is_added c.in_ok-_is_added.ensures.ok c.in_ok-_is_added.ensures.arena c.in_ok-_is_added.ensures.nexts in
-    inr (last_added c.args.arena.now c.add_key.new.arena c.args.nexts.now c.add_key.new.nexts c.args.index.now c.args.key.now c.add_key.new.part c.requires.own c.requires.chains alone c.hang_last.new.arena (record { root = Some c.hang_last.new.part.root; levels = c.grown.result; last = Some c.hang_last.new.part.cell }) c.hang_last.new.part c.requires.after c.hang_last.ensures.arena c.hang_last.ensures.cell c.hang_last.ensures.added refl c.grown.ensures refl).more
+    inr (last_added c.args.arena.now c.add_key.new.arena c.args.nexts.now c.add_key.new.nexts c.args.index.now c.args.key.now c.add_key.new.part c.requires.own c.requires.chains alone c.hang_last.new.arena (record { root = Some c.hang_last.new.part.root; levels = c.height_after.result; last = Some c.hang_last.new.part.cell }) c.hang_last.new.part c.requires.after c.hang_last.ensures.arena c.hang_last.ensures.cell c.hang_last.ensures.added refl c.height_after.ensures refl).more
 
 pub returns-clause-own : goal.returns-clause-own
 returns-clause-own g c =
     let alone = first_alone c.args.arena.now c.add_key.new.arena c.args.nexts.now c.add_key.new.nexts c.args.key.now c.args.index.now.last c.add_key.new.part c.in_ok-_is_added._is_added c.in_ok-_is_added.ensures.ok c.in_ok-_is_added.ensures.arena c.in_ok-_is_added.ensures.nexts in
-    (last_added c.args.arena.now c.add_key.new.arena c.args.nexts.now c.add_key.new.nexts c.args.index.now c.args.key.now c.add_key.new.part c.requires.own c.requires.chains alone c.hang_last.new.arena (record { root = Some c.hang_last.new.part.root; levels = c.grown.result; last = Some c.hang_last.new.part.cell }) c.hang_last.new.part c.requires.after c.hang_last.ensures.arena c.hang_last.ensures.cell c.hang_last.ensures.added refl c.grown.ensures refl).own
+    (last_added c.args.arena.now c.add_key.new.arena c.args.nexts.now c.add_key.new.nexts c.args.index.now c.args.key.now c.add_key.new.part c.requires.own c.requires.chains alone c.hang_last.new.arena (record { root = Some c.hang_last.new.part.root; levels = c.height_after.result; last = Some c.hang_last.new.part.cell }) c.hang_last.new.part c.requires.after c.hang_last.ensures.arena c.hang_last.ensures.cell c.hang_last.ensures.added refl c.height_after.ensures refl).own
 
 pub returns-clause-cost : goal.returns-clause-cost
 returns-clause-cost g c =

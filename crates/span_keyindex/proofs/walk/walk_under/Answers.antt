@@ -9,3 +9,10 @@ invariant_of-result g c =
 pub returns-clause-entries : goal.returns-clause-entries
 returns-clause-entries g c =
     (under_walked c.args.arena.now.cells c.args.nexts.now c.args.index.now c.requires c.numbers.result (omega (arith, c.numbers.ensures.len)) c.args.front.now c.first_from-at.result c.first_past-stop.result c.first_from-at.ensures.first c.first_past-stop.ensures.first).now
+
+pub returns-clause-cost : goal.returns-clause-cost
+returns-clause-cost g c = (λ d less. record {
+  between = c.first_from-at.new.steps;
+  first = c.first_from-at.ensures.cost d less;
+  second = c.first_past-stop.ensures.cost d less;
+})
