@@ -39,7 +39,7 @@ def lines_of(path):
 
 
 def commit(slots):
-    """The lines that commit what was gathered in so many slots: a step in a slot that has none of it is refused."""
+    """The lines that commit what was gathered in this number of slots: a step in a slot that has none of it is refused."""
     prepared = [f"prepare 1 {slot}" for slot in range(slots)]
     applied = [f"apply 1 {slot}" for slot in range(slots)]
     return ["clock 100 110", "begin", *prepared, "decide 1", "clock 200 210", *applied]

@@ -116,7 +116,7 @@ OPENINGS = [("(", ")"), ("NOT ", ""), ("- ", ""), ("f(", ")"), ("IF(", ")"), ("C
 
 
 def nested(opening, close, times):
-    """An opening so many times, one within another."""
+    """An opening, one within another, this number of times."""
     if "FROM" in opening:
         return "SELECT a FROM " + opening * times + "t" + close * times
     return "SELECT " + opening * times + "1" + close * times + " FROM t"

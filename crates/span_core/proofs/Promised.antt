@@ -20,7 +20,7 @@ use Rattle.span_machine_laws.proofs.History.{run_right}
 use Rattle.span_machine_laws.proofs.Known.{start_known}
 use Rattle.span_parts.proofs.Changes.{set_there}
 use Rattle.span_binder.specs.Understands.{Understands}
-use Rattle.span_core.specs.Histories.{Steps, Run}
+use Rattle.span_core.specs.Histories.{IsStep, Run}
 use Rattle.span_core.specs.Promises.{IsRunTo, IsCounted, Promises, IsConsistent, asked_after}
 use Rattle.span_core.proofs.Runs.{run_more, understood_plans, whole_consistent}
 
@@ -33,7 +33,7 @@ of_schema_more schema (s ∷ ss) step all one = (all.0, of_schema_more schema ss
 pub no_steps : (schema : List Table) → IsRunTo schema start
 no_steps schema = record { steps = []; replies = []; of_schema = tt; run = refl }
 
-pub one_more : (schema : List Table) (m next : Machine) (step : Step) (reply : Reply) → IsRunTo schema m → IsOfSchema schema step → Steps schema m step reply next → IsRunTo schema next
+pub one_more : (schema : List Table) (m next : Machine) (step : Step) (reply : Reply) → IsRunTo schema m → IsOfSchema schema step → IsStep schema m step reply next → IsRunTo schema next
 one_more schema m next step reply past of one = record {
   steps = past.steps ++ step ∷ [];
   replies = past.replies ++ reply ∷ [];
@@ -71,7 +71,7 @@ module _ (schema : List Table) (m : Machine) (slot h kept : ℕ) (next : Machine
   counts_at None here r n = absurd (cc r)
   counts_at (Some b) here r n = counts_by b here (trim_refusal m slot h b) r n
 
-counts : (schema : List Table) (m : Machine) (step : Step) (reply : Reply) (next : Machine) → Steps schema m step reply next → IsCounted schema next step reply
+counts : (schema : List Table) (m : Machine) (step : Step) (reply : Reply) (next : Machine) → IsStep schema m step reply next → IsCounted schema next step reply
 counts schema m (Trim slot h) (Trimmed kept) next (inl e) = counts_at schema m slot h kept next (slice_get m.slots slot) refl e.2.0 e.2.1
 counts schema m (Trim slot h) (Trimmed kept) next (inr e) = absurd (cc e.0)
 counts schema m _ _ next one = tt

@@ -8,13 +8,13 @@ use Rattle.span_machine.specs.Consistency.{HonestClock, IsExternallyConsistent}
 use Rattle.span_machine_laws.proofs.History.{run_history}
 use Rattle.span_machine_laws.proofs.Consistent.{history_consistent}
 use Rattle.span_binder.specs.Understands.{Understands}
-use Rattle.span_core.specs.Histories.{Steps, Run, IsHistory}
+use Rattle.span_core.specs.Histories.{IsStep, Run, IsHistory}
 use Rattle.span_schema.specs.Lineages.{MeetsRules}
 use Rattle.span_schema.specs.declared.table.Table.{Table}
 
 -- a run goes on by one step
-pub run_more : (schema : List Table) (m : Machine) (steps : List Step) (replies : List Reply) (mid last : Machine) (step : Step) (reply : Reply) → Run schema m steps replies mid → Steps schema mid step reply last → Run schema m (steps ++ step ∷ []) (replies ++ reply ∷ []) last
-run_more schema m [] [] mid last step reply run one = (last, subst (λ (n : Machine). Steps schema n step reply last) run one, refl)
+pub run_more : (schema : List Table) (m : Machine) (steps : List Step) (replies : List Reply) (mid last : Machine) (step : Step) (reply : Reply) → Run schema m steps replies mid → IsStep schema mid step reply last → Run schema m (steps ++ step ∷ []) (replies ++ reply ∷ []) last
+run_more schema m [] [] mid last step reply run one = (last, subst (λ (n : Machine). IsStep schema n step reply last) run one, refl)
 run_more schema m [] (r ∷ rs) mid last step reply run one = absurd run
 run_more schema m (s ∷ ss) [] mid last step reply run one = absurd run
 run_more schema m (s ∷ ss) (r ∷ rs) mid last step reply run one = (run.0, run.1, run_more schema run.0 ss rs mid last step reply run.2 one)

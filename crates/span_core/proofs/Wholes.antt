@@ -17,7 +17,7 @@ use Rattle.span_machine.specs.Pieces.{Journaled, machine_of}
 use Rattle.span_parts.proofs.Wholes.{no_text}
 use Rattle.span_binder.specs.Understands.{Understands}
 use Rattle.span_core.specs.Whole.{Shards, IsWhole, IsDatabase}
-use Rattle.span_core.specs.Histories.{Steps}
+use Rattle.span_core.specs.Histories.{IsStep}
 use Rattle.span_core.specs.Promises.{IsRunTo}
 use Rattle.span_core.proofs.Promised.{no_steps, one_more}
 
@@ -26,26 +26,26 @@ pub start_database : (schema : List Table) (j : Journaled) (shards : Shards) →
 start_database schema j shards is whole = record { whole = whole; past = subst (IsRunTo schema) (sym is) (no_steps schema) }
 
 -- the database after a step
-pub goes_on : (schema : List Table) (j k : Journaled) (shards after : Shards) (s : Step) (r : Reply) → IsDatabase schema j shards → IsOfSchema schema s → Steps schema (machine_of j) s r (machine_of k) → IsWhole schema k after → IsDatabase schema k after
+pub goes_on : (schema : List Table) (j k : Journaled) (shards after : Shards) (s : Step) (r : Reply) → IsDatabase schema j shards → IsOfSchema schema s → IsStep schema (machine_of j) s r (machine_of k) → IsWhole schema k after → IsDatabase schema k after
 goes_on schema j k shards after s r d of one whole = record { whole = whole; past = one_more schema (machine_of j) (machine_of k) s r d.past of one }
 
 -- a step that has no query text and takes no memory, by the machine's answer
-pub plain_steps : (schema : List Table) (m : Machine) (s : Step) (r : Reply) (n : Machine) → IsUnderstood (Understands schema) s no_text → IsAnswer (answer schema m no_text s) r n → Steps schema m s r n
+pub plain_steps : (schema : List Table) (m : Machine) (s : Step) (r : Reply) (n : Machine) → IsUnderstood (Understands schema) s no_text → IsAnswer (answer schema m no_text s) r n → IsStep schema m s r n
 plain_steps schema m s r n none e = inl (no_text, none, e)
 
 -- one that may take memory
-pub memory_steps : (schema : List Table) (m : Machine) (s : Step) (r : Reply) (n : Machine) → IsUnderstood (Understands schema) s no_text → may_take_memory s ≡ true → Answers m (answer schema m no_text s) r n → Steps schema m s r n
+pub memory_steps : (schema : List Table) (m : Machine) (s : Step) (r : Reply) (n : Machine) → IsUnderstood (Understands schema) s no_text → may_take_memory s ≡ true → Answers m (answer schema m no_text s) r n → IsStep schema m s r n
 memory_steps schema m s r n none may (inl e) = inl (no_text, none, e)
 memory_steps schema m s r n none may (inr e) = inr (may, e)
 
 -- a statement that is opened, or out of memory
 pub opened_steps : (schema : List Table) (m : Machine) (text : List ℕ) (params : List Parameter) (bound : Bound) (interval : Interval) (q : Statement) (r : Reply) (n : Machine) → Understands schema text params (Ok q)
-    → Answers m (open_query schema m (Ok q) text params bound interval) r n → Steps schema m (step.Open text params bound interval) r n
+    → Answers m (open_query schema m (Ok q) text params bound interval) r n → IsStep schema m (step.Open text params bound interval) r n
 opened_steps schema m text params bound interval q r n understood (inl e) = inl (Ok q, understood, e)
 opened_steps schema m text params bound interval q r n understood (inr e) = inr (refl, e)
 
 -- a query text that is refused, or out of memory
 pub refused_steps : (schema : List Table) (m : Machine) (text : List ℕ) (params : List Parameter) (bound : Bound) (interval : Interval) (why : Refusal) → (why ≡ refusal.OutOfMemory) ⊎ Understands schema text params (Err why)
-    → Steps schema m (step.Open text params bound interval) (reply.Refused why) m
+    → IsStep schema m (step.Open text params bound interval) (reply.Refused why) m
 refused_steps schema m text params bound interval why (inl memory) = inr (refl, (ap reply.Refused memory, refl))
 refused_steps schema m text params bound interval why (inr understood) = inl (Err why, understood, (refl, refl))

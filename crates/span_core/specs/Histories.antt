@@ -9,8 +9,8 @@ use Rattle.span_machine.specs.Run as run
 use Rattle.span_binder.specs.Understands.{Understands}
 
 -- from a machine, the reply to the step and the machine after it
-abbrev pub Steps : List Table → Machine → Step → Reply → Machine → Type 0
-Steps schema m s r next = machine.Steps (Understands schema) schema m s r next
+abbrev pub IsStep : List Table → Machine → Step → Reply → Machine → Type 0
+IsStep schema m s r next = machine.IsStep (Understands schema) schema m s r next
 
 -- from a machine, the replies to the steps, one after another, and the machine after them
 abbrev pub Run : List Table → Machine → List Step → List Reply → Machine → Type 0

@@ -14,7 +14,7 @@ use Rattle.span_machine.specs.Machine.{Machine, start}
 use Rattle.span_machine.specs.Run.{IsOfSchema, AreOfSchema, IsRight}
 use Rattle.span_machine.specs.Tables.{tables}
 use Rattle.span_binder.specs.Understands.{Understands}
-use Rattle.span_core.specs.Histories.{Steps, Run}
+use Rattle.span_core.specs.Histories.{IsStep, Run}
 
 -- a run that leads from an empty database to the machine: its steps, and the replies to them
 pub record IsRunTo (schema : List Table) (m : Machine) : Type 0 where
@@ -49,7 +49,7 @@ pub record IsPromised (schema : List Table) (asked : List OpenedQuery) (step : S
 abbrev pub Promises : List Table → Machine → Type 0
 Promises schema m =
     (past : IsRunTo schema m) (step : Step) (reply : Reply) (next : Machine) → IsOfSchema schema step
-    → Steps schema m step reply next
+    → IsStep schema m step reply next
     → IsPromised schema (asked_after [] past.steps past.replies) step reply next
 
 -- by whatever run the machine was reached, it is externally consistent where the clock was honest

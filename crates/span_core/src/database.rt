@@ -1,7 +1,7 @@
 //! The core and its steps.
 ghost use Rattle.std.specs.Prelude.{◌≡◌, ◌⊎◌, IfOk, IfErr, Ok, Err, None, MatchOption, MatchResult, length, slice_get};
 ghost use Rattle.span_core.specs.Explanations.{IsExplanation};
-ghost use Rattle.span_core.specs.Histories.{Steps};
+ghost use Rattle.span_core.specs.Histories.{IsStep};
 ghost use Rattle.span_core.specs.Promises.{IsRunTo, Promises, IsConsistent};
 ghost use Rattle.span_core.specs.Views.{IsView};
 ghost use Rattle.span_binder.specs.Understands.{Understands};
@@ -137,7 +137,7 @@ impl Core {
     /// and then nothing has changed. A transaction that is begun was checked against the database's schema.
     pub fn step(&mut self, alloc: Global, step: Step) -> Reply
         requires { IsChecked self.old.schema step }
-        ensures steps { Steps self.old.schema self.old.machine step result self.new.machine }
+        ensures steps { IsStep self.old.schema self.old.machine step result self.new.machine }
         ensures schema { self.new.schema ≡ self.old.schema }
         ensures of_schema { IsOfSchema self.old.schema step }
     {
@@ -178,14 +178,14 @@ impl Core {
 
     fn begin(&mut self, alloc: Global, owner: u64, transaction: Transaction) -> Reply
         requires { AreTypedMutations self.old.schema transaction }
-        ensures steps { Steps self.old.schema self.old.machine (step_of.Begin owner transaction) result self.new.machine }
+        ensures steps { IsStep self.old.schema self.old.machine (step_of.Begin owner transaction) result self.new.machine }
         ensures schema { self.new.schema ≡ self.old.schema }
     {
         begin_reply(steps::begin(alloc, &self.schema, &mut self.journal, owner, transaction))
     }
 
     fn prepare(&mut self, alloc: Global, owner: u64, txn: u64, slot: usize) -> Reply
-        ensures steps { Steps self.old.schema self.old.machine (step_of.Prepare owner txn slot) result self.new.machine }
+        ensures steps { IsStep self.old.schema self.old.machine (step_of.Prepare owner txn slot) result self.new.machine }
         ensures schema { self.new.schema ≡ self.old.schema }
     {
         prepare_reply(steps::prepare(
@@ -207,7 +207,7 @@ impl Core {
         verdict: Verdict,
         interval: Interval,
     ) -> Reply
-        ensures steps { Steps self.old.schema self.old.machine (step_of.Decide owner txn verdict interval) result self.new.machine }
+        ensures steps { IsStep self.old.schema self.old.machine (step_of.Decide owner txn verdict interval) result self.new.machine }
         ensures schema { self.new.schema ≡ self.old.schema }
     {
         decide_reply(steps::decide(
@@ -222,7 +222,7 @@ impl Core {
     }
 
     fn apply(&mut self, owner: u64, txn: u64, slot: usize, interval: Interval) -> Reply
-        ensures steps { Steps self.old.schema self.old.machine (step_of.Apply owner txn slot interval) result self.new.machine }
+        ensures steps { IsStep self.old.schema self.old.machine (step_of.Apply owner txn slot interval) result self.new.machine }
         ensures schema { self.new.schema ≡ self.old.schema }
     {
         apply_reply(steps::apply(
@@ -237,14 +237,14 @@ impl Core {
     }
 
     fn advance(&mut self, slot: usize, interval: Interval) -> Reply
-        ensures steps { Steps self.old.schema self.old.machine (step_of.Advance slot interval) result self.new.machine }
+        ensures steps { IsStep self.old.schema self.old.machine (step_of.Advance slot interval) result self.new.machine }
         ensures schema { self.new.schema ≡ self.old.schema }
     {
         advance_reply(steps::advance(&self.schema, &mut self.journal, slot, interval))
     }
 
     fn trim(&mut self, slot: usize, h: u64) -> Reply
-        ensures steps { Steps self.old.schema self.old.machine (step_of.Trim slot h) result self.new.machine }
+        ensures steps { IsStep self.old.schema self.old.machine (step_of.Trim slot h) result self.new.machine }
         ensures schema { self.new.schema ≡ self.old.schema }
     {
         trim_reply(steps::trim(&self.schema, &mut self.journal, &mut self.shards, slot, h))
@@ -258,7 +258,7 @@ impl Core {
         bound: Bound,
         interval: Interval,
     ) -> Reply
-        ensures steps { Steps self.old.schema self.old.machine (step_of.Open text params bound interval) result self.new.machine }
+        ensures steps { IsStep self.old.schema self.old.machine (step_of.Open text params bound interval) result self.new.machine }
         ensures schema { self.new.schema ≡ self.old.schema }
     {
         match understand(alloc, &self.schema, text.as_str(), &params) {
@@ -278,7 +278,7 @@ impl Core {
         interval: Interval,
     ) -> Reply
         requires { Understands self.old.schema text params (Ok statement) }
-        ensures steps { Steps self.old.schema self.old.machine (step_of.Open text params bound interval) result self.new.machine }
+        ensures steps { IsStep self.old.schema self.old.machine (step_of.Open text params bound interval) result self.new.machine }
         ensures schema { self.new.schema ≡ self.old.schema }
     {
         open_reply(steps::open(
@@ -301,7 +301,7 @@ impl Core {
         slot: usize,
         interval: Interval,
     ) -> Reply
-        ensures steps { Steps self.old.schema self.old.machine (step_of.Scan query leaf slot interval) result self.new.machine }
+        ensures steps { IsStep self.old.schema self.old.machine (step_of.Scan query leaf slot interval) result self.new.machine }
         ensures schema { self.new.schema ≡ self.old.schema }
     {
         scan_reply(steps::scan(
@@ -317,7 +317,7 @@ impl Core {
     }
 
     fn finish(&mut self, alloc: Global, query: u64) -> Reply
-        ensures steps { Steps self.old.schema self.old.machine (step_of.Finish query) result self.new.machine }
+        ensures steps { IsStep self.old.schema self.old.machine (step_of.Finish query) result self.new.machine }
         ensures schema { self.new.schema ≡ self.old.schema }
     {
         finish_reply(steps::finish(alloc, &self.schema, &self.journal, query))
@@ -341,14 +341,14 @@ impl Core {
     }
 
     fn close(&mut self, query: u64) -> Reply
-        ensures steps { Steps self.old.schema self.old.machine (step_of.Close query) result self.new.machine }
+        ensures steps { IsStep self.old.schema self.old.machine (step_of.Close query) result self.new.machine }
         ensures schema { self.new.schema ≡ self.old.schema }
     {
         close_reply(steps::close(&self.schema, &mut self.journal, query))
     }
 
     fn split(&mut self, alloc: Global, table: Text, key: Seq<Value>) -> Reply
-        ensures steps { Steps self.old.schema self.old.machine (step_of.Split table key) result self.new.machine }
+        ensures steps { IsStep self.old.schema self.old.machine (step_of.Split table key) result self.new.machine }
         ensures schema { self.new.schema ≡ self.old.schema }
         ensures values { AreValues key }
     {

@@ -574,8 +574,8 @@ Answers m a r next = IsAnswer a r next ⊎ MayRunOutOfMemory m r next
 
 -- from m, the reply to the step and the machine after it: the machine's answer, or out of memory where the step may run
 -- out of it
-abbrev pub Steps : Understanding → List Table → Machine → Step → Reply → Machine → Type 0
-Steps understands schema m s r next =
+abbrev pub IsStep : Understanding → List Table → Machine → Step → Reply → Machine → Type 0
+IsStep understands schema m s r next =
     ((u : Result Statement Refusal) × IsUnderstood understands s u × IsAnswer (answer schema m u s) r next)
     ⊎ ((may_take_memory s ≡ true) × MayRunOutOfMemory m r next)
 

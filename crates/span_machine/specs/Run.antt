@@ -17,7 +17,7 @@ use Rattle.span_mutate.specs.Typed.{AreTypedMutations}
 use Rattle.span_machine.specs.Tables.{tables}
 use Rattle.span_machine.specs.Meaning.{means}
 use Rattle.span_machine.specs.Commits.{OpenedQuery, opened_by, commits_of}
-use Rattle.span_machine.specs.Machine.{Machine, Understanding, Steps, start}
+use Rattle.span_machine.specs.Machine.{Machine, Understanding, IsStep, start}
 
 -- the mutations of a transaction that is begun were checked against the schema
 abbrev pub IsChecked : List Table → Step → Type 0
@@ -47,7 +47,7 @@ Run understands schema m [] [] last = last ≡ m
 Run understands schema m [] (r ∷ rs) last = ⊥
 Run understands schema m (s ∷ ss) [] last = ⊥
 Run understands schema m (s ∷ ss) (r ∷ rs) last =
-    (mid : Machine) × Steps understands schema m s r mid × Run understands schema mid ss rs last
+    (mid : Machine) × IsStep understands schema m s r mid × Run understands schema mid ss rs last
 
 -- This is what the query of this number means, its rows in order or the fault: its query text is understood as a
 -- statement that means it on the tables of the commits, at the timestamp that the query was opened at.

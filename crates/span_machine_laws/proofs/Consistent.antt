@@ -27,7 +27,7 @@ use Rattle.span_machine.specs.declared.transaction.Decision.TheVariants as decis
 use Rattle.span_machine.specs.declared.transaction.Decision.TheVariants.{Committed}
 use Rattle.span_machine.specs.Commits.{commits_of}
 use Rattle.span_machine.specs.Consistency.{MayBeTakenAt, AreTrueTimes, HonestClock, IsAt, IsAppliedAt, AreDecidedInOrder, AreSeen, IsExternallyConsistent}
-use Rattle.span_machine.specs.Machine.{Machine, Understanding, Steps, answer, start, changed_first, without_first, is_undecided, is_early, is_transaction, is_prepared_at, is_all_prepared, with_decision, add_prepared, greatest, coordinator_slot, if_some, prepare_timestamp, commit_timestamp, commit_of, committed, without_prepared, applied_at, answer_on, meaning, opened}
+use Rattle.span_machine.specs.Machine.{Machine, Understanding, IsStep, answer, start, changed_first, without_first, is_undecided, is_early, is_transaction, is_prepared_at, is_all_prepared, with_decision, add_prepared, greatest, coordinator_slot, if_some, prepare_timestamp, commit_timestamp, commit_of, committed, without_prepared, applied_at, answer_on, meaning, opened}
 use Rattle.span_machine.specs.Run.{Run, IsHistory}
 use Rattle.span_machine.specs.Sorting.{placed, in_order}
 use Rattle.span_machine.specs.Tables.{is_before, upto}
@@ -105,7 +105,7 @@ module _ (schema : List Table) (number ts : ℕ) (m : Machine) (past : IsPast nu
 
 -- what has passed stays so to the end of a run
 module _ (understands : Understanding) (schema : List Table) (number ts : ℕ) where
-  step_past : (m : Machine) (step : Step) (r : Reply) (next : Machine) → Steps understands schema m step r next → IsPast number ts m → IsPast number ts next
+  step_past : (m : Machine) (step : Step) (r : Reply) (next : Machine) → IsStep understands schema m step r next → IsPast number ts m → IsPast number ts next
   step_past m step r next (inl e) past = subst (IsPast number ts) (sym e.2.1) (answer_by schema m e.0 (λ s a. IsPast number ts a.1) (past_ends schema number ts m past e.0) step)
   step_past m step r next (inr e) past = subst (IsPast number ts) (sym e.1.1) past
 
@@ -204,7 +204,7 @@ module _ (schema : List Table) (m : Machine) (has : HasDecisions m) where
     }
 
 -- one step, out of memory included
-step_timely : (understands : Understanding) (schema : List Table) (m : Machine) (step : Step) (r : Reply) (next : Machine) → Steps understands schema m step r next → IsOrderly m → IsTimely step r next
+step_timely : (understands : Understanding) (schema : List Table) (m : Machine) (step : Step) (r : Reply) (next : Machine) → IsStep understands schema m step r next → IsOrderly m → IsTimely step r next
 step_timely understands schema m step r next (inl e) orderly =
     subst (λ x. IsTimely step x next) (sym e.2.0) (subst (λ n. IsTimely step (answer schema m e.0 step).0 n) (sym e.2.1)
     (answer_by schema m e.0 (λ s a. IsTimely s a.0 a.1) (timely_ends schema m orderly.decisions orderly.numbered e.0) step))

@@ -13,7 +13,7 @@ use Rattle.span_machine.specs.declared.transaction.OpenTransaction.{OpenTransact
 use Rattle.span_machine.specs.declared.transaction.Decision.{Decision}
 use Rattle.span_machine.specs.declared.transaction.Decision.TheVariants as decision
 use Rattle.span_machine.specs.declared.transaction.Decision.TheVariants.{Committed}
-use Rattle.span_machine.specs.Machine.{Machine, Understanding, Steps, answer, start, changed_first, without_first, undecided, is_undecided, is_transaction, is_all_prepared, with_decision, add_prepared, prepare_timestamp, commit_timestamp, commit_of, committed, without_prepared, applied_at}
+use Rattle.span_machine.specs.Machine.{Machine, Understanding, IsStep, answer, start, changed_first, without_first, undecided, is_undecided, is_transaction, is_all_prepared, with_decision, add_prepared, prepare_timestamp, commit_timestamp, commit_of, committed, without_prepared, applied_at}
 use Rattle.span_machine_laws.proofs.Causes.{may_commit}
 use Rattle.span_machine_laws.proofs.Tests.{not_both}
 use Rattle.span_machine_laws.proofs.Lists.{IsIn, all_push, all_changed, all_changed_found, all_without, all_found, all_weaker, all_places, all_both, changed_in}
@@ -143,7 +143,7 @@ answer_orderly schema m u orderly step = record {
 }
 
 -- one step, out of memory included
-pub step_orderly : (understands : Understanding) (schema : List Table) (m : Machine) (step : Step) (r : Reply) (next : Machine) → Steps understands schema m step r next → IsOrderly m → IsOrderly next
+pub step_orderly : (understands : Understanding) (schema : List Table) (m : Machine) (step : Step) (r : Reply) (next : Machine) → IsStep understands schema m step r next → IsOrderly m → IsOrderly next
 step_orderly understands schema m step r next (inl e) orderly = subst IsOrderly (sym e.2.1) (answer_orderly schema m e.0 orderly step)
 step_orderly understands schema m step r next (inr e) orderly = subst IsOrderly (sym e.1.1) orderly
 

@@ -31,7 +31,7 @@ use Rattle.span_machine.specs.Meaning.{means}
 use Rattle.span_machine.specs.Commits.{BegunTransaction, begun_by, commit_by, committed_by, OpenedQuery, opened_by}
 use Rattle.span_machine.specs.Run.{IsMeant}
 use Rattle.span_machine.specs.Machine as machine
-use Rattle.span_machine.specs.Machine.{Machine, Understanding, IsUnderstood, committed, opened, as_opened, is_covered, rows_or_refusal, Answer, Steps, answer, start, is_transaction, is_query, changed_first, without_first, add_prepared, prepare_timestamp, commit_timestamp, commit_of, with_decision, without_prepared, applied_at, cover, answer_on, meaning, statement_plan}
+use Rattle.span_machine.specs.Machine.{Machine, Understanding, IsUnderstood, committed, opened, as_opened, is_covered, rows_or_refusal, Answer, IsStep, answer, start, is_transaction, is_query, changed_first, without_first, add_prepared, prepare_timestamp, commit_timestamp, commit_of, with_decision, without_prepared, applied_at, cover, answer_on, meaning, statement_plan}
 use Rattle.span_machine_laws.proofs.Tests.{first_true, second_true, number_same}
 use Rattle.span_machine_laws.proofs.Lists.{found_passes, all_push, all_changed, all_without, all_found, all_weaker}
 use Rattle.span_machine_laws.proofs.Sealed.{IsSealed}
@@ -359,7 +359,7 @@ pub answer_tells : (understands : Understanding) (schema : List Table) (begun : 
 answer_tells understands schema begun asked m u sound leaves known made step understood = answer_by schema m u (λ s a. IsUnderstood understands s u → Tells understands schema begun asked m s a.0 a.1) (tells_ends understands schema begun asked m sound leaves known made u) step understood
 
 -- one step, out of memory included
-pub step_tells : (understands : Understanding) (schema : List Table) (begun : List BegunTransaction) (asked : List OpenedQuery) (m : Machine) (step : Step) (r : Reply) (next : Machine) → Steps understands schema m step r next → IsSound schema m → AreOpenQueries schema m → IsKnown understands begun asked m
+pub step_tells : (understands : Understanding) (schema : List Table) (begun : List BegunTransaction) (asked : List OpenedQuery) (m : Machine) (step : Step) (r : Reply) (next : Machine) → IsStep understands schema m step r next → IsSound schema m → AreOpenQueries schema m → IsKnown understands begun asked m
     → ((s : ℕ) → (db : List TableRow) × (tables schema m.log s ≡ Ok db)) → Tells understands schema begun asked m step r next
 step_tells understands schema begun asked m step r next (inl e) sound leaves known made =
     subst (λ x. Tells understands schema begun asked m step x next) (sym e.2.0) (subst (λ n. Tells understands schema begun asked m step (answer schema m e.0 step).0 n) (sym e.2.1) (answer_tells understands schema begun asked m e.0 sound leaves known made step e.1))

@@ -18,7 +18,7 @@ use Rattle.span_machine.specs.declared.transaction.Decision.TheVariants as decis
 use Rattle.span_machine.specs.declared.transaction.OpenTransaction.{OpenTransaction}
 use Rattle.span_machine.specs.Slots.{SlotRange, is_between, has_key, holds, root_code, range_of, ranges_of, whole_range, IsInOne, AreTiles, IsCut, AreCut}
 use Rattle.span_machine.specs.Run.{Run, IsOfSchema}
-use Rattle.span_machine.specs.Machine.{Machine, Understanding, Steps, answer, start, if_some, with_last, with_risen_floor, with_horizon, coordinator_slot, commit_timestamp, applied_at}
+use Rattle.span_machine.specs.Machine.{Machine, Understanding, IsStep, answer, start, if_some, with_last, with_risen_floor, with_horizon, coordinator_slot, commit_timestamp, applied_at}
 use Rattle.span_machine_laws.proofs.Walks.{Ends, answer_by}
 use Rattle.span_machine_laws.proofs.Splits.{part_below, part_from, below_parts, from_parts, below_has, from_has, found_has, split_place, split_here, split_new, split_other}
 use Rattle.span_keycode.specs.Coding.{AreValues}
@@ -300,7 +300,7 @@ pub start_ranges : (schema : List Table) → HasRanges schema start
 start_ranges schema = record { tiles = start_tiles; cut = ((tt, tt), tt) }
 
 -- one step, out of memory included
-step_tiles : (understands : Understanding) (schema : List Table) (m : Machine) (step : Step) (r : Reply) (next : Machine) → Steps understands schema m step r next → AreTiles (ranges_of m.slots) → AreTiles (ranges_of next.slots)
+step_tiles : (understands : Understanding) (schema : List Table) (m : Machine) (step : Step) (r : Reply) (next : Machine) → IsStep understands schema m step r next → AreTiles (ranges_of m.slots) → AreTiles (ranges_of next.slots)
 step_tiles understands schema m step r next (inl e) tiles = subst (λ (n : Machine). AreTiles (ranges_of n.slots)) (sym e.2.1) (answer_tiles schema m e.0 tiles step)
 step_tiles understands schema m step r next (inr e) tiles = subst (λ (n : Machine). AreTiles (ranges_of n.slots)) (sym e.1.1) tiles
 

@@ -16,7 +16,7 @@ use Rattle.span_machine.specs.declared.step.Step.TheVariants.{Finish}
 use Rattle.span_machine.specs.declared.step.Reply.{Reply}
 use Rattle.span_machine.specs.Meaning.{means}
 use Rattle.span_machine.specs.Tables.{tables}
-use Rattle.span_machine.specs.Machine.{Machine, Understanding, Answer, Steps, answer, start, holds, is_query, is_covered, rows_or_refusal, if_some, refused, meaning, answer_on, finish_query}
+use Rattle.span_machine.specs.Machine.{Machine, Understanding, Answer, IsStep, answer, start, holds, is_query, is_covered, rows_or_refusal, if_some, refused, meaning, answer_on, finish_query}
 use Rattle.span_machine.specs.Run.{Run, IsOfSchema, AreOfSchema}
 use Rattle.span_machine_laws.proofs.Locality.{IsRoot}
 use Rattle.span_machine_laws.proofs.InPlace.{IsInPlace, IsPlaced, tables_made}
@@ -66,7 +66,7 @@ module _ (schema : List Table) (rules : MeetsRules schema) where
   }
 
   -- one step, out of memory included
-  pub step_reached : (understands : Understanding) (m : Machine) (step : Step) (r : Reply) (next : Machine) → Steps understands schema m step r next → IsOfSchema schema step → IsReached schema m → IsReached schema next
+  pub step_reached : (understands : Understanding) (m : Machine) (step : Step) (r : Reply) (next : Machine) → IsStep understands schema m step r next → IsOfSchema schema step → IsReached schema m → IsReached schema next
   step_reached understands m step r next (inl e) of reached = subst (IsReached schema) (sym e.2.1) (answer_reached m reached e.0 step of)
   step_reached understands m step r next (inr e) of reached = subst (IsReached schema) (sym e.1.1) reached
 

@@ -19,7 +19,7 @@ use Rattle.span_machine.specs.declared.transaction.Decision.{Decision}
 use Rattle.span_machine.specs.declared.transaction.Decision.TheVariants as decision
 use Rattle.span_machine.specs.Sorting.{placed, in_order}
 use Rattle.span_machine.specs.Tables.{is_before, upto, mutations_of}
-use Rattle.span_machine.specs.Machine.{Machine, Understanding, Steps, answer, start, is_transaction, root_at, holds, mutations_in, changed_first, without_first, with_decision, add_prepared, prepare_timestamp, commit_timestamp, commit_of, without_prepared, applied_at}
+use Rattle.span_machine.specs.Machine.{Machine, Understanding, IsStep, answer, start, is_transaction, root_at, holds, mutations_in, changed_first, without_first, with_decision, add_prepared, prepare_timestamp, commit_timestamp, commit_of, without_prepared, applied_at}
 use Rattle.span_machine.specs.Run.{IsOfSchema}
 use Rattle.span_machine_laws.proofs.Lists.{all_push, all_changed, all_without, all_found, all_filtered, one_or_other}
 use Rattle.span_machine_laws.proofs.Walks.{Ends, answer_by}
@@ -128,7 +128,7 @@ pub answer_by_schema : (schema : List Table) (m : Machine) (u : Result Statement
 answer_by_schema schema m u by step of = answer_by schema m u (λ s a. IsOfSchema schema s → IsBySchema schema a.1) (by_ends schema m by u) step of
 
 -- one step, out of memory included
-pub step_by_schema : (understands : Understanding) (schema : List Table) (m : Machine) (step : Step) (r : Reply) (next : Machine) → Steps understands schema m step r next → IsOfSchema schema step → IsBySchema schema m → IsBySchema schema next
+pub step_by_schema : (understands : Understanding) (schema : List Table) (m : Machine) (step : Step) (r : Reply) (next : Machine) → IsStep understands schema m step r next → IsOfSchema schema step → IsBySchema schema m → IsBySchema schema next
 step_by_schema understands schema m step r next (inl e) of by = subst (IsBySchema schema) (sym e.2.1) (answer_by_schema schema m e.0 by step of)
 step_by_schema understands schema m step r next (inr e) of by = subst (IsBySchema schema) (sym e.1.1) by
 

@@ -16,7 +16,7 @@ use Rattle.span_keycode.specs.Parts.{is_within, part_between}
 use Rattle.span_keycode.proofs.PartLaws.{part_within, gap_within}
 use Rattle.span_machine.specs.declared.query.ScanLeaf.{ScanLeaf}
 use Rattle.span_machine.specs.Slots.{has_key, root_code}
-use Rattle.span_machine.specs.Machine.{Machine, Understanding, Steps, answer, start, holds, with_risen_floor, with_slot_state, as_opened, cover, gap_in, changed_first, is_query, is_safe, applied_at, statement_plan}
+use Rattle.span_machine.specs.Machine.{Machine, Understanding, IsStep, answer, start, holds, with_risen_floor, with_slot_state, as_opened, cover, gap_in, changed_first, is_query, is_safe, applied_at, statement_plan}
 use Rattle.span_machine.specs.Run.{Run}
 use Rattle.span_machine_laws.proofs.Tests.{first_true, second_true}
 use Rattle.span_machine_laws.proofs.Lists.{slice_get-set, set_here, all_push, all_without, all_true, all_weaker, all_found, all_changed_found}
@@ -149,14 +149,14 @@ start_sound schema = record { queries = tt }
 -- ---- whole runs
 
 -- one step, out of memory included
-pub step_keeps : (understands : Understanding) (schema : List Table) (root : Root) → IsRoot schema root → (s : ℕ) (m : Machine) (step : Step) (r : Reply) (next : Machine) → Steps understands schema m step r next → AreHolding m → IsSealed schema root s m
+pub step_keeps : (understands : Understanding) (schema : List Table) (root : Root) → IsRoot schema root → (s : ℕ) (m : Machine) (step : Step) (r : Reply) (next : Machine) → IsStep understands schema m step r next → AreHolding m → IsSealed schema root s m
     → IsSealed schema root s next × (changes_at schema root (upto next.log s) ≡ changes_at schema root (upto m.log s))
 step_keeps understands schema root is s m step r next (inl e) holding sealed =
     let k = answer_keeps schema root is s m holding sealed e.0 step in
     (subst (IsSealed schema root s) (sym e.2.1) k.seal, ap (λ (n : Machine). changes_at schema root (upto n.log s)) e.2.1 ∙ k.same)
 step_keeps understands schema root is s m step r next (inr e) holding sealed = (subst (IsSealed schema root s) (sym e.1.1) sealed, ap (λ (n : Machine). changes_at schema root (upto n.log s)) e.1.1)
 
-step_holding : (understands : Understanding) (schema : List Table) (m : Machine) (step : Step) (r : Reply) (next : Machine) → Steps understands schema m step r next → AreHolding m → AreHolding next
+step_holding : (understands : Understanding) (schema : List Table) (m : Machine) (step : Step) (r : Reply) (next : Machine) → IsStep understands schema m step r next → AreHolding m → AreHolding next
 step_holding understands schema m step r next (inl e) holding = subst AreHolding (sym e.2.1) (answer_holding schema m e.0 holding step)
 step_holding understands schema m step r next (inr e) holding = subst AreHolding (sym e.1.1) holding
 

@@ -40,7 +40,7 @@ use Rattle.span_expr.proofs.Conjuncts.{refuses, refuses-both, refuses-condition_
 use Rattle.span_expr.proofs.Equalities.{val-column}
 use Rattle.span_planner.specs.Conditions.{conjuncts_on}
 use Rattle.span_planner.proofs.Pushing.{is_left_out}
-use Rattle.span_planner.specs.Ranges.{Bound, bound_of, exchanged, bound_at, bounds_between, bounds_at, bounds, is_number, are_bytes, is_of_type, bounds_by}
+use Rattle.span_planner.specs.Ranges.{KeyBound, bound_of, exchanged, bound_at, bounds_between, bounds_at, bounds, is_number, are_bytes, is_of_type, bounds_by}
 
 -- ---- values of a type
 
@@ -192,14 +192,14 @@ val-literal : (row : List Value) (e : Expr) (v : Value) → as_literal e ≡ Som
 val-literal row e v is = fold_out-Expr Outcome (at_operands row) e ∙ literal_value row (out-Expr e) v is
 
 -- where the column is out of the bound, the outcome is FALSE or NULL
-abbrev pub RefusedOut : Kind → Value → Outcome → Bound → Type 0
+abbrev pub RefusedOut : Kind → Value → Outcome → KeyBound → Type 0
 RefusedOut k v o b = Fits k b.1 → compares b.0 v b.1 ≡ false → is_refused o ≡ true
 
 module _ (k : Kind) (row : List Value) (place : ℕ) (fits : Fits k (column_of row place)) where
-  abbrev AreRefusedOut : Outcome → List Bound → Type 0
+  abbrev AreRefusedOut : Outcome → List KeyBound → Type 0
   AreRefusedOut o bs = AllByRecursion (RefusedOut k (column_of row place) o) bs
 
-  all_append : (o : Outcome) (xs ys : List Bound) → AreRefusedOut o xs → AreRefusedOut o ys → AreRefusedOut o (xs ++ ys)
+  all_append : (o : Outcome) (xs ys : List KeyBound) → AreRefusedOut o xs → AreRefusedOut o ys → AreRefusedOut o (xs ++ ys)
   all_append o [] ys p q = q
   all_append o (x ∷ xs) ys p q = (p.0, all_append o xs ys p.1 q)
 
@@ -320,7 +320,7 @@ module _ (test : ℕ → Bool) where
   literal_only e v is = of_layer e (only_literal (out-Expr e) v is)
 
   -- a list that has nothing, or a condition that is so
-  abbrev OnlyIf : List Bound → Type 0 → Type 0
+  abbrev OnlyIf : List KeyBound → Type 0 → Type 0
   OnlyIf bs P = (bs ≡ []) ⊎ P
 
   first_only : (place : ℕ) → test place ≡ true → (a b : Expr) (p : Option ℕ) (r : Option RangeComparison) (w : Option Value) → as_column a ≡ p → as_literal b ≡ w → OnlyIf (bound_at place p r w) (IsOnly a × IsOnly b)
@@ -356,10 +356,10 @@ module _ (test : ℕ → Bool) where
     and_both (reads_only test a && reads_only test b) (reads_only test c) (and_both (reads_only test a) (reads_only test b) ia.1 ib.1) ic.1,
   )
 
-  compared_only : (c : Comparison) (a b : Expr) (xs ys : List Bound) → OnlyIf xs (IsOnly a × IsOnly b) → OnlyIf ys (IsOnly b × IsOnly a) → OnlyIf (xs ++ ys) (LayerOnly (Expr-F.Compare a c b))
+  compared_only : (c : Comparison) (a b : Expr) (xs ys : List KeyBound) → OnlyIf xs (IsOnly a × IsOnly b) → OnlyIf ys (IsOnly b × IsOnly a) → OnlyIf (xs ++ ys) (LayerOnly (Expr-F.Compare a c b))
   compared_only c a b xs ys (inr p) q = inr (two_only c a b p.0 p.1)
   compared_only c a b xs ys (inl none) (inr q) = inr (two_only c a b q.1 q.0)
-  compared_only c a b xs ys (inl none) (inl other) = inl (ap (λ (l : List Bound). l ++ ys) none ∙ other)
+  compared_only c a b xs ys (inl none) (inl other) = inl (ap (λ (l : List KeyBound). l ++ ys) none ∙ other)
 
   layer_only : (place : ℕ) → test place ≡ true → (y : Expr-F Expr) → OnlyIf (bounds_at place y) (LayerOnly y)
   layer_only place passes (Expr-F.Compare a c b) =
@@ -381,48 +381,48 @@ module _ (test : ℕ → Bool) where
 -- ---- several conditions
 
 -- the column's value is in each of the bounds
-abbrev pub is_in_bounds : List Bound → Value → Bool
-is_in_bounds bs v = list_all (λ (b : Bound). compares b.0 v b.1) bs
+abbrev pub is_in_bounds : List KeyBound → Value → Bool
+is_in_bounds bs v = list_all (λ (b : KeyBound). compares b.0 v b.1) bs
 
 module _ (k : Kind) (row : List Value) (place low high : ℕ) (fits : Fits k (column_of row place)) (passes : is_in low high place ≡ true) where
-  abbrev out_of : List Bound → Bool
+  abbrev out_of : List KeyBound → Bool
   out_of bs = not (is_in_bounds bs (column_of row place))
 
   -- of one condition
-  one_out : (e : Expr) (bs : List Bound) → AllByRecursion (RefusedOut k (column_of row place) (val row e)) bs → is_in_bounds (filter (λ (b : Bound). is_of_type k b.1) bs) (column_of row place) ≡ false → is_refused (val row e) ≡ true
+  one_out : (e : Expr) (bs : List KeyBound) → AllByRecursion (RefusedOut k (column_of row place) (val row e)) bs → is_in_bounds (filter (λ (b : KeyBound). is_of_type k b.1) bs) (column_of row place) ≡ false → is_refused (val row e) ≡ true
   one_out e [] all out = cc
   one_out e (b ∷ bs) all out = of_type (is_of_type k b.1) refl out (one_out e bs all.1) where
-    of_compared : (t : Bool) → compares b.0 (column_of row place) b.1 ≡ t → is_of_type k b.1 ≡ true → (t && is_in_bounds (filter (λ (b : Bound). is_of_type k b.1) bs) (column_of row place)) ≡ false
-        → (is_in_bounds (filter (λ (b : Bound). is_of_type k b.1) bs) (column_of row place) ≡ false → is_refused (val row e) ≡ true) → is_refused (val row e) ≡ true
+    of_compared : (t : Bool) → compares b.0 (column_of row place) b.1 ≡ t → is_of_type k b.1 ≡ true → (t && is_in_bounds (filter (λ (b : KeyBound). is_of_type k b.1) bs) (column_of row place)) ≡ false
+        → (is_in_bounds (filter (λ (b : KeyBound). is_of_type k b.1) bs) (column_of row place) ≡ false → is_refused (val row e) ≡ true) → is_refused (val row e) ≡ true
     of_compared true is typed out rest = rest out
     of_compared false is typed out rest = all.0 (fits_type k b.1 typed) is
 
-    of_type : (t : Bool) → is_of_type k b.1 ≡ t → is_in_bounds (if t then b ∷ filter (λ (b : Bound). is_of_type k b.1) bs else filter (λ (b : Bound). is_of_type k b.1) bs) (column_of row place) ≡ false
-        → (is_in_bounds (filter (λ (b : Bound). is_of_type k b.1) bs) (column_of row place) ≡ false → is_refused (val row e) ≡ true) → is_refused (val row e) ≡ true
+    of_type : (t : Bool) → is_of_type k b.1 ≡ t → is_in_bounds (if t then b ∷ filter (λ (b : KeyBound). is_of_type k b.1) bs else filter (λ (b : KeyBound). is_of_type k b.1) bs) (column_of row place) ≡ false
+        → (is_in_bounds (filter (λ (b : KeyBound). is_of_type k b.1) bs) (column_of row place) ≡ false → is_refused (val row e) ≡ true) → is_refused (val row e) ≡ true
     of_type true typed out rest = of_compared (compares b.0 (column_of row place) b.1) refl typed out rest
     of_type false typed out rest = rest out
 
-  in_both : (xs ys : List Bound) → is_in_bounds (filter (λ (b : Bound). is_of_type k b.1) (xs ++ ys)) (column_of row place) ≡ (is_in_bounds (filter (λ (b : Bound). is_of_type k b.1) xs) (column_of row place) && is_in_bounds (filter (λ (b : Bound). is_of_type k b.1) ys) (column_of row place))
+  in_both : (xs ys : List KeyBound) → is_in_bounds (filter (λ (b : KeyBound). is_of_type k b.1) (xs ++ ys)) (column_of row place) ≡ (is_in_bounds (filter (λ (b : KeyBound). is_of_type k b.1) xs) (column_of row place) && is_in_bounds (filter (λ (b : KeyBound). is_of_type k b.1) ys) (column_of row place))
   in_both [] ys = refl
   in_both (b ∷ xs) ys = of_type (is_of_type k b.1) (in_both xs ys) where
-    fs : List Bound → List Bound
-    fs l = filter (λ (b : Bound). is_of_type k b.1) l
+    fs : List KeyBound → List KeyBound
+    fs l = filter (λ (b : KeyBound). is_of_type k b.1) l
 
     and_assoc : (a b c : Bool) → (a && (b && c)) ≡ ((a && b) && c)
     and_assoc true b c = refl
     and_assoc false b c = refl
 
-    of_type : (t : Bool) → is_in_bounds (filter (λ (b : Bound). is_of_type k b.1) (xs ++ ys)) (column_of row place) ≡ (is_in_bounds (filter (λ (b : Bound). is_of_type k b.1) xs) (column_of row place) && is_in_bounds (filter (λ (b : Bound). is_of_type k b.1) ys) (column_of row place))
-        → is_in_bounds (if t then b ∷ filter (λ (b : Bound). is_of_type k b.1) (xs ++ ys) else filter (λ (b : Bound). is_of_type k b.1) (xs ++ ys)) (column_of row place)
-        ≡ (is_in_bounds (if t then b ∷ filter (λ (b : Bound). is_of_type k b.1) xs else filter (λ (b : Bound). is_of_type k b.1) xs) (column_of row place) && is_in_bounds (filter (λ (b : Bound). is_of_type k b.1) ys) (column_of row place))
-    of_type true same = ap (λ (t : Bool). compares b.0 (column_of row place) b.1 && t) same ∙ and_assoc (compares b.0 (column_of row place) b.1) (is_in_bounds (filter (λ (b : Bound). is_of_type k b.1) xs) (column_of row place)) (is_in_bounds (filter (λ (b : Bound). is_of_type k b.1) ys) (column_of row place))
+    of_type : (t : Bool) → is_in_bounds (filter (λ (b : KeyBound). is_of_type k b.1) (xs ++ ys)) (column_of row place) ≡ (is_in_bounds (filter (λ (b : KeyBound). is_of_type k b.1) xs) (column_of row place) && is_in_bounds (filter (λ (b : KeyBound). is_of_type k b.1) ys) (column_of row place))
+        → is_in_bounds (if t then b ∷ filter (λ (b : KeyBound). is_of_type k b.1) (xs ++ ys) else filter (λ (b : KeyBound). is_of_type k b.1) (xs ++ ys)) (column_of row place)
+        ≡ (is_in_bounds (if t then b ∷ filter (λ (b : KeyBound). is_of_type k b.1) xs else filter (λ (b : KeyBound). is_of_type k b.1) xs) (column_of row place) && is_in_bounds (filter (λ (b : KeyBound). is_of_type k b.1) ys) (column_of row place))
+    of_type true same = ap (λ (t : Bool). compares b.0 (column_of row place) b.1 && t) same ∙ and_assoc (compares b.0 (column_of row place) b.1) (is_in_bounds (filter (λ (b : KeyBound). is_of_type k b.1) xs) (column_of row place)) (is_in_bounds (filter (λ (b : KeyBound). is_of_type k b.1) ys) (column_of row place))
     of_type false same = same
 
   -- THE LAW OF BOUNDS: where a row's column is out of a bound that conditions set to it, one of those on its columns is refused.
   pub left_out_of_bounds : (es : List Expr) → is_in_bounds (bounds_by k place es) (column_of row place) ≡ false → is_left_out (conjuncts_on low high es) row ≡ true
   left_out_of_bounds [] out = cc
   left_out_of_bounds (e ∷ es) out =
-      of_first (is_in_bounds (filter (λ (b : Bound). is_of_type k b.1) (bounds place e)) (column_of row place)) refl (sym (in_both (bounds place e) (flat_map (bounds place) es)) ∙ out) (left_out_of_bounds es) where
+      of_first (is_in_bounds (filter (λ (b : KeyBound). is_of_type k b.1) (bounds place e)) (column_of row place)) refl (sym (in_both (bounds place e) (flat_map (bounds place) es)) ∙ out) (left_out_of_bounds es) where
         kept_rest : (t : Bool) → is_left_out (conjuncts_on low high es) row ≡ true → is_left_out (if t then e ∷ conjuncts_on low high es else conjuncts_on low high es) row ≡ true
         kept_rest true rest = ap (λ (b : Bool). is_refused (val row e) || b) rest ∙ or_true (is_refused (val row e)) where
           or_true : (b : Bool) → (b || true) ≡ true
@@ -430,12 +430,12 @@ module _ (k : Kind) (row : List Value) (place low high : ℕ) (fits : Fits k (co
           or_true false = refl
         kept_rest false rest = rest
 
-        is_only : (bs : List Bound) → bs ≡ bounds place e → is_in_bounds (filter (λ (b : Bound). is_of_type k b.1) bs) (column_of row place) ≡ false → ((bounds place e ≡ []) ⊎ ((is_total e ≡ true) × (reads_only (is_in low high) e ≡ true))) → (is_total e && reads_only (is_in low high) e) ≡ true
-        is_only bs same out (inl none) = let empty : bs ≡ [] = same ∙ none in absurd (let q : true ≡ false = sym (ap (λ (l : List Bound). is_in_bounds (filter (λ (b : Bound). is_of_type k b.1) l) (column_of row place)) empty) ∙ out in cc)
+        is_only : (bs : List KeyBound) → bs ≡ bounds place e → is_in_bounds (filter (λ (b : KeyBound). is_of_type k b.1) bs) (column_of row place) ≡ false → ((bounds place e ≡ []) ⊎ ((is_total e ≡ true) × (reads_only (is_in low high) e ≡ true))) → (is_total e && reads_only (is_in low high) e) ≡ true
+        is_only bs same out (inl none) = let empty : bs ≡ [] = same ∙ none in absurd (let q : true ≡ false = sym (ap (λ (l : List KeyBound). is_in_bounds (filter (λ (b : KeyBound). is_of_type k b.1) l) (column_of row place)) empty) ∙ out in cc)
         is_only bs same out (inr is) = ap (λ (b : Bool). b && reads_only (is_in low high) e) is.0 ∙ is.1
 
-        of_first : (t : Bool) → is_in_bounds (filter (λ (b : Bound). is_of_type k b.1) (bounds place e)) (column_of row place) ≡ t
-            → (is_in_bounds (filter (λ (b : Bound). is_of_type k b.1) (bounds place e)) (column_of row place) && is_in_bounds (filter (λ (b : Bound). is_of_type k b.1) (flat_map (bounds place) es)) (column_of row place)) ≡ false
+        of_first : (t : Bool) → is_in_bounds (filter (λ (b : KeyBound). is_of_type k b.1) (bounds place e)) (column_of row place) ≡ t
+            → (is_in_bounds (filter (λ (b : KeyBound). is_of_type k b.1) (bounds place e)) (column_of row place) && is_in_bounds (filter (λ (b : KeyBound). is_of_type k b.1) (flat_map (bounds place) es)) (column_of row place)) ≡ false
             → (is_in_bounds (bounds_by k place es) (column_of row place) ≡ false → is_left_out (conjuncts_on low high es) row ≡ true)
             → is_left_out (conjuncts_on low high (e ∷ es)) row ≡ true
         of_first true is out rest = kept_rest (is_total e && reads_only (is_in low high) e) (rest (sym (ap (λ (b : Bool). b && is_in_bounds (bounds_by k place es) (column_of row place)) is) ∙ out))

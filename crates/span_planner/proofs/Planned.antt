@@ -27,7 +27,7 @@ use Rattle.span_query.proofs.Layers.{map_item, map_join, map_block}
 use Rattle.span_planner.specs.declared.leaf.LeafJoin.{LeafJoin}
 use Rattle.span_planner.specs.declared.leaf.Leaf.{Leaf}
 use Rattle.span_planner.specs.Conditions.{equates_all, have_total_ons, where_conjuncts, pushable, conjuncts_on}
-use Rattle.span_planner.specs.Ranges.{Bound, is_of_type, bounds, bounds_by, range_by, narrowed, leaf_range}
+use Rattle.span_planner.specs.Ranges.{KeyBound, is_of_type, bounds, bounds_by, range_by, narrowed, leaf_range}
 use Rattle.span_planner.specs.Leaves.{Planned, table_of, width_of, root_places, is_joined_table, leaf_len, leaf_join, join_table, widths, reads_of, first_leaf, table_leaf, unless_left, join_leaves, rest_leaves, leaves_from, block_leaves, planned}
 use Rattle.span_planner.specs.Reads.{is_read, leaf_widths}
 use Rattle.span_planner.specs.Sizes.{Shape, item_shape, is_sized_join, is_sized_block, shape, is_sized}
@@ -55,8 +55,8 @@ pub record IsNarrowed (schema : List Table) (first : ℕ) (leaf : Leaf) : Type 0
   pub place : ℕ
   pub places : List ℕ
   pub columns_at : key_places schema first ≡ place ∷ places
-  pub bounds : List Bound
-  pub typed : list_all (λ (b : Bound). is_of_type part.kind b.1) bounds ≡ true
+  pub bounds : List KeyBound
+  pub typed : list_all (λ (b : KeyBound). is_of_type part.kind b.1) bounds ≡ true
   pub range : leaf.range ≡ range_by (root_of schema first) part bounds
   pub total : AreTotalJoins leaf.joins
   pub lost : (x : Row) → place < length x → Fits part.kind (column_of x place) → is_in_bounds bounds (column_of x place) ≡ false → IsLost leaf.filter x
@@ -107,7 +107,7 @@ no_bounds root [] places at = refl
 no_bounds root (part ∷ parts) [] at = refl
 no_bounds root (part ∷ parts) (place ∷ places) at = refl
 
-typed_bounds : (p : Bound → Bool) (bs : List Bound) → list_all p (filter p bs) ≡ true
+typed_bounds : (p : KeyBound → Bool) (bs : List KeyBound) → list_all p (filter p bs) ≡ true
 typed_bounds p [] = refl
 typed_bounds p (b ∷ bs) = of_test (p b) refl (typed_bounds p bs) where
   of_test : (t : Bool) → p b ≡ t → list_all p (filter p bs) ≡ true → list_all p (if t then b ∷ filter p bs else filter p bs) ≡ true
@@ -168,7 +168,7 @@ module _ (schema : List Table) (tables : List ℕ) where
           places = places;
           columns_at = ps;
           bounds = bounds_by part.kind (at + place) es;
-          typed = typed_bounds (λ (b : Bound). is_of_type part.kind b.1) (flat_map (bounds (at + place)) es);
+          typed = typed_bounds (λ (b : KeyBound). is_of_type part.kind b.1) (flat_map (bounds (at + place)) es);
           range = ap (λ (parts : List KeyPart). narrowed (root_of schema t) parts (key_places schema t) at es) cs ∙ ap (λ (places : List ℕ). narrowed (root_of schema t) (part ∷ parts) places at es) ps;
           total = tt {0};
           lost = λ x within fits out. table_lost part at width place es short x within fits out;
@@ -241,7 +241,7 @@ module _ (schema : List Table) (tables : List ℕ) where
             places = places;
             columns_at = ps;
             bounds = bounds_by part.kind (0 + place) (conjuncts w);
-            typed = typed_bounds (λ (b : Bound). is_of_type part.kind b.1) (flat_map (bounds (0 + place)) (conjuncts w));
+            typed = typed_bounds (λ (b : KeyBound). is_of_type part.kind b.1) (flat_map (bounds (0 + place)) (conjuncts w));
             range = range ∙ ap (λ (parts : List KeyPart). narrowed (root_of schema t) parts (key_places schema t) 0 (conjuncts w)) cs ∙ ap (λ (places : List ℕ). narrowed (root_of schema t) (part ∷ parts) places 0 (conjuncts w)) ps;
             total = subst AreTotalJoins (sym joins) (total_joins b.joins total len);
             lost = λ x within fits out rest. subst (λ (f : Option Expr). IsRefusedBy f (x ++ rest)) (sym filter) (either_lost whole part place w short x within fits out rest);

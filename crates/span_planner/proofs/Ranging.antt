@@ -11,7 +11,7 @@ use Rattle.span_value.specs.declared.value.Value.TheVariants as value
 use Rattle.span_schema.specs.Fitting.{Fits, AreBytes, is_of_kind}
 use Rattle.span_schema.specs.declared.layout.KeyPart.{KeyPart}
 use Rattle.span_keycode.specs.declared.range.KeyRange.{KeyRange}
-use Rattle.span_planner.specs.Ranges.{Bound, bounded, narrowed_by, is_number, are_bytes, is_of_type}
+use Rattle.span_planner.specs.Ranges.{KeyBound, bounded, narrowed_by, is_number, are_bytes, is_of_type}
 
 -- ---- values of a type
 
@@ -71,11 +71,11 @@ same_test k v false is fits = sym (other_is_not k v (sym is))
 -- ---- ranges
 
 module _ (root : ℕ) (part : KeyPart) where
-  abbrev IsInTwo : List Bound → List Bound → KeyRange → Type 0
+  abbrev IsInTwo : List KeyBound → List KeyBound → KeyRange → Type 0
   IsInTwo xs ys r = narrowed_by root part r (xs ++ ys) ≡ narrowed_by root part (narrowed_by root part r xs) ys
 
   -- by some bounds, and then by others
-  pub narrowed_by_append : (r : KeyRange) (xs ys : List Bound) → IsInTwo xs ys r
+  pub narrowed_by_append : (r : KeyRange) (xs ys : List KeyBound) → IsInTwo xs ys r
   narrowed_by_append r [] ys = refl
   narrowed_by_append r (x ∷ xs) ys = by_test (is_of_type part.kind x.1) refl (narrowed_by_append (bounded root part r x) xs ys) (narrowed_by_append r xs ys) where
     by_test : (t : Bool) → is_of_type part.kind x.1 ≡ t → IsInTwo xs ys (bounded root part r x) → IsInTwo xs ys r → IsInTwo (x ∷ xs) ys r

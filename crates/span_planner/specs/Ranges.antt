@@ -23,8 +23,8 @@ use Rattle.span_expr.specs.declared.expr.Expr.TheViews.{out-Expr}
 use Rattle.span_expr.specs.Forms.{as_column, as_literal}
 
 -- how a column is compared with a value
-abbrev pub Bound : Type 0
-Bound = RangeComparison × Value
+abbrev pub KeyBound : Type 0
+KeyBound = RangeComparison × Value
 
 -- a comparison that bounds its left side; `<>` does not
 abbrev pub bound_of : Comparison → Option RangeComparison
@@ -44,27 +44,27 @@ exchanged range.Greater = range.Less
 exchanged range.AtLeast = range.AtMost
 
 -- the bound of the column at a place, where it is compared so with a literal
-abbrev pub bound_at : ℕ → Option ℕ → Option RangeComparison → Option Value → List Bound
+abbrev pub bound_at : ℕ → Option ℕ → Option RangeComparison → Option Value → List KeyBound
 bound_at place (Some p) (Some c) (Some v) = if p == place then (c, v) ∷ [] else []
 bound_at place column c literal = []
 
 -- those of a BETWEEN
-abbrev pub bounds_between : ℕ → Option ℕ → Option Value → Option Value → List Bound
+abbrev pub bounds_between : ℕ → Option ℕ → Option Value → Option Value → List KeyBound
 bounds_between place (Some p) (Some low) (Some high) = if p == place then (range.AtLeast, low) ∷ (range.AtMost, high) ∷ [] else []
 bounds_between place column low high = []
 
 -- those of a comparison of two operands
-abbrev pub bounds_compared : ℕ → Expr → Comparison → Expr → List Bound
+abbrev pub bounds_compared : ℕ → Expr → Comparison → Expr → List KeyBound
 bounds_compared place a c b =
     bound_at place (as_column a) (bound_of c) (as_literal b) ++ bound_at place (as_column b) (option_map exchanged (bound_of c)) (as_literal a)
 
 -- the bounds that a condition sets to the column at a place
-abbrev pub bounds_at : ℕ → Expr-F Expr → List Bound
+abbrev pub bounds_at : ℕ → Expr-F Expr → List KeyBound
 bounds_at place (Expr-F.Compare a c b) = bounds_compared place a c b
 bounds_at place (Expr-F.Between a low high) = bounds_between place (as_column a) (as_literal low) (as_literal high)
 bounds_at place y = []
 
-abbrev pub bounds : ℕ → Expr → List Bound
+abbrev pub bounds : ℕ → Expr → List KeyBound
 bounds place e = bounds_at place (out-Expr e)
 
 -- ---- values of a type
@@ -89,15 +89,15 @@ is_of_type k v = false
 -- ---- ranges
 
 -- the bounds that conditions set to the column at a place, by values of its type
-abbrev pub bounds_by : Kind → ℕ → List Expr → List Bound
-bounds_by k place es = filter (λ (b : Bound). is_of_type k b.1) (flat_map (bounds place) es)
+abbrev pub bounds_by : Kind → ℕ → List Expr → List KeyBound
+bounds_by k place es = filter (λ (b : KeyBound). is_of_type k b.1) (flat_map (bounds place) es)
 
 -- the part of a range where the first column of the key is bounded so
-abbrev pub bounded : ℕ → KeyPart → KeyRange → Bound → KeyRange
+abbrev pub bounded : ℕ → KeyPart → KeyRange → KeyBound → KeyRange
 bounded root part r b = part_between (Some (range_start root part b.0 b.1)) (Some (range_end root part b.0 b.1)) r
 
 -- a family's range, narrowed by bounds of the first column of the key
-abbrev pub range_by : ℕ → KeyPart → List Bound → KeyRange
+abbrev pub range_by : ℕ → KeyPart → List KeyBound → KeyRange
 range_by root part bs = fold (bounded root part) (family root) bs
 
 -- a family's range, narrowed by conditions on the first column of the key, whose place is counted from at
@@ -110,5 +110,5 @@ abbrev pub leaf_range : List Table → ℕ → ℕ → List Expr → KeyRange
 leaf_range schema table at es = narrowed (root_of schema table) (key_columns schema table) (key_places schema table) at es
 
 -- a range, narrowed by those bounds that have values of the column's type
-abbrev pub narrowed_by : ℕ → KeyPart → KeyRange → List Bound → KeyRange
-narrowed_by root part r bs = fold (bounded root part) r (filter (λ (b : Bound). is_of_type part.kind b.1) bs)
+abbrev pub narrowed_by : ℕ → KeyPart → KeyRange → List KeyBound → KeyRange
+narrowed_by root part r bs = fold (bounded root part) r (filter (λ (b : KeyBound). is_of_type part.kind b.1) bs)

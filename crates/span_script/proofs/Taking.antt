@@ -11,12 +11,12 @@ use Rattle.span_machine.specs.declared.step.Reply.{Reply}
 use Rattle.span_machine.specs.declared.step.Reply.TheVariants.{Refused}
 use Rattle.span_machine.specs.Machine.{Machine}
 use Rattle.span_machine.specs.Run.{IsOfSchema}
-use Rattle.span_core.specs.Histories.{Steps}
+use Rattle.span_core.specs.Histories.{IsStep}
 use Rattle.span_core.specs.Promises.{Promises}
 use Rattle.span_script.specs.Steps.{Takes}
 
 pub step_taken : (schema : List Table) (m : Machine) (s : Step) (answered : Reply) (next : Machine)
-    → Promises schema m → IsOfSchema schema s → Steps schema m s answered next → Takes schema m s answered next
+    → Promises schema m → IsOfSchema schema s → IsStep schema m s answered next → Takes schema m s answered next
 unfolding Takes
 step_taken schema m s answered next promises of steps = (steps, λ past. promises past s answered next of steps)
 

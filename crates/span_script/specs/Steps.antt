@@ -12,14 +12,14 @@ use Rattle.span_machine.specs.declared.step.Step.TheVariants as step
 use Rattle.span_machine.specs.declared.step.Reply.{Reply}
 use Rattle.span_machine.specs.declared.step.Reply.TheVariants as reply
 use Rattle.span_machine.specs.Machine.{Machine}
-use Rattle.span_core.specs.Histories.{Steps}
+use Rattle.span_core.specs.Histories.{IsStep}
 use Rattle.span_core.specs.Promises.{IsRunTo, IsPromised, asked_after}
 
 -- The machine's reply to a step, and the machine after it. They are as is promised of a step, by whatever run the
 -- machine was reached: rows are those that the query means.
 unfoldable pub Takes : List Table → Machine → Step → Reply → Machine → Type 0
 Takes schema m taken answered next =
-    Steps schema m taken answered next
+    IsStep schema m taken answered next
     × ((past : IsRunTo schema m) → IsPromised schema (asked_after [] past.steps past.replies) taken answered next)
 
 abbrev pub is_refused : Reply → Bool

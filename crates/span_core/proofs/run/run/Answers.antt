@@ -3,7 +3,7 @@ use Rattle.std.specs.Vec.Iter.{into_iter_items}
 use Rattle.std.proofs.lemmas.List.{append-nil, nil_from_length}
 use Rattle.span_machine.specs.declared.step.Reply.{Reply}
 use Rattle.span_machine.specs.Machine.{start}
-use Rattle.span_core.specs.Histories.{Steps, Run}
+use Rattle.span_core.specs.Histories.{IsStep, Run}
 use Rattle.span_machine.specs.Run.{AreChecked, AreOfSchema, IsChecked, IsOfSchema}
 use Rattle.span_core.proofs.Promised.{of_schema_more}
 use Rattle.span_core.proofs.Runs.{run_more, whole_history, whole_consistent}
@@ -19,7 +19,7 @@ pub loop-step-preserved : goal.loop-step-preserved
 loop-step-preserved c =
     let next = c.in-Some.ensures.steps in
     let checked : AreChecked c.args.schema (c.in-Some.step ∷ into_iter_items c.next.new.self) = subst (AreChecked c.args.schema) next.0 c.loop-step.invariant.checked in
-    let one : Steps c.args.schema c.loop-step.core.machine c.in-Some.step c.step-reply.result c.step-reply.new.self.machine = subst (λ schema. Steps schema c.loop-step.core.machine c.in-Some.step c.step-reply.result c.step-reply.new.self.machine) c.loop-step.invariant.schema c.step-reply.ensures.steps in
+    let one : IsStep c.args.schema c.loop-step.core.machine c.in-Some.step c.step-reply.result c.step-reply.new.self.machine = subst (λ schema. IsStep schema c.loop-step.core.machine c.in-Some.step c.step-reply.result c.step-reply.new.self.machine) c.loop-step.invariant.schema c.step-reply.ensures.steps in
     record {
       schema = c.step-reply.ensures.schema ∙ c.loop-step.invariant.schema;
       ran = subst (λ l. Run c.args.schema start (c.loop-step.yielded ++ c.in-Some.step ∷ []) l c.step-reply.new.self.machine) (sym {A = List Reply} c.push_reserved.ensures.items) (run_more c.args.schema start c.loop-step.yielded c.loop-step.replies.items _ _ c.in-Some.step c.step-reply.result c.loop-step.invariant.ran one);

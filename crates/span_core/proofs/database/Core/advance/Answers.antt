@@ -6,7 +6,7 @@ use Rattle.span_machine.specs.declared.step.Reply.{Reply}
 use Rattle.span_machine.specs.declared.step.Reply.TheVariants as reply
 use Rattle.span_parts.specs.Replies.{as_reply}
 use Rattle.span_core.specs.Whole.{State}
-use Rattle.span_core.specs.Histories.{Steps}
+use Rattle.span_core.specs.Histories.{IsStep}
 use Rattle.span_core.proofs.Wholes.{goes_on, plain_steps}
 use Rattle.span_core.proofs.database.Core.advance.Goals as goal
 
@@ -16,7 +16,7 @@ invariant_of-self c =
     let m = machine_of c.self.inside.journal in
     let n = machine_of c.advance.new.journal in
     let s : Step = step.Advance c.args.slot c.args.interval in
-    let all : Steps schema m s (as_reply reply.Floor c.advance.result) n = plain_steps schema m s (as_reply reply.Floor c.advance.result) n tt c.advance.ensures.step in
+    let all : IsStep schema m s (as_reply reply.Floor c.advance.result) n = plain_steps schema m s (as_reply reply.Floor c.advance.result) n tt c.advance.ensures.step in
     goes_on schema c.self.inside.journal c.advance.new.journal c.self.inside.shards.items c.self.inside.shards.items s _ c.self.invariant tt all (c.advance.ensures.whole c.self.inside.shards.items c.self.invariant.whole)
 
 pub returns-clause-steps : goal.returns-clause-steps
@@ -25,5 +25,5 @@ returns-clause-steps c =
     let m = machine_of c.self.inside.journal in
     let n = machine_of c.advance.new.journal in
     let s : Step = step.Advance c.args.slot c.args.interval in
-    let all : Steps schema m s (as_reply reply.Floor c.advance.result) n = plain_steps schema m s (as_reply reply.Floor c.advance.result) n tt c.advance.ensures.step in
-    subst (λ (st : State). Steps st.schema st.machine s c.advance_reply.result n) c.self.view_is (subst (λ (r : Reply). Steps schema m s r n) (sym c.advance_reply.ensures) all)
+    let all : IsStep schema m s (as_reply reply.Floor c.advance.result) n = plain_steps schema m s (as_reply reply.Floor c.advance.result) n tt c.advance.ensures.step in
+    subst (λ (st : State). IsStep st.schema st.machine s c.advance_reply.result n) c.self.view_is (subst (λ (r : Reply). IsStep schema m s r n) (sym c.advance_reply.ensures) all)

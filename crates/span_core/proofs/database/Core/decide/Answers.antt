@@ -5,7 +5,7 @@ use Rattle.span_machine.specs.declared.step.Step.TheVariants as step
 use Rattle.span_machine.specs.declared.step.Reply.{Reply}
 use Rattle.span_parts.specs.Replies.{as_reply, decision_reply}
 use Rattle.span_core.specs.Whole.{State}
-use Rattle.span_core.specs.Histories.{Steps}
+use Rattle.span_core.specs.Histories.{IsStep}
 use Rattle.span_core.proofs.Wholes.{goes_on, plain_steps}
 use Rattle.span_core.proofs.database.Core.decide.Goals as goal
 
@@ -15,7 +15,7 @@ invariant_of-self c =
     let m = machine_of c.self.inside.journal in
     let n = machine_of c.decide.new.journal in
     let s : Step = step.Decide c.args.owner c.args.txn c.args.verdict c.args.interval in
-    let all : Steps schema m s (as_reply decision_reply c.decide.result) n = plain_steps schema m s (as_reply decision_reply c.decide.result) n tt c.decide.ensures.step in
+    let all : IsStep schema m s (as_reply decision_reply c.decide.result) n = plain_steps schema m s (as_reply decision_reply c.decide.result) n tt c.decide.ensures.step in
     goes_on schema c.self.inside.journal c.decide.new.journal c.self.inside.shards.items c.self.inside.shards.items s _ c.self.invariant tt all (c.decide.ensures.whole c.self.inside.shards.items c.self.invariant.whole)
 
 pub returns-clause-steps : goal.returns-clause-steps
@@ -24,5 +24,5 @@ returns-clause-steps c =
     let m = machine_of c.self.inside.journal in
     let n = machine_of c.decide.new.journal in
     let s : Step = step.Decide c.args.owner c.args.txn c.args.verdict c.args.interval in
-    let all : Steps schema m s (as_reply decision_reply c.decide.result) n = plain_steps schema m s (as_reply decision_reply c.decide.result) n tt c.decide.ensures.step in
-    subst (λ (st : State). Steps st.schema st.machine s c.decide_reply.result n) c.self.view_is (subst (λ (r : Reply). Steps schema m s r n) (sym c.decide_reply.ensures) all)
+    let all : IsStep schema m s (as_reply decision_reply c.decide.result) n = plain_steps schema m s (as_reply decision_reply c.decide.result) n tt c.decide.ensures.step in
+    subst (λ (st : State). IsStep st.schema st.machine s c.decide_reply.result n) c.self.view_is (subst (λ (r : Reply). IsStep schema m s r n) (sym c.decide_reply.ensures) all)

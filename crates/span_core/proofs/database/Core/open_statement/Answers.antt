@@ -7,7 +7,7 @@ use Rattle.span_parts.specs.Replies.{as_reply, opened_reply}
 use Rattle.span_binder.specs.Understands.{Understands}
 use Rattle.span_soundness.proofs.Soundness.{statements_can_be_planned}
 use Rattle.span_core.specs.Whole.{State}
-use Rattle.span_core.specs.Histories.{Steps}
+use Rattle.span_core.specs.Histories.{IsStep}
 use Rattle.span_core.proofs.Wholes.{goes_on, opened_steps}
 use Rattle.span_core.proofs.database.Core.open_statement.Goals as goal
 
@@ -23,7 +23,7 @@ invariant_of-self c =
     let n = machine_of c.open.new.journal in
     let s : Step = step.Open c.args.text c.args.params c.args.bound c.args.interval in
     let understood : Understands schema c.args.text c.args.params (Ok c.args.statement) = subst (λ (st : State). Understands st.schema c.args.text c.args.params (Ok c.args.statement)) (sym c.self.view_is) c.requires in
-    let all : Steps schema m s (as_reply opened_reply c.open.result) n = opened_steps schema m c.args.text c.args.params c.args.bound c.args.interval c.args.statement (as_reply opened_reply c.open.result) n understood c.open.ensures.step in
+    let all : IsStep schema m s (as_reply opened_reply c.open.result) n = opened_steps schema m c.args.text c.args.params c.args.bound c.args.interval c.args.statement (as_reply opened_reply c.open.result) n understood c.open.ensures.step in
     goes_on schema c.self.inside.journal c.open.new.journal c.self.inside.shards.items c.self.inside.shards.items s _ c.self.invariant tt all (c.open.ensures.whole c.self.inside.shards.items c.self.invariant.whole)
 
 pub returns-clause-steps : goal.returns-clause-steps
@@ -33,5 +33,5 @@ returns-clause-steps c =
     let n = machine_of c.open.new.journal in
     let s : Step = step.Open c.args.text c.args.params c.args.bound c.args.interval in
     let understood : Understands schema c.args.text c.args.params (Ok c.args.statement) = subst (λ (st : State). Understands st.schema c.args.text c.args.params (Ok c.args.statement)) (sym c.self.view_is) c.requires in
-    let all : Steps schema m s (as_reply opened_reply c.open.result) n = opened_steps schema m c.args.text c.args.params c.args.bound c.args.interval c.args.statement (as_reply opened_reply c.open.result) n understood c.open.ensures.step in
-    subst (λ (st : State). Steps st.schema st.machine s c.open_reply.result n) c.self.view_is (subst (λ (r : Reply). Steps schema m s r n) (sym c.open_reply.ensures) all)
+    let all : IsStep schema m s (as_reply opened_reply c.open.result) n = opened_steps schema m c.args.text c.args.params c.args.bound c.args.interval c.args.statement (as_reply opened_reply c.open.result) n understood c.open.ensures.step in
+    subst (λ (st : State). IsStep st.schema st.machine s c.open_reply.result n) c.self.view_is (subst (λ (r : Reply). IsStep schema m s r n) (sym c.open_reply.ensures) all)

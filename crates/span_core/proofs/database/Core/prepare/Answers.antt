@@ -6,7 +6,7 @@ use Rattle.span_machine.specs.declared.step.Reply.{Reply}
 use Rattle.span_machine.specs.declared.step.Reply.TheVariants as reply
 use Rattle.span_parts.specs.Replies.{as_reply}
 use Rattle.span_core.specs.Whole.{State}
-use Rattle.span_core.specs.Histories.{Steps}
+use Rattle.span_core.specs.Histories.{IsStep}
 use Rattle.span_core.proofs.Wholes.{goes_on, memory_steps}
 use Rattle.span_core.proofs.database.Core.prepare.Goals as goal
 
@@ -16,7 +16,7 @@ invariant_of-self c =
     let m = machine_of c.self.inside.journal in
     let n = machine_of c.prepare.new.journal in
     let s : Step = step.Prepare c.args.owner c.args.txn c.args.slot in
-    let all : Steps schema m s (as_reply reply.Prepared c.prepare.result) n = memory_steps schema m s (as_reply reply.Prepared c.prepare.result) n tt refl c.prepare.ensures.step in
+    let all : IsStep schema m s (as_reply reply.Prepared c.prepare.result) n = memory_steps schema m s (as_reply reply.Prepared c.prepare.result) n tt refl c.prepare.ensures.step in
     goes_on schema c.self.inside.journal c.prepare.new.journal c.self.inside.shards.items c.prepare.new.shards.items s _ c.self.invariant tt all c.prepare.ensures.whole
 
 pub returns-clause-steps : goal.returns-clause-steps
@@ -25,5 +25,5 @@ returns-clause-steps c =
     let m = machine_of c.self.inside.journal in
     let n = machine_of c.prepare.new.journal in
     let s : Step = step.Prepare c.args.owner c.args.txn c.args.slot in
-    let all : Steps schema m s (as_reply reply.Prepared c.prepare.result) n = memory_steps schema m s (as_reply reply.Prepared c.prepare.result) n tt refl c.prepare.ensures.step in
-    subst (λ (st : State). Steps st.schema st.machine s c.prepare_reply.result n) c.self.view_is (subst (λ (r : Reply). Steps schema m s r n) (sym c.prepare_reply.ensures) all)
+    let all : IsStep schema m s (as_reply reply.Prepared c.prepare.result) n = memory_steps schema m s (as_reply reply.Prepared c.prepare.result) n tt refl c.prepare.ensures.step in
+    subst (λ (st : State). IsStep st.schema st.machine s c.prepare_reply.result n) c.self.view_is (subst (λ (r : Reply). IsStep schema m s r n) (sym c.prepare_reply.ensures) all)
